@@ -1,0 +1,36 @@
+// The shelf: where the program's files are.
+ghost use Rattle.std.specs.Prelude.{◌≡◌, ℕ, ◌≤◌, List, length, Option, IfOk, IsErrOf};
+ghost use Rattle.cep_base.specs.declared.shelf.ShelfFault.TheVariants.{TooLong};
+ghost use Rattle.cep_base.specs.Files.{Files, HasFile, HasLongerFile, Asks, ShelfCause};
+
+use std::alloc::{AllocError, Global};
+
+/// Why a file was not loaded: memory ran out, the file could not be read, or it has more bytes than
+/// were asked for.
+#[derive(Clone, Copy, Debug, PartialEq, Eq)]
+pub enum ShelfFault {
+    Memory(AllocError),
+    Failed,
+    TooLong,
+}
+
+/// A shelf of files. As with a console, what it tells of itself is told for good.
+pub trait Shelf {
+    /// The files, where they are told. No load changes them.
+    ghost files: { Self → Option Files };
+
+    /// The names of all loads so far that did not end for want of memory, where they are told.
+    ghost asked: { Self → Option (List (List ℕ)) };
+
+    /// How often the shelf failed: from 0 to 2^64 - 1, and it never falls.
+    ghost faults: { Self → ℕ };
+
+    /// All bytes of a file, if they are at most `most`. `TooLong` comes exactly where the file has more.
+    fn load(&mut self, alloc: Global, name: &str, most: usize) -> Result<Vec<u8>, ShelfFault>
+        ensures whole { IfOk result (λ bytes. HasFile (files self.old) name.now bytes.items) }
+        ensures within { IfOk result (λ bytes. length bytes.items ≤ most) }
+        ensures longer { IsErrOf result TooLong → HasLongerFile (files self.old) name.now most }
+        ensures same { files self.new ≡ files self.old }
+        ensures asked { Asks (asked self.old) name.now (asked self.new) result }
+        ensures cause { ShelfCause (faults self.old) (faults self.new) result };
+}
