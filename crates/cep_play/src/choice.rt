@@ -1,0 +1,71 @@
+// One choice of the player, read from a console byte by byte.
+ghost use Rattle.std.specs.Prelude.{◌≡◌, ℕ, ◌<◌, ◌≤◌, IfOk};
+ghost use Rattle.cep_base.specs.Talk.{Did, ConsoleCause};
+ghost use Rattle.cep_play.specs.declared.choice.Said.{Said};
+ghost use Rattle.cep_play.specs.Choice.{Cut, ReadsLine, Says, TakesSome, IsPlaceWithin, IsChoiceWithin, Hears};
+
+use cep_base::{Console, ConsoleFault};
+
+/// The most bytes that may be typed in a run.
+pub const MOST_TYPED: u64 = 16_777_216;
+
+/// What one typed line says of a choice.
+#[derive(Clone, Copy, Debug, PartialEq, Eq)]
+pub enum Said {
+    /// The line chooses this place, counted from 1.
+    Number(u32),
+    /// The line chooses nothing.
+    Bad,
+    /// The input ended before any byte.
+    End,
+    /// No more bytes may be taken.
+    Limit,
+}
+
+/// What one reading of a line heard, and how many bytes it took.
+#[derive(Clone, Copy, Debug, PartialEq, Eq)]
+pub struct Heard {
+    pub said: Said,
+    pub taken: u64,
+}
+
+/// What came of a choice.
+#[derive(Clone, Copy, Debug, PartialEq, Eq)]
+pub enum Choice {
+    /// The offer at this place was chosen, counted from 1.
+    Place(u32),
+    /// The input ended.
+    NoMore,
+    /// No more bytes may be taken.
+    NoRoom,
+}
+
+/// Reads one line, of at most `room` bytes, and says which place among `n` it chooses.
+pub fn read_choice<C: Console>(console: &mut C, n: u32, room: u64) -> Result<Heard, ConsoleFault>
+    ensures line { IfOk result (λ heard. Did C.talk C.left console.old console.new (λ come events rest.
+        (cut : Cut) × ReadsLine room come events cut rest heard.taken × Says n cut heard.said)) }
+    ensures within { IfOk result (λ heard. heard.taken ≤ room) }
+    ensures some { IfOk result (λ heard. TakesSome heard.said heard.taken) }
+    ensures place { IfOk result (λ heard. IsPlaceWithin n heard.said) }
+    ensures cause { ConsoleCause (C.faults console.old) (C.faults console.new) result }
+{
+    let _ = console.next()?;
+    Ok(Heard {
+        said: Said::Limit,
+        taken: room.min(n as u64),
+    })
+}
+
+/// Reads lines until one chooses a place among `n`. `taken` is the number of bytes of the run.
+pub fn choose<C: Console>(console: &mut C, n: u32, taken: &mut u64) -> Result<Choice, ConsoleFault>
+    requires { taken.old ≤ MOST_TYPED }
+    ensures heard { IfOk result (λ choice. Did C.talk C.left console.old console.new (λ come events rest.
+        Hears n come taken.old events choice rest taken.new)) }
+    ensures place { IfOk result (λ choice. IsChoiceWithin n choice) }
+    ensures within { taken.new ≤ MOST_TYPED }
+    ensures cause { ConsoleCause (C.faults console.old) (C.faults console.new) result }
+{
+    let heard = read_choice(console, n, MOST_TYPED - *taken)?;
+    *taken += heard.taken;
+    Ok(Choice::NoMore)
+}

@@ -1,0 +1,10 @@
+//! The whole command over any console and shelf: reads a program's text, plays it with a person,
+//! and answers the status that the process ends with.
+#![tactic(auto)]
+
+mod choice;
+mod dialogue;
+mod names;
+mod program;
+mod state;
+mod thin;
