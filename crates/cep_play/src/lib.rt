@@ -4,6 +4,7 @@
 
 mod choice;
 mod dialogue;
+mod lines;
 mod names;
 mod program;
 mod state;
