@@ -1,1 +1,3 @@
+pub mod Did
 pub mod LineLemmas
+pub mod Turns

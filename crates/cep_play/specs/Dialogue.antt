@@ -31,10 +31,10 @@ pub record IsAsked (program : Program) (limit : ℕ) (state : Bag) (turns : ℕ)
   pub remain : turns < limit
 
 -- the choice is this rule: the offer at its place, counted from 1
-pub record IsChosen (program : Program) (offers : List ℕ) (place : ℕ) (rule : Rule) : Type 0 where
+pub record IsChosen (rules : List Rule) (offers : List ℕ) (place : ℕ) (rule : Rule) : Type 0 where
   pub offer : ℕ
   pub at_place : slice_get offers (place - 1) ≡ Some offer
-  pub of_rule : slice_get program.rules offer ≡ Some rule
+  pub of_rule : slice_get rules offer ≡ Some rule
 
 -- what ends a run when a choice is wanted: no more is typed, or no more may be
 abbrev pub IsStop : Choice → EndWord → Type 0
@@ -71,7 +71,7 @@ pub data Talk (program : Program) (limit : ℕ) : Bag → ℕ → List ℕ → �
   overfull : {state : Bag} {turns : ℕ} {come : List ℕ} {taken : ℕ} {events : List Event} {ending : Ending}
       (offers : List ℕ) (place : ℕ) (rule : Rule) (next : Bag) (rest : List ℕ) (taken' : ℕ) (heard last : List Event)
       → IsAsked program limit state turns offers
-      → Hears (length offers) come taken heard (Place place) rest taken' → IsChosen program offers place rule
+      → Hears (length offers) come taken heard (Place place) rest taken' → IsChosen program.rules offers place rule
       → Step rule state next → (Fits program.atoms next → ⊥)
       → Ends program State state turns last ending
       → events ≡ outs (question program.rules offers) ++ (heard ++ last)
@@ -80,7 +80,7 @@ pub data Talk (program : Program) (limit : ℕ) : Bag → ℕ → List ℕ → �
   turn : {state : Bag} {turns : ℕ} {come : List ℕ} {taken : ℕ} {events : List Event} {ending : Ending}
       (offers : List ℕ) (place : ℕ) (rule : Rule) (next : Bag) (rest : List ℕ) (taken' : ℕ) (heard others : List Event)
       → IsAsked program limit state turns offers
-      → Hears (length offers) come taken heard (Place place) rest taken' → IsChosen program offers place rule
+      → Hears (length offers) come taken heard (Place place) rest taken' → IsChosen program.rules offers place rule
       → Step rule state next → Fits program.atoms next
       → Talk program limit next (turns + 1) rest taken' others ending
       → events ≡ outs (question program.rules offers) ++ (heard ++ (outs (step_line rule) ++ others))

@@ -3,5 +3,6 @@ pub mod Program
 pub mod Choice
 pub mod Lines
 pub mod Dialogue
+pub mod Turn
 pub mod Thin
 pub mod Command

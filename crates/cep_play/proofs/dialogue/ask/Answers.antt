@@ -1,0 +1,16 @@
+use Rattle.std.proofs.lemmas.Result.{IfOk-weaker}
+use Rattle.std.proofs.Common.{◌++◌, length, refl, ap, ◌∙◌, [], subst}
+use Rattle.cep_base.specs.Talk.{outs}
+use Rattle.cep_play.specs.Choice.{Hears}
+use Rattle.cep_play.specs.Lines.{question}
+use Rattle.cep_play.specs.Turn.{Asks}
+use Rattle.cep_play.proofs.Did.{did_put, did_then}
+use Rattle.cep_play.proofs.Turns.{asks_after}
+use Rattle.cep_play.proofs.dialogue.ask.Goals as goal
+
+pub returns-clause-heard : goal.returns-clause-heard
+returns-clause-heard g c =
+    let talk = g.C.Console.talk in
+    let left = g.C.Console.left in
+    let put = did_put talk left c.args.console.now c.put.new.self c.bytes.result.now c.in_ok-put.ensures.written c.in_ok-put.ensures.left in
+    IfOk-weaker c.choose.result _ _ (λ choice hears. did_then talk left c.args.console.now c.put.new.self c.choose.new.console _ _ _ (λ come first middle others rest put hears. asks_after c.args.rules.now c.args.offers.now c.put_question.new.out c.bytes.result.now come middle rest c.args.taken.now c.choose.new.taken first others choice c.bytes.ensures (c.in_ok-put_question.ensures ∙ ap (λ xs. xs ++ question c.args.rules.now c.args.offers.now) c.new-question.ensures) put hears) put hears) c.choose.ensures.heard
