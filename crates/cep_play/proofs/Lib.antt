@@ -1,3 +1,7 @@
+pub mod Copies
+pub mod Counts
 pub mod Did
 pub mod LineLemmas
+pub mod Offers
+pub mod Steps
 pub mod Turns
