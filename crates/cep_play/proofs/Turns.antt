@@ -1,5 +1,5 @@
 -- Each way through a turn is a case of a talk.
-use Rattle.std.proofs.Common.{◌≡◌, ◌⊎◌, ℕ, ◌+◌, ◌-◌, ◌<◌, ◌≤◌, List, [], ◌∷◌, ◌++◌, length, get_or, sum, refl, sym, ap, ◌∙◌, subst, arith, append_assoc, Option, None, Some, Bool, true, false, eqb}
+use Rattle.std.proofs.Common.{◌≡◌, ◌⊎◌, ℕ, zero, suc, ◌+◌, ◌-◌, ◌<◌, ◌≤◌, List, [], ◌∷◌, ◌++◌, length, get_or, sum, refl, sym, ap, ◌∙◌, subst, arith, append_assoc, Option, None, Some, Bool, true, false, eqb}
 use Rattle.std.specs.Prelude.{slice_get, Contains, All}
 use Rattle.std.specs.Option.{IsSomeAnd}
 use Rattle.std.proofs.lemmas.List.{get_or_default, nil_from_length}
@@ -12,9 +12,13 @@ use Rattle.cep_play.specs.declared.choice.Choice.TheVariants.{Place, NoMore, NoR
 use Rattle.cep_play.specs.declared.dialogue.EndWord.{EndWord}
 use Rattle.cep_play.specs.declared.dialogue.EndWord.TheVariants.{Quiet, Input, Turns, Typed}
 use Rattle.cep_play.specs.declared.dialogue.TheConstants.{MOST_OFFERS}
-use Rattle.cep_play.specs.Bag.{Bag, IsContained}
+use Rattle.cep_play.specs.Bag.{Bag, IsContained, counted}
 use Rattle.cep_play.specs.Program.{Rule, Program, left_of, Applies, AreOffers, Step, Fits}
+use Rattle.cep_play.specs.declared.program.TheConstants.{MOST_COPIES}
+use Rattle.cep_play.specs.Thin.{IsSmall, IsSmallRule}
 use Rattle.cep_play.specs.Choice.{Hears}
+use Rattle.cep_play.proofs.Copies.{copies_of-counted}
+use Rattle.std.specs.List.{AllByRecursion}
 use Rattle.cep_play.specs.Lines.{question, step_line}
 use Rattle.cep_play.specs.Dialogue as dialogue
 use Rattle.cep_play.specs.Dialogue.{Ending, Ends, IsAsked, IsChosen, IsStop, Talk}
@@ -76,3 +80,34 @@ none_offered offers slice test e f t = nil_from_length offers (subst (λ xs. len
 
 pub some_offered : (offers slice : List ℕ) (test : Bool) → slice ≡ offers → test ≡ eqb (length slice) 0 → test ≡ false → 0 < length offers
 some_offered offers slice test e f t = subst (λ xs. 0 < length xs) e (grind (arith, nat_tests))
+
+few_offers : (rules all : List Rule) (offers : List ℕ) → rules ≡ all → length offers ≤ length rules → length all ≤ MOST_OFFERS → length offers ≤ MOST_OFFERS
+few_offers rules all offers e few fewer = let same = ap length e in omega arith
+
+-- the choice is not made, as the code has it
+pub stopped_turn : (program : Program) (state : Bag) (taken taken' : ℕ) (rules : List Rule) (offers slice come rest : List ℕ) (events : List Event) (choice stop : Choice) (word : EndWord) → rules ≡ program.rules → slice ≡ offers → AreOffers rules state offers → 0 < length offers → length offers ≤ length rules → length program.rules ≤ MOST_OFFERS → Asks rules slice come taken events choice rest taken' → choice ≡ stop → IsStop stop word → IsLastTurn program word state taken come events
+stopped_turn program state taken taken' rules offers slice come rest events choice stop word e f are some few fewer asks is stops =
+    unchosen_turn program state taken taken' offers come rest events choice word
+      (subst (λ rs. AreOffers rs state offers) e are) some (few_offers rules program.rules offers e few fewer)
+      (subst (λ rs. Asks rs offers come taken events choice rest taken') e (subst (λ os. Asks rules os come taken events choice rest taken') f asks))
+      (subst (λ c. IsStop c word) (sym is) stops)
+
+-- one turn is done, as the code has it
+pub acted_turn : (program : Program) (counts counts' : List ℕ) (taken taken' place : ℕ) (rules : List Rule) (offers slice come between rest : List ℕ) (first second : List Event) (rule : Rule) (choice : Choice) → rules ≡ program.rules → slice ≡ offers → AreOffers rules (counted counts) offers → 0 < length offers → length offers ≤ length rules → length program.rules ≤ MOST_OFFERS → IsChosen rules slice place rule → Step rule (counted counts) (counted counts') → length program.atoms ≡ length counts' → sum counts' ≤ MOST_COPIES → choice ≡ Place place → Asks rules slice come taken first choice between taken' → (second ≡ outs (step_line rule)) × (rest ≡ between) → IsTurn program (counted counts) taken (counted counts') taken' come (first ++ second) rest
+acted_turn program counts counts' taken taken' place rules offers slice come between rest first second rule choice e f are some few fewer chosen step each fits is asks told =
+    done_turn program (counted counts) (counted counts') taken taken' place offers come between rest first second rule
+      (subst (λ rs. AreOffers rs (counted counts) offers) e are) some (few_offers rules program.rules offers e few fewer)
+      (subst (λ rs. IsChosen rs offers place rule) e (subst (λ os. IsChosen rules os place rule) f chosen)) step
+      (rw (copies_of-counted program.atoms counts' each) fits)
+      (subst (λ c. Asks program.rules offers come taken first c between taken') is (subst (λ rs. Asks rs offers come taken first choice between taken') e (subst (λ os. Asks rules os come taken first choice between taken') f asks))) told
+
+-- each rule of the program is small
+pub small_rule : (atoms : ℕ) (rules : List Rule) (number : ℕ) (rule : Rule) → AllByRecursion (IsSmallRule atoms) rules → slice_get rules number ≡ Some rule → IsSmallRule atoms rule
+small_rule atoms [] number rule small e = absurd (cc)
+small_rule atoms (first ∷ rules) zero rule small e = subst (IsSmallRule atoms) (let s : Some first ≡ Some rule = e in cc) small.0
+small_rule atoms (first ∷ rules) (suc number) rule small e = small_rule atoms rules number rule small.1 e
+
+-- and so is the one that is chosen
+pub chosen_small : (program : Program) (rules : List Rule) (offers : List ℕ) (place : ℕ) (rule : Rule) → rules ≡ program.rules → IsSmall program → IsChosen rules offers place rule → IsSmallRule (length program.atoms) rule
+chosen_small program rules offers place rule e small chosen =
+    small_rule (length program.atoms) program.rules chosen.offer rule small.rules (subst (λ rs. slice_get rs chosen.offer ≡ Some rule) e chosen.of_rule)
