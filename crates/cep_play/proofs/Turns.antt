@@ -36,7 +36,7 @@ asked program state offers limit turns are some few remain = record { offered = 
 pub unchosen_turn : (program : Program) (state : Bag) (taken taken' : ℕ) (offers come rest : List ℕ) (events : List Event) (choice : Choice) (word : EndWord) → AreOffers program.rules state offers → 0 < length offers → length offers ≤ MOST_OFFERS → Asks program.rules offers come taken events choice rest taken' → IsStop choice word → IsLastTurn program word state taken come events
 unchosen_turn program state taken taken' offers come rest events choice word are some few asks stops limit turns last ending remain ends =
     dialogue.unchosen offers choice word rest taken' asks.heard last (asked program state offers limit turns are some few remain) asks.hears stops ends
-      (ap (λ xs. xs ++ last) asks.whole ∙ append_assoc (outs (question program.rules offers)) asks.heard last)
+    (ap (λ xs. xs ++ last) asks.whole ∙ append_assoc (outs (question program.rules offers)) asks.heard last)
 
 regrouped : (first second q heard step others : List Event) → first ≡ q ++ heard → second ≡ step → (first ++ second) ++ others ≡ q ++ (heard ++ (step ++ others))
 regrouped first second q heard step others e f = rw (e, f) (simp append_assoc)
@@ -45,8 +45,8 @@ regrouped first second q heard step others e f = rw (e, f) (simp append_assoc)
 pub done_turn : (program : Program) (old new : Bag) (taken taken' place : ℕ) (offers come between rest : List ℕ) (first second : List Event) (rule : Rule) → AreOffers program.rules old offers → 0 < length offers → length offers ≤ MOST_OFFERS → IsChosen program.rules offers place rule → Step rule old new → Fits program.atoms new → Asks program.rules offers come taken first (Place place) between taken' → (second ≡ outs (step_line rule)) × (rest ≡ between) → IsTurn program old taken new taken' come (first ++ second) rest
 done_turn program old new taken taken' place offers come between rest first second rule are some few chosen step fits asks told limit turns others ending remain talk =
     dialogue.turn offers place rule new between taken' asks.heard others (asked program old offers limit turns are some few remain) asks.hears chosen step fits
-      (subst (λ bytes. Talk program limit new (turns + 1) bytes taken' others ending) told.1 talk)
-      (regrouped first second (outs (question program.rules offers)) asks.heard (outs (step_line rule)) others asks.whole told.0)
+    (subst (λ bytes. Talk program limit new (turns + 1) bytes taken' others ending) told.1 talk)
+    (regrouped first second (outs (question program.rules offers)) asks.heard (outs (step_line rule)) others asks.whole told.0)
 
 applies_some : (rules : List Rule) (number : ℕ) (o : Option Rule) (P : Rule → Type 0) → slice_get rules number ≡ o → IsSomeAnd o P → number < length rules
 applies_some rules number None P e h = absurd h
@@ -72,7 +72,8 @@ asks_after rules offers text written come middle rest taken taken' first others 
     record {
       heard = others;
       hears = subst (λ bytes. Hears (length offers) bytes taken others choice rest taken') put.1 hears;
-      whole = ap (λ es. es ++ others) (put.0 ∙ ap outs (e ∙ f)) }
+      whole = ap (λ es. es ++ others) (put.0 ∙ ap outs (e ∙ f));
+    }
 
 -- what a test for an empty slice says of the vector behind it
 pub none_offered : (offers slice : List ℕ) (test : Bool) → slice ≡ offers → test ≡ eqb (length slice) 0 → test ≡ true → offers ≡ []
@@ -88,18 +89,18 @@ few_offers rules all offers e few fewer = let same = ap length e in omega arith
 pub stopped_turn : (program : Program) (state : Bag) (taken taken' : ℕ) (rules : List Rule) (offers slice come rest : List ℕ) (events : List Event) (choice stop : Choice) (word : EndWord) → rules ≡ program.rules → slice ≡ offers → AreOffers rules state offers → 0 < length offers → length offers ≤ length rules → length program.rules ≤ MOST_OFFERS → Asks rules slice come taken events choice rest taken' → choice ≡ stop → IsStop stop word → IsLastTurn program word state taken come events
 stopped_turn program state taken taken' rules offers slice come rest events choice stop word e f are some few fewer asks is stops =
     unchosen_turn program state taken taken' offers come rest events choice word
-      (subst (λ rs. AreOffers rs state offers) e are) some (few_offers rules program.rules offers e few fewer)
-      (subst (λ rs. Asks rs offers come taken events choice rest taken') e (subst (λ os. Asks rules os come taken events choice rest taken') f asks))
-      (subst (λ c. IsStop c word) (sym is) stops)
+    (subst (λ rs. AreOffers rs state offers) e are) some (few_offers rules program.rules offers e few fewer)
+    (subst (λ rs. Asks rs offers come taken events choice rest taken') e (subst (λ os. Asks rules os come taken events choice rest taken') f asks))
+    (subst (λ c. IsStop c word) (sym is) stops)
 
 -- one turn is done, as the code has it
 pub acted_turn : (program : Program) (counts counts' : List ℕ) (taken taken' place : ℕ) (rules : List Rule) (offers slice come between rest : List ℕ) (first second : List Event) (rule : Rule) (choice : Choice) → rules ≡ program.rules → slice ≡ offers → AreOffers rules (counted counts) offers → 0 < length offers → length offers ≤ length rules → length program.rules ≤ MOST_OFFERS → IsChosen rules slice place rule → Step rule (counted counts) (counted counts') → length program.atoms ≡ length counts' → sum counts' ≤ MOST_COPIES → choice ≡ Place place → Asks rules slice come taken first choice between taken' → (second ≡ outs (step_line rule)) × (rest ≡ between) → IsTurn program (counted counts) taken (counted counts') taken' come (first ++ second) rest
 acted_turn program counts counts' taken taken' place rules offers slice come between rest first second rule choice e f are some few fewer chosen step each fits is asks told =
     done_turn program (counted counts) (counted counts') taken taken' place offers come between rest first second rule
-      (subst (λ rs. AreOffers rs (counted counts) offers) e are) some (few_offers rules program.rules offers e few fewer)
-      (subst (λ rs. IsChosen rs offers place rule) e (subst (λ os. IsChosen rules os place rule) f chosen)) step
-      (rw (copies_of-counted program.atoms counts' each) fits)
-      (subst (λ c. Asks program.rules offers come taken first c between taken') is (subst (λ rs. Asks rs offers come taken first choice between taken') e (subst (λ os. Asks rules os come taken first choice between taken') f asks))) told
+    (subst (λ rs. AreOffers rs (counted counts) offers) e are) some (few_offers rules program.rules offers e few fewer)
+    (subst (λ rs. IsChosen rs offers place rule) e (subst (λ os. IsChosen rules os place rule) f chosen)) step
+    (rw (copies_of-counted program.atoms counts' each) fits)
+    (subst (λ c. Asks program.rules offers come taken first c between taken') is (subst (λ rs. Asks rs offers come taken first choice between taken') e (subst (λ os. Asks rules os come taken first choice between taken') f asks))) told
 
 -- each rule of the program is small
 pub small_rule : (atoms : ℕ) (rules : List Rule) (number : ℕ) (rule : Rule) → AllByRecursion (IsSmallRule atoms) rules → slice_get rules number ≡ Some rule → IsSmallRule atoms rule

@@ -2,7 +2,7 @@
 use Rattle.std.specs.Prelude.{◌≡◌, ◌⊎◌, ℕ, ◌+◌, ◌<◌, List, ◌++◌, length}
 use Rattle.cep_base.specs.declared.console.Event.{Event}
 use Rattle.cep_play.specs.declared.dialogue.EndWord.{EndWord}
-use Rattle.cep_play.specs.declared.dialogue.EndWord.TheVariants.{Quiet, Input, Typed}
+use Rattle.cep_play.specs.declared.dialogue.EndWord.TheVariants.{Quiet, Input, Turns, Typed}
 use Rattle.cep_play.specs.Bag.{Bag}
 use Rattle.cep_play.specs.Program.{Rule, Program}
 use Rattle.cep_base.specs.Talk.{outs}
@@ -32,3 +32,12 @@ IsLastTurn program word state taken come events =
 -- the words with which a turn may end a run
 abbrev pub EndsTurn : EndWord → Type 0
 EndsTurn word = (word ≡ Quiet) ⊎ ((word ≡ Input) ⊎ (word ≡ Typed))
+
+-- These events are all turns of a run: put before its end, they make a talk from the start state, of which no turn was done.
+abbrev pub AreTurns : Program → ℕ → EndWord → Bag → Bag → List ℕ → List Event → Type 0
+AreTurns program limit word old new come events =
+    (turns : ℕ) × ((last : List Event) (ending : Ending) → Ends program word new turns last ending → Talk program limit old 0 come 0 (events ++ last) ending)
+
+-- the words with which a run may end
+abbrev pub EndsRun : EndWord → Type 0
+EndsRun word = (word ≡ Turns) ⊎ EndsTurn word

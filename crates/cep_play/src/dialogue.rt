@@ -3,11 +3,11 @@ ghost use Rattle.std.specs.Prelude.{◌≡◌, ◌⊎◌, ◌+◌, ◌*◌, ◌<
 ghost use Rattle.cep_base.specs.Talk.{outs, Did, ConsoleCause};
 ghost use Rattle.cep_play.specs.Bag.{counted};
 ghost use Rattle.cep_play.specs.Choice.{IsChoiceWithin};
-ghost use Rattle.cep_play.specs.Lines.{word_of, step_line, end_lines};
+ghost use Rattle.cep_play.specs.Lines.{word_of, step_line, end_lines, header};
 ghost use Rattle.cep_play.specs.Dialogue.{IsChosen};
-ghost use Rattle.cep_play.specs.Turn.{Asks, IsTurn, IsLastTurn, EndsTurn};
+ghost use Rattle.cep_play.specs.Turn.{Asks, IsTurn, IsLastTurn, EndsTurn, AreTurns, EndsRun};
 ghost use Rattle.cep_play.specs.Thin.{IsSmall};
-ghost use Rattle.cep_play.specs.Command.{Says, IsOver, IsLimited};
+ghost use Rattle.cep_play.specs.Command.{Says};
 
 use crate::choice::{Choice, MOST_TYPED, choose};
 use crate::lines::{put_end, put_header, put_question, put_step};
@@ -119,7 +119,7 @@ fn turn<C: Console>(
     ensures done { IfOk result (λ over. MatchOption over
         (Did C.talk C.left console.old console.new (IsTurn program.now (counted state.old) taken.old (counted state.new) taken.new))
         (λ word. Did C.talk C.left console.old console.new (λ come events rest.
-            IsLastTurn program.now word (counted state.old) taken.old come events))) }
+        IsLastTurn program.now word (counted state.old) taken.old come events))) }
     ensures over { IfOk result (λ over. MatchOption over (sum state.new ≤ sum state.old + MOST_RIGHT) (λ word. EndsTurn word × (state.new ≡ state.old))) }
     ensures each { length state.new ≡ length state.old }
     ensures within { taken.new ≤ MOST_TYPED }
@@ -140,4 +140,88 @@ fn turn<C: Console>(
     state.step(rule);
     tell(alloc, rule, console)?;
     Ok(None)
+}
+
+/// Does turn after turn until the run ends, and answers why.
+fn all_turns<C: Console>(
+    alloc: Global,
+    program: &Program,
+    state: &mut State,
+    console: &mut C,
+) -> Result<EndWord, ConsoleFault>
+    requires small { IsSmall program.now }
+    requires each { length state.old ≡ length program.now.atoms }
+    requires copies { sum state.old ≤ MOST_START }
+    ensures said { IfOk result (λ word. Did C.talk C.left console.old console.new (λ come events rest.
+        AreTurns program.now TURNS word (counted state.old) (counted state.new) come events)) }
+    ensures over { IfOk result (λ word. EndsRun word) }
+    ensures each { length state.new ≡ length state.old }
+    ensures cause { ConsoleCause (C.faults console.old) (C.faults console.new) result }
+{
+    let mut taken = 0;
+    for _done in 0..TURNS {
+        if let Some(word) = turn(alloc, program, state, console, &mut taken)? {
+            return Ok(word);
+        }
+    }
+    let offers = state.offers(alloc, program.rules())?;
+    if offers.is_empty() {
+        Ok(EndWord::Quiet)
+    } else {
+        Ok(EndWord::Turns)
+    }
+}
+
+/// Writes the header of a transcript.
+fn begin<C: Console>(
+    alloc: Global,
+    program: &Program,
+    state: &State,
+    console: &mut C,
+) -> Result<(), ConsoleFault>
+    requires { length state.now ≡ length program.now.atoms }
+    ensures told { OnOk result (Did C.talk C.left console.old console.new (λ come events rest.
+        (events ≡ outs (header program.now HEIGHT (counted state.now))) × (rest ≡ come))) }
+    ensures cause { ConsoleCause (C.faults console.old) (C.faults console.new) result }
+{
+    let mut lines = Text::new(alloc);
+    put_header(&mut lines, program, HEIGHT, state.counts())?;
+    console.put(lines.bytes())
+}
+
+/// Writes why the run ended, and the last state.
+fn finish<C: Console>(
+    alloc: Global,
+    program: &Program,
+    word: EndWord,
+    state: &State,
+    console: &mut C,
+) -> Result<(), ConsoleFault>
+    requires { length state.now ≡ length program.now.atoms }
+    ensures told { OnOk result (Did C.talk C.left console.old console.new (λ come events rest.
+        (events ≡ outs (end_lines program.now.atoms word (counted state.now))) × (rest ≡ come))) }
+    ensures cause { ConsoleCause (C.faults console.old) (C.faults console.new) result }
+{
+    let mut lines = Text::new(alloc);
+    put_end(&mut lines, program.atoms(), word, state.counts())?;
+    console.put(lines.bytes())
+}
+
+/// Plays a program with the person at a console, from its start state until the run ends.
+/// Answers why it ended.
+pub fn play<C: Console>(
+    alloc: Global,
+    program: &Program,
+    console: &mut C,
+) -> Result<EndWord, ConsoleFault>
+    requires { IsSmall program.now }
+    ensures said { IfOk result (λ word. Says C.talk C.left console.old console.new program.now (λ end. end ≡ word)) }
+    ensures over { IfOk result (λ word. EndsRun word) }
+    ensures cause { ConsoleCause (C.faults console.old) (C.faults console.new) result }
+{
+    let mut state = State::new(alloc, program.atoms().len(), program.start())?;
+    begin(alloc, program, &state, console)?;
+    let word = all_turns(alloc, program, &mut state, console)?;
+    finish(alloc, program, word, &state, console)?;
+    Ok(word)
 }
