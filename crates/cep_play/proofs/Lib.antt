@@ -1,4 +1,5 @@
 pub mod Copies
 pub mod Counts
+pub mod NameSets
 pub mod Offers
 pub mod Steps
