@@ -2,6 +2,7 @@ pub mod Copies
 pub mod Counts
 pub mod Did
 pub mod LineLemmas
+pub mod NameSets
 pub mod Offers
 pub mod Runs
 pub mod Steps

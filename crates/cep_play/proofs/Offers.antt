@@ -8,10 +8,11 @@ use Rattle.cep_play.specs.Bag.{Bag, IsContained}
 use Rattle.cep_play.specs.Program.{Rule, left_of, Applies, AreOffers}
 
 module _ (state : Bag) where
-  below_length : (rules : List Rule) (number : ℕ) → Applies rules state number → number < length rules
-  below_length [] number applies = absurd applies
-  below_length (rule ∷ rules) zero applies = omega arith
-  below_length (rule ∷ rules) (suc number) applies = omega (arith, below_length rules number applies)
+  -- a rule that applies is there
+  pub applies_in_range : (rules : List Rule) (number : ℕ) → Applies rules state number → number < length rules
+  applies_in_range [] number applies = absurd applies
+  applies_in_range (rule ∷ rules) zero applies = omega arith
+  applies_in_range (rule ∷ rules) (suc number) applies = omega (arith, applies_in_range rules number applies)
 
   module _ (rule : Rule) where
     applies_in_front : (rules : List Rule) (number : ℕ) → Applies rules state number → Applies (rules ++ rule ∷ []) state number
@@ -42,7 +43,7 @@ increasing_push numbers number rises below k in' =
 module _ (rules : List Rule) (rule : Rule) (state : Bag) (offers : List ℕ) (among : AreOffers rules state offers) where
   one_more : IsContained (left_of rule) state → AreOffers (rules ++ rule ∷ []) state (offers ++ length rules ∷ [])
   one_more within = record {
-    in_order = increasing_push offers (length rules) among.in_order (λ number there. below_length state rules number (among.no_other number there));
+    in_order = increasing_push offers (length rules) among.in_order (λ number there. applies_in_range state rules number (among.no_other number there));
     each = λ number applies. ⊎_elim
         (λ front. Contains-append_left offers (length rules ∷ []) number (among.each number front))
         (λ last. subst (Contains (offers ++ length rules ∷ [])) (sym last.0) (Contains-push offers (length rules)))
