@@ -1,3 +1,4 @@
+pub mod Commands
 pub mod Copies
 pub mod Counts
 pub mod Did

@@ -1,11 +1,16 @@
 -- What the command does with its words, a shelf and a console.
-use Rattle.std.specs.Prelude.{◌≡◌, ◌⊎◌, ℕ, ◌<◌, ◌≤◌, List, [], ◌∷◌, ◌++◌, length, codes, Option, Some, None, IfSome, IsSomeAnd, take}
+use Rattle.std.specs.Prelude.{◌≡◌, ◌⊎◌, ℕ, ◌<◌, ◌≤◌, List, [], ◌∷◌, ◌++◌, length, codes, Option, Some, None, IfSome, IsSomeAnd, Result, Ok, Err}
 use Rattle.std.specs.Option.{option_map}
 use Rattle.cep_base.specs.declared.console.Event.{Event}
 use Rattle.cep_base.specs.Talk.{outs, Did}
 use Rattle.cep_base.specs.Files.{Files}
+use Rattle.cep_base.specs.Faults.{Rose}
+use Rattle.cep_base.specs.declared.console.ConsoleFault.{ConsoleFault}
+use Rattle.cep_base.specs.declared.console.ConsoleFault.TheVariants as fault
+use Rattle.cep_play.specs.declared.command.Status.{Status}
+use Rattle.cep_play.specs.declared.command.Status.TheVariants.{Ended, Usage, Refused, Limited, Console, Unread, Memory}
 use Rattle.cep_play.specs.declared.dialogue.EndWord.{EndWord}
-use Rattle.cep_play.specs.declared.dialogue.EndWord.TheVariants.{Quiet, Input, Turns, Typed}
+use Rattle.cep_play.specs.declared.dialogue.EndWord.TheVariants.{Quiet, Input, Turns, Offers, Typed, State}
 use Rattle.cep_play.specs.declared.dialogue.TheConstants.{HEIGHT, TURNS}
 use Rattle.cep_play.specs.declared.thin.TheConstants.{MOST_TEXT}
 use Rattle.cep_play.specs.Program.{Program}
@@ -42,10 +47,13 @@ abbrev pub Says : {C : Type 0} → (C → Option (List Event)) → (C → Option
 Says talk left old new program P =
     Did talk left old new (λ come events rest. (ending : Ending) × Dialogue program HEIGHT TURNS come events ending × P ending.word)
 
--- The file's text spells a program, and what is said is a dialogue of it, whose end word has P.
-abbrev pub Plays : {C : Type 0} → (C → Option (List Event)) → (C → Option (List ℕ)) → C → C → List (List ℕ) → Option Files → (EndWord → Type 0) → Type 0
-Plays talk left old new words files P =
-    (name : List ℕ) × IsPlay words name × OfFile files name (λ text. (program : Program) × Spells text program × Says talk left old new program P)
+-- the text spells a program, and what is said is a dialogue of it, whose end word has P
+abbrev pub Plays : {C : Type 0} → (C → Option (List Event)) → (C → Option (List ℕ)) → C → C → List ℕ → (EndWord → Type 0) → Type 0
+Plays talk left old new text P = (program : Program) × Spells text program × Says talk left old new program P
+
+-- the text spells no program, and the line that says so is written
+abbrev pub Refuses : {C : Type 0} → (C → Option (List Event)) → (C → Option (List ℕ)) → C → C → List ℕ → Type 0
+Refuses talk left old new text = ((program : Program) → Spells text program → ⊥) × Writes talk left old new not_built
 
 -- the run ended in quiet or at the end of the input
 abbrev pub IsOver : EndWord → Type 0
@@ -55,18 +63,79 @@ IsOver word = (word ≡ Quiet) ⊎ (word ≡ Input)
 abbrev pub IsLimited : EndWord → Type 0
 IsLimited word = (word ≡ Turns) ⊎ (word ≡ Typed)
 
--- The file's text is too long, or it is not and spells no program, and the line that says so is written.
-abbrev pub Refuses : {C : Type 0} → (C → Option (List Event)) → (C → Option (List ℕ)) → C → C → List (List ℕ) → Option Files → Type 0
-Refuses talk left old new words files =
-    (name : List ℕ) × IsPlay words name
-    × ((OfFile files name (λ text. MOST_TEXT < length text) × Writes talk left old new too_long)
-    ⊎ (OfFile files name (λ text. (length text ≤ MOST_TEXT) × ((program : Program) → Spells text program → ⊥)) × Writes talk left old new not_built))
+-- the status of a run that ended with this word
+abbrev pub status_of : EndWord → Status
+status_of Quiet = Ended
+status_of Input = Ended
+status_of Turns = Limited
+status_of Offers = Limited
+status_of Typed = Limited
+status_of State = Limited
 
--- the names that the words ask of the shelf
-abbrev pub Asked : List (List ℕ) → List (List ℕ) → Type 0
-Asked words names =
-    ((name : List ℕ) × IsPlay words name × (names ≡ name ∷ [])) ⊎ (((name : List ℕ) → IsPlay words name → ⊥) × (names ≡ []))
+-- what a status says of a text within the limit
+abbrev pub OfText : {C : Type 0} → (C → Option (List Event)) → (C → Option (List ℕ)) → C → C → List ℕ → Status → Type 0
+OfText talk left old new text Ended = Plays talk left old new text IsOver
+OfText talk left old new text Limited = Plays talk left old new text IsLimited
+OfText talk left old new text Refused = Refuses talk left old new text
+OfText talk left old new text Usage = ⊥
+OfText talk left old new text Console = ⊥
+OfText talk left old new text Unread = ⊥
+OfText talk left old new text Memory = ⊥
+
+-- the file's text is too long, or it spells no program, and the line that says so is written
+abbrev pub RefusesFile : {C : Type 0} → (C → Option (List Event)) → (C → Option (List ℕ)) → C → C → Option Files → List ℕ → Type 0
+RefusesFile talk left old new files name =
+    (OfFile files name (λ text. MOST_TEXT < length text) × Writes talk left old new too_long)
+    ⊎ OfFile files name (λ text. (length text ≤ MOST_TEXT) × Refuses talk left old new text)
+
+-- what a status says of a file
+abbrev pub OfRun : {C : Type 0} → (C → Option (List Event)) → (C → Option (List ℕ)) → C → C → Option Files → List ℕ → Status → Type 0
+OfRun talk left old new files name Ended = OfFile files name (λ text. Plays talk left old new text IsOver)
+OfRun talk left old new files name Limited = OfFile files name (λ text. Plays talk left old new text IsLimited)
+OfRun talk left old new files name Refused = RefusesFile talk left old new files name
+OfRun talk left old new files name Unread = Writes talk left old new no_program
+OfRun talk left old new files name Usage = ⊥
+OfRun talk left old new files name Console = ⊥
+OfRun talk left old new files name Memory = ⊥
+
+-- the shelf's count of faults rose where the file could not be read, and stays where it could
+abbrev pub CountsFaults : ℕ → ℕ → Status → Type 0
+CountsFaults before after Unread = Rose before after
+CountsFaults before after Ended = after ≡ before
+CountsFaults before after Limited = after ≡ before
+CountsFaults before after Refused = after ≡ before
+CountsFaults before after Usage = after ≡ before
+CountsFaults before after Console = Unit {0}
+CountsFaults before after Memory = Unit {0}
 
 -- where the names asked for are told, these were added
-abbrev pub Adds : Option (List (List ℕ)) → Option (List (List ℕ)) → List (List ℕ) → Type 0
-Adds before after names = after ≡ option_map (λ asked. asked ++ names) before
+abbrev pub Adds : Option (List (List ℕ)) → List (List ℕ) → Option (List (List ℕ)) → Type 0
+Adds before names after = after ≡ option_map (λ asked. asked ++ names) before
+
+-- the file was asked for, but for want of memory perhaps
+abbrev pub AsksFile : Option (List (List ℕ)) → List ℕ → Option (List (List ℕ)) → Result Status ConsoleFault → Type 0
+AsksFile before name after (Ok status) = Adds before (name ∷ []) after
+AsksFile before name after (Err fault.Failed) = Adds before (name ∷ []) after
+AsksFile before name after (Err (fault.Memory error)) = Adds before (name ∷ []) after ⊎ Adds before [] after
+
+-- the status of the process
+abbrev pub code_of : Status → ℕ
+code_of Ended = 0
+code_of Usage = 2
+code_of Refused = 3
+code_of Limited = 4
+code_of Console = 6
+code_of Unread = 7
+code_of Memory = 9
+
+-- the words are `play` and the name of a file, of which P holds
+abbrev pub OfPlay : List (List ℕ) → (List ℕ → Type 0) → Type 0
+OfPlay words P = (name : List ℕ) × IsPlay words name × P name
+
+-- the words have no form
+abbrev pub IsNoForm : List (List ℕ) → Type 0
+IsNoForm words = (name : List ℕ) → IsPlay words name → ⊥
+
+-- the names that the words ask of the shelf
+abbrev pub AsksFor : List (List ℕ) → List (List ℕ) → Type 0
+AsksFor words names = OfPlay words (λ name. names ≡ name ∷ []) ⊎ (IsNoForm words × (names ≡ []))

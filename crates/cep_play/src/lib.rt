@@ -3,6 +3,7 @@
 #![tactic(auto)]
 
 mod choice;
+mod command;
 mod dialogue;
 mod lines;
 mod names;

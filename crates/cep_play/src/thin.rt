@@ -32,6 +32,6 @@ pub fn read(alloc: Global, text: &[u8]) -> Result<Option<Program>, AllocError>
     requires { length text.now ≤ MOST_TEXT }
     ensures { IfOk result (λ read. MatchOption read ((program : Program) → Spells text.now program → ⊥) (λ program. Spells text.now program)) }
 {
-    let _ = (alloc, text);
+    let _bytes = Vec::from_slice(alloc, text)?;
     Ok(None)
 }

@@ -1,0 +1,59 @@
+-- What the statuses of the command say.
+use Rattle.std.proofs.Common.{◌≡◌, ◌⊎◌, ℕ, ◌≤◌, List, [], ◌∷◌, length, get_or, map, refl, sym, ap, ◌∙◌, subst, inl, inr, arith, Option, None, Some, Result, Ok, Err}
+use Rattle.std.specs.Prelude.{IfSome, IfOk, String}
+use Rattle.std.specs.Option.{IsSomeAnd}
+use Rattle.cep_base.specs.declared.console.Event.{Event}
+use Rattle.cep_base.specs.Files.{Files, HasFile}
+use Rattle.cep_play.specs.declared.command.Status.{Status}
+use Rattle.cep_play.specs.declared.command.Status.TheVariants.{Ended, Usage, Refused, Limited, Console, Unread, Memory}
+use Rattle.cep_play.specs.declared.dialogue.EndWord.{EndWord}
+use Rattle.cep_play.specs.declared.dialogue.EndWord.TheVariants.{Quiet, Input, Turns, Offers, Typed, State}
+use Rattle.cep_play.specs.declared.thin.TheConstants.{MOST_TEXT}
+use Rattle.cep_play.specs.Program.{Program}
+use Rattle.cep_play.specs.Dialogue.{Ending, Dialogue}
+use Rattle.cep_play.specs.Turn.{EndsRun}
+use Rattle.cep_play.specs.Thin.{Spells}
+use Rattle.cep_play.specs.Command.{Says, OfFile, Plays, OfText, OfRun, status_of}
+use Rattle.cep_play.proofs.Did.{did_map}
+
+-- a slice of two items
+pub two_items : {X : Type 0} (items : List X) (one other : X) → 2 ≤ length items → length items ≤ 2 → one ≡ get_or items 0 one → other ≡ get_or items 1 other → items ≡ one ∷ other ∷ []
+two_items [] one other least most e f = absurd (omega arith)
+two_items (a ∷ []) one other least most e f = absurd (omega arith)
+two_items (a ∷ b ∷ []) one other least most e f = cc
+two_items (a ∷ b ∷ d ∷ more) one other least most e f = absurd (omega arith)
+
+-- where the files are told, what holds of the bytes holds of the file's
+pub of_file : (files : Option Files) (name bytes : List ℕ) (P : List ℕ → Type 0) → HasFile files name bytes → P bytes → OfFile files name P
+of_file None name bytes P has holds = tt
+of_file (Some file) name bytes P has holds = subst (λ o. IsSomeAnd o P) (sym has) holds
+
+other_word : (word : EndWord) → (word ≡ Turns → ⊥) → (word ≡ Quiet → ⊥) → (word ≡ Input → ⊥) → (word ≡ Typed → ⊥) → EndsRun word → ⊥
+other_word word a b d e (inl turns) = a turns
+other_word word a b d e (inr (inl quiet)) = b quiet
+other_word word a b d e (inr (inr (inl input))) = d input
+other_word word a b d e (inr (inr (inr typed))) = e typed
+
+module _ {C : Type 0} (talk : C → Option (List Event)) (left : C → Option (List ℕ)) (old new : C) where
+  says_word : (program : Program) (word : EndWord) (P : EndWord → Type 0) → P word → Says talk left old new program (λ end. end ≡ word) → Says talk left old new program P
+  says_word program word P holds says =
+      did_map talk left old new _ _ (λ come events rest d. (d.0, d.1, subst P (sym d.2) holds)) says
+
+  -- a played text
+  pub text_played : (text : List ℕ) (program : Program) (word : EndWord) → EndsRun word → Spells text program → Says talk left old new program (λ end. end ≡ word) → OfText talk left old new text (status_of word)
+  text_played text program Quiet ends spells says = (program, spells, says_word program Quiet _ (inl refl) says)
+  text_played text program Input ends spells says = (program, spells, says_word program Input _ (inr refl) says)
+  text_played text program Turns ends spells says = (program, spells, says_word program Turns _ (inl refl) says)
+  text_played text program Typed ends spells says = (program, spells, says_word program Typed _ (inr refl) says)
+  text_played text program Offers ends spells says = absurd (other_word Offers (λ e. cc) (λ e. cc) (λ e. cc) (λ e. cc) ends)
+  text_played text program State ends spells says = absurd (other_word State (λ e. cc) (λ e. cc) (λ e. cc) (λ e. cc) ends)
+
+  -- a file's text
+  pub file_read : (files : Option Files) (name text : List ℕ) (status : Status) → HasFile files name text → length text ≤ MOST_TEXT → OfText talk left old new text status → OfRun talk left old new files name status
+  file_read files name text Ended has short of = of_file files name text _ has of
+  file_read files name text Limited has short of = of_file files name text _ has of
+  file_read files name text Refused has short of = inr (of_file files name text _ has (short, of))
+  file_read files name text Usage has short of = of
+  file_read files name text Console has short of = of
+  file_read files name text Unread has short of = absurd of
+  file_read files name text Memory has short of = of
