@@ -1,6 +1,6 @@
 -- What the statuses of the command say.
-use Rattle.std.proofs.Common.{◌≡◌, ◌⊎◌, ℕ, ◌≤◌, List, [], ◌∷◌, length, get_or, map, refl, sym, ap, ◌∙◌, subst, inl, inr, arith, Option, None, Some, Result, Ok, Err}
-use Rattle.std.specs.Prelude.{IfSome, IfOk, String}
+use Rattle.std.proofs.Common.{◌≡◌, ◌⊎◌, ℕ, ◌≤◌, List, [], ◌∷◌, length, get_or, map, refl, sym, ap, ◌∙◌, subst, inl, inr, lit<, arith, Option, None, Some, Result, Ok, Err}
+use Rattle.std.specs.Prelude.{IfSome, IfOk, String, Contains}
 use Rattle.std.specs.Option.{IsSomeAnd}
 use Rattle.cep_base.specs.declared.console.Event.{Event}
 use Rattle.cep_base.specs.Files.{Files, HasFile}
@@ -13,7 +13,7 @@ use Rattle.cep_play.specs.Program.{Program}
 use Rattle.cep_play.specs.Dialogue.{Ending, Dialogue}
 use Rattle.cep_play.specs.Turn.{EndsRun}
 use Rattle.cep_play.specs.Thin.{Spells}
-use Rattle.cep_play.specs.Command.{Says, OfFile, Plays, OfText, OfRun, status_of}
+use Rattle.cep_play.specs.Command.{Says, OfFile, Plays, OfText, OfRun, OfWords, IsNoForm, Writes, usage, code_of, status_of}
 use Rattle.cep_play.proofs.Did.{did_map}
 
 -- a slice of two items
@@ -57,3 +57,23 @@ module _ {C : Type 0} (talk : C → Option (List Event)) (left : C → Option (L
   file_read files name text Console has short of = of
   file_read files name text Unread has short of = absurd of
   file_read files name text Memory has short of = of
+
+-- each status is one of these numbers
+pub code_among : (status : Status) → Contains (0 ∷ 2 ∷ 3 ∷ 4 ∷ 6 ∷ 7 ∷ 9 ∷ []) (code_of status)
+code_among Ended = (0, lit< tt, refl)
+code_among Usage = (1, lit< tt, refl)
+code_among Refused = (2, lit< tt, refl)
+code_among Limited = (3, lit< tt, refl)
+code_among Console = (4, lit< tt, refl)
+code_among Unread = (5, lit< tt, refl)
+code_among Memory = (6, lit< tt, refl)
+
+-- only words without a form have the status of the usage line
+pub usage_from_code : {C : Type 0} (talk : C → Option (List Event)) (left : C → Option (List ℕ)) (old new : C) (files : Option Files) (words : List (List ℕ)) (status : Status) → code_of status ≡ 2 → OfWords talk left old new files words status → IsNoForm words × Writes talk left old new usage
+usage_from_code talk left old new files words Usage e of = of
+usage_from_code talk left old new files words Ended e of = absurd (omega arith)
+usage_from_code talk left old new files words Refused e of = absurd (omega arith)
+usage_from_code talk left old new files words Limited e of = absurd (omega arith)
+usage_from_code talk left old new files words Console e of = absurd (omega arith)
+usage_from_code talk left old new files words Unread e of = absurd (omega arith)
+usage_from_code talk left old new files words Memory e of = absurd (omega arith)

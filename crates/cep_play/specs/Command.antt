@@ -108,15 +108,43 @@ CountsFaults before after Usage = after ≡ before
 CountsFaults before after Console = Unit {0}
 CountsFaults before after Memory = Unit {0}
 
+-- the words are `play` and the name of a file, and P holds of it
+abbrev pub OfPlay : List (List ℕ) → (List ℕ → Type 0) → Type 0
+OfPlay words P = (name : List ℕ) × IsPlay words name × P name
+
+-- the words have no form
+abbrev pub IsNoForm : List (List ℕ) → Type 0
+IsNoForm words = (name : List ℕ) → IsPlay words name → ⊥
+
+-- what a status says of the words
+abbrev pub OfWords : {C : Type 0} → (C → Option (List Event)) → (C → Option (List ℕ)) → C → C → Option Files → List (List ℕ) → Status → Type 0
+OfWords talk left old new files words Usage = IsNoForm words × Writes talk left old new usage
+OfWords talk left old new files words Ended = OfPlay words (λ name. OfRun talk left old new files name Ended)
+OfWords talk left old new files words Limited = OfPlay words (λ name. OfRun talk left old new files name Limited)
+OfWords talk left old new files words Refused = OfPlay words (λ name. OfRun talk left old new files name Refused)
+OfWords talk left old new files words Unread = OfPlay words (λ name. OfRun talk left old new files name Unread)
+OfWords talk left old new files words Console = ⊥
+OfWords talk left old new files words Memory = ⊥
+
 -- where the names asked for are told, these were added
-abbrev pub Adds : Option (List (List ℕ)) → List (List ℕ) → Option (List (List ℕ)) → Type 0
-Adds before names after = after ≡ option_map (λ asked. asked ++ names) before
+abbrev pub Adds : Option (List (List ℕ)) → Option (List (List ℕ)) → List (List ℕ) → Type 0
+Adds before after names = after ≡ option_map (λ asked. asked ++ names) before
+
+-- P holds of the names that the words ask of the shelf: the file's, if they have a form
+abbrev pub AsksFor : List (List ℕ) → (List (List ℕ) → Type 0) → Type 0
+AsksFor words P = OfPlay words (λ name. P (name ∷ [])) ⊎ (IsNoForm words × P [])
 
 -- the file was asked for, but for want of memory perhaps
 abbrev pub AsksFile : Option (List (List ℕ)) → List ℕ → Option (List (List ℕ)) → Result Status ConsoleFault → Type 0
-AsksFile before name after (Ok status) = Adds before (name ∷ []) after
-AsksFile before name after (Err fault.Failed) = Adds before (name ∷ []) after
-AsksFile before name after (Err (fault.Memory error)) = Adds before (name ∷ []) after ⊎ Adds before [] after
+AsksFile before name after (Ok status) = Adds before after (name ∷ [])
+AsksFile before name after (Err fault.Failed) = Adds before after (name ∷ [])
+AsksFile before name after (Err (fault.Memory error)) = Adds before after (name ∷ []) ⊎ (after ≡ before)
+
+-- what the words ask for was asked for, but for want of memory perhaps
+abbrev pub Asks : Option (List (List ℕ)) → List (List ℕ) → Option (List (List ℕ)) → Result Status ConsoleFault → Type 0
+Asks before words after (Ok status) = AsksFor words (Adds before after)
+Asks before words after (Err fault.Failed) = AsksFor words (Adds before after)
+Asks before words after (Err (fault.Memory error)) = AsksFor words (Adds before after) ⊎ (after ≡ before)
 
 -- the status of the process
 abbrev pub code_of : Status → ℕ
@@ -127,15 +155,3 @@ code_of Limited = 4
 code_of Console = 6
 code_of Unread = 7
 code_of Memory = 9
-
--- the words are `play` and the name of a file, of which P holds
-abbrev pub OfPlay : List (List ℕ) → (List ℕ → Type 0) → Type 0
-OfPlay words P = (name : List ℕ) × IsPlay words name × P name
-
--- the words have no form
-abbrev pub IsNoForm : List (List ℕ) → Type 0
-IsNoForm words = (name : List ℕ) → IsPlay words name → ⊥
-
--- the names that the words ask of the shelf
-abbrev pub AsksFor : List (List ℕ) → List (List ℕ) → Type 0
-AsksFor words names = OfPlay words (λ name. names ≡ name ∷ []) ⊎ (IsNoForm words × (names ≡ []))

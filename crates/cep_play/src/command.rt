@@ -1,8 +1,8 @@
 // The whole command: its words, the program's file, and the run.
-ghost use Rattle.std.specs.Prelude.{◌≡◌, ◌⊎◌, ◌<◌, ◌≤◌, [], ◌∷◌, length, map, string_bytes, IfOk, Contains, MatchOption};
+ghost use Rattle.std.specs.Prelude.{◌≡◌, ◌≢◌, ◌⊎◌, ◌<◌, ◌≤◌, [], ◌∷◌, length, map, string_bytes, IfOk, Contains, MatchOption};
 ghost use Rattle.cep_base.specs.Talk.{Did, ConsoleCause};
 ghost use Rattle.cep_base.specs.Faults.{Rose};
-ghost use Rattle.cep_play.specs.Command.{IsPlay, OfFile, Plays, RefusesFile, Writes, IsOver, IsLimited, OfText, OfRun, CountsFaults, Adds, AsksFile, AsksFor, OfPlay, IsNoForm, usage, no_program, code_of, status_of};
+ghost use Rattle.cep_play.specs.Command.{IsPlay, OfFile, Plays, RefusesFile, Writes, IsOver, IsLimited, OfText, OfRun, OfWords, CountsFaults, Adds, AsksFile, Asks, AsksFor, OfPlay, IsNoForm, usage, no_program, code_of, status_of};
 
 use crate::dialogue::{EndWord, play};
 use crate::thin::{MOST_TEXT, read};
@@ -110,5 +110,83 @@ fn file_of(words: &[String]) -> Option<&String>
     match words {
         [play, file] if play.as_str() == "play" => Some(file),
         _ => None,
+    }
+}
+
+/// Does what the words ask for.
+fn command<C: Console, H: Shelf>(
+    alloc: Global,
+    words: &[String],
+    console: &mut C,
+    shelf: &mut H,
+) -> Result<Status, ConsoleFault>
+    ensures outcome { IfOk result (OfWords C.talk C.left console.old console.new (H.files shelf.old) (map string_bytes words.now)) }
+    ensures cause { ConsoleCause (C.faults console.old) (C.faults console.new) result }
+    ensures faults { IfOk result (CountsFaults (H.faults shelf.old) (H.faults shelf.new)) }
+    ensures asked { Asks (H.asked shelf.old) (map string_bytes words.now) (H.asked shelf.new) result }
+    ensures files { H.files shelf.new ≡ H.files shelf.old }
+{
+    match file_of(words) {
+        Some(file) => play_file(alloc, file.as_str(), console, shelf),
+        None => {
+            console.put(USAGE)?;
+            Ok(Status::Usage)
+        }
+    }
+}
+
+/// Does all that the program does: reads the program that the words name from the shelf, plays it
+/// with the person at the console, and answers the status that the process ends with.
+///
+/// | status | comes |
+/// |---|---|
+/// | 0 | the run ended in quiet, or at the end of the input |
+/// | 2 | the words have no form; the usage line was written |
+/// | 3 | the program's text is refused; the line that says so was written |
+/// | 4 | the run ended by a limit |
+/// | 6 | the console failed |
+/// | 7 | the program's file could not be read; the line that says so was written |
+/// | 9 | memory ran out |
+///
+/// After 6 and 9 some of what was due may be missing at the end. `steps` counts the matching steps of
+/// programs with variables: the programs that are played today need none.
+pub fn ceptre<C: Console, H: Shelf, L: Ledger>(
+    alloc: Global,
+    words: &[String],
+    console: &mut C,
+    shelf: &mut H,
+    steps: &mut Steps<L>,
+) -> u8
+    // A run that ended is a dialogue of the program that the file's text spells.
+    ensures ended { result ≡ 0 → OfPlay (map string_bytes words.now) (λ name. OfFile (H.files shelf.old) name (λ text.
+        Plays C.talk C.left console.old console.new text IsOver)) }
+    ensures limited { result ≡ 4 → OfPlay (map string_bytes words.now) (λ name. OfFile (H.files shelf.old) name (λ text.
+        Plays C.talk C.left console.old console.new text IsLimited)) }
+
+    // What is not played is refused with its one line.
+    ensures usage { result ≡ 2 → IsNoForm (map string_bytes words.now) × Writes C.talk C.left console.old console.new usage }
+    ensures refused { result ≡ 3 → OfPlay (map string_bytes words.now) (RefusesFile C.talk C.left console.old console.new (H.files shelf.old)) }
+    ensures unread { result ≡ 7 → OfPlay (map string_bytes words.now) (λ name. Writes C.talk C.left console.old console.new no_program) }
+
+    // There is no further status, so each of these comes exactly where its case holds, but for faults and want of memory.
+    ensures no_other { Contains (0 ∷ 2 ∷ 3 ∷ 4 ∷ 6 ∷ 7 ∷ 9 ∷ []) result }
+
+    // Faults of the outside have their statuses, and these come for nothing else.
+    ensures shelf_failed { result ≡ 7 → Rose (H.faults shelf.old) (H.faults shelf.new) }
+    ensures shelf_fails { H.faults shelf.old < H.faults shelf.new → Contains (6 ∷ 7 ∷ 9 ∷ []) result }
+    ensures console_failed { result ≡ 6 → Rose (C.faults console.old) (C.faults console.new) }
+    ensures console_fails { C.faults console.old < C.faults console.new → result ≡ 6 }
+
+    // The shelf is asked for the program alone, once.
+    ensures asked { result ≢ 9 → AsksFor (map string_bytes words.now) (Adds (H.asked shelf.old) (H.asked shelf.new)) }
+    ensures asked_at_most { result ≡ 9 → AsksFor (map string_bytes words.now) (Adds (H.asked shelf.old) (H.asked shelf.new)) ⊎ (H.asked shelf.new ≡ H.asked shelf.old) }
+    ensures files { H.files shelf.new ≡ H.files shelf.old }
+    ensures uncounted { steps.new ≡ steps.old }
+{
+    let _uncounted = steps;
+    match command(alloc, words, console, shelf) {
+        Ok(status) => status.code(),
+        Err(ConsoleFault::Failed) => Status::Console.code(),
+        Err(ConsoleFault::Memory(_)) => Status::Memory.code(),
     }
 }

@@ -10,3 +10,5 @@ mod names;
 mod program;
 mod state;
 mod thin;
+
+pub use command::ceptre;
