@@ -1,1 +1,4 @@
 pub mod Did
+pub mod Hearing
+pub mod LineBytes
+pub mod LineRead

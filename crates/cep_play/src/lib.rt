@@ -8,3 +8,4 @@ mod names;
 mod program;
 mod state;
 mod thin;
+mod typed;
