@@ -2,7 +2,10 @@ pub mod Commands
 pub mod Copies
 pub mod Counts
 pub mod Did
+pub mod Hearing
+pub mod LineBytes
 pub mod LineLemmas
+pub mod LineRead
 pub mod NameSets
 pub mod Offers
 pub mod Runs

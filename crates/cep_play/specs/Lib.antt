@@ -1,6 +1,7 @@
 pub mod Bag
 pub mod Program
 pub mod Choice
+pub mod Typed
 pub mod Lines
 pub mod Dialogue
 pub mod Turn

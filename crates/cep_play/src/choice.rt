@@ -4,6 +4,7 @@ ghost use Rattle.cep_base.specs.Talk.{Did, ConsoleCause};
 ghost use Rattle.cep_play.specs.declared.choice.Said.{Said};
 ghost use Rattle.cep_play.specs.Choice.{Cut, ReadsLine, Says, TakesSome, IsPlaceWithin, IsChoiceWithin, Hears};
 
+use crate::typed::Typed;
 use cep_base::{Console, ConsoleFault};
 
 /// The most bytes that may be typed in a run.
@@ -49,10 +50,27 @@ pub fn read_choice<C: Console>(console: &mut C, n: u32, room: u64) -> Result<Hea
     ensures place { IfOk result (λ heard. IsPlaceWithin n heard.said) }
     ensures cause { ConsoleCause (C.faults console.old) (C.faults console.new) result }
 {
-    let _ = console.next()?;
+    let mut typed = Typed::Empty;
+    for taken in 0..room {
+        match console.next()? {
+            Some(b'\n') => return Ok(Heard {
+                said: typed.said(),
+                taken: taken + 1,
+            }),
+            Some(byte) => typed = typed.then(n, byte),
+            None if taken == 0 => return Ok(Heard {
+                said: Said::End,
+                taken,
+            }),
+            None => return Ok(Heard {
+                said: typed.said(),
+                taken,
+            }),
+        }
+    }
     Ok(Heard {
         said: Said::Limit,
-        taken: room.min(n as u64),
+        taken: room,
     })
 }
 
@@ -65,7 +83,14 @@ pub fn choose<C: Console>(console: &mut C, n: u32, taken: &mut u64) -> Result<Ch
     ensures within { taken.new ≤ MOST_TYPED }
     ensures cause { ConsoleCause (C.faults console.old) (C.faults console.new) result }
 {
-    let heard = read_choice(console, n, MOST_TYPED - *taken)?;
-    *taken += heard.taken;
-    Ok(Choice::NoMore)
+    loop {
+        let heard = read_choice(console, n, MOST_TYPED - *taken)?;
+        *taken += heard.taken;
+        match heard.said {
+            Said::Number(place) => return Ok(Choice::Place(place)),
+            Said::End => return Ok(Choice::NoMore),
+            Said::Limit => return Ok(Choice::NoRoom),
+            Said::Bad => console.put(b"? no\n")?,
+        }
+    }
 }

@@ -10,5 +10,6 @@ mod names;
 mod program;
 mod state;
 mod thin;
+mod typed;
 
 pub use command::ceptre;
