@@ -4,6 +4,7 @@
 
 // mod calm_console;
 mod console;
+mod faults;
 // mod memory_console;
 // mod memory_shelf;
 mod name;
@@ -14,6 +15,7 @@ mod text;
 
 // pub use calm_console::CalmConsole;
 pub use console::{Console, ConsoleFault, Event};
+pub use faults::FaultCount;
 // pub use memory_console::MemConsole;
 // pub use memory_shelf::MemShelf;
 pub use name::Name;

@@ -1,13 +1,14 @@
 //! `ceptre`: plays Ceptre programs at the terminal.
 #![tactic(auto)]
 
+ghost use Rattle.std.specs.Prelude.{◌≡◌, ◌<◌};
+
 mod file_shelf;
 mod std_console;
 
 use cep_base::Steps;
 use cep_play::ceptre;
 use file_shelf::FileShelf;
-use std::alloc::Global;
 use std::io::ErrorKind;
 use std::marker::Brand;
 use std::process::ExitCode;
@@ -34,12 +35,24 @@ fn words<R: Env + AllocGlobal>(rt: &R) -> Result<Vec<String>, io::Error> {
     }
 }
 
-/// The whole program, with a counter over a new ledger.
-fn run<L: Ledger>(rt: HostRuntime, alloc: Global, ledger: Blank) -> u8 {
-    NO_MEMORY
+/// Makes the console, the shelf and the counter, and does what the words ask for.
+fn run<R: Input + Print + Files + Env + AllocGlobal, L: Ledger>(rt: &R, ledger: Blank) -> u8
+    requires name { ledger.name ≡ L.name }
+    requires parts { ledger.parts ≡ L.parts }
+    requires open { 0 < L.parts }
+{
+    let alloc = rt.alloc();
+    let mut steps = Steps::<L>::new(ledger);
+    let Ok(words) = words(rt) else {
+        return NO_MEMORY;
+    };
+    let Ok(mut console) = StdConsole::new(alloc, rt) else {
+        return NO_MEMORY;
+    };
+    let mut shelf = FileShelf::new(rt);
+    ceptre(alloc, &words, &mut console, &mut shelf, &mut steps)
 }
 
 fn main(rt: HostRuntime) -> ExitCode {
-    let alloc = rt.alloc();
-    ExitCode::from(run::<Brand>(rt, alloc, Blank::new(1)))
+    ExitCode::from(run::<HostRuntime, Brand>(&rt, Blank::new(1)))
 }

@@ -1,7 +1,7 @@
 // The console of the process: its standard input and output.
-ghost use Rattle.std.specs.Prelude.{None};
+ghost use Rattle.std.specs.Prelude.{◌≤◌, None, vec_len};
 
-use cep_base::{Console, ConsoleFault};
+use cep_base::{Console, ConsoleFault, FaultCount};
 use std::alloc::{AllocError, Global};
 use std::io::Read;
 
@@ -17,7 +17,8 @@ pub struct StdConsole<R: Input + Drop> {
     block: Vec<u8>,
     start: usize,
     end: usize,
-    faults: u64,
+    faults: FaultCount,
+    ghost within: { end ≤ vec_len block },
 }
 
 impl<R: Input + Print + Drop> StdConsole<R> {
@@ -29,13 +30,8 @@ impl<R: Input + Print + Drop> StdConsole<R> {
             block,
             start: 0,
             end: 0,
-            faults: 0,
+            faults: FaultCount::new(),
         })
-    }
-
-    fn fail<T>(&mut self) -> Result<T, ConsoleFault> {
-        self.faults = self.faults.saturating_add(1);
-        Err(ConsoleFault::Failed)
     }
 }
 
@@ -49,7 +45,10 @@ impl<R: Input + Print + Drop> Console for StdConsole<R> {
     fn put(&mut self, bytes: &[u8]) -> Result<(), ConsoleFault> {
         match self.runtime.write_all(bytes) {
             Ok(()) => Ok(()),
-            Err(_) => self.fail(),
+            Err(_) => {
+                self.faults.rise();
+                Err(ConsoleFault::Failed)
+            }
         }
     }
 
@@ -61,7 +60,10 @@ impl<R: Input + Print + Drop> Console for StdConsole<R> {
                     self.start = 0;
                     self.end = count;
                 }
-                Err(_) => return self.fail(),
+                Err(_) => {
+                    self.faults.rise();
+                    return Err(ConsoleFault::Failed);
+                }
             }
         }
         let byte = self.block[self.start];
