@@ -1,5 +1,5 @@
 -- The files of a shelf in memory, against the map that keeps them.
-use Rattle.std.proofs.Common.{◌≡◌, ℕ, Bool, true, false, cond, List, [], ◌∷◌, map, Option, None, Some, Vec, refl, sym, ap, ◌∙◌}
+use Rattle.std.proofs.Common.{◌≡◌, ℕ, Bool, true, false, cond, List, [], ◌∷◌, map, Option, Some, Vec, refl, sym, ap, ◌∙◌}
 use Rattle.std.specs.Prelude.{String, string_bytes}
 use Rattle.std.specs.Option.{option_map}
 use Rattle.std.specs.Ordering.{nat_cmp, is_eq}
@@ -19,27 +19,29 @@ option_map-cond : {X Y : Type 0} (f : X → Y) (b : Bool) (x : X) (o : Option X)
 option_map-cond f true x o = refl
 option_map-cond f false x o = refl
 
-find-map : (q : List ℕ) (entries : List (String Global × Vec ℕ Global))
-    → find (slice_cmp nat_cmp) q (map (λ entry. (string_bytes entry.0, entry.1.items)) entries) ≡ option_map (λ bytes. bytes.items) (lookup (is_at (λ key. slice_cmp nat_cmp q (string_bytes key))) entries)
-find-map q [] = refl
-find-map q (entry ∷ entries) =
-    let test = is_eq (slice_cmp nat_cmp q (string_bytes entry.0)) in
-    ap (cond test (Some entry.1.items)) (find-map q entries) ∙ sym (option_map-cond (λ bytes. bytes.items) test entry.1 _)
+-- to find among the files is to look up in the map
+find-map : (name : List ℕ) (entries : List (String Global × Vec ℕ Global))
+    → find (slice_cmp nat_cmp) name (map (λ entry. (string_bytes entry.0, entry.1.items)) entries) ≡ option_map (λ bytes. bytes.items) (lookup (is_at (λ key. slice_cmp nat_cmp name (string_bytes key))) entries)
+find-map name [] = refl
+find-map name (entry ∷ entries) =
+    let test = is_eq (slice_cmp nat_cmp name (string_bytes entry.0)) in
+    ap (cond test (Some entry.1.items)) (find-map name entries) ∙ sym (option_map-cond (λ bytes. bytes.items) test entry.1 _)
 
 -- what is at a name
 pub get-files_of : (files : BTreeMap (String Global) (Vec ℕ Global)) (name : List ℕ) → get (files_of files) name ≡ option_map (λ bytes. bytes.items) (get_by_text files name)
 get-files_of files name = get-from_entries nat_list_cmp_total _ name ∙ find-map name files.entries
 
 -- two texts tie just where their bytes are equal
-ties : (name q : List ℕ) → is_eq (slice_cmp nat_cmp q name) ≡ bytes_eq name q
-ties name q = (eq_by_cmp_equiv nat_list_cmp_total).symm q name ∙ is_eq-slice_cmp name q
+is_eq-text : (name other : List ℕ) → is_eq (slice_cmp nat_cmp other name) ≡ bytes_eq name other
+is_eq-text name other = (eq_by_cmp_equiv nat_list_cmp_total).symm other name ∙ is_eq-slice_cmp name other
 
 -- to insert in the map is to insert among the files
 pub files_of-insert : (old new : BTreeMap (String Global) (Vec ℕ Global)) (name : String Global) (bytes : Vec ℕ Global) → Updates string_cmp old new name (Some bytes)
     → files_of new ≡ insert (files_of old) (string_bytes name) bytes.items
-files_of-insert old new name bytes updates = same_map nat_list_cmp_total (slice_cmp-IsAntisymmetric nat_cmp-IsAntisymmetric) _ _ (λ q.
-    let now : get_by_text new q ≡ cond (bytes_eq (string_bytes name) q) (Some bytes) (get_by_text old q) = btree_map_updates_text (string_bytes name) old new (Some bytes) updates q in
-    rw (get-files_of new q, now, get-insert nat_list_cmp_total (files_of old) (string_bytes name) bytes.items q, get-files_of old q, ties (string_bytes name) q) (option_map-cond _ _ bytes _))
+files_of-insert old new name bytes updates = same_map nat_list_cmp_total (slice_cmp-IsAntisymmetric nat_cmp-IsAntisymmetric) _ _ (λ other.
+    let key = string_bytes name in
+    let now : get_by_text new other ≡ cond (bytes_eq key other) (Some bytes) (get_by_text old other) = btree_map_updates_text key old new (Some bytes) updates other in
+    rw (get-files_of new other, now, get-insert nat_list_cmp_total (files_of old) key bytes.items other, get-files_of old other, is_eq-text key other) (option_map-cond _ _ bytes _))
 
 -- for the functions of a shelf: what is at a name, and what an insertion makes
 pub ruleset holdings = (get-files_of, files_of-insert)

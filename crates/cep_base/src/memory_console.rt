@@ -30,7 +30,8 @@ impl MemConsole {
     /// A console on which nothing was said, these bytes are to come, and the calls whose numbers
     /// are in `fails` are to fail.
     pub fn new(alloc: Global, input: &[u8], fails: &[u64]) -> Result<MemConsole, AllocError>
-        ensures { IfOk result (λ console. console ≡ record { talk = []; left = input.now; calls = no_calls fails.now }) }
+        ensures { IfOk result (λ console.
+            console ≡ record { talk = []; left = input.now; calls = no_calls fails.now }) }
     {
         Ok(MemConsole {
             calm: CalmConsole::new(alloc, input)?,
@@ -55,7 +56,8 @@ impl Console for MemConsole {
 
     fn put(&mut self, bytes: &[u8]) -> Result<(), ConsoleFault>
         ensures written { OnOk result (GoesOn (Some self.old.talk) (outs bytes.now) (Some self.new.talk)) }
-        ensures part { OnErr result ((n : ℕ) × GoesOn (Some self.old.talk) (outs (take n bytes.now)) (Some self.new.talk)) }
+        ensures part { OnErr result
+            ((n : ℕ) × GoesOn (Some self.old.talk) (outs (take n bytes.now)) (Some self.new.talk)) }
         ensures left { Some self.new.left ≡ Some self.old.left }
         ensures cause { ConsoleCause self.old.calls.faults self.new.calls.faults result }
 

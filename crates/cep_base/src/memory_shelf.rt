@@ -1,5 +1,5 @@
 // A shelf in memory that fails when told.
-ghost use Rattle.std.specs.Prelude.{◌≡◌, ◌≤◌, ◌<◌, [], length, MatchOption, Some, IfOk, OnOk, OnErr, IsErrOf};
+ghost use Rattle.std.specs.Prelude.{◌≡◌, ◌≤◌, ◌↔◌, [], length, Some, IsSome, IfSome, IfOk, OnOk, OnErr, IsErrOf};
 ghost use Rattle.std.specs.FinMap as map;
 ghost use Rattle.cep_base.specs.declared.shelf.ShelfFault.TheVariants.{TooLong};
 ghost use Rattle.cep_base.specs.Files.{HasFile, HasLongerFile, Asks, ShelfCause};
@@ -29,7 +29,11 @@ impl Model for MemShelf {
 
     ghost coded = { holdings_code };
 
-    ghost view = { λ shelf. record { files = files_of shelf.files; asked = map string_bytes shelf.asked.items; calls = shelf.calls } };
+    ghost view = { λ shelf. record {
+      files = files_of shelf.files;
+      asked = map string_bytes shelf.asked.items;
+      calls = shelf.calls;
+    } };
 }
 
 impl MemShelf {
@@ -48,7 +52,8 @@ impl MemShelf {
     /// Puts a file on the shelf, in the place of one of the same name.
     #[tactic(auto, using(crate::proofs::Holdings::holdings))]
     pub fn file(&mut self, name: &str, bytes: &[u8]) -> Result<(), AllocError>
-        ensures ok { OnOk result (self.new ≡ record self.old { files = map.insert self.old.files name.now bytes.now }) }
+        ensures ok { OnOk result
+            (self.new ≡ record self.old { files = map.insert self.old.files name.now bytes.now }) }
         ensures err { OnErr result (self.new ≡ self.old) }
     {
         let name = String::from_str(self.alloc, name)?;
@@ -68,7 +73,8 @@ impl MemShelf {
 
 // A copy of a file, if it has at most so many bytes.
 fn copy(alloc: Global, file: &[u8], most: usize) -> Result<Option<Vec<u8>>, AllocError>
-    ensures { IfOk result (λ bytes. MatchOption bytes (most < length file.now) (λ bytes. (bytes.items ≡ file.now) × (length file.now ≤ most))) }
+    ensures whole { IfOk result (λ copied. IfSome copied (λ bytes. bytes.items ≡ file.now)) }
+    ensures within { IfOk result (λ copied. IsSome copied ↔ (length file.now ≤ most)) }
 {
     if file.len() > most {
         return Ok(None);

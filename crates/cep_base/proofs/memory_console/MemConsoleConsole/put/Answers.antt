@@ -1,4 +1,4 @@
-use Rattle.std.proofs.Common.{rules, arith, ◌≡◌, ◌++◌, ℕ, List, take, Some, min, length, ◌/◌}
+use Rattle.std.proofs.Common.{rules, arith, ◌≡◌, ℕ, List, take, min, length, ◌/◌}
 use Rattle.std.proofs.lemmas.List.{take-take, take_all, length-take}
 use Rattle.std.proofs.lemmas.Result.{err_from_is_err_and}
 use Rattle.cep_base.proofs.memory_console.MemConsoleConsole.put.Goals as goal
