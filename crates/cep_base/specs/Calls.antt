@@ -1,7 +1,7 @@
 -- The calls of a fake that is told which of them are to fail.
-use Rattle.std.specs.Prelude.{ℕ, ◌+◌, ◌<◌, List, [], ◌∷◌, ◌++◌, min, Contains, refl}
+use Rattle.std.specs.Prelude.{ℕ, ◌+◌, ◌<◌, List, [], ◌∷◌, ◌++◌, Contains, refl}
 use Rattle.std.specs.Coded.{Coded, code_by, coded×, coded_list, coded_ℕ}
-use Rattle.cep_base.specs.Faults.{last_count}
+use Rattle.cep_base.specs.Faults.{last_count, count_up}
 
 -- the number of the last call that has one, from 0 before the first; the numbers of the calls that are to fail; and how many calls failed
 pub record CallLog : Type 0 where
@@ -18,10 +18,6 @@ call_log_code =
 -- no call yet, where these are to fail
 abbrev pub no_calls : List ℕ → CallLog
 no_calls listed = record { last = 0; listed = listed; faults = 0 }
-
--- one more, up to the last value of a count
-abbrev pub count_up : ℕ → ℕ
-count_up n = min (n + 1) last_count
 
 -- the next call has a number, which is listed
 abbrev pub FailsNext : CallLog → Type 0

@@ -3,6 +3,7 @@ ghost use Rattle.std.specs.Prelude.{◌≡◌, ◌↔◌, OnOk, OnErr, IsTrue};
 ghost use Rattle.cep_base.specs.Faults.{Rose};
 ghost use Rattle.cep_base.specs.Calls.{no_calls, FailsNext, after_listing, after_call, after_fault};
 
+use crate::FaultCount;
 use std::alloc::AllocError;
 use std::marker::Model;
 
@@ -12,7 +13,7 @@ use std::marker::Model;
 pub struct Calls {
     last: u64,
     listed: Vec<u64>,
-    faults: u64,
+    faults: FaultCount,
 }
 
 impl Model for Calls {
@@ -31,7 +32,7 @@ impl Calls {
         Calls {
             last: 0,
             listed,
-            faults: 0,
+            faults: FaultCount::new(),
         }
     }
 
@@ -60,6 +61,6 @@ impl Calls {
         ensures counted { self.new ≡ after_fault self.old }
         ensures rose { Rose self.old.faults self.new.faults }
     {
-        self.faults = self.faults.saturating_add(1);
+        self.faults.rise();
     }
 }

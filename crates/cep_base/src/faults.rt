@@ -1,5 +1,5 @@
 ghost use Rattle.std.specs.Prelude.{◌≡◌};
-ghost use Rattle.cep_base.specs.Faults.{Rose};
+ghost use Rattle.cep_base.specs.Faults.{Rose, count_up};
 
 use std::marker::Model;
 
@@ -27,7 +27,8 @@ impl FaultCount {
 
     /// Counts one more failure.
     pub fn rise(&mut self)
-        ensures { Rose self.old self.new }
+        ensures counted { self.new ≡ count_up self.old }
+        ensures rose { Rose self.old self.new }
     {
         self.count = self.count.saturating_add(1);
     }
