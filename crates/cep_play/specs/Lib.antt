@@ -4,4 +4,5 @@ pub mod Choice
 pub mod Lines
 pub mod Dialogue
 pub mod Thin
+pub mod Reading
 pub mod Command

@@ -1,0 +1,4 @@
+pub mod Literals
+pub mod Distinct
+pub mod Numbers
+pub mod Loops
