@@ -63,3 +63,12 @@ all_push P (y ∷ xs) x all p = (all.0, all_push P xs x all.1 p)
 pub differ_push : (names : List (List ℕ)) (name : List ℕ) → AllDiffer names → IsNew names name → AllDiffer (names ++ name ∷ [])
 differ_push [] name differ new = (tt, tt)
 differ_push (other ∷ names) name differ new = (all_push (λ next. other ≢ next) names name differ.0 new.0, differ_push names name differ.1 new.1)
+
+-- by the answer of a test
+pub taken_by_test : {X : Type 0} (name_of : X → List ℕ) (before : List X) (x : X) → list_any (λ other. bytes_eq (name_of other) (name_of x)) before ≡ true → with_new name_of before x ≡ None
+unfolding with_new
+taken_by_test name_of before x e = rw e refl
+
+pub new_by_test : {X : Type 0} (name_of : X → List ℕ) (before : List X) (x : X) → list_any (λ other. bytes_eq (name_of other) (name_of x)) before ≡ false → with_new name_of before x ≡ Some (before ++ x ∷ [])
+unfolding with_new
+new_by_test name_of before x e = rw e refl
