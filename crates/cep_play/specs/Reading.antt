@@ -71,17 +71,27 @@ premise_at names bytes = do
   atom ← known_at names (kept_at (literal_at (codes "$") bytes) bytes).1
   Some (record { atom = atom.0; kept = (kept_at (literal_at (codes "$") bytes) bytes).0 }, atom.1)
 
+-- no more items where no word follows, or those behind it
+abbrev pub behind : {X : Type 0} → Option (List ℕ) → List ℕ → (List ℕ → Option (List X × List ℕ)) → Option (List X × List ℕ)
+behind None bytes others_at = Some ([], bytes)
+behind (Some rest) bytes others_at = others_at rest
+
+-- what is known where a word stood at the front, or else what is read
+abbrev pub ended_or : {A : Type 0} → A → Option (List ℕ) → Option (A × List ℕ) → Option (A × List ℕ)
+ended_or x None read = read
+ended_or x (Some rest) read = Some (x, rest)
+
 -- Items with a word between each two: at least one, and at most so many. Behind the word a further item must come.
 unfoldable pub several_at : {X : Type 0} → (List ℕ → Option (X × List ℕ)) → List ℕ → ℕ → List ℕ → Option (List X × List ℕ)
 several_at item between zero bytes = None
-several_at {X} item between (suc most) bytes = do
+several_at item between (suc most) bytes = do
   first ← item bytes
-  others ← elim (literal_at between first.1) as (λ _. Option (List X × List ℕ)) [ None ↦ Some ([], first.1) | Some rest ↦ several_at item between most rest ]
+  others ← behind (literal_at between first.1) first.1 (several_at item between most)
   Some (first.0 ∷ others.0, others.1)
 
 -- one side of a rule
 unfoldable pub side_at : {X : Type 0} → (List ℕ → Option (X × List ℕ)) → ℕ → List ℕ → Option (List X × List ℕ)
-side_at item most bytes = elim (literal_at (codes "()") bytes) [ Some rest ↦ Some ([], rest) | None ↦ several_at item (codes " * ") most bytes ]
+side_at item most bytes = ended_or [] (literal_at (codes "()") bytes) (several_at item (codes " * ") most bytes)
 
 -- a rule, its point, and the space behind it
 unfoldable pub rule_at : List (List ℕ) → List ℕ → Option (Rule × List ℕ)
@@ -104,7 +114,7 @@ until_at name_of item stop zero before bytes = None
 until_at name_of item stop (suc most) before bytes = do
   next ← item bytes
   all ← with_new name_of before next.0
-  elim (literal_at stop next.1) [ Some rest ↦ Some (all, rest) | None ↦ until_at name_of item stop most all next.1 ]
+  ended_or all (literal_at stop next.1) (until_at name_of item stop most all next.1)
 
 -- the line of an atom
 unfoldable pub atom_at : List ℕ → Option (List ℕ × List ℕ)
@@ -137,16 +147,17 @@ interactive_at stage bytes = do
   name ← literal_at stage word
   literal_at (codes "." ++ 10 ∷ []) name
 
+-- some atoms in braces
+unfoldable pub filled_at : List (List ℕ) → List ℕ → Option (List ℕ × List ℕ)
+filled_at names bytes = do
+  brace ← literal_at (codes "{ ") bytes
+  atoms ← several_at (known_at names) (codes ", ") MOST_START brace
+  end ← literal_at (codes " }") atoms.1
+  Some (atoms.0, end)
+
 -- atoms in braces
 unfoldable pub braces_at : List (List ℕ) → List ℕ → Option (List ℕ × List ℕ)
-braces_at names bytes = elim (literal_at (codes "{}") bytes) [
-  | Some rest ↦ Some ([], rest)
-  | None ↦ do
-      brace ← literal_at (codes "{ ") bytes
-      atoms ← several_at (known_at names) (codes ", ") MOST_START brace
-      end ← literal_at (codes " }") atoms.1
-      Some (atoms.0, end)
-  ]
+braces_at names bytes = ended_or [] (literal_at (codes "{}") bytes) (filled_at names bytes)
 
 -- the line of a context: its name and its atoms
 unfoldable pub context_at : List (List ℕ) → List ℕ → Option ((List ℕ × List ℕ) × List ℕ)

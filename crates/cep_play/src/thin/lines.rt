@@ -1,6 +1,6 @@
 // The lines of a text behind those of its atoms.
 ghost use Rattle.std.specs.Prelude.{◌≡◌};
-ghost use Rattle.cep_play.specs.Reading.{Gives, AreAtoms, stage_at, interactive_at, braces_at, context_at, trace_at};
+ghost use Rattle.cep_play.specs.Reading.{Gives, AreAtoms, stage_at, interactive_at, filled_at, braces_at, context_at, trace_at};
 
 use crate::names::Names;
 use crate::program::Rule;
@@ -63,9 +63,22 @@ fn braces<'a>(
     requires { AreAtoms names.now }
     ensures { Gives (λ x. (x.0.items, x.1.now)) result (braces_at names.now bytes.now) }
 {
-    if let Some(rest) = words::strip(b"{}", bytes) {
-        return Ok((Vec::new(alloc), rest));
+    match words::strip(b"{}", bytes) {
+        Some(rest) => Ok((Vec::new(alloc), rest)),
+        None => filled(alloc, names, bytes),
     }
+}
+
+/// Some atoms in braces.
+#[tactic(auto, unfolding(crate::specs::Reading::filled_at))]
+fn filled<'a>(
+    alloc: Global,
+    names: &Names,
+    bytes: &'a [u8],
+) -> Result<(Vec<u32>, &'a [u8]), ReadError>
+    requires { AreAtoms names.now }
+    ensures { Gives (λ x. (x.0.items, x.1.now)) result (filled_at names.now bytes.now) }
+{
     let rest = words::literal(b"{ ", bytes)?;
     let (atoms, rest) = atoms::several(alloc, names, b", ", MOST_START, rest)?;
     let rest = words::literal(b" }", rest)?;
