@@ -72,3 +72,20 @@ taken_by_test name_of before x e = rw e refl
 pub new_by_test : {X : Type 0} (name_of : X → List ℕ) (before : List X) (x : X) → list_any (λ other. bytes_eq (name_of other) (name_of x)) before ≡ false → with_new name_of before x ≡ Some (before ++ x ∷ [])
 unfolding with_new
 new_by_test name_of before x e = rw e refl
+
+-- what adding gave
+pub added_is : {X : Type 0} (name_of : X → List ℕ) (before : List X) (x : X) (all : List X) → with_new name_of before x ≡ Some all → (all ≡ before ++ x ∷ []) × IsNew (map name_of before) (name_of x)
+unfolding with_new
+added_is name_of before x all e = cases (list_any (λ other. bytes_eq (name_of other) (name_of x)) before) refl e where
+  cases : (there : Bool) → list_any (λ other. bytes_eq (name_of other) (name_of x)) before ≡ there → cond there None (Some (before ++ x ∷ [])) ≡ Some all → (all ≡ before ++ x ∷ []) × IsNew (map name_of before) (name_of x)
+  cases true t e = absurd cc
+  cases false t e = (cc, new_of_any name_of before (name_of x) t)
+
+all_within : (other name : List ℕ) (before after : List (List ℕ)) → AllByRecursion (λ next. other ≢ next) (before ++ name ∷ after) → other ≢ name
+all_within other name [] after all = all.0
+all_within other name (next ∷ before) after all = all_within other name before after all.1
+
+-- a name among different ones is new behind those before it
+pub new_of_differ : (before : List (List ℕ)) (name : List ℕ) (after : List (List ℕ)) → AllDiffer (before ++ name ∷ after) → IsNew before name
+new_of_differ [] name after differ = tt
+new_of_differ (other ∷ before) name after differ = (all_within other name before after differ.0, new_of_differ before name after differ.1)

@@ -2,3 +2,8 @@ pub mod Literals
 pub mod Distinct
 pub mod Numbers
 pub mod Loops
+pub mod ReadLaws
+pub mod ReadNames
+pub mod ReadLists
+pub mod ReadRules
+pub mod ReadTexts
