@@ -185,3 +185,16 @@ until_again {X} name_of item text IsGood reads stop refuses (suc most) before (x
     let together : (before ++ x ∷ []) ++ (y ∷ new) ≡ before ++ (x ∷ y ∷ new) = append_assoc before (x ∷ []) (y ∷ new) in
     let more = until_again name_of item text IsGood reads stop refuses most (before ++ x ∷ []) (y ∷ new) rest (omega arith) (omega arith) good.1 (rw together differ) in
     ap (until_at name_of item stop (suc most) before) regrouped ∙ rw (reads.again x others good.0 tt, added, word) (more ∙ ap (λ (xs : List X). Some (xs, rest)) together)
+
+-- what items took behind none
+pub record Listed {X : Type 0} (name_of : X → List ℕ) (text : X → List ℕ) (IsGood : X → Type 0) (stop : List ℕ) (most : ℕ) (bytes : List ℕ) (all : List X) (rest : List ℕ) : Type 0 where
+  pub parts : bytes ≡ flat_map text all ++ (stop ++ rest)
+  pub some : 0 < length all
+  pub few : length all ≤ most
+  pub good : AllByRecursion IsGood all
+  pub differ : AllDiffer (map name_of all)
+
+pub listed_from : {X : Type 0} (name_of : X → List ℕ) (text : X → List ℕ) (IsGood : X → Type 0) (stop : List ℕ) (most : ℕ) (bytes : List ℕ) (all : List X) (rest : List ℕ) → Until name_of text IsGood stop most [] bytes all rest → Listed name_of text IsGood stop most bytes all rest
+listed_from {X} name_of text IsGood stop most bytes all rest until =
+    let made : AllDiffer (map name_of until.new) → Listed name_of text IsGood stop most bytes until.new rest = λ differ. record { parts = until.parts; some = until.some; few = until.few; good = until.good; differ = differ } in
+    subst (λ (xs : List X). AllDiffer (map name_of xs) → Listed name_of text IsGood stop most bytes xs rest) (sym until.whole) made (until.differ tt)

@@ -79,7 +79,7 @@ name_again name rest is apart =
     rw (letters_then name rest is.letters apart, take_at name rest (length name) refl, drop_at name rest (length name) refl, name_passes name is) refl
 
 -- no name begins with a byte that is no letter
-no_name : (byte : ℕ) (rest : List ℕ) → is_ascii_lowercase byte ≡ false → name_at (byte ∷ rest) ≡ None
+pub no_name : (byte : ℕ) (rest : List ℕ) → is_ascii_lowercase byte ≡ false → name_at (byte ∷ rest) ≡ None
 unfolding name_at
 no_name byte rest e = rw e refl
 

@@ -1,6 +1,5 @@
-use Rattle.cep_play.proofs.ReadNames.{premise_reads}
-use Rattle.cep_play.proofs.ReadLists.{side_again}
+use Rattle.cep_play.proofs.ReadRules.{stage_reads}
 use Rattle.cep_play.proofs.thin.one_program.Goals as goal
 
 pub returns : goal.returns
-returns c = let x = side_again in ?
+returns c = let x = stage_reads in ?
