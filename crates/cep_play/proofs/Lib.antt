@@ -6,4 +6,5 @@ pub mod ReadLaws
 pub mod ReadNames
 pub mod ReadLists
 pub mod ReadRules
+pub mod ReadLines
 pub mod ReadTexts
