@@ -1,6 +1,5 @@
-use Rattle.cep_play.proofs.ReadRules.{stage_reads}
-use Rattle.cep_play.proofs.ReadLines.{trace_again}
+use Rattle.cep_play.proofs.ReadTexts.{spelled_once}
 use Rattle.cep_play.proofs.thin.one_program.Goals as goal
 
 pub returns : goal.returns
-returns c = let x = trace_again in ?
+returns c = spelled_once
