@@ -1,7 +1,7 @@
-pub mod Literals
-pub mod Distinct
-pub mod Numbers
-pub mod Loops
+pub mod ReadLiterals
+pub mod ReadDistinct
+pub mod ReadNumbers
+pub mod ReadLoops
 pub mod ReadLaws
 pub mod ReadNames
 pub mod ReadLists

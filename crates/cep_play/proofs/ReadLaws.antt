@@ -1,14 +1,9 @@
 -- What a reading takes and what it reads again: the two laws of every field.
-use Rattle.std.proofs.Common.{◌≡◌, ℕ, Bool, true, false, cond, ◌&&◌, not, List, [], ◌∷◌, ◌++◌, Option, Some, None, refl, sym, ap, ◌∙◌, ◌⊎◌, inl, inr}
+use Rattle.std.proofs.Common.{◌≡◌, ℕ, Bool, true, false, cond, List, [], ◌++◌, Option, Some, None, refl, ap, ◌∙◌, ◌⊎◌, inl, inr}
 use Rattle.cep_play.specs.Reading.{◌>>=◌, literal_at, letters_at, behind, ended_or}
-use Rattle.cep_play.proofs.Literals.{literal_found}
+use Rattle.cep_play.proofs.ReadLiterals.{literal_found}
 
--- the value of a step that did not fail
-pub bind_some : {A B : Type 0} (r : Option A) (f : A → Option B) (y : B) → (r >>= f) ≡ Some y → (x : A) × (r ≡ Some x) × (f x ≡ Some y)
-bind_some None f y e = absurd cc
-bind_some (Some x) f y e = (x, refl, e)
-
--- the same, for a longer chain of steps
+-- what follows from a step that did not fail
 pub by_bind : {A B P : Type 0} (r : Option A) (f : A → Option B) (y : B) → (r >>= f) ≡ Some y → ((x : A) → r ≡ Some x → f x ≡ Some y → P) → P
 by_bind None f y e next = absurd cc
 by_bind (Some x) f y e next = next x refl e

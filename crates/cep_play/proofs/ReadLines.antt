@@ -1,11 +1,11 @@
 -- The lines of a context, of a stage that is played, and of a trace: the two laws.
-use Rattle.std.proofs.Common.{◌≡◌, ℕ, ◌<◌, ◌≤◌, List, [], ◌∷◌, ◌++◌, map, length, codes, Option, Some, None, refl, sym, ap, subst, ◌∙◌, append_assoc, arith, inl, inr}
+use Rattle.std.proofs.Common.{◌≡◌, ℕ, ◌<◌, ◌≤◌, List, [], ◌∷◌, ◌++◌, map, length, codes, Some, refl, sym, ap, subst, ◌∙◌, append_assoc, arith, inl, inr}
 use Rattle.std.specs.List.{AllByRecursion}
 use Rattle.cep_play.specs.declared.thin.TheConstants.{MOST_START}
 use Rattle.cep_play.specs.Program.{Program}
 use Rattle.cep_play.specs.Thin.{IsName, joined, atom_text, braces_text, interactive_line, context_line, trace_line}
-use Rattle.cep_play.specs.Reading.{◌>>=◌, literal_at, name_at, known_at, several_at, filled_at, braces_at, interactive_at, context_at, trace_at}
-use Rattle.cep_play.proofs.Literals.{literal_again, literal_found}
+use Rattle.cep_play.specs.Reading.{literal_at, name_at, known_at, several_at, filled_at, braces_at, interactive_at, context_at, trace_at}
+use Rattle.cep_play.proofs.ReadLiterals.{literal_again, literal_found}
 use Rattle.cep_play.proofs.ReadLaws.{by_bind, some_is, ended_cases, Reads, IsApart, IsAny}
 use Rattle.cep_play.proofs.ReadNames.{name_found, name_again, AreNames, IsAtom, known_reads}
 use Rattle.cep_play.proofs.ReadLists.{Several, several_found, several_again}
@@ -35,9 +35,9 @@ filled_found names are bytes start rest e =
     by_bind (several_at (known_at names) (codes ", ") MOST_START brace) _ (start, rest) e (λ atoms atoms-at e.
     by_bind (literal_at (codes " }") atoms.1) _ (start, rest) e (λ end end-at e.
     subst (λ (y : List ℕ × List ℕ). (bytes ≡ in_braces names y.0 ++ y.1) × AreStart names y.0) (some_is (atoms.0, end) (start, rest) e)
-        (filled_made names bytes brace atoms.0 atoms.1 end (literal_found (codes "{ ") bytes brace brace-at)
-            (several_found (known_at names) (atom_text names) (IsAtom names) IsApart (known_reads names are) (codes ", ") MOST_START brace atoms.0 atoms.1 atoms-at)
-            (literal_found (codes " }") atoms.1 end end-at)))))
+    (filled_made names bytes brace atoms.0 atoms.1 end (literal_found (codes "{ ") bytes brace brace-at)
+    (several_found (known_at names) (atom_text names) (IsAtom names) IsApart (known_reads names are) (codes ", ") MOST_START brace atoms.0 atoms.1 atoms-at)
+    (literal_found (codes " }") atoms.1 end end-at)))))
 
 none_made : (names : List (List ℕ)) (bytes rest : List ℕ) → bytes ≡ codes "{}" ++ rest → (bytes ≡ in_braces names [] ++ rest) × AreStart names []
 unfolding braces_text
@@ -97,8 +97,8 @@ context_found names are bytes context rest e =
     by_bind (braces_at names equals) _ (context, rest) e (λ atoms atoms-at e.
     by_bind (literal_at (codes "." ++ 10 ∷ []) atoms.1) _ (context, rest) e (λ end end-at e.
     subst (λ (y : (List ℕ × List ℕ) × List ℕ). (bytes ≡ context_text names y.0 ++ y.1) × IsContext names y.0) (some_is ((name.0, atoms.0), end) (context, rest) e)
-        (context_made names bytes word name equals atoms end (literal_found (codes "context ") bytes word word-at) (name_found word name.0 name.1 name-at) (literal_found (codes " = ") name.1 equals equals-at)
-            (braces_found names are equals atoms.0 atoms.1 atoms-at) (literal_found (codes "." ++ 10 ∷ []) atoms.1 end end-at)))))))
+    (context_made names bytes word name equals atoms end (literal_found (codes "context ") bytes word word-at) (name_found word name.0 name.1 name-at) (literal_found (codes " = ") name.1 equals equals-at)
+    (braces_found names are equals atoms.0 atoms.1 atoms-at) (literal_found (codes "." ++ 10 ∷ []) atoms.1 end end-at)))))))
 
 context_again : (names : List (List ℕ)) → AreNames names → (context : List ℕ × List ℕ) (rest : List ℕ) → IsContext names context → context_at names (context_text names context ++ rest) ≡ Some (context, rest)
 unfolding context_at literal_at
@@ -144,7 +144,7 @@ trace_found program context bytes rest e =
     by_bind (literal_at (codes " ") first) _ rest e (λ space space-at e.
     by_bind (literal_at context space) _ rest e (λ second second-at e.
     let inner : first ≡ codes " " ++ (context ++ ((codes "." ++ 10 ∷ []) ++ rest)) =
-        literal_found (codes " ") first space space-at ∙ ap (λ (b : List ℕ). codes " " ++ b) (literal_found context space second second-at ∙ ap (λ (b : List ℕ). context ++ b) (literal_found (codes "." ++ 10 ∷ []) second rest e)) in
+    literal_found (codes " ") first space space-at ∙ ap (λ (b : List ℕ). codes " " ++ b) (literal_found context space second second-at ∙ ap (λ (b : List ℕ). context ++ b) (literal_found (codes "." ++ 10 ∷ []) second rest e)) in
     literal_found (codes "#trace _ ") bytes word word-at
     ∙ ap (λ (b : List ℕ). codes "#trace _ " ++ b) (literal_found program.stage word first first-at ∙ ap (λ (b : List ℕ). program.stage ++ b) inner)
     ∙ sym (spread_trace program context rest)))))

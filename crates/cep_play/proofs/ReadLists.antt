@@ -1,12 +1,12 @@
 -- Lists of items, with a word between each two or a word that stops them: the two laws.
-use Rattle.std.proofs.Common.{◌≡◌, ◌≢◌, ℕ, zero, suc, ◌+◌, ◌<◌, ◌≤◌, ◌⊎◌, inl, inr, List, [], ◌∷◌, ◌++◌, map, length, codes, Option, Some, None, refl, sym, ap, subst, ◌∙◌, append_assoc, append-nil, bytes_eq, arith}
+use Rattle.std.proofs.Common.{◌≡◌, ℕ, zero, suc, ◌<◌, ◌≤◌, inl, inr, List, [], ◌∷◌, ◌++◌, map, length, codes, Option, Some, None, refl, sym, ap, subst, ◌∙◌, append_assoc, arith}
 use Rattle.std.proofs.lemmas.List.{length-map, map-append, map_push}
-use Rattle.std.specs.List.{AllByRecursion, list_any, flat_map}
+use Rattle.std.specs.List.{AllByRecursion, flat_map}
 use Rattle.cep_play.specs.Thin.{AllDiffer, joined, side_text}
-use Rattle.cep_play.specs.Reading.{◌>>=◌, literal_at, behind, ended_or, several_at, side_at, with_new, until_at}
-use Rattle.cep_play.proofs.Literals.{literal_again, literal_found}
-use Rattle.cep_play.proofs.Distinct.{IsNew, any_of_new, added_is, differ_push, new_by_test, new_of_differ}
-use Rattle.cep_play.proofs.ReadLaws.{bind_some, some_is, none_is, guard_some, behind_cases, ended_cases, no_word, Reads, IsAny}
+use Rattle.cep_play.specs.Reading.{literal_at, behind, several_at, side_at, with_new, until_at}
+use Rattle.cep_play.proofs.ReadLiterals.{literal_again, literal_found}
+use Rattle.cep_play.proofs.ReadDistinct.{IsNew, any_of_new, added_is, differ_push, new_by_test, new_of_differ}
+use Rattle.cep_play.proofs.ReadLaws.{by_bind, some_is, behind_cases, ended_cases, no_word, Reads, IsAny}
 
 -- ---- items with a word between each two
 
@@ -38,20 +38,26 @@ several_more text IsGood between most bytes after next rest x xs taken word more
       good = (taken.1, more.good);
     }
 
+-- what follows the first item
+several_rest : {X : Type 0} (text : X → List ℕ) (IsGood : X → Type 0) (between : List ℕ) (most : ℕ) (others_at : List ℕ → Option (List X × List ℕ)) (bytes after : List ℕ) (x : X) (others : List X × List ℕ)
+    → (bytes ≡ text x ++ after) × IsGood x → ((next : List ℕ) → others_at next ≡ Some others → Several text IsGood between most next others.0 others.1)
+    → behind (literal_at between after) after others_at ≡ Some others → Several text IsGood between (suc most) bytes (x ∷ others.0) others.1
+several_rest {X} text IsGood between most others_at bytes after x others taken more e =
+    elim (behind_cases (literal_at between after) after others_at others e) [
+      | inl none ↦ subst (λ (y : List X × List ℕ). Several text IsGood between (suc most) bytes (x ∷ y.0) y.1) none.1 (several_one text IsGood between most bytes after x taken)
+      | inr next ↦ several_more text IsGood between most bytes after next.0 others.1 x others.0 taken (literal_found between after next.0 next.1) (more next.0 next.2)
+    ]
+
 pub several_found : {X : Type 0} (item : List ℕ → Option (X × List ℕ)) (text : X → List ℕ) (IsGood : X → Type 0) (IsBefore : List ℕ → Type 0) → Reads item text IsGood IsBefore → (between : List ℕ) (most : ℕ) (bytes : List ℕ) (xs : List X) (rest : List ℕ)
     → several_at item between most bytes ≡ Some (xs, rest) → Several text IsGood between most bytes xs rest
 unfolding several_at
 several_found item text IsGood IsBefore reads between zero bytes xs rest e = absurd cc
 several_found {X} item text IsGood IsBefore reads between (suc most) bytes xs rest e =
-    let a = bind_some (item bytes) (λ first. behind (literal_at between first.1) first.1 (several_at item between most) >>= λ others. Some (first.0 ∷ others.0, others.1)) (xs, rest) e in
-    let b = bind_some (behind (literal_at between a.0.1) a.0.1 (several_at item between most)) (λ others. Some (a.0.0 ∷ others.0, others.1)) (xs, rest) a.2 in
-    let first = reads.found bytes a.0.0 a.0.1 a.1 in
-    let made : Several text IsGood between (suc most) bytes (a.0.0 ∷ b.0.0) b.0.1 =
-        elim (behind_cases (literal_at between a.0.1) a.0.1 (several_at item between most) b.0 b.1) [
-          | inl none ↦ subst (λ (y : List X × List ℕ). Several text IsGood between (suc most) bytes (a.0.0 ∷ y.0) y.1) none.1 (several_one text IsGood between most bytes a.0.1 a.0.0 first)
-          | inr more ↦ several_more text IsGood between most bytes a.0.1 more.0 b.0.1 a.0.0 b.0.0 first (literal_found between a.0.1 more.0 more.1) (several_found item text IsGood IsBefore reads between most more.0 b.0.0 b.0.1 more.2)
-        ] in
-    subst (λ (y : List X × List ℕ). Several text IsGood between (suc most) bytes y.0 y.1) (some_is (a.0.0 ∷ b.0.0, b.0.1) (xs, rest) b.2) made
+    by_bind (item bytes) _ (xs, rest) e (λ first first-at e.
+    by_bind (behind (literal_at between first.1) first.1 (several_at item between most)) _ (xs, rest) e (λ others others-at e.
+    subst (λ (y : List X × List ℕ). Several text IsGood between (suc most) bytes y.0 y.1) (some_is (first.0 ∷ others.0, others.1) (xs, rest) e)
+    (several_rest text IsGood between most (several_at item between most) bytes first.1 first.0 others (reads.found bytes first.0 first.1 first-at)
+    (λ next. several_found item text IsGood IsBefore reads between most next others.0 others.1) others-at)))
 
 pub several_again : {X : Type 0} (item : List ℕ → Option (X × List ℕ)) (text : X → List ℕ) (IsGood : X → Type 0) (IsBefore : List ℕ → Type 0) → Reads item text IsGood IsBefore → (between : List ℕ) → ((rest : List ℕ) → IsBefore (between ++ rest))
     → (most : ℕ) (xs : List X) (rest : List ℕ) → 0 < length xs → length xs ≤ most → AllByRecursion IsGood xs → IsBefore rest → literal_at between rest ≡ None
@@ -152,14 +158,14 @@ pub until_found : {X : Type 0} (name_of : X → List ℕ) (item : List ℕ → O
 unfolding until_at
 until_found name_of item text IsGood reads stop zero before bytes all rest e = absurd cc
 until_found {X} name_of item text IsGood reads stop (suc most) before bytes all rest e =
-    let a = bind_some (item bytes) (λ next. with_new name_of before next.0 >>= λ all. ended_or all (literal_at stop next.1) (until_at name_of item stop most all next.1)) (all, rest) e in
-    let b = bind_some (with_new name_of before a.0.0) (λ all. ended_or all (literal_at stop a.0.1) (until_at name_of item stop most all a.0.1)) (all, rest) a.2 in
-    let next = reads.found bytes a.0.0 a.0.1 a.1 in
-    let added = added_is name_of before a.0.0 b.0 b.1 in
-    elim (ended_cases b.0 (literal_at stop a.0.1) (until_at name_of item stop most b.0 a.0.1) (all, rest) b.2) [
-      | inl ended ↦ subst (λ (y : List X × List ℕ). Until name_of text IsGood stop (suc most) before bytes y.0 y.1) ended.2 (until_one name_of text IsGood stop most before b.0 bytes a.0.1 ended.0 a.0.0 next added (literal_found stop a.0.1 ended.0 ended.1))
-      | inr more ↦ until_more name_of text IsGood stop most before b.0 all bytes a.0.1 rest a.0.0 next added (until_found name_of item text IsGood reads stop most b.0 a.0.1 all rest more.1)
-    ]
+    by_bind (item bytes) _ (all, rest) e (λ next next-at e.
+    by_bind (with_new name_of before next.0) _ (all, rest) e (λ longer longer-is e.
+    let taken = reads.found bytes next.0 next.1 next-at in
+    let added = added_is name_of before next.0 longer longer-is in
+    elim (ended_cases longer (literal_at stop next.1) (until_at name_of item stop most longer next.1) (all, rest) e) [
+      | inl ended ↦ subst (λ (y : List X × List ℕ). Until name_of text IsGood stop (suc most) before bytes y.0 y.1) ended.2 (until_one name_of text IsGood stop most before longer bytes next.1 ended.0 next.0 taken added (literal_found stop next.1 ended.0 ended.1))
+      | inr more ↦ until_more name_of text IsGood stop most before longer all bytes next.1 rest next.0 taken added (until_found name_of item text IsGood reads stop most longer next.1 all rest more.1)
+    ]))
 
 adds : {X : Type 0} (name_of : X → List ℕ) (before : List X) (x : X) (after : List X) → AllDiffer (map name_of (before ++ x ∷ after)) → with_new name_of before x ≡ Some (before ++ x ∷ [])
 adds name_of before x after differ =

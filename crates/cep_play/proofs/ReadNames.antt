@@ -1,6 +1,6 @@
 -- Names, atoms and premises: the two laws.
-use Rattle.std.proofs.Common.{◌≡◌, ◌≢◌, ℕ, zero, suc, ◌+◌, ◌<◌, ◌≤◌, Bool, true, false, cond, ◌&&◌, ◌||◌, not, List, [], ◌∷◌, ◌++◌, length, take, drop, get_or, slice_get, slice_index_or, codes, Option, Some, None, refl, sym, ap, subst, ◌∙◌, append_assoc, bytes_eq, nat_lt, nat_le, arith, take_at, drop_at, take-append-drop}
-use Rattle.std.specs.List.{AllByRecursion, list_any, prefix_len}
+use Rattle.std.proofs.Common.{◌≡◌, ◌≢◌, ℕ, suc, ◌+◌, ◌<◌, Bool, true, false, cond, ◌&&◌, ◌||◌, not, List, [], ◌∷◌, ◌++◌, length, take, drop, get_or, slice_get, codes, Option, Some, None, refl, sym, ap, subst, ◌∙◌, bytes_eq, nat_lt, nat_le, arith, take_at, drop_at, take-append-drop}
+use Rattle.std.specs.List.{AllByRecursion, list_any}
 use Rattle.std.specs.Char.{is_ascii_lowercase}
 use Rattle.std.proofs.lemmas.Bool.{ltb-true, leb-true, lt-ltb, le-leb, false≢true, not-true}
 use Rattle.std.proofs.lemmas.Option.{slice_get-get_or}
@@ -9,10 +9,10 @@ use Rattle.cep_play.specs.declared.program.Premise.{Premise}
 use Rattle.cep_play.specs.declared.thin.TheConstants.{MOST_NAME}
 use Rattle.cep_play.specs.Thin.{reserved, IsLetter, IsName, AllDiffer, atom_text, premise_text}
 use Rattle.cep_play.specs.Reading.{◌>>=◌, literal_at, letters_at, is_reserved, is_name, name_at, number_of, known_at, kept_at, premise_at}
-use Rattle.cep_play.proofs.Literals.{literal_again, literal_found}
-use Rattle.cep_play.proofs.Distinct.{bytes_same, bytes_apart}
-use Rattle.cep_play.proofs.Numbers.{all_at, number_found, number_is}
-use Rattle.cep_play.proofs.ReadLaws.{bind_some, some_is, guard_some, none_is, no_word, IsApart, Reads}
+use Rattle.cep_play.proofs.ReadLiterals.{literal_again, literal_found}
+use Rattle.cep_play.proofs.ReadDistinct.{bytes_apart}
+use Rattle.cep_play.proofs.ReadNumbers.{all_at, number_found, number_is}
+use Rattle.cep_play.proofs.ReadLaws.{by_bind, some_is, guard_some, no_word, IsApart, Reads}
 
 and_true : (a b : Bool) → (a && b) ≡ true → (a ≡ true) × (b ≡ true)
 and_true true b e = (refl, e)
@@ -96,12 +96,12 @@ IsAtom names atom = atom < length names
 pub known_found : (names : List (List ℕ)) (bytes : List ℕ) (atom : ℕ) (rest : List ℕ) → known_at names bytes ≡ Some (atom, rest) → (bytes ≡ atom_text names atom ++ rest) × IsAtom names atom
 unfolding known_at
 known_found names bytes atom rest e =
-    let a = bind_some (name_at bytes) (λ name. number_of names name.0 >>= λ number. Some (number, name.1)) (atom, rest) e in
-    let b = bind_some (number_of names a.0.0) (λ number. Some (number, a.0.1)) (atom, rest) a.2 in
-    let name = name_found bytes a.0.0 a.0.1 a.1 in
-    let number = number_is names a.0.0 b.0 b.1 in
-    let parts : bytes ≡ atom_text names b.0 ++ a.0.1 = name.0 ∙ ap (λ (text : List ℕ). text ++ a.0.1) (sym number.1) in
-    subst (λ (x : ℕ × List ℕ). (bytes ≡ atom_text names x.0 ++ x.1) × IsAtom names x.0) (some_is (b.0, a.0.1) (atom, rest) b.2) (parts, number.0)
+    by_bind (name_at bytes) _ (atom, rest) e (λ name name-at e.
+    by_bind (number_of names name.0) _ (atom, rest) e (λ number number-at e.
+    let found = name_found bytes name.0 name.1 name-at in
+    let is = number_is names name.0 number number-at in
+    let parts : bytes ≡ atom_text names number ++ name.1 = found.0 ∙ ap (λ (text : List ℕ). text ++ name.1) (sym is.1) in
+    subst (λ (x : ℕ × List ℕ). (bytes ≡ atom_text names x.0 ++ x.1) × IsAtom names x.0) (some_is (number, name.1) (atom, rest) e) (parts, is.0)))
 
 pub known_again : (names : List (List ℕ)) → AreNames names → (atom : ℕ) (rest : List ℕ) → IsAtom names atom → IsApart rest → known_at names (atom_text names atom ++ rest) ≡ Some (atom, rest)
 unfolding known_at
@@ -129,14 +129,13 @@ kept_found : (names : List (List ℕ)) (bytes : List ℕ) (word : Option (List �
     → (known_at names (kept_at word bytes).1 >>= with_kept (kept_at word bytes).0) ≡ Some (premise, rest) → (bytes ≡ premise_text names premise ++ rest) × IsPremise names premise
 unfolding premise_text
 kept_found names bytes None w premise rest e =
-    let a = bind_some (known_at names bytes) (with_kept false) (premise, rest) e in
-    let atom = known_found names bytes a.0.0 a.0.1 a.1 in
-    subst (λ (x : Premise × List ℕ). (bytes ≡ premise_text names x.0 ++ x.1) × IsPremise names x.0) (some_is (record { atom = a.0.0; kept = false }, a.0.1) (premise, rest) a.2) atom
+    by_bind (known_at names bytes) _ (premise, rest) e (λ atom atom-at e.
+    subst (λ (x : Premise × List ℕ). (bytes ≡ premise_text names x.0 ++ x.1) × IsPremise names x.0) (some_is (record { atom = atom.0; kept = false }, atom.1) (premise, rest) e) (known_found names bytes atom.0 atom.1 atom-at))
 kept_found names bytes (Some behind) w premise rest e =
-    let a = bind_some (known_at names behind) (with_kept true) (premise, rest) e in
-    let atom = known_found names behind a.0.0 a.0.1 a.1 in
-    let parts : bytes ≡ codes "$" ++ atom_text names a.0.0 ++ a.0.1 = literal_found (codes "$") bytes behind w ∙ ap (λ (x : List ℕ). codes "$" ++ x) atom.0 in
-    subst (λ (x : Premise × List ℕ). (bytes ≡ premise_text names x.0 ++ x.1) × IsPremise names x.0) (some_is (record { atom = a.0.0; kept = true }, a.0.1) (premise, rest) a.2) (parts, atom.1)
+    by_bind (known_at names behind) _ (premise, rest) e (λ atom atom-at e.
+    let found = known_found names behind atom.0 atom.1 atom-at in
+    let parts : bytes ≡ codes "$" ++ atom_text names atom.0 ++ atom.1 = literal_found (codes "$") bytes behind w ∙ ap (λ (x : List ℕ). codes "$" ++ x) found.0 in
+    subst (λ (x : Premise × List ℕ). (bytes ≡ premise_text names x.0 ++ x.1) × IsPremise names x.0) (some_is (record { atom = atom.0; kept = true }, atom.1) (premise, rest) e) (parts, found.1))
 
 pub premise_found : (names : List (List ℕ)) (bytes : List ℕ) (premise : Premise) (rest : List ℕ) → premise_at names bytes ≡ Some (premise, rest) → (bytes ≡ premise_text names premise ++ rest) × IsPremise names premise
 unfolding premise_at

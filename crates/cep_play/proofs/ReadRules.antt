@@ -1,15 +1,15 @@
 -- Rules, and the line of a stage: the two laws.
-use Rattle.std.proofs.Common.{◌≡◌, ℕ, ◌<◌, ◌≤◌, false, List, [], ◌∷◌, ◌++◌, map, length, codes, Option, Some, None, refl, sym, ap, subst, ◌∙◌, append_assoc, arith}
+use Rattle.std.proofs.Common.{◌≡◌, ℕ, ◌<◌, ◌≤◌, false, List, [], ◌∷◌, ◌++◌, map, length, codes, Some, None, refl, sym, ap, subst, ◌∙◌, append_assoc, arith}
 use Rattle.std.specs.List.{AllByRecursion, flat_map}
 use Rattle.std.specs.Char.{is_ascii_lowercase}
 use Rattle.cep_play.specs.declared.program.Premise.{Premise}
 use Rattle.cep_play.specs.declared.thin.TheConstants.{MOST_PREMISES, MOST_RIGHT, MOST_RULES}
 use Rattle.cep_play.specs.Program.{Rule, Program}
 use Rattle.cep_play.specs.Thin.{IsName, IsSmallRule, AllDiffer, joined, side_text, atom_text, premise_text, rule_text, stage_line}
-use Rattle.cep_play.specs.Reading.{◌>>=◌, literal_at, name_at, known_at, premise_at, side_at, rule_at, rules_at, stage_at}
-use Rattle.cep_play.proofs.Literals.{literal_again, literal_found}
+use Rattle.cep_play.specs.Reading.{literal_at, name_at, known_at, premise_at, side_at, rule_at, rules_at, stage_at}
+use Rattle.cep_play.proofs.ReadLiterals.{literal_found}
 use Rattle.cep_play.proofs.ReadLaws.{by_bind, some_is, Reads, IsApart, IsAny}
-use Rattle.cep_play.proofs.ReadNames.{name_found, name_again, AreNames, IsAtom, IsPremise, known_reads, known_found, no_known, premise_reads, premise_found, no_premise, no_name}
+use Rattle.cep_play.proofs.ReadNames.{name_found, name_again, AreNames, IsAtom, IsPremise, known_reads, no_known, premise_reads, no_premise, no_name}
 use Rattle.cep_play.proofs.ReadLists.{Side, side_found, side_again, until_found, until_again, Listed, listed_from}
 
 -- ---- one rule
@@ -41,9 +41,9 @@ rule_made : (names : List (List ℕ)) (bytes : List ℕ) (name : List ℕ × Lis
 rule_made names bytes name colon left arrow right end named colon-is lefts arrow-is rights end-is =
     let rule : Rule = record { name = name.0; premises = left.0; right = right.0 } in
     let lefts-on : colon ≡ left_text names left.0 ++ (codes " -o " ++ (right_text names right.0 ++ (codes ". " ++ end))) =
-        lefts.parts ∙ ap (λ (b : List ℕ). left_text names left.0 ++ b) (arrow-is ∙ ap (λ (b : List ℕ). codes " -o " ++ b) (rights.parts ∙ ap (λ (b : List ℕ). right_text names right.0 ++ b) end-is)) in
+    lefts.parts ∙ ap (λ (b : List ℕ). left_text names left.0 ++ b) (arrow-is ∙ ap (λ (b : List ℕ). codes " -o " ++ b) (rights.parts ∙ ap (λ (b : List ℕ). right_text names right.0 ++ b) end-is)) in
     let whole : bytes ≡ name.0 ++ (codes " : " ++ (left_text names left.0 ++ (codes " -o " ++ (right_text names right.0 ++ (codes ". " ++ end))))) =
-        named.0 ∙ ap (λ (b : List ℕ). name.0 ++ b) (colon-is ∙ ap (λ (b : List ℕ). codes " : " ++ b) lefts-on) in
+    named.0 ∙ ap (λ (b : List ℕ). name.0 ++ b) (colon-is ∙ ap (λ (b : List ℕ). codes " : " ++ b) lefts-on) in
     (whole ∙ sym (spread names rule end), (named.1, record { few_premises = lefts.few; few_right = rights.few; premises = lefts.good; right = rights.good }))
 
 pub rule_found : (names : List (List ℕ)) → AreNames names → (bytes : List ℕ) (rule : Rule) (rest : List ℕ) → rule_at names bytes ≡ Some (rule, rest) → (bytes ≡ spaced_rule names rule ++ rest) × IsRule names rule
@@ -56,13 +56,13 @@ rule_found names are bytes rule rest e =
     by_bind (side_at (known_at names) MOST_RIGHT arrow) _ (rule, rest) e (λ right right-at e.
     by_bind (literal_at (codes ". ") right.1) _ (rule, rest) e (λ end end-at e.
     subst (λ (y : Rule × List ℕ). (bytes ≡ spaced_rule names y.0 ++ y.1) × IsRule names y.0) (some_is (record { name = name.0; premises = left.0; right = right.0 }, end) (rule, rest) e)
-        (rule_made names bytes name colon left arrow right end
-            (name_found bytes name.0 name.1 name-at)
-            (literal_found (codes " : ") name.1 colon colon-at)
-            (side_found (premise_at names) (premise_text names) (IsPremise names) IsApart (premise_reads names are) MOST_PREMISES colon left.0 left.1 left-at)
-            (literal_found (codes " -o ") left.1 arrow arrow-at)
-            (side_found (known_at names) (atom_text names) (IsAtom names) IsApart (known_reads names are) MOST_RIGHT arrow right.0 right.1 right-at)
-            (literal_found (codes ". ") right.1 end end-at))))))))
+    (rule_made names bytes name colon left arrow right end
+    (name_found bytes name.0 name.1 name-at)
+    (literal_found (codes " : ") name.1 colon colon-at)
+    (side_found (premise_at names) (premise_text names) (IsPremise names) IsApart (premise_reads names are) MOST_PREMISES colon left.0 left.1 left-at)
+    (literal_found (codes " -o ") left.1 arrow arrow-at)
+    (side_found (known_at names) (atom_text names) (IsAtom names) IsApart (known_reads names are) MOST_RIGHT arrow right.0 right.1 right-at)
+    (literal_found (codes ". ") right.1 end end-at))))))))
 
 rule_again : (names : List (List ℕ)) → AreNames names → (rule : Rule) (rest : List ℕ) → IsRule names rule → rule_at names (spaced_rule names rule ++ rest) ≡ Some (rule, rest)
 unfolding rule_at literal_at
@@ -148,7 +148,7 @@ stage_found names are bytes stage rest e =
     by_bind (rules_at names brace) _ (stage, rest) e (λ rules rules-at e.
     by_bind (literal_at (10 ∷ []) rules.1) _ (stage, rest) e (λ end end-at e.
     subst (λ (y : (List ℕ × List Rule) × List ℕ). (bytes ≡ stage_rest names y.0 ++ y.1) × IsStage names y.0) (some_is ((name.0, rules.0), end) (stage, rest) e)
-        (stage_made names bytes name brace rules end (name_found bytes name.0 name.1 name-at) (literal_found (codes " = { ") name.1 brace brace-at) (rules_found names are brace rules.0 rules.1 rules-at) (literal_found (10 ∷ []) rules.1 end end-at))))))
+    (stage_made names bytes name brace rules end (name_found bytes name.0 name.1 name-at) (literal_found (codes " = { ") name.1 brace brace-at) (rules_found names are brace rules.0 rules.1 rules-at) (literal_found (10 ∷ []) rules.1 end end-at))))))
 
 stage_again : (names : List (List ℕ)) → AreNames names → (stage : List ℕ × List Rule) (rest : List ℕ) → IsStage names stage → stage_at names (stage_rest names stage ++ rest) ≡ Some (stage, rest)
 unfolding stage_at literal_at

@@ -1,18 +1,18 @@
 -- Whole texts: what is read is spelled so, and what is spelled so is read.
-use Rattle.std.proofs.Common.{◌≡◌, ℕ, ◌<◌, ◌≤◌, List, [], ◌∷◌, ◌++◌, map, length, eqb, codes, Option, Some, None, Result, Ok, Err, refl, sym, ap, subst, ◌∙◌, append_assoc, append-nil, map-id, arith}
+use Rattle.std.proofs.Common.{◌≡◌, ℕ, ◌<◌, ◌≤◌, List, [], ◌∷◌, ◌++◌, length, eqb, codes, Some, None, refl, sym, ap, subst, ◌∙◌, append_assoc, append-nil, map-id}
 use Rattle.std.specs.List.{AllByRecursion, flat_map}
 use Rattle.std.proofs.lemmas.Bool.{eqb-true}
 use Rattle.std.proofs.lemmas.List.{nil_from_length}
 use Rattle.cep_play.specs.declared.thin.TheConstants.{MOST_TEXT, MOST_ATOMS}
 use Rattle.cep_play.specs.Program.{Rule, Program}
-use Rattle.cep_play.specs.Thin.{IsName, AllDiffer, IsSmallRule, IsSmall, IsNamed, atom_line, stage_line, interactive_line, context_line, trace_line, text_of, Spells}
-use Rattle.cep_play.specs.Reading.{◌>>=◌, literal_at, name_at, atom_at, atoms_at, stage_at, interactive_at, context_at, trace_at, program_at}
-use Rattle.cep_play.proofs.Literals.{literal_again, literal_found}
-use Rattle.cep_play.proofs.ReadLaws.{by_bind, some_is, none_is, guard_some, Reads, IsAny}
-use Rattle.cep_play.proofs.ReadNames.{name_found, name_again, AreNames, IsAtom}
+use Rattle.cep_play.specs.Thin.{IsName, AllDiffer, IsSmallRule, IsSmall, IsNamed, atom_line, interactive_line, trace_line, text_of, Spells}
+use Rattle.cep_play.specs.Reading.{literal_at, name_at, atom_at, atoms_at, stage_at, interactive_at, context_at, trace_at, program_at}
+use Rattle.cep_play.proofs.ReadLiterals.{literal_found}
+use Rattle.cep_play.proofs.ReadLaws.{by_bind, some_is, guard_some, Reads, IsAny}
+use Rattle.cep_play.proofs.ReadNames.{name_found, name_again, AreNames}
 use Rattle.cep_play.proofs.ReadLists.{until_found, until_again, Listed, listed_from}
-use Rattle.cep_play.proofs.ReadRules.{IsRule, AreRules, IsStage, stage_rest, stage_line_is, stage_reads}
-use Rattle.cep_play.proofs.ReadLines.{AreStart, IsContext, context_text, context_line_is, context_reads, interactive_found, interactive_again, trace_found, trace_again}
+use Rattle.cep_play.proofs.ReadRules.{IsRule, IsStage, stage_rest, stage_line_is, stage_reads}
+use Rattle.cep_play.proofs.ReadLines.{IsContext, context_text, context_line_is, context_reads, interactive_found, interactive_again, trace_found, trace_again}
 
 -- ---- the lines of atoms
 
@@ -66,7 +66,7 @@ spread_text : (program : Program) (context : List ℕ) → 0 < length program.ru
 unfolding text_of
 spread_text program context some =
     let one : text_of program context ≡ flat_map atom_line program.atoms ++ ((codes "stage " ++ stage_rest program.atoms (program.stage, program.rules)) ++ (interactive_line program ++ (context_text program.atoms (context, program.start) ++ trace_line program context))) =
-        rw (stage_line_is program some, context_line_is program context) refl in
+    rw (stage_line_is program some, context_line_is program context) refl in
     one ∙ simp (append_assoc, append-nil)
 
 rules_small : (names : List (List ℕ)) (rules : List Rule) → AllByRecursion (IsRule names) rules → AllByRecursion (IsSmallRule (length names)) rules
@@ -89,7 +89,7 @@ text_made : (text : List ℕ) → length text ≤ MOST_TEXT → (program : Progr
 text_made text short program context after rest between behind listed staged played started traced =
     let are = names_of text (program.atoms, after) listed in
     let from_stage : after ≡ stage_rest program.atoms (program.stage, program.rules) ++ (interactive_line program ++ (context_text program.atoms (context, program.start) ++ (trace_line program context ++ []))) =
-        staged.0 ∙ ap (λ (b : List ℕ). stage_rest program.atoms (program.stage, program.rules) ++ b) (played ∙ ap (λ (b : List ℕ). interactive_line program ++ b) (started.0 ∙ ap (λ (b : List ℕ). context_text program.atoms (context, program.start) ++ b) traced)) in
+    staged.0 ∙ ap (λ (b : List ℕ). stage_rest program.atoms (program.stage, program.rules) ++ b) (played ∙ ap (λ (b : List ℕ). interactive_line program ++ b) (started.0 ∙ ap (λ (b : List ℕ). context_text program.atoms (context, program.start) ++ b) traced)) in
     record {
       short = short;
       small = record {
@@ -127,11 +127,11 @@ text_found text short program e =
     let are = names_of text atoms listed in
     let nothing : trace ≡ [] = nil_from_length trace (eqb-true (length trace) 0 ended.0) in
     subst (λ (p : Program). Spells text p) ended.1
-        (text_made text short made context.0.0 atoms.1 stage.1 interactive context.1 listed
-            ((stage_reads atoms.0 are).found atoms.1 stage.0 stage.1 stage-at)
-            (interactive_found made stage.1 interactive interactive-at)
-            ((context_reads atoms.0 are).found interactive context.0 context.1 context-at)
-            (trace_found made context.0.0 context.1 trace trace-at ∙ ap (λ (b : List ℕ). trace_line made context.0.0 ++ b) nothing)))))))
+    (text_made text short made context.0.0 atoms.1 stage.1 interactive context.1 listed
+    ((stage_reads atoms.0 are).found atoms.1 stage.0 stage.1 stage-at)
+    (interactive_found made stage.1 interactive interactive-at)
+    ((context_reads atoms.0 are).found interactive context.0 context.1 context-at)
+    (trace_found made context.0.0 context.1 trace trace-at ∙ ap (λ (b : List ℕ). trace_line made context.0.0 ++ b) nothing)))))))
 
 text_again : (program : Program) (context : List ℕ) → IsSmall program → IsNamed program context → program_at (text_of program context) ≡ Some program
 unfolding program_at
@@ -140,21 +140,24 @@ text_again program context small named =
     let trace = trace_line program context ++ [] in
     let behind = context_text program.atoms (context, program.start) ++ trace in
     let between = interactive_line program ++ behind in
-    let stage : IsStage program.atoms (program.stage, program.rules) = (named.of_stage, record {
-      some = small.some_rules;
-      few = small.few_rules;
-      good = rules_both program.atoms program.rules small.rules named.of_rules;
-      differ = named.rules_differ;
-    }) in
+    let stage : IsStage program.atoms (program.stage, program.rules) = (
+      named.of_stage,
+      record {
+        some = small.some_rules;
+        few = small.few_rules;
+        good = rules_both program.atoms program.rules small.rules named.of_rules;
+        differ = named.rules_differ;
+      },
+    ) in
     let start : IsContext program.atoms (context, program.start) = (named.of_context, record { few = small.few_start; good = small.start }) in
     ap program_at (spread_text program context small.some_rules)
     ∙ rw (
-        atoms_again program.atoms (stage_rest program.atoms (program.stage, program.rules) ++ between) small.some_atoms small.few_atoms are,
-        (stage_reads program.atoms are).again (program.stage, program.rules) between stage tt,
-        interactive_again program behind,
-        (context_reads program.atoms are).again (context, program.start) trace start tt,
-        trace_again program context []
-      ) refl
+      atoms_again program.atoms (stage_rest program.atoms (program.stage, program.rules) ++ between) small.some_atoms small.few_atoms are,
+      (stage_reads program.atoms are).again (program.stage, program.rules) between stage tt,
+      interactive_again program behind,
+      (context_reads program.atoms are).again (context, program.start) trace start tt,
+      trace_again program context [],
+    ) refl
 
 -- what is spelled is read
 pub spelled_read : (text : List ℕ) (program : Program) → Spells text program → program_at text ≡ Some program

@@ -68,5 +68,4 @@ fn program(alloc: Global, text: &[u8]) -> Result<Program, ReadError>
 /// No text spells two programs.
 pub fn one_program()
     ensures { (text : List ℕ) (p q : Program) → Spells text p → Spells text q → p ≡ q }
-{
-}
+{}

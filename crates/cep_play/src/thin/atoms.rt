@@ -3,9 +3,8 @@ ghost use Rattle.std.specs.Prelude.{◌≡◌, IfOk};
 ghost use Rattle.cep_play.specs.Reading.{Gives, AreAtoms, atom_at, atoms_at, known_at, several_at};
 
 use crate::names::Names;
-use crate::thin::MOST_ATOMS;
 use crate::thin::fault::ReadError;
-use crate::thin::words;
+use crate::thin::{MOST_ATOMS, words};
 use std::alloc::Global;
 
 /// The names that the lines of atoms declare, and what follows the word `stage`.

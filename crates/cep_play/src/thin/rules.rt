@@ -47,11 +47,7 @@ fn is_named(rules: &[Rule], rule: &Rule) -> bool
 
 /// One rule, its point, and the space behind it.
 #[tactic(auto, unfolding(crate::specs::Reading::rule_at))]
-fn rule<'a>(
-    alloc: Global,
-    names: &Names,
-    bytes: &'a [u8],
-) -> Result<(Rule, &'a [u8]), ReadError>
+fn rule<'a>(alloc: Global, names: &Names, bytes: &'a [u8]) -> Result<(Rule, &'a [u8]), ReadError>
     requires { AreAtoms names.now }
     ensures { Gives (λ x. (x.0, x.1.now)) result (rule_at names.now bytes.now) }
 {

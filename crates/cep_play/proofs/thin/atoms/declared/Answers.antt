@@ -1,10 +1,9 @@
-use Rattle.std.proofs.Common.{◌≡◌, ◌≤◌, ◌++◌, ◌∷◌, [], ℕ, List, length, codes, refl, Some, None, arith, subst, sym, length-append}
+use Rattle.std.proofs.Common.{◌++◌, ◌∷◌, [], codes, refl, arith, length-append}
 use Rattle.std.proofs.lemmas.Result.{err_from_is_err_and}
 use Rattle.cep_play.specs.declared.thin.TheConstants.{MOST_ATOMS}
-use Rattle.cep_play.specs.Thin.{AllDiffer}
-use Rattle.cep_play.specs.Reading.{atom_at, atoms_at, AreAtoms, with_new}
-use Rattle.cep_play.proofs.Distinct.{added_new, added_again, new_from_absent, differ_push}
-use Rattle.cep_play.proofs.Loops.{until_on, until_done, until_taken, until_fails, until_full}
+use Rattle.cep_play.specs.Reading.{atom_at, atoms_at}
+use Rattle.cep_play.proofs.ReadDistinct.{added_new, added_again, new_from_absent, differ_push}
+use Rattle.cep_play.proofs.ReadLoops.{until_on, until_done, until_taken, until_fails, until_full}
 use Rattle.cep_play.proofs.thin.atoms.declared.Goals as goal
 
 pub loop-init : goal.loop-init

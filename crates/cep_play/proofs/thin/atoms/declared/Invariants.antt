@@ -1,4 +1,4 @@
-use Rattle.std.proofs.Common.{◌≡◌, ◌-◌, ◌≤◌, length, codes, []}
+use Rattle.std.proofs.Common.{◌≡◌, ◌-◌, ◌≤◌, length, codes}
 use Rattle.cep_play.specs.Thin.{AllDiffer}
 use Rattle.cep_play.specs.declared.thin.TheConstants.{MOST_ATOMS}
 use Rattle.cep_play.specs.Reading.{atom_at, until_at, atoms_at}

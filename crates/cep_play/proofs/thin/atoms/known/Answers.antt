@@ -1,7 +1,7 @@
-use Rattle.std.proofs.Common.{◌≡◌, arith, refl}
+use Rattle.std.proofs.Common.{arith, refl}
 use Rattle.std.proofs.lemmas.Option.{slice_get_within}
-use Rattle.cep_play.specs.Reading.{◌>>=◌, known_at}
-use Rattle.cep_play.proofs.Numbers.{number_found, number_missing}
+use Rattle.cep_play.specs.Reading.{known_at}
+use Rattle.cep_play.proofs.ReadNumbers.{number_found, number_missing}
 use Rattle.cep_play.proofs.thin.atoms.known.Goals as goal
 
 pub overflow_cast-result : goal.overflow_cast-result

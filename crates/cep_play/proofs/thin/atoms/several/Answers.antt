@@ -1,7 +1,6 @@
-use Rattle.std.proofs.Common.{◌≡◌, ◌++◌, ◌∷◌, []}
 use Rattle.std.proofs.lemmas.Result.{err_from_is_err_and}
 use Rattle.cep_play.specs.Reading.{known_at, several_at}
-use Rattle.cep_play.proofs.Loops.{several_on, several_done, several_fails, several_full}
+use Rattle.cep_play.proofs.ReadLoops.{several_on, several_done, several_fails, several_full}
 use Rattle.cep_play.proofs.thin.atoms.several.Goals as goal
 
 pub returns-in_err-atom : goal.returns-in_err-atom

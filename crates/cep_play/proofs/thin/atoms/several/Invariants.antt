@@ -1,6 +1,6 @@
 use Rattle.std.proofs.Common.{◌≡◌, ◌-◌}
 use Rattle.cep_play.specs.Reading.{known_at, several_at}
-use Rattle.cep_play.proofs.Loops.{with_front}
+use Rattle.cep_play.proofs.ReadLoops.{with_front}
 use Rattle.cep_play.proofs.thin.atoms.several.Given as goal
 
 abbrev pub invariant-loop : goal.invariant-loop

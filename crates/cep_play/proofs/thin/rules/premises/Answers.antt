@@ -1,8 +1,8 @@
-use Rattle.std.proofs.Common.{◌≡◌, ◌++◌, ◌∷◌, [], codes}
+use Rattle.std.proofs.Common.{codes}
 use Rattle.std.proofs.lemmas.Result.{err_from_is_err_and}
 use Rattle.cep_play.specs.declared.thin.TheConstants.{MOST_PREMISES}
 use Rattle.cep_play.specs.Reading.{premise_at, several_at}
-use Rattle.cep_play.proofs.Loops.{several_on, several_done, several_fails, several_full}
+use Rattle.cep_play.proofs.ReadLoops.{several_on, several_done, several_fails, several_full}
 use Rattle.cep_play.proofs.thin.rules.premises.Goals as goal
 
 pub returns-in_err-premise : goal.returns-in_err-premise

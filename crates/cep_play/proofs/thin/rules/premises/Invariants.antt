@@ -1,7 +1,7 @@
 use Rattle.std.proofs.Common.{◌≡◌, ◌-◌, codes}
 use Rattle.cep_play.specs.declared.thin.TheConstants.{MOST_PREMISES}
 use Rattle.cep_play.specs.Reading.{premise_at, several_at}
-use Rattle.cep_play.proofs.Loops.{with_front}
+use Rattle.cep_play.proofs.ReadLoops.{with_front}
 use Rattle.cep_play.proofs.thin.rules.premises.Given as goal
 
 abbrev pub invariant-loop : goal.invariant-loop

@@ -4,8 +4,8 @@ use Rattle.std.proofs.lemmas.Result.{err_from_is_err_and}
 use Rattle.cep_play.specs.declared.thin.TheConstants.{MOST_RULES}
 use Rattle.cep_play.specs.Program.{Rule}
 use Rattle.cep_play.specs.Reading.{rule_at, rules_at}
-use Rattle.cep_play.proofs.Distinct.{taken_by_test, new_by_test}
-use Rattle.cep_play.proofs.Loops.{until_on, until_done, until_taken, until_fails, until_full}
+use Rattle.cep_play.proofs.ReadDistinct.{taken_by_test, new_by_test}
+use Rattle.cep_play.proofs.ReadLoops.{until_on, until_done, until_taken, until_fails, until_full}
 use Rattle.cep_play.proofs.thin.rules.rules.Goals as goal
 
 abbrev named : Rule → List ℕ

@@ -1,6 +1,6 @@
 use Rattle.std.proofs.lemmas.Bool.Decides.{Decides-eqb}
 use Rattle.std.proofs.lemmas.Slice.Eq.{strip_prefix_is}
-use Rattle.cep_play.proofs.Literals.{literal_is}
+use Rattle.cep_play.proofs.ReadLiterals.{literal_is}
 use Rattle.cep_play.proofs.thin.words.strip.Goals as goal
 
 pub returns : goal.returns

@@ -1,11 +1,11 @@
 -- The number of a name among different names.
-use Rattle.std.proofs.Common.{◌≡◌, ◌≢◌, ℕ, zero, suc, ◌+◌, ◌<◌, ◌≤◌, Bool, true, false, cond, List, [], ◌∷◌, length, get_or, slice_get, slice_index_or, Contains, Option, Some, None, refl, sym, ap, subst, ◌∙◌, bytes_eq, arith, option_copied}
+use Rattle.std.proofs.Common.{◌≡◌, ◌≢◌, ℕ, zero, suc, ◌<◌, Bool, true, false, cond, List, [], ◌∷◌, length, get_or, slice_get, Contains, Some, None, refl, subst, bytes_eq, arith}
 use Rattle.std.specs.List.{AllByRecursion}
 use Rattle.cep_play.specs.Thin.{AllDiffer}
 use Rattle.std.proofs.lemmas.Slice.Eq.{bytes_eq-Decides}
-use Rattle.cep_play.proofs.Distinct.{bytes_same, bytes_apart}
-use Rattle.cep_play.proofs.ReadLaws.{bind_some, some_is}
-use Rattle.cep_play.specs.Reading.{◌>>=◌, number_of, AreAtoms}
+use Rattle.cep_play.proofs.ReadDistinct.{bytes_same, bytes_apart}
+use Rattle.cep_play.proofs.ReadLaws.{by_bind, some_is}
+use Rattle.cep_play.specs.Reading.{◌>>=◌, number_of}
 
 pub all_at : {X : Type 0} (P : X → Type 0) (xs : List X) (i : ℕ) (x : X) → AllByRecursion P xs → slice_get xs i ≡ Some x → P x
 all_at P [] i x all e = absurd cc
@@ -33,7 +33,6 @@ number_is (other ∷ names) name i e = cases (bytes_eq other name) refl e (numbe
   cases : (same : Bool) → bytes_eq other name ≡ same → cond same (Some zero) (number_of names name >>= λ number. Some (suc number)) ≡ Some i → ((i : ℕ) → number_of names name ≡ Some i → (i < length names) × (get_or names i [] ≡ name)) → (i < suc (length names)) × (get_or (other ∷ names) i [] ≡ name)
   cases true t e more = let p : zero ≡ i = cc in subst (λ (i : ℕ). (i < suc (length names)) × (get_or (other ∷ names) i [] ≡ name)) p (omega arith, (bytes_eq-Decides other name).0 t)
   cases false t e more =
-      let b = bind_some (number_of names name) (λ number. Some (suc number)) i e in
-      let p : suc b.0 ≡ i = some_is (suc b.0) i b.2 in
-      let m = more b.0 b.1 in
-      subst (λ (i : ℕ). (i < suc (length names)) × (get_or (other ∷ names) i [] ≡ name)) p (omega (arith, m.0), m.1)
+      by_bind (number_of names name) _ i e (λ number number-is e.
+      let m = more number number-is in
+      subst (λ (i : ℕ). (i < suc (length names)) × (get_or (other ∷ names) i [] ≡ name)) (some_is (suc number) i e) (omega (arith, m.0), m.1))
