@@ -19,8 +19,8 @@ pub fn literal<'a>(word: &[u8], bytes: &'a [u8]) -> Result<&'a [u8], ReadError>
     strip(word, bytes).ok_or(ReadError::Unread)
 }
 
-#[tactic(auto, unfolding(crate::specs::Reading::name_at))]
 /// The name at the front: all small letters there.
+#[tactic(auto, unfolding(crate::specs::Reading::name_at))]
 pub fn name(bytes: &[u8]) -> Result<(&[u8], &[u8]), ReadError>
     ensures { Gives (λ x. (x.0.now, x.1.now)) result (name_at bytes.now) }
 {
