@@ -5,6 +5,8 @@ ghost use Rattle.std.specs.Prelude.{◌≡◌, ◌<◌};
 
 mod file_shelf;
 mod std_console;
+#[cfg(test)]
+mod tests;
 
 use cep_base::Steps;
 use cep_play::ceptre;
