@@ -1,5 +1,5 @@
 // The shelf of the process: the files of the system.
-ghost use Rattle.std.specs.Prelude.{None};
+ghost use Rattle.std.specs.Prelude.{◌≡◌, None};
 
 use cep_base::{FaultCount, Shelf, ShelfFault};
 use std::alloc::{AllocError, Global};
@@ -15,7 +15,10 @@ pub struct FileShelf<R: Files + Drop> {
 }
 
 impl<R: Files + Drop> FileShelf<R> {
-    pub fn new(runtime: R) -> FileShelf<R> {
+    /// A shelf that has not failed yet.
+    pub fn new(runtime: R) -> FileShelf<R>
+        ensures { result.faults ≡ 0 }
+    {
         FileShelf {
             runtime,
             faults: FaultCount::new(),

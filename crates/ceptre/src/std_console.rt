@@ -1,5 +1,5 @@
 // The console of the process: its standard input and output.
-ghost use Rattle.std.specs.Prelude.{◌≤◌, None, vec_len};
+ghost use Rattle.std.specs.Prelude.{◌≡◌, ◌≤◌, None, IfOk, vec_len};
 
 use cep_base::{Console, ConsoleFault, FaultCount};
 use std::alloc::{AllocError, Global};
@@ -22,7 +22,10 @@ pub struct StdConsole<R: Input + Drop> {
 }
 
 impl<R: Input + Print + Drop> StdConsole<R> {
-    pub fn new(alloc: Global, runtime: R) -> Result<StdConsole<R>, AllocError> {
+    /// A console that has not failed yet.
+    pub fn new(alloc: Global, runtime: R) -> Result<StdConsole<R>, AllocError>
+        ensures { IfOk result (λ console. console.faults ≡ 0) }
+    {
         let block = vec![in alloc; 0u8; BLOCK]?;
         Ok(StdConsole {
             reader: runtime.reader(),
