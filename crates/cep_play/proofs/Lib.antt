@@ -8,6 +8,9 @@ pub mod LineLemmas
 pub mod LineRead
 pub mod NameSets
 pub mod Offers
+pub mod OneOffers
+pub mod OneReading
+pub mod OneTalk
 pub mod ReadDistinct
 pub mod ReadLaws
 pub mod ReadLines

@@ -5,6 +5,7 @@
 mod choice;
 mod command;
 mod dialogue;
+mod laws;
 mod lines;
 mod names;
 mod program;
@@ -15,3 +16,4 @@ mod thin;
 mod typed;
 
 pub use command::ceptre;
+pub use laws::one_dialogue;
