@@ -16,4 +16,4 @@ mod thin;
 mod typed;
 
 pub use command::ceptre;
-pub use laws::one_dialogue;
+pub use laws::{one_dialogue, one_program};

@@ -64,8 +64,3 @@ fn program(alloc: Global, text: &[u8]) -> Result<Program, ReadError>
     let stage = Name::new(alloc, stage)?;
     Ok(Program::new(atoms, stage, rules, start))
 }
-
-/// No text spells two programs.
-pub fn one_program()
-    ensures { (text : List ℕ) (p q : Program) → Spells text p → Spells text q → p ≡ q }
-{}
