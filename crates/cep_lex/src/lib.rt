@@ -1,0 +1,14 @@
+//! The tokens of a program's text, each with its place, and the line and the column of a place.
+#![tactic(auto)]
+
+mod fault;
+mod gaps;
+mod lexing;
+mod places;
+mod token;
+mod words;
+
+pub use fault::LexFault;
+pub use lexing::lex;
+pub use places::place;
+pub use token::{LONGEST_NAME, MOST_BYTES, Token, TokenKind, Tokens};
