@@ -5,10 +5,10 @@ use Rattle.cep_lex.specs.Words.{is_name_byte, Runs, Spells, IsLongest}
 use Rattle.cep_lex.specs.Cuts.{is_separator, IsGap, IsLastGap, StartsWith, Cuts, IsLexed}
 use Rattle.cep_lex.specs.declared.token.Token.{Token}
 use Rattle.cep_lex.specs.declared.token.TokenKind.{TokenKind}
-use Rattle.cep_lex.specs.declared.token.TokenKind.TheVariants.{Number, Blank, Colon, Dot, Comma, Star, Dollar, Equals, Open, Close, OpenBrace, CloseBrace}
+use Rattle.cep_lex.specs.declared.token.TokenKind.TheVariants.{Number, Lolli, Back, Blank, Colon, Dot, Comma, Star, Dollar, Equals, Open, Close, OpenBrace, CloseBrace}
 use Rattle.cep_lex.specs.declared.token.TheConstants.{LONGEST_NAME}
 use Rattle.cep_lex.specs.declared.words.Class.{Class}
-use Rattle.cep_lex.specs.declared.words.Class.TheVariants.{Letter, Digit, Hash, Minus, Less, Mark, Other}
+use Rattle.cep_lex.specs.declared.words.Class.TheVariants.{Letter, Digit, Hash, Pair, Mark, Other}
 use Rattle.cep_lex.specs.declared.words.RunOf.{RunOf}
 use Rattle.cep_lex.specs.declared.words.RunOf.TheVariants.{NameBytes, Digits, Letters}
 use Rattle.cep_lex.specs.declared.lexing.Step.{Step}
@@ -18,8 +18,8 @@ use Rattle.cep_lex.specs.declared.lexing.Step.TheVariants as step
 abbrev pub mark_class : ℕ → Class
 mark_class byte =
     if byte == 35 then Hash
-    else (if byte == 45 then Minus
-    else (if byte == 60 then Less
+    else (if byte == 45 then Pair Lolli 111
+    else (if byte == 60 then Pair Back 45
     else (if byte == 95 then Mark Blank
     else (if byte == 58 then Mark Colon
     else (if byte == 46 then Mark Dot
@@ -36,6 +36,19 @@ mark_class byte =
 -- what a first byte tells of a token
 abbrev pub class : ℕ → Class
 class byte = if is_ascii_alphabetic byte then Letter else (if is_ascii_digit byte then Digit else mark_class byte)
+
+-- what a class says of the first byte
+abbrev pub Tells : Class → ℕ → Type 0
+Tells Letter byte = IsTrue (is_ascii_alphabetic byte)
+Tells Digit byte = IsTrue (is_ascii_digit byte)
+Tells Hash byte = byte ≡ 35
+Tells (Pair kind second) byte = Spells kind (byte ∷ second ∷ [])
+Tells (Mark kind) byte = Spells kind (byte ∷ [])
+Tells Other byte = Unit {0}
+
+-- this byte stands behind the first
+abbrev pub HasSecond : List ℕ → ℕ → Type 0
+HasSecond bytes second = (first : ℕ) × (rest : List ℕ) × (bytes ≡ first ∷ second ∷ rest)
 
 -- whether a run goes on with the byte
 abbrev pub passes : RunOf → ℕ → Bool

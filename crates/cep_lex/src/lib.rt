@@ -3,12 +3,14 @@
 
 mod fault;
 mod gaps;
+mod laws;
 mod lexing;
 mod places;
 mod token;
 mod words;
 
 pub use fault::LexFault;
+pub use laws::lexed_once;
 pub use lexing::lex;
 pub use places::place;
 pub use token::{LONGEST_NAME, MOST_BYTES, Token, TokenKind, Tokens};

@@ -1,5 +1,5 @@
-ghost use Rattle.std.specs.Prelude.{◌≤◌, length};
-ghost use Rattle.cep_lex.specs.Places.{IsPlace};
+ghost use Rattle.std.specs.Prelude.{◌≤◌, length, take};
+ghost use Rattle.cep_lex.specs.Places.{IsPlaceBehind};
 
 use crate::token::MOST_BYTES;
 use cep_base::Pos;
@@ -9,7 +9,7 @@ use cep_base::Pos;
 pub fn place(text: &[u8], at: u32) -> Pos
     requires short { length text.now ≤ MOST_BYTES }
     requires within { at ≤ length text.now }
-    ensures { IsPlace text.now at result }
+    ensures { IsPlaceBehind (take at text.now) result }
 {
     let mut line = 1;
     let mut col = 1;

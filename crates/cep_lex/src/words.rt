@@ -1,8 +1,8 @@
 // The token that bytes begin with.
-ghost use Rattle.std.specs.Prelude.{◌≡◌, ◌<◌, ◌≤◌, ◌∷◌, List, ℕ, length, IfSome, IfNone, MatchBool, drop};
+ghost use Rattle.std.specs.Prelude.{◌≡◌, ◌<◌, ◌≤◌, length, slice_index, IfSome, IfNone, MatchBool};
 ghost use Rattle.std.specs.List.{prefix_len};
 ghost use Rattle.cep_lex.specs.Words.{Spells, BeginsNoToken};
-ghost use Rattle.cep_lex.specs.Fronts.{class, passes, IsWord, IsFront, IsLongLength, IsShortLength};
+ghost use Rattle.cep_lex.specs.Fronts.{class, passes, Tells, HasSecond, IsWord, IsFront, IsLongLength, IsShortLength};
 
 use crate::token::{LONGEST_NAME, TokenKind};
 
@@ -15,10 +15,8 @@ pub(crate) enum Class {
     Digit,
     /// `#` begins a directive.
     Hash,
-    /// `-` begins `-o`.
-    Minus,
-    /// `<` begins `<-`.
-    Less,
+    /// `-` begins `-o`, and `<` begins `<-`: a token of this kind, where this byte is the second.
+    Pair(TokenKind, u8),
     /// A byte that is a token by itself.
     Mark(TokenKind),
     /// A byte that begins no token.
@@ -34,7 +32,8 @@ pub(crate) enum RunOf {
 }
 
 fn class_of(byte: u8) -> Class
-    ensures { result ≡ class byte }
+    ensures class { result ≡ class byte }
+    ensures told { Tells result byte }
 {
     if byte.is_ascii_alphabetic() {
         return Class::Letter;
@@ -44,8 +43,8 @@ fn class_of(byte: u8) -> Class
     }
     match byte {
         b'#' => Class::Hash,
-        b'-' => Class::Minus,
-        b'<' => Class::Less,
+        b'-' => Class::Pair(TokenKind::Lolli, b'o'),
+        b'<' => Class::Pair(TokenKind::Back, b'-'),
         b'_' => Class::Mark(TokenKind::Blank),
         b':' => Class::Mark(TokenKind::Colon),
         b'.' => Class::Mark(TokenKind::Dot),
@@ -79,12 +78,7 @@ fn run_len(bytes: &[u8], run: RunOf) -> usize
     ensures within { result ≤ length bytes.now }
     ensures longest { result ≡ prefix_len (passes run) bytes.now }
 {
-    for (i, byte) in bytes.iter().enumerate() {
-        if !goes_on(run, *byte) {
-            return i;
-        }
-    }
-    bytes.len()
+    bytes.iter().take_while(|byte| goes_on(run, **byte)).count()
 }
 
 // The kind of a word that is a letter and name bytes.
@@ -109,7 +103,8 @@ fn name_kind(word: &[u8]) -> TokenKind
 
 // `#` and the letters behind it, if there is one.
 fn directive(bytes: &[u8]) -> Option<(TokenKind, usize)>
-    requires { (rest : List ℕ) × (bytes.now ≡ 35 ∷ rest) }
+    requires some { 0 < length bytes.now }
+    requires hash { slice_index bytes.now 0 ≡ 35 }
     ensures found { IfSome result (λ front. IsFront bytes.now front.0 front.1) }
     ensures none { IfNone result (BeginsNoToken bytes.now) }
 {
@@ -121,13 +116,19 @@ fn directive(bytes: &[u8]) -> Option<(TokenKind, usize)>
 
 // Whether the second byte is this one.
 fn has_second(bytes: &[u8], second: u8) -> bool
-    ensures { MatchBool result ((first : ℕ) × (rest : List ℕ) × (bytes.now ≡ first ∷ second ∷ rest)) ((first : ℕ) (rest : List ℕ) → bytes.now ≡ first ∷ second ∷ rest → ⊥) }
+    ensures { MatchBool result (HasSecond bytes.now second) (HasSecond bytes.now second → ⊥) }
 {
     bytes.len() > 1 && bytes[1] == second
 }
 
-// The token of two bytes, where the second is there.
-fn pair(bytes: &[u8], second: u8, kind: TokenKind) -> Option<(TokenKind, usize)> {
+// The token of two bytes, if the second is there.
+fn pair(bytes: &[u8], kind: TokenKind, second: u8) -> Option<(TokenKind, usize)>
+    requires some { 0 < length bytes.now }
+    requires class { class (slice_index bytes.now 0) ≡ Class.Pair kind second }
+    requires told { Tells (Class.Pair kind second) (slice_index bytes.now 0) }
+    ensures found { IfSome result (λ front. IsFront bytes.now front.0 front.1) }
+    ensures none { IfNone result (BeginsNoToken bytes.now) }
+{
     if has_second(bytes, second) {
         Some((kind, 2))
     } else {
@@ -149,8 +150,7 @@ pub(crate) fn front(bytes: &[u8]) -> Option<(TokenKind, usize)>
         }
         Class::Digit => Some((TokenKind::Number, 1 + run_len(&bytes[1..], RunOf::Digits))),
         Class::Hash => directive(bytes),
-        Class::Minus => pair(bytes, b'o', TokenKind::Lolli),
-        Class::Less => pair(bytes, b'-', TokenKind::Back),
+        Class::Pair(kind, second) => pair(bytes, kind, second),
         Class::Mark(kind) => Some((kind, 1)),
         Class::Other => None,
     }
