@@ -1,6 +1,6 @@
 -- Gaps, one byte on, and what they are followed by.
 use Rattle.std.proofs.Common.{not, eqb, get_or, take, ◌≡◌, ◌≢◌, ℕ, ◌+◌, ◌<◌, ◌≤◌, Bool, true, false, IsTrue, List, [], ◌∷◌, ◌++◌, length, drop, refl, sym, ap, subst, ◌∙◌, inl, inr, arith, append_assoc, length-append, take-append-drop, length-take-le}
-use Rattle.std.proofs.lemmas.List.{append-nil, drop_at, drop_more, take_more, take_all}
+use Rattle.std.proofs.lemmas.List.{drop_at, drop_more, take_more, take_all}
 use Rattle.std.proofs.lemmas.Bool.{eqb-true, eq-eqb, not-false, true≢false}
 use Rattle.cep_lex.specs.Cuts.{is_separator, IsUnbroken, IsGap, IsLastGap}
 use Rattle.cep_lex.specs.Cuts.IsGap.{empty, separator, comment}

@@ -1,13 +1,12 @@
 -- What stands behind the gap at the front of bytes is a function of the bytes.
-use Rattle.std.proofs.Common.{◌≡◌, ℕ, ◌==◌, ◌||◌, Bool, true, false, cond, IsTrue, List, [], ◌∷◌, ◌++◌, length, refl, sym, ap, subst, ◌∙◌, ⊎_elim, arith, append_assoc}
-use Rattle.std.proofs.lemmas.Bool.{cases_Bool, or_cases, eqb-true, eq-eqb, ne_eqb, false_from_ne_true}
+use Rattle.std.proofs.Common.{◌≡◌, ℕ, ◌==◌, ◌||◌, Bool, true, false, cond, List, [], ◌∷◌, ◌++◌, refl, sym, ap, subst, ◌∙◌, ⊎_elim, append_assoc}
+use Rattle.std.proofs.lemmas.Bool.{or_cases, eqb-true, ne_eqb, false_from_ne_true}
 use Rattle.std.proofs.lemmas.List.{append-nil}
 use Rattle.cep_lex.specs.declared.token.TokenKind.{TokenKind}
-use Rattle.cep_lex.specs.Words.{Spells}
 use Rattle.cep_lex.specs.Cuts.{is_separator, IsUnbroken, IsGap, IsLastGap, Splits}
 use Rattle.cep_lex.specs.Cuts.IsGap.{empty, separator, comment}
 use Rattle.cep_lex.specs.Fronts.{class}
-use Rattle.cep_lex.proofs.Shapes.{Follows, IsShaped, shaped}
+use Rattle.cep_lex.proofs.Shapes.{Follows, shaped}
 
 -- what stands behind the gap, from outside comments or from within one
 abbrev pub behind_gap : Bool → List ℕ → List ℕ

@@ -1,5 +1,5 @@
 -- A word spells one kind of token at most.
-use Rattle.std.proofs.Common.{◌≡◌, ◌≢◌, ℕ, ◌≤◌, nat_le, get_or, Bool, true, false, cond, List, [], ◌∷◌, codes, refl, sym, ◌∙◌, ap, arith}
+use Rattle.std.proofs.Common.{◌≡◌, ◌≢◌, ℕ, ◌≤◌, nat_le, get_or, true, false, cond, List, [], ◌∷◌, codes, refl, sym, ◌∙◌, ap, arith}
 use Rattle.std.specs.Char.{is_ascii_lowercase, is_ascii_uppercase}
 use Rattle.std.specs.Str.{bytes_eq}
 use Rattle.std.proofs.lemmas.Bool.{and_parts, and_right, leb-true, lt-leb, or_left, or_right, false_from_ne_true}

@@ -1,5 +1,5 @@
 -- What bytes begin with: a gap, or a token that the first byte tells. The public clauses speak of none of this.
-use Rattle.std.specs.Prelude.{◌≡◌, ◌≢◌, ◌⊎◌, ℕ, ◌+◌, ◌<◌, ◌≤◌, ◌==◌, Bool, if◌then◌else◌, IsTrue, List, [], ◌∷◌, ◌++◌, length, take, drop, Result, Ok, Err}
+use Rattle.std.specs.Prelude.{◌≡◌, ◌≢◌, ◌⊎◌, ℕ, ◌<◌, ◌≤◌, ◌==◌, Bool, if◌then◌else◌, IsTrue, List, [], ◌∷◌, ◌++◌, length, take, drop, Err}
 use Rattle.std.specs.Char.{is_ascii_alphabetic, is_ascii_digit}
 use Rattle.cep_lex.specs.Words.{is_name_byte, Runs, Spells, IsLongest}
 use Rattle.cep_lex.specs.Cuts.{is_separator, IsGap, IsLastGap, StartsWith, Cuts, IsLexed}

@@ -14,3 +14,6 @@ pub use laws::lexed_once;
 pub use lexing::lex;
 pub use places::place;
 pub use token::{LONGEST_NAME, MOST_BYTES, Token, TokenKind, Tokens};
+
+#[cfg(test)]
+mod tests;

@@ -1,4 +1,4 @@
-use Rattle.std.proofs.Common.{drop, subst, sym, arith}
+use Rattle.std.proofs.Common.{drop}
 use Rattle.cep_lex.proofs.Steps.{cut_next}
 use Rattle.cep_lex.proofs.lexing.lex.Goals as goal
 

@@ -1,6 +1,5 @@
-use Rattle.std.proofs.Common.{take, length, subst, sym, arith}
+use Rattle.std.proofs.Common.{take, arith}
 use Rattle.std.proofs.lemmas.List.{take_all}
-use Rattle.cep_lex.specs.Places.{IsPlaceBehind}
 use Rattle.cep_lex.proofs.places.place.Goals as goal
 use Rattle.cep_lex.proofs.places.place.Goals.{then-byte-eq10, else-byte-eq10}
 use Rattle.cep_lex.proofs.PlaceLemmas.{place_start, place_break, place_more}

@@ -1,4 +1,4 @@
-use Rattle.std.proofs.Common.{◌≡◌, ℕ, ◌<◌, ◌+◌, take, length, refl, sym, ap, subst, arith, length-take-le}
+use Rattle.std.proofs.Common.{◌+◌, refl, ap, arith, length-take-le}
 use Rattle.std.specs.Char.{is_ascii_alphabetic}
 use Rattle.std.proofs.lemmas.Bool.{eq-eqb}
 use Rattle.cep_lex.specs.declared.token.TokenKind.TheVariants.{Directive}
