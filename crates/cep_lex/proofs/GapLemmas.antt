@@ -1,0 +1,104 @@
+-- Gaps, one byte on, and what they are followed by.
+use Rattle.std.proofs.Common.{not, eqb, get_or, take, ◌≡◌, ◌≢◌, ℕ, ◌+◌, ◌<◌, ◌≤◌, Bool, true, false, IsTrue, List, [], ◌∷◌, ◌++◌, length, drop, refl, sym, ap, subst, ◌∙◌, inl, inr, arith, append_assoc, length-append, take-append-drop, length-take-le}
+use Rattle.std.proofs.lemmas.List.{drop_at, drop_more, take_more, take_all}
+use Rattle.std.proofs.lemmas.Bool.{eqb-true, eq-eqb, not-false, true≢false}
+use Rattle.cep_lex.specs.Cuts.{is_separator, IsUnbroken, IsGap, IsLastGap}
+use Rattle.cep_lex.specs.Cuts.IsGap.{empty, separator, comment}
+use Rattle.cep_lex.specs.Fronts.{IsGapLength}
+use Rattle.cep_lex.specs.Fronts.IsGapLength.{all, before}
+use Rattle.cep_lex.proofs.PlaceLemmas.{unbroken_push}
+
+-- a gap and a comment that goes on
+pub record IsOpen (bytes : List ℕ) : Type 0 where
+  pub gap : List ℕ
+  pub body : List ℕ
+  pub cut : bytes ≡ gap ++ 37 ∷ body
+  pub apart : IsGap gap
+  pub unbroken : IsUnbroken body
+
+-- what the bytes so far are, in a comment or outside
+abbrev pub IsGapSoFar : Bool → List ℕ → Type 0
+IsGapSoFar true bytes = IsOpen bytes
+IsGapSoFar false bytes = IsGap bytes
+
+-- two gaps are a gap
+pub gap_append : (one two : List ℕ) → IsGap one → IsGap two → IsGap (one ++ two)
+gap_append one two empty other = other
+gap_append one two (separator byte gap is rest) other = separator byte (gap ++ two) is (gap_append gap two rest other)
+gap_append one two (comment body gap unbroken rest) other = subst (λ bytes. IsGap (37 ∷ bytes)) (sym (append_assoc body (10 ∷ gap) two)) (comment body (gap ++ two) unbroken (gap_append gap two rest other))
+
+-- a separator goes on with a gap
+pub gap_separator : (gap : List ℕ) (byte : ℕ) → IsGap gap → is_separator byte ≡ true → IsGap (gap ++ byte ∷ [])
+gap_separator gap byte is separates = gap_append gap (byte ∷ []) is (separator byte [] separates empty)
+
+-- `%` begins a comment
+pub gap_opened : (gap : List ℕ) → IsGap gap → IsOpen (gap ++ 37 ∷ [])
+gap_opened gap is = record { gap = gap; body = []; cut = refl; apart = is; unbroken = tt }
+
+-- a comment goes on with any byte but LF
+pub open_more : (bytes : List ℕ) (byte : ℕ) → IsOpen bytes → byte ≢ 10 → IsOpen (bytes ++ byte ∷ [])
+open_more bytes byte is no_break = record { gap = is.gap; body = is.body ++ byte ∷ []; cut = ap (λ b. b ++ byte ∷ []) is.cut ∙ append_assoc is.gap (37 ∷ is.body) (byte ∷ []); apart = is.apart; unbroken = unbroken_push is.body byte is.unbroken no_break }
+
+-- and ends with LF
+pub open_closed : (bytes : List ℕ) → IsOpen bytes → IsGap (bytes ++ 10 ∷ [])
+open_closed bytes is = subst IsGap (sym (ap (λ b. b ++ 10 ∷ []) is.cut ∙ append_assoc is.gap (37 ∷ is.body) (10 ∷ []))) (gap_append is.gap (37 ∷ (is.body ++ 10 ∷ [])) is.apart (comment is.body [] is.unbroken empty))
+
+-- what stands at the end, in a comment or outside
+pub gap_ended : (in_comment : Bool) (bytes : List ℕ) → IsGapSoFar in_comment bytes → IsLastGap bytes
+gap_ended true bytes is = inr (is.gap, is.body, is.cut, is.apart, is.unbroken)
+gap_ended false bytes is = inl is
+
+-- the bytes up to the next place
+at_next : (P : List ℕ → Type 0) (bytes : List ℕ) (i : ℕ) → i < length bytes → P (take i bytes ++ get_or bytes i 0 ∷ []) → P (take (i + 1) bytes)
+at_next P bytes i within is = subst P (sym (take_more bytes i 0 within)) is
+
+-- a byte within a comment
+pub in_comment_next : (bytes : List ℕ) (i : ℕ) (in_comment after : Bool) → i < length bytes → in_comment ≡ true → after ≡ not (eqb (get_or bytes i 0) 10) → IsGapSoFar in_comment (take i bytes) → IsGapSoFar after (take (i + 1) bytes)
+in_comment_next bytes i false after within is goes so_far = cc
+in_comment_next bytes i true true within is goes so_far = at_next IsOpen bytes i within (open_more (take i bytes) _ so_far (λ e. absurd (true≢false (goes ∙ ap not (eq-eqb _ 10 e)))))
+in_comment_next bytes i true false within is goes so_far =
+    at_next IsGap bytes i within (subst (λ b. IsGap (take i bytes ++ b ∷ [])) (sym (eqb-true (get_or bytes i 0) 10 (not-false _ (sym goes)))) (open_closed (take i bytes) so_far))
+
+-- `%` outside comments
+pub comment_next : (bytes : List ℕ) (i : ℕ) (in_comment after : Bool) → i < length bytes → in_comment ≡ false → after ≡ true → get_or bytes i 0 ≡ 37 → IsGapSoFar in_comment (take i bytes) → IsGapSoFar after (take (i + 1) bytes)
+comment_next bytes i true after within is goes percent so_far = cc
+comment_next bytes i false false within is goes percent so_far = cc
+comment_next bytes i false true within is goes percent so_far =
+    at_next IsOpen bytes i within (subst (λ b. IsOpen (take i bytes ++ b ∷ [])) (sym percent) (gap_opened (take i bytes) so_far))
+
+-- a separator outside comments
+pub separator_next : (bytes : List ℕ) (i : ℕ) (in_comment after : Bool) → i < length bytes → in_comment ≡ false → after ≡ in_comment → is_separator (get_or bytes i 0) ≡ true → IsGapSoFar in_comment (take i bytes) → IsGapSoFar after (take (i + 1) bytes)
+separator_next bytes i true after within is goes separates so_far = cc
+separator_next bytes i false true within is goes separates so_far = cc
+separator_next bytes i false false within is goes separates so_far = at_next IsGap bytes i within (gap_separator (take i bytes) _ so_far separates)
+
+-- a byte outside comments that is in no gap
+pub gap_found : (bytes : List ℕ) (i : ℕ) (in_comment : Bool) → i < length bytes → in_comment ≡ false → is_separator (get_or bytes i 0) ≡ false → get_or bytes i 0 ≢ 37 → IsGapSoFar in_comment (take i bytes) → IsGapLength bytes i
+gap_found bytes i true within is no_separator no_comment so_far = cc
+gap_found bytes i false within is no_separator no_comment so_far =
+    before (take i bytes) (get_or bytes i 0) (drop (i + 1) bytes) (sym (take-append-drop i bytes) ∙ ap (λ b. take i bytes ++ b) (drop_more bytes i 0 within)) (sym (length-take-le i bytes (omega arith))) so_far (λ e. absurd (true≢false (sym e ∙ no_separator))) no_comment
+
+-- nothing but a gap
+pub gap_whole : (bytes : List ℕ) (i : ℕ) (in_comment : Bool) → length bytes ≤ i → IsGapSoFar in_comment (take i bytes) → IsGapLength bytes (length bytes)
+gap_whole bytes i in_comment within so_far = all refl (gap_ended in_comment bytes (subst (IsGapSoFar in_comment) (take_all i bytes within) so_far))
+
+-- nothing but a gap, where it is as long as the bytes
+pub gap_all : (bytes : List ℕ) (size : ℕ) → IsGapLength bytes size → size ≡ length bytes → IsLastGap bytes
+gap_all bytes size (all whole last) is = last
+gap_all bytes size (before gap byte behind cut short apart no_separator no_comment) is = absurd (omega (arith, ap length cut, length-append gap (byte ∷ behind)))
+
+-- a gap before a byte that is in none
+pub record IsGapBefore (bytes : List ℕ) (size : ℕ) : Type 0 where
+  pub gap : List ℕ
+  pub byte : ℕ
+  pub behind : List ℕ
+  pub cut : bytes ≡ gap ++ byte ∷ behind
+  pub is : length gap ≡ size
+  pub next : drop size bytes ≡ byte ∷ behind
+  pub apart : IsGap gap
+  pub no_separator : IsTrue (is_separator byte) → ⊥
+  pub no_comment : byte ≢ 37
+
+pub gap_before : (bytes : List ℕ) (size : ℕ) → IsGapLength bytes size → size < length bytes → IsGapBefore bytes size
+gap_before bytes size (all whole last) is = absurd (omega arith)
+gap_before bytes size (before gap byte behind cut short apart no_separator no_comment) is = record { gap = gap; byte = byte; behind = behind; cut = cut; is = sym short; next = ap (drop size) cut ∙ drop_at gap (byte ∷ behind) size (sym short); apart = apart; no_separator = no_separator; no_comment = no_comment }

@@ -1,0 +1,129 @@
+-- A text has one list of tokens at most, or one first fault.
+use Rattle.std.proofs.Common.{◌≡◌, ℕ, ◌+◌, false, List, [], ◌∷◌, ◌++◌, length, take, drop, Result, Ok, Err, refl, sym, ap, subst, ◌∙◌, ⊎_elim, arith}
+use Rattle.std.proofs.Math.Seq.{take-append_seam, drop-append_seam}
+use Rattle.std.proofs.lemmas.List.{append_cancel_right}
+use Rattle.cep_lex.specs.declared.fault.LexFault.{LexFault}
+use Rattle.cep_lex.specs.declared.fault.LexFault.TheVariants.{BadByte, NameLong}
+use Rattle.cep_lex.specs.declared.token.Token.{Token}
+use Rattle.cep_lex.specs.declared.token.TokenKind.{TokenKind}
+use Rattle.cep_lex.specs.Words.{Spells, IsLongest, BeginsNoToken, IsShort, IsTooLong}
+use Rattle.cep_lex.specs.Cuts.{Splits, StartsWith, Cuts, IsLexed}
+use Rattle.cep_lex.proofs.Shapes.{shaped}
+use Rattle.cep_lex.proofs.WordKinds.{same_kind}
+use Rattle.cep_lex.proofs.Skipping.{behind_gap, skip_last, skip_to, skip_to_token}
+
+-- a token at the front of bytes, as long as it can be
+pub record IsAtFront (bytes : List ℕ) : Type 0 where
+  pub kind : TokenKind
+  pub word : List ℕ
+  pub rest : List ℕ
+  pub cut : bytes ≡ word ++ rest
+  pub spelled : Spells kind word
+  pub longest : IsLongest word rest
+
+-- two such tokens are the same
+same_front : (bytes : List ℕ) (one other : IsAtFront bytes) → (one.kind ≡ other.kind) × (one.word ≡ other.word) × (one.rest ≡ other.rest)
+same_front bytes one other =
+    let e : one.word ++ one.rest ≡ other.word ++ other.rest = sym one.cut ∙ other.cut in
+    let below = one.longest other.kind other.word other.rest e other.spelled in
+    let above = other.longest one.kind one.word one.rest (sym e) one.spelled in
+    let size : length one.word ≡ length other.word = omega arith in
+    let word : one.word ≡ other.word = sym (take-append_seam one.word one.rest) ∙ ap (take (length one.word)) e ∙ ap (λ n. take n (other.word ++ other.rest)) size ∙ take-append_seam other.word other.rest in
+    let rest : one.rest ≡ other.rest = sym (drop-append_seam one.word one.rest) ∙ ap (drop (length one.word)) e ∙ ap (λ n. drop n (other.word ++ other.rest)) size ∙ drop-append_seam other.word other.rest in
+    (same_kind one.kind other.kind other.word (subst (Spells one.kind) word one.spelled) other.spelled, word, rest)
+
+-- the token behind a gap
+abbrev front_of : (bytes gap : List ℕ) (kind : TokenKind) (word rest : List ℕ) → Splits bytes gap kind word rest → IsAtFront (behind_gap false bytes)
+front_of bytes gap kind word rest is = record { kind = kind; word = word; rest = rest; cut = skip_to_token bytes gap kind word rest is; spelled = is.spelled; longest = is.longest }
+
+-- a gap is told by what stands behind it
+same_gap : (bytes gap gap' behind behind' : List ℕ) → bytes ≡ gap ++ behind → bytes ≡ gap' ++ behind' → behind ≡ behind' → gap ≡ gap'
+same_gap bytes gap gap' behind behind' one other e = append_cancel_right gap gap' behind' (ap (λ b. gap ++ b) (sym e) ∙ sym one ∙ other)
+
+-- tokens of equal parts are equal
+same_token : (one other : Token) → one.kind ≡ other.kind → one.from ≡ other.from → one.to ≡ other.to → one ≡ other
+same_token one other kind from to = λ i. record { kind = kind i; from = from i; to = to i }
+
+-- two tokens at the front of the same bytes are the same
+same_start : (at : ℕ) (bytes : List ℕ) (one other : Token) (behind behind' : List ℕ) → StartsWith at bytes one behind → StartsWith at bytes other behind' → (one ≡ other) × (behind ≡ behind')
+same_start at bytes one other behind behind' is is' =
+    let same = same_front _ (front_of bytes is.gap one.kind is.word behind is.split) (front_of bytes is'.gap other.kind is'.word behind' is'.split) in
+    let rest = sym (skip_to_token bytes is.gap one.kind is.word behind is.split) ∙ skip_to_token bytes is'.gap other.kind is'.word behind' is'.split in
+    let gap : is.gap ≡ is'.gap = same_gap bytes is.gap is'.gap _ _ is.split.cut is'.split.cut rest in
+    let from : one.from ≡ other.from = is.from ∙ ap (λ g. at + length g) gap ∙ sym is'.from in
+    let to : one.to ≡ other.to = is.to ∙ (λ i. from i + length (same.1 i)) ∙ sym is'.to in
+    (same_token one other same.0 from to, same.2)
+
+-- a long token is no short one
+long_or_short : (kind : TokenKind) (word : List ℕ) → IsShort kind word → IsTooLong kind word → ⊥
+long_or_short kind word short long = ⊎_elim (λ number. long.0 number) (λ within. let above = long.1 in absurd (omega arith)) short
+
+-- bytes that begin with a token are some
+front_some : (bytes : List ℕ) → IsAtFront bytes → bytes ≡ [] → ⊥
+front_some bytes front none =
+    let shape = shaped front.kind front.word front.spelled in
+    let e : [] ≡ shape.byte ∷ (shape.run ++ front.rest) = sym none ∙ front.cut ∙ ap (λ w. w ++ front.rest) shape.is in cc
+
+-- how the cutting ends, at the rest
+abbrev Ends : ℕ → List Token → List ℕ → Result (List Token) LexFault → Type 0
+Ends size tokens rest (Ok all) = (all ≡ tokens) × (behind_gap false rest ≡ [])
+Ends size tokens rest (Err (BadByte at)) = ((behind_gap false rest ≡ []) → ⊥) × BeginsNoToken (behind_gap false rest) × (at + length (behind_gap false rest) ≡ size)
+Ends size tokens rest (Err (NameLong at)) = (front : IsAtFront (behind_gap false rest)) × IsTooLong front.kind front.word × (at + length (behind_gap false rest) ≡ size)
+
+-- the cutting of a text, and how it ends
+pub record IsCut (text : List ℕ) (answer : Result (List Token) LexFault) : Type 0 where
+  pub tokens : List Token
+  pub rest : List ℕ
+  pub cut : Cuts 0 text tokens rest
+  pub ends : Ends (length text) tokens rest answer
+
+-- each text is cut so
+is_cut : (text : List ℕ) (answer : Result (List Token) LexFault) → IsLexed text answer → IsCut text answer
+is_cut text (Ok tokens) is = record { tokens = tokens; rest = is.rest; cut = is.cut; ends = (refl, skip_last is.rest is.last) }
+is_cut text (Err (BadByte at)) is =
+    let e = skip_to is.rest is.gap is.byte is.behind is.found is.apart is.no_separator is.no_comment in
+    record { tokens = is.tokens; rest = is.rest; cut = is.cut; ends = ((λ none. let clash : [] ≡ is.byte ∷ is.behind = sym none ∙ e in cc), subst BeginsNoToken (sym e) is.no_token, ap (λ b. at + length b) e ∙ is.place) }
+is_cut text (Err (NameLong at)) is =
+    record { tokens = is.tokens; rest = is.rest; cut = is.cut; ends = (front_of is.rest is.gap is.kind is.word is.behind is.split, is.long, ap (λ b. at + length b) (skip_to_token is.rest is.gap is.kind is.word is.behind is.split) ∙ is.place) }
+
+-- no further token can be cut from such a rest
+is_stuck : (size : ℕ) (tokens : List Token) (rest : List ℕ) (answer : Result (List Token) LexFault) → Ends size tokens rest answer → (at : ℕ) (token : Token) (behind : List ℕ) → StartsWith at rest token behind → ⊥
+is_stuck size tokens rest (Ok all) ends at token behind starts = front_some _ (front_of rest starts.gap token.kind starts.word behind starts.split) ends.1
+is_stuck size tokens rest (Err (BadByte place)) ends at token behind starts =
+    let front = front_of rest starts.gap token.kind starts.word behind starts.split in ends.1 front.kind front.word front.rest front.cut front.spelled
+is_stuck size tokens rest (Err (NameLong place)) ends at token behind starts =
+    let same = same_front _ ends.0 (front_of rest starts.gap token.kind starts.word behind starts.split) in
+    long_or_short token.kind starts.word starts.short (subst (λ w. IsTooLong token.kind w) same.1 (subst (λ k. IsTooLong k (ends.0).word) same.0 ends.1))
+
+-- two cuttings that end so are the same
+same_cuts : (at : ℕ) (bytes : List ℕ) (tokens others : List Token) (rest rest' : List ℕ)
+    → ((at : ℕ) (token : Token) (behind : List ℕ) → StartsWith at rest token behind → ⊥) → ((at : ℕ) (token : Token) (behind : List ℕ) → StartsWith at rest' token behind → ⊥)
+    → Cuts at bytes tokens rest → Cuts at bytes others rest' → (tokens ≡ others) × (rest ≡ rest')
+same_cuts at bytes [] [] rest rest' stuck stuck' one other = (refl, sym one ∙ other)
+same_cuts at bytes [] (token ∷ others) rest rest' stuck stuck' one other = absurd (stuck at token other.0 (subst (λ b. StartsWith at b token other.0) one other.1))
+same_cuts at bytes (token ∷ tokens) [] rest rest' stuck stuck' one other = absurd (stuck' at token one.0 (subst (λ b. StartsWith at b token one.0) other one.1))
+same_cuts at bytes (token ∷ tokens) (token' ∷ others) rest rest' stuck stuck' one other =
+    let same = same_start at bytes token token' one.0 other.0 one.1 other.1 in
+    let onward : Cuts token'.to other.0 tokens rest = subst (λ t. Cuts t.to other.0 tokens rest) same.0 (subst (λ b. Cuts token.to b tokens rest) same.1 one.2) in
+    let more = same_cuts token'.to other.0 tokens others rest rest' stuck stuck' onward other.2 in
+    ((λ i. same.0 i ∷ more.0 i), more.1)
+
+-- one cutting ends in one way
+same_end : (size : ℕ) (tokens : List Token) (rest : List ℕ) (one other : Result (List Token) LexFault) → Ends size tokens rest one → Ends size tokens rest other → one ≡ other
+same_end size tokens rest (Ok all) (Ok all') is is' = ap Ok (is.0 ∙ sym is'.0)
+same_end size tokens rest (Ok all) (Err (BadByte at)) is is' = absurd (is'.0 is.1)
+same_end size tokens rest (Ok all) (Err (NameLong at)) is is' = absurd (front_some _ is'.0 is.1)
+same_end size tokens rest (Err (BadByte at)) (Ok all) is is' = absurd (is.0 is'.1)
+same_end size tokens rest (Err (BadByte at)) (Err (BadByte at')) is is' = let e : at ≡ at' = omega (arith, is.2, is'.2) in ap (λ a. Err (BadByte a)) e
+same_end size tokens rest (Err (BadByte at)) (Err (NameLong at')) is is' = absurd (is.1 (is'.0).kind (is'.0).word (is'.0).rest (is'.0).cut (is'.0).spelled)
+same_end size tokens rest (Err (NameLong at)) (Ok all) is is' = absurd (front_some _ is.0 is'.1)
+same_end size tokens rest (Err (NameLong at)) (Err (BadByte at')) is is' = absurd (is'.1 (is.0).kind (is.0).word (is.0).rest (is.0).cut (is.0).spelled)
+same_end size tokens rest (Err (NameLong at)) (Err (NameLong at')) is is' = let e : at ≡ at' = omega (arith, is.2, is'.2) in ap (λ a. Err (NameLong a)) e
+
+-- a text is lexed in one way
+pub lexed_one : (text : List ℕ) (one other : Result (List Token) LexFault) → IsLexed text one → IsLexed text other → one ≡ other
+lexed_one text one other is is' =
+    let cut = is_cut text one is in
+    let cut' = is_cut text other is' in
+    let same = same_cuts 0 text cut.tokens cut'.tokens cut.rest cut'.rest (is_stuck _ _ _ one cut.ends) (is_stuck _ _ _ other cut'.ends) cut.cut cut'.cut in
+    same_end (length text) cut'.tokens cut'.rest one other (subst (λ r. Ends (length text) cut'.tokens r one) same.1 (subst (λ t. Ends (length text) t cut.rest one) same.0 cut.ends)) cut'.ends

@@ -1,0 +1,19 @@
+//! The tokens of a program's text, each with its place, and the line and the column of a place.
+#![tactic(auto)]
+
+mod fault;
+mod gaps;
+mod laws;
+mod lexing;
+mod places;
+mod token;
+mod words;
+
+pub use fault::LexFault;
+pub use laws::lexed_once;
+pub use lexing::lex;
+pub use places::place;
+pub use token::{LONGEST_NAME, MOST_BYTES, Token, TokenKind, Tokens};
+
+#[cfg(test)]
+mod tests;
