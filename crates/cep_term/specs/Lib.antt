@@ -1,0 +1,5 @@
+pub mod Tree
+pub mod Order
+pub mod Codes
+pub mod Values
+pub mod Multiset

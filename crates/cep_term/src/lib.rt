@@ -1,0 +1,12 @@
+//! Terms, atoms, their order, matching and multisets of atoms.
+#![tactic(auto)]
+
+mod comparing;
+mod copying;
+mod measure;
+mod term;
+
+pub use comparing::{order, order_term, same};
+pub use copying::{copy, copy_term};
+pub use measure::{depth, nodes};
+pub use term::{Args, Atom, MAX_DEPTH, MAX_NODES, Term};
