@@ -1,1 +1,4 @@
 pub mod OrderLaws
+pub mod ValuesLaws
+pub mod MatchingSteps
+pub mod MatchingLaws

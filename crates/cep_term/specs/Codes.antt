@@ -1,7 +1,7 @@
 -- Trees as lists of numbers, one list for each tree. By these a tree has a code, and the lists compare as the trees do.
 use Rattle.std.specs.Prelude.{◌≡◌, ℕ, List, [], ◌∷◌}
 use Rattle.std.specs.Coded.{Coded, coded_ℕ, coded_list}
-use Rattle.std.proofs.Common.{refl, sym, ap, ◌∙◌}
+use Rattle.std.proofs.Common.{refl}
 use base.Stored.{coded_via}
 use Rattle.cep_term.specs.Tree.{Tree, Trees, AtomTree, variable, node, none, more}
 

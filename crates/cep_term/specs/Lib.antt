@@ -2,4 +2,5 @@ pub mod Tree
 pub mod Order
 pub mod Codes
 pub mod Values
+pub mod Matching
 pub mod Multiset

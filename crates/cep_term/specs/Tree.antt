@@ -1,5 +1,5 @@
 -- Terms and atoms as plain trees, without boxes; their sizes, and which of them are ground and fit.
-use Rattle.std.specs.Prelude.{◌≡◌, ℕ, ◌+◌, ◌≤◌, ◌⊎◌, max}
+use Rattle.std.specs.Prelude.{◌≡◌, ℕ, ◌+◌, ◌<◌, ◌≤◌, ◌⊎◌, max}
 use Rattle.cep_term.specs.declared.term.Term.{Term}
 use Rattle.cep_term.specs.declared.term.Term.TheVariants.{Var, App'}
 use Rattle.cep_term.specs.declared.term.Args.{Args}
@@ -97,3 +97,17 @@ abbrev mutual
 -- The variable occurs in the atom.
 abbrev pub OccursIn : ℕ → AtomTree → Type 0
 OccursIn v a = OccursAmong v a.args
+
+-- Each variable of the term, or of the arguments, is one of so many, numbered from 0.
+abbrev mutual
+  pub IsInRange : ℕ → Tree → Type 0
+  IsInRange vars (variable v) = v < vars
+  IsInRange vars (node c args) = AreInRange vars args
+
+  pub AreInRange : ℕ → Trees → Type 0
+  AreInRange vars none = Unit {0}
+  AreInRange vars (more t rest) = IsInRange vars t × AreInRange vars rest
+
+-- Each variable of the atom is one of so many.
+abbrev pub IsAtomInRange : ℕ → AtomTree → Type 0
+IsAtomInRange vars a = AreInRange vars a.args

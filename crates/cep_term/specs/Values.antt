@@ -1,5 +1,5 @@
 -- The values of variables, instances of patterns under them, and matching.
-use Rattle.std.specs.Prelude.{◌≡◌, ◌≢◌, ℕ, ◌<◌, List, [], ◌∷◌, length, map, Option, Some, None, IsSome, IsNone, slice_index_or, unwrap_or}
+use Rattle.std.specs.Prelude.{◌≡◌, ◌≢◌, ℕ, List, length, map, Option, Some, None, IsSome, slice_index_or, unwrap_or}
 use Rattle.std.specs.Option.{option_map}
 use Rattle.cep_term.specs.declared.term.Term.{Term}
 use Rattle.cep_term.specs.Tree.{Tree, Trees, AtomTree, variable, node, none, more, tree_of, IsGround, OccursIn}
@@ -38,10 +38,6 @@ instance_in values a = record { pred = a.pred; args = instances_of values a.args
 abbrev pub HasValues : Values → AtomTree → Type 0
 HasValues values a = (v : ℕ) → OccursIn v a → IsSome (value_of values v)
 
--- Each variable of the pattern is one of so many.
-abbrev pub IsInRange : ℕ → AtomTree → Type 0
-IsInRange vars a = (v : ℕ) → OccursIn v a → v < vars
-
 -- New has the values of old, and maybe values of further variables.
 abbrev pub Extends : Values → Values → Type 0
 Extends old new = (v : ℕ) (t : Tree) → value_of old v ≡ Some t → value_of new v ≡ Some t
@@ -52,6 +48,7 @@ pub record Meets (old new : Values) (pattern fact : AtomTree) : Type 0 where
   pub kept : Extends old new
   pub set : HasValues new pattern
   pub others : (v : ℕ) → ¬ (OccursIn v pattern) → value_of new v ≡ value_of old v
+  pub as_many : length new ≡ length old
 
 -- No values of further variables make the pattern and the atom equal.
 abbrev pub NeverMeets : Values → AtomTree → AtomTree → Type 0

@@ -1,12 +1,16 @@
 //! Terms, atoms, their order, matching and multisets of atoms.
 #![tactic(auto)]
 
+mod binding;
 mod comparing;
 mod copying;
+mod matching;
 mod measure;
 mod term;
 
+pub use binding::{Binding, apply};
 pub use comparing::{order, order_term, same};
 pub use copying::{copy, copy_term};
+pub use matching::meet;
 pub use measure::{depth, nodes};
 pub use term::{Args, Atom, MAX_DEPTH, MAX_NODES, Term};
