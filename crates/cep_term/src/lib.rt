@@ -4,6 +4,7 @@
 mod binding;
 mod comparing;
 mod copying;
+mod entries;
 mod matching;
 mod measure;
 mod term;
