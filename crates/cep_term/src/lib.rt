@@ -6,6 +6,7 @@ mod binding;
 mod comparing;
 mod copying;
 mod entries;
+pub mod laws;
 mod matching;
 mod measure;
 mod term;
