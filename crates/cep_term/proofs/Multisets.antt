@@ -1,6 +1,6 @@
 -- Laws of multisets: what their edits, sums and differences do to counts, copies and nodes.
 use Rattle.std.proofs.Common.{◌≡◌, ℕ, ◌+◌, ◌-◌, ◌*◌, ◌<◌, ◌≤◌, Bool, true, false, cond, ◌==◌, ◌≢◌, List, [], ◌∷◌, Option, Some, None, unwrap_or, refl, sym, ap, subst, ◌∙◌, arith}
-use Rattle.std.specs.Prelude.{fold}
+use Rattle.std.specs.Prelude.{fold, sum_by, Result, Ok, Err, OnOk}
 use Rattle.std.specs.List.{AllByRecursion}
 use Rattle.std.proofs.lemmas.Bool.{eqb-true}
 use Rattle.std.proofs.lemmas.List.Sums.{sum_by-cons}
@@ -16,8 +16,8 @@ use Rattle.cep_term.specs.Order.{atom_cmp}
 use Rattle.cep_term.specs.Multiset.{Multiset, count_of, with_count, sum_of, difference_of, copies_in, nodes_in_all, IsContained, IsBag, IsEntry, IsRising, find_count, set_among}
 use Rattle.cep_term.proofs.OrderLaws.{atom_cmp_total, atom_cmp_ties}
 use Rattle.cep_term.proofs.Places.{Counted, below_rest, rest_rises}
-use Rattle.cep_term.proofs.Edits.{is_true, worth_of, worth_set, each_set, rising_set, bag_set, entries_rising, find_below}
-use Rattle.cep_term.proofs.Seen.{count_le_total}
+use Rattle.cep_term.proofs.Edits.{is_true, worth_of, worth_set, each_set, rising_set, bag_set, entries_rising, find_below, total}
+use Rattle.cep_term.proofs.Seen.{count_le_total, no_entries, empty_seen}
 
 -- the entries of a multiset rise, and are all that it is
 pub entries_rise : (bag : Multiset) → IsRising (finite.entries bag)
@@ -68,6 +68,19 @@ count_set_other bag a q n apart = count_set bag a q n ∙ ap (λ b. cond b n (co
 -- the multiset without atoms has no copy of any
 pub count_empty : (q : AtomTree) → count_of finite.empty q ≡ 0
 count_empty q = ap (λ o. unwrap_or o 0) (finite.get-empty atom_cmp q)
+
+-- and none at all, and so no nodes
+pub entries_empty : finite.entries (finite.empty {X = ℕ} {R = atom_cmp}) ≡ no_entries
+entries_empty = ap (λ z. finite.entries z) (sym empty_seen) ∙ entries_rising no_entries refl
+
+pub copies_empty : copies_in finite.empty ≡ 0
+copies_empty = ap total entries_empty
+
+pub nodes_empty : nodes_in_all finite.empty ≡ 0
+nodes_empty = ap (λ es. sum_by (λ e. e.1 * nodes_in e.0) es) entries_empty
+
+pub bag_empty : IsBag finite.empty
+bag_empty = subst (AllByRecursion IsEntry) (sym entries_empty) tt
 
 -- a fold that sets the count of each entry's atom by a rule sets it once, for an entry
 module _ (rule : ℕ → ℕ → ℕ) (unchanged : (n : ℕ) → rule n 0 ≡ n) where
@@ -176,3 +189,14 @@ copies_sum bag other = worth_sum (λ a n. n) (λ a. refl) (λ a n m. refl) (fini
 
 pub nodes_sum : (bag other : Multiset) → nodes_in_all (sum_of bag other) ≡ nodes_in_all bag + nodes_in_all other
 nodes_sum bag other = worth_sum (λ a n. n * nodes_in a) no_nodes (λ a n m. add-mul n m (nodes_in a)) (finite.entries other) bag
+
+-- what one copy more makes of a count and of the copies
+pub count_with_one : (bag : Multiset) (a : AtomTree) → count_of (with_count bag a (count_of bag a + 1)) a ≡ count_of bag a + 1
+count_with_one bag a = count_set_own bag a (count_of bag a + 1)
+
+pub copies_with_one : (bag : Multiset) (a : AtomTree) → copies_in (with_count bag a (count_of bag a + 1)) ≡ copies_in bag + 1
+copies_with_one bag a = omega (arith, copies_set_count bag a (count_of bag a + 1))
+
+pub copies_on_ok : {E : Type 0} (r : Result (Unit {0}) E) (old new : Multiset) (a : AtomTree) → OnOk r (new ≡ with_count old a (count_of old a + 1)) → OnOk r (copies_in new ≡ copies_in old + 1)
+copies_on_ok (Ok x) old new a e = ap (λ bag. copies_in bag) e ∙ copies_with_one old a
+copies_on_ok (Err error) old new a e = tt

@@ -51,7 +51,7 @@ kept_set es edited a n copies new kept known is sum = record {
   counted = let law = total_set es a n kept.rising in let same = ap total is in omega (arith, kept.counted);
 }
 
-abbrev no_entries : List Counted
+abbrev pub no_entries : List Counted
 no_entries = []
 
 -- the multiset of no entries

@@ -36,6 +36,9 @@ pub fn matches_are_least()
 /// What setting a count does to the counts, the copies and the nodes of a multiset.
 pub fn counts_are_set()
     ensures empty { (a : AtomTree) → count_of finite.empty a ≡ 0 }
+    ensures empty_copies { copies_in finite.empty ≡ 0 }
+    ensures empty_nodes { nodes_in_all finite.empty ≡ 0 }
+    ensures empty_kept { IsBag finite.empty }
     ensures own { (bag : Multiset) (a : AtomTree) (n : ℕ) → count_of (with_count bag a n) a ≡ n }
     ensures others { (bag : Multiset) (a q : AtomTree) (n : ℕ) → q ≢ a → count_of (with_count bag a n) q ≡ count_of bag q }
     ensures copies { (bag : Multiset) (a : AtomTree) (n : ℕ) → copies_in (with_count bag a n) + count_of bag a ≡ copies_in bag + n }

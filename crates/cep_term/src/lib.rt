@@ -19,3 +19,6 @@ pub use entries::Missing;
 pub use matching::meet;
 pub use measure::{depth, nodes};
 pub use term::{Args, Atom, MAX_DEPTH, MAX_NODES, Term};
+
+#[cfg(test)]
+mod tests;
