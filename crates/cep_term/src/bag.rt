@@ -108,7 +108,8 @@ impl Bag {
 
     /// The number of distinct atoms.
     pub fn len(&self) -> usize
-        ensures { result ≡ finite.len self.now }
+        ensures value { result ≡ finite.len self.now }
+        ensures kept { IsBag self.now }
     {
         self.entries.len()
     }

@@ -1,7 +1,7 @@
 ghost use Rattle.std.specs.Prelude.{◌≡◌, ◌<◌, length, replicate, slice_set, IfOk, IfSome, Some, None};
 ghost use Rattle.std.specs.Option.{option_map};
 ghost use Rattle.cep_term.specs.Tree.{atom_of, tree_of, trees_of, IsGround, IsGroundAtom};
-ghost use Rattle.cep_term.specs.Values.{value_of, values_of, instance_of, instances_of, instance_in, HasValues};
+ghost use Rattle.cep_term.specs.Values.{value_of, values_of, AreGroundValues, instance_of, instances_of, instance_in, HasValues};
 
 use crate::copying::copy_term;
 use crate::term::{Args, Atom, Term};
@@ -39,6 +39,14 @@ impl Binding {
             values.push(None)?;
         }
         Ok(Binding { values })
+    }
+
+    /// How many variables there are.
+    pub fn len(&self) -> usize
+        ensures value { result ≡ length self.now }
+        ensures known { AreGroundValues self.now }
+    {
+        self.values.len()
     }
 
     /// The value of the variable, and `None` exactly where it has none. It takes no memory.
