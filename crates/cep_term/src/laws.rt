@@ -18,19 +18,42 @@ pub fn order_is_total()
 
 /// What instances of ground atoms and of instances are, and on what an instance depends.
 pub fn instances_of_instances()
-    ensures of_known { (values : Values) (a : AtomTree) → IsGroundAtom a → instance_in values a ≡ a }
-    ensures twice { (first next both : Values) (a : AtomTree) → ((v : ℕ) → instance_of next (instance_of first (variable v)) ≡ instance_of both (variable v)) → instance_in next (instance_in first a) ≡ instance_in both a }
-    ensures later { (old new : Values) (a : AtomTree) → AreGroundValues old → Extends old new → instance_in new (instance_in old a) ≡ instance_in new a }
-    ensures alike { (x y : Values) (a : AtomTree) → ((v : ℕ) → OccursIn v a → value_of x v ≡ value_of y v) → instance_in x a ≡ instance_in y a }
-    ensures known { (values : Values) (a : AtomTree) → AreGroundValues values → HasValues values a → IsGroundAtom (instance_in values a) }
+    ensures of_known { (values : Values) (a : AtomTree)
+        → IsGroundAtom a
+        → instance_in values a ≡ a }
+    ensures twice { (first next both : Values) (a : AtomTree)
+        → ((v : ℕ) → instance_of next (instance_of first (variable v)) ≡ instance_of both (variable v))
+        → instance_in next (instance_in first a) ≡ instance_in both a }
+    ensures later { (old new : Values) (a : AtomTree)
+        → AreGroundValues old
+        → Extends old new
+        → instance_in new (instance_in old a) ≡ instance_in new a }
+    ensures alike { (x y : Values) (a : AtomTree)
+        → ((v : ℕ) → OccursIn v a → value_of x v ≡ value_of y v)
+        → instance_in x a ≡ instance_in y a }
+    ensures known { (values : Values) (a : AtomTree)
+        → AreGroundValues values
+        → HasValues values a
+        → IsGroundAtom (instance_in values a) }
 {}
 
 /// A pattern meets a ground atom with one choice of values, which every other choice that makes the
 /// two equal has too; and then it is not so that it never meets.
 pub fn matches_are_least()
-    ensures one { (old new other : Values) (pattern fact : AtomTree) → IsGroundAtom fact → Meets old new pattern fact → Meets old other pattern fact → new ≡ other }
-    ensures least { (old new values : Values) (pattern fact : AtomTree) → IsGroundAtom fact → Meets old new pattern fact → Extends old values → instance_in values pattern ≡ fact → Extends new values }
-    ensures not_both { (old new : Values) (pattern fact : AtomTree) → Meets old new pattern fact → ¬ (NeverMeets old pattern fact) }
+    ensures one { (old new other : Values) (pattern fact : AtomTree)
+        → IsGroundAtom fact
+        → Meets old new pattern fact
+        → Meets old other pattern fact
+        → new ≡ other }
+    ensures least { (old new values : Values) (pattern fact : AtomTree)
+        → IsGroundAtom fact
+        → Meets old new pattern fact
+        → Extends old values
+        → instance_in values pattern ≡ fact
+        → Extends new values }
+    ensures not_both { (old new : Values) (pattern fact : AtomTree)
+        → Meets old new pattern fact
+        → ¬ (NeverMeets old pattern fact) }
 {}
 
 /// What setting a count does to the counts, the copies and the nodes of a multiset.
@@ -40,27 +63,55 @@ pub fn counts_are_set()
     ensures empty_nodes { nodes_in_all finite.empty ≡ 0 }
     ensures empty_kept { IsBag finite.empty }
     ensures own { (bag : Multiset) (a : AtomTree) (n : ℕ) → count_of (with_count bag a n) a ≡ n }
-    ensures others { (bag : Multiset) (a q : AtomTree) (n : ℕ) → q ≢ a → count_of (with_count bag a n) q ≡ count_of bag q }
-    ensures copies { (bag : Multiset) (a : AtomTree) (n : ℕ) → copies_in (with_count bag a n) + count_of bag a ≡ copies_in bag + n }
-    ensures nodes { (bag : Multiset) (a : AtomTree) (n : ℕ) → nodes_in_all (with_count bag a n) + count_of bag a * nodes_in a ≡ nodes_in_all bag + n * nodes_in a }
-    ensures kept { (bag : Multiset) (a : AtomTree) (n : ℕ) → IsGroundAtom a → IsBag bag → IsBag (with_count bag a n) }
+    ensures others { (bag : Multiset) (a q : AtomTree) (n : ℕ)
+        → q ≢ a
+        → count_of (with_count bag a n) q ≡ count_of bag q }
+    ensures copies { (bag : Multiset) (a : AtomTree) (n : ℕ)
+        → copies_in (with_count bag a n) + count_of bag a ≡ copies_in bag + n }
+    ensures nodes { (bag : Multiset) (a : AtomTree) (n : ℕ)
+        → nodes_in_all (with_count bag a n) + count_of bag a * nodes_in a ≡ nodes_in_all bag + n * nodes_in a }
+    ensures kept { (bag : Multiset) (a : AtomTree) (n : ℕ)
+        → IsGroundAtom a
+        → IsBag bag
+        → IsBag (with_count bag a n) }
 {}
 
 /// The counts, the copies and the nodes of sums and differences.
 pub fn sums_and_differences()
-    ensures sum { (bag other : Multiset) (a : AtomTree) → count_of (sum_of bag other) a ≡ count_of bag a + count_of other a }
-    ensures difference { (bag other : Multiset) (a : AtomTree) → count_of (difference_of bag other) a ≡ count_of bag a - count_of other a }
-    ensures copies { (bag other : Multiset) → copies_in (sum_of bag other) ≡ copies_in bag + copies_in other }
-    ensures nodes { (bag other : Multiset) → nodes_in_all (sum_of bag other) ≡ nodes_in_all bag + nodes_in_all other }
-    ensures sum_kept { (bag other : Multiset) → IsBag bag → IsBag other → IsBag (sum_of bag other) }
-    ensures difference_kept { (bag other : Multiset) → IsBag bag → IsBag other → IsBag (difference_of bag other) }
+    ensures sum { (bag other : Multiset) (a : AtomTree)
+        → count_of (sum_of bag other) a ≡ count_of bag a + count_of other a }
+    ensures difference { (bag other : Multiset) (a : AtomTree)
+        → count_of (difference_of bag other) a ≡ count_of bag a - count_of other a }
+    ensures copies { (bag other : Multiset)
+        → copies_in (sum_of bag other) ≡ copies_in bag + copies_in other }
+    ensures nodes { (bag other : Multiset)
+        → nodes_in_all (sum_of bag other) ≡ nodes_in_all bag + nodes_in_all other }
+    ensures sum_kept { (bag other : Multiset)
+        → IsBag bag
+        → IsBag other
+        → IsBag (sum_of bag other) }
+    ensures difference_kept { (bag other : Multiset)
+        → IsBag bag
+        → IsBag other
+        → IsBag (difference_of bag other) }
 {}
 
 /// The counts say which multiset it is: sums and differences undo each other, and no count is above
 /// the number of copies.
 pub fn counts_decide()
-    ensures equal { (bag other : Multiset) → IsBag bag → IsBag other → ((a : AtomTree) → count_of bag a ≡ count_of other a) → bag ≡ other }
-    ensures taken_and_added { (bag other : Multiset) → IsBag bag → IsBag other → IsContained other bag → sum_of (difference_of bag other) other ≡ bag }
-    ensures added_and_taken { (bag other : Multiset) → IsBag bag → IsBag other → difference_of (sum_of bag other) other ≡ bag }
+    ensures equal { (bag other : Multiset)
+        → IsBag bag
+        → IsBag other
+        → ((a : AtomTree) → count_of bag a ≡ count_of other a)
+        → bag ≡ other }
+    ensures taken_and_added { (bag other : Multiset)
+        → IsBag bag
+        → IsBag other
+        → IsContained other bag
+        → sum_of (difference_of bag other) other ≡ bag }
+    ensures added_and_taken { (bag other : Multiset)
+        → IsBag bag
+        → IsBag other
+        → difference_of (sum_of bag other) other ≡ bag }
     ensures within { (bag : Multiset) (a : AtomTree) → count_of bag a ≤ copies_in bag }
 {}

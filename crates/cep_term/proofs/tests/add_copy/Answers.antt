@@ -1,7 +1,6 @@
-use Rattle.std.proofs.Common.{◌≡◌, ◌+◌, ◌<◌, ap, ◌∙◌, arith}
+use Rattle.std.proofs.Common.{arith}
 use Rattle.cep_term.specs.Tree.{atom_of}
-use Rattle.cep_term.specs.Multiset.{count_of, copies_in}
-use Rattle.cep_term.proofs.Multisets.{count_le_copies, copies_with_one, copies_on_ok}
+use Rattle.cep_term.proofs.Multisets.{count_le_copies, copies_on_ok}
 use Rattle.cep_term.proofs.tests.add_copy.Goals as goal
 
 pub add-requires-clause-few : goal.add-requires-clause-few
