@@ -1,5 +1,5 @@
 -- Laws of multisets: what their edits, sums and differences do to counts, copies and nodes.
-use Rattle.std.proofs.Common.{◌≡◌, ℕ, ◌+◌, ◌-◌, ◌*◌, ◌<◌, ◌≤◌, Bool, true, false, cond, ◌==◌, ◌≢◌, List, [], ◌∷◌, Option, Some, None, unwrap_or, refl, sym, ap, subst, ◌∙◌, arith}
+use Rattle.std.proofs.Common.{◌≡◌, ℕ, ◌+◌, ◌-◌, ◌*◌, ◌<◌, ◌≤◌, Bool, true, false, cond, ◌==◌, ◌≢◌, List, [], ◌∷◌, ◌++◌, Option, Some, None, unwrap_or, refl, sym, ap, subst, ◌∙◌, arith}
 use Rattle.std.specs.Prelude.{fold, sum_by, Result, Ok, Err, OnOk}
 use Rattle.std.specs.List.{AllByRecursion}
 use Rattle.std.proofs.lemmas.Bool.{eqb-true}
@@ -13,7 +13,7 @@ use Rattle.std.specs.FinMap as finite
 use Rattle.std.specs.FinMap.Entries.{find, below_all}
 use Rattle.cep_term.specs.Tree.{AtomTree, IsGroundAtom, nodes_in}
 use Rattle.cep_term.specs.Order.{atom_cmp}
-use Rattle.cep_term.specs.Multiset.{Multiset, count_of, with_count, sum_of, difference_of, copies_in, nodes_in_all, IsContained, IsBag, IsEntry, IsRising, find_count, set_among}
+use Rattle.cep_term.specs.Multiset.{Multiset, count_of, with_count, with_one, gathered, sum_of, difference_of, copies_in, nodes_in_all, IsContained, IsBag, IsEntry, IsRising, find_count, set_among}
 use Rattle.cep_term.proofs.OrderLaws.{atom_cmp_total, atom_cmp_ties}
 use Rattle.cep_term.proofs.Places.{Counted, below_rest, rest_rises}
 use Rattle.cep_term.proofs.Edits.{is_true, worth_of, worth_set, each_set, rising_set, bag_set, entries_rising, find_below, total}
@@ -200,3 +200,44 @@ copies_with_one bag a = omega (arith, copies_set_count bag a (count_of bag a + 1
 pub copies_on_ok : {E : Type 0} (r : Result (Unit {0}) E) (old new : Multiset) (a : AtomTree) → OnOk r (new ≡ with_count old a (count_of old a + 1)) → OnOk r (copies_in new ≡ copies_in old + 1)
 copies_on_ok (Ok x) old new a e = ap (λ bag. copies_in bag) e ∙ copies_with_one old a
 copies_on_ok (Err error) old new a e = tt
+
+-- sums may be taken in any order and grouping
+pub sum_commutes : (bag other : Multiset) → IsBag bag → IsBag other → sum_of bag other ≡ sum_of other bag
+sum_commutes bag other kept others = same_counts _ _ (bag_sum bag other kept others) (bag_sum other bag others kept) (λ q.
+    omega (arith, count_sum bag other q, count_sum other bag q))
+
+pub sum_groups : (x y z : Multiset) → IsBag x → IsBag y → IsBag z → sum_of (sum_of x y) z ≡ sum_of x (sum_of y z)
+sum_groups x y z p q r = same_counts _ _ (bag_sum (sum_of x y) z (bag_sum x y p q) r) (bag_sum x (sum_of y z) p (bag_sum y z q r)) (λ a.
+    omega (arith, count_sum (sum_of x y) z a, count_sum x y a, count_sum x (sum_of y z) a, count_sum y z a))
+
+-- one copy more of either part is one copy more of the sum
+pub sum_with_one : (bag other : Multiset) (a : AtomTree) → IsGroundAtom a → IsBag bag → IsBag other → sum_of (with_one bag a) other ≡ with_one (sum_of bag other) a
+sum_with_one bag other a known kept others =
+    let more = with_one bag a in
+    let all = sum_of bag other in
+    same_counts _ _ (bag_sum more other (bag_set_count bag a (count_of bag a + 1) known kept) others) (bag_set_count all a (count_of all a + 1) known (bag_sum bag other kept others)) (λ q.
+    count_sum more other q ∙ ap (λ n. n + count_of other q) (count_set bag a q (count_of bag a + 1))
+    ∙ by q (eq_by_cmp atom_cmp q a) refl
+    ∙ sym (count_set all a q (count_of all a + 1)))
+  where
+    tied_atoms : (q : AtomTree) → eq_by_cmp atom_cmp q a ≡ true → q ≡ a
+    tied_atoms q e = from (atom_cmp q a) refl e
+      where
+        from : (r : Ordering) → atom_cmp q a ≡ r → is_eq r ≡ true → q ≡ a
+        from Less p h = cc
+        from Equal p h = atom_cmp_ties q a p
+        from Greater p h = cc
+
+    by : (q : AtomTree) (b : Bool) → eq_by_cmp atom_cmp q a ≡ b → cond b (count_of bag a + 1) (count_of bag q) + count_of other q ≡ cond b (count_of (sum_of bag other) a + 1) (count_of (sum_of bag other) q)
+    by q true e = let same = tied_atoms q e in omega (arith, count_sum bag other a, ap (λ z. count_of other z) same)
+    by q false e = sym (count_sum bag other q)
+
+-- the multiset of a list of ground atoms, and of two lists together
+pub bag_gathered : (atoms : List AtomTree) → AllByRecursion IsGroundAtom atoms → IsBag (gathered atoms)
+bag_gathered [] all = bag_empty
+bag_gathered (a ∷ atoms) all = bag_set_count (gathered atoms) a (count_of (gathered atoms) a + 1) all.0 (bag_gathered atoms all.1)
+
+pub gathered-append : (xs ys : List AtomTree) → AllByRecursion IsGroundAtom xs → AllByRecursion IsGroundAtom ys → gathered (xs ++ ys) ≡ sum_of (gathered xs) (gathered ys)
+gathered-append [] ys p q = same_counts _ _ (bag_gathered ys q) (bag_sum finite.empty (gathered ys) bag_empty (bag_gathered ys q)) (λ a.
+    omega (arith, count_sum finite.empty (gathered ys) a, count_empty a))
+gathered-append (x ∷ xs) ys p q = ap (λ z. with_one z x) (gathered-append xs ys p.1 q) ∙ sym (sum_with_one (gathered xs) (gathered ys) x p.0 (bag_gathered xs p.1) (bag_gathered ys q))

@@ -1,5 +1,5 @@
 -- Multisets of atoms: for each atom that is there how many copies there are.
-use Rattle.std.specs.Prelude.{◌≡◌, ℕ, ◌+◌, ◌-◌, ◌*◌, ◌≤◌, ◌<◌, ◌==◌, if◌then◌else◌, List, map, fold, sum_by, unwrap_or, true, not}
+use Rattle.std.specs.Prelude.{◌≡◌, ℕ, ◌+◌, ◌-◌, ◌*◌, ◌≤◌, ◌<◌, ◌==◌, if◌then◌else◌, List, [], ◌∷◌, map, fold, sum_by, unwrap_or, true, not}
 use Rattle.std.specs.List.{AllByRecursion}
 use Rattle.std.specs.Ordering.{eq_by_cmp}
 use Rattle.std.specs.FinMap as finite
@@ -27,6 +27,11 @@ with_one bag a = with_count bag a (count_of bag a + 1)
 -- one copy of the atom less, where there is one
 abbrev pub without_one : Multiset → AtomTree → Multiset
 without_one bag a = with_count bag a (count_of bag a - 1)
+
+-- the multiset of a list of atoms, one copy for each time that one stands there
+abbrev pub gathered : List AtomTree → Multiset
+gathered [] = finite.empty
+gathered (a ∷ atoms) = with_one (gathered atoms) a
 
 -- the copies of both
 abbrev pub sum_of : Multiset → Multiset → Multiset

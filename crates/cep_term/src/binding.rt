@@ -8,8 +8,8 @@ use crate::term::{Args, Atom, Term};
 use std::alloc::{AllocError, Global};
 use std::marker::Model;
 
-/// The values of the variables of a rule or a clause: for each variable, by its number, a ground
-/// term or none.
+/// The values of the variables of a rule or a clause: for each variable, by its number from 0, a
+/// ground term or none. Ceptre's substitutions, as far as they are known.
 #[derive(Debug, Drop)]
 pub struct Binding {
     pub(crate) values: Vec<Option<Term>>,
@@ -68,7 +68,8 @@ impl Binding {
     }
 }
 
-/// The pattern with each variable replaced by its value. A variable without a value stays.
+/// The pattern with each variable replaced by its value, as Ceptre's rules are instantiated. A
+/// variable without a value stays. Only want of memory is refused.
 pub fn apply(alloc: Global, pattern: &Atom, values: &Binding) -> Result<Atom, AllocError>
     ensures value { IfOk result (λ a. atom_of a ≡ instance_in values.now (atom_of pattern.now)) }
     ensures known { HasValues values.now (atom_of pattern.now) → IfOk result (λ a. IsGroundAtom (atom_of a)) }

@@ -1,12 +1,13 @@
 //! Laws of terms, matching and multisets, for the crates that rest on them. Each function does
 //! nothing, and its contract is the law.
-ghost use Rattle.std.specs.Prelude.{◌≡◌, ℕ, ◌+◌, ◌-◌, ◌*◌, ◌≤◌, ◌≢◌};
+ghost use Rattle.std.specs.Prelude.{◌≡◌, ℕ, ◌+◌, ◌-◌, ◌*◌, ◌≤◌, ◌≢◌, List, ◌++◌};
+ghost use Rattle.std.specs.List.{AllByRecursion};
 ghost use Rattle.std.specs.Cmp.{IsTotalOrder};
 ghost use Rattle.std.specs.FinMap as finite;
 ghost use Rattle.cep_term.specs.Tree.{Tree, AtomTree, variable, IsGroundAtom, OccursIn, nodes_in};
 ghost use Rattle.cep_term.specs.Order.{tree_cmp, atom_cmp};
 ghost use Rattle.cep_term.specs.Values.{Values, value_of, instance_of, instance_in, AreGroundValues, HasValues, Extends, Meets, NeverMeets};
-ghost use Rattle.cep_term.specs.Multiset.{Multiset, count_of, with_count, sum_of, difference_of, copies_in, nodes_in_all, IsContained, IsBag};
+ghost use Rattle.cep_term.specs.Multiset.{Multiset, count_of, with_count, with_one, gathered, sum_of, difference_of, copies_in, nodes_in_all, IsContained, IsBag};
 
 /// The order of terms and of atoms is total, and only equal ones tie.
 pub fn order_is_total()
@@ -113,5 +114,30 @@ pub fn counts_decide()
         → IsBag bag
         → IsBag other
         → difference_of (sum_of bag other) other ≡ bag }
+    ensures sum_commutes { (bag other : Multiset)
+        → IsBag bag
+        → IsBag other
+        → sum_of bag other ≡ sum_of other bag }
+    ensures sum_groups { (x y z : Multiset)
+        → IsBag x
+        → IsBag y
+        → IsBag z
+        → sum_of (sum_of x y) z ≡ sum_of x (sum_of y z) }
     ensures within { (bag : Multiset) (a : AtomTree) → count_of bag a ≤ copies_in bag }
+{}
+
+/// The multiset of a list of ground atoms, and of two lists one behind the other.
+pub fn atoms_are_gathered()
+    ensures kept { (atoms : List AtomTree)
+        → AllByRecursion IsGroundAtom atoms
+        → IsBag (gathered atoms) }
+    ensures joined { (xs ys : List AtomTree)
+        → AllByRecursion IsGroundAtom xs
+        → AllByRecursion IsGroundAtom ys
+        → gathered (xs ++ ys) ≡ sum_of (gathered xs) (gathered ys) }
+    ensures one_more { (bag other : Multiset) (a : AtomTree)
+        → IsGroundAtom a
+        → IsBag bag
+        → IsBag other
+        → sum_of (with_one bag a) other ≡ with_one (sum_of bag other) a }
 {}
