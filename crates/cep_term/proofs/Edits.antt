@@ -11,8 +11,9 @@ use Rattle.std.specs.FinMap.Entries.{find, put, where_key, below_all, by_order, 
 use Rattle.std.specs.FinMap as finite
 use Rattle.cep_term.specs.Tree.{AtomTree, IsGroundAtom}
 use Rattle.cep_term.specs.Order.{atom_cmp}
-use Rattle.cep_term.specs.Multiset.{IsRising, IsEntry, find_count, set_among, with_count}
-use Rattle.cep_term.specs.Place.{IsAt, IsGapFor}
+use Rattle.cep_term.specs.Multiset.{IsEntry, with_count}
+use Rattle.cep_term.specs.Entries.{IsRising, find_count, set_among}
+use Rattle.cep_term.specs.Entries.{IsAt, IsGapFor}
 use Rattle.cep_term.proofs.OrderLaws.{atom_cmp_total, atom_cmp_ties}
 use Rattle.cep_term.proofs.Places.{Counted, below_rest, rest_rises, below_one, turned}
 

@@ -4,9 +4,10 @@ use Rattle.std.specs.List.{insert, remove, AllByRecursion}
 use Rattle.cep_term.specs.declared.entries.Entry.{Entry}
 use Rattle.cep_term.specs.Tree.{AtomTree, atom_of}
 use Rattle.cep_term.specs.Order.{atom_cmp}
-use Rattle.cep_term.specs.Multiset.{entry_of, entries_of, IsRising, IsEntry, find_count, set_among}
+use Rattle.cep_term.specs.Multiset.{IsEntry}
+use Rattle.cep_term.specs.Entries.{entry_of, entries_of, IsRising, find_count, set_among}
 use Rattle.std.specs.FinMap.Entries.{put}
-use Rattle.cep_term.specs.Place.{IsAt, IsGapFor}
+use Rattle.cep_term.specs.Entries.{IsAt, IsGapFor}
 use Rattle.cep_term.proofs.Edits.{on_count, find_at, find_gap, put_at, put_gap, remove_at, without}
 
 -- the atom of the entry at its place

@@ -13,7 +13,8 @@ use Rattle.std.specs.FinMap as finite
 use Rattle.std.specs.FinMap.Entries.{find, below_all}
 use Rattle.cep_term.specs.Tree.{AtomTree, IsGroundAtom, nodes_in}
 use Rattle.cep_term.specs.Order.{atom_cmp}
-use Rattle.cep_term.specs.Multiset.{Multiset, count_of, with_count, with_one, gathered, sum_of, difference_of, copies_in, nodes_in_all, IsContained, IsBag, IsEntry, IsRising, find_count, set_among}
+use Rattle.cep_term.specs.Multiset.{Multiset, count_of, with_count, with_one, gathered, sum_of, difference_of, copies_in, nodes_in_all, IsContained, IsBag, IsEntry}
+use Rattle.cep_term.specs.Entries.{IsRising, find_count, set_among}
 use Rattle.cep_term.proofs.OrderLaws.{atom_cmp_total, atom_cmp_ties}
 use Rattle.cep_term.proofs.Places.{Counted, below_rest, rest_rises}
 use Rattle.cep_term.proofs.Edits.{is_true, worth_of, worth_set, each_set, rising_set, bag_set, entries_rising, find_below, total}

@@ -10,7 +10,8 @@ use Rattle.std.specs.FinMap as finite
 use Rattle.std.specs.FinMap.Entries.{find, below_all}
 use Rattle.cep_term.specs.Tree.{AtomTree, IsGroundAtom}
 use Rattle.cep_term.specs.Order.{atom_cmp}
-use Rattle.cep_term.specs.Multiset.{Multiset, count_of, with_count, copies_in, IsContained, IsBag, IsEntry, IsRising, AreKept, find_count, set_among}
+use Rattle.cep_term.specs.Multiset.{Multiset, count_of, with_count, copies_in, IsContained, IsBag, IsEntry}
+use Rattle.cep_term.specs.Entries.{IsRising, AreKept, find_count, set_among}
 use Rattle.cep_term.proofs.OrderLaws.{atom_cmp_total, atom_cmp_ties}
 use Rattle.cep_term.proofs.Places.{Counted, below_rest, rest_rises}
 use Rattle.cep_term.proofs.Edits.{total, total-cons, total_set, rising_set, each_set, bag_set, entries_rising, get_rising, find_below}

@@ -4,4 +4,4 @@ pub mod Codes
 pub mod Values
 pub mod Matching
 pub mod Multiset
-pub mod Place
+pub mod Entries

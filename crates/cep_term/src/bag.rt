@@ -22,7 +22,8 @@ impl Model for Bag {
     ghost use Rattle.std.specs.Coded.{coded_ℕ};
     ghost use Rattle.std.specs.FinMap as finite;
     ghost use Rattle.cep_term.specs.Codes.{atom_code};
-    ghost use Rattle.cep_term.specs.Multiset.{Multiset, bag_of, entries_of, AreKept};
+    ghost use Rattle.cep_term.specs.Multiset.{Multiset};
+    ghost use Rattle.cep_term.specs.Entries.{bag_of, entries_of, AreKept};
 
     ghost Value = { Multiset };
 

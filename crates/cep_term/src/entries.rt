@@ -2,8 +2,9 @@
 ghost use Rattle.std.specs.Prelude.{◌≡◌, ◌-◌, ◌^◌, ◌<◌, ◌≤◌, ◌↔◌, length, IfOk, IfErr, OnOk, OnErr, IsErr, IsTrue};
 ghost use Rattle.std.specs.List.{AllByRecursion};
 ghost use Rattle.cep_term.specs.Tree.{atom_of};
-ghost use Rattle.cep_term.specs.Multiset.{entries_of, IsRising, IsEntry, AreCovered, find_count, one_more_among, one_less_among};
-ghost use Rattle.cep_term.specs.Place.{IsAt, IsGapFor};
+ghost use Rattle.cep_term.specs.Multiset.{IsEntry};
+ghost use Rattle.cep_term.specs.Entries.{entries_of, IsRising, AreCovered, find_count, one_more_among, one_less_among};
+ghost use Rattle.cep_term.specs.Entries.{IsAt, IsGapFor};
 
 use crate::comparing::order;
 use crate::copying::copy;

@@ -1,6 +1,6 @@
 use Rattle.std.proofs.Common.{◌≡◌, ◌+◌, ◌-◌, ◌^◌, ◌<◌, arith, sym, ap, ◌∙◌}
 use Rattle.cep_term.specs.Tree.{atom_of}
-use Rattle.cep_term.specs.Multiset.{entries_of, find_count}
+use Rattle.cep_term.specs.Entries.{entries_of, find_count}
 use Rattle.cep_term.proofs.EntryEdits.{count_at, count_gap, write_at, write_gap}
 use Rattle.cep_term.proofs.entries.add_copy.Goals as goal
 

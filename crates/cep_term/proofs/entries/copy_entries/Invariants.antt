@@ -1,5 +1,5 @@
 use Rattle.std.proofs.Common.{◌≡◌, take}
-use Rattle.cep_term.specs.Multiset.{entries_of}
+use Rattle.cep_term.specs.Entries.{entries_of}
 use Rattle.cep_term.proofs.entries.copy_entries.Given as goal
 
 abbrev pub invariant-loop-entry : goal.invariant-loop-entry

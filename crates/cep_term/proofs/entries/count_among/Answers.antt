@@ -1,6 +1,6 @@
 use Rattle.std.proofs.Common.{sym, ap, unwrap_or}
 use Rattle.cep_term.specs.Tree.{atom_of}
-use Rattle.cep_term.specs.Multiset.{entry_of}
+use Rattle.cep_term.specs.Entries.{entry_of}
 use Rattle.cep_term.proofs.Edits.{find_at, find_gap}
 use Rattle.cep_term.proofs.entries.count_among.Goals as goal
 

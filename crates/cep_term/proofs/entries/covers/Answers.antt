@@ -1,6 +1,6 @@
 use Rattle.std.proofs.Common.{◌≡◌, ◌≤◌, ap, ◌∙◌, arith}
 use Rattle.cep_term.specs.Tree.{atom_of}
-use Rattle.cep_term.specs.Multiset.{entry_of, entries_of, find_count}
+use Rattle.cep_term.specs.Entries.{entry_of, entries_of, find_count}
 use Rattle.cep_term.proofs.Seen.{all_at}
 use Rattle.cep_term.proofs.entries.covers.Goals as goal
 

@@ -1,5 +1,5 @@
 use Rattle.std.proofs.Common.{take}
-use Rattle.cep_term.specs.Multiset.{entries_of, AreCovered}
+use Rattle.cep_term.specs.Entries.{entries_of, AreCovered}
 use Rattle.cep_term.proofs.entries.covers.Given as goal
 
 abbrev pub invariant-loop-other : goal.invariant-loop-other

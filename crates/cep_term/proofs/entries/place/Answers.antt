@@ -1,7 +1,7 @@
 use Rattle.std.proofs.Common.{rules}
 use Rattle.std.proofs.lemmas.Fn.{always_returns_same}
 use Rattle.cep_term.specs.Tree.{atom_of}
-use Rattle.cep_term.specs.Multiset.{entry_of}
+use Rattle.cep_term.specs.Entries.{entry_of}
 use Rattle.cep_term.specs.Order.{atom_cmp}
 use Rattle.cep_term.proofs.Places.{searched}
 use Rattle.cep_term.proofs.entries.place.Goals as goal

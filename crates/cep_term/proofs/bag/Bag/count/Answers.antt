@@ -1,6 +1,6 @@
 use Rattle.std.proofs.Common.{◌∙◌, ap}
 use Rattle.cep_term.specs.Tree.{atom_of}
-use Rattle.cep_term.specs.Multiset.{entries_of, find_count}
+use Rattle.cep_term.specs.Entries.{entries_of, find_count}
 use Rattle.cep_term.proofs.Seen.{count_seen}
 use Rattle.cep_term.proofs.bag.Bag.count.Goals as goal
 

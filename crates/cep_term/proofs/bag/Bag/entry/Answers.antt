@@ -1,7 +1,7 @@
 use Rattle.std.proofs.Common.{◌<◌, ◌∙◌, Some, sym, ap, subst, refl}
 use Rattle.std.proofs.lemmas.List.{length-map}
 use Rattle.cep_term.specs.Tree.{atom_of}
-use Rattle.cep_term.specs.Multiset.{entry_of}
+use Rattle.cep_term.specs.Entries.{entry_of}
 use Rattle.cep_term.proofs.Seen.{get_seen, len_seen}
 use Rattle.cep_term.proofs.bag.Bag.entry.Goals as goal
 

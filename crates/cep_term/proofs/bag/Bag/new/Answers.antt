@@ -1,5 +1,5 @@
 use Rattle.std.proofs.Common.{◌∙◌, ap}
-use Rattle.cep_term.specs.Multiset.{bag_of}
+use Rattle.cep_term.specs.Entries.{bag_of}
 use Rattle.cep_term.proofs.Seen.{empty_seen}
 use Rattle.cep_term.proofs.bag.Bag.new.Goals as goal
 
