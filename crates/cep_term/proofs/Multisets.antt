@@ -191,10 +191,7 @@ copies_sum bag other = worth_sum (λ a n. n) (λ a. refl) (λ a n m. refl) (fini
 pub nodes_sum : (bag other : Multiset) → nodes_in_all (sum_of bag other) ≡ nodes_in_all bag + nodes_in_all other
 nodes_sum bag other = worth_sum (λ a n. n * nodes_in a) no_nodes (λ a n m. add-mul n m (nodes_in a)) (finite.entries other) bag
 
--- what one copy more makes of a count and of the copies
-pub count_with_one : (bag : Multiset) (a : AtomTree) → count_of (with_count bag a (count_of bag a + 1)) a ≡ count_of bag a + 1
-count_with_one bag a = count_set_own bag a (count_of bag a + 1)
-
+-- what one copy more makes of the copies
 pub copies_with_one : (bag : Multiset) (a : AtomTree) → copies_in (with_count bag a (count_of bag a + 1)) ≡ copies_in bag + 1
 copies_with_one bag a = omega (arith, copies_set_count bag a (count_of bag a + 1))
 
