@@ -1,0 +1,10 @@
+pub mod OrderLaws
+pub mod ValuesLaws
+pub mod MatchingSteps
+pub mod MatchingLaws
+pub mod Places
+pub mod Edits
+pub mod EntryEdits
+pub mod Seen
+pub mod Multisets
+pub mod Instances

@@ -1,0 +1,113 @@
+-- Terms and atoms as plain trees, without boxes; their sizes, and which of them are ground and fit.
+use Rattle.std.specs.Prelude.{◌≡◌, ℕ, ◌+◌, ◌<◌, ◌≤◌, ◌⊎◌, max}
+use Rattle.cep_term.specs.declared.term.Term.{Term}
+use Rattle.cep_term.specs.declared.term.Term.TheVariants.{Var, App'}
+use Rattle.cep_term.specs.declared.term.Args.{Args}
+use Rattle.cep_term.specs.declared.term.Args.TheVariants.{Nil, Cons'}
+use Rattle.cep_term.specs.declared.term.Atom.{Atom}
+use Rattle.cep_term.specs.declared.term.TheConstants.{MAX_NODES, MAX_DEPTH}
+
+mutual
+  -- a term: a variable by its number, or a constructor by its number with one term for each argument
+  pub data Tree : Type 0 where
+    variable : ℕ → Tree
+    node : ℕ → Trees → Tree
+
+  -- the arguments, in written order
+  pub data Trees : Type 0 where
+    none : Trees
+    more : Tree → Trees → Trees
+
+-- an atom: a predicate by its number, with one term for each argument
+pub record AtomTree : Type 0 where
+  pub pred : ℕ
+  pub args : Trees
+
+-- the tree of a term, and of a list of arguments
+abbrev mutual
+  pub tree_of : Term → Tree
+  tree_of (Var v) = variable v
+  tree_of (App' c p args) = node c (trees_of args)
+
+  pub trees_of : Args → Trees
+  trees_of Nil = none
+  trees_of (Cons' t p rest) = more (tree_of t) (trees_of rest)
+
+-- the tree of an atom
+abbrev pub atom_of : Atom → AtomTree
+atom_of a = record { pred = a.pred; args = trees_of a.args }
+
+-- There are no variables in the term, nor in any argument.
+abbrev mutual
+  pub IsGround : Tree → Type 0
+  IsGround (variable v) = ⊥
+  IsGround (node c args) = AreGround args
+
+  pub AreGround : Trees → Type 0
+  AreGround none = Unit {0}
+  AreGround (more t rest) = IsGround t × AreGround rest
+
+-- There are no variables in the atom.
+abbrev pub IsGroundAtom : AtomTree → Type 0
+IsGroundAtom a = AreGround a.args
+
+-- how many variables, constructors and predicates there are: a variable counts 1, and else the head counts 1
+abbrev mutual
+  pub nodes_of : Tree → ℕ
+  nodes_of (variable v) = 1
+  nodes_of (node c args) = 1 + nodes_among args
+
+  pub nodes_among : Trees → ℕ
+  nodes_among none = 0
+  nodes_among (more t rest) = nodes_of t + nodes_among rest
+
+-- how many nodes the atom has
+abbrev pub nodes_in : AtomTree → ℕ
+nodes_in a = 1 + nodes_among a.args
+
+-- how many levels there are: 1 without arguments, and else 1 more than the deepest argument
+abbrev mutual
+  pub depth_of : Tree → ℕ
+  depth_of (variable v) = 1
+  depth_of (node c args) = 1 + depth_among args
+
+  pub depth_among : Trees → ℕ
+  depth_among none = 0
+  depth_among (more t rest) = max (depth_of t) (depth_among rest)
+
+-- how many levels the atom has
+abbrev pub depth_in : AtomTree → ℕ
+depth_in a = 1 + depth_among a.args
+
+-- The atom is small enough to be kept in a state or a derivation.
+pub record IsFit (a : AtomTree) : Type 0 where
+  pub nodes : nodes_in a ≤ MAX_NODES
+  pub depth : depth_in a ≤ MAX_DEPTH
+
+-- The variable occurs in the term, or in some argument.
+abbrev mutual
+  pub Occurs : ℕ → Tree → Type 0
+  Occurs v (variable w) = v ≡ w
+  Occurs v (node c args) = OccursAmong v args
+
+  pub OccursAmong : ℕ → Trees → Type 0
+  OccursAmong v none = ⊥
+  OccursAmong v (more t rest) = Occurs v t ⊎ OccursAmong v rest
+
+-- The variable occurs in the atom.
+abbrev pub OccursIn : ℕ → AtomTree → Type 0
+OccursIn v a = OccursAmong v a.args
+
+-- Each variable of the term, or of the arguments, is one of so many, numbered from 0.
+abbrev mutual
+  pub IsInRange : ℕ → Tree → Type 0
+  IsInRange vars (variable v) = v < vars
+  IsInRange vars (node c args) = AreInRange vars args
+
+  pub AreInRange : ℕ → Trees → Type 0
+  AreInRange vars none = Unit {0}
+  AreInRange vars (more t rest) = IsInRange vars t × AreInRange vars rest
+
+-- Each variable of the atom is one of so many.
+abbrev pub IsAtomInRange : ℕ → AtomTree → Type 0
+IsAtomInRange vars a = AreInRange vars a.args

@@ -1,0 +1,113 @@
+ghost use Rattle.std.specs.Prelude.{◌≡◌, ◌<◌, length, replicate, slice_set, IfOk, IfSome, Some, None};
+ghost use Rattle.std.specs.Option.{option_map};
+ghost use Rattle.cep_term.specs.Tree.{atom_of, tree_of, trees_of, IsGround, IsGroundAtom};
+ghost use Rattle.cep_term.specs.Values.{value_of, values_of, AreGroundValues, instance_of, instances_of, instance_in, HasValues};
+
+use crate::copying::copy_term;
+use crate::term::{Args, Atom, Term};
+use std::alloc::{AllocError, Global};
+use std::marker::Model;
+
+/// The values of the variables of a rule or a clause: for each variable, by its number from 0, a
+/// ground term or none. Ceptre's substitutions, as far as they are known.
+#[derive(Debug, Drop)]
+pub struct Binding {
+    pub(crate) values: Vec<Option<Term>>,
+}
+
+impl Model for Binding {
+    ghost use Rattle.std.specs.Coded.{coded_list, coded_option};
+    ghost use Rattle.cep_term.specs.Codes.{tree_code};
+    ghost use Rattle.cep_term.specs.Values.{Values, values_of, AreGroundValues};
+
+    ghost Value = { Values };
+
+    ghost coded = { coded_list (coded_option tree_code) };
+
+    ghost view = { λ binding. values_of binding.values.items };
+
+    ghost invariant = { λ binding. AreGroundValues (values_of binding.values.items) };
+}
+
+impl Binding {
+    /// So many variables, numbered from 0, and none of them has a value.
+    pub fn empty(alloc: Global, vars: u32) -> Result<Binding, AllocError>
+        ensures { IfOk result (λ binding. binding ≡ replicate vars None) }
+    {
+        let mut values = Vec::new(alloc);
+        for made in 0..vars {
+            values.push(None)?;
+        }
+        Ok(Binding { values })
+    }
+
+    /// How many variables there are.
+    pub fn len(&self) -> usize
+        ensures value { result ≡ length self.now }
+        ensures known { AreGroundValues self.now }
+    {
+        self.values.len()
+    }
+
+    /// The value of the variable, and `None` exactly where it has none. It takes no memory.
+    pub fn get(&self, v: u32) -> Option<&Term>
+        requires { v < length self.now }
+        ensures value { option_map (λ t. tree_of t.now) result ≡ value_of self.now v }
+        ensures known { IfSome result (λ t. IsGround (tree_of t.now)) }
+    {
+        self.values[v as usize].as_ref()
+    }
+
+    /// Gives the variable this value, and leaves the others. It takes no memory.
+    pub fn set(&mut self, v: u32, t: Term)
+        requires in_range { v < length self.old }
+        requires known { IsGround (tree_of t) }
+        ensures { self.new ≡ slice_set self.old v (Some (tree_of t)) }
+    {
+        self.values[v as usize] = Some(t);
+    }
+}
+
+/// The pattern with each variable replaced by its value, as Ceptre's rules are instantiated. A
+/// variable without a value stays. Only want of memory is refused.
+pub fn apply(alloc: Global, pattern: &Atom, values: &Binding) -> Result<Atom, AllocError>
+    ensures value { IfOk result (λ a. atom_of a ≡ instance_in values.now (atom_of pattern.now)) }
+    ensures known { HasValues values.now (atom_of pattern.now) → IfOk result (λ a. IsGroundAtom (atom_of a)) }
+{
+    Ok(Atom {
+        pred: pattern.pred,
+        args: args_under(alloc, &pattern.args, &values.values)?,
+    })
+}
+
+// The term with each variable that has a value replaced by it.
+#[cycle(under)]
+fn term_under(alloc: Global, t: &Term, values: &[Option<Term>]) -> Result<Term, AllocError>
+    ensures { IfOk result (λ other. tree_of other ≡ instance_of (values_of values.now) (tree_of t.now)) }
+{
+    match t {
+        Term::Var(v) => match values.get(*v as usize) {
+            Some(Some(value)) => copy_term(alloc, value),
+            _ => Ok(Term::Var(*v)),
+        },
+        Term::App(c, args) => {
+            let args = args_under(alloc, args, values)?;
+            Ok(Term::App(*c, Box::new(alloc, args)?))
+        }
+    }
+}
+
+// The arguments with each variable that has a value replaced by it.
+#[cycle(under)]
+fn args_under(alloc: Global, args: &Args, values: &[Option<Term>]) -> Result<Args, AllocError>
+    ensures { IfOk result (λ others. trees_of others ≡ instances_of (values_of values.now) (trees_of args.now)) }
+{
+    match args {
+        Args::Nil => Ok(Args::Nil),
+        Args::Cons(t, rest) => {
+            let t = term_under(alloc, t, values)?;
+            let rest = args_under(alloc, rest, values)?;
+            Ok(Args::Cons(t, Box::new(alloc, rest)?))
+        }
+    }
+}

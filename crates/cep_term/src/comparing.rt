@@ -1,0 +1,50 @@
+ghost use Rattle.std.specs.Prelude.{◌≡◌, ◌↔◌, IsTrue};
+ghost use Rattle.cep_term.specs.Tree.{atom_of, tree_of, trees_of};
+ghost use Rattle.cep_term.specs.Order.{atom_cmp, tree_cmp, trees_cmp};
+
+use crate::term::{Args, Atom, Term};
+use std::cmp::Ordering;
+
+/// Whether the two atoms are equal as trees. It takes no memory.
+pub fn same(a: &Atom, b: &Atom) -> bool
+    ensures { IsTrue result ↔ (atom_of a.now ≡ atom_of b.now) }
+{
+    order(a, b).is_eq()
+}
+
+/// Compares two atoms by their predicate's number and then by their arguments from left to right;
+/// where one list of arguments ends first, it is less. The order is this profile's. It is of ground
+/// atoms; among others a variable stands before each other term. It takes no memory.
+pub fn order(a: &Atom, b: &Atom) -> Ordering
+    ensures { result ≡ atom_cmp (atom_of a.now) (atom_of b.now) }
+{
+    a.pred.cmp(&b.pred).then(order_args(&a.args, &b.args))
+}
+
+/// Compares two terms by their constructor's number and then by their arguments, as `order`.
+#[cycle(order)]
+pub fn order_term(a: &Term, b: &Term) -> Ordering
+    ensures { result ≡ tree_cmp (tree_of a.now) (tree_of b.now) }
+{
+    match (a, b) {
+        (Term::Var(v), Term::Var(w)) => v.cmp(w),
+        (Term::Var(_), Term::App(_, _)) => Ordering::Less,
+        (Term::App(_, _), Term::Var(_)) => Ordering::Greater,
+        (Term::App(c, args), Term::App(d, others)) => c.cmp(d).then(order_args(args, others)),
+    }
+}
+
+// Compares two lists of arguments from left to right.
+#[cycle(order)]
+fn order_args(a: &Args, b: &Args) -> Ordering
+    ensures { result ≡ trees_cmp (trees_of a.now) (trees_of b.now) }
+{
+    match (a, b) {
+        (Args::Nil, Args::Nil) => Ordering::Equal,
+        (Args::Nil, Args::Cons(_, _)) => Ordering::Less,
+        (Args::Cons(_, _), Args::Nil) => Ordering::Greater,
+        (Args::Cons(t, rest), Args::Cons(u, others)) => {
+            order_term(t, u).then(order_args(rest, others))
+        }
+    }
+}

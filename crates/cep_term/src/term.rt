@@ -1,0 +1,30 @@
+/// The most nodes that an atom of a state or a derivation may have. A limit of this profile.
+pub const MAX_NODES: u64 = 65_536;
+
+/// The most levels that an atom of a state or a derivation may have. A limit of this profile.
+pub const MAX_DEPTH: u64 = 512;
+
+/// A term: a variable by its number, or a constructor by its number with one term for each
+/// argument. Ceptre's first-order terms.
+#[derive(Debug, Drop)]
+#[cycle(term)]
+pub enum Term {
+    Var(u32),
+    App(u32, Box<Args>),
+}
+
+/// The arguments of a constructor or a predicate, in written order.
+#[derive(Debug, Drop)]
+#[cycle(term)]
+pub enum Args {
+    Nil,
+    Cons(Term, Box<Args>),
+}
+
+/// A predicate by its number, with one term for each argument. Ceptre's atoms; one without
+/// variables may stand in a state.
+#[derive(Debug, Drop)]
+pub struct Atom {
+    pub pred: u32,
+    pub args: Args,
+}
