@@ -1,5 +1,5 @@
 -- What a shelf holds, and what was asked of it.
-use Rattle.std.specs.Prelude.{◌≡◌, ℕ, ◌<◌, List, [], ◌∷◌, ◌++◌, length, Option, None, Some, IfSome, Result, Ok, Err}
+use Rattle.std.specs.Prelude.{◌≡◌, ℕ, ◌<◌, List, [], ◌∷◌, ◌++◌, length, Option, Some, IfSome, Result, Ok, Err}
 use Rattle.std.specs.Option.{option_map, IsSomeAnd}
 use Rattle.cep_base.specs.declared.shelf.ShelfFault.{ShelfFault}
 use Rattle.cep_base.specs.declared.shelf.ShelfFault.TheVariants.{Memory, Failed, TooLong}

@@ -1,5 +1,5 @@
 // The console: what the program writes to, and where its player's bytes come from.
-ghost use Rattle.std.specs.Prelude.{◌≡◌, ℕ, List, [], ◌∷◌, take, Option, IfOk, OnOk, OnErr};
+ghost use Rattle.std.specs.Prelude.{◌≡◌, ℕ, List, [], ◌∷◌, take, Option, IfOk, OnOk, OnErr, alloc_error};
 ghost use Rattle.cep_base.specs.declared.console.Event.{Event};
 ghost use Rattle.cep_base.specs.declared.console.ConsoleFault.TheVariants.{Memory};
 ghost use Rattle.cep_base.specs.Talk.{outs, heard, GoesOn, Takes, ConsoleCause};
@@ -55,5 +55,13 @@ impl From<AllocError> for ConsoleFault {
 
     fn from(error: AllocError) -> Self {
         ConsoleFault::Memory(error)
+    }
+}
+
+impl<T: Drop> From<AllocFailed<T>> for ConsoleFault {
+    ghost from_gives = { λ _ fault. fault ≡ Memory alloc_error };
+
+    fn from(_: AllocFailed<T>) -> Self {
+        ConsoleFault::Memory(AllocError)
     }
 }

@@ -2,20 +2,25 @@
 //! outside of the program as two traits, a console and a shelf of files, with fakes in memory.
 #![tactic(auto)]
 
-// mod calm_console;
+mod calls;
+mod calm_console;
 mod console;
-// mod memory_console;
-// mod memory_shelf;
+mod faults;
+mod memory_console;
+mod memory_shelf;
 mod name;
 mod place;
 mod shelf;
 mod steps;
+#[cfg(test)]
+mod tests;
 mod text;
 
-// pub use calm_console::CalmConsole;
+pub use calm_console::CalmConsole;
 pub use console::{Console, ConsoleFault, Event};
-// pub use memory_console::MemConsole;
-// pub use memory_shelf::MemShelf;
+pub use faults::FaultCount;
+pub use memory_console::MemConsole;
+pub use memory_shelf::MemShelf;
 pub use name::Name;
 pub use place::Pos;
 pub use shelf::{Shelf, ShelfFault};

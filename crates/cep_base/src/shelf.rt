@@ -1,9 +1,9 @@
 // The shelf: where the program's files are.
-ghost use Rattle.std.specs.Prelude.{◌≡◌, ℕ, ◌≤◌, List, length, Option, IfOk, IsErrOf};
-ghost use Rattle.cep_base.specs.declared.shelf.ShelfFault.TheVariants.{TooLong};
+ghost use Rattle.std.specs.Prelude.{◌≡◌, ℕ, ◌≤◌, List, length, Option, IfOk, IsErrOf, alloc_error};
+ghost use Rattle.cep_base.specs.declared.shelf.ShelfFault.TheVariants.{Memory, TooLong};
 ghost use Rattle.cep_base.specs.Files.{Files, HasFile, HasLongerFile, Asks, ShelfCause};
 
-use std::alloc::{AllocError, Global};
+use std::alloc::{AllocError, AllocFailed, Global};
 
 /// Why a file was not loaded: memory ran out, the file could not be read, or it has more bytes than
 /// were asked for.
@@ -33,4 +33,20 @@ pub trait Shelf {
         ensures same { files self.new ≡ files self.old }
         ensures asked { Asks (asked self.old) name.now (asked self.new) result }
         ensures cause { ShelfCause (faults self.old) (faults self.new) result };
+}
+
+impl From<AllocError> for ShelfFault {
+    ghost from_gives = { λ error fault. fault ≡ Memory error };
+
+    fn from(error: AllocError) -> Self {
+        ShelfFault::Memory(error)
+    }
+}
+
+impl<T: Drop> From<AllocFailed<T>> for ShelfFault {
+    ghost from_gives = { λ _ fault. fault ≡ Memory alloc_error };
+
+    fn from(_: AllocFailed<T>) -> Self {
+        ShelfFault::Memory(AllocError)
+    }
 }

@@ -1,6 +1,6 @@
 -- What the statuses of the command say.
-use Rattle.std.proofs.Common.{◌≡◌, ◌⊎◌, ℕ, ◌≤◌, List, [], ◌∷◌, length, get_or, map, refl, sym, ap, ◌∙◌, subst, inl, inr, lit<, arith, Option, None, Some, Result, Ok, Err}
-use Rattle.std.specs.Prelude.{IfSome, IfOk, String, Contains}
+use Rattle.std.proofs.Common.{◌≡◌, ℕ, ◌≤◌, List, [], ◌∷◌, length, get_or, refl, sym, subst, inl, inr, lit<, arith, Option, None, Some}
+use Rattle.std.specs.Prelude.{Contains}
 use Rattle.std.specs.Option.{IsSomeAnd}
 use Rattle.cep_base.specs.declared.console.Event.{Event}
 use Rattle.cep_base.specs.Files.{Files, HasFile}
@@ -10,10 +10,9 @@ use Rattle.cep_play.specs.declared.dialogue.EndWord.{EndWord}
 use Rattle.cep_play.specs.declared.dialogue.EndWord.TheVariants.{Quiet, Input, Turns, Offers, Typed, State}
 use Rattle.cep_play.specs.declared.thin.TheConstants.{MOST_TEXT}
 use Rattle.cep_play.specs.Program.{Program}
-use Rattle.cep_play.specs.Dialogue.{Ending, Dialogue}
 use Rattle.cep_play.specs.Turn.{EndsRun}
 use Rattle.cep_play.specs.Thin.{Spells}
-use Rattle.cep_play.specs.Command.{Says, OfFile, Plays, OfText, OfRun, OfWords, IsNoForm, Writes, usage, code_of, status_of}
+use Rattle.cep_play.specs.Command.{Says, OfFile, OfText, OfRun, OfWords, IsNoForm, Writes, usage, code_of, status_of}
 use Rattle.cep_play.proofs.Did.{did_map}
 
 -- a slice of two items

@@ -1,5 +1,5 @@
 -- How many copies a state has in all.
-use Rattle.std.proofs.Common.{◌≡◌, ℕ, ◌≤◌, List, length, sum, refl, sym, ◌∙◌, arith}
+use Rattle.std.proofs.Common.{◌≡◌, ℕ, List, length, sum, refl, sym, ◌∙◌, arith}
 use Rattle.std.specs.List.{range_with_len}
 use Rattle.std.proofs.lemmas.List.FromFn.{fill_by_all}
 use Rattle.std.proofs.lemmas.List.Sums.{sum-map, sum_by-le-sum_by}

@@ -8,6 +8,16 @@ pub mod LineLemmas
 pub mod LineRead
 pub mod NameSets
 pub mod Offers
+pub mod ReadDistinct
+pub mod ReadLaws
+pub mod ReadLines
+pub mod ReadLists
+pub mod ReadLiterals
+pub mod ReadLoops
+pub mod ReadNames
+pub mod ReadNumbers
+pub mod ReadRules
+pub mod ReadTexts
 pub mod Runs
 pub mod Steps
 pub mod Turns

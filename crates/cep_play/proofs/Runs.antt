@@ -1,10 +1,10 @@
 -- Turn after turn, what was said so far begins a talk.
-use Rattle.std.proofs.Common.{◌≡◌, ℕ, ◌+◌, ◌<◌, ◌≤◌, List, [], ◌++◌, length, refl, sym, ap, ◌∙◌, subst, append_assoc}
+use Rattle.std.proofs.Common.{◌≡◌, ℕ, ◌+◌, ◌<◌, List, [], ◌++◌, length, refl, sym, ap, ◌∙◌, subst, append_assoc}
 use Rattle.cep_base.specs.declared.console.Event.{Event}
 use Rattle.cep_base.specs.Talk.{outs}
 use Rattle.cep_play.specs.declared.dialogue.EndWord.{EndWord}
 use Rattle.cep_play.specs.declared.dialogue.EndWord.TheVariants.{Quiet, Turns}
-use Rattle.cep_play.specs.Bag.{Bag, bag_of, counted}
+use Rattle.cep_play.specs.Bag.{Bag, bag_of}
 use Rattle.cep_play.specs.Program.{Rule, Program, AreOffers}
 use Rattle.cep_play.specs.Lines.{end_lines, header}
 use Rattle.cep_play.specs.Dialogue as dialogue

@@ -1,5 +1,5 @@
 -- Each way through a turn is a case of a talk.
-use Rattle.std.proofs.Common.{◌≡◌, ◌⊎◌, ℕ, zero, suc, ◌+◌, ◌-◌, ◌<◌, ◌≤◌, List, [], ◌∷◌, ◌++◌, length, get_or, sum, refl, sym, ap, ◌∙◌, subst, arith, append_assoc, Option, None, Some, Bool, true, false, eqb}
+use Rattle.std.proofs.Common.{◌≡◌, ℕ, zero, suc, ◌+◌, ◌-◌, ◌<◌, ◌≤◌, List, [], ◌∷◌, ◌++◌, length, get_or, sum, refl, sym, ap, ◌∙◌, subst, arith, append_assoc, Option, None, Some, Bool, true, false, eqb}
 use Rattle.std.specs.Prelude.{slice_get, Contains, All}
 use Rattle.std.specs.Option.{IsSomeAnd}
 use Rattle.std.proofs.lemmas.List.{get_or_default, nil_from_length}
@@ -8,9 +8,9 @@ use Rattle.std.proofs.lemmas.Option.{slice_get_within, get_or_from_slice_get}
 use Rattle.cep_base.specs.declared.console.Event.{Event}
 use Rattle.cep_base.specs.Talk.{outs}
 use Rattle.cep_play.specs.declared.choice.Choice.{Choice}
-use Rattle.cep_play.specs.declared.choice.Choice.TheVariants.{Place, NoMore, NoRoom}
+use Rattle.cep_play.specs.declared.choice.Choice.TheVariants.{Place}
 use Rattle.cep_play.specs.declared.dialogue.EndWord.{EndWord}
-use Rattle.cep_play.specs.declared.dialogue.EndWord.TheVariants.{Quiet, Input, Turns, Typed}
+use Rattle.cep_play.specs.declared.dialogue.EndWord.TheVariants.{Quiet}
 use Rattle.cep_play.specs.declared.dialogue.TheConstants.{MOST_OFFERS}
 use Rattle.cep_play.specs.Bag.{Bag, IsContained, counted}
 use Rattle.cep_play.specs.Program.{Rule, Program, left_of, Applies, AreOffers, Step, Fits}

@@ -6,4 +6,5 @@ pub mod Lines
 pub mod Dialogue
 pub mod Turn
 pub mod Thin
+pub mod Reading
 pub mod Command

@@ -1,5 +1,5 @@
 -- A program of one interactive stage, which of its rules apply to a state, and what a step does.
-use Rattle.std.specs.Prelude.{◌≡◌, ℕ, ◌≤◌, List, ◌++◌, map, filter, length, Contains, slice_get, IsSomeAnd}
+use Rattle.std.specs.Prelude.{ℕ, ◌≤◌, List, ◌++◌, map, filter, length, Contains, slice_get, IsSomeAnd}
 use Rattle.std.specs.List.{sum_by, range_with_len}
 use Rattle.std.specs.List.Sorted.{IsStrictlyIncreasing}
 use Rattle.cep_play.specs.declared.program.Premise.{Premise}

@@ -9,6 +9,8 @@ mod lines;
 mod names;
 mod program;
 mod state;
+#[cfg(test)]
+mod tests;
 mod thin;
 mod typed;
 

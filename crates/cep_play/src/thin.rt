@@ -1,9 +1,18 @@
 // Reads the texts that are played today, and refuses all others.
-ghost use Rattle.std.specs.Prelude.{◌≤◌, length, IfOk, MatchOption};
+ghost use Rattle.std.specs.Prelude.{◌≡◌, ◌≤◌, ℕ, List, length, IfOk, MatchOption};
 ghost use Rattle.cep_play.specs.Program.{Program};
 ghost use Rattle.cep_play.specs.Thin.{Spells};
+ghost use Rattle.cep_play.specs.Reading.{Gives, program_at};
+
+mod atoms;
+mod fault;
+mod lines;
+mod rules;
+mod words;
 
 use crate::program::Program;
+use crate::thin::fault::ReadError;
+use cep_base::Name;
 use std::alloc::{AllocError, Global};
 
 /// The most bytes of a program's text.
@@ -32,6 +41,31 @@ pub fn read(alloc: Global, text: &[u8]) -> Result<Option<Program>, AllocError>
     requires { length text.now ≤ MOST_TEXT }
     ensures { IfOk result (λ read. MatchOption read ((program : Program) → Spells text.now program → ⊥) (λ program. Spells text.now program)) }
 {
-    let _bytes = Vec::from_slice(alloc, text)?;
-    Ok(None)
+    match program(alloc, text) {
+        Ok(program) => Ok(Some(program)),
+        Err(ReadError::Unread) => Ok(None),
+        Err(ReadError::Memory(error)) => Err(error),
+    }
 }
+
+/// The program that all of a text spells.
+#[tactic(auto, unfolding(crate::specs::Reading::program_at))]
+fn program(alloc: Global, text: &[u8]) -> Result<Program, ReadError>
+    ensures { Gives (λ program. program) result (program_at text.now) }
+{
+    let (atoms, rest) = atoms::declared(alloc, text)?;
+    let (stage, rules, rest) = lines::stage(alloc, &atoms, rest)?;
+    let rest = lines::interactive(stage, rest)?;
+    let (context, start, rest) = lines::context(alloc, &atoms, rest)?;
+    let rest = lines::trace(stage, context, rest)?;
+    if !rest.is_empty() {
+        return Err(ReadError::Unread);
+    }
+    let stage = Name::new(alloc, stage)?;
+    Ok(Program::new(atoms, stage, rules, start))
+}
+
+/// No text spells two programs.
+pub fn one_program()
+    ensures { (text : List ℕ) (p q : Program) → Spells text p → Spells text q → p ≡ q }
+{}

@@ -1,6 +1,5 @@
-use Rattle.std.proofs.Common.{◌+◌, ◌*◌, ◌≤◌, length, sum, refl, arith, subst, sym, ap, ◌∙◌, slice_index_or, ◌++◌, eqb}
+use Rattle.std.proofs.Common.{refl, arith, subst, sym, ap, ◌∙◌, ◌++◌, eqb}
 use Rattle.cep_play.specs.declared.dialogue.TheConstants.{TURNS}
-use Rattle.cep_play.specs.declared.dialogue.EndWord.TheVariants.{Quiet, Turns}
 use Rattle.cep_play.specs.Bag.{counted}
 use Rattle.cep_play.specs.Turn.{AreTurns}
 use Rattle.cep_play.proofs.Did.{did_same, did_map, did_then}

@@ -1,9 +1,6 @@
 use Rattle.std.proofs.lemmas.Result.{IfOk-weaker}
-use Rattle.std.proofs.Common.{◌++◌, length, refl, ap, ◌∙◌, [], subst}
-use Rattle.cep_base.specs.Talk.{outs}
-use Rattle.cep_play.specs.Choice.{Hears}
+use Rattle.std.proofs.Common.{◌++◌, ap, ◌∙◌}
 use Rattle.cep_play.specs.Lines.{question}
-use Rattle.cep_play.specs.Turn.{Asks}
 use Rattle.cep_play.proofs.Did.{did_put, did_then}
 use Rattle.cep_play.proofs.Turns.{asks_after}
 use Rattle.cep_play.proofs.dialogue.ask.Goals as goal

@@ -1,4 +1,4 @@
-use Rattle.std.proofs.Common.{ap, ◌∙◌, ℕ}
+use Rattle.std.proofs.Common.{ap, ◌∙◌}
 use Rattle.cep_play.specs.declared.dialogue.TheConstants.{HEIGHT, TURNS}
 use Rattle.cep_play.specs.Bag.{counted, bag_of}
 use Rattle.cep_play.proofs.Did.{did_then}

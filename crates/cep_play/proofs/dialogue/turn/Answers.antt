@@ -1,11 +1,11 @@
-use Rattle.std.proofs.Common.{◌+◌, ◌<◌, length, sum, refl, arith, subst, sym, ap, ◌∙◌}
-use Rattle.cep_play.specs.declared.choice.Choice.TheVariants.{Place, NoMore, NoRoom}
-use Rattle.cep_play.specs.declared.dialogue.EndWord.TheVariants.{Quiet, Input, Turns, Typed}
+use Rattle.std.proofs.Common.{refl, arith, subst, sym, ◌∙◌}
+use Rattle.cep_play.specs.declared.choice.Choice.TheVariants.{NoMore, NoRoom}
+use Rattle.cep_play.specs.declared.dialogue.EndWord.TheVariants.{Quiet, Input, Typed}
 use Rattle.cep_play.specs.Bag.{counted}
 use Rattle.cep_play.specs.Program.{AreOffers}
-use Rattle.cep_play.specs.Turn.{IsLastTurn, Asks}
+use Rattle.cep_play.specs.Turn.{IsLastTurn}
 use Rattle.cep_play.proofs.Did.{did_same, did_map, did_then}
-use Rattle.cep_play.proofs.Turns.{quiet_turn, unchosen_turn, done_turn, offers_known, offer_applies, none_offered, some_offered, stopped_turn, acted_turn, chosen_small}
+use Rattle.cep_play.proofs.Turns.{quiet_turn, offers_known, offer_applies, none_offered, some_offered, stopped_turn, acted_turn, chosen_small}
 use Rattle.cep_play.proofs.dialogue.turn.Goals as goal
 
 pub returns-then-is_empty-clause-done : goal.returns-then-is_empty-clause-done

@@ -1,4 +1,3 @@
-use Rattle.std.proofs.Common.{◌++◌, [], ◌∷◌}
 use Rattle.std.proofs.lemmas.Result.{on_ok_weaker}
 use Rattle.cep_play.specs.Bag.{counted}
 use Rattle.cep_play.proofs.LineLemmas.{header_done}

@@ -1,6 +1,4 @@
-use Rattle.std.proofs.Common.{◌++◌, [], slice_index_or, slice_index, length, refl, arith}
-use Rattle.std.specs.List.{flat_map, range_with_len}
-use Rattle.cep_play.specs.Bag.{counted}
+use Rattle.std.proofs.Common.{[], slice_index_or, slice_index, length, arith}
 use Rattle.cep_play.specs.Lines.{have_line, listing}
 use Rattle.cep_play.proofs.LineLemmas.{listing_next, listing_done}
 use Rattle.cep_play.proofs.lines.put_listing.Goals as goal

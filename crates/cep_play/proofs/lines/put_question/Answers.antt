@@ -1,7 +1,6 @@
-use Rattle.std.proofs.Common.{◌++◌, ◌+◌, [], length, refl, arith, get_or}
+use Rattle.std.proofs.Common.{refl, arith}
 use Rattle.std.proofs.lemmas.Result.{on_ok_weaker}
 use Rattle.std.proofs.lemmas.Option.{slice_get_read}
-use Rattle.cep_play.specs.Lines.{question}
 use Rattle.cep_play.proofs.LineLemmas.{offer_next, question_done}
 use Rattle.cep_play.proofs.lines.put_question.Goals as goal
 

@@ -1,0 +1,4 @@
+use Rattle.cep_play.proofs.tests.status.Given as goal
+
+abbrev pub ghosts-counted : goal.ghosts-counted
+ghosts-counted g a = record { name = a.ledger.name; parts = a.ledger.parts }
