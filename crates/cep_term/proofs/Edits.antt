@@ -1,12 +1,11 @@
 -- Edits of a list of entries at an atom's place, as edits of the counts.
-use Rattle.std.proofs.Common.{◌≡◌, ℕ, zero, suc, ◌+◌, ◌-◌, ◌<◌, ◌≤◌, Bool, true, false, cond, not, ◌&&◌, ◌==◌, List, [], ◌∷◌, ◌++◌, length, map, get_or, set, Option, Some, None, unwrap_or, refl, sym, ap, subst, ◌∙◌, inl, inr, arith}
+use Rattle.std.proofs.Common.{◌≡◌, ℕ, zero, suc, ◌+◌, ◌<◌, Bool, true, false, cond, not, ◌&&◌, ◌==◌, List, [], ◌∷◌, map, get_or, set, Some, None, unwrap_or, refl, sym, ap, subst, ◌∙◌, arith}
 use Rattle.std.specs.Prelude.{sum_by, T}
-use Rattle.std.specs.List.{insert, remove, AllByRecursion, filter}
+use Rattle.std.specs.List.{insert, remove, AllByRecursion}
 use Rattle.std.proofs.lemmas.Bool.{eqb-true, eqb-false}
 use Rattle.std.proofs.lemmas.List.Sums.{sum_by-cons}
-use Rattle.std.specs.declared.cmp.Ordering.{Ordering}
 use Rattle.std.specs.declared.cmp.Ordering.TheVariants.{Less, Equal, Greater}
-use Rattle.std.specs.Ordering.{is_eq, is_lt, ordering_reverse, eq_by_cmp}
+use Rattle.std.specs.Ordering.{is_eq, is_lt, eq_by_cmp}
 use Rattle.std.specs.Cmp.{tied_itself, alike_right, eq_by_cmp_equiv}
 use Rattle.std.specs.FinMap.Entries.{find, put, where_key, below_all, by_order, is_sorted-put, is_sorted-where_key, find-put, find-where_key}
 use Rattle.std.specs.FinMap as finite
@@ -142,7 +141,7 @@ each_set es a n known all = on_count (AllByRecursion IsEntry) n (without a es) (
 abbrev pub total : List Counted → ℕ
 total es = sum_by (λ e. e.1) es
 
-total-cons : (e : Counted) (es : List Counted) → total (e ∷ es) ≡ e.1 + total es
+pub total-cons : (e : Counted) (es : List Counted) → total (e ∷ es) ≡ e.1 + total es
 total-cons e es = sum_by-cons (λ (d : Counted). d.1) e es
 
 -- a count that is set takes the place of the old one in the sum
@@ -170,7 +169,7 @@ total_without (e ∷ es) a rising =
 
 pub total_set : (es : List Counted) (a : AtomTree) (n : ℕ) → IsRising es → total (set_among es a n) + find_count es a ≡ total es + n
 total_set es a n rising = on_count (λ z. total z + find_count es a ≡ total es + n) n (without a es) (put atom_cmp a n es)
-  (λ e. omega (arith, total_without es a rising)) (λ some. total_put es a n rising)
+    (λ e. omega (arith, total_without es a rising)) (λ some. total_put es a n rising)
 
 -- what stands in the multiset of a rising list
 pub entries_rising : (es : List Counted) → IsRising es → finite.entries (finite.from_sorted {R = atom_cmp} es) ≡ es
@@ -186,15 +185,15 @@ swapped false x y = refl
 get_without : (es : List Counted) (a q : AtomTree) → find atom_cmp q (without a es) ≡ cond (eq_by_cmp atom_cmp q a) None (find atom_cmp q es)
 get_without es a q =
     find-where_key atom_cmp (λ b. not (eq_by_cmp atom_cmp a b)) q (λ x tie. ap (λ r. not (is_eq r)) (sym (alike_right atom_cmp_total q x a tie))) es
-      ∙ swapped (eq_by_cmp atom_cmp a q) (find atom_cmp q es) None ∙ ap (λ b. cond b None (find atom_cmp q es)) ((eq_by_cmp_equiv atom_cmp_total).symm a q)
+    ∙ swapped (eq_by_cmp atom_cmp a q) (find atom_cmp q es) None ∙ ap (λ b. cond b None (find atom_cmp q es)) ((eq_by_cmp_equiv atom_cmp_total).symm a q)
 
 -- to set a count among the entries is to set it in the multiset
 pub bag_set : (es : List Counted) (a : AtomTree) (n : ℕ) → IsRising es → finite.from_sorted {R = atom_cmp} (set_among es a n) ≡ with_count (finite.from_sorted es) a n
 bag_set es a n rising = elim (n == 0) as (λ b. finite.from_sorted {R = atom_cmp} (cond b (without a es) (put atom_cmp a n es)) ≡ cond b (finite.remove (finite.from_sorted es) a) (finite.insert (finite.from_sorted es) a n)) [
   | true ↦ finite.same_map atom_cmp_total atom_cmp_ties _ _ (λ q.
       get_rising (without a es) q (rising_without es a rising) ∙ get_without es a q
-        ∙ sym (finite.get-remove atom_cmp_total (finite.from_sorted es) a q ∙ ap (cond (eq_by_cmp atom_cmp q a) None) (get_rising es q rising)))
+      ∙ sym (finite.get-remove atom_cmp_total (finite.from_sorted es) a q ∙ ap (cond (eq_by_cmp atom_cmp q a) None) (get_rising es q rising)))
   | false ↦ finite.same_map atom_cmp_total atom_cmp_ties _ _ (λ q.
       get_rising (put atom_cmp a n es) q (rising_put es a n rising) ∙ find-put atom_cmp atom_cmp_total q a n es
-        ∙ sym (finite.get-insert atom_cmp_total (finite.from_sorted es) a n q ∙ ap (cond (eq_by_cmp atom_cmp q a) (Some n)) (get_rising es q rising)))
+      ∙ sym (finite.get-insert atom_cmp_total (finite.from_sorted es) a n q ∙ ap (cond (eq_by_cmp atom_cmp q a) (Some n)) (get_rising es q rising)))
 ]

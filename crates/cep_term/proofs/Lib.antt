@@ -5,3 +5,4 @@ pub mod MatchingLaws
 pub mod Places
 pub mod Edits
 pub mod EntryEdits
+pub mod Seen

@@ -1,5 +1,5 @@
 // Lists of entries whose atoms rise.
-ghost use Rattle.std.specs.Prelude.{◌≡◌, ◌+◌, ◌-◌, ◌^◌, ◌<◌, ◌≤◌, ◌↔◌, length, IfOk, IfErr, OnOk, OnErr, IsErr};
+ghost use Rattle.std.specs.Prelude.{◌≡◌, ◌+◌, ◌-◌, ◌^◌, ◌<◌, ◌≤◌, ◌↔◌, length, IfOk, IfErr, OnOk, OnErr, IsErr, IsTrue};
 ghost use Rattle.std.specs.List.{AllByRecursion};
 ghost use Rattle.cep_term.specs.Tree.{atom_of};
 ghost use Rattle.cep_term.specs.Multiset.{entries_of, IsRising, IsEntry, find_count, set_among};
@@ -83,4 +83,30 @@ pub fn take_copy(entries: &mut Vec<Entry>, a: &Atom) -> Result<(), Missing>
         }
         Err(_) => Err(Missing),
     }
+}
+
+// Whether no count of the others is greater than the count of the same atom here.
+pub fn covers(entries: &[Entry], others: &[Entry]) -> bool
+    requires { IsRising (entries_of entries.now) }
+    ensures { IsTrue result ↔ AllByRecursion (λ e. e.1 ≤ find_count (entries_of entries.now) e.0) (entries_of others.now) }
+{
+    for other in others {
+        if count_among(entries, &other.atom) < other.count {
+            return false;
+        }
+    }
+    true
+}
+
+// Entries of the same atoms with the same counts.
+pub fn copy_entries(alloc: Global, entries: &[Entry]) -> Result<Vec<Entry>, AllocError>
+    ensures { IfOk result (λ copies. entries_of copies.items ≡ entries_of entries.now) }
+{
+    let mut copies = Vec::new(alloc);
+    for entry in entries {
+        let atom = Box::new(alloc, copy(alloc, &entry.atom)?)?;
+        let count = entry.count;
+        copies.push(Entry { atom, count })?;
+    }
+    Ok(copies)
 }

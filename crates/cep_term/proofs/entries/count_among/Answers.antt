@@ -1,4 +1,4 @@
-use Rattle.std.proofs.Common.{◌∙◌, sym, ap, unwrap_or}
+use Rattle.std.proofs.Common.{sym, ap, unwrap_or}
 use Rattle.cep_term.specs.Tree.{atom_of}
 use Rattle.cep_term.specs.Multiset.{entry_of}
 use Rattle.cep_term.proofs.Edits.{find_at, find_gap}

@@ -1,4 +1,4 @@
-use Rattle.std.proofs.Common.{◌≡◌, ◌-◌, ◌<◌, arith, refl, sym, ap, ◌∙◌}
+use Rattle.std.proofs.Common.{◌-◌, arith, refl, sym, ap}
 use Rattle.cep_term.specs.Tree.{atom_of}
 use Rattle.cep_term.proofs.EntryEdits.{count_at, count_at_some, count_gap, write_at, drop_at, not_missing}
 use Rattle.cep_term.proofs.entries.take_copy.Goals as goal

@@ -1,0 +1,148 @@
+-- What the entries of a bag say of the multiset that they stand for.
+use Rattle.std.proofs.Common.{◌≡◌, ℕ, zero, suc, ◌+◌, ◌-◌, ◌<◌, ◌≤◌, Bool, true, false, cond, ◌==◌, List, [], ◌∷◌, length, map, get_or, Some, unwrap_or, ◌↔◌, refl, sym, ap, subst, ◌∙◌, arith}
+use Rattle.std.specs.Prelude.{slice_get}
+use Rattle.std.proofs.lemmas.Bool.{eqb-true, eq-eqb}
+use Rattle.std.specs.List.{AllByRecursion}
+use Rattle.std.specs.declared.cmp.Ordering.TheVariants.{Less, Equal, Greater}
+use Rattle.std.specs.Ordering.{is_eq}
+use Rattle.std.specs.Cmp.{tied_itself}
+use Rattle.std.specs.FinMap as finite
+use Rattle.std.specs.FinMap.Entries.{find, below_all}
+use Rattle.cep_term.specs.Tree.{AtomTree, IsGroundAtom}
+use Rattle.cep_term.specs.Order.{atom_cmp}
+use Rattle.cep_term.specs.Multiset.{Multiset, count_of, with_count, copies_in, IsContained, IsBag, IsEntry, IsRising, AreKept, find_count, set_among}
+use Rattle.cep_term.proofs.OrderLaws.{atom_cmp_total, atom_cmp_ties}
+use Rattle.cep_term.proofs.Places.{Counted, below_rest, rest_rises}
+use Rattle.cep_term.proofs.Edits.{total, total-cons, total_set, rising_set, each_set, bag_set, entries_rising, get_rising, find_below}
+
+module _ (es : List Counted) (bag : Multiset) (rising : IsRising es) (seen : finite.from_sorted es ≡ bag) where
+  pub entries_seen : finite.entries bag ≡ es
+  entries_seen = ap (λ z. finite.entries z) (sym seen) ∙ entries_rising es rising
+
+  pub count_seen : (a : AtomTree) → find_count es a ≡ count_of bag a
+  count_seen a = ap (λ o. unwrap_or o 0) (sym (get_rising es a rising)) ∙ ap (λ z. count_of z a) seen
+
+  pub copies_seen : total es ≡ copies_in bag
+  copies_seen = ap total (sym entries_seen)
+
+  pub kept_seen : AllByRecursion IsEntry es → IsBag bag
+  kept_seen each = subst (AllByRecursion IsEntry) (sym entries_seen) each
+
+  pub len_seen : length es ≡ finite.len bag
+  len_seen = ap length (sym entries_seen) ∙ sym (finite.len-entries bag)
+
+  -- an edit of the entries, seen as one of the multiset
+  pub set_seen : (a : AtomTree) (n m : ℕ) (edited : List Counted) → edited ≡ set_among es a n → n ≡ m → finite.from_sorted edited ≡ with_count bag a m
+  set_seen a n m edited is same = ap (λ z. finite.from_sorted z) is ∙ bag_set es a n rising ∙ ap (λ z. with_count z a n) seen ∙ ap (with_count bag a) same
+
+  pub get_seen : {E : Type 0} (f : E → Counted) (xs : List E) (i : ℕ) (x : E) → es ≡ map f xs → i < length xs → x ≡ get_or xs i x → slice_get (finite.entries bag) i ≡ Some (f x)
+  get_seen f xs i x is lt at = ap (λ z. slice_get z i) (entries_seen ∙ is) ∙ by xs i x lt at
+    where
+      by : (ys : List _) (j : ℕ) (y : _) → j < length ys → y ≡ get_or ys j y → slice_get (map f ys) j ≡ Some (f y)
+      by [] j y l e = absurd (omega arith)
+      by (z ∷ ys) zero y l e = ap (λ w. Some (f w)) (sym e)
+      by (z ∷ ys) (suc j) y l e = by ys j y (omega arith) e
+
+-- what always holds of the entries holds after an edit, where the copies are counted along
+pub kept_set : (es edited : List Counted) (a : AtomTree) (n copies new : ℕ) → AreKept es copies → IsGroundAtom a → edited ≡ set_among es a n → new + find_count es a ≡ copies + n → AreKept edited new
+kept_set es edited a n copies new kept known is sum = record {
+  rising = subst IsRising (sym is) (rising_set es a n kept.rising);
+  each = subst (AllByRecursion IsEntry) (sym is) (each_set es a n known kept.each);
+  counted = let law = total_set es a n kept.rising in let same = ap total is in omega (arith, kept.counted);
+}
+
+abbrev no_entries : List Counted
+no_entries = []
+
+-- the multiset of no entries
+pub empty_seen : finite.from_sorted {R = atom_cmp} no_entries ≡ finite.empty
+empty_seen = finite.empty_of_len (finite.from_sorted no_entries) (finite.len-entries (finite.from_sorted no_entries) ∙ ap length (entries_rising no_entries refl))
+
+-- an atom that is there is ground
+pub ground_there : (es : List Counted) (a : AtomTree) → AllByRecursion IsEntry es → ¬ (find_count es a ≡ 0) → IsGroundAtom a
+ground_there [] a all there = absurd (there refl)
+ground_there (e ∷ es) a all there =
+    elim (atom_cmp a e.0) as (λ r. atom_cmp a e.0 ≡ r → ¬ (unwrap_or (cond (is_eq r) (Some e.1) (find atom_cmp a es)) 0 ≡ 0) → IsGroundAtom a) [
+      | Less ↦ λ _ more. ground_there es a all.1 more
+      | Equal ↦ λ same more. subst IsGroundAtom (sym (atom_cmp_ties a e.0 same)) all.0.1
+      | Greater ↦ λ _ more. ground_there es a all.1 more
+    ] refl there
+
+-- there is no entry exactly in the empty multiset
+pub empty_seen_back : (es : List Counted) (bag : Multiset) (n : ℕ) (result : Bool) → IsRising es → finite.from_sorted es ≡ bag → n ≡ length es → result ≡ (n == 0) → (result ≡ true) ↔ (bag ≡ finite.empty)
+empty_seen_back es bag n result rising seen is e =
+    let long = len_seen es bag rising seen in (
+      λ yes. let none : n ≡ 0 = eqb-true n 0 (sym e ∙ yes) in finite.empty_of_len bag (omega arith),
+      λ empty. e ∙ eq-eqb n 0 (is ∙ long ∙ ap (λ z. finite.len z) empty ∙ finite.len-empty atom_cmp ℕ),
+    )
+
+-- a fact of each entry, at one of them
+pub all_at : {E : Type 0} (P : Counted → Type 0) (f : E → Counted) (xs : List E) (i : ℕ) (x : E) → AllByRecursion P (map f xs) → i < length xs → x ≡ get_or xs i x → P (f x)
+all_at P f [] i x all lt is = absurd (omega arith)
+all_at P f (y ∷ xs) zero x all lt is = subst (λ z. P (f z)) (sym is) all.0
+all_at P f (y ∷ xs) (suc i) x all lt is = all_at P f xs i x all.1 (omega arith) is
+
+-- the counts of a list are at most others where each entry's is
+counts_from_entries : (others : List Counted) (count : AtomTree → ℕ) (a : AtomTree) → AllByRecursion (λ e. e.1 ≤ count e.0) others → find_count others a ≤ count a
+counts_from_entries [] count a all = omega arith
+counts_from_entries (e ∷ others) count a all =
+    elim (atom_cmp a e.0) as (λ r. atom_cmp a e.0 ≡ r → unwrap_or (cond (is_eq r) (Some e.1) (find atom_cmp a others)) 0 ≤ count a) [
+      | Less ↦ λ _. counts_from_entries others count a all.1
+      | Equal ↦ λ same. subst (λ b. e.1 ≤ count b) (sym (atom_cmp_ties a e.0 same)) all.0
+      | Greater ↦ λ _. counts_from_entries others count a all.1
+    ] refl
+
+-- a longer list has each count of the rest, or more
+rest_counts : (e : Counted) (others : List Counted) (a : AtomTree) → IsRising (e ∷ others) → find_count others a ≤ find_count (e ∷ others) a
+rest_counts e others a rising =
+    elim (atom_cmp a e.0) as (λ r. atom_cmp a e.0 ≡ r → find_count others a ≤ unwrap_or (cond (is_eq r) (Some e.1) (find atom_cmp a others)) 0) [
+      | Less ↦ λ _. omega arith
+      | Equal ↦ λ same.
+          let none : find_count others a ≡ 0 = ap (λ o. unwrap_or o 0) (find_below a others (subst (λ b. below_all atom_cmp b others ≡ true) (sym (atom_cmp_ties a e.0 same)) (below_rest e others rising))) in
+          omega (arith, none)
+      | Greater ↦ λ _. omega arith
+    ] refl
+
+entries_from_counts : (others : List Counted) (count : AtomTree → ℕ) → IsRising others → ((a : AtomTree) → find_count others a ≤ count a) → AllByRecursion (λ e. e.1 ≤ count e.0) others
+entries_from_counts [] count rising all = tt
+entries_from_counts (e ∷ others) count rising all =
+    let first : find_count (e ∷ others) e.0 ≡ e.1 = ap (λ r. unwrap_or (cond (is_eq r) (Some e.1) (find atom_cmp e.0 others)) 0) (tied_itself atom_cmp_total e.0) in
+    (omega (arith, all e.0, first), entries_from_counts others count (rest_rises e others rising) (λ a. omega (arith, rest_counts e others a rising, all a)))
+
+-- so one bag is contained in another exactly where the other's entries have no greater count
+pub contained_seen : (result : Bool) (es others : List Counted) (bag other : Multiset) → IsRising es → IsRising others → finite.from_sorted es ≡ bag → finite.from_sorted others ≡ other
+    → (result ≡ true) ↔ AllByRecursion (λ e. e.1 ≤ find_count es e.0) others → (result ≡ true) ↔ IsContained other bag
+contained_seen result es others bag other rising others_rising seen other_seen is = (
+  λ yes a. let h = counts_from_entries others (find_count es) a (is.0 yes) in omega (arith, count_seen es bag rising seen a, count_seen others other others_rising other_seen a),
+  λ contained. is.1 (entries_from_counts others (find_count es) others_rising (λ a. let h = contained a in omega (arith, count_seen es bag rising seen a, count_seen others other others_rising other_seen a))),
+)
+
+-- where a copy was not missing, there is one
+some_copy_there : (n : ℕ) → (false ≡ true) ↔ (n ≡ 0) → 0 < n
+some_copy_there zero is = let no = is.1 refl in cc
+some_copy_there (suc n) is = omega arith
+
+-- no count is above the sum of them all
+count_le_total : (es : List Counted) (a : AtomTree) → find_count es a ≤ total es
+count_le_total [] a = omega arith
+count_le_total (e ∷ es) a =
+    elim (atom_cmp a e.0) as (λ r. unwrap_or (cond (is_eq r) (Some e.1) (find atom_cmp a es)) 0 ≤ total (e ∷ es)) [
+      | Less ↦ omega (arith, total-cons e es, count_le_total es a)
+      | Equal ↦ omega (arith, total-cons e es)
+      | Greater ↦ omega (arith, total-cons e es, count_le_total es a)
+    ]
+
+pub some_copy : (es : List Counted) (a : AtomTree) (copies : ℕ) → AreKept es copies → (false ≡ true) ↔ (find_count es a ≡ 0) → 1 ≤ copies
+some_copy es a copies kept is = omega (arith, some_copy_there (find_count es a) is, count_le_total es a, kept.counted)
+
+-- what always holds of the entries holds after one copy is taken
+pub kept_taken : (es edited : List Counted) (a : AtomTree) (copies : ℕ) → AreKept es copies → (false ≡ true) ↔ (find_count es a ≡ 0) → edited ≡ set_among es a (find_count es a - 1) → AreKept edited (copies - 1)
+kept_taken es edited a copies kept is e =
+    let some = some_copy_there (find_count es a) is in
+    let below = count_le_total es a in
+    let all = kept.counted in
+    kept_set es edited a (find_count es a - 1) copies (copies - 1) kept (ground_there es a kept.each (λ none. omega arith)) e (omega arith)
+
+-- an answer that stands with one count stands with an equal one
+pub on_same_count : (b : Bool) (n m : ℕ) → n ≡ m → (b ≡ true) ↔ (n ≡ 0) → (b ≡ true) ↔ (m ≡ 0)
+on_same_count b n m e is = (λ yes. sym e ∙ is.0 yes, λ none. is.1 (e ∙ none))

@@ -1,0 +1,131 @@
+ghost use Rattle.std.specs.Prelude.{◌≡◌, ◌^◌, ◌-◌, ◌<◌, ◌↔◌, IfOk, OnOk, OnErr, IsErr, IsTrue, Some, slice_get};
+ghost use Rattle.std.specs.FinMap as finite;
+ghost use Rattle.cep_term.specs.Tree.{atom_of, IsGroundAtom};
+ghost use Rattle.cep_term.specs.Multiset.{count_of, with_one, without_one, copies_in, IsContained, IsBag};
+
+use crate::entries::{Entry, Missing, add_copy, copy_entries, count_among, covers, take_copy};
+use crate::term::Atom;
+use std::alloc::{AllocError, Global};
+use std::marker::Model;
+
+/// A multiset of ground atoms, as Ceptre's states are. The entries stand in the order of their
+/// atoms, so an atom is found by halving.
+#[derive(Debug, Drop)]
+pub struct Bag {
+    alloc: Global,
+    entries: Vec<Entry>,
+    copies: u64,
+}
+
+impl Model for Bag {
+    ghost use Rattle.std.specs.Coded.{coded_ℕ};
+    ghost use Rattle.std.specs.FinMap as finite;
+    ghost use Rattle.cep_term.specs.Codes.{atom_code};
+    ghost use Rattle.cep_term.specs.Multiset.{Multiset, bag_of, entries_of, AreKept};
+
+    ghost Value = { Multiset };
+
+    ghost coded = { finite.code atom_code coded_ℕ };
+
+    ghost view = { λ bag. bag_of bag.entries.items };
+
+    ghost invariant = { λ bag. AreKept (entries_of bag.entries.items) bag.copies };
+}
+
+impl Bag {
+    /// The bag without atoms.
+    pub fn new(alloc: Global) -> Bag
+        ensures { result ≡ finite.empty }
+    {
+        Bag {
+            alloc,
+            entries: Vec::new(alloc),
+            copies: 0,
+        }
+    }
+
+    /// How many copies of the atom there are: 0 where it is not there. It takes no memory.
+    pub fn count(&self, a: &Atom) -> u32
+        ensures { result ≡ count_of self.now (atom_of a.now) }
+    {
+        count_among(&self.entries, a)
+    }
+
+    /// Adds one copy of a ground atom. After want of memory the bag is as before.
+    pub fn add(&mut self, a: &Atom) -> Result<(), AllocError>
+        requires known { IsGroundAtom (atom_of a.now) }
+        requires few { count_of self.old (atom_of a.now) < 2 ^ 32 - 1 }
+        requires few_in_all { copies_in self.old < 2 ^ 64 - 1 }
+        ensures ok { OnOk result (self.new ≡ with_one self.old (atom_of a.now)) }
+        ensures err { OnErr result (self.new ≡ self.old) }
+    {
+        add_copy(self.alloc, &mut self.entries, a)?;
+        self.copies += 1;
+        Ok(())
+    }
+
+    /// Takes one copy of the atom. `Missing` comes exactly where there is none, and then nothing
+    /// changes. It takes no memory.
+    pub fn take(&mut self, a: &Atom) -> Result<(), Missing>
+        ensures missing { IsErr result ↔ (count_of self.old (atom_of a.now) ≡ 0) }
+        ensures ok { OnOk result (self.new ≡ without_one self.old (atom_of a.now)) }
+        ensures err { OnErr result (self.new ≡ self.old) }
+    {
+        match take_copy(&mut self.entries, a) {
+            Ok(()) => {
+                self.copies -= 1;
+                Ok(())
+            }
+            Err(missing) => Err(missing),
+        }
+    }
+
+    /// Whether no count of the other bag is greater than that of this one. It takes no memory.
+    pub fn contains(&self, other: &Bag) -> bool
+        ensures { IsTrue result ↔ IsContained other.now self.now }
+    {
+        covers(&self.entries, &other.entries)
+    }
+
+    /// The number of copies of all atoms. It takes no memory.
+    pub fn copies(&self) -> u64
+        ensures value { result ≡ copies_in self.now }
+        ensures kept { IsBag self.now }
+    {
+        self.copies
+    }
+
+    /// A bag with the same counts.
+    pub fn copy(&self, alloc: Global) -> Result<Bag, AllocError>
+        ensures { IfOk result (λ bag. bag ≡ self.now) }
+    {
+        Ok(Bag {
+            alloc,
+            entries: copy_entries(alloc, &self.entries)?,
+            copies: self.copies,
+        })
+    }
+
+    /// The number of distinct atoms.
+    pub fn len(&self) -> usize
+        ensures { result ≡ finite.len self.now }
+    {
+        self.entries.len()
+    }
+
+    /// Whether there is no atom.
+    pub fn is_empty(&self) -> bool
+        ensures { IsTrue result ↔ (self.now ≡ finite.empty) }
+    {
+        self.entries.is_empty()
+    }
+
+    /// The i-th atom in the order of atoms, counted from 0, with the number of its copies.
+    pub fn entry(&self, i: usize) -> (&Atom, u32)
+        requires { i < finite.len self.now }
+        ensures { slice_get (finite.entries self.now) i ≡ Some (atom_of result.0.now, result.1) }
+    {
+        let entry = &self.entries[i];
+        (&entry.atom, entry.count)
+    }
+}
