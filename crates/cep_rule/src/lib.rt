@@ -1,0 +1,30 @@
+//! Programs: their parts, what every program keeps, and what its rules mean.
+#![tactic(auto)]
+
+mod atoms;
+mod clause;
+mod derivation;
+mod items;
+mod limits;
+mod offer;
+mod parts;
+mod program;
+mod rule;
+mod signature;
+mod terms;
+
+pub use atoms::AtomList;
+pub use clause::{Clause, Clauses};
+pub use derivation::{Derivation, Derivations};
+pub use items::Items;
+pub use limits::{
+    MOST_ARGUMENTS, MOST_BACKS, MOST_CLAUSES, MOST_CONS, MOST_COPIES, MOST_GOALS, MOST_NAME,
+    MOST_PATTERN_NODES, MOST_PREDS, MOST_PREMISES, MOST_RIGHT, MOST_RULES, MOST_SORTS, MOST_STAGES,
+    MOST_STATE_NODES, MOST_TURNS, MOST_VARIABLES,
+};
+pub use offer::Offer;
+pub use parts::{Parts, Stage, Stages};
+pub use program::Program;
+pub use rule::{Premise, Premises, Rule, Rules};
+pub use signature::{Con, Cons, Kinds, Names, PredDecl, Preds, Signature};
+pub use terms::Terms;
