@@ -4,7 +4,9 @@
 mod atoms;
 mod clause;
 mod derivation;
+mod instances;
 mod items;
+mod laws;
 mod limits;
 mod offer;
 mod parts;
@@ -16,7 +18,9 @@ mod terms;
 pub use atoms::AtomList;
 pub use clause::{Clause, Clauses};
 pub use derivation::{Derivation, Derivations};
+pub use instances::instance;
 pub use items::Items;
+pub use laws::{one_list_of_offers, one_state_after_a_step};
 pub use limits::{
     MOST_ARGUMENTS, MOST_BACKS, MOST_CLAUSES, MOST_CONS, MOST_COPIES, MOST_GOALS, MOST_NAME,
     MOST_PATTERN_NODES, MOST_PREDS, MOST_PREMISES, MOST_RIGHT, MOST_RULES, MOST_SORTS, MOST_STAGES,

@@ -1,0 +1,5 @@
+pub mod TreeOrder
+pub mod RisingLists
+pub mod OfferLaws
+pub mod Counts
+pub mod StepLaws
