@@ -3,3 +3,4 @@ pub mod RisingLists
 pub mod OfferLaws
 pub mod Counts
 pub mod StepLaws
+pub mod Sample

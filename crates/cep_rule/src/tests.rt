@@ -1,6 +1,5 @@
-ghost use Rattle.std.specs.Prelude.{◌≡◌, [], ◌∷◌, codes, IfOk, true, false, None};
-ghost use Rattle.cep_term.specs.Tree.{atom_of, tree_of, trees_of, variable, node, none, more};
-ghost use Rattle.cep_rule.specs.Patterns.{clause_of};
+ghost use Rattle.std.specs.Prelude.{◌≡◌, [], ◌∷◌, length, codes, IfOk, true, false, None};
+ghost use Rattle.cep_term.specs.Tree.{atom_of, tree_of, trees_of, variable, node, none, more, IsAtomInRange};
 ghost use Rattle.cep_rule.specs.Program.{IsProgram};
 
 use crate::{
@@ -10,6 +9,7 @@ use crate::{
 use cep_base::Name;
 use cep_term::{Args, Atom, Bag, Term, same};
 use std::alloc::{AllocError, Global};
+use std::process::Abort;
 use std::test::Fail;
 
 // The numbers of types.
@@ -197,5 +197,58 @@ fn a_sealed_program_gives_its_parts_back(rt: HostRuntime) -> Result<(), Fail> {
     assert_eq!(rt; rule.right.len(), 1);
     assert_eq!(rt; parts.clauses.len(), 1);
     assert_eq!(rt; parts.clauses.get(0).goals.len(), 0);
+    Ok(())
+}
+
+// `z` and `s z`
+fn values(alloc: Global) -> Result<Terms, AllocError>
+    ensures { IfOk result (λ list. list ≡ node 0 none ∷ node 1 (more (node 0 none) none) ∷ []) }
+{
+    let mut list = Terms::new(alloc);
+    list.push(zero(alloc)?)?;
+    list.push(next(alloc, zero(alloc)?)?)?;
+    Ok(list)
+}
+
+// The pattern's instance by these values is the atom that is wanted.
+fn expect_instance(
+    rt: &impl Abort,
+    alloc: Global,
+    values: &Terms,
+    pattern: Atom,
+    wanted: Atom,
+) -> Result<(), AllocError>
+    requires { IsAtomInRange (length values.now) (atom_of pattern) }
+{
+    let made = instance(alloc, &pattern, values)?;
+    assert!(rt; same(&made, &wanted));
+    Ok(())
+}
+
+#[test]
+fn each_variable_gets_its_value(rt: HostRuntime) -> Result<(), Fail> {
+    let alloc = rt.alloc();
+    let values = values(alloc)?;
+    let wanted = num(alloc, zero(alloc)?)?;
+    expect_instance(&rt, alloc, &values, num(alloc, Term::Var(0))?, wanted)?;
+    let wanted = num(alloc, next(alloc, zero(alloc)?)?)?;
+    expect_instance(&rt, alloc, &values, num(alloc, Term::Var(1))?, wanted)?;
+    Ok(())
+}
+
+#[test]
+fn a_variable_may_occur_more_than_once(rt: HostRuntime) -> Result<(), Fail> {
+    let alloc = rt.alloc();
+    let values = values(alloc)?;
+    let pattern = plus(
+        alloc,
+        Term::Var(1),
+        Term::Var(0),
+        next(alloc, Term::Var(1))?,
+    )?;
+    let one = next(alloc, zero(alloc)?)?;
+    let two = next(alloc, next(alloc, zero(alloc)?)?)?;
+    let wanted = plus(alloc, one, zero(alloc)?, two)?;
+    expect_instance(&rt, alloc, &values, pattern, wanted)?;
     Ok(())
 }
