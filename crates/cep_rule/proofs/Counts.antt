@@ -42,7 +42,7 @@ abbrev pub total_of : List (AtomTree × ℕ) → AtomTree → ℕ
 total_of [] b = 0
 total_of (e ∷ entries) b = cond (eq_by_cmp atom_cmp b e.0) e.1 0 + total_of entries b
 
-same_atom : (a b : AtomTree) (r : Ordering) → atom_cmp a b ≡ r → is_eq r ≡ true → a ≡ b
+pub same_atom : (a b : AtomTree) (r : Ordering) → atom_cmp a b ≡ r → is_eq r ≡ true → a ≡ b
 same_atom a b Less e h = cc
 same_atom a b Equal e h = atom_cmp_ties a b e
 same_atom a b Greater e h = cc

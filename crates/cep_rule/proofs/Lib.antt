@@ -3,4 +3,7 @@ pub mod RisingLists
 pub mod OfferLaws
 pub mod Counts
 pub mod StepLaws
+pub mod StepCounts
+pub mod InstanceLaws
+pub mod GroundLaws
 pub mod Sample

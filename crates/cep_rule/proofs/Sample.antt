@@ -1,5 +1,5 @@
 -- The program of the tests keeps what every program keeps.
-use Rattle.std.proofs.Common.{◌≡◌, ℕ, ◌<◌, List, [], ◌∷◌, length, true, false, None, Some, unwrap_or, refl, sym, ap, subst, ◌∙◌, inl, inr, arith}
+use Rattle.std.proofs.Common.{◌≡◌, ℕ, ◌<◌, List, [], ◌∷◌, length, true, false, None, unwrap_or, refl, sym, ap, subst, ◌∙◌, inl, inr, arith}
 use Rattle.std.specs.Prelude.{codes, Bool, ◌==◌, ◌&&◌, ◌≢◌, not}
 use Rattle.std.proofs.lemmas.Bool.{eq-eqb}
 use Rattle.std.specs.List.{AllByRecursion, list_all}
@@ -7,7 +7,7 @@ use Rattle.std.specs.FinMap.{get-empty, len-empty, len-entries}
 use Rattle.std.specs.FinMap as finite
 use Rattle.cep_term.specs.Tree.{AtomTree, variable, node, none, more}
 use Rattle.cep_term.specs.Order.{atom_cmp}
-use Rattle.cep_term.specs.Multiset.{Multiset, count_of, IsEntry}
+use Rattle.cep_term.specs.Multiset.{count_of, IsEntry}
 use Rattle.cep_rule.specs.declared.signature.Signature.{Signature}
 use Rattle.cep_rule.specs.declared.rule.Rule.{Rule}
 use Rattle.cep_rule.specs.declared.parts.Parts.{Parts}
