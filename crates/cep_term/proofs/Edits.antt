@@ -91,7 +91,7 @@ module _ {E : Type 0} (f : E → Counted) (a : AtomTree) where
 pub true_is : {b : Bool} → b ≡ true → T b
 true_is {b} e = subst T (sym e) tt
 
-is_true : {b : Bool} → T b → b ≡ true
+pub is_true : {b : Bool} → T b → b ≡ true
 is_true {b} = by b
   where
     by : (b : Bool) → T b → b ≡ true
@@ -137,6 +137,44 @@ each_without (e ∷ es) a all = elim (not (eq_by_cmp atom_cmp a e.0)) as (λ b. 
 pub each_set : (es : List Counted) (a : AtomTree) (n : ℕ) → IsGroundAtom a → AllByRecursion IsEntry es → AllByRecursion IsEntry (set_among es a n)
 each_set es a n known all = on_count (AllByRecursion IsEntry) n (without a es) (put atom_cmp a n es) (λ e. each_without es a all) (λ some. each_put es a n some known all)
 
+-- A worth of each count of an atom, of which no copies are worth nothing; and the worth of all entries. With the count itself it is the number of copies.
+module _ (worth : AtomTree → ℕ → ℕ) (nothing : (a : AtomTree) → worth a 0 ≡ 0) where
+  abbrev pub worth_of : List Counted → ℕ
+  worth_of es = sum_by (λ e. worth e.0 e.1) es
+
+  worth_of-cons : (e : Counted) (es : List Counted) → worth_of (e ∷ es) ≡ worth e.0 e.1 + worth_of es
+  worth_of-cons e es = sum_by-cons (λ (d : Counted). worth d.0 d.1) e es
+
+  -- an atom without an entry is worth nothing
+  worth_none : (a : AtomTree) (es : List Counted) → find atom_cmp a es ≡ None → worth a (find_count es a) ≡ 0
+  worth_none a es none = ap (λ o. worth a (unwrap_or o 0)) none ∙ nothing a
+
+  -- a count that is set takes the place of the old one in the sum
+  worth_put : (es : List Counted) (a : AtomTree) (n : ℕ) → IsRising es → worth_of (put atom_cmp a n es) + worth a (find_count es a) ≡ worth_of es + worth a n
+  worth_put [] a n rising = omega (arith, worth_of-cons (a, n) [], nothing a)
+  worth_put (e ∷ es) a n rising =
+      elim (atom_cmp a e.0) as (λ r. atom_cmp a e.0 ≡ r → worth_of (by_order r ((a, n) ∷ e ∷ es) ((e.0, n) ∷ es) (e ∷ put atom_cmp a n es)) + worth a (unwrap_or (cond (is_eq r) (Some e.1) (find atom_cmp a es)) 0) ≡ worth_of (e ∷ es) + worth a n) [
+        | Less ↦ λ less. omega (arith, worth_of-cons (a, n) (e ∷ es), worth_none a es (find_below a es (below_further a e.0 es less (below_rest e es rising))))
+        | Equal ↦ λ same. let atoms = atom_cmp_ties a e.0 same in omega (arith, worth_of-cons (e.0, n) es, worth_of-cons e es, ap (λ b. worth b n) atoms, ap (λ b. worth b e.1) atoms)
+        | Greater ↦ λ more. omega (arith, worth_of-cons e (put atom_cmp a n es), worth_of-cons e es, worth_put es a n (rest_rises e es rising))
+      ] refl
+
+  worth_without : (es : List Counted) (a : AtomTree) → IsRising es → worth_of (without a es) + worth a (find_count es a) ≡ worth_of es
+  worth_without [] a rising = omega (arith, nothing a)
+  worth_without (e ∷ es) a rising =
+      elim (atom_cmp a e.0) as (λ r. atom_cmp a e.0 ≡ r → worth_of (cond (not (is_eq r)) (e ∷ without a es) (without a es)) + worth a (unwrap_or (cond (is_eq r) (Some e.1) (find atom_cmp a es)) 0) ≡ worth_of (e ∷ es)) [
+        | Less ↦ λ less. omega (arith, worth_of-cons e (without a es), worth_of-cons e es, worth_without es a (rest_rises e es rising))
+        | Equal ↦ λ same.
+            let atoms = atom_cmp_ties a e.0 same in
+            let kept = keep_below a es (subst (λ b. below_all atom_cmp b es ≡ true) (sym atoms) (below_rest e es rising)) in
+            omega (arith, ap worth_of kept, worth_of-cons e es, ap (λ b. worth b e.1) atoms)
+        | Greater ↦ λ more. omega (arith, worth_of-cons e (without a es), worth_of-cons e es, worth_without es a (rest_rises e es rising))
+      ] refl
+
+  pub worth_set : (es : List Counted) (a : AtomTree) (n : ℕ) → IsRising es → worth_of (set_among es a n) + worth a (find_count es a) ≡ worth_of es + worth a n
+  worth_set es a n rising = on_count (λ z. worth_of z + worth a (find_count es a) ≡ worth_of es + worth a n) n (without a es) (put atom_cmp a n es)
+      (λ e. omega (arith, worth_without es a rising, nothing a, ap (worth a) e)) (λ some. worth_put es a n rising)
+
 -- the copies of all entries
 abbrev pub total : List Counted → ℕ
 total es = sum_by (λ e. e.1) es
@@ -144,32 +182,8 @@ total es = sum_by (λ e. e.1) es
 pub total-cons : (e : Counted) (es : List Counted) → total (e ∷ es) ≡ e.1 + total es
 total-cons e es = sum_by-cons (λ (d : Counted). d.1) e es
 
--- a count that is set takes the place of the old one in the sum
-total_put : (es : List Counted) (a : AtomTree) (n : ℕ) → IsRising es → total (put atom_cmp a n es) + find_count es a ≡ total es + n
-total_put [] a n rising = omega (arith, total-cons (a, n) [])
-total_put (e ∷ es) a n rising =
-    elim (atom_cmp a e.0) as (λ r. atom_cmp a e.0 ≡ r → total (by_order r ((a, n) ∷ e ∷ es) ((e.0, n) ∷ es) (e ∷ put atom_cmp a n es)) + unwrap_or (cond (is_eq r) (Some e.1) (find atom_cmp a es)) 0 ≡ total (e ∷ es) + n) [
-      | Less ↦ λ less.
-          let none : unwrap_or (find atom_cmp a es) 0 ≡ 0 = ap (λ o. unwrap_or o 0) (find_below a es (below_further a e.0 es less (below_rest e es rising))) in
-          omega (arith, total-cons (a, n) (e ∷ es), none)
-      | Equal ↦ λ same. omega (arith, total-cons (e.0, n) es, total-cons e es)
-      | Greater ↦ λ more. omega (arith, total-cons e (put atom_cmp a n es), total-cons e es, total_put es a n (rest_rises e es rising))
-    ] refl
-
-total_without : (es : List Counted) (a : AtomTree) → IsRising es → total (without a es) + find_count es a ≡ total es
-total_without [] a rising = omega arith
-total_without (e ∷ es) a rising =
-    elim (atom_cmp a e.0) as (λ r. atom_cmp a e.0 ≡ r → total (cond (not (is_eq r)) (e ∷ without a es) (without a es)) + unwrap_or (cond (is_eq r) (Some e.1) (find atom_cmp a es)) 0 ≡ total (e ∷ es)) [
-      | Less ↦ λ less. omega (arith, total-cons e (without a es), total-cons e es, total_without es a (rest_rises e es rising))
-      | Equal ↦ λ same.
-          let kept = keep_below a es (subst (λ b. below_all atom_cmp b es ≡ true) (sym (atom_cmp_ties a e.0 same)) (below_rest e es rising)) in
-          omega (arith, ap total kept, total-cons e es)
-      | Greater ↦ λ more. omega (arith, total-cons e (without a es), total-cons e es, total_without es a (rest_rises e es rising))
-    ] refl
-
 pub total_set : (es : List Counted) (a : AtomTree) (n : ℕ) → IsRising es → total (set_among es a n) + find_count es a ≡ total es + n
-total_set es a n rising = on_count (λ z. total z + find_count es a ≡ total es + n) n (without a es) (put atom_cmp a n es)
-    (λ e. omega (arith, total_without es a rising)) (λ some. total_put es a n rising)
+total_set = worth_set (λ a n. n) (λ a. refl)
 
 -- what stands in the multiset of a rising list
 pub entries_rising : (es : List Counted) → IsRising es → finite.entries (finite.from_sorted {R = atom_cmp} es) ≡ es

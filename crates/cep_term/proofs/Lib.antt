@@ -6,3 +6,5 @@ pub mod Places
 pub mod Edits
 pub mod EntryEdits
 pub mod Seen
+pub mod Multisets
+pub mod Instances

@@ -51,7 +51,7 @@ kept_set es edited a n copies new kept known is sum = record {
   counted = let law = total_set es a n kept.rising in let same = ap total is in omega (arith, kept.counted);
 }
 
-abbrev no_entries : List Counted
+abbrev pub no_entries : List Counted
 no_entries = []
 
 -- the multiset of no entries
@@ -123,7 +123,7 @@ some_copy_there zero is = let no = is.1 refl in cc
 some_copy_there (suc n) is = omega arith
 
 -- no count is above the sum of them all
-count_le_total : (es : List Counted) (a : AtomTree) → find_count es a ≤ total es
+pub count_le_total : (es : List Counted) (a : AtomTree) → find_count es a ≤ total es
 count_le_total [] a = omega arith
 count_le_total (e ∷ es) a =
     elim (atom_cmp a e.0) as (λ r. unwrap_or (cond (is_eq r) (Some e.1) (find atom_cmp a es)) 0 ≤ total (e ∷ es)) [

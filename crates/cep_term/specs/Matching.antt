@@ -1,5 +1,5 @@
 -- Matching as it goes from left to right: each variable takes the first term that it meets, and later meets no other.
-use Rattle.std.specs.Prelude.{ℕ, ◌==◌, if◌then◌else◌, List, [], ◌∷◌, Option, Some, None, slice_set, option_and_then}
+use Rattle.std.specs.Prelude.{ℕ, Bool, ◌==◌, if◌then◌else◌, List, [], ◌∷◌, Option, Some, None, slice_set, option_and_then}
 use Rattle.std.specs.Ordering.{is_eq}
 use Rattle.cep_term.specs.Tree.{Tree, Trees, AtomTree, variable, node, none, more}
 use Rattle.cep_term.specs.Order.{tree_cmp}
@@ -26,6 +26,10 @@ abbrev mutual
 -- the same for atoms, which meet only where they have one predicate
 abbrev pub matched_atom : Values → AtomTree → AtomTree → Option Values
 matched_atom values a b = if a.pred == b.pred then matched_all values a.args b.args else None
+
+-- what a matching that ends with these values answers: they, where the two met
+abbrev pub values_if : Bool → Values → Option Values
+values_if met values = if met then Some values else None
 
 -- the values without those of the variables on the trail, the last of which was set last
 abbrev pub undone : List ℕ → Values → Values

@@ -1,5 +1,5 @@
 -- Multisets of atoms: for each atom that is there how many copies there are.
-use Rattle.std.specs.Prelude.{◌≡◌, ℕ, ◌+◌, ◌-◌, ◌*◌, ◌≤◌, ◌<◌, ◌==◌, if◌then◌else◌, List, map, fold, sum_by, unwrap_or, true, not}
+use Rattle.std.specs.Prelude.{◌≡◌, ℕ, ◌+◌, ◌-◌, ◌*◌, ◌≤◌, ◌<◌, ◌==◌, if◌then◌else◌, List, [], ◌∷◌, map, fold, sum_by, unwrap_or, true, not}
 use Rattle.std.specs.List.{AllByRecursion}
 use Rattle.std.specs.Ordering.{eq_by_cmp}
 use Rattle.std.specs.FinMap as finite
@@ -27,6 +27,11 @@ with_one bag a = with_count bag a (count_of bag a + 1)
 -- one copy of the atom less, where there is one
 abbrev pub without_one : Multiset → AtomTree → Multiset
 without_one bag a = with_count bag a (count_of bag a - 1)
+
+-- the multiset of a list of atoms, one copy for each time that one stands there
+abbrev pub gathered : List AtomTree → Multiset
+gathered [] = finite.empty
+gathered (a ∷ atoms) = with_one (gathered atoms) a
 
 -- the copies of both
 abbrev pub sum_of : Multiset → Multiset → Multiset
@@ -79,6 +84,17 @@ find_count entries a = unwrap_or (finite.find atom_cmp a entries) 0
 -- the entries with this count of the atom, and without an entry of it where the count is 0
 abbrev pub set_among : List (AtomTree × ℕ) → AtomTree → ℕ → List (AtomTree × ℕ)
 set_among entries a count = if count == 0 then where_key atom_cmp (λ b. not (eq_by_cmp atom_cmp a b)) entries else put atom_cmp a count entries
+
+-- the entries with one copy of the atom more, and with one less
+abbrev pub one_more_among : List (AtomTree × ℕ) → AtomTree → List (AtomTree × ℕ)
+one_more_among entries a = set_among entries a (find_count entries a + 1)
+
+abbrev pub one_less_among : List (AtomTree × ℕ) → AtomTree → List (AtomTree × ℕ)
+one_less_among entries a = set_among entries a (find_count entries a - 1)
+
+-- No count of few is greater than the atom's count among many.
+abbrev pub AreCovered : List (AtomTree × ℕ) → List (AtomTree × ℕ) → Type 0
+AreCovered few many = AllByRecursion (λ e. e.1 ≤ find_count many e.0) few
 
 -- What holds of the entries of a bag: they rise, each is of a ground atom and has a copy, and the copies are as many as this.
 pub record AreKept (entries : List (AtomTree × ℕ)) (copies : ℕ) : Type 0 where

@@ -9,7 +9,8 @@ use std::alloc::{AllocError, Global};
 use std::marker::Model;
 
 /// A multiset of ground atoms, as Ceptre's states are. The entries stand in the order of their
-/// atoms, so an atom is found by halving.
+/// atoms, so an atom is found by halving. That an atom has fewer than 2^32 copies, and all atoms
+/// fewer than 2^64, is this profile's.
 #[derive(Debug, Drop)]
 pub struct Bag {
     alloc: Global,
@@ -95,7 +96,7 @@ impl Bag {
         self.copies
     }
 
-    /// A bag with the same counts.
+    /// A bag with the same counts. Only want of memory is refused.
     pub fn copy(&self, alloc: Global) -> Result<Bag, AllocError>
         ensures { IfOk result (λ bag. bag ≡ self.now) }
     {
@@ -108,7 +109,8 @@ impl Bag {
 
     /// The number of distinct atoms.
     pub fn len(&self) -> usize
-        ensures { result ≡ finite.len self.now }
+        ensures value { result ≡ finite.len self.now }
+        ensures kept { IsBag self.now }
     {
         self.entries.len()
     }

@@ -1,15 +1,15 @@
 ghost use Rattle.std.specs.Prelude.{◌≡◌, ◌<◌, length, replicate, slice_set, IfOk, IfSome, Some, None};
 ghost use Rattle.std.specs.Option.{option_map};
 ghost use Rattle.cep_term.specs.Tree.{atom_of, tree_of, trees_of, IsGround, IsGroundAtom};
-ghost use Rattle.cep_term.specs.Values.{value_of, values_of, instance_of, instances_of, instance_in, HasValues};
+ghost use Rattle.cep_term.specs.Values.{value_of, values_of, AreGroundValues, instance_of, instances_of, instance_in, HasValues};
 
 use crate::copying::copy_term;
 use crate::term::{Args, Atom, Term};
 use std::alloc::{AllocError, Global};
 use std::marker::Model;
 
-/// The values of the variables of a rule or a clause: for each variable, by its number, a ground
-/// term or none.
+/// The values of the variables of a rule or a clause: for each variable, by its number from 0, a
+/// ground term or none. Ceptre's substitutions, as far as they are known.
 #[derive(Debug, Drop)]
 pub struct Binding {
     pub(crate) values: Vec<Option<Term>>,
@@ -41,6 +41,14 @@ impl Binding {
         Ok(Binding { values })
     }
 
+    /// How many variables there are.
+    pub fn len(&self) -> usize
+        ensures value { result ≡ length self.now }
+        ensures known { AreGroundValues self.now }
+    {
+        self.values.len()
+    }
+
     /// The value of the variable, and `None` exactly where it has none. It takes no memory.
     pub fn get(&self, v: u32) -> Option<&Term>
         requires { v < length self.now }
@@ -60,7 +68,8 @@ impl Binding {
     }
 }
 
-/// The pattern with each variable replaced by its value. A variable without a value stays.
+/// The pattern with each variable replaced by its value, as Ceptre's rules are instantiated. A
+/// variable without a value stays. Only want of memory is refused.
 pub fn apply(alloc: Global, pattern: &Atom, values: &Binding) -> Result<Atom, AllocError>
     ensures value { IfOk result (λ a. atom_of a ≡ instance_in values.now (atom_of pattern.now)) }
     ensures known { HasValues values.now (atom_of pattern.now) → IfOk result (λ a. IsGroundAtom (atom_of a)) }

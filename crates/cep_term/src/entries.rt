@@ -1,8 +1,8 @@
 // Lists of entries whose atoms rise.
-ghost use Rattle.std.specs.Prelude.{◌≡◌, ◌+◌, ◌-◌, ◌^◌, ◌<◌, ◌≤◌, ◌↔◌, length, IfOk, IfErr, OnOk, OnErr, IsErr, IsTrue};
+ghost use Rattle.std.specs.Prelude.{◌≡◌, ◌-◌, ◌^◌, ◌<◌, ◌≤◌, ◌↔◌, length, IfOk, IfErr, OnOk, OnErr, IsErr, IsTrue};
 ghost use Rattle.std.specs.List.{AllByRecursion};
 ghost use Rattle.cep_term.specs.Tree.{atom_of};
-ghost use Rattle.cep_term.specs.Multiset.{entries_of, IsRising, IsEntry, find_count, set_among};
+ghost use Rattle.cep_term.specs.Multiset.{entries_of, IsRising, IsEntry, AreCovered, find_count, one_more_among, one_less_among};
 ghost use Rattle.cep_term.specs.Place.{IsAt, IsGapFor};
 
 use crate::comparing::order;
@@ -48,7 +48,7 @@ pub fn count_among(entries: &[Entry], a: &Atom) -> u32
 pub fn add_copy(alloc: Global, entries: &mut Vec<Entry>, a: &Atom) -> Result<(), AllocError>
     requires rising { IsRising (entries_of entries.old.items) }
     requires few { find_count (entries_of entries.old.items) (atom_of a.now) < 2 ^ 32 - 1 }
-    ensures ok { OnOk result (entries_of entries.new.items ≡ set_among (entries_of entries.old.items) (atom_of a.now) (find_count (entries_of entries.old.items) (atom_of a.now) + 1)) }
+    ensures ok { OnOk result (entries_of entries.new.items ≡ one_more_among (entries_of entries.old.items) (atom_of a.now)) }
     ensures err { OnErr result (entries_of entries.new.items ≡ entries_of entries.old.items) }
 {
     match place(entries, a) {
@@ -69,7 +69,7 @@ pub fn take_copy(entries: &mut Vec<Entry>, a: &Atom) -> Result<(), Missing>
     requires rising { IsRising (entries_of entries.old.items) }
     requires each { AllByRecursion IsEntry (entries_of entries.old.items) }
     ensures missing { IsErr result ↔ (find_count (entries_of entries.old.items) (atom_of a.now) ≡ 0) }
-    ensures ok { OnOk result (entries_of entries.new.items ≡ set_among (entries_of entries.old.items) (atom_of a.now) (find_count (entries_of entries.old.items) (atom_of a.now) - 1)) }
+    ensures ok { OnOk result (entries_of entries.new.items ≡ one_less_among (entries_of entries.old.items) (atom_of a.now)) }
     ensures err { OnErr result (entries_of entries.new.items ≡ entries_of entries.old.items) }
 {
     match place(entries, a) {
@@ -88,7 +88,7 @@ pub fn take_copy(entries: &mut Vec<Entry>, a: &Atom) -> Result<(), Missing>
 // Whether no count of the others is greater than the count of the same atom here.
 pub fn covers(entries: &[Entry], others: &[Entry]) -> bool
     requires { IsRising (entries_of entries.now) }
-    ensures { IsTrue result ↔ AllByRecursion (λ e. e.1 ≤ find_count (entries_of entries.now) e.0) (entries_of others.now) }
+    ensures { IsTrue result ↔ AreCovered (entries_of others.now) (entries_of entries.now) }
 {
     for other in others {
         if count_among(entries, &other.atom) < other.count {

@@ -4,7 +4,7 @@ ghost use Rattle.cep_term.specs.Tree.{atom_of, tree_of, trees_of, nodes_in, node
 use crate::term::{Args, Atom, Term};
 
 /// How many nodes the atom has: its predicate, its constructors and its variables, each place
-/// counted. It takes no memory.
+/// counted. The measure is this profile's. It takes no memory.
 pub fn nodes(a: &Atom) -> u64
     requires { nodes_in (atom_of a.now) < 2 ^ 64 }
     ensures { result ≡ nodes_in (atom_of a.now) }
@@ -37,7 +37,7 @@ fn args_nodes(args: &Args) -> u64
 }
 
 /// How many levels the atom has: 1 without arguments, and else one more than its deepest argument;
-/// a variable is one level. It takes no memory.
+/// a variable is one level. The measure is this profile's. It takes no memory.
 pub fn depth(a: &Atom) -> u64
     requires { depth_in (atom_of a.now) < 2 ^ 64 }
     ensures { result ≡ depth_in (atom_of a.now) }

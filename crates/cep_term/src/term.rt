@@ -21,7 +21,8 @@ pub enum Args {
     Cons(Term, Box<Args>),
 }
 
-/// A predicate by its number, with one term for each argument.
+/// A predicate by its number, with one term for each argument. Ceptre's atoms; one without
+/// variables may stand in a state.
 #[derive(Debug, Drop)]
 pub struct Atom {
     pub pred: u32,
