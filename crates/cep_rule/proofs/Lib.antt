@@ -1,9 +1,7 @@
-pub mod TreeOrder
 pub mod RisingLists
 pub mod OfferLaws
-pub mod Counts
+pub mod Copies
 pub mod StepLaws
-pub mod StepCounts
 pub mod InstanceLaws
 pub mod GroundLaws
 pub mod Sample

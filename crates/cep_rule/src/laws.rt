@@ -1,4 +1,5 @@
-// Laws of the definitions that the contracts cite: no code calls them.
+//! Laws of what programs mean, for the crates that rest on them. Each function does nothing, and its
+//! contract is the law.
 ghost use Rattle.std.specs.Prelude.{◌≡◌, ◌↔◌, ℕ, List, [], true};
 ghost use Rattle.std.specs.declared.cmp.Ordering.TheVariants.{Equal};
 ghost use Rattle.std.specs.Cmp.{IsTotalOrder};
@@ -15,36 +16,66 @@ ghost use Rattle.cep_rule.specs.Instances.{instance_by};
 ghost use Rattle.cep_rule.specs.Offers.{offer_cmp, AreOffers};
 ghost use Rattle.cep_rule.specs.Step.{Step, StepsByCounts};
 
+use cep_term::laws::{order_is_total, sums_and_differences};
+
 /// A group has one list of offers in a state.
 pub fn one_list_of_offers()
-    ensures { (program : Parts) (height : ℕ) (state : Multiset) (group : ℕ) (one other : List Offer) → AreOffers program height state group one → AreOffers program height state group other → one ≡ other }
-{}
+    ensures { (program : Parts) (height : ℕ) (state : Multiset) (group : ℕ) (one other : List Offer)
+        → AreOffers program height state group one
+        → AreOffers program height state group other
+        → one ≡ other }
+{
+    order_is_total();
+}
 
 /// Of two offers one stands before the other, unless they are one.
 pub fn offers_have_one_order()
     ensures total { IsTotalOrder offer_cmp }
     ensures ties { (one other : Offer) → offer_cmp one other ≡ Equal → one ≡ other }
-{}
+{
+    order_is_total();
+}
 
 /// A step by a rule with values for its variables leads from a state to one state.
 pub fn one_state_after_a_step()
-    ensures { (rule : Rule) (values : List Tree) (old one other : Multiset) → Step rule values old one → Step rule values old other → one ≡ other }
-{}
+    ensures { (rule : Rule) (values : List Tree) (old one other : Multiset)
+        → Step rule values old one
+        → Step rule values old other
+        → one ≡ other }
+{
+    order_is_total();
+    sums_and_differences();
+}
 
 /// A step can be told by counts alone: it is there exactly where the left side is, and what it does
 /// to the count of each atom says which one it is.
 pub fn steps_can_be_told_by_counts()
-    ensures { (rule : Rule) (values : List Tree) (old new : Multiset) → IsBag old → IsBag new → (Step rule values old new ↔ StepsByCounts rule values old new) }
-{}
+    ensures { (rule : Rule) (values : List Tree) (old new : Multiset)
+        → IsBag old
+        → IsBag new
+        → (Step rule values old new ↔ StepsByCounts rule values old new) }
+{
+    order_is_total();
+    sums_and_differences();
+}
 
 /// Values of the right types make a well-typed atom a ground one that is well typed.
 pub fn instances_are_ground_and_typed()
-    ensures ground { (signature : Signature) (kinds : List ℕ) (values : List Tree) (a : AtomTree) → AreValues signature.cons kinds values → IsTyped signature kinds a → IsGroundAtom (instance_by values a) }
-    ensures typed { (signature : Signature) (kinds : List ℕ) (values : List Tree) (a : AtomTree) → AreValues signature.cons kinds values → IsTyped signature kinds a → IsTyped signature [] (instance_by values a) }
+    ensures ground { (signature : Signature) (kinds : List ℕ) (values : List Tree) (a : AtomTree)
+        → AreValues signature.cons kinds values
+        → IsTyped signature kinds a
+        → IsGroundAtom (instance_by values a) }
+    ensures typed { (signature : Signature) (kinds : List ℕ) (values : List Tree) (a : AtomTree)
+        → AreValues signature.cons kinds values
+        → IsTyped signature kinds a
+        → IsTyped signature [] (instance_by values a) }
 {}
 
 /// A pair that is bad is so too where fewer positions are known: so where more are known than in a
 /// pair that is not bad, none is bad.
 pub fn more_positions_known_are_no_worse()
-    ensures { (clauses : List ClauseTree) (pred : ℕ) (few many : Known) → ((i : ℕ) → few i ≡ true → many i ≡ true) → IsBad clauses pred many → IsBad clauses pred few }
+    ensures { (clauses : List ClauseTree) (pred : ℕ) (few many : Known)
+        → ((i : ℕ) → few i ≡ true → many i ≡ true)
+        → IsBad clauses pred many
+        → IsBad clauses pred few }
 {}

@@ -6,7 +6,7 @@ mod clause;
 mod derivation;
 mod instances;
 mod items;
-mod laws;
+pub mod laws;
 mod limits;
 mod offer;
 mod parts;
@@ -22,10 +22,6 @@ pub use clause::{Clause, Clauses};
 pub use derivation::{Derivation, Derivations};
 pub use instances::instance;
 pub use items::Items;
-pub use laws::{
-    instances_are_ground_and_typed, more_positions_known_are_no_worse, offers_have_one_order,
-    one_list_of_offers, one_state_after_a_step, steps_can_be_told_by_counts,
-};
 pub use limits::{
     MOST_ARGUMENTS, MOST_BACKS, MOST_CLAUSES, MOST_CONS, MOST_COPIES, MOST_GOALS, MOST_NAME,
     MOST_PATTERN_NODES, MOST_PREDS, MOST_PREMISES, MOST_RIGHT, MOST_RULES, MOST_SORTS, MOST_STAGES,

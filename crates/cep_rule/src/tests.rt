@@ -34,7 +34,10 @@ fn names(alloc: Global, name: &[u8]) -> Result<Names, AllocError>
 
 // `z : nat.` and `s nat : nat.`
 fn cons(alloc: Global) -> Result<Cons, AllocError>
-    ensures { IfOk result (λ list. list ≡ record { name = codes "z"; sort = 0; args = [] } ∷ record { name = codes "s"; sort = 0; args = 0 ∷ [] } ∷ []) }
+    ensures { IfOk result (λ list. list
+        ≡ record { name = codes "z"; sort = 0; args = [] }
+        ∷ record { name = codes "s"; sort = 0; args = 0 ∷ [] }
+        ∷ []) }
 {
     let mut list = Cons::new(alloc);
     list.push(Con {
@@ -52,7 +55,10 @@ fn cons(alloc: Global) -> Result<Cons, AllocError>
 
 // `plus nat nat nat : bwd.` and `num nat : pred.`
 fn preds(alloc: Global) -> Result<Preds, AllocError>
-    ensures { IfOk result (λ list. list ≡ record { name = codes "plus"; back = true; args = 0 ∷ 0 ∷ 0 ∷ [] } ∷ record { name = codes "num"; back = false; args = 0 ∷ [] } ∷ []) }
+    ensures { IfOk result (λ list. list
+        ≡ record { name = codes "plus"; back = true; args = 0 ∷ 0 ∷ 0 ∷ [] }
+        ∷ record { name = codes "num"; back = false; args = 0 ∷ [] }
+        ∷ []) }
 {
     let mut list = Preds::new(alloc);
     list.push(PredDecl {
@@ -102,7 +108,8 @@ fn num(alloc: Global, t: Term) -> Result<Atom, AllocError>
 
 // `plus t u v`
 fn plus(alloc: Global, t: Term, u: Term, v: Term) -> Result<Atom, AllocError>
-    ensures { IfOk result (λ a. atom_of a ≡ record { pred = 0; args = more (tree_of t) (more (tree_of u) (more (tree_of v) none)) }) }
+    ensures { IfOk result (λ a. atom_of a
+        ≡ record { pred = 0; args = more (tree_of t) (more (tree_of u) (more (tree_of v) none)) }) }
 {
     let last = before(alloc, v, Args::Nil)?;
     let last = before(alloc, u, last)?;
@@ -114,7 +121,18 @@ fn plus(alloc: Global, t: Term, u: Term, v: Term) -> Result<Atom, AllocError>
 
 // `count : num N -o num (s N).`
 fn rules(alloc: Global) -> Result<Rules, AllocError>
-    ensures { IfOk result (λ list. list ≡ record { name = codes "count"; group = 0; vars = codes "N" ∷ []; kinds = 0 ∷ []; premises = record { atom = record { pred = 1; args = more (variable 0) none }; kept = false } ∷ []; backs = []; right = record { pred = 1; args = more (node 1 (more (variable 0) none)) none } ∷ []; next = None } ∷ []) }
+    ensures { IfOk result (λ list. list
+        ≡ record {
+          name = codes "count";
+          group = 0;
+          vars = codes "N" ∷ [];
+          kinds = 0 ∷ [];
+          premises = record { atom = record { pred = 1; args = more (variable 0) none }; kept = false } ∷ [];
+          backs = [];
+          right = record { pred = 1; args = more (node 1 (more (variable 0) none)) none } ∷ [];
+          next = None;
+        }
+        ∷ []) }
 {
     let mut premises = Premises::new(alloc);
     premises.push(Premise {
@@ -139,7 +157,14 @@ fn rules(alloc: Global) -> Result<Rules, AllocError>
 
 // `plus z N N.`
 fn clauses(alloc: Global) -> Result<Clauses, AllocError>
-    ensures { IfOk result (λ list. list ≡ record { vars = codes "N" ∷ []; kinds = 0 ∷ []; head = record { pred = 0; args = more (node 0 none) (more (variable 0) (more (variable 0) none)) }; goals = [] } ∷ []) }
+    ensures { IfOk result (λ list. list
+        ≡ record {
+          vars = codes "N" ∷ [];
+          kinds = 0 ∷ [];
+          head = record { pred = 0; args = more (node 0 none) (more (variable 0) (more (variable 0) none)) };
+          goals = [];
+        }
+        ∷ []) }
 {
     let mut list = Clauses::new(alloc);
     list.push(Clause {
