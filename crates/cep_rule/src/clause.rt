@@ -7,8 +7,9 @@ use cep_term::Atom;
 use std::alloc::{AllocError, Global};
 use std::marker::Model;
 
-/// A clause of a backward predicate: its head holds where its goals do. Its variables are numbered
-/// by first occurrence in the head and then the goals.
+/// A clause of a backward predicate: as in Ceptre, its head holds where its goals do. Its variables
+/// have names and types, and are numbered from 0 by first occurrence in the head and then the goals,
+/// which is this profile's.
 #[derive(Debug, Drop)]
 pub struct Clause {
     pub vars: Names,

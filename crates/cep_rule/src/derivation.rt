@@ -1,7 +1,7 @@
 use crate::terms::Terms;
 
 /// How a ground atom follows from the clauses: a clause by its number, a value for each of its
-/// variables, and a derivation of each of its goals, in order.
+/// variables, and a derivation of each of its goals, in order. The textbook's tree.
 #[derive(Debug, Drop)]
 #[cycle(derivation)]
 pub enum Derivation {

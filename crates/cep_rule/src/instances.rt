@@ -7,8 +7,8 @@ use crate::terms::Terms;
 use cep_term::{Args, Atom, Term, copy_term};
 use std::alloc::{AllocError, Global};
 
-/// The atom with each variable replaced by the value at its place. Each variable needs to have a
-/// value.
+/// The atom with each variable replaced by the value at its place, as Ceptre's rules are
+/// instantiated. Each variable needs to have a value. Only want of memory is refused.
 pub fn instance(alloc: Global, atom: &Atom, values: &Terms) -> Result<Atom, AllocError>
     requires { IsAtomInRange (length values.now) (atom_of atom.now) }
     ensures { IfOk result (λ a. atom_of a ≡ instance_by values.now (atom_of atom.now)) }

@@ -1,4 +1,9 @@
-//! Programs: their parts, what every program keeps, and what its rules mean.
+//! Programs of Ceptre: their parts, what the parts of every program keep, and what its rules mean.
+//!
+//! The contracts read atoms and terms as plain trees, and lists as lists. `specs/` says which terms
+//! are well typed, which instances of rules apply to a state, what the offers of a group are, what a
+//! step does, which group a stage asks, and what a derivation proves; no code is named there. The
+//! laws of these that other crates rest on are the contracts of the functions in `laws`.
 #![tactic(auto)]
 
 mod atoms;

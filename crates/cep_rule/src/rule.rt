@@ -9,16 +9,18 @@ use cep_term::Atom;
 use std::alloc::{AllocError, Global};
 use std::marker::Model;
 
-/// A linear premise of a rule: an atom that is needed, and whether the rule keeps it (`$`).
+/// A linear premise of a rule: an atom that is needed, and whether the rule keeps it, as Ceptre's
+/// `$` says.
 #[derive(Debug, Drop)]
 pub struct Premise {
     pub atom: Atom,
     pub kept: bool,
 }
 
-/// A rule: it replaces its premises, but for those that it keeps, by the atoms on its right, where
-/// its backward premises can be derived. Its variables are numbered by first occurrence. A rule
-/// that changes the stage names the next one.
+/// A rule of Ceptre: it replaces its premises, but for those that it keeps, by the atoms on its
+/// right, where its backward premises can be derived. A rule that leaves a stage at quiescence
+/// names the next one. Its variables have names and types, and are numbered from 0 by first
+/// occurrence on the left; that, and the numbers of groups, are this profile's.
 #[derive(Debug, Drop)]
 pub struct Rule {
     pub name: Name,

@@ -13,7 +13,8 @@ pub type Cons = Items<Con>;
 /// A list of predicates.
 pub type Preds = Items<PredDecl>;
 
-/// A constructor: it makes a term of its type from one term of each argument's type.
+/// A constructor: it makes a term of its type from one term of each argument's type. Types are
+/// simple and constructors first order, as in Ceptre.
 #[derive(Debug, Drop)]
 pub struct Con {
     pub name: Name,
@@ -21,8 +22,8 @@ pub struct Con {
     pub args: Kinds,
 }
 
-/// A predicate, linear or backward, with the types of its arguments. A state has atoms of linear
-/// ones, and clauses define the backward ones.
+/// A predicate, linear or backward, with the types of its arguments. As in Ceptre, a state has atoms
+/// of linear ones, and clauses define the backward ones.
 #[derive(Debug, Drop)]
 pub struct PredDecl {
     pub name: Name,
@@ -31,7 +32,8 @@ pub struct PredDecl {
 }
 
 /// What a program declares of terms and atoms. Types, constructors and predicates are numbered in
-/// written order, from 0.
+/// written order, from 0; the order of terms and atoms, which is this profile's, goes by these
+/// numbers.
 #[derive(Debug, Drop)]
 pub struct Signature {
     pub sorts: Names,
