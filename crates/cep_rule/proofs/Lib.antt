@@ -3,5 +3,6 @@ pub mod OfferLaws
 pub mod Copies
 pub mod StepLaws
 pub mod InstanceLaws
+pub mod SideLaws
 pub mod GroundLaws
 pub mod Sample

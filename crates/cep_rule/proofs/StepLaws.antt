@@ -19,12 +19,31 @@ SumsCounts = (bag other : Multiset) (a : AtomTree) → count_of (sum_of bag othe
 abbrev pub TakesCounts : Type 0
 TakesCounts = (bag other : Multiset) (a : AtomTree) → count_of (difference_of bag other) a ≡ count_of bag a - count_of other a
 
+-- A difference of bags is a bag.
+abbrev pub KeepsBags : Type 0
+KeepsBags = (bag other : Multiset) → IsBag bag → IsBag other → IsBag (difference_of bag other)
+
 -- The new count is the old one without the left side's and with the right side's.
 after_counts : (l r x o n : ℕ) → o ≡ l + x → n ≡ r + x → (l ≤ o) × (n + l ≡ o + r)
 after_counts l r x o n e f = ((omega arith), (omega arith))
 
 same_after : (l r o m n : ℕ) → m + l ≡ o + r → n + l ≡ o + r → m ≡ n
 same_after l r o m n e f = omega arith
+
+same_rest : (l x y o : ℕ) → o ≡ l + x → o ≡ l + y → x ≡ y
+same_rest l x y o e f = omega arith
+
+-- The counts say which bag it is.
+abbrev pub CountsDecide : Type 0
+CountsDecide = (bag other : Multiset) → IsBag bag → IsBag other → ((a : AtomTree) → count_of bag a ≡ count_of other a) → bag ≡ other
+
+pub one_rest : SumsCounts → CountsDecide → (rule : Rule) (values : List Tree) (old one other : Multiset) (step : Step rule values old one) (step' : Step rule values old other) → step.rest ≡ step'.rest
+one_rest sums decide rule values old one other step step' =
+    let left = left_of rule values in
+    decide step.rest step'.rest step.bag step'.bag
+    (λ a. same_rest (count_of left a) (count_of step.rest a) (count_of step'.rest a) (count_of old a)
+    (ap (λ (bag : Multiset). count_of bag a) step.before ∙ sums left step.rest a)
+    (ap (λ (bag : Multiset). count_of bag a) step'.before ∙ sums left step'.rest a))
 
 back : (l o : ℕ) → l ≤ o → o ≡ l + (o - l)
 back l o h = omega arith
@@ -61,13 +80,14 @@ module _ (total : IsTotalOrder atom_cmp) (ties : IsAntisymmetric atom_cmp) (sums
       λ a. ap (λ (bag : Multiset). count_of bag a) (sym step.after) ∙ counts a ∙ ap (λ (bag : Multiset). count_of bag a) step'.after in
       step.after ∙ same_counts total ties (sum_of right step.rest) (sum_of right step'.rest) (right_copies rule values step.rest) (right_copies rule values step'.rest) counts' ∙ sym step'.after
 
-  pub step_by_counts : TakesCounts → (rule : Rule) (values : List Tree) (old new : Multiset) → IsBag old → IsBag new → StepsByCounts rule values old new → Step rule values old new
-  step_by_counts takes rule values old new kept kept' steps =
+  pub step_by_counts : TakesCounts → KeepsBags → (rule : Rule) (values : List Tree) (old new : Multiset) → IsBag (left_of rule values) → IsBag old → IsBag new → StepsByCounts rule values old new → Step rule values old new
+  step_by_counts takes keeps rule values old new kept_left kept kept' steps =
       let left = left_of rule values in
       let right = right_of rule values in
       let rest = difference_of old left in
       record {
         rest = rest;
+        bag = keeps old left kept kept_left;
         before = same_counts total ties old (sum_of left rest) (copies-bag old kept) (left_copies rule values rest)
             (λ a. back (count_of left a) (count_of old a) (steps.contained a) ∙ ap (λ n. count_of left a + n) (sym (takes old left a)) ∙ sym (sums left rest a));
         after = same_counts total ties new (sum_of right rest) (copies-bag new kept') (right_copies rule values rest)

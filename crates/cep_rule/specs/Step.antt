@@ -1,13 +1,14 @@
 -- What a step does.
 use Rattle.std.specs.Prelude.{◌≡◌, ◌+◌, List}
 use Rattle.cep_term.specs.Tree.{Tree, AtomTree}
-use Rattle.cep_term.specs.Multiset.{Multiset, count_of, sum_of, IsContained}
+use Rattle.cep_term.specs.Multiset.{Multiset, count_of, sum_of, IsContained, IsBag}
 use Rattle.cep_rule.specs.declared.rule.Rule.{Rule}
 use Rattle.cep_rule.specs.Instances.{left_of, right_of}
 
 -- A step by a rule with values for its variables: some rest is left alone, and beside it the left side goes and the right side comes.
 pub record Step (rule : Rule) (values : List Tree) (old new : Multiset) : Type 0 where
   pub rest : Multiset
+  pub bag : IsBag rest
   pub before : old ≡ sum_of (left_of rule values) rest
   pub after : new ≡ sum_of (right_of rule values) rest
 
