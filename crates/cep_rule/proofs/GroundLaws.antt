@@ -1,0 +1,100 @@
+-- Where more positions are known, no more pairs are bad.
+use Rattle.std.proofs.Common.{◌≡◌, inl, inr, ⊎_elim, ℕ, zero, suc, Bool, true, false, ◌&&◌, ◌||◌, List, [], ◌∷◌, refl}
+use Rattle.cep_term.specs.Tree.{Tree, Trees, AtomTree, variable, node, none, more}
+use Rattle.cep_rule.specs.Patterns.{ClauseTree}
+use Rattle.cep_rule.specs.Groundness.{Known, is_known, are_known, occurs, positions_known, known_at, known_after, known_after_all, Calls, LeavesUnknown, SomeFails, IsBadInRound, IsBad}
+use Rattle.cep_rule.specs.Groundness.{occurs_among}
+
+-- What is known by the one is known by the other.
+abbrev IsWithin : Known → Known → Type 0
+IsWithin few many = (v : ℕ) → few v ≡ true → many v ≡ true
+
+and_within : (a b c d : Bool) → (a ≡ true → c ≡ true) → (b ≡ true → d ≡ true) → (a && b) ≡ true → (c && d) ≡ true
+and_within true true c d f g e = both c d (f refl) (g refl)
+  where
+    both : (c d : Bool) → c ≡ true → d ≡ true → (c && d) ≡ true
+    both true d p q = q
+    both false d p q = p
+and_within true false c d f g e = cc
+and_within false b c d f g e = cc
+
+or_within : (a b c d : Bool) → (a ≡ true → c ≡ true) → (b ≡ true → d ≡ true) → (a || b) ≡ true → (c || d) ≡ true
+or_within true b c d f g e = first c d (f refl)
+  where
+    first : (c d : Bool) → c ≡ true → (c || d) ≡ true
+    first true d p = refl
+    first false d p = cc
+or_within false b true d f g e = refl
+or_within false b false d f g e = g e
+
+mutual
+  known_within : (few many : Known) → IsWithin few many → (t : Tree) → is_known few t ≡ true → is_known many t ≡ true
+  known_within few many within (variable v) e = within v e
+  known_within few many within (node c args) e = all_within few many within args e
+
+  all_within : (few many : Known) → IsWithin few many → (args : Trees) → are_known few args ≡ true → are_known many args ≡ true
+  all_within few many within none e = refl
+  all_within few many within (more t rest) e =
+      and_within (is_known few t) (are_known few rest) (is_known many t) (are_known many rest) (known_within few many within t) (all_within few many within rest) e
+
+positions_within : (few many : Known) → IsWithin few many → (args : Trees) → IsWithin (positions_known few args) (positions_known many args)
+positions_within few many within none i e = e
+positions_within few many within (more t rest) zero e = known_within few many within t e
+positions_within few many within (more t rest) (suc i) e = positions_within few many within rest i e
+
+at_within : (args : Trees) (few many : Known) → IsWithin few many → IsWithin (known_at few args) (known_at many args)
+at_within none few many within v e = e
+at_within (more t rest) few many within v e =
+    or_within (few 0 && occurs t v) (known_at (λ i. few (suc i)) rest v) (many 0 && occurs t v) (known_at (λ i. many (suc i)) rest v)
+    (and_within (few 0) (occurs t v) (many 0) (occurs t v) (within 0) (λ h. h))
+    (at_within rest (λ i. few (suc i)) (λ i. many (suc i)) (λ i. within (suc i)) v)
+    e
+
+after_within : (few many : Known) (goal : AtomTree) → IsWithin few many → IsWithin (known_after few goal) (known_after many goal)
+after_within few many goal within v e = or_within (few v) (occurs_among goal.args v) (many v) (occurs_among goal.args v) (within v) (λ h. h) e
+
+after_all_within : (goals : List AtomTree) (few many : Known) → IsWithin few many → IsWithin (known_after_all few goals) (known_after_all many goals)
+after_all_within [] few many within = within
+after_all_within (goal ∷ goals) few many within = after_all_within goals (known_after few goal) (known_after many goal) (after_within few many goal within)
+
+-- The set has each pair of the same predicate where fewer positions are known.
+abbrev IsDownward : (ℕ → Known → Type 0) → Type 0
+IsDownward pairs = (pred : ℕ) (few many : Known) → IsWithin few many → pairs pred many → pairs pred few
+
+calls_within : (pairs : ℕ → Known → Type 0) → IsDownward pairs → (goals : List AtomTree) (few many : Known) → IsWithin few many → Calls pairs many goals → Calls pairs few goals
+calls_within pairs down [] few many within calls = calls
+calls_within pairs down (goal ∷ goals) few many within calls =
+    ⊎_elim
+    (λ now. inl (down goal.pred (positions_known few goal.args) (positions_known many goal.args) (positions_within few many within goal.args) now))
+    (λ later. inr (calls_within pairs down goals (known_after few goal) (known_after many goal) (after_within few many goal within) later))
+    calls
+
+not_known : (a b : Bool) → (a ≡ true → b ≡ true) → b ≡ false → a ≡ false
+not_known true b f e = let g : b ≡ true = f refl in cc
+not_known false b f e = refl
+
+leaves_within : (clause : ClauseTree) (few many : Known) → IsWithin few many → LeavesUnknown many clause → LeavesUnknown few clause
+leaves_within clause few many within leaves =
+    (leaves.0, leaves.1, (not_known (known_after_all few clause.goals leaves.0) (known_after_all many clause.goals leaves.0) (after_all_within clause.goals few many within leaves.0) leaves.2))
+
+fails_within : (pairs : ℕ → Known → Type 0) → IsDownward pairs → (clauses : List ClauseTree) (pred : ℕ) (few many : Known) → IsWithin few many → SomeFails clauses pairs pred many → SomeFails clauses pairs pred few
+fails_within pairs down [] pred few many within fails = fails
+fails_within pairs down (clause ∷ clauses) pred few many within fails =
+    let at = at_within clause.head.args few many within in
+    ⊎_elim
+    (λ here. inl (
+      here.0,
+      ⊎_elim
+          (λ calls. inl (calls_within pairs down clause.goals (known_at few clause.head.args) (known_at many clause.head.args) at calls))
+          (λ leaves. inr (leaves_within clause (known_at few clause.head.args) (known_at many clause.head.args) at leaves))
+          here.1,
+    ))
+    (λ later. inr (fails_within pairs down clauses pred few many within later))
+    fails
+
+round_within : (clauses : List ClauseTree) (round : ℕ) → IsDownward (IsBadInRound clauses round)
+round_within clauses zero pred few many within bad = bad
+round_within clauses (suc round) pred few many within bad = fails_within (IsBadInRound clauses round) (round_within clauses round) clauses pred few many within bad
+
+pub bad_within : (clauses : List ClauseTree) (pred : ℕ) (few many : Known) → ((i : ℕ) → few i ≡ true → many i ≡ true) → IsBad clauses pred many → IsBad clauses pred few
+bad_within clauses pred few many within bad = (bad.0, round_within clauses bad.0 pred few many within bad.1)

@@ -1,0 +1,8 @@
+pub mod RisingLists
+pub mod OfferLaws
+pub mod Copies
+pub mod StepLaws
+pub mod InstanceLaws
+pub mod SideLaws
+pub mod GroundLaws
+pub mod Sample

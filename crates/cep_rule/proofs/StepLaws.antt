@@ -1,0 +1,95 @@
+-- What a step leads to is determined, and a step can be told by counts.
+use Rattle.std.proofs.Common.{◌≡◌, ℕ, ◌+◌, ◌-◌, ◌≤◌, List, ◌++◌, sym, ap, ◌∙◌, arith}
+use Rattle.std.specs.Cmp.{IsTotalOrder}
+use Rattle.std.specs.FinMap.{IsAntisymmetric}
+use Rattle.cep_term.specs.Tree.{Tree, AtomTree}
+use Rattle.cep_term.specs.Order.{atom_cmp}
+use Rattle.cep_term.specs.Multiset.{Multiset, count_of, sum_of, difference_of, IsBag}
+use Rattle.cep_rule.specs.declared.rule.Rule.{Rule}
+use Rattle.cep_rule.specs.Binding.{needed_of}
+use Rattle.cep_rule.specs.Instances.{instances_by, kept_of, left_of, right_of}
+use Rattle.cep_rule.specs.Step.{Step, StepsByCounts}
+use Rattle.cep_rule.proofs.Copies.{HasCopies, copies-bag, copies-gathered, copies-sum_of, same_counts}
+
+-- The counts of a sum are the sums of the counts.
+abbrev pub SumsCounts : Type 0
+SumsCounts = (bag other : Multiset) (a : AtomTree) → count_of (sum_of bag other) a ≡ count_of bag a + count_of other a
+
+-- The counts of a difference are the differences of the counts.
+abbrev pub TakesCounts : Type 0
+TakesCounts = (bag other : Multiset) (a : AtomTree) → count_of (difference_of bag other) a ≡ count_of bag a - count_of other a
+
+-- A difference of bags is a bag.
+abbrev pub KeepsBags : Type 0
+KeepsBags = (bag other : Multiset) → IsBag bag → IsBag other → IsBag (difference_of bag other)
+
+-- The new count is the old one without the left side's and with the right side's.
+after_counts : (l r x o n : ℕ) → o ≡ l + x → n ≡ r + x → (l ≤ o) × (n + l ≡ o + r)
+after_counts l r x o n e f = ((omega arith), (omega arith))
+
+same_after : (l r o m n : ℕ) → m + l ≡ o + r → n + l ≡ o + r → m ≡ n
+same_after l r o m n e f = omega arith
+
+same_rest : (l x y o : ℕ) → o ≡ l + x → o ≡ l + y → x ≡ y
+same_rest l x y o e f = omega arith
+
+-- The counts say which bag it is.
+abbrev pub CountsDecide : Type 0
+CountsDecide = (bag other : Multiset) → IsBag bag → IsBag other → ((a : AtomTree) → count_of bag a ≡ count_of other a) → bag ≡ other
+
+pub one_rest : SumsCounts → CountsDecide → (rule : Rule) (values : List Tree) (old one other : Multiset) (step : Step rule values old one) (step' : Step rule values old other) → step.rest ≡ step'.rest
+one_rest sums decide rule values old one other step step' =
+    let left = left_of rule values in
+    decide step.rest step'.rest step.bag step'.bag
+    (λ a. same_rest (count_of left a) (count_of step.rest a) (count_of step'.rest a) (count_of old a)
+    (ap (λ (bag : Multiset). count_of bag a) step.before ∙ sums left step.rest a)
+    (ap (λ (bag : Multiset). count_of bag a) step'.before ∙ sums left step'.rest a))
+
+back : (l o : ℕ) → l ≤ o → o ≡ l + (o - l)
+back l o h = omega arith
+
+onward : (l r o n : ℕ) → l ≤ o → n + l ≡ o + r → n ≡ r + (o - l)
+onward l r o n h e = omega arith
+
+module _ (total : IsTotalOrder atom_cmp) (ties : IsAntisymmetric atom_cmp) (sums : SumsCounts) where
+  counts_at : (rule : Rule) (values : List Tree) (old new : Multiset) → Step rule values old new → (a : AtomTree) → (count_of (left_of rule values) a ≤ count_of old a) × (count_of new a + count_of (left_of rule values) a ≡ count_of old a + count_of (right_of rule values) a)
+  counts_at rule values old new step a =
+      after_counts (count_of (left_of rule values) a) (count_of (right_of rule values) a) (count_of step.rest a) (count_of old a) (count_of new a)
+      (ap (λ (bag : Multiset). count_of bag a) step.before ∙ sums (left_of rule values) step.rest a)
+      (ap (λ (bag : Multiset). count_of bag a) step.after ∙ sums (right_of rule values) step.rest a)
+
+  pub counts_of_step : (rule : Rule) (values : List Tree) (old new : Multiset) → Step rule values old new → StepsByCounts rule values old new
+  counts_of_step rule values old new step = record {
+    contained = λ a. (counts_at rule values old new step a).0;
+    counts = λ a. (counts_at rule values old new step a).1;
+  }
+
+  left_copies : (rule : Rule) (values : List Tree) (rest : Multiset) → HasCopies (sum_of (left_of rule values) rest)
+  left_copies rule values rest = copies-sum_of total (left_of rule values) rest (copies-gathered total (instances_by values (needed_of rule)))
+
+  right_copies : (rule : Rule) (values : List Tree) (rest : Multiset) → HasCopies (sum_of (right_of rule values) rest)
+  right_copies rule values rest = copies-sum_of total (right_of rule values) rest (copies-gathered total (instances_by values (rule.right ++ kept_of rule)))
+
+  pub one_step : (rule : Rule) (values : List Tree) (old one other : Multiset) → Step rule values old one → Step rule values old other → one ≡ other
+  one_step rule values old one other step step' =
+      let left = left_of rule values in
+      let right = right_of rule values in
+      let counts : (a : AtomTree) → count_of one a ≡ count_of other a =
+      λ a. same_after (count_of left a) (count_of right a) (count_of old a) (count_of one a) (count_of other a) (counts_at rule values old one step a).1 (counts_at rule values old other step' a).1 in
+      let counts' : (a : AtomTree) → count_of (sum_of right step.rest) a ≡ count_of (sum_of right step'.rest) a =
+      λ a. ap (λ (bag : Multiset). count_of bag a) (sym step.after) ∙ counts a ∙ ap (λ (bag : Multiset). count_of bag a) step'.after in
+      step.after ∙ same_counts total ties (sum_of right step.rest) (sum_of right step'.rest) (right_copies rule values step.rest) (right_copies rule values step'.rest) counts' ∙ sym step'.after
+
+  pub step_by_counts : TakesCounts → KeepsBags → (rule : Rule) (values : List Tree) (old new : Multiset) → IsBag (left_of rule values) → IsBag old → IsBag new → StepsByCounts rule values old new → Step rule values old new
+  step_by_counts takes keeps rule values old new kept_left kept kept' steps =
+      let left = left_of rule values in
+      let right = right_of rule values in
+      let rest = difference_of old left in
+      record {
+        rest = rest;
+        bag = keeps old left kept kept_left;
+        before = same_counts total ties old (sum_of left rest) (copies-bag old kept) (left_copies rule values rest)
+            (λ a. back (count_of left a) (count_of old a) (steps.contained a) ∙ ap (λ n. count_of left a + n) (sym (takes old left a)) ∙ sym (sums left rest a));
+        after = same_counts total ties new (sum_of right rest) (copies-bag new kept') (right_copies rule values rest)
+            (λ a. onward (count_of left a) (count_of right a) (count_of old a) (count_of new a) (steps.contained a) (steps.counts a) ∙ ap (λ n. count_of right a + n) (sym (takes old left a)) ∙ sym (sums right rest a));
+      }

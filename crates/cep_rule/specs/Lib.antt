@@ -1,0 +1,13 @@
+pub mod Patterns
+pub mod Names
+pub mod Typing
+pub mod Limits
+pub mod Binding
+pub mod Groundness
+pub mod State
+pub mod Instances
+pub mod Derivations
+pub mod Offers
+pub mod Step
+pub mod Stages
+pub mod Program

@@ -1,0 +1,60 @@
+ghost use Rattle.std.specs.Prelude.{◌≡◌, ◌<◌, [], ◌∷◌, ◌++◌, length, slice_get, Some, OnOk, OnErr};
+ghost use Rattle.cep_term.specs.Tree.{atom_of};
+
+use cep_term::Atom;
+use std::alloc::{AllocError, Global};
+use std::marker::Model;
+
+/// A list of atoms, as the right side of a rule or the goals of a clause.
+#[derive(Debug, Drop)]
+pub struct AtomList {
+    atoms: Vec<Atom>,
+}
+
+impl Model for AtomList {
+    ghost use Rattle.std.specs.Prelude.{List, map};
+    ghost use Rattle.std.specs.Coded.{coded_list};
+    ghost use Rattle.cep_term.specs.Tree.{AtomTree, atom_of};
+    ghost use Rattle.cep_term.specs.Codes.{atom_code};
+
+    ghost Value = { List AtomTree };
+
+    ghost coded = { coded_list atom_code };
+
+    ghost view = { λ list. map atom_of list.atoms.items };
+}
+
+impl AtomList {
+    /// The list without atoms. It takes no memory.
+    pub fn new(alloc: Global) -> AtomList
+        ensures { result ≡ [] }
+    {
+        AtomList {
+            atoms: Vec::new(alloc),
+        }
+    }
+
+    /// How many atoms there are. It takes no memory.
+    pub fn len(&self) -> usize
+        ensures { result ≡ length self.now }
+    {
+        self.atoms.len()
+    }
+
+    /// The atom at this place, counted from 0. It takes no memory.
+    pub fn get(&self, i: usize) -> &Atom
+        requires { i < length self.now }
+        ensures { slice_get self.now i ≡ Some (atom_of result.now) }
+    {
+        &self.atoms[i]
+    }
+
+    /// Adds an atom at the end. After want of memory the list is as before, and the atom is gone.
+    pub fn push(&mut self, atom: Atom) -> Result<(), AllocError>
+        ensures ok { OnOk result (self.new ≡ self.old ++ atom_of atom ∷ []) }
+        ensures err { OnErr result (self.new ≡ self.old) }
+    {
+        self.atoms.push(atom)?;
+        Ok(())
+    }
+}

@@ -1,0 +1,102 @@
+//! Laws of what programs mean, for the crates that rest on them. Each function does nothing, and its
+//! contract is the law.
+ghost use Rattle.std.specs.Prelude.{◌≡◌, ◌↔◌, ℕ, List, [], true};
+ghost use Rattle.std.specs.declared.cmp.Ordering.TheVariants.{Equal};
+ghost use Rattle.std.specs.Cmp.{IsTotalOrder};
+ghost use Rattle.cep_term.specs.Tree.{Tree, AtomTree, IsGroundAtom};
+ghost use Rattle.cep_term.specs.Multiset.{Multiset, IsBag};
+ghost use Rattle.cep_rule.specs.declared.signature.Signature.{Signature};
+ghost use Rattle.cep_rule.specs.declared.rule.Rule.{Rule};
+ghost use Rattle.cep_rule.specs.declared.parts.Parts.{Parts};
+ghost use Rattle.cep_rule.specs.declared.offer.Offer.{Offer};
+ghost use Rattle.cep_rule.specs.Patterns.{ClauseTree};
+ghost use Rattle.cep_rule.specs.Typing.{IsTyped, AreValues};
+ghost use Rattle.cep_rule.specs.Groundness.{Known, IsBad};
+ghost use Rattle.cep_rule.specs.Instances.{instance_by, left_of, right_of};
+ghost use Rattle.cep_rule.specs.Offers.{offer_cmp, AreOffers};
+ghost use Rattle.cep_rule.specs.Step.{Step, StepsByCounts};
+ghost use Rattle.cep_rule.specs.Program.{IsTypedRule};
+
+use cep_term::laws::{atoms_are_gathered, counts_decide, order_is_total, sums_and_differences};
+
+/// A group has one list of offers in a state.
+pub fn one_list_of_offers()
+    ensures { (program : Parts) (height : ℕ) (state : Multiset) (group : ℕ) (one other : List Offer)
+        → AreOffers program height state group one
+        → AreOffers program height state group other
+        → one ≡ other }
+{
+    order_is_total();
+}
+
+/// Of two offers one stands before the other, unless they are one.
+pub fn offers_have_one_order()
+    ensures total { IsTotalOrder offer_cmp }
+    ensures ties { (one other : Offer) → offer_cmp one other ≡ Equal → one ≡ other }
+{
+    order_is_total();
+}
+
+/// A step by a rule with values for its variables leads from a state to one state, and leaves one
+/// rest alone.
+pub fn one_state_after_a_step()
+    ensures state { (rule : Rule) (values : List Tree) (old one other : Multiset)
+        → Step rule values old one
+        → Step rule values old other
+        → one ≡ other }
+    ensures rest { (rule : Rule) (values : List Tree) (old one other : Multiset)
+        (step : Step rule values old one) (step' : Step rule values old other)
+        → step.rest ≡ step'.rest }
+{
+    order_is_total();
+    sums_and_differences();
+    counts_decide();
+}
+
+/// A step can be told by counts alone: it is there exactly where the left side is, and what it does
+/// to the count of each atom says which one it is.
+pub fn steps_can_be_told_by_counts()
+    ensures { (rule : Rule) (values : List Tree) (old new : Multiset)
+        → IsBag (left_of rule values)
+        → IsBag old
+        → IsBag new
+        → (Step rule values old new ↔ StepsByCounts rule values old new) }
+{
+    order_is_total();
+    sums_and_differences();
+}
+
+/// Values of the right types make a well-typed atom a ground one that is well typed.
+pub fn instances_are_ground_and_typed()
+    ensures ground { (signature : Signature) (kinds : List ℕ) (values : List Tree) (a : AtomTree)
+        → AreValues signature.cons kinds values
+        → IsTyped signature kinds a
+        → IsGroundAtom (instance_by values a) }
+    ensures typed { (signature : Signature) (kinds : List ℕ) (values : List Tree) (a : AtomTree)
+        → AreValues signature.cons kinds values
+        → IsTyped signature kinds a
+        → IsTyped signature [] (instance_by values a) }
+{}
+
+/// With values of the right types both sides of a well-typed rule are multisets of ground atoms.
+pub fn sides_are_bags()
+    ensures left { (signature : Signature) (rule : Rule) (values : List Tree)
+        → IsTypedRule signature rule
+        → AreValues signature.cons rule.kinds values
+        → IsBag (left_of rule values) }
+    ensures right { (signature : Signature) (rule : Rule) (values : List Tree)
+        → IsTypedRule signature rule
+        → AreValues signature.cons rule.kinds values
+        → IsBag (right_of rule values) }
+{
+    atoms_are_gathered();
+}
+
+/// A pair that is bad is so too where fewer positions are known: so where more are known than in a
+/// pair that is not bad, none is bad.
+pub fn more_positions_known_are_no_worse()
+    ensures { (clauses : List ClauseTree) (pred : ℕ) (few many : Known)
+        → ((i : ℕ) → few i ≡ true → many i ≡ true)
+        → IsBad clauses pred many
+        → IsBad clauses pred few }
+{}

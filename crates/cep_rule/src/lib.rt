@@ -1,0 +1,40 @@
+//! Programs of Ceptre: their parts, what the parts of every program keep, and what its rules mean.
+//!
+//! The contracts read atoms and terms as plain trees, and lists as lists. `specs/` says which terms
+//! are well typed, which instances of rules apply to a state, what the offers of a group are, what a
+//! step does, which group a stage asks, and what a derivation proves; no code is named there. The
+//! laws of these that other crates rest on are the contracts of the functions in `laws`.
+#![tactic(auto)]
+
+mod atoms;
+mod clause;
+mod derivation;
+mod instances;
+mod items;
+pub mod laws;
+mod limits;
+mod offer;
+mod parts;
+mod program;
+mod rule;
+mod signature;
+mod terms;
+#[cfg(test)]
+mod tests;
+
+pub use atoms::AtomList;
+pub use clause::{Clause, Clauses};
+pub use derivation::{Derivation, Derivations};
+pub use instances::instance;
+pub use items::Items;
+pub use limits::{
+    MOST_ARGUMENTS, MOST_BACKS, MOST_CLAUSES, MOST_CONS, MOST_COPIES, MOST_GOALS, MOST_NAME,
+    MOST_PATTERN_NODES, MOST_PREDS, MOST_PREMISES, MOST_RIGHT, MOST_RULES, MOST_SORTS, MOST_STAGES,
+    MOST_STATE_NODES, MOST_TURNS, MOST_VARIABLES,
+};
+pub use offer::Offer;
+pub use parts::{Parts, Stage, Stages};
+pub use program::Program;
+pub use rule::{Premise, Premises, Rule, Rules};
+pub use signature::{Con, Cons, Kinds, Names, PredDecl, Preds, Signature};
+pub use terms::Terms;

@@ -1,0 +1,52 @@
+// The limits of a program and of its states. All of them are this profile's, and none is Ceptre's.
+
+/// The most types of a program. A text of the greatest length has fewer.
+pub const MOST_SORTS: usize = 1_048_576;
+
+/// The most constructors of a program.
+pub const MOST_CONS: usize = 65_536;
+
+/// The most predicates of a program.
+pub const MOST_PREDS: usize = 1_024;
+
+/// The most stages of a program. A text of the greatest length has fewer.
+pub const MOST_STAGES: usize = 1_048_576;
+
+/// The most rules of a program, those that change the stage included.
+pub const MOST_RULES: usize = 4_096;
+
+/// The most clauses of a program.
+pub const MOST_CLAUSES: usize = 4_096;
+
+/// The most bytes of a name.
+pub const MOST_NAME: usize = 255;
+
+/// The most arguments of a constructor or a predicate.
+pub const MOST_ARGUMENTS: usize = 8;
+
+/// The most variables of a rule or a clause.
+pub const MOST_VARIABLES: usize = 32;
+
+/// The most linear premises of a rule.
+pub const MOST_PREMISES: usize = 16;
+
+/// The most backward premises of a rule.
+pub const MOST_BACKS: usize = 8;
+
+/// The most atoms on the right side of a rule.
+pub const MOST_RIGHT: usize = 32;
+
+/// The most goals of a clause.
+pub const MOST_GOALS: usize = 8;
+
+/// The most nodes of an atom of a rule or a clause. A text of the greatest length has fewer.
+pub const MOST_PATTERN_NODES: u64 = 1_048_576;
+
+/// The most turns that a program may ask for.
+pub const MOST_TURNS: u32 = 1_000_000;
+
+/// The most copies of atoms in a state.
+pub const MOST_COPIES: u64 = 100_000;
+
+/// The most nodes in a state, each copy counted.
+pub const MOST_STATE_NODES: u64 = 4_194_304;

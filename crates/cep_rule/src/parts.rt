@@ -1,0 +1,31 @@
+use crate::clause::Clauses;
+use crate::items::Items;
+use crate::rule::Rules;
+use crate::signature::Signature;
+use cep_base::Name;
+use cep_term::Bag;
+
+/// A stage of Ceptre, whose own rules run until none applies. In an interactive one the player
+/// chooses.
+#[derive(Debug, Drop)]
+pub struct Stage {
+    pub name: Name,
+    pub interactive: bool,
+}
+
+/// A list of stages.
+pub type Stages = Items<Stage>;
+
+/// What a program is made of. Stages, rules and clauses are numbered in written order, from 0. The
+/// rules of stage k are those of group 2k, and those that leave it at quiescence are those of group
+/// 2k + 1; this numbering is this profile's. A program may say how many turns are done at most.
+#[derive(Debug, Drop)]
+pub struct Parts {
+    pub signature: Signature,
+    pub stages: Stages,
+    pub rules: Rules,
+    pub clauses: Clauses,
+    pub start_stage: u32,
+    pub start: Bag,
+    pub turns: Option<u32>,
+}

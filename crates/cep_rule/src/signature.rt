@@ -1,0 +1,42 @@
+use crate::items::Items;
+use cep_base::Name;
+
+/// A list of names: those of the types of a program, or those of the variables of a rule.
+pub type Names = Items<Name>;
+
+/// A list of types, each by its number.
+pub type Kinds = Items<u32>;
+
+/// A list of constructors.
+pub type Cons = Items<Con>;
+
+/// A list of predicates.
+pub type Preds = Items<PredDecl>;
+
+/// A constructor: it makes a term of its type from one term of each argument's type. Types are
+/// simple and constructors first order, as in Ceptre.
+#[derive(Debug, Drop)]
+pub struct Con {
+    pub name: Name,
+    pub sort: u32,
+    pub args: Kinds,
+}
+
+/// A predicate, linear or backward, with the types of its arguments. As in Ceptre, a state has atoms
+/// of linear ones, and clauses define the backward ones.
+#[derive(Debug, Drop)]
+pub struct PredDecl {
+    pub name: Name,
+    pub back: bool,
+    pub args: Kinds,
+}
+
+/// What a program declares of terms and atoms. Types, constructors and predicates are numbered in
+/// written order, from 0; the order of terms and atoms, which is this profile's, goes by these
+/// numbers.
+#[derive(Debug, Drop)]
+pub struct Signature {
+    pub sorts: Names,
+    pub cons: Cons,
+    pub preds: Preds,
+}
