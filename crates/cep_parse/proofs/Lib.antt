@@ -1,0 +1,4 @@
+pub mod Nodes
+pub mod Runs
+pub mod ForwardAtoms
+pub mod ForwardRules
