@@ -33,15 +33,6 @@ mutual
   pub arg_runs : (symbols : List Symbol) (more : List RawNode) → Arg symbols more
       → (items : List RawItem) (name : Span) (args : ℕ) (nodes : List RawNode) (levels : List Level) (used : Use) (rest : List Symbol) → TakesArgs levels
       → run items (atom_at name args nodes levels used) (symbols ++ rest) ≡ run items (behind_term name args (nodes ++ more) levels used) rest
-  -- a term behind its parenthesis, with the one that closes it
-  pub term_runs : (symbols : List Symbol) (more : List RawNode) → Term symbols more
-      → (items : List RawItem) (name : Span) (args : ℕ) (nodes : List RawNode) (levels : List Level) (used : Use) (close : Span) (rest : List Symbol)
-      → run items (atom_at name args nodes (Empty ∷ levels) used) (symbols ++ at word.Close close ∷ rest) ≡ run items (behind_term name args (nodes ++ more) levels used) rest
-  -- arguments
-  pub args_run : (symbols : List Symbol) (count : ℕ) (more : List RawNode) → Args symbols count more
-      → (items : List RawItem) (name : Span) (args : ℕ) (nodes : List RawNode) (levels : List Level) (used : Use) (rest : List Symbol) → TakesArgs levels
-      → run items (atom_at name args nodes levels used) (symbols ++ rest) ≡ run items (more_args_in levels count name args (nodes ++ more) used) rest
-
   arg_runs symbols more (arg_name a) items name args nodes levels used rest flat = refl
   arg_runs symbols more (arg_name a) items name args nodes levels used rest (within index count lower) = refl
   arg_runs symbols more (arg_variable a) items name args nodes levels used rest flat = refl
@@ -53,6 +44,10 @@ mutual
   arg_runs symbols more (arg_term open_ close inner more' term) items name args nodes levels used rest (within index count lower) =
       ap (run items (atom_at name args nodes (Empty ∷ Node index count ∷ lower) used)) (append_assoc inner (at word.Close close ∷ []) rest) ∙ term_runs inner more' term items name args nodes (Node index count ∷ lower) used close rest
 
+  -- a term behind its parenthesis, with the one that closes it
+  pub term_runs : (symbols : List Symbol) (more : List RawNode) → Term symbols more
+      → (items : List RawItem) (name : Span) (args : ℕ) (nodes : List RawNode) (levels : List Level) (used : Use) (close : Span) (rest : List Symbol)
+      → run items (atom_at name args nodes (Empty ∷ levels) used) (symbols ++ at word.Close close ∷ rest) ≡ run items (behind_term name args (nodes ++ more) levels used) rest
   term_runs symbols more (applied a inner count others args') items name args nodes levels used close rest =
       args_run inner count others args' items name args (nodes ++ node App a 0 ∷ []) (Node (length nodes) 0 ∷ levels) used (at word.Close close ∷ rest) (within (length nodes) 0 levels)
       ∙ (let e : set_args ((nodes ++ node App a 0 ∷ []) ++ others) (length nodes) (0 + count) ≡ nodes ++ node App a count ∷ others =
@@ -64,6 +59,10 @@ mutual
       ap (run items (atom_at name args nodes (Empty ∷ Empty ∷ levels) used)) (append_assoc inner (at word.Close close' ∷ []) (at word.Close close ∷ rest))
       ∙ term_runs inner more' term items name args nodes (Empty ∷ levels) used close' (at word.Close close ∷ rest)
 
+  -- arguments
+  pub args_run : (symbols : List Symbol) (count : ℕ) (more : List RawNode) → Args symbols count more
+      → (items : List RawItem) (name : Span) (args : ℕ) (nodes : List RawNode) (levels : List Level) (used : Use) (rest : List Symbol) → TakesArgs levels
+      → run items (atom_at name args nodes levels used) (symbols ++ rest) ≡ run items (more_args_in levels count name args (nodes ++ more) used) rest
   args_run symbols count more no_args items name args nodes levels used rest flat =
       (λ i. run items (atom_at name (same_count i) (sym (append-nil nodes) i) [] used) rest) where
     same_count : args ≡ args + 0

@@ -4,6 +4,7 @@
 mod atoms;
 mod begins;
 mod fault;
+mod laws;
 mod levels;
 mod list;
 mod parser;
@@ -14,6 +15,7 @@ mod steps;
 mod symbol;
 
 pub use fault::ParseFault;
+pub use laws::one_raw_file;
 pub use list::List;
 pub use parser::{MOST_OPEN, parse};
 pub use raw::{

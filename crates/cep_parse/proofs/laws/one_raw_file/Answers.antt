@@ -1,0 +1,5 @@
+use Rattle.cep_parse.proofs.ForwardFiles.{file_once}
+use Rattle.cep_parse.proofs.laws.one_raw_file.Goals as goal
+
+pub returns : goal.returns
+returns c = file_once
