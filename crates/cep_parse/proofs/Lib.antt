@@ -4,3 +4,6 @@ pub mod ForwardAtoms
 pub mod ForwardRules
 pub mod ForwardItems
 pub mod ForwardFiles
+pub mod Residual
+pub mod BackAtoms
+pub mod BackRules
