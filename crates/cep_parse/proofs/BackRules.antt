@@ -56,7 +56,7 @@ pub whole_atom_of : (x : Span) (front : List Symbol) (a : RawAtom) → AtomRest 
 whole_atom_of x front a up = subst (λ b. Atom (at word.Name x ∷ front) b) (sym (up.is ∙ (let e : 0 + up.count ≡ up.count = omega arith in λ i. record { name = x; args = e i; nodes = up.more }))) (atom x front up.count up.more up.read)
 
 -- an element before the others, on the left and on the right
-elem_back_left : (stage : Option StageSoFar) (first : List Symbol) (fs : List RawElem) → Elem (left_of stage) first fs → (place : ℕ) (label : Option Span) (left : List RawElem) (behind : List Symbol) (i : RawItem)
+pub elem_back_left : (stage : Option StageSoFar) (first : List Symbol) (fs : List RawElem) → Elem (left_of stage) first fs → (place : ℕ) (label : Option Span) (left : List RawElem) (behind : List Symbol) (i : RawItem)
     → LeftRest Stars stage place label (left ++ fs) behind i → LeftRest Elems stage place label left (first ++ behind) i
 elem_back_left stage first fs h place label left behind i up = record {
   front = first ++ up.front;

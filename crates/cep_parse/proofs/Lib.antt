@@ -7,3 +7,5 @@ pub mod ForwardFiles
 pub mod Residual
 pub mod BackAtoms
 pub mod BackRules
+pub mod BackUses
+pub mod BackItems

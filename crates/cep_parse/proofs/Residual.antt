@@ -245,8 +245,8 @@ pub record InAtomRest (a : AtomSoFar) (used : Use) (rest : List Symbol) (i : Raw
 
 -- where nothing but names and places are kept: the item with what stands before
 abbrev pub PlainRest : Plain → List Symbol → RawItem → Type 0
-PlainRest plain.Ended rest i = ⊥
-PlainRest plain.Top rest i = ⊥
+PlainRest plain.Ended rest i = Unit {0}
+PlainRest plain.Top rest i = Item rest i
 PlainRest (plain.Labelled a) rest i = (c : Span) → Item (at word.Name a ∷ at word.Colon c ∷ rest) i
 PlainRest (plain.Blank place) rest i = (b : Span) → b.from ≡ place → Item (at word.Blank b ∷ rest) i
 PlainRest (plain.StageWord place) rest i = (s : Span) → s.from ≡ place → Item (at word.Stage s ∷ rest) i
