@@ -9,3 +9,4 @@ pub mod BackAtoms
 pub mod BackRules
 pub mod BackUses
 pub mod BackItems
+pub mod Within
