@@ -145,7 +145,7 @@ declared_back name args word.Name x rest i h c = given_item (λ r. at word.Name 
 declared_back name args _ x rest i h c = absurd h
 
 -- before an item
-begin_back : (w : Word) (x : Span) (rest : List Symbol) (i : RawItem) → NextRest (begin w x) rest i → Item (at w x ∷ rest) i
+pub begin_back : (w : Word) (x : Span) (rest : List Symbol) (i : RawItem) → NextRest (begin w x) rest i → Item (at w x ∷ rest) i
 begin_back word.Name x rest i h = h
 begin_back word.Blank x rest i h = h x refl
 begin_back word.Stage x rest i h = h x refl

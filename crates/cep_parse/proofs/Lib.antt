@@ -10,3 +10,4 @@ pub mod BackRules
 pub mod BackUses
 pub mod BackItems
 pub mod Within
+pub mod Endings
