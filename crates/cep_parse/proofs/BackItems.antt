@@ -123,7 +123,7 @@ names_args (a ∷ args) front count more h =
 names_item : (name : Span) (args : List Span) (s : Symbol) (rest : List Symbol) (i : RawItem) → InAtomRest (atom_of_names name args) (use_.First name.from None) (s ∷ rest) i → Item (at word.Name name ∷ (names args ++ s ∷ rest)) i
 names_item name args s rest i up =
     let h : Atom (at word.Name name ∷ (names args ++ up.front)) up.atom =
-        subst (λ b. Atom (at word.Name name ∷ (names args ++ up.front)) b) (sym up.read.is) (atom name _ _ _ (names_args args up.front up.read.count up.read.more up.read.read)) in
+    subst (λ b. Atom (at word.Name name ∷ (names args ++ up.front)) b) (sym up.read.is) (atom name _ _ _ (names_args args up.front up.read.count up.read.more up.read.read)) in
     subst (λ r. Item (at word.Name name ∷ r) i) (append_assoc (names args) up.front up.behind ∙ ap (λ r. names args ++ r) (sym up.cut))
     (head_item [] None no_label name.from (at word.Name name ∷ (names args ++ up.front)) up.atom h up.behind i refl (λ dot. fact dot (at word.Name name ∷ (names args ++ up.front)) up.atom h) up.after)
 

@@ -55,7 +55,6 @@ use Rattle.cep_parse.specs.Grammar.Limit.{blank as blank_limit}
 use Rattle.cep_parse.specs.Grammar.Item.{sort, pred, unnamed, stage as stage_item, context, interactive, trace_named}
 use Rattle.cep_parse.proofs.Residual.{AtomRest, Up, UpFlat, DotRest, RulesRest, RuleEnd, left_of, right_of, LeftRest, RightRest, SideRest, KeptRest, StageRest, RuleRest, GoalsRest, GoalRest, BagEnd, BagMoreRest, BagElemRest, BagFirstRest, BagUnitRest, BagRest, HeadRest, UseRest, InAtomRest, PlainRest, Rest}
 use Rattle.cep_parse.proofs.Residual.HeadRest.{alone}
-use Rattle.cep_parse.proofs.Within.{is_within}
 
 -- some symbols with which an item ends, and the item
 pub record Ends (R : List Symbol → RawItem → Type 0) : Type 0 where
@@ -219,8 +218,11 @@ plain_ends plain.Ended = record { rest = []; i = some_item; read = tt }
 plain_ends plain.Top = record { rest = at word.Interactive z ∷ at word.Name z ∷ at word.Dot z ∷ []; i = some_item; read = interactive z z z }
 plain_ends (plain.Labelled a) = record { rest = at word.Type z ∷ at word.Dot z ∷ []; i = item.Sort a; read = λ c. sort a c z z }
 plain_ends (plain.Blank place) =
-    record { rest = at word.Colon z ∷ (unit_symbols ++ at word.Lolli z ∷ (unit_symbols ++ at word.Dot z ∷ [])); i = item.Outer (record { at = place; label = None; left = []; right = [] });
-      read = λ b is. subst (λ p. Item (at word.Blank b ∷ at word.Colon z ∷ (unit_symbols ++ at word.Lolli z ∷ (unit_symbols ++ at word.Dot z ∷ []))) (item.Outer (record { at = p; label = None; left = []; right = [] }))) is (unnamed b z _ [] [] (unit_sides true)) }
+    record {
+      rest = at word.Colon z ∷ (unit_symbols ++ at word.Lolli z ∷ (unit_symbols ++ at word.Dot z ∷ []));
+      i = item.Outer (record { at = place; label = None; left = []; right = [] });
+      read = λ b is. subst (λ p. Item (at word.Blank b ∷ at word.Colon z ∷ (unit_symbols ++ at word.Lolli z ∷ (unit_symbols ++ at word.Dot z ∷ []))) (item.Outer (record { at = p; label = None; left = []; right = [] }))) is (unnamed b z _ [] [] (unit_sides true));
+    }
 plain_ends (plain.StageWord place) = record { rest = at word.Name z ∷ at word.Equals z ∷ at word.OpenBrace z ∷ at word.CloseBrace z ∷ []; i = item.Stage z []; read = λ s is. stage_item s z z z z [] [] [] no_rules no_dot }
 plain_ends (plain.StageNamed place a) = record { rest = at word.Equals z ∷ at word.OpenBrace z ∷ at word.CloseBrace z ∷ []; i = item.Stage a []; read = λ s is. stage_item s a z z z [] [] [] no_rules no_dot }
 plain_ends (plain.StageEquals a) = record { rest = at word.OpenBrace z ∷ at word.CloseBrace z ∷ []; i = item.Stage a []; read = λ s e. stage_item s a e z z [] [] [] no_rules no_dot }

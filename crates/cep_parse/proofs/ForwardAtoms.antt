@@ -51,8 +51,8 @@ mutual
   term_runs symbols more (applied a inner count others args') items name args nodes levels used close rest =
       args_run inner count others args' items name args (nodes ++ node App a 0 ∷ []) (Node (length nodes) 0 ∷ levels) used (at word.Close close ∷ rest) (within (length nodes) 0 levels)
       ∙ (let e : set_args ((nodes ++ node App a 0 ∷ []) ++ others) (length nodes) (0 + count) ≡ nodes ++ node App a count ∷ others =
-              ap (λ ns. set_args ns (length nodes) (0 + count)) (append_assoc nodes (node App a 0 ∷ []) others) ∙ set_args_at nodes others (node App a 0) (0 + count) ∙ ap (λ n. nodes ++ node App a n ∷ others) (omega arith) in
-         ap (λ ns. run items (behind_term name args ns levels used) rest) e)
+      ap (λ ns. set_args ns (length nodes) (0 + count)) (append_assoc nodes (node App a 0 ∷ []) others) ∙ set_args_at nodes others (node App a 0) (0 + count) ∙ ap (λ n. nodes ++ node App a n ∷ others) (omega arith) in
+      ap (λ ns. run items (behind_term name args ns levels used) rest) e)
   term_runs symbols more (variable a) items name args nodes levels used close rest = refl
   term_runs symbols more (blank a) items name args nodes levels used close rest = refl
   term_runs symbols more (nested open_ close' inner more' term) items name args nodes levels used close rest =
@@ -65,24 +65,24 @@ mutual
       → run items (atom_at name args nodes levels used) (symbols ++ rest) ≡ run items (more_args_in levels count name args (nodes ++ more) used) rest
   args_run symbols count more no_args items name args nodes levels used rest flat =
       (λ i. run items (atom_at name (same_count i) (sym (append-nil nodes) i) [] used) rest) where
-    same_count : args ≡ args + 0
-    same_count = omega arith
+        same_count : args ≡ args + 0
+        same_count = omega arith
   args_run symbols count more no_args items name args nodes levels used rest (within index count' lower) =
       (λ i. run items (atom_at name args (sym (append-nil nodes) i) (Node index (same_count i) ∷ lower) used) rest) where
-    same_count : count' ≡ count' + 0
-    same_count = omega arith
+        same_count : count' ≡ count' + 0
+        same_count = omega arith
   args_run symbols count more (more_args first others n ms ms' one args') items name args nodes levels used rest flat =
       ap (run items (atom_at name args nodes [] used)) (append_assoc first others rest)
       ∙ arg_runs first ms one items name args nodes [] used (others ++ rest) flat
       ∙ args_run others n ms' args' items name (args + 1) (nodes ++ ms) [] used rest flat
       ∙ (let e : args + 1 + n ≡ args + (n + 1) = omega arith in
-         λ i. run items (atom_at name (e i) (append_assoc nodes ms ms' i) [] used) rest)
+      λ i. run items (atom_at name (e i) (append_assoc nodes ms ms' i) [] used) rest)
   args_run symbols count more (more_args first others n ms ms' one args') items name args nodes levels used rest (within index count' lower) =
       ap (run items (atom_at name args nodes (Node index count' ∷ lower) used)) (append_assoc first others rest)
       ∙ arg_runs first ms one items name args nodes (Node index count' ∷ lower) used (others ++ rest) (within index count' lower)
       ∙ args_run others n ms' args' items name args (nodes ++ ms) (Node index (count' + 1) ∷ lower) used rest (within index (count' + 1) lower)
       ∙ (let e : count' + 1 + n ≡ count' + (n + 1) = omega arith in
-         λ i. run items (atom_at name args (append_assoc nodes ms ms' i) (Node index (e i) ∷ lower) used) rest)
+      λ i. run items (atom_at name args (append_assoc nodes ms ms' i) (Node index (e i) ∷ lower) used) rest)
 
 -- what may stand behind an atom
 pub data StandsBehind : Word → Type 0 where
@@ -108,8 +108,8 @@ names_run symbols count more no_args items name names mark place rest stands = n
 names_run symbols count more (more_args first others n ms ms' (arg_name a) args') items name names mark place rest stands =
     names_run others n ms' args' items name (names ++ a ∷ []) mark place rest stands
     ∙ (let e : length (names ++ a ∷ []) + n ≡ length names + (n + 1) = let s = length-append names (a ∷ []) in omega arith in
-       let m : name_nodes (names ++ a ∷ []) ++ ms' ≡ name_nodes names ++ (node App a 0 ∷ ms') = ap (λ ns. ns ++ ms') (map-append (λ b. node App b 0) names (a ∷ [])) ∙ append_assoc (name_nodes names) (node App a 0 ∷ []) ms' in
-       λ i. run items (atom_at name (e i) (m i) [] (use_.First name.from None)) (at mark place ∷ rest))
+    let m : name_nodes (names ++ a ∷ []) ++ ms' ≡ name_nodes names ++ (node App a 0 ∷ ms') = ap (λ ns. ns ++ ms') (map-append (λ b. node App b 0) names (a ∷ [])) ∙ append_assoc (name_nodes names) (node App a 0 ∷ []) ms' in
+    λ i. run items (atom_at name (e i) (m i) [] (use_.First name.from None)) (at mark place ∷ rest))
 names_run symbols count more (more_args first others n ms ms' (arg_variable a) args') items name names mark place rest stands =
     args_run _ _ _ (more_args first others n ms ms' (arg_variable a) args') items name (length names) (name_nodes names) [] (use_.First name.from None) (at mark place ∷ rest) flat
 names_run symbols count more (more_args first others n ms ms' (arg_blank a) args') items name names mark place rest stands =

@@ -11,3 +11,5 @@ pub mod BackUses
 pub mod BackItems
 pub mod Within
 pub mod Endings
+pub mod Reading
+pub mod TokenLemmas

@@ -1,4 +1,4 @@
--- Runs of the machine, and the way from the grammar to them: a derivation runs to its raw item.
+-- Runs of the machine.
 use Rattle.std.proofs.Common.{◌≡◌, ℕ, zero, suc, ◌+◌, ◌<◌, Bool, true, false, List, [], ◌∷◌, ◌++◌, length, map, Option, None, Some, refl, sym, ap, subst, ◌∙◌, arith, append_assoc, length-append}
 use Rattle.std.proofs.lemmas.List.{append-nil}
 use Rattle.cep_parse.specs.declared.raw.Span.{Span}
@@ -23,24 +23,9 @@ use Rattle.cep_parse.specs.Grammar.{at, node, Arg, Term, Args}
 use Rattle.cep_parse.specs.Grammar.Arg.{arg_name, arg_variable, arg_blank, arg_term}
 use Rattle.cep_parse.specs.Grammar.Term.{applied, variable, blank, nested}
 use Rattle.cep_parse.specs.Grammar.Args.{no_args, more_args}
-use Rattle.cep_parse.specs.Machine.{child_in, set_args, step}
+pub use Rattle.cep_parse.specs.Machine.{Config, moved, state_behind}
+use Rattle.cep_parse.specs.Machine.{step}
 use Rattle.cep_parse.proofs.Nodes.{set_args_at}
-
--- a state, and the items before it
-pub record Config : Type 0 where
-  pub items : List RawItem
-  pub state : State
-
--- the state behind a whole item
-abbrev pub state_behind : Bool → State
-state_behind true = state.Plain plain.Ended
-state_behind false = state.Plain plain.Top
-
--- what a symbol does to a configuration
-abbrev pub moved : List RawItem → Next → Option Config
-moved items (Go s) = Some (record { items = items; state = s })
-moved items (Item i may_dot) = Some (record { items = items ++ i ∷ []; state = state_behind may_dot })
-moved items Stop = None
 
 -- a run over symbols, from where a configuration is left
 abbrev pub run_from : Option Config → List Symbol → Option Config

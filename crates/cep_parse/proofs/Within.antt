@@ -37,19 +37,13 @@ use Rattle.cep_parse.specs.declared.state.Grown.{Grown}
 use Rattle.cep_parse.specs.declared.state.Grown.TheVariants.{Going, Ended, Broken}
 use Rattle.cep_parse.specs.declared.symbol.Word.{Word}
 use Rattle.cep_parse.specs.Grammar.{node}
-use Rattle.cep_parse.specs.Machine.{atom_of_names, bag_behind, bag_ended, bag_first, bag_next, bag_unit, before_elem, before_goal, begin, behind_atom, behind_blank, behind_dollar, behind_goal, behind_head, behind_in, behind_left, behind_open, behind_right, behind_stage, context_equals, context_named, context_word, grow_in, grown, interactive_word, labelled, named, rule_ended, rule_from, rule_named, stage_equals, stage_named, stage_word, step, step_atom, step_bag, step_declared, step_ending, step_names, step_plain, step_rule, step_rules, trace_limit, trace_stage, trace_word, with_elem, with_goal}
+use Rattle.cep_parse.specs.Machine.{atom_of_names, bag_behind, bag_ended, bag_first, bag_next, bag_unit, before_elem, before_goal, begin, behind_atom, behind_blank, behind_dollar, behind_goal, behind_head, behind_in, behind_left, behind_open, behind_right, behind_stage, context_equals, context_named, context_word, grow_in, grown, interactive_word, is_within, labelled, named, rule_ended, rule_from, rule_named, stage_equals, stage_named, stage_word, step, step_atom, step_bag, step_declared, step_ending, step_names, step_plain, step_rule, step_rules, trace_limit, trace_stage, trace_word, with_elem, with_goal}
 
 -- whether a step leads to where items begin
 abbrev pub is_between : Next → Bool
 is_between (Go (state.Plain plain.Ended)) = true
 is_between (Go (state.Plain plain.Top)) = true
 is_between _ = false
-
--- a state within an item
-abbrev pub is_within : State → Bool
-is_within (state.Plain plain.Ended) = false
-is_within (state.Plain plain.Top) = false
-is_within _ = true
 
 before_elem_within : (right : Option (List RawElem)) (stage : Option StageSoFar) (place : ℕ) (label : Option Span) (left : List RawElem) (w : Word) (x : Span)
     → is_between (before_elem (record { stage = stage; at = place; label = label; left = left; right = right }) w x) ≡ false

@@ -434,3 +434,25 @@ step (state.Rule r place) word at = step_rule r place word at
 step (state.Goal c) word at = before_goal c word at
 step (state.Bag b place) word at = step_bag b place word at
 step (state.Atom a used) word at = step_atom a used word at
+
+-- a state, and the items before it
+pub record Config : Type 0 where
+  pub items : List RawItem
+  pub state : State
+
+-- the state behind a whole item
+abbrev pub state_behind : Bool → State
+state_behind true = state.Plain plain.Ended
+state_behind false = state.Plain plain.Top
+
+-- what a symbol does to a configuration
+abbrev pub moved : List RawItem → Next → Option Config
+moved items (Go s) = Some (record { items = items; state = s })
+moved items (Item i may_dot) = Some (record { items = items ++ i ∷ []; state = state_behind may_dot })
+moved items Stop = None
+
+-- a state within an item
+abbrev pub is_within : State → Bool
+is_within (state.Plain plain.Ended) = false
+is_within (state.Plain plain.Top) = false
+is_within _ = true

@@ -105,7 +105,12 @@ fn closed(mut atom: AtomSoFar, index: usize, args: u32) -> Result<AtomSoFar, All
 }
 
 // What a symbol does where arguments of a constructor are read.
-fn grow_args(mut atom: AtomSoFar, index: usize, args: u32, symbol: Symbol) -> Result<Grown, AllocError>
+fn grow_args(
+    mut atom: AtomSoFar,
+    index: usize,
+    args: u32,
+    symbol: Symbol,
+) -> Result<Grown, AllocError>
     ensures { IfOk result (λ grown. grown ≡ grow_args (record { name = atom.name; args = atom.args; nodes = atom.nodes; levels = Level.Node index args ∷ atom.levels }) atom.levels index args symbol.word symbol.at) }
 {
     if let Word::Close = symbol.word {

@@ -4,9 +4,7 @@ ghost use Rattle.cep_parse.specs.Machine.{IsFixed, begin, labelled, plainly, sta
 
 use crate::raw::{RawAtoms, RawElem, RawItem, RawRules, RawSide, RawStart, Span, Spans};
 use crate::rules::{atom_for, before_elem, behind_left, rule_from};
-use crate::state::{
-    BagHome, BagPlace, BagSoFar, Next, Plain, RulePlace, StageSoFar, State, Use,
-};
+use crate::state::{BagHome, BagPlace, BagSoFar, Next, Plain, RulePlace, StageSoFar, State, Use};
 use crate::symbol::{Symbol, Word};
 use std::alloc::{AllocError, Global};
 
@@ -37,7 +35,11 @@ fn begin(alloc: Global, symbol: Symbol) -> Result<Next, AllocError>
         Word::Context => Ok(plainly(Plain::ContextWord)),
         Word::Interactive => Ok(plainly(Plain::InteractiveWord)),
         Word::Trace => Ok(plainly(Plain::TraceWord { at })),
-        _ => before_elem(alloc, rule_from(None, at, None, RawSide::new(alloc)), symbol),
+        _ => before_elem(
+            alloc,
+            rule_from(None, at, None, RawSide::new(alloc)),
+            symbol,
+        ),
     }
 }
 

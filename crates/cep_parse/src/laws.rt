@@ -7,5 +7,4 @@ ghost use Rattle.cep_parse.specs.Grammar.{File};
 /// Symbols are one raw file at most, so what `parse` accepts is a function of the text.
 pub fn one_raw_file()
     ensures { (symbols : List Symbol) (one : List RawItem) (other : List RawItem) → File symbols one → File symbols other → one ≡ other }
-{
-}
+{}

@@ -99,8 +99,13 @@ pub enum RawItem {
 }
 
 pub type Spans = List<Span>;
+
 pub type RawNodes = List<RawNode>;
+
 pub type RawAtoms = List<RawAtom>;
+
 pub type RawSide = List<RawElem>;
+
 pub type RawRules = List<RawRule>;
+
 pub type RawFile = List<RawItem>;

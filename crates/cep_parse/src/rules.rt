@@ -21,7 +21,12 @@ pub(crate) fn atom_for(alloc: Global, name: Span, used: Use) -> Next
 }
 
 /// A rule of which nothing was read but its label and maybe its first element.
-pub(crate) fn rule_from(stage: Option<StageSoFar>, at: u32, label: Option<Span>, left: RawSide) -> RuleSoFar
+pub(crate) fn rule_from(
+    stage: Option<StageSoFar>,
+    at: u32,
+    label: Option<Span>,
+    left: RawSide,
+) -> RuleSoFar
     ensures { result ≡ rule_from stage at label left }
 {
     RuleSoFar {
@@ -91,7 +96,11 @@ fn at_place(rule: RuleSoFar, place: RulePlace) -> Next
 }
 
 /// Before an element.
-pub(crate) fn before_elem(alloc: Global, rule: RuleSoFar, symbol: Symbol) -> Result<Next, AllocError>
+pub(crate) fn before_elem(
+    alloc: Global,
+    rule: RuleSoFar,
+    symbol: Symbol,
+) -> Result<Next, AllocError>
     ensures { IfOk result (λ next. next ≡ before_elem rule symbol.word symbol.at) }
 {
     let outer = rule.stage.is_none();
@@ -130,7 +139,11 @@ pub(crate) fn behind_left(alloc: Global, rule: RuleSoFar, symbol: Symbol) -> Nex
 }
 
 /// Behind an element.
-pub(crate) fn behind_elem(alloc: Global, rule: RuleSoFar, symbol: Symbol) -> Result<Next, AllocError>
+pub(crate) fn behind_elem(
+    alloc: Global,
+    rule: RuleSoFar,
+    symbol: Symbol,
+) -> Result<Next, AllocError>
     ensures { IfOk result (λ next. next ≡ behind_elem rule symbol.word) }
 {
     let RuleSoFar {
@@ -147,7 +160,14 @@ pub(crate) fn behind_elem(alloc: Global, rule: RuleSoFar, symbol: Symbol) -> Res
 }
 
 // Behind an element on the right.
-fn behind_right(stage: Option<StageSoFar>, at: u32, label: Option<Span>, left: RawSide, right: RawSide, symbol: Symbol) -> Result<Next, AllocError>
+fn behind_right(
+    stage: Option<StageSoFar>,
+    at: u32,
+    label: Option<Span>,
+    left: RawSide,
+    right: RawSide,
+    symbol: Symbol,
+) -> Result<Next, AllocError>
     ensures { IfOk result (λ next. next ≡ behind_right (record { stage = stage; at = at; label = label; left = left; right = Some right }) right symbol.word) }
 {
     match symbol.word {
@@ -175,7 +195,12 @@ fn behind_right(stage: Option<StageSoFar>, at: u32, label: Option<Span>, left: R
 }
 
 /// In a rule.
-pub(crate) fn step_rule(alloc: Global, rule: RuleSoFar, place: RulePlace, symbol: Symbol) -> Result<Next, AllocError>
+pub(crate) fn step_rule(
+    alloc: Global,
+    rule: RuleSoFar,
+    place: RulePlace,
+    symbol: Symbol,
+) -> Result<Next, AllocError>
     ensures { IfOk result (λ next. next ≡ step_rule rule place symbol.word symbol.at) }
 {
     match (place, symbol.word) {

@@ -10,29 +10,53 @@ pub(crate) enum Plain {
     /// Whole items.
     Top,
     /// `a :`
-    Labelled { label: Span },
+    Labelled {
+        label: Span,
+    },
     /// `_`
-    Blank { at: u32 },
+    Blank {
+        at: u32,
+    },
     /// `stage`
-    StageWord { at: u32 },
+    StageWord {
+        at: u32,
+    },
     /// `stage a`
-    StageNamed { at: u32, name: Span },
+    StageNamed {
+        at: u32,
+        name: Span,
+    },
     /// `stage a =`
-    StageEquals { name: Span },
+    StageEquals {
+        name: Span,
+    },
     /// `context`
     ContextWord,
     /// `context a`
-    ContextNamed { name: Span },
+    ContextNamed {
+        name: Span,
+    },
     /// `context a =`
-    ContextEquals { name: Span },
+    ContextEquals {
+        name: Span,
+    },
     /// `#interactive`
     InteractiveWord,
     /// `#trace`
-    TraceWord { at: u32 },
+    TraceWord {
+        at: u32,
+    },
     /// `#trace _`
-    TraceLimit { at: u32, limit: Option<Span> },
+    TraceLimit {
+        at: u32,
+        limit: Option<Span>,
+    },
     /// `#trace _ a`
-    TraceStage { at: u32, limit: Option<Span>, stage: Span },
+    TraceStage {
+        at: u32,
+        limit: Option<Span>,
+        stage: Span,
+    },
 }
 
 /// An atom of which so much was read.
@@ -87,8 +111,14 @@ pub(crate) struct ClauseSoFar {
 /// What a bag belongs to.
 #[derive(Clone, Copy)]
 pub(crate) enum BagHome {
-    Context { name: Span },
-    Trace { at: u32, limit: Option<Span>, stage: Span },
+    Context {
+        name: Span,
+    },
+    Trace {
+        at: u32,
+        limit: Option<Span>,
+        stage: Span,
+    },
 }
 
 /// A bag of which some atoms were read.

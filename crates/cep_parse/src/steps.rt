@@ -33,7 +33,13 @@ fn head_alone(alloc: Global, label: Option<Span>, head: RawAtom) -> RawItem
 }
 
 // Behind the first atom of a clause or of an outer rule.
-fn behind_head(alloc: Global, at: u32, label: Option<Span>, head: RawAtom, symbol: Symbol) -> Result<Next, AllocError>
+fn behind_head(
+    alloc: Global,
+    at: u32,
+    label: Option<Span>,
+    head: RawAtom,
+    symbol: Symbol,
+) -> Result<Next, AllocError>
     ensures { IfOk result (λ next. next ≡ behind_head at label head symbol.word) }
 {
     match symbol.word {
@@ -124,7 +130,12 @@ fn named(name: Span, args: Spans) -> Next
 }
 
 // Behind names.
-fn step_names(alloc: Global, name: Span, mut args: Spans, symbol: Symbol) -> Result<Next, AllocError>
+fn step_names(
+    alloc: Global,
+    name: Span,
+    mut args: Spans,
+    symbol: Symbol,
+) -> Result<Next, AllocError>
     ensures { IfOk result (λ next. next ≡ step_names name args symbol.word symbol.at) }
 {
     match symbol.word {

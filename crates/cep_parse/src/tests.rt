@@ -1,6 +1,4 @@
-use crate::{
-    ParseFault, RawAtom, RawElem, RawItem, RawKind, RawRule, RawStart, Span, parse,
-};
+use crate::{ParseFault, RawAtom, RawElem, RawItem, RawKind, RawRule, RawStart, Span, parse};
 use cep_lex::{MOST_BYTES, lex, place};
 use std::alloc::Global;
 use std::test::Fail;
@@ -75,7 +73,13 @@ fn put_names(out: &mut String, text: &str, names: &[Span]) -> Result<(), Fail> {
     Ok(())
 }
 
-fn put_trace(out: &mut String, text: &str, limit: Option<Span>, stage: Span, start: &RawStart) -> Result<(), Fail> {
+fn put_trace(
+    out: &mut String,
+    text: &str,
+    limit: Option<Span>,
+    stage: Span,
+    start: &RawStart,
+) -> Result<(), Fail> {
     put_label(out, text, limit)?;
     put(out, text, stage, " ")?;
     match start {
@@ -176,9 +180,15 @@ fn texts_say_this(rt: HostRuntime) -> Result<(), Fail> {
         ("l : a * $b * () -o ().", "0 l: a/0; $b/0; -o\n"),
         ("_ : qui * stage s -o stage t * a.", "0 qui;s@ -ot@ a/0;\n"),
         ("qui * stage s * $p -o stage t.", "0 qui;s@ $p/0; -ot@\n"),
-        ("stage s -o a. $a -o b. () -o c.", "0 s@ -o a/0;\n14  $a/0; -o b/0;\n23  -o c/0;\n"),
+        (
+            "stage s -o a. $a -o b. () -o c.",
+            "0 s@ -o a/0;\n14  $a/0; -o b/0;\n23  -o c/0;\n",
+        ),
         ("stage s = { }", "s stage\n"),
-        ("stage s = { r : a -o b. q : () -o (). }. t : type.", "s stage 12 r: a/0; -o b/0; 24 q: -o\nt sort\n"),
+        (
+            "stage s = { r : a -o b. q : () -o (). }. t : type.",
+            "s stage 12 r: a/0; -o b/0; 24 q: -o\nt sort\n",
+        ),
         ("context c = {} t : type.", "c context\nt sort\n"),
         ("context c = { a, () * b X }.", "c context a/0; b/1 X?;\n"),
         ("#interactive s.", "s interactive\n"),
@@ -232,8 +242,14 @@ fn nest(alloc: Global, depth: usize) -> Result<String, Fail> {
 #[test]
 fn at_most_512_parentheses_are_open(rt: HostRuntime) -> Result<(), Fail> {
     let alloc = rt.alloc();
-    assert_eq!(rt; shown(alloc, nest(alloc, 512)?.as_str())?.as_str(), "p/1 a/0;\n");
-    assert_eq!(rt; shown(alloc, nest(alloc, 513)?.as_str())?.as_str(), "nested 1:515");
+    assert_eq!(rt;
+        shown(alloc, nest(alloc, 512)?.as_str())?.as_str(),
+        "p/1 a/0;\n"
+    );
+    assert_eq!(rt;
+        shown(alloc, nest(alloc, 513)?.as_str())?.as_str(),
+        "nested 1:515"
+    );
     Ok(())
 }
 
