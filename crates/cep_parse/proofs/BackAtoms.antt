@@ -1,23 +1,22 @@
 -- What may stand behind a symbol and an atom may, with the symbol, stand behind the atom before it.
-use Rattle.std.proofs.Common.{◌≡◌, ℕ, ◌+◌, Bool, true, false, List, [], ◌∷◌, ◌++◌, length, Option, None, Some, refl, sym, ap, subst, ◌∙◌, arith, append_assoc}
+use Rattle.std.proofs.Common.{◌≡◌, ℕ, ◌+◌, List, [], ◌∷◌, ◌++◌, length, refl, sym, ap, subst, ◌∙◌, arith, append_assoc}
 use Rattle.std.proofs.lemmas.List.{append-nil}
 use Rattle.cep_parse.specs.declared.raw.Span.{Span}
 use Rattle.cep_parse.specs.declared.raw.RawAtom.{RawAtom}
-use Rattle.cep_parse.specs.declared.raw.RawKind.TheVariants.{Var, App}
-use Rattle.cep_parse.specs.declared.raw.RawKind.TheVariants as kind
+use Rattle.cep_parse.specs.declared.raw.RawKind.TheVariants.{App}
 use Rattle.cep_parse.specs.declared.raw.RawNode.{RawNode}
 use Rattle.cep_parse.specs.declared.symbol.Symbol.{Symbol}
 use Rattle.cep_parse.specs.declared.symbol.Word.TheVariants as word
 use Rattle.cep_parse.specs.declared.levels.Level.{Level}
 use Rattle.cep_parse.specs.declared.levels.Level.TheVariants.{Empty, Node, Whole}
 use Rattle.cep_parse.specs.declared.state.AtomSoFar.{AtomSoFar}
-use Rattle.cep_parse.specs.Grammar.{at, node, Arg, Term, Args}
-use Rattle.cep_parse.specs.Grammar.Arg.{arg_name, arg_variable, arg_blank, arg_term}
-use Rattle.cep_parse.specs.Grammar.Term.{applied, variable, blank, nested}
+use Rattle.cep_parse.specs.Grammar.{at, node, Arg, Term}
+use Rattle.cep_parse.specs.Grammar.Arg.{arg_term}
+use Rattle.cep_parse.specs.Grammar.Term.{applied, nested}
 use Rattle.cep_parse.specs.Grammar.Args.{no_args, more_args}
 use Rattle.cep_parse.specs.Machine.{child_in, set_args}
 use Rattle.cep_parse.proofs.Nodes.{set_args_at}
-use Rattle.cep_parse.proofs.Residual.{UpFlat, UpArgs, UpWhole, UpTerm, Up, AtomRest}
+use Rattle.cep_parse.proofs.Residual.{UpFlat, UpArgs, UpWhole, Up, AtomRest}
 use Rattle.cep_parse.proofs.Runs.{TakesArgs}
 use Rattle.cep_parse.proofs.Runs.TakesArgs.{flat, within}
 

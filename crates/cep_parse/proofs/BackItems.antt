@@ -1,7 +1,6 @@
 -- The same for each state.
-use Rattle.std.proofs.Common.{◌≡◌, ℕ, suc, ◌+◌, ◌<◌, ◌==◌, Bool, true, false, List, [], ◌∷◌, ◌++◌, length, map, Option, None, Some, is_none, refl, sym, ap, subst, ◌∙◌, arith, append_assoc}
+use Rattle.std.proofs.Common.{◌≡◌, ℕ, suc, ◌+◌, true, false, List, [], ◌∷◌, ◌++◌, length, map, Option, None, Some, refl, sym, ap, subst, ◌∙◌, arith, append_assoc}
 use Rattle.std.proofs.lemmas.Bool.{ne_eqb}
-use Rattle.std.proofs.lemmas.List.{append-nil}
 use Rattle.cep_parse.specs.declared.raw.Span.{Span}
 use Rattle.cep_parse.specs.declared.raw.RawAtom.{RawAtom}
 use Rattle.cep_parse.specs.declared.raw.RawElem.{RawElem}
@@ -9,33 +8,16 @@ use Rattle.cep_parse.specs.declared.raw.RawElem.TheVariants as elem
 use Rattle.cep_parse.specs.declared.raw.RawItem.{RawItem}
 use Rattle.cep_parse.specs.declared.raw.RawItem.TheVariants as item
 use Rattle.cep_parse.specs.declared.raw.RawNode.{RawNode}
-use Rattle.cep_parse.specs.declared.raw.RawRule.{RawRule}
 use Rattle.cep_parse.specs.declared.raw.RawStart.TheVariants.{Listed}
 use Rattle.cep_parse.specs.declared.symbol.Symbol.{Symbol}
 use Rattle.cep_parse.specs.declared.symbol.Word.TheVariants as word
-use Rattle.cep_parse.specs.declared.levels.Level.{Level}
-use Rattle.cep_parse.specs.declared.levels.Level.TheVariants.{Empty, Node, Whole}
-use Rattle.cep_parse.specs.declared.state.AtomSoFar.{AtomSoFar}
-use Rattle.cep_parse.specs.declared.state.BagHome.{BagHome}
-use Rattle.cep_parse.specs.declared.state.BagHome.TheVariants as home
-use Rattle.cep_parse.specs.declared.state.BagPlace.{BagPlace}
-use Rattle.cep_parse.specs.declared.state.BagPlace.TheVariants as bag
-use Rattle.cep_parse.specs.declared.state.BagSoFar.{BagSoFar}
-use Rattle.cep_parse.specs.declared.state.ClauseSoFar.{ClauseSoFar}
-use Rattle.cep_parse.specs.declared.state.Next.{Next}
-use Rattle.cep_parse.specs.declared.state.Next.TheVariants.{Go, Item as ItemEnds, Stop}
 use Rattle.cep_parse.specs.declared.state.Plain.{Plain}
 use Rattle.cep_parse.specs.declared.state.Plain.TheVariants as plain
-use Rattle.cep_parse.specs.declared.state.RulePlace.{RulePlace}
-use Rattle.cep_parse.specs.declared.state.RulePlace.TheVariants as rule
-use Rattle.cep_parse.specs.declared.state.RuleSoFar.{RuleSoFar}
-use Rattle.cep_parse.specs.declared.state.StageSoFar.{StageSoFar}
 use Rattle.cep_parse.specs.declared.state.State.{State}
 use Rattle.cep_parse.specs.declared.state.State.TheVariants as state
-use Rattle.cep_parse.specs.declared.state.Use.{Use}
 use Rattle.cep_parse.specs.declared.state.Use.TheVariants as use_
-use Rattle.cep_parse.specs.Grammar.{at, names, Term, Args, Atom, Side, Stars, Elems, Rules, Goals, BagElem, BagMore, Bag, MayDot, Limit, Item}
-use Rattle.cep_parse.specs.Machine.{head_alone, set_args, with_elem, rule_from}
+use Rattle.cep_parse.specs.Grammar.{at, names, Args, Atom, Stars, Elems, Limit, Item}
+use Rattle.cep_parse.specs.Machine.{head_alone}
 use Rattle.cep_parse.specs.declared.symbol.Word.{Word}
 use Rattle.cep_parse.specs.declared.raw.RawKind.TheVariants.{App}
 use Rattle.cep_parse.specs.declared.raw.RawStart.TheVariants.{Named}
@@ -49,7 +31,7 @@ use Rattle.cep_parse.specs.Grammar.Label.{none as no_label, named as a_label}
 use Rattle.cep_parse.specs.Grammar.Limit.{blank as blank_limit, number as number_limit}
 use Rattle.cep_parse.specs.Grammar.Item.{sort, pred, back as back_pred, colon, fact, labelled as labelled_item, clause, outer, unnamed, stage as stage_item, context, interactive, trace_named, trace_listed}
 use Rattle.cep_parse.specs.Machine.{atom_of_names, begin, behind_blank, context_equals, context_named, context_word, head_alone, interactive_word, labelled, named, stage_equals, stage_named, stage_word, step, step_declared, step_names, step_plain, trace_limit, trace_stage, trace_word}
-use Rattle.cep_parse.proofs.Residual.{AtomRest, UpFlat, DotRest, RulesRest, LeftRest, GoalsRest, GoalRest, BagEnd, BagFirstRest, HeadRest, InAtomRest, PlainRest, Rest, NextRest}
+use Rattle.cep_parse.proofs.Residual.{DotRest, LeftRest, HeadRest, InAtomRest, PlainRest, Rest, NextRest}
 use Rattle.cep_parse.proofs.Residual.HeadRest.{alone, goals, side}
 use Rattle.cep_parse.proofs.BackRules.{before_elem_back, behind_left_back, elem_back_left, rule_back, whole_atom_of}
 use Rattle.cep_parse.proofs.BackUses.{atom_back', bag_back, before_goal_back, ending_back, rule_named_back, rules_back}

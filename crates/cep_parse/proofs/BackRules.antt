@@ -1,55 +1,28 @@
 -- The same for rules, goals and bags.
-use Rattle.std.proofs.Common.{◌≡◌, ℕ, ◌+◌, Bool, true, false, List, [], ◌∷◌, ◌++◌, length, Option, None, Some, is_none, refl, sym, ap, subst, ◌∙◌, arith, append_assoc}
+use Rattle.std.proofs.Common.{◌≡◌, ℕ, ◌+◌, true, false, List, [], ◌∷◌, ◌++◌, Option, None, Some, is_none, refl, sym, ap, subst, ◌∙◌, arith, append_assoc}
 use Rattle.std.proofs.lemmas.List.{append-nil}
 use Rattle.cep_parse.specs.declared.raw.Span.{Span}
 use Rattle.cep_parse.specs.declared.raw.RawAtom.{RawAtom}
 use Rattle.cep_parse.specs.declared.raw.RawElem.{RawElem}
 use Rattle.cep_parse.specs.declared.raw.RawElem.TheVariants as elem
 use Rattle.cep_parse.specs.declared.raw.RawItem.{RawItem}
-use Rattle.cep_parse.specs.declared.raw.RawItem.TheVariants as item
-use Rattle.cep_parse.specs.declared.raw.RawNode.{RawNode}
 use Rattle.cep_parse.specs.declared.raw.RawRule.{RawRule}
-use Rattle.cep_parse.specs.declared.raw.RawStart.TheVariants.{Listed}
 use Rattle.cep_parse.specs.declared.symbol.Symbol.{Symbol}
 use Rattle.cep_parse.specs.declared.symbol.Word.TheVariants as word
-use Rattle.cep_parse.specs.declared.levels.Level.{Level}
-use Rattle.cep_parse.specs.declared.levels.Level.TheVariants.{Empty, Node, Whole}
-use Rattle.cep_parse.specs.declared.state.AtomSoFar.{AtomSoFar}
-use Rattle.cep_parse.specs.declared.state.BagHome.{BagHome}
-use Rattle.cep_parse.specs.declared.state.BagHome.TheVariants as home
-use Rattle.cep_parse.specs.declared.state.BagPlace.{BagPlace}
-use Rattle.cep_parse.specs.declared.state.BagPlace.TheVariants as bag
-use Rattle.cep_parse.specs.declared.state.BagSoFar.{BagSoFar}
-use Rattle.cep_parse.specs.declared.state.ClauseSoFar.{ClauseSoFar}
-use Rattle.cep_parse.specs.declared.state.Next.{Next}
-use Rattle.cep_parse.specs.declared.state.Next.TheVariants.{Go, Item as ItemEnds, Stop}
-use Rattle.cep_parse.specs.declared.state.Plain.{Plain}
-use Rattle.cep_parse.specs.declared.state.Plain.TheVariants as plain
 use Rattle.cep_parse.specs.declared.state.RulePlace.{RulePlace}
 use Rattle.cep_parse.specs.declared.state.RulePlace.TheVariants as rule
 use Rattle.cep_parse.specs.declared.state.RuleSoFar.{RuleSoFar}
 use Rattle.cep_parse.specs.declared.state.StageSoFar.{StageSoFar}
-use Rattle.cep_parse.specs.declared.state.State.{State}
-use Rattle.cep_parse.specs.declared.state.State.TheVariants as state
-use Rattle.cep_parse.specs.declared.state.Use.{Use}
 use Rattle.cep_parse.specs.declared.state.Use.TheVariants as use_
-use Rattle.cep_parse.specs.Grammar.{at, names, Term, Args, Atom, Side, Stars, Elems, Rules, Goals, BagElem, BagMore, Bag, MayDot, Limit, Item}
-use Rattle.cep_parse.specs.Machine.{head_alone, set_args, with_elem, rule_from}
+use Rattle.cep_parse.specs.Grammar.{at, Atom, Side, Stars, Elems}
 use Rattle.cep_parse.specs.declared.symbol.Word.{Word}
-use Rattle.cep_parse.specs.Grammar.{Elem, Sides, IsOneOf}
+use Rattle.cep_parse.specs.Grammar.{Elem}
 use Rattle.cep_parse.specs.Grammar.Atom.{atom}
 use Rattle.cep_parse.specs.Grammar.Elem.{unit as elem_unit, atom as elem_atom, kept, qui, stage as elem_stage}
 use Rattle.cep_parse.specs.Grammar.Stars.{none as no_stars, more as more_stars}
 use Rattle.cep_parse.specs.Grammar.Elems.{elems}
-use Rattle.cep_parse.specs.Grammar.Sides.{sides}
-use Rattle.cep_parse.specs.Grammar.Rules.{none as no_rules, more as more_rules}
-use Rattle.cep_parse.specs.Grammar.Goals.{none as no_goals, more as more_goals}
-use Rattle.cep_parse.specs.Grammar.IsOneOf.{one, other}
-use Rattle.cep_parse.specs.Grammar.BagElem.{unit as bag_unit_elem, atom as bag_atom_elem}
-use Rattle.cep_parse.specs.Grammar.BagMore.{none as no_atoms, more as more_atoms}
-use Rattle.cep_parse.specs.Grammar.Bag.{empty as empty_bag, some as some_bag}
-use Rattle.cep_parse.specs.Machine.{atom_of, bag_behind, bag_ended, bag_first, bag_next, bag_unit, before_elem, behind_dollar, behind_elem, behind_goal, behind_in, behind_left, behind_open, behind_right, behind_stage, rule_ended, rule_named, step_bag, step_rule, step_rules, with_goal}
-use Rattle.cep_parse.proofs.Residual.{AtomRest, UpFlat, DotRest, RulesRest, RuleEnd, left_of, right_of, LeftRest, RightRest, SideRest, KeptRest, StageRest, RuleRest, GoalsRest, GoalRest, BagEnd, BagMoreRest, BagElemRest, BagFirstRest, BagUnitRest, BagRest, UseRest, InAtomRest, NextRest}
+use Rattle.cep_parse.specs.Machine.{atom_of, before_elem, behind_dollar, behind_in, behind_left, behind_open, behind_right, behind_stage, rule_ended, step_rule}
+use Rattle.cep_parse.proofs.Residual.{AtomRest, RuleEnd, left_of, right_of, LeftRest, RightRest, SideRest, KeptRest, StageRest, RuleRest, InAtomRest, NextRest}
 
 -- the atom of a name and what completes it
 pub whole_atom_of : (x : Span) (front : List Symbol) (a : RawAtom) → AtomRest [] x 0 [] front a → Atom (at word.Name x ∷ front) a

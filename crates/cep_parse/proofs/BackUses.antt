@@ -1,5 +1,5 @@
 -- The same for what stands behind an atom, and for atoms.
-use Rattle.std.proofs.Common.{◌≡◌, ℕ, ◌+◌, Bool, true, false, List, [], ◌∷◌, ◌++◌, length, Option, None, Some, is_none, refl, sym, ap, subst, ◌∙◌, arith, append_assoc}
+use Rattle.std.proofs.Common.{◌≡◌, ℕ, ◌+◌, Bool, false, List, [], ◌∷◌, ◌++◌, length, Option, None, Some, refl, sym, ap, subst, ◌∙◌, append_assoc}
 use Rattle.std.proofs.lemmas.List.{append-nil}
 use Rattle.cep_parse.specs.declared.raw.Span.{Span}
 use Rattle.cep_parse.specs.declared.raw.RawAtom.{RawAtom}
@@ -8,37 +8,25 @@ use Rattle.cep_parse.specs.declared.raw.RawElem.TheVariants as elem
 use Rattle.cep_parse.specs.declared.raw.RawItem.{RawItem}
 use Rattle.cep_parse.specs.declared.raw.RawItem.TheVariants as item
 use Rattle.cep_parse.specs.declared.raw.RawNode.{RawNode}
-use Rattle.cep_parse.specs.declared.raw.RawRule.{RawRule}
-use Rattle.cep_parse.specs.declared.raw.RawStart.TheVariants.{Listed}
 use Rattle.cep_parse.specs.declared.symbol.Symbol.{Symbol}
 use Rattle.cep_parse.specs.declared.symbol.Word.TheVariants as word
 use Rattle.cep_parse.specs.declared.levels.Level.{Level}
 use Rattle.cep_parse.specs.declared.levels.Level.TheVariants.{Empty, Node, Whole}
-use Rattle.cep_parse.specs.declared.state.AtomSoFar.{AtomSoFar}
 use Rattle.cep_parse.specs.declared.state.BagHome.{BagHome}
 use Rattle.cep_parse.specs.declared.state.BagHome.TheVariants as home
 use Rattle.cep_parse.specs.declared.state.BagPlace.{BagPlace}
 use Rattle.cep_parse.specs.declared.state.BagPlace.TheVariants as bag
 use Rattle.cep_parse.specs.declared.state.BagSoFar.{BagSoFar}
 use Rattle.cep_parse.specs.declared.state.ClauseSoFar.{ClauseSoFar}
-use Rattle.cep_parse.specs.declared.state.Next.{Next}
-use Rattle.cep_parse.specs.declared.state.Next.TheVariants.{Go, Item as ItemEnds, Stop}
-use Rattle.cep_parse.specs.declared.state.Plain.{Plain}
-use Rattle.cep_parse.specs.declared.state.Plain.TheVariants as plain
-use Rattle.cep_parse.specs.declared.state.RulePlace.{RulePlace}
-use Rattle.cep_parse.specs.declared.state.RulePlace.TheVariants as rule
-use Rattle.cep_parse.specs.declared.state.RuleSoFar.{RuleSoFar}
 use Rattle.cep_parse.specs.declared.state.StageSoFar.{StageSoFar}
-use Rattle.cep_parse.specs.declared.state.State.{State}
-use Rattle.cep_parse.specs.declared.state.State.TheVariants as state
 use Rattle.cep_parse.specs.declared.state.Use.{Use}
 use Rattle.cep_parse.specs.declared.state.Use.TheVariants as use_
-use Rattle.cep_parse.specs.Grammar.{at, names, Term, Args, Atom, Side, Stars, Elems, Rules, Goals, BagElem, BagMore, Bag, MayDot, Limit, Item}
-use Rattle.cep_parse.specs.Machine.{head_alone, set_args, with_elem, rule_from}
+use Rattle.cep_parse.specs.Grammar.{at, BagElem}
+use Rattle.cep_parse.specs.Machine.{set_args}
 use Rattle.cep_parse.specs.declared.symbol.Word.{Word}
 use Rattle.cep_parse.specs.declared.raw.RawKind.TheVariants.{Var, App}
 use Rattle.cep_parse.specs.declared.raw.RawKind.TheVariants as kind
-use Rattle.cep_parse.specs.Grammar.{node, Sides, IsOneOf, Arg}
+use Rattle.cep_parse.specs.Grammar.{node, IsOneOf, Arg}
 use Rattle.cep_parse.specs.Grammar.Arg.{arg_name, arg_variable, arg_blank}
 use Rattle.cep_parse.specs.Grammar.Term.{variable, blank}
 use Rattle.cep_parse.specs.Grammar.Sides.{sides}
@@ -48,8 +36,8 @@ use Rattle.cep_parse.specs.Grammar.IsOneOf.{one, other}
 use Rattle.cep_parse.specs.Grammar.BagElem.{unit as bag_unit_elem, atom as bag_atom_elem}
 use Rattle.cep_parse.specs.Grammar.BagMore.{none as no_atoms, more as more_atoms}
 use Rattle.cep_parse.specs.Grammar.Bag.{empty as empty_bag, some as some_bag}
-use Rattle.cep_parse.specs.Machine.{atom_of, bag_behind, bag_ended, bag_first, bag_next, bag_unit, before_goal, behind_atom, behind_goal, behind_head, child_in, rule_named, step_atom, step_bag, step_ending, step_rules, with_goal}
-use Rattle.cep_parse.proofs.Residual.{AtomRest, Up, UpTerm, DotRest, RulesRest, LeftRest, GoalsRest, GoalRest, BagEnd, BagMoreRest, BagElemRest, BagFirstRest, BagUnitRest, BagRest, HeadRest, UseRest, InAtomRest, NextRest}
+use Rattle.cep_parse.specs.Machine.{bag_behind, bag_ended, bag_first, bag_next, bag_unit, before_goal, behind_atom, behind_goal, behind_head, child_in, rule_named, step_atom, step_bag, step_ending, step_rules, with_goal}
+use Rattle.cep_parse.proofs.Residual.{AtomRest, DotRest, RulesRest, GoalsRest, GoalRest, BagEnd, BagMoreRest, BagElemRest, BagFirstRest, BagUnitRest, BagRest, HeadRest, UseRest, InAtomRest, NextRest}
 use Rattle.cep_parse.proofs.Residual.HeadRest.{alone, goals, side}
 use Rattle.cep_parse.proofs.Runs.{TakesArgs}
 use Rattle.cep_parse.proofs.Runs.TakesArgs.{flat, within}

@@ -1,6 +1,5 @@
 -- Each state within an item has some ending.
-use Rattle.std.proofs.lemmas.Bool.{false≢true}
-use Rattle.std.proofs.Common.{◌≡◌, ℕ, ◌+◌, Bool, true, false, List, [], ◌∷◌, ◌++◌, length, map, Option, None, Some, is_none, refl, subst}
+use Rattle.std.proofs.Common.{ℕ, ◌+◌, Bool, true, false, List, [], ◌∷◌, ◌++◌, Option, None, Some, is_none, refl, subst}
 use Rattle.cep_parse.specs.declared.raw.Span.{Span}
 use Rattle.cep_parse.specs.declared.raw.RawAtom.{RawAtom}
 use Rattle.cep_parse.specs.declared.raw.RawElem.{RawElem}
@@ -21,8 +20,6 @@ use Rattle.cep_parse.specs.declared.state.BagPlace.{BagPlace}
 use Rattle.cep_parse.specs.declared.state.BagPlace.TheVariants as bag
 use Rattle.cep_parse.specs.declared.state.BagSoFar.{BagSoFar}
 use Rattle.cep_parse.specs.declared.state.ClauseSoFar.{ClauseSoFar}
-use Rattle.cep_parse.specs.declared.state.Next.{Next}
-use Rattle.cep_parse.specs.declared.state.Next.TheVariants.{Go, Item as ItemEnds, Stop}
 use Rattle.cep_parse.specs.declared.state.Plain.{Plain}
 use Rattle.cep_parse.specs.declared.state.Plain.TheVariants as plain
 use Rattle.cep_parse.specs.declared.state.RulePlace.{RulePlace}
@@ -33,11 +30,11 @@ use Rattle.cep_parse.specs.declared.state.State.{State}
 use Rattle.cep_parse.specs.declared.state.State.TheVariants as state
 use Rattle.cep_parse.specs.declared.state.Use.{Use}
 use Rattle.cep_parse.specs.declared.state.Use.TheVariants as use_
-use Rattle.cep_parse.specs.Grammar.{at, names, Term, Args, Atom, Side, Stars, Elems, Rules, Goals, BagElem, BagMore, Bag, MayDot, Limit, Item}
-use Rattle.cep_parse.specs.Machine.{head_alone, set_args, with_elem, rule_from}
+use Rattle.cep_parse.specs.Grammar.{at, Side, Stars, Elems, Item}
+use Rattle.cep_parse.specs.Machine.{head_alone, set_args, with_elem}
 use Rattle.cep_parse.specs.declared.raw.RawStart.TheVariants.{Named}
 use Rattle.cep_parse.specs.declared.raw.RawKind.TheVariants.{App}
-use Rattle.cep_parse.specs.Grammar.{node, Sides, Elem}
+use Rattle.cep_parse.specs.Grammar.{node, Sides}
 use Rattle.cep_parse.specs.Grammar.Args.{no_args}
 use Rattle.cep_parse.specs.Grammar.Term.{applied}
 use Rattle.cep_parse.specs.Grammar.Atom.{atom}
@@ -53,7 +50,7 @@ use Rattle.cep_parse.specs.Grammar.Bag.{empty as empty_bag}
 use Rattle.cep_parse.specs.Grammar.MayDot.{none as no_dot}
 use Rattle.cep_parse.specs.Grammar.Limit.{blank as blank_limit}
 use Rattle.cep_parse.specs.Grammar.Item.{sort, pred, unnamed, stage as stage_item, context, interactive, trace_named}
-use Rattle.cep_parse.proofs.Residual.{AtomRest, Up, UpFlat, DotRest, RulesRest, RuleEnd, left_of, right_of, LeftRest, RightRest, SideRest, KeptRest, StageRest, RuleRest, GoalsRest, GoalRest, BagEnd, BagMoreRest, BagElemRest, BagFirstRest, BagUnitRest, BagRest, HeadRest, UseRest, InAtomRest, PlainRest, Rest}
+use Rattle.cep_parse.proofs.Residual.{AtomRest, Up, RulesRest, RuleEnd, left_of, right_of, LeftRest, RightRest, SideRest, KeptRest, StageRest, RuleRest, GoalsRest, GoalRest, BagEnd, BagMoreRest, BagRest, UseRest, InAtomRest, PlainRest, Rest}
 use Rattle.cep_parse.proofs.Residual.HeadRest.{alone}
 
 -- some symbols with which an item ends, and the item

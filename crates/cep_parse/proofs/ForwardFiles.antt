@@ -1,6 +1,6 @@
 -- A derivation of a file runs to it, so symbols are one raw file at most.
-use Rattle.std.proofs.Common.{◌≡◌, ◌+◌, Bool, true, false, List, [], ◌∷◌, ◌++◌, Option, None, Some, refl, sym, ap, ◌∙◌, append_assoc}
-use Rattle.std.proofs.lemmas.List.{append-nil, append_cancel_left}
+use Rattle.std.proofs.Common.{◌≡◌, Bool, true, false, List, [], ◌∷◌, ◌++◌, Option, None, Some, refl, sym, ap, ◌∙◌, append_assoc}
+use Rattle.std.proofs.lemmas.List.{append-nil}
 use Rattle.cep_parse.specs.declared.raw.Span.{Span}
 use Rattle.cep_parse.specs.declared.raw.RawElem.{RawElem}
 use Rattle.cep_parse.specs.declared.raw.RawItem.{RawItem}
@@ -9,7 +9,7 @@ use Rattle.cep_parse.specs.declared.symbol.Word.{Word}
 use Rattle.cep_parse.specs.declared.symbol.Word.TheVariants as word
 use Rattle.cep_parse.specs.declared.state.Plain.TheVariants as plain
 use Rattle.cep_parse.specs.declared.state.State.TheVariants as state
-use Rattle.cep_parse.specs.Grammar.{at, names, Atom, Side, Elem, Elems, Sides, Label, Limit, Item, File}
+use Rattle.cep_parse.specs.Grammar.{at, Side, Elem, Item, File}
 use Rattle.cep_parse.specs.Grammar.Atom.{atom}
 use Rattle.cep_parse.specs.Grammar.Elem.{unit as elem_unit, atom as elem_atom, kept, qui, stage as elem_stage}
 use Rattle.cep_parse.specs.Grammar.Elems.{elems}
@@ -18,8 +18,8 @@ use Rattle.cep_parse.specs.Grammar.Label.{none as no_label, named as a_label}
 use Rattle.cep_parse.specs.Grammar.Item.{sort, pred, back as back_pred, colon, fact, labelled, clause, outer, unnamed, stage as stage_item, context, interactive, trace_named, trace_listed}
 use Rattle.cep_parse.specs.Grammar.File.{none as no_items, more as more_items}
 use Rattle.cep_parse.specs.Machine.{step}
-use Rattle.cep_parse.proofs.Runs.{Config, moved, run, run_from, run_append, state_behind}
-use Rattle.cep_parse.proofs.ForwardItems.{RunsTo, item_runs}
+use Rattle.cep_parse.proofs.Runs.{Config, moved, run, run_from, state_behind}
+use Rattle.cep_parse.proofs.ForwardItems.{item_runs}
 
 -- what begins with a symbol that is no dot
 record StartsAfresh (symbols : List Symbol) : Type 0 where

@@ -1,5 +1,5 @@
 -- A derivation of an item, and of a file, runs to it.
-use Rattle.std.proofs.Common.{◌≡◌, ℕ, ◌+◌, ◌<◌, ◌==◌, Bool, true, false, List, [], ◌∷◌, ◌++◌, length, Option, None, Some, refl, sym, ap, ◌∙◌, arith, append_assoc}
+use Rattle.std.proofs.Common.{◌≡◌, ℕ, ◌+◌, ◌<◌, Bool, true, false, List, [], ◌∷◌, ◌++◌, Option, None, Some, refl, sym, ap, ◌∙◌, arith, append_assoc}
 use Rattle.std.proofs.lemmas.Bool.{ne_eqb}
 use Rattle.std.proofs.lemmas.List.{append-nil}
 use Rattle.cep_parse.specs.declared.raw.Span.{Span}
@@ -9,7 +9,6 @@ use Rattle.cep_parse.specs.declared.raw.RawElem.TheVariants as elem
 use Rattle.cep_parse.specs.declared.raw.RawItem.{RawItem}
 use Rattle.cep_parse.specs.declared.raw.RawItem.TheVariants as item
 use Rattle.cep_parse.specs.declared.raw.RawNode.{RawNode}
-use Rattle.cep_parse.specs.declared.raw.RawStart.TheVariants.{Named, Listed}
 use Rattle.cep_parse.specs.declared.symbol.Symbol.{Symbol}
 use Rattle.cep_parse.specs.declared.symbol.Word.{Word}
 use Rattle.cep_parse.specs.declared.symbol.Word.TheVariants as word
@@ -22,7 +21,7 @@ use Rattle.cep_parse.specs.declared.state.RulePlace.TheVariants as rule
 use Rattle.cep_parse.specs.declared.state.State.{State}
 use Rattle.cep_parse.specs.declared.state.State.TheVariants as state
 use Rattle.cep_parse.specs.declared.state.Use.TheVariants as use_
-use Rattle.cep_parse.specs.Grammar.{at, names, place_of, Args, Atom, Side, Elem, Stars, Elems, Sides, Goals, IsOneOf, BagElem, BagMore, Bag, MayDot, Label, Limit, Item, File}
+use Rattle.cep_parse.specs.Grammar.{at, names, place_of, Args, Atom, Side, Elem, Stars, Goals, BagElem, BagMore, Bag, MayDot, Limit, Item}
 use Rattle.cep_parse.specs.Grammar.Atom.{atom}
 use Rattle.cep_parse.specs.Grammar.Elem.{unit as elem_unit, atom as elem_atom, kept, qui, stage as elem_stage}
 use Rattle.cep_parse.specs.Grammar.Stars.{none as no_stars, more as more_stars}
@@ -37,9 +36,8 @@ use Rattle.cep_parse.specs.Grammar.MayDot.{none as no_dot, dot as a_dot}
 use Rattle.cep_parse.specs.Grammar.Label.{none as no_label, named as a_label}
 use Rattle.cep_parse.specs.Grammar.Limit.{blank as blank_limit, number as number_limit}
 use Rattle.cep_parse.specs.Grammar.Item.{sort, pred, back as back_pred, colon, fact, labelled, clause, outer, unnamed, stage as stage_item, context, interactive, trace_named, trace_listed}
-use Rattle.cep_parse.specs.Grammar.File.{none as no_items, more as more_items}
 use Rattle.cep_parse.specs.Machine.{atom_of, bag_ended}
-use Rattle.cep_parse.proofs.Runs.{Config, moved, run, run_from, atom_at, state_behind}
+use Rattle.cep_parse.proofs.Runs.{moved, run, run_from, atom_at, state_behind}
 use Rattle.cep_parse.proofs.ForwardAtoms.{names_run, StandsBehind}
 use Rattle.cep_parse.proofs.ForwardAtoms.StandsBehind.{dot as stands_dot, back as stands_back, star as stands_star, lolli as stands_lolli}
 use Rattle.cep_parse.proofs.ForwardRules as rules

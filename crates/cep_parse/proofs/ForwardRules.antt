@@ -1,22 +1,16 @@
 -- A derivation of a rule's side, of goals or of a bag runs to what it gives.
-use Rattle.std.proofs.Common.{◌≡◌, ℕ, ◌+◌, Bool, true, false, List, [], ◌∷◌, ◌++◌, length, Option, None, Some, is_some, is_none, refl, sym, ap, ◌∙◌, arith, append_assoc}
+use Rattle.std.proofs.Common.{◌≡◌, ℕ, ◌+◌, Bool, true, false, List, [], ◌∷◌, ◌++◌, Option, None, Some, is_none, refl, sym, ap, ◌∙◌, arith, append_assoc}
 use Rattle.std.proofs.lemmas.Bool.{false≢true}
 use Rattle.std.proofs.lemmas.List.{append-nil}
 use Rattle.cep_parse.specs.declared.raw.Span.{Span}
-use Rattle.cep_parse.specs.declared.raw.RawAtom.{RawAtom}
 use Rattle.cep_parse.specs.declared.raw.RawElem.{RawElem}
 use Rattle.cep_parse.specs.declared.raw.RawElem.TheVariants as elem
 use Rattle.cep_parse.specs.declared.raw.RawItem.{RawItem}
-use Rattle.cep_parse.specs.declared.raw.RawItem.TheVariants as item
 use Rattle.cep_parse.specs.declared.raw.RawNode.{RawNode}
 use Rattle.cep_parse.specs.declared.raw.RawRule.{RawRule}
 use Rattle.cep_parse.specs.declared.symbol.Symbol.{Symbol}
 use Rattle.cep_parse.specs.declared.symbol.Word.{Word}
 use Rattle.cep_parse.specs.declared.symbol.Word.TheVariants as word
-use Rattle.cep_parse.specs.declared.state.BagHome.{BagHome}
-use Rattle.cep_parse.specs.declared.state.BagPlace.TheVariants as bag
-use Rattle.cep_parse.specs.declared.state.ClauseSoFar.{ClauseSoFar}
-use Rattle.cep_parse.specs.declared.state.Next.TheVariants.{Item}
 use Rattle.cep_parse.specs.declared.state.RulePlace.{RulePlace}
 use Rattle.cep_parse.specs.declared.state.RulePlace.TheVariants as rule
 use Rattle.cep_parse.specs.declared.state.StageSoFar.{StageSoFar}
@@ -24,20 +18,15 @@ use Rattle.cep_parse.specs.declared.state.State.{State}
 use Rattle.cep_parse.specs.declared.state.State.TheVariants as state
 use Rattle.cep_parse.specs.declared.state.Use.{Use}
 use Rattle.cep_parse.specs.declared.state.Use.TheVariants as use_
-use Rattle.cep_parse.specs.Grammar.{at, Args, Atom, Side, Elem, Stars, Elems, Sides, Rules, Goals, IsOneOf, BagElem, BagMore, Bag}
+use Rattle.cep_parse.specs.Grammar.{at, Args, Side, Elem, Stars, Elems, Sides, Rules}
 use Rattle.cep_parse.specs.Grammar.Atom.{atom}
 use Rattle.cep_parse.specs.Grammar.Elem.{unit as elem_unit, atom as elem_atom, kept, qui, stage as elem_stage}
 use Rattle.cep_parse.specs.Grammar.Stars.{none as no_stars, more as more_stars}
 use Rattle.cep_parse.specs.Grammar.Elems.{elems}
 use Rattle.cep_parse.specs.Grammar.Sides.{sides}
 use Rattle.cep_parse.specs.Grammar.Rules.{none as no_rules, more as more_rules}
-use Rattle.cep_parse.specs.Grammar.Goals.{none as no_goals, more as more_goals}
-use Rattle.cep_parse.specs.Grammar.IsOneOf.{one, other}
-use Rattle.cep_parse.specs.Grammar.BagElem.{unit as bag_unit, atom as bag_atom}
-use Rattle.cep_parse.specs.Grammar.BagMore.{none as no_more, more as one_more}
-use Rattle.cep_parse.specs.Grammar.Bag.{empty as empty_bag, some as some_bag}
-use Rattle.cep_parse.specs.Machine.{atom_of, bag_ended, rule_ended}
-use Rattle.cep_parse.proofs.Runs.{Config, moved, run, run_from, atom_at}
+use Rattle.cep_parse.specs.Machine.{atom_of, rule_ended}
+use Rattle.cep_parse.proofs.Runs.{moved, run, run_from, atom_at}
 use Rattle.cep_parse.proofs.Runs.TakesArgs.{flat}
 use Rattle.cep_parse.proofs.ForwardAtoms.{args_run}
 

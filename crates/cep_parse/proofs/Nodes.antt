@@ -1,5 +1,5 @@
 -- The nodes of an atom: their arguments, and those of names.
-use Rattle.std.proofs.Common.{◌≡◌, ℕ, zero, suc, ◌+◌, ◌<◌, ◌≤◌, List, [], ◌∷◌, ◌++◌, length, get_or, set, take, map, Some, refl, sym, ap, ◌∙◌, arith, append_assoc, length-append}
+use Rattle.std.proofs.Common.{◌≡◌, ℕ, zero, suc, ◌+◌, ◌<◌, ◌≤◌, List, [], ◌∷◌, ◌++◌, length, get_or, set, take, map, Some, refl, sym, ap, ◌∙◌, arith}
 use Rattle.std.proofs.lemmas.List.{take_more, length_push, map-append}
 use Rattle.cep_parse.specs.declared.raw.RawKind.TheVariants.{App}
 use Rattle.cep_parse.specs.declared.raw.RawNode.{RawNode}

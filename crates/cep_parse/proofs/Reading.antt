@@ -1,5 +1,5 @@
 -- Where the reading of symbols is: what was read, and what may follow.
-use Rattle.std.proofs.Common.{◌≡◌, ◌⊎◌, ℕ, ◌+◌, ◌-◌, ◌≤◌, Bool, true, false, List, [], ◌∷◌, ◌++◌, length, Option, None, Some, refl, sym, ap, subst, ◌∙◌, inl, inr, ⊎_elim, arith, append_assoc}
+use Rattle.std.proofs.Common.{◌≡◌, ◌⊎◌, ℕ, ◌+◌, ◌≤◌, Bool, true, false, List, [], ◌∷◌, ◌++◌, Option, None, Some, refl, sym, ap, subst, ◌∙◌, inl, inr, ⊎_elim, arith, append_assoc}
 use Rattle.std.proofs.lemmas.Bool.{false≢true}
 use Rattle.std.proofs.lemmas.List.{append-nil}
 use Rattle.cep_parse.specs.declared.raw.Span.{Span}
@@ -13,7 +13,7 @@ use Rattle.cep_parse.specs.declared.state.Next.TheVariants.{Go, Item as ItemEnds
 use Rattle.cep_parse.specs.declared.state.Plain.TheVariants as plain
 use Rattle.cep_parse.specs.declared.state.State.{State}
 use Rattle.cep_parse.specs.declared.state.State.TheVariants as state
-use Rattle.cep_parse.specs.Grammar.{at, Item, File}
+use Rattle.cep_parse.specs.Grammar.{at, File}
 use Rattle.cep_parse.specs.Grammar.File.{none as no_items, more as more_items}
 use Rattle.cep_parse.specs.Grammar.MayDot.{none as no_dot, dot as a_dot}
 use Rattle.cep_parse.specs.Files.{Begins, open_behind, open_from, IsShallow, IsUnexpected, IsNested}

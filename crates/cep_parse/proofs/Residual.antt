@@ -1,5 +1,5 @@
 -- What may stand behind a state, and the item that it gives.
-use Rattle.std.proofs.Common.{◌≡◌, ◌⊎◌, ℕ, ◌+◌, Bool, true, false, List, [], ◌∷◌, ◌++◌, length, Option, None, Some, is_none}
+use Rattle.std.proofs.Common.{◌≡◌, ℕ, ◌+◌, true, false, List, [], ◌∷◌, ◌++◌, Option, None, Some, is_none}
 use Rattle.cep_parse.specs.declared.raw.Span.{Span}
 use Rattle.cep_parse.specs.declared.raw.RawAtom.{RawAtom}
 use Rattle.cep_parse.specs.declared.raw.RawElem.{RawElem}
@@ -33,7 +33,7 @@ use Rattle.cep_parse.specs.declared.state.State.TheVariants as state
 use Rattle.cep_parse.specs.declared.state.Use.{Use}
 use Rattle.cep_parse.specs.declared.state.Use.TheVariants as use_
 use Rattle.cep_parse.specs.Grammar.{at, names, Term, Args, Atom, Side, Stars, Elems, Rules, Goals, BagElem, BagMore, Bag, MayDot, Limit, Item}
-use Rattle.cep_parse.specs.Machine.{head_alone, set_args, with_elem, rule_from}
+use Rattle.cep_parse.specs.Machine.{head_alone, set_args, with_elem}
 
 -- what stands behind a term that ended within an atom, up to the atom's end
 pub record UpFlat (name : Span) (args : ℕ) (nodes : List RawNode) (part : List Symbol) (atom : RawAtom) : Type 0 where

@@ -1,31 +1,16 @@
 -- Runs of the machine.
-use Rattle.std.proofs.Common.{◌≡◌, ℕ, zero, suc, ◌+◌, ◌<◌, Bool, true, false, List, [], ◌∷◌, ◌++◌, length, map, Option, None, Some, refl, sym, ap, subst, ◌∙◌, arith, append_assoc, length-append}
-use Rattle.std.proofs.lemmas.List.{append-nil}
+use Rattle.std.proofs.Common.{◌≡◌, ℕ, ◌+◌, List, [], ◌∷◌, ◌++◌, Option, None, Some, refl}
 use Rattle.cep_parse.specs.declared.raw.Span.{Span}
-use Rattle.cep_parse.specs.declared.raw.RawKind.TheVariants.{Var, App}
-use Rattle.cep_parse.specs.declared.raw.RawKind.TheVariants as kind
 use Rattle.cep_parse.specs.declared.raw.RawNode.{RawNode}
-use Rattle.cep_parse.specs.declared.raw.RawAtom.{RawAtom}
 use Rattle.cep_parse.specs.declared.raw.RawItem.{RawItem}
 use Rattle.cep_parse.specs.declared.symbol.Symbol.{Symbol}
-use Rattle.cep_parse.specs.declared.symbol.Word.{Word}
-use Rattle.cep_parse.specs.declared.symbol.Word.TheVariants as word
 use Rattle.cep_parse.specs.declared.levels.Level.{Level}
 use Rattle.cep_parse.specs.declared.levels.Level.TheVariants.{Empty, Node, Whole}
-use Rattle.cep_parse.specs.declared.state.AtomSoFar.{AtomSoFar}
-use Rattle.cep_parse.specs.declared.state.Next.{Next}
-use Rattle.cep_parse.specs.declared.state.Next.TheVariants.{Go, Item, Stop}
-use Rattle.cep_parse.specs.declared.state.Plain.TheVariants as plain
 use Rattle.cep_parse.specs.declared.state.State.{State}
 use Rattle.cep_parse.specs.declared.state.State.TheVariants as state
 use Rattle.cep_parse.specs.declared.state.Use.{Use}
-use Rattle.cep_parse.specs.Grammar.{at, node, Arg, Term, Args}
-use Rattle.cep_parse.specs.Grammar.Arg.{arg_name, arg_variable, arg_blank, arg_term}
-use Rattle.cep_parse.specs.Grammar.Term.{applied, variable, blank, nested}
-use Rattle.cep_parse.specs.Grammar.Args.{no_args, more_args}
 pub use Rattle.cep_parse.specs.Machine.{Config, moved, state_behind}
 use Rattle.cep_parse.specs.Machine.{step}
-use Rattle.cep_parse.proofs.Nodes.{set_args_at}
 
 -- a run over symbols, from where a configuration is left
 abbrev pub run_from : Option Config → List Symbol → Option Config

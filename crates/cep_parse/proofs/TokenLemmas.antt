@@ -1,5 +1,5 @@
 -- The tokens of a text, one by one.
-use Rattle.std.proofs.Common.{◌≡◌, ℕ, zero, suc, ◌+◌, ◌<◌, ◌≤◌, List, [], ◌∷◌, ◌++◌, length, get_or, take, drop, map, refl, sym, ap, subst, ◌∙◌, arith, length-append, take-append-drop}
+use Rattle.std.proofs.Common.{◌≡◌, ℕ, zero, suc, ◌+◌, ◌<◌, ◌≤◌, List, [], ◌∷◌, ◌++◌, length, get_or, take, drop, refl, sym, ap, subst, ◌∙◌, arith, length-append, take-append-drop}
 use Rattle.std.proofs.lemmas.List.{append-nil, drop_more, length-map, take_all, take_more}
 use Rattle.cep_lex.specs.declared.token.Token.{Token}
 use Rattle.cep_lex.specs.Cuts.{AreTokens, Cuts, StartsWith}

@@ -1,19 +1,13 @@
 -- No symbol within an item leads to where items begin.
 use Rattle.std.proofs.lemmas.Bool.{false≢true}
-use Rattle.std.proofs.Common.{◌≡◌, ℕ, ◌+◌, Bool, true, false, List, [], ◌∷◌, ◌++◌, length, map, Option, None, Some, refl}
+use Rattle.std.proofs.Common.{◌≡◌, ℕ, Bool, true, false, List, [], ◌∷◌, ◌++◌, Option, None, Some, refl}
 use Rattle.cep_parse.specs.declared.raw.Span.{Span}
 use Rattle.cep_parse.specs.declared.raw.RawAtom.{RawAtom}
 use Rattle.cep_parse.specs.declared.raw.RawElem.{RawElem}
 use Rattle.cep_parse.specs.declared.raw.RawElem.TheVariants as elem
 use Rattle.cep_parse.specs.declared.raw.RawItem.{RawItem}
-use Rattle.cep_parse.specs.declared.raw.RawItem.TheVariants as item
-use Rattle.cep_parse.specs.declared.raw.RawNode.{RawNode}
 use Rattle.cep_parse.specs.declared.raw.RawRule.{RawRule}
-use Rattle.cep_parse.specs.declared.raw.RawStart.TheVariants.{Listed}
-use Rattle.cep_parse.specs.declared.symbol.Symbol.{Symbol}
 use Rattle.cep_parse.specs.declared.symbol.Word.TheVariants as word
-use Rattle.cep_parse.specs.declared.levels.Level.{Level}
-use Rattle.cep_parse.specs.declared.levels.Level.TheVariants.{Empty, Node, Whole}
 use Rattle.cep_parse.specs.declared.state.AtomSoFar.{AtomSoFar}
 use Rattle.cep_parse.specs.declared.state.BagHome.{BagHome}
 use Rattle.cep_parse.specs.declared.state.BagHome.TheVariants as home
@@ -22,8 +16,7 @@ use Rattle.cep_parse.specs.declared.state.BagPlace.TheVariants as bag
 use Rattle.cep_parse.specs.declared.state.BagSoFar.{BagSoFar}
 use Rattle.cep_parse.specs.declared.state.ClauseSoFar.{ClauseSoFar}
 use Rattle.cep_parse.specs.declared.state.Next.{Next}
-use Rattle.cep_parse.specs.declared.state.Next.TheVariants.{Go, Item as ItemEnds, Stop}
-use Rattle.cep_parse.specs.declared.state.Plain.{Plain}
+use Rattle.cep_parse.specs.declared.state.Next.TheVariants.{Go}
 use Rattle.cep_parse.specs.declared.state.Plain.TheVariants as plain
 use Rattle.cep_parse.specs.declared.state.RulePlace.{RulePlace}
 use Rattle.cep_parse.specs.declared.state.RulePlace.TheVariants as rule
@@ -36,8 +29,7 @@ use Rattle.cep_parse.specs.declared.state.Use.TheVariants as use_
 use Rattle.cep_parse.specs.declared.state.Grown.{Grown}
 use Rattle.cep_parse.specs.declared.state.Grown.TheVariants.{Going, Ended, Broken}
 use Rattle.cep_parse.specs.declared.symbol.Word.{Word}
-use Rattle.cep_parse.specs.Grammar.{node}
-use Rattle.cep_parse.specs.Machine.{atom_of_names, bag_behind, bag_ended, bag_first, bag_next, bag_unit, before_elem, before_goal, begin, behind_atom, behind_blank, behind_dollar, behind_goal, behind_head, behind_in, behind_left, behind_open, behind_right, behind_stage, context_equals, context_named, context_word, grow_in, grown, interactive_word, is_within, labelled, named, rule_ended, rule_from, rule_named, stage_equals, stage_named, stage_word, step, step_atom, step_bag, step_declared, step_ending, step_names, step_plain, step_rule, step_rules, trace_limit, trace_stage, trace_word, with_elem, with_goal}
+use Rattle.cep_parse.specs.Machine.{atom_of_names, bag_behind, bag_ended, bag_first, bag_next, bag_unit, before_elem, before_goal, begin, behind_atom, behind_blank, behind_dollar, behind_goal, behind_head, behind_in, behind_left, behind_open, behind_right, behind_stage, context_equals, context_named, context_word, grow_in, grown, interactive_word, is_within, labelled, named, rule_ended, rule_from, rule_named, stage_equals, stage_named, stage_word, step, step_atom, step_bag, step_declared, step_ending, step_names, step_rule, step_rules, trace_limit, trace_stage, trace_word, with_elem, with_goal}
 
 -- whether a step leads to where items begin
 abbrev pub is_between : Next → Bool

@@ -1,5 +1,5 @@
 -- What the tokens of a text say: its raw file, or the first fault.
-use Rattle.std.specs.Prelude.{◌≡◌, ◌≢◌, ◌⊎◌, ℕ, ◌+◌, ◌-◌, ◌≤◌, List, [], ◌∷◌, ◌++◌, length, Result, Ok, Err}
+use Rattle.std.specs.Prelude.{◌≡◌, ℕ, ◌+◌, ◌-◌, ◌≤◌, List, [], ◌∷◌, ◌++◌, length, Result, Ok, Err}
 use Rattle.cep_lex.specs.declared.token.Token.{Token}
 use Rattle.cep_parse.specs.declared.fault.ParseFault.{ParseFault}
 use Rattle.cep_parse.specs.declared.fault.ParseFault.TheVariants.{Unexpected, Nested}

@@ -1,4 +1,4 @@
-use Rattle.std.proofs.Common.{◌∙◌, ap, take, length}
+use Rattle.std.proofs.Common.{◌∙◌, ap}
 use Rattle.std.proofs.lemmas.List.{take_all}
 use Rattle.cep_parse.specs.Machine.{atom_of_names}
 use Rattle.cep_parse.proofs.Nodes.{names_next}

@@ -1,4 +1,4 @@
-use Rattle.std.proofs.Common.{◌≡◌, ◌+◌, List, [], ◌∷◌, ◌++◌, length, take, drop, sym, ap, subst, ◌∙◌}
+use Rattle.std.proofs.Common.{◌+◌, [], ◌∷◌, ◌++◌, length, take, drop, sym, ap, subst, ◌∙◌}
 use Rattle.cep_parse.specs.declared.state.Plain.TheVariants.{Top}
 use Rattle.cep_parse.specs.declared.state.State.TheVariants.{Plain}
 use Rattle.cep_parse.specs.declared.symbol.Symbol.{Symbol}
