@@ -1,0 +1,101 @@
+-- A derivation of a file runs to it, so symbols are one raw file at most.
+use Rattle.std.proofs.Common.{◌≡◌, Bool, true, false, List, [], ◌∷◌, ◌++◌, Option, None, Some, refl, sym, ap, ◌∙◌, append_assoc}
+use Rattle.std.proofs.lemmas.List.{append-nil}
+use Rattle.cep_parse.specs.declared.raw.Span.{Span}
+use Rattle.cep_parse.specs.declared.raw.RawElem.{RawElem}
+use Rattle.cep_parse.specs.declared.raw.RawItem.{RawItem}
+use Rattle.cep_parse.specs.declared.symbol.Symbol.{Symbol}
+use Rattle.cep_parse.specs.declared.symbol.Word.{Word}
+use Rattle.cep_parse.specs.declared.symbol.Word.TheVariants as word
+use Rattle.cep_parse.specs.declared.state.Plain.TheVariants as plain
+use Rattle.cep_parse.specs.declared.state.State.TheVariants as state
+use Rattle.cep_parse.specs.Grammar.{at, Side, Elem, Item, File}
+use Rattle.cep_parse.specs.Grammar.Atom.{atom}
+use Rattle.cep_parse.specs.Grammar.Elem.{unit as elem_unit, atom as elem_atom, kept, qui, stage as elem_stage}
+use Rattle.cep_parse.specs.Grammar.Elems.{elems}
+use Rattle.cep_parse.specs.Grammar.Sides.{sides}
+use Rattle.cep_parse.specs.Grammar.Label.{none as no_label, named as a_label}
+use Rattle.cep_parse.specs.Grammar.Item.{sort, pred, back as back_pred, colon, fact, labelled, clause, outer, unnamed, stage as stage_item, context, interactive, trace_named, trace_listed}
+use Rattle.cep_parse.specs.Grammar.File.{none as no_items, more as more_items}
+use Rattle.cep_parse.specs.Machine.{step}
+use Rattle.cep_parse.proofs.Runs.{Config, moved, run, run_from, state_behind}
+use Rattle.cep_parse.proofs.ForwardItems.{item_runs}
+
+-- what begins with a symbol that is no dot
+record StartsAfresh (symbols : List Symbol) : Type 0 where
+  word_ : Word
+  x : Span
+  rest : List Symbol
+  is : symbols ≡ at word_ x ∷ rest
+  same : step (state.Plain plain.Ended) word_ x ≡ step (state.Plain plain.Top) word_ x
+
+-- the elements of a side begin so
+elem_starts : (side : Side) (symbols : List Symbol) (es : List RawElem) → Elem side symbols es → (rest : List Symbol) → StartsAfresh (symbols ++ rest)
+elem_starts side symbols es (elem_unit side' open_ close) rest = record { word_ = word.Open; x = open_; rest = at word.Close close ∷ rest; is = refl; same = refl }
+elem_starts side symbols es (elem_atom side' inner a (atom name args count nodes h)) rest = record { word_ = word.Name; x = name; rest = args ++ rest; is = refl; same = refl }
+elem_starts side symbols es (kept outer' dollar inner a h) rest = record { word_ = word.Dollar; x = dollar; rest = inner ++ rest; is = refl; same = refl }
+elem_starts side symbols es (qui a) rest = record { word_ = word.Qui; x = a; rest = rest; is = refl; same = refl }
+elem_starts side symbols es (elem_stage right stage_ a) rest = record { word_ = word.Stage; x = stage_; rest = at word.Name a ∷ rest; is = refl; same = refl }
+
+starts_name : (a : Span) (rest : List Symbol) → StartsAfresh (at word.Name a ∷ rest)
+starts_name a rest = record { word_ = word.Name; x = a; rest = rest; is = refl; same = refl }
+
+-- so does an item
+item_starts : (symbols : List Symbol) (i : RawItem) → Item symbols i → StartsAfresh symbols
+item_starts symbols i (sort a colon_ type_ x) = starts_name a _
+item_starts symbols i (pred a colon_ p x args) = starts_name a _
+item_starts symbols i (back_pred a colon_ p x args) = starts_name a _
+item_starts symbols i (colon a colon_ b x args) = starts_name a _
+item_starts symbols i (fact x inner head (atom name args count nodes h)) = starts_name name _
+item_starts symbols i (labelled a colon_ x inner head h some) = starts_name a _
+item_starts symbols i (clause arrow x before inner first' others label head goal goals no_label (atom name args count nodes h) g k) = starts_name name _
+item_starts symbols i (clause arrow x before inner first' others label head goal goals (a_label a colon_) h g k) = starts_name a _
+item_starts symbols i (outer before inner label left right no_label (sides outer' arrow x before' after left' right' (elems side first' others fs gs one' stars) g)) =
+    let e : (first' ++ others) ++ at word.Lolli arrow ∷ (after ++ at word.Dot x ∷ []) ≡ first' ++ (others ++ at word.Lolli arrow ∷ (after ++ at word.Dot x ∷ [])) = append_assoc first' others _ in
+    let starts = elem_starts side first' fs one' (others ++ at word.Lolli arrow ∷ (after ++ at word.Dot x ∷ [])) in
+    record { word_ = starts.word_; x = starts.x; rest = starts.rest; is = e ∙ starts.is; same = starts.same }
+item_starts symbols i (outer before inner label left right (a_label a colon_) h) = starts_name a _
+item_starts symbols i (unnamed blank colon_ inner left right h) = record { word_ = word.Blank; x = blank; rest = at word.Colon colon_ ∷ inner; is = refl; same = refl }
+item_starts symbols i (stage_item stage_ a equals open_ close inner ending rules' h d) = record { word_ = word.Stage; x = stage_; rest = _; is = refl; same = refl }
+item_starts symbols i (context context_ a equals open_ inner ending atoms h d) = record { word_ = word.Context; x = context_; rest = _; is = refl; same = refl }
+item_starts symbols i (interactive directive a x) = record { word_ = word.Interactive; x = directive; rest = _; is = refl; same = refl }
+item_starts symbols i (trace_named directive stage_ a x mark limit l) = record { word_ = word.Trace; x = directive; rest = _; is = refl; same = refl }
+item_starts symbols i (trace_listed directive stage_ open_ x mark limit inner atoms l h) = record { word_ = word.Trace; x = directive; rest = _; is = refl; same = refl }
+
+-- an item runs alike behind one that a dot may end
+from_behind : (b : Bool) (symbols : List Symbol) (i : RawItem) → Item symbols i → (items : List RawItem) (rest : List Symbol)
+    → run items (state_behind b) (symbols ++ rest) ≡ run items (state.Plain plain.Top) (symbols ++ rest)
+from_behind false symbols i h items rest = refl
+from_behind true symbols i h items rest =
+    let starts = item_starts symbols i h in
+    ap (λ s. run items (state.Plain plain.Ended) (s ++ rest)) starts.is
+    ∙ ap (λ n. run_from (moved items n) (starts.rest ++ rest)) starts.same
+    ∙ sym (ap (λ s. run items (state.Plain plain.Top) (s ++ rest)) starts.is)
+
+-- a file is read to its end
+pub record IsRead (symbols : List Symbol) (file : List RawItem) (from : Bool) (items : List RawItem) : Type 0 where
+  pub may_dot : Bool
+  pub is : run items (state_behind from) symbols ≡ Some (record { items = items ++ file; state = state_behind may_dot })
+
+pub file_runs : (symbols : List Symbol) (file : List RawItem) → File symbols file → (from : Bool) (items : List RawItem) → IsRead symbols file from items
+file_runs symbols file no_items from items = record { may_dot = from; is = ap (λ is. Some (record { items = is; state = state_behind from })) (sym (append-nil items)) }
+file_runs symbols file (more_items first' others i more h g) from items =
+    let one = item_runs first' i h items others in
+    let rest = file_runs others more g one.may_dot (items ++ i ∷ []) in
+    record {
+      may_dot = rest.may_dot;
+      is = from_behind from first' i h items others ∙ one.is ∙ rest.is ∙ ap (λ is. Some (record { items = is; state = state_behind rest.may_dot })) (append_assoc items (i ∷ []) more);
+    }
+
+-- the items of a configuration
+items_of : Option Config → List RawItem
+items_of None = []
+items_of (Some c) = c.items
+
+-- symbols are one raw file at most
+pub file_once : (symbols : List Symbol) (one other : List RawItem) → File symbols one → File symbols other → one ≡ other
+unfolding items_of
+file_once symbols one other h g =
+    let first' = file_runs symbols one h false [] in
+    let second = file_runs symbols other g false [] in
+    ap items_of (sym first'.is ∙ second.is)

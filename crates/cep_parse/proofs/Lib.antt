@@ -1,0 +1,15 @@
+pub mod Nodes
+pub mod Runs
+pub mod ForwardAtoms
+pub mod ForwardRules
+pub mod ForwardItems
+pub mod ForwardFiles
+pub mod Residual
+pub mod BackAtoms
+pub mod BackRules
+pub mod BackUses
+pub mod BackItems
+pub mod Within
+pub mod Endings
+pub mod Reading
+pub mod TokenLemmas

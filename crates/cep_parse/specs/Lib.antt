@@ -1,0 +1,4 @@
+pub mod Symbols
+pub mod Grammar
+pub mod Machine
+pub mod Files

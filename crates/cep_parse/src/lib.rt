@@ -1,0 +1,27 @@
+//! The raw file of a program's tokens: what its items say, before any name is looked up.
+#![tactic(auto)]
+
+mod atoms;
+mod begins;
+mod fault;
+mod laws;
+mod levels;
+mod list;
+mod parser;
+mod raw;
+mod rules;
+mod state;
+mod steps;
+mod symbol;
+
+pub use fault::ParseFault;
+pub use laws::one_raw_file;
+pub use list::List;
+pub use parser::{MOST_OPEN, parse};
+pub use raw::{
+    RawAtom, RawAtoms, RawElem, RawFile, RawItem, RawKind, RawNode, RawNodes, RawRule, RawRules,
+    RawSide, RawStart, Span, Spans,
+};
+
+#[cfg(test)]
+mod tests;

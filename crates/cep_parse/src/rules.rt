@@ -1,0 +1,268 @@
+// Rules and bags, symbol by symbol.
+ghost use Rattle.std.specs.Prelude.{◌≡◌, ◌++◌, ◌∷◌, [], IfOk, Some};
+ghost use Rattle.cep_parse.specs.Machine.{atom_for, bag_behind, bag_ended, bag_first, bag_next, bag_unit, before_elem, behind_dollar, behind_elem, behind_left, behind_open, behind_right, behind_stage, rule_ended, rule_from, step_bag, step_rule, whole_rule, with_elem};
+
+use crate::atoms::atom_of;
+use crate::raw::{RawAtom, RawAtoms, RawElem, RawItem, RawRule, RawSide, RawStart, Span};
+use crate::state::{
+    BagHome, BagPlace, BagSoFar, Next, Plain, RulePlace, RuleSoFar, StageSoFar, State, Use,
+};
+use crate::symbol::{Symbol, Word};
+use std::alloc::{AllocError, Global};
+
+/// An atom is read for this.
+pub(crate) fn atom_for(alloc: Global, name: Span, used: Use) -> Next
+    ensures { result ≡ atom_for name used }
+{
+    Next::Go(State::Atom {
+        atom: atom_of(alloc, name),
+        used,
+    })
+}
+
+/// A rule of which nothing was read but its label and maybe its first element.
+pub(crate) fn rule_from(
+    stage: Option<StageSoFar>,
+    at: u32,
+    label: Option<Span>,
+    left: RawSide,
+) -> RuleSoFar
+    ensures { result ≡ rule_from stage at label left }
+{
+    RuleSoFar {
+        stage,
+        at,
+        label,
+        left,
+        right: None,
+    }
+}
+
+/// The rule with one more element, on the side that is read.
+pub(crate) fn with_elem(rule: RuleSoFar, elem: RawElem) -> Result<RuleSoFar, AllocError>
+    ensures { IfOk result (λ more. more ≡ with_elem rule elem) }
+{
+    let RuleSoFar {
+        stage,
+        at,
+        label,
+        mut left,
+        right,
+    } = rule;
+    match right {
+        None => {
+            left.push(elem)?;
+            Ok(RuleSoFar {
+                stage,
+                at,
+                label,
+                left,
+                right: None,
+            })
+        }
+        Some(mut right) => {
+            right.push(elem)?;
+            Ok(RuleSoFar {
+                stage,
+                at,
+                label,
+                left,
+                right: Some(right),
+            })
+        }
+    }
+}
+
+// A rule is whole.
+fn rule_ended(stage: Option<StageSoFar>, rule: RawRule) -> Result<Next, AllocError>
+    ensures { IfOk result (λ next. next ≡ rule_ended stage rule) }
+{
+    match stage {
+        None => Ok(Next::Item {
+            item: RawItem::Outer(rule),
+            may_dot: false,
+        }),
+        Some(StageSoFar { name, mut rules }) => {
+            rules.push(rule)?;
+            Ok(Next::Go(State::Rules(StageSoFar { name, rules })))
+        }
+    }
+}
+
+fn at_place(rule: RuleSoFar, place: RulePlace) -> Next
+    ensures { result ≡ Next.Go (State.Rule rule place) }
+{
+    Next::Go(State::Rule { rule, place })
+}
+
+/// Before an element.
+pub(crate) fn before_elem(
+    alloc: Global,
+    rule: RuleSoFar,
+    symbol: Symbol,
+) -> Result<Next, AllocError>
+    ensures { IfOk result (λ next. next ≡ before_elem rule symbol.word symbol.at) }
+{
+    let outer = rule.stage.is_none();
+    let right = rule.right.is_some();
+    match symbol.word {
+        Word::Name => Ok(atom_for(alloc, symbol.at, Use::Elem { rule, kept: false })),
+        Word::Dollar if !right => Ok(at_place(rule, RulePlace::Kept)),
+        Word::Open => Ok(at_place(rule, RulePlace::Unit)),
+        Word::Qui if outer && !right => {
+            let rule = with_elem(rule, RawElem::Qui(symbol.at))?;
+            Ok(at_place(rule, RulePlace::Behind))
+        }
+        Word::Stage if outer => Ok(at_place(rule, RulePlace::Stage)),
+        _ => Ok(Next::Stop),
+    }
+}
+
+/// Behind an element on the left.
+pub(crate) fn behind_left(alloc: Global, rule: RuleSoFar, symbol: Symbol) -> Next
+    ensures { result ≡ behind_left rule symbol.word }
+{
+    match symbol.word {
+        Word::Star => at_place(rule, RulePlace::Before),
+        Word::Lolli => at_place(
+            RuleSoFar {
+                stage: rule.stage,
+                at: rule.at,
+                label: rule.label,
+                left: rule.left,
+                right: Some(RawSide::new(alloc)),
+            },
+            RulePlace::Before,
+        ),
+        _ => Next::Stop,
+    }
+}
+
+/// Behind an element.
+pub(crate) fn behind_elem(
+    alloc: Global,
+    rule: RuleSoFar,
+    symbol: Symbol,
+) -> Result<Next, AllocError>
+    ensures { IfOk result (λ next. next ≡ behind_elem rule symbol.word) }
+{
+    let RuleSoFar {
+        stage,
+        at,
+        label,
+        left,
+        right,
+    } = rule;
+    match right {
+        None => Ok(behind_left(alloc, rule_from(stage, at, label, left), symbol)),
+        Some(right) => behind_right(stage, at, label, left, right, symbol),
+    }
+}
+
+// Behind an element on the right.
+fn behind_right(
+    stage: Option<StageSoFar>,
+    at: u32,
+    label: Option<Span>,
+    left: RawSide,
+    right: RawSide,
+    symbol: Symbol,
+) -> Result<Next, AllocError>
+    ensures { IfOk result (λ next. next ≡ behind_right (record { stage = stage; at = at; label = label; left = left; right = Some right }) right symbol.word) }
+{
+    match symbol.word {
+        Word::Star => Ok(at_place(
+            RuleSoFar {
+                stage,
+                at,
+                label,
+                left,
+                right: Some(right),
+            },
+            RulePlace::Before,
+        )),
+        Word::Dot => rule_ended(
+            stage,
+            RawRule {
+                at,
+                label,
+                left,
+                right,
+            },
+        ),
+        _ => Ok(Next::Stop),
+    }
+}
+
+/// In a rule.
+pub(crate) fn step_rule(
+    alloc: Global,
+    rule: RuleSoFar,
+    place: RulePlace,
+    symbol: Symbol,
+) -> Result<Next, AllocError>
+    ensures { IfOk result (λ next. next ≡ step_rule rule place symbol.word symbol.at) }
+{
+    match (place, symbol.word) {
+        (RulePlace::Before, _) => before_elem(alloc, rule, symbol),
+        (RulePlace::Kept, Word::Name) => {
+            Ok(atom_for(alloc, symbol.at, Use::Elem { rule, kept: true }))
+        }
+        (RulePlace::Unit, Word::Close) => Ok(at_place(rule, RulePlace::Behind)),
+        (RulePlace::Stage, Word::Name) => {
+            let rule = with_elem(rule, RawElem::Stage(symbol.at))?;
+            Ok(at_place(rule, RulePlace::Behind))
+        }
+        (RulePlace::Behind, _) => behind_elem(alloc, rule, symbol),
+        _ => Ok(Next::Stop),
+    }
+}
+
+// A bag is whole.
+fn bag_ended(bag: BagSoFar) -> Next
+    ensures { result ≡ bag_ended bag.home bag.atoms }
+{
+    let BagSoFar { home, atoms } = bag;
+    match home {
+        BagHome::Context { name } => Next::Item {
+            item: RawItem::Context { name, atoms },
+            may_dot: true,
+        },
+        BagHome::Trace { at, limit, stage } => Next::Go(State::Ending(RawItem::Trace {
+            at,
+            limit,
+            stage,
+            start: RawStart::Listed(atoms),
+        })),
+    }
+}
+
+fn in_bag(bag: BagSoFar, place: BagPlace) -> Next
+    ensures { result ≡ Next.Go (State.Bag bag place) }
+{
+    Next::Go(State::Bag { bag, place })
+}
+
+/// In a bag.
+pub(crate) fn step_bag(alloc: Global, bag: BagSoFar, place: BagPlace, symbol: Symbol) -> Next
+    ensures { result ≡ step_bag bag place symbol.word symbol.at }
+{
+    match (place, symbol.word) {
+        (BagPlace::First | BagPlace::Next, Word::Name) => {
+            atom_for(alloc, symbol.at, Use::Bag(bag))
+        }
+        (BagPlace::First | BagPlace::Next, Word::Open) => in_bag(bag, BagPlace::Unit),
+        (BagPlace::First | BagPlace::Behind, Word::CloseBrace) => bag_ended(bag),
+        (BagPlace::Unit, Word::Close) => in_bag(bag, BagPlace::Behind),
+        (BagPlace::Behind, Word::Comma | Word::Star) => in_bag(bag, BagPlace::Next),
+        _ => Next::Stop,
+    }
+}
+
+/// The bag with one more atom.
+pub(crate) fn with_atom(mut bag: BagSoFar, atom: RawAtom) -> Result<BagSoFar, AllocError>
+    ensures { IfOk result (λ more. more ≡ record { home = bag.home; atoms = bag.atoms ++ atom ∷ [] }) }
+{
+    bag.atoms.push(atom)?;
+    Ok(bag)
+}

@@ -1,0 +1,254 @@
+// What a symbol does in each state.
+ghost use Rattle.std.specs.Prelude.{◌≡◌, IfOk, None};
+ghost use Rattle.cep_parse.specs.Machine.{before_goal, rule_named, behind_atom, behind_goal, behind_head, head_alone, named, step, step_atom, step_declared, step_ending, step_names, step_rules, with_goal};
+
+use crate::atoms::{atom_of_names, grow};
+use crate::begins::step_plain;
+use crate::raw::{RawAtom, RawAtoms, RawElem, RawItem, RawSide, Span, Spans};
+use crate::rules::{
+    atom_for, behind_elem, behind_left, rule_from, step_bag, step_rule, with_atom, with_elem,
+};
+use crate::state::{
+    AtomSoFar, BagPlace, ClauseSoFar, Grown, Next, Plain, RulePlace, StageSoFar, State, Use,
+};
+use crate::symbol::{Symbol, Word};
+use std::alloc::{AllocError, Global};
+
+// The dot of a clause without goals. `a : b.` is a colon.
+fn head_alone(alloc: Global, label: Option<Span>, head: RawAtom) -> RawItem
+    ensures { result ≡ head_alone label head }
+{
+    match label {
+        Some(left) if head.args == 0 => RawItem::Colon {
+            left,
+            args: Spans::new(alloc),
+            right: head.name,
+        },
+        _ => RawItem::Clause {
+            label,
+            head,
+            goals: RawAtoms::new(alloc),
+        },
+    }
+}
+
+// Behind the first atom of a clause or of an outer rule.
+fn behind_head(
+    alloc: Global,
+    at: u32,
+    label: Option<Span>,
+    head: RawAtom,
+    symbol: Symbol,
+) -> Result<Next, AllocError>
+    ensures { IfOk result (λ next. next ≡ behind_head at label head symbol.word) }
+{
+    match symbol.word {
+        Word::Dot => Ok(Next::Item {
+            item: head_alone(alloc, label, head),
+            may_dot: false,
+        }),
+        Word::Back => Ok(Next::Go(State::Goal(ClauseSoFar {
+            label,
+            head,
+            goals: RawAtoms::new(alloc),
+        }))),
+        Word::Star | Word::Lolli => {
+            let mut left = RawSide::new(alloc);
+            left.push(RawElem::Atom {
+                kept: false,
+                atom: head,
+            })?;
+            Ok(behind_left(alloc, rule_from(None, at, label, left), symbol))
+        }
+        _ => Ok(Next::Stop),
+    }
+}
+
+// The clause with one more goal.
+fn with_goal(mut clause: ClauseSoFar, goal: RawAtom) -> Result<ClauseSoFar, AllocError>
+    ensures { IfOk result (λ more. more ≡ with_goal clause goal) }
+{
+    clause.goals.push(goal)?;
+    Ok(clause)
+}
+
+// Behind a goal.
+fn behind_goal(clause: ClauseSoFar, symbol: Symbol) -> Next
+    ensures { result ≡ behind_goal clause symbol.word }
+{
+    match symbol.word {
+        Word::Dot => Next::Item {
+            item: RawItem::Clause {
+                label: clause.label,
+                head: clause.head,
+                goals: clause.goals,
+            },
+            may_dot: false,
+        },
+        Word::Back | Word::Comma => Next::Go(State::Goal(clause)),
+        _ => Next::Stop,
+    }
+}
+
+// Behind an atom, by what it was read for.
+fn behind_atom(alloc: Global, used: Use, atom: RawAtom, symbol: Symbol) -> Result<Next, AllocError>
+    ensures { IfOk result (λ next. next ≡ behind_atom used atom symbol.word) }
+{
+    match used {
+        Use::First { at, label } => behind_head(alloc, at, label, atom, symbol),
+        Use::Goal(clause) => Ok(behind_goal(with_goal(clause, atom)?, symbol)),
+        Use::Elem { rule, kept } => {
+            let rule = with_elem(rule, RawElem::Atom { kept, atom })?;
+            behind_elem(alloc, rule, symbol)
+        }
+        Use::Bag(bag) => {
+            let bag = with_atom(bag, atom)?;
+            Ok(step_bag(alloc, bag, BagPlace::Behind, symbol))
+        }
+    }
+}
+
+// In an atom.
+fn step_atom(alloc: Global, atom: AtomSoFar, used: Use, symbol: Symbol) -> Result<Next, AllocError>
+    ensures { IfOk result (λ next. next ≡ step_atom atom used symbol.word symbol.at) }
+{
+    match grow(atom, symbol)? {
+        Grown::Going(atom) => Ok(Next::Go(State::Atom { atom, used })),
+        Grown::Ended(atom) => behind_atom(alloc, used, atom, symbol),
+        Grown::Broken => Ok(Next::Stop),
+    }
+}
+
+// Behind names and their colon.
+fn named(name: Span, args: Spans) -> Next
+    ensures { result ≡ named name args }
+{
+    if args.len() == 0 {
+        return Next::Go(State::Plain(Plain::Labelled { label: name }));
+    }
+    Next::Go(State::Declared { name, args })
+}
+
+// Behind names.
+fn step_names(
+    alloc: Global,
+    name: Span,
+    mut args: Spans,
+    symbol: Symbol,
+) -> Result<Next, AllocError>
+    ensures { IfOk result (λ next. next ≡ step_names name args symbol.word symbol.at) }
+{
+    match symbol.word {
+        Word::Name => {
+            args.push(symbol.at)?;
+            Ok(Next::Go(State::Names { name, args }))
+        }
+        Word::Colon => Ok(named(name, args)),
+        _ => {
+            let used = Use::First {
+                at: name.from,
+                label: None,
+            };
+            step_atom(alloc, atom_of_names(alloc, name, args)?, used, symbol)
+        }
+    }
+}
+
+// Behind names and their colon, where they are a declaration.
+fn step_declared(name: Span, args: Spans, symbol: Symbol) -> Next
+    ensures { result ≡ step_declared name args symbol.word symbol.at }
+{
+    let item = match symbol.word {
+        Word::Pred => RawItem::Pred {
+            name,
+            args,
+            back: false,
+        },
+        Word::Bwd => RawItem::Pred {
+            name,
+            args,
+            back: true,
+        },
+        Word::Name => RawItem::Colon {
+            left: name,
+            args,
+            right: symbol.at,
+        },
+        _ => return Next::Stop,
+    };
+    Next::Go(State::Ending(item))
+}
+
+// Before the dot of an item.
+fn step_ending(item: RawItem, symbol: Symbol) -> Next
+    ensures { result ≡ step_ending item symbol.word }
+{
+    match symbol.word {
+        Word::Dot => Next::Item {
+            item,
+            may_dot: false,
+        },
+        _ => Next::Stop,
+    }
+}
+
+// In the braces of a stage.
+fn step_rules(stage: StageSoFar, symbol: Symbol) -> Next
+    ensures { result ≡ step_rules stage symbol.word symbol.at }
+{
+    match symbol.word {
+        Word::Name => Next::Go(State::RuleNamed {
+            stage,
+            label: symbol.at,
+        }),
+        Word::CloseBrace => Next::Item {
+            item: RawItem::Stage {
+                name: stage.name,
+                rules: stage.rules,
+            },
+            may_dot: true,
+        },
+        _ => Next::Stop,
+    }
+}
+
+// Behind the label of a rule in a stage.
+fn rule_named(alloc: Global, stage: StageSoFar, label: Span, symbol: Symbol) -> Next
+    ensures { result ≡ rule_named stage label symbol.word }
+{
+    match symbol.word {
+        Word::Colon => Next::Go(State::Rule {
+            rule: rule_from(Some(stage), label.from, Some(label), RawSide::new(alloc)),
+            place: RulePlace::Before,
+        }),
+        _ => Next::Stop,
+    }
+}
+
+// Before a goal.
+fn before_goal(alloc: Global, clause: ClauseSoFar, symbol: Symbol) -> Next
+    ensures { result ≡ before_goal clause symbol.word symbol.at }
+{
+    match symbol.word {
+        Word::Name => atom_for(alloc, symbol.at, Use::Goal(clause)),
+        _ => Next::Stop,
+    }
+}
+
+/// What a symbol does.
+pub(crate) fn step(alloc: Global, state: State, symbol: Symbol) -> Result<Next, AllocError>
+    ensures { IfOk result (λ next. next ≡ step state symbol.word symbol.at) }
+{
+    match state {
+        State::Plain(plain) => step_plain(alloc, plain, symbol),
+        State::Names { name, args } => step_names(alloc, name, args, symbol),
+        State::Declared { name, args } => Ok(step_declared(name, args, symbol)),
+        State::Ending(item) => Ok(step_ending(item, symbol)),
+        State::Rules(stage) => Ok(step_rules(stage, symbol)),
+        State::RuleNamed { stage, label } => Ok(rule_named(alloc, stage, label, symbol)),
+        State::Rule { rule, place } => step_rule(alloc, rule, place, symbol),
+        State::Goal(clause) => Ok(before_goal(alloc, clause, symbol)),
+        State::Bag { bag, place } => Ok(step_bag(alloc, bag, place, symbol)),
+        State::Atom { atom, used } => step_atom(alloc, atom, used, symbol),
+    }
+}
