@@ -1,0 +1,5 @@
+pub mod Fronts
+pub mod Named
+pub mod Givens
+pub mod Valued
+pub mod Nodes
