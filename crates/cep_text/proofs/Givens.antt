@@ -1,6 +1,6 @@
 -- What the variables are given, one after another.
 use Rattle.std.proofs.Common.{◌≡◌, ℕ, ◌+◌, suc, zero, List, [], ◌∷◌, ◌++◌, take, append_assoc, refl, sym, ap, subst, ◌∙◌, append-nil, arith}
-use Rattle.std.specs.Prelude.{Result, OnErr, Option, None, Some, slice_get}
+use Rattle.std.specs.Prelude.{Result, OnErr, Some, slice_get}
 use Rattle.cep_term.specs.Tree.{Tree}
 use Rattle.cep_rule.specs.declared.signature.Signature.{Signature}
 use Rattle.cep_text.specs.Texts.{given_text, all_given_text}

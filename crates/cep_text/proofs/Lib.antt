@@ -3,3 +3,4 @@ pub mod Named
 pub mod Givens
 pub mod Valued
 pub mod Nodes
+pub mod Sample

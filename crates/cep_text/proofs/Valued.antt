@@ -1,6 +1,6 @@
 -- Values for the variables of a rule or a clause: there are as many as variables, and their constructors are declared.
 use Rattle.std.proofs.Common.{◌≡◌, ℕ, suc, zero, List, [], ◌∷◌, length, refl, sym, ap, subst, ◌∙◌}
-use Rattle.std.specs.Prelude.{Option, None, Some, slice_get, IsSomeAnd}
+use Rattle.std.specs.Prelude.{Option, Some, slice_get, IsSomeAnd}
 use Rattle.std.specs.List.{AllByRecursion}
 use Rattle.cep_term.specs.Tree.{Tree}
 use Rattle.cep_rule.specs.declared.signature.Con.{Con}

@@ -5,6 +5,8 @@
 mod derivations;
 mod offers;
 mod terms;
+#[cfg(test)]
+mod tests;
 
 pub use derivations::put_proof;
 pub use offers::put_offer;
