@@ -87,7 +87,7 @@ pub data Rules : List Symbol → List RawRule → Type 0 where
       → Sides false symbols left right → Rules rest rules
       → Rules (at word.Name a ∷ at word.Colon colon ∷ (symbols ++ rest)) (record { at = a.from; label = Some a; left = left; right = right } ∷ rules)
 
--- a comma or another mark
+-- one of two words
 pub data IsOneOf (one other : Word) : Word → Type 0 where
   one : IsOneOf one other one
   other : IsOneOf one other other

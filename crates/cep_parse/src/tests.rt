@@ -166,7 +166,7 @@ fn shown(alloc: Global, text: &str) -> Result<String, Fail> {
 
 #[test]
 fn texts_say_this(rt: HostRuntime) -> Result<(), Fail> {
-    let table: [(&str, &str); 44] = [
+    let table: [(&str, &str); 22] = [
         ("", ""),
         ("t : type.", "t sort\n"),
         ("p : pred. q t u : bwd.", "p pred \nq bwd t u \n"),
@@ -195,6 +195,16 @@ fn texts_say_this(rt: HostRuntime) -> Result<(), Fail> {
         ("#trace _ s c.", "s c\n"),
         ("#trace 007 s { a, b }.", "007:s  a/0; b/0;\n"),
         ("#trace _ s {}.", "s \n"),
+    ];
+    for (text, want) in table {
+        assert_eq!(rt; shown(rt.alloc(), text)?.as_str(), want, "{text}");
+    }
+    Ok(())
+}
+
+#[test]
+fn first_faults_stand_here(rt: HostRuntime) -> Result<(), Fail> {
+    let table: [(&str, &str); 22] = [
         ("p t : pred\nq : pred.", "unexpected 2:1"),
         ("p t : pred\ncontext c = {}", "unexpected 2:1"),
         ("a : b", "unexpected 1:6"),

@@ -1,15 +1,11 @@
 -- Fronts of a text that is added piece by piece.
-use Rattle.std.proofs.Common.{◌≡◌, ℕ, List, [], ◌∷◌, ◌++◌, append_assoc, refl, sym, ap, subst, ◌∙◌, append-nil}
+use Rattle.std.proofs.Common.{◌≡◌, ℕ, List, [], ◌∷◌, ◌++◌, append_assoc, sym, ap, subst, ◌∙◌}
 use Rattle.std.specs.Prelude.{Result, Ok, Err, OnErr, Some, slice_get}
 use Rattle.cep_term.specs.Tree.{Tree, Trees, node, more}
 use Rattle.cep_rule.specs.declared.signature.Con.{Con}
 use Rattle.cep_rule.specs.declared.signature.Signature.{Signature}
 use Rattle.cep_text.specs.Texts.{term_text, args_text}
 use Rattle.cep_text.specs.Writing.{IsBegun}
-
--- nothing was added
-pub begun_same : (old text new : List ℕ) → new ≡ old → IsBegun old text new
-begun_same old text new same = record { front = []; rest = text; cut = refl; added = same ∙ sym (append-nil old) }
 
 -- a front of the first piece was added
 pub begun_first : (old one next new : List ℕ) → IsBegun old one new → IsBegun old (one ++ next) new
