@@ -37,7 +37,7 @@ pub use limits::{
     MOST_STAGES, MOST_STATE_NODES, MOST_TURNS, MOST_VARIABLES,
 };
 pub use matcher::Matcher;
-pub use offer::Offer;
+pub use offer::{Offer, order_offer};
 pub use parts::{Parts, Stage, Stages};
 pub use program::Program;
 pub use rule::{Premise, Premises, Rule, Rules};
