@@ -5,3 +5,4 @@ pub mod Stepping
 pub mod Sizes
 pub mod Weighing
 pub mod Changing
+pub mod BagLaws

@@ -4,11 +4,9 @@ ghost use Rattle.std.specs.List.{AllByRecursion};
 ghost use Rattle.cep_term.specs.Tree.{IsGroundAtom};
 ghost use Rattle.cep_term.specs.Multiset.{gathered, sum_of, difference_of, copies_in, IsBag};
 
+use crate::laws::bags_are_lawful;
 use cep_rule::AtomList;
 use cep_term::Bag;
-use cep_term::laws::{
-    atoms_are_gathered, counts_are_set, counts_decide, order_is_total, sums_and_differences,
-};
 use std::alloc::{AllocError, Global};
 
 // The bag of these atoms.
@@ -17,10 +15,7 @@ pub(crate) fn bag_of(alloc: Global, atoms: &AtomList) -> Result<Bag, AllocError>
     requires few { length atoms.now < 2 ^ 31 }
     ensures { IfOk result (λ bag. bag ≡ gathered atoms.now) }
 {
-    counts_are_set();
-    counts_decide();
-    sums_and_differences();
-    atoms_are_gathered();
+    bags_are_lawful();
     let mut bag = Bag::new(alloc);
     add_all(&mut bag, atoms)?;
     Ok(bag)
@@ -33,10 +28,7 @@ pub(crate) fn add_all(state: &mut Bag, atoms: &AtomList) -> Result<(), AllocErro
     requires few { copies_in state.old + length atoms.now < 2 ^ 31 }
     ensures { OnOk result (state.new ≡ sum_of state.old (gathered atoms.now)) }
 {
-    counts_are_set();
-    counts_decide();
-    sums_and_differences();
-    atoms_are_gathered();
+    bags_are_lawful();
     for i in 0..atoms.len() {
         state.add(atoms.get(i))?;
     }
@@ -49,11 +41,7 @@ pub(crate) fn take_all(state: &mut Bag, atoms: &AtomList)
     requires bag { IsBag state.old }
     ensures { state.new ≡ difference_of state.old (gathered atoms.now) }
 {
-    order_is_total();
-    counts_are_set();
-    counts_decide();
-    sums_and_differences();
-    atoms_are_gathered();
+    bags_are_lawful();
     for i in 0..atoms.len() {
         let _ = state.take(atoms.get(i));
     }

@@ -10,6 +10,7 @@ mod beginning;
 mod changing;
 mod config;
 mod edits;
+mod laws;
 mod measured;
 mod sides;
 mod size;

@@ -9,11 +9,11 @@ ghost use Rattle.cep_machine.specs.Passing.{IsFirstTooLarge};
 ghost use Rattle.cep_machine.specs.Sizes.{IsMeasurable};
 ghost use Rattle.cep_machine.specs.Weighing.{used_of, atoms_of, CanWeigh, IsWeighed};
 
+use crate::laws::bags_are_lawful;
 use crate::measured::Measured;
 use crate::stepped::Which;
 use cep_rule::{AtomList, MOST_COPIES, MOST_STATE_NODES, Premises, Rule, Terms};
 use cep_term::Bag;
-use cep_term::laws::{counts_are_set, counts_decide, sums_and_differences};
 use std::alloc::{AllocError, Global};
 
 // What a step comes to: a limit that it would pass, with the number that passes it, or how many nodes
@@ -50,9 +50,7 @@ fn weigh_state(rule: &Rule, measured: &Measured, state: &Bag, nodes: u64) -> Wei
     requires nodes { nodes ≡ nodes_in_all state.now }
     ensures { IsWeighed rule.now measured.now.values.now state.now result }
 {
-    counts_are_set();
-    counts_decide();
-    sums_and_differences();
+    bags_are_lawful();
     let copies = state.copies() + rule.right.len() as u64 - used_count(&rule.premises);
     let nodes = nodes + nodes_made(&rule.right, measured) - nodes_used(&rule.premises, measured);
     if copies > MOST_COPIES {

@@ -1,0 +1,5 @@
+pub mod Lists
+pub mod SizesOf
+pub mod Bags
+pub mod Asked
+pub mod Premises
