@@ -3,3 +3,5 @@ pub mod SizesOf
 pub mod Bags
 pub mod Asked
 pub mod Premises
+pub mod Weights
+pub mod Entries

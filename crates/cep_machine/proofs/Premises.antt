@@ -5,11 +5,11 @@ use Rattle.std.specs.List.{AllByRecursion}
 use Rattle.std.proofs.lemmas.List.{map-append, length-map, take_all}
 use Rattle.std.proofs.lemmas.List.Elements.{filter-append}
 use Rattle.std.proofs.lemmas.List.Sums.{sum_by-append, sum_by-cons, sum_by_push}
-use Rattle.cep_term.specs.Tree.{Tree, AtomTree, nodes_in}
+use Rattle.cep_term.specs.Tree.{Tree, AtomTree, nodes_in, IsFit}
 use Rattle.cep_rule.specs.Patterns.{PremiseTree}
 use Rattle.cep_rule.specs.Instances.{instance_by, instances_by}
 use Rattle.cep_machine.specs.Weighing.{atoms_of, used_of}
-use Rattle.cep_machine.proofs.Lists.{take_next, map_last}
+use Rattle.cep_machine.proofs.Lists.{take_next, map_last, all_mapped_at, get_mapped}
 
 -- the atoms of the premises that are kept
 abbrev pub kept_in : List PremiseTree → List AtomTree
@@ -113,3 +113,8 @@ module _ (values : List Tree) (premises : List PremiseTree) (n : ℕ) (premise :
   pub push_kept_same : atoms ≡ initial ++ instances_by values (kept_in (take n premises)) → slice_get premises n ≡ Some premise → premise.kept ≡ false → new ≡ atoms → new ≡ initial ++ instances_by values (kept_in (take (n + 1) premises))
   push_kept_same so_far is kept same =
       same ∙ so_far ∙ ap (λ (xs : List AtomTree). initial ++ instances_by values xs) (sym (not_kept_next premises n premise is kept))
+
+-- the instance of a premise is fit where those of all are
+pub fit_premise : (values : List Tree) (premises : List PremiseTree) (n : ℕ) (premise : PremiseTree) → AllByRecursion IsFit (instances_by values (atoms_of premises)) → slice_get premises n ≡ Some premise → IsFit (instance_by values premise.atom)
+fit_premise values premises n premise fit is =
+    all_mapped_at IsFit (instance_by values) (atoms_of premises) n premise.atom fit (get_mapped (λ (p : PremiseTree). p.atom) premises n premise is)

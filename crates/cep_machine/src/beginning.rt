@@ -1,6 +1,5 @@
-ghost use Rattle.std.specs.Prelude.{◌≡◌, ℕ, ◌≤◌, ◌<◌, IfOk};
-ghost use Rattle.cep_term.specs.Multiset.{nodes_in_all, count_of};
-ghost use Rattle.cep_term.specs.Tree.{AtomTree, nodes_in, IsFit};
+ghost use Rattle.std.specs.Prelude.{◌≡◌, ◌≤◌, IfOk};
+ghost use Rattle.cep_term.specs.Multiset.{nodes_in_all};
 ghost use Rattle.cep_rule.specs.State.{Fits};
 ghost use Rattle.cep_rule.specs.Matching.{Rose};
 ghost use Rattle.cep_machine.specs.Configuration.{IsConfigurationOf};
@@ -47,8 +46,7 @@ impl<M: Matcher> Config<M> {
 
 // How many nodes the state has, each copy counted.
 fn nodes_in_state(state: &Bag) -> u64
-    requires fits { Fits state.now }
-    requires fit { (a : AtomTree) → 0 < count_of state.now a → IsFit a }
+    requires { Fits state.now }
     ensures { result ≡ nodes_in_all state.now }
 {
     let mut sum = 0;

@@ -1,6 +1,7 @@
 // What a step would pass, known before any of its atoms is built.
-ghost use Rattle.std.specs.Prelude.{◌≡◌, ◌≤◌, length, sum_by, IfOk, MatchOption};
+ghost use Rattle.std.specs.Prelude.{◌≡◌, ◌*◌, ◌≤◌, length, sum_by, IfOk, MatchOption};
 ghost use Rattle.std.specs.List.{AllByRecursion};
+ghost use Rattle.cep_term.specs.declared.term.TheConstants.{MAX_NODES};
 ghost use Rattle.cep_term.specs.Tree.{nodes_in, IsFit};
 ghost use Rattle.cep_term.specs.Multiset.{nodes_in_all};
 ghost use Rattle.cep_rule.specs.declared.limits.TheConstants.{MOST_PREMISES, MOST_RIGHT};
@@ -80,7 +81,8 @@ fn nodes_made(right: &AtomList, measured: &Measured) -> u64
     requires measurable { AllByRecursion (IsMeasurable measured.now.values.now) right.now }
     requires fit { AllByRecursion IsFit (instances_by measured.now.values.now right.now) }
     requires few { length right.now ≤ MOST_RIGHT }
-    ensures { result ≡ sum_by nodes_in (instances_by measured.now.values.now right.now) }
+    ensures nodes { result ≡ sum_by nodes_in (instances_by measured.now.values.now right.now) }
+    ensures few { result ≤ MOST_RIGHT * MAX_NODES }
 {
     let mut nodes = 0;
     for i in 0..right.len() {
