@@ -4,4 +4,6 @@ pub mod Bags
 pub mod Asked
 pub mod Premises
 pub mod Weights
+pub mod Ranges
+pub mod Ready
 pub mod Entries

@@ -6,3 +6,4 @@ pub mod Sizes
 pub mod Weighing
 pub mod Changing
 pub mod BagLaws
+pub mod StepLaws

@@ -7,6 +7,7 @@ ghost use Rattle.cep_machine.specs.Changing.{CanChange};
 
 use crate::config::Config;
 use crate::edits::{add_all, bag_of, take_all};
+use crate::laws::bags_are_lawful;
 use cep_base::Steps;
 use cep_rule::{AtomList, Matcher, Program};
 use std::alloc::{AllocError, Global};
@@ -42,6 +43,7 @@ impl<M: Matcher> Config<M> {
         ensures ticked { IfOk result (λ _. Rose (M.may_edit program.now self.state (M.height_held self.matcher) (gathered change.now.left) change.now.added) steps.old steps.new) }
         ensures never_falls { steps.old ≤ steps.new }
     {
+        bags_are_lawful();
         let Config {
             stage: _,
             mut state,

@@ -10,6 +10,7 @@ ghost use Rattle.cep_machine.specs.Stepping.{IsChosen, IsStepped, config_after, 
 
 use crate::changing::Change;
 use crate::config::Config;
+use crate::laws::steps_are_lawful;
 use crate::sides::{added_atoms, left_atoms};
 use crate::stepped::Stepped;
 use crate::weighing::{Weighed, weigh};
@@ -44,6 +45,7 @@ impl<M: Matcher> Config<M> {
         ensures same_height { IfOk result (λ stepped. M.height_held (config_after stepped).matcher ≡ M.height_held self.matcher) }
         ensures never_falls { steps.old ≤ steps.new }
     {
+        steps_are_lawful();
         let group = self.asked().unwrap();
         let offer = self.matcher.offer(group, i);
         let rule = program.parts().rules.get(offer.rule as usize);
