@@ -3,4 +3,11 @@ pub mod Named
 pub mod Givens
 pub mod Valued
 pub mod Nodes
+pub mod Literals
+pub mod Numbers
+pub mod Steps
+pub mod Heads
+pub mod ValuesFound
+pub mod ValuesAgain
+pub mod TermTexts
 pub mod Sample

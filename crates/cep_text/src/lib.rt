@@ -4,10 +4,15 @@
 
 mod derivations;
 mod offers;
+mod read_terms;
+mod stop;
 mod terms;
+mod values;
+mod words;
 #[cfg(test)]
 mod tests;
 
 pub use derivations::put_proof;
 pub use offers::put_offer;
+pub use read_terms::{read_atom, read_term};
 pub use terms::{put_atom, put_term};

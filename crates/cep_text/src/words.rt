@@ -1,0 +1,67 @@
+ghost use Rattle.std.specs.Prelude.{◌≡◌, ◌≤◌, ◌+◌, length, map, MatchOption, IfOk};
+ghost use Rattle.cep_rule.specs.Names.{is_name_byte};
+ghost use Rattle.cep_text.specs.Reading.{Gives, literal_at, name_len, number_of, con_names, pred_names};
+
+use crate::stop::Stop;
+use cep_rule::{Cons, Preds};
+
+// The bytes behind a word, if it stands at the front.
+pub(crate) fn strip<'a>(word: &[u8], bytes: &'a [u8]) -> Option<&'a [u8]>
+    ensures read { MatchOption result (literal_at word.now bytes.now ≡ None) (λ rest. literal_at word.now bytes.now ≡ Some rest.now) }
+    ensures len { MatchOption result (Unit {0}) (λ rest. length rest.now + length word.now ≡ length bytes.now) }
+{
+    bytes.strip_prefix(word)
+}
+
+// The bytes behind a word that must stand at the front.
+pub(crate) fn literal<'a>(word: &[u8], bytes: &'a [u8]) -> Result<&'a [u8], Stop>
+    ensures read { Gives (λ rest. rest.now) result (literal_at word.now bytes.now) }
+    ensures len { IfOk result (λ rest. length rest.now + length word.now ≡ length bytes.now) }
+{
+    match strip(word, bytes) {
+        Some(rest) => Ok(rest),
+        None => Err(Stop::Unread),
+    }
+}
+
+// How many bytes of a name stand at the front.
+pub(crate) fn name_len(bytes: &[u8]) -> usize
+    ensures value { result ≡ name_len bytes.now }
+    ensures within { result ≤ length bytes.now }
+{
+    bytes
+        .iter()
+        .take_while(|byte| is_name_byte(**byte))
+        .count()
+}
+
+// Whether a name goes on with the byte.
+fn is_name_byte(byte: u8) -> bool
+    ensures { result ≡ is_name_byte byte }
+{
+    byte.is_ascii_alphanumeric() || byte == b'_' || byte == b'/' || byte == b'\''
+}
+
+// The number of the constructor of this name.
+pub(crate) fn find_con(cons: &Cons, name: &[u8]) -> Option<usize>
+    ensures { result ≡ number_of (con_names cons.now) name.now }
+{
+    for i in 0..cons.len() {
+        if cons.get(i).name.bytes() == name {
+            return Some(i);
+        }
+    }
+    None
+}
+
+// The number of the predicate of this name.
+pub(crate) fn find_pred(preds: &Preds, name: &[u8]) -> Option<usize>
+    ensures { result ≡ number_of (pred_names preds.now) name.now }
+{
+    for i in 0..preds.len() {
+        if preds.get(i).name.bytes() == name {
+            return Some(i);
+        }
+    }
+    None
+}
