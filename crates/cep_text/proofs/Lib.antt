@@ -7,7 +7,12 @@ pub mod Literals
 pub mod Numbers
 pub mod Steps
 pub mod Heads
+pub mod ClauseNumbers
 pub mod ValuesFound
 pub mod ValuesAgain
 pub mod TermTexts
+pub mod GivensRead
+pub mod OfferTexts
+pub mod ProofsFound
+pub mod ProofsAgain
 pub mod Sample

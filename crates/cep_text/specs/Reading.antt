@@ -6,7 +6,12 @@ use Rattle.cep_term.specs.Tree.{Tree, Trees, AtomTree, node, none, more, nodes_o
 use Rattle.cep_rule.specs.declared.signature.Con.{Con}
 use Rattle.cep_rule.specs.declared.signature.PredDecl.{PredDecl}
 use Rattle.cep_rule.specs.declared.signature.Signature.{Signature}
+use Rattle.cep_rule.specs.declared.rule.Rule.{Rule}
+use Rattle.cep_rule.specs.declared.offer.Offer.{Offer}
+use Rattle.cep_rule.specs.declared.parts.Parts.{Parts}
 use Rattle.cep_rule.specs.Names.{is_name_byte}
+use Rattle.cep_rule.specs.Patterns.{ClauseTree}
+use Rattle.cep_rule.specs.Derivations.{ProofTree, ProofTrees, by_clause, no_goal, goal_by}
 use Rattle.cep_text.specs.declared.stop.Stop.{Stop}
 use Rattle.cep_text.specs.declared.stop.Stop.TheVariants as stops
 
@@ -50,12 +55,15 @@ unfoldable pub number_of : List (List ℕ) → List ℕ → Option ℕ
 number_of [] name = None
 number_of (other ∷ names) name = if bytes_eq other name then Some zero else (number_of names name >>= λ number. Some (suc number))
 
--- the names of constructors, and of predicates
+-- the names of constructors, of predicates, and of rules
 abbrev pub con_names : List Con → List (List ℕ)
 con_names cons = map (λ con. con.name) cons
 
 abbrev pub pred_names : List PredDecl → List (List ℕ)
 pred_names preds = map (λ pred. pred.name) preds
+
+abbrev pub rule_names : List Rule → List (List ℕ)
+rule_names rules = map (λ rule. rule.name) rules
 
 -- the constructor's number and the types of its arguments, if it is of the type
 abbrev pub of_sort : ℕ → ℕ → Option Con → Option (ℕ × List ℕ)
@@ -148,3 +156,82 @@ atom_read signature bytes = do
   args ← arguments_at (value_at signature.cons (MAX_DEPTH - 1)) pred.0.1 pred.1
   all ← whole args
   if nat_le (nodes_among all) (MAX_NODES - 1) then Some (record { pred = pred.0.0; args = all }) else None
+
+-- what one variable is given
+unfoldable pub given_at : Reader Tree → List ℕ → Reader Tree
+given_at value name bytes = do
+  space ← literal_at (codes " ") bytes
+  named ← literal_at name space
+  equals ← literal_at (codes "=") named
+  value equals
+
+-- what the variables of these names and types are given, behind the values before
+unfoldable pub givens_at : (ℕ → Reader Tree) → List (List ℕ) → List ℕ → List Tree → Reader (List Tree)
+givens_at value [] kinds before bytes = Some (before, bytes)
+givens_at value (name ∷ names) [] before bytes = None
+givens_at value (name ∷ names) (kind ∷ kinds) before bytes = do
+  first ← given_at (value kind) name bytes
+  givens_at value names kinds (before ++ first.0 ∷ []) first.1
+
+-- a rule, by its name
+unfoldable pub rule_at : List Rule → Reader (ℕ × Rule)
+rule_at rules bytes = do
+  number ← number_of (rule_names rules) (front_name bytes)
+  rule ← slice_get rules number
+  Some ((number, rule), behind_name bytes)
+
+-- all of the bytes as an offer, whose values are read so
+unfoldable pub offer_read : Parts → (ℕ → Reader Tree) → List ℕ → Option Offer
+offer_read program value bytes = do
+  rule ← rule_at program.rules bytes
+  values ← givens_at value rule.0.1.vars rule.0.1.kinds [] rule.1
+  all ← whole values
+  Some (record { rule = rule.0.0; values = all })
+
+-- the place, counted from 0, of which the word is the number, counted from 1
+unfoldable pub numbered_by : ℕ → List ℕ → Option ℕ
+numbered_by zero word = None
+numbered_by (suc place) word = if bytes_eq (decimal (suc place)) word then Some place else numbered_by place word
+
+-- a clause, by its number
+unfoldable pub clause_at : List ClauseTree → Reader (ℕ × ClauseTree)
+clause_at clauses bytes = do
+  number ← numbered_by (length clauses) (front_name bytes)
+  clause ← slice_get clauses number
+  Some ((number, clause), behind_name bytes)
+
+-- how a derivation begins: its clause, the values, and how many goals follow
+unfoldable pub begin_at : Parts → (ℕ → Reader Tree) → Reader (ℕ × List Tree × ℕ)
+begin_at program value bytes = do
+  bracket ← literal_at (codes "[") bytes
+  clause ← clause_at program.clauses bracket
+  values ← givens_at value clause.0.1.vars clause.0.1.kinds [] clause.1
+  Some ((clause.0.0, values.0, length clause.0.1.goals), values.1)
+
+-- derivations of so many goals
+unfoldable pub proofs_at : Reader ProofTree → ℕ → Reader ProofTrees
+proofs_at proof zero bytes = Some (no_goal, bytes)
+proofs_at proof (suc goals) bytes = do
+  space ← literal_at (codes " ") bytes
+  first ← proof space
+  others ← proofs_at proof goals first.1
+  Some (goal_by first.0 others.0, others.1)
+
+-- a derivation, whose goals' derivations are read so
+unfoldable pub node_at : Parts → (ℕ → Reader Tree) → Reader ProofTree → Reader ProofTree
+node_at program value proof bytes = do
+  begun ← begin_at program value bytes
+  subs ← proofs_at proof begun.0.2 begun.1
+  behind ← literal_at (codes "]") subs.1
+  Some (by_clause begun.0.0 begun.0.1 subs.0, behind)
+
+-- a derivation that is at most so high
+unfoldable pub proof_at : Parts → (ℕ → Reader Tree) → ℕ → Reader ProofTree
+proof_at program value zero bytes = None
+proof_at program value (suc height) bytes = node_at program value (proof_at program value height) bytes
+
+-- all of the bytes as a derivation that is at most so high
+unfoldable pub proof_read : Parts → (ℕ → Reader Tree) → ℕ → List ℕ → Option ProofTree
+proof_read program value height bytes = do
+  proof ← proof_at program value height bytes
+  whole proof

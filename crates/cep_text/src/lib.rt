@@ -3,7 +3,10 @@
 #![tactic(auto)]
 
 mod derivations;
+pub mod laws;
 mod offers;
+mod read_offers;
+mod read_proofs;
 mod read_terms;
 mod stop;
 mod terms;
@@ -14,5 +17,7 @@ mod tests;
 
 pub use derivations::put_proof;
 pub use offers::put_offer;
+pub use read_offers::read_offer;
+pub use read_proofs::{MAX_BRACKETS, read_proof};
 pub use read_terms::{read_atom, read_term};
 pub use terms::{put_atom, put_term};

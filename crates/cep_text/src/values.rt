@@ -154,7 +154,8 @@ pub(crate) fn small_value<'a>(
     sort: u32,
     bytes: &'a [u8],
 ) -> Result<(Term, &'a [u8]), Stop>
-    ensures { Gives (λ x. (tree_of x.0, x.1.now)) result (small_at program.now.signature.cons sort bytes.now) }
+    ensures read { Gives (λ x. (tree_of x.0, x.1.now)) result (small_at program.now.signature.cons sort bytes.now) }
+    ensures shorter { IfOk result (λ x. length x.1.now ≤ length bytes.now) }
 {
     let (t, rest) = value(alloc, program, MAX_DEPTH as u32, sort, bytes)?;
     match left_after(&t, MAX_NODES) {

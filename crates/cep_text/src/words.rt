@@ -1,9 +1,10 @@
-ghost use Rattle.std.specs.Prelude.{◌≡◌, ◌≤◌, ◌+◌, length, map, MatchOption, IfOk};
+ghost use Rattle.std.specs.Prelude.{◌≡◌, ◌≢◌, ℕ, ◌≤◌, ◌<◌, ◌+◌, ◌^◌, length, decimal, MatchOption, IfOk, IfSome, IfNone};
 ghost use Rattle.cep_rule.specs.Names.{is_name_byte};
-ghost use Rattle.cep_text.specs.Reading.{Gives, literal_at, name_len, number_of, con_names, pred_names};
+ghost use Rattle.cep_text.specs.Reading.{Gives, literal_at, name_len, number_of, con_names, pred_names, rule_names, numbered_by};
 
 use crate::stop::Stop;
-use cep_rule::{Cons, Preds};
+use cep_rule::{Cons, Preds, Rules};
+use itoa::Buffer;
 
 // The bytes behind a word, if it stands at the front.
 pub(crate) fn strip<'a>(word: &[u8], bytes: &'a [u8]) -> Option<&'a [u8]>
@@ -64,4 +65,45 @@ pub(crate) fn find_pred(preds: &Preds, name: &[u8]) -> Option<usize>
         }
     }
     None
+}
+
+// The number of the rule of this name.
+pub(crate) fn find_rule(rules: &Rules, name: &[u8]) -> Option<usize>
+    ensures { result ≡ number_of (rule_names rules.now) name.now }
+{
+    for i in 0..rules.len() {
+        if rules.get(i).name.bytes() == name {
+            return Some(i);
+        }
+    }
+    None
+}
+
+// The place, counted from 0, of which the word is the number, counted from 1, among so many.
+pub(crate) fn numbered(word: &[u8], most: usize) -> Option<usize>
+    requires { most < 2 ^ 32 }
+    ensures { result ≡ numbered_by most word.now }
+{
+    let place = (plain(word)? as usize).checked_sub(1)?;
+    if place < most { Some(place) } else { None }
+}
+
+// The number that the word is the decimal of.
+fn plain(word: &[u8]) -> Option<u32>
+    ensures some { IfSome result (λ n. word.now ≡ decimal n) }
+    ensures short { IfSome result (λ n. n < 2 ^ 32) }
+    ensures none { IfNone result ((n : ℕ) → n < 2 ^ 32 → word.now ≢ decimal n) }
+{
+    let Ok(text) = str::from_utf8(word) else {
+        return None;
+    };
+    let Ok(number) = text.parse::<u32>() else {
+        return None;
+    };
+    let mut buffer = Buffer::new();
+    if buffer.format(number).as_bytes() == word {
+        Some(number)
+    } else {
+        None
+    }
 }
