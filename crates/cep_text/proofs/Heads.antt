@@ -30,9 +30,9 @@ front_is name rest all apart = rw (name_whole name rest all apart) (take_at name
 pub behind_is : (name rest : List ℕ) → AreNameBytes name → IsApart rest → behind_name (name ++ rest) ≡ rest
 behind_is name rest all apart = rw (name_whole name rest all apart) (drop_at name rest (length name) refl)
 
-pub among_five : (a b c d e : Bool) → b ≡ true → (a || b || c || d || e) ≡ true
-pub among_five true b c d e t = refl
-pub among_five false b c d e t = rw t refl
+among_five : (a b c d e : Bool) → b ≡ true → (a || b || c || d || e) ≡ true
+among_five true b c d e t = refl
+among_five false b c d e t = rw t refl
 
 lower_goes_on : (byte : ℕ) → is_ascii_lowercase byte ≡ true → is_name_byte byte ≡ true
 lower_goes_on byte t = among_five (nat_le 48 byte && nat_le byte 57 || nat_le 65 byte && nat_le byte 90) (is_ascii_lowercase byte) (byte == 95) (byte == 47) (byte == 39) t

@@ -15,4 +15,6 @@ pub mod GivensRead
 pub mod OfferTexts
 pub mod ProofsFound
 pub mod ProofsAgain
+pub mod ProofTexts
+pub mod OneText
 pub mod Sample

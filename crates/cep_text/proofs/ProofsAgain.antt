@@ -19,7 +19,7 @@ use Rattle.cep_text.specs.Texts.{clause_vars, all_given_text, begin_text, proof_
 use Rattle.cep_text.specs.Reads.{IsSmall, HasSmallValues, HaveSmallValues}
 use Rattle.cep_text.specs.Reading.{◌>>=◌, Reader, literal_at, name_len, front_name, behind_name, numbered_by, value_at, small_at, givens_at, clause_at, begin_at, proofs_at, node_at, proof_at}
 use Rattle.cep_text.proofs.Literals.{literal_again}
-use Rattle.cep_text.proofs.Heads.{IsApart, AreNameBytes, among_five, front_is, behind_is}
+use Rattle.cep_text.proofs.Heads.{IsApart, AreNameBytes, front_is, behind_is}
 use Rattle.cep_text.proofs.ClauseNumbers.{numbered_again}
 use Rattle.cep_text.proofs.GivensRead.{AreRead, givens_apart, givens_again, small_read, all_read, levels_of}
 use Rattle.cep_text.proofs.Steps.{proof_more}
@@ -30,8 +30,12 @@ and_both : (a b : Bool) → (a && b) ≡ true → (a ≡ true) × (b ≡ true)
 and_both true b e = (refl, e)
 and_both false b e = absurd cc
 
+first_among : (a b c d e f : Bool) → a ≡ true → (a || b || c || d || e || f) ≡ true
+first_among true b c d e f t = refl
+first_among false b c d e f t = absurd cc
+
 digit_goes_on : (byte : ℕ) → is_ascii_digit byte ≡ true → is_name_byte byte ≡ true
-digit_goes_on byte t = ?
+digit_goes_on byte t = first_among (is_ascii_digit byte) (nat_le 65 byte && nat_le byte 90) (nat_le 97 byte && nat_le byte 122) (byte == 95) (byte == 47) (byte == 39) t
 
 digits_go_on : (digits : List ℕ) → all_ascii_digits digits ≡ true → AreNameBytes digits
 digits_go_on [] t = tt

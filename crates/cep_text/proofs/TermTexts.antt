@@ -93,7 +93,7 @@ pub record PredOf (signature : Signature) (a : AtomTree) : Type 0 where
   pub numbered : slice_get signature.preds a.pred ≡ Some pred
   pub typed : HaveSorts signature.cons [] pred.args a.args
 
-pred_of : (signature : Signature) (a : AtomTree) (found : Option PredDecl) → slice_get signature.preds a.pred ≡ found → IsSomeAnd found (λ pred. HaveSorts signature.cons [] pred.args a.args) → PredOf signature a
+pub pred_of : (signature : Signature) (a : AtomTree) (found : Option PredDecl) → slice_get signature.preds a.pred ≡ found → IsSomeAnd found (λ pred. HaveSorts signature.cons [] pred.args a.args) → PredOf signature a
 pred_of signature a None e typed = absurd typed
 pred_of signature a (Some pred) e typed = record { pred = pred; numbered = e; typed = typed }
 

@@ -1,7 +1,10 @@
-use Rattle.std.proofs.Common.{refl}
-use Rattle.cep_text.proofs.ProofsFound.{proof_found}
-use Rattle.cep_text.proofs.ProofsAgain.{proof_again}
+use Rattle.cep_text.proofs.OneText.{one_ground_term, one_atom, one_offer, one_proof}
 use Rattle.cep_text.proofs.laws.one_value.Goals as goal
 
 pub returns : goal.returns
-returns c = let h = proof_found in let i = proof_again in λ n. refl
+returns c = record {
+  terms = one_ground_term;
+  atoms = one_atom;
+  offers = one_offer;
+  derivations = one_proof;
+}
