@@ -28,9 +28,11 @@ unfolding given_at
 given_found signature name kind bytes t rest e =
     by_bind (literal_at (codes " ") bytes) _ (t, rest) e (λ space space-is e.
     by_bind (literal_at name space) _ (t, rest) e (λ named named-is e.
-    by_bind (literal_at (codes "=") named) _ (t, rest) e (λ equals equals-is e.
-    (equals, small_found signature kind equals t rest e,
-    literal_found (codes " ") bytes space space-is ∙ ap (λ text. codes " " ++ text) (literal_found name space named named-is ∙ ap (λ text. name ++ text) (literal_found (codes "=") named equals equals-is))))))
+    by_bind (literal_at (codes "=") named) _ (t, rest) e (λ equals equals-is e. (
+      equals,
+      small_found signature kind equals t rest e,
+      literal_found (codes " ") bytes space space-is ∙ ap (λ text. codes " " ++ text) (literal_found name space named named-is ∙ ap (λ text. name ++ text) (literal_found (codes "=") named equals equals-is)),
+    ))))
 
 -- the text of one, and then those of the others
 regroup : (name text others rest : List ℕ) → codes " " ++ (name ++ (codes "=" ++ (text ++ (others ++ rest)))) ≡ ((codes " " ++ (name ++ (codes "=" ++ text))) ++ others) ++ rest
@@ -59,8 +61,8 @@ givens_found signature (name ∷ names) (kind ∷ kinds) before bytes all rest m
       typed = (one.1.value, others.typed);
       small = (one.1.small, others.small);
       text = one.2
-      ∙ ap (λ bytes. codes " " ++ (name ++ (codes "=" ++ bytes))) (one.1.text ∙ ap (λ bytes. term_text signature first.0 ++ bytes) others.text)
-      ∙ regroup name (term_text signature first.0) (all_given_text signature names others.values) rest;
+          ∙ ap (λ bytes. codes " " ++ (name ++ (codes "=" ++ bytes))) (one.1.text ∙ ap (λ bytes. term_text signature first.0 ++ bytes) others.text)
+          ∙ regroup name (term_text signature first.0) (all_given_text signature names others.values) rest;
     })
 
 -- The text of each value is read as it.

@@ -88,8 +88,8 @@ offer_some program bytes offer keeps e =
       of_rule = is_of program all (slice_get program.rules rule.0.0) rule.0.1 head.numbered typed;
       small = subst (AllByRecursion IsSmall) same found.small;
       text = head.text
-      ∙ ap (λ text. rule.0.1.name ++ text) (found.text ∙ ap (λ rest. all_given_text program.signature rule.0.1.vars found.values ++ rest) ended.1 ∙ append-nil (all_given_text program.signature rule.0.1.vars found.values) ∙ ap (all_given_text program.signature rule.0.1.vars) same)
-      ∙ text_by program rule.0.0 rule.0.1 all head.numbered;
+          ∙ ap (λ text. rule.0.1.name ++ text) (found.text ∙ ap (λ rest. all_given_text program.signature rule.0.1.vars found.values ++ rest) ended.1 ∙ append-nil (all_given_text program.signature rule.0.1.vars found.values) ∙ ap (all_given_text program.signature rule.0.1.vars) same)
+          ∙ text_by program rule.0.0 rule.0.1 all head.numbered;
     }))))
 
 read_by : (program : Parts) (value : ℕ → Reader Tree) → IsProgram program → (offer : Offer) (of : RuleOf program offer) → AreRead program.signature value of.rule.kinds offer.values

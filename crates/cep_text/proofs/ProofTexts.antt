@@ -27,9 +27,10 @@ node_read program value number values subs (Some clause) e read typed many = rec
 -- small values are read
 mutual
   small_is_read : (program : Parts) → IsProgram program → (proof : ProofTree) → IsProofOf program proof → HasSmallValues proof → IsRead program (small_at program.signature.cons) proof
-  small_is_read program keeps (by_clause number values subs) is small =
-      (node_read program (small_at program.signature.cons) number values subs (slice_get program.clauses number) refl (λ kinds typed. small_read program.signature keeps.named.cons kinds values typed small.0) is.0 is.1,
-      small_are_read program keeps subs is.2 small.1)
+  small_is_read program keeps (by_clause number values subs) is small = (
+    node_read program (small_at program.signature.cons) number values subs (slice_get program.clauses number) refl (λ kinds typed. small_read program.signature keeps.named.cons kinds values typed small.0) is.0 is.1,
+    small_are_read program keeps subs is.2 small.1,
+  )
 
   small_are_read : (program : Parts) → IsProgram program → (proofs : ProofTrees) → AreProofsOf program proofs → HaveSmallValues proofs → AllAreRead program (small_at program.signature.cons) proofs
   small_are_read program keeps no_goal are small = tt
@@ -49,9 +50,10 @@ mutual
   pub all_is_read : (program : Parts) → IsProgram program → (depth : ℕ) (proof : ProofTree) → IsProofOf program proof → levels_in proof ≤ depth → IsRead program (value_at program.signature.cons depth) proof
   all_is_read program keeps depth (by_clause number values subs) is low =
       let here : levels_of values ≤ depth = omega arith in
-      let above : levels_among subs ≤ depth = omega arith in
-      (node_read program (value_at program.signature.cons depth) number values subs (slice_get program.clauses number) refl (λ kinds typed. all_read program.signature keeps.named.cons depth kinds values typed here) is.0 is.1,
-      all_are_read program keeps depth subs is.2 above)
+      let above : levels_among subs ≤ depth = omega arith in (
+        node_read program (value_at program.signature.cons depth) number values subs (slice_get program.clauses number) refl (λ kinds typed. all_read program.signature keeps.named.cons depth kinds values typed here) is.0 is.1,
+        all_are_read program keeps depth subs is.2 above,
+      )
 
   pub all_are_read : (program : Parts) → IsProgram program → (depth : ℕ) (proofs : ProofTrees) → AreProofsOf program proofs → levels_among proofs ≤ depth → AllAreRead program (value_at program.signature.cons depth) proofs
   all_are_read program keeps depth no_goal are low = tt

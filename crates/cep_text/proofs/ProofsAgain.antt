@@ -81,9 +81,12 @@ begin_again program value number values subs rest keeps node apart =
     let text : begin_text program number values ++ rest ≡ codes "[" ++ (decimal (number + 1) ++ behind) =
     ap (λ found. (codes "[" ++ (decimal (number + 1) ++ all_given_text program.signature (clause_vars found) values)) ++ rest) node.numbered
     ∙ ap (λ text. codes "[" ++ text) (append_assoc (decimal (number + 1)) given rest) in
-    rw (text, literal_again (codes "[") (decimal (number + 1) ++ behind),
-    clause_again program.clauses number clause behind keeps.small.clauses node.numbered (givens_apart program.signature clause.vars values rest apart),
-    givens_again program.signature value clause.vars clause.kinds [] values rest (clause_as_many program number clause keeps node.numbered) node.read apart) refl
+    rw (
+      text,
+      literal_again (codes "[") (decimal (number + 1) ++ behind),
+      clause_again program.clauses number clause behind keeps.small.clauses node.numbered (givens_apart program.signature clause.vars values rest apart),
+      givens_again program.signature value clause.vars clause.kinds [] values rest (clause_as_many program number clause keeps node.numbered) node.read apart,
+    ) refl
 
 -- what stands behind the values of a node is no name
 goals_apart : (program : Parts) (subs : ProofTrees) (rest : List ℕ) → IsApart (proofs_text program subs ++ (codes "]" ++ rest))
@@ -103,6 +106,7 @@ node_again program value read number values subs rest keeps node again =
 
 mutual
   unfolding proofs_at
+
   pub proof_again : (program : Parts) (value : ℕ → Reader Tree) → IsProgram program → (proof : ProofTree) (height : ℕ) (rest : List ℕ) → IsRead program value proof → height_of proof ≤ height
       → proof_at program value height (proof_text program proof ++ rest) ≡ Some (proof, rest)
   proof_again program value keeps (by_clause number values subs) height rest read low =

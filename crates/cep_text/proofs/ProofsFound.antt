@@ -73,8 +73,8 @@ begin_found program bytes number values goals rest keeps e =
       small = subst (AllByRecursion IsSmall) same found.small;
       as_many = refl;
       text = literal_found (codes "[") bytes bracket bracket-is
-      ∙ ap (λ text. codes "[" ++ text) (head.text ∙ ap (λ text. decimal (clause.0.0 + 1) ++ text) (found.text ∙ ap (λ vs. all_given_text program.signature clause.0.1.vars vs ++ given.1) same))
-      ∙ begin_of_text program clause.0.0 clause.0.1 given.0 given.1 head.numbered;
+          ∙ ap (λ text. codes "[" ++ text) (head.text ∙ ap (λ text. decimal (clause.0.0 + 1) ++ text) (found.text ∙ ap (λ vs. all_given_text program.signature clause.0.1.vars vs ++ given.1) same))
+          ∙ begin_of_text program clause.0.0 clause.0.1 given.0 given.1 head.numbered;
     }))))
 
 -- The derivation is of the program's shape, small and low enough, and its text stands before the rest.
@@ -125,7 +125,7 @@ proofs_found program height read sound (suc goals) bytes proofs rest e =
       small = (one.small, all.small);
       low = let a = one.low in let b = all.low in omega arith;
       text = literal_found (codes " ") bytes space space-is
-      ∙ ap (λ text. codes " " ++ text) (one.text ∙ ap (λ text. proof_text program first.0 ++ text) all.text ∙ sym (append_assoc (proof_text program first.0) (proofs_text program others.0) others.1));
+          ∙ ap (λ text. codes " " ++ text) (one.text ∙ ap (λ text. proof_text program first.0 ++ text) all.text ∙ sym (append_assoc (proof_text program first.0) (proofs_text program others.0) others.1));
     }))))
 
 -- what holds of the clause that is found
@@ -148,14 +148,16 @@ node_found program height read keeps sound bytes proof rest e =
     let start = begin_text program begun.0.0 begun.0.1 in
     let goals = proofs_text program subs.0 in
     subst (λ (x : ProofTree × List ℕ). ProofFound program (suc height) bytes x.0 x.1) pair (record {
-      of_clauses = (told (λ clause. AreValues program.signature.cons clause.kinds begun.0.1) (slice_get clauses begun.0.0) head.clause head.numbered head.typed,
-      told (λ clause. AreAsMany subs.0 clause.goals) (slice_get clauses begun.0.0) head.clause head.numbered (all.as_many head.clause.goals head.as_many),
-      all.of_clauses);
+      of_clauses = (
+        told (λ clause. AreValues program.signature.cons clause.kinds begun.0.1) (slice_get clauses begun.0.0) head.clause head.numbered head.typed,
+        told (λ clause. AreAsMany subs.0 clause.goals) (slice_get clauses begun.0.0) head.clause head.numbered (all.as_many head.clause.goals head.as_many),
+        all.of_clauses,
+      );
       small = (head.small, all.small);
       low = let low = all.low in omega arith;
       text = head.text
-      ∙ ap (λ text. start ++ text) (all.text ∙ ap (λ text. goals ++ text) (literal_found (codes "]") subs.1 behind behind-is) ∙ sym (append_assoc goals (codes "]") behind))
-      ∙ sym (append_assoc start (goals ++ codes "]") behind);
+          ∙ ap (λ text. start ++ text) (all.text ∙ ap (λ text. goals ++ text) (literal_found (codes "]") subs.1 behind behind-is) ∙ sym (append_assoc goals (codes "]") behind))
+          ∙ sym (append_assoc start (goals ++ codes "]") behind);
     }))))
 
 pub proof_found : (program : Parts) (height : ℕ) → IsProgram program → IsSoundProof program height (proof_at program (small_at program.signature.cons) height)

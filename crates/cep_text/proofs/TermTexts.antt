@@ -47,9 +47,9 @@ pub whole_is : {X : Type 0} (read : X × List ℕ) (x : X) → whole read ≡ So
 whole_is read x e =
     let parts = guard_some (eqb (length read.1) 0) read.0 x e in
     (parts.1, empty read.1 parts.0) where
-  empty : (bytes : List ℕ) → eqb (length bytes) 0 ≡ true → bytes ≡ []
-  empty [] e = refl
-  empty (byte ∷ bytes) e = let is = eqb-true (length (byte ∷ bytes)) 0 e in absurd (omega arith)
+      empty : (bytes : List ℕ) → eqb (length bytes) 0 ≡ true → bytes ≡ []
+      empty [] e = refl
+      empty (byte ∷ bytes) e = let is = eqb-true (length (byte ∷ bytes)) 0 e in absurd (omega arith)
 
 pub term_some : (program : Parts) (sort : ℕ) (bytes : List ℕ) (t : Tree) → term_read program.signature.cons sort bytes ≡ Some t → IsTermText program sort bytes t
 unfolding term_read
@@ -115,8 +115,8 @@ atom_some program bytes a e =
       fact = record { is_ground = found.is_ground; typed = pred_typed signature.cons all (slice_get signature.preds pred.0.0) head.pred head.numbered typed };
       fit = record { nodes = omega arith; depth = let low = found.low in omega arith };
       text = head.text
-      ∙ ap (λ text. head.pred.name ++ text) (found.text ∙ ap (λ rest. args_text signature all ++ rest) ended.1 ∙ append-nil (args_text signature all))
-      ∙ ap (λ found. pred_name found ++ args_text signature all) (sym head.numbered);
+          ∙ ap (λ text. head.pred.name ++ text) (found.text ∙ ap (λ rest. args_text signature all ++ rest) ended.1 ∙ append-nil (args_text signature all))
+          ∙ ap (λ found. pred_name found ++ args_text signature all) (sym head.numbered);
     }))))
 
 -- the text of an atom is read as that atom

@@ -76,6 +76,7 @@ argument_again signature depth sort t text behind e = rw (literal_again (codes "
 
 mutual
   unfolding arguments_at
+
   pub value_again : (signature : Signature) → AreNames (con_names signature.cons) → (t : Tree) (depth sort : ℕ) (rest : List ℕ) → IsGround t → HasSort signature.cons [] sort t → depth_of t ≤ depth → IsApart rest
       → value_at signature.cons depth sort (term_text signature t ++ rest) ≡ Some (t, rest)
   value_again signature names (variable v) depth sort rest g typed low apart = absurd g

@@ -70,9 +70,9 @@ inside_found signature depth value sound sorts bytes args rest e =
     let ended = literal_found (codes ")") inner.1 behind behind-is in
     subst (λ (x : Trees × List ℕ). (eqb (length sorts) 0 ≡ false) × FoundAll signature depth sorts bytes x.0 (codes ")" ++ x.1)) pair
     (parts.0, subst (λ r. FoundAll signature depth sorts bytes inner.0 r) ended found))) where
-  some_of : (b : Bool) (r : Option (Trees × List ℕ)) (x : Trees × List ℕ) → cond b None r ≡ Some x → (b ≡ false) × (r ≡ Some x)
-  some_of true r x e = absurd cc
-  some_of false r x e = (refl, e)
+      some_of : (b : Bool) (r : Option (Trees × List ℕ)) (x : Trees × List ℕ) → cond b None r ≡ Some x → (b ≡ false) × (r ≡ Some x)
+      some_of true r x e = absurd cc
+      some_of false r x e = (refl, e)
 
 -- a constructor with its arguments is a value of its type
 typed_by : (cons : List Con) (sort number : ℕ) (args : Trees) (found : Option Con) (con : Con) → found ≡ Some con → con.sort ≡ sort → HaveSorts cons [] con.args args → IsSomeAnd found (λ con. (con.sort ≡ sort) × HaveSorts cons [] con.args args)

@@ -10,10 +10,10 @@ mod read_proofs;
 mod read_terms;
 mod stop;
 mod terms;
-mod values;
-mod words;
 #[cfg(test)]
 mod tests;
+mod values;
+mod words;
 
 pub use derivations::put_proof;
 pub use offers::put_offer;

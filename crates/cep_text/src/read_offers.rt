@@ -51,10 +51,7 @@ fn whole_offer(alloc: Global, program: &Program, bytes: &[u8]) -> Result<Offer, 
 
 // A rule at the front, and its number.
 #[tactic(auto, unfolding(crate::specs::Reading::rule_at))]
-fn rule<'p, 'a>(
-    program: &'p Program,
-    bytes: &'a [u8],
-) -> Result<(u32, &'p Rule, &'a [u8]), Stop>
+fn rule<'p, 'a>(program: &'p Program, bytes: &'a [u8]) -> Result<(u32, &'p Rule, &'a [u8]), Stop>
     ensures read { Gives (λ x. ((x.0, x.1.now), x.2.now)) result (rule_at program.now.rules bytes.now) }
     ensures as_many { IfOk result (λ x. length x.1.now.kinds ≡ length x.1.now.vars) }
     ensures kept { IsProgram program.now }

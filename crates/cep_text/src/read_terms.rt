@@ -49,11 +49,7 @@ fn whole_term(alloc: Global, program: &Program, sort: u32, bytes: &[u8]) -> Resu
 /// The atom that the bytes are the text of, or `None` exactly where they are the text of none. It is
 /// ground, well typed and fit, and its predicate may be linear or backward. The form and the sizes
 /// are this profile's. Only want of memory is refused.
-pub fn read_atom(
-    alloc: Global,
-    program: &Program,
-    bytes: &[u8],
-) -> Result<Option<Atom>, AllocError>
+pub fn read_atom(alloc: Global, program: &Program, bytes: &[u8]) -> Result<Option<Atom>, AllocError>
     ensures some { IfOk result (λ read. IfSome read (λ a. IsAtomText program.now bytes.now (atom_of a))) }
     ensures none { IfOk result (λ read. IfNone read ((a : AtomTree) → ¬ (IsAtomText program.now bytes.now a))) }
 {
@@ -83,10 +79,7 @@ fn whole_atom(alloc: Global, program: &Program, bytes: &[u8]) -> Result<Atom, St
 
 // A predicate at the front: its number, and the types of its arguments.
 #[tactic(auto, unfolding(crate::specs::Reading::pred_at))]
-fn pred<'p, 'a>(
-    program: &'p Program,
-    bytes: &'a [u8],
-) -> Result<(u32, &'p Kinds, &'a [u8]), Stop>
+fn pred<'p, 'a>(program: &'p Program, bytes: &'a [u8]) -> Result<(u32, &'p Kinds, &'a [u8]), Stop>
     ensures read { Gives (λ x. ((x.0, x.1.now), x.2.now)) result (pred_at program.now.signature.preds bytes.now) }
     ensures kept { IsProgram program.now }
 {

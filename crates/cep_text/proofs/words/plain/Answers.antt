@@ -9,7 +9,6 @@ use Rattle.cep_text.proofs.words.plain.Goals as goal
 not_same : (a b : List ℕ) → bytes_eq a b ≡ false → a ≡ b → ⊥
 not_same a b t e = let s : bytes_eq a a ≡ true = bytes_same a in let same : bytes_eq a b ≡ true = subst (λ x. bytes_eq a x ≡ true) e s in absurd cc
 
-
 pub returns-in_default-clause-none : goal.returns-in_default-clause-none
 returns-in_default-clause-none c = λ n short e.
     c.in_default.ensures.cases.0 (IsUtf8-from_ascii c.args.word.now (subst IsAscii (sym e) (IsAscii-decimal n (omega arith))))
