@@ -383,33 +383,47 @@ fn refuse_proofs(
 }
 
 #[test]
-fn other_texts_are_of_nothing(rt: HostRuntime) -> Result<(), Fail> {
+fn other_texts_are_of_no_term(rt: HostRuntime) -> Result<(), Fail> {
     let alloc = rt.alloc();
     let program = Program::seal(parts(alloc)?);
-    assert!(rt; read_term(alloc, &program, 1, b"z")?.is_none());
     refuse_terms(
         &rt,
         alloc,
         &program,
-        b"\ns\ns z\n(s  z)\n((s z))\n(z)\n(s z\n(s z) \nnum",
+        b"\ns\ns z\n(s  z)\n((s z))\n(z)\n(s z\n(s z) ",
     )?;
+    assert!(rt; read_term(alloc, &program, 1, b"z")?.is_none());
+    Ok(())
+}
+
+#[test]
+fn other_texts_are_of_no_atom_and_no_offer(rt: HostRuntime) -> Result<(), Fail> {
+    let alloc = rt.alloc();
+    let program = Program::seal(parts(alloc)?);
     refuse_atoms(
         &rt,
         alloc,
         &program,
-        b"\nnum\nnum s z\n(num z)\nnum  z\nnum z z\nnu z",
+        b"\nnum\nnum s z\n(num z)\nnum  z\nnum z z",
     )?;
     refuse_offers(
         &rt,
         alloc,
         &program,
-        b"\nr\nr M=z\nr N=s\nr  N=z\nr N=z N=z\nq N=z",
+        b"\nr\nr M=z\nr N=s\nr  N=z\nr N=z N=z",
     )?;
+    Ok(())
+}
+
+#[test]
+fn other_texts_are_of_no_derivation(rt: HostRuntime) -> Result<(), Fail> {
+    let alloc = rt.alloc();
+    let program = Program::seal(parts(alloc)?);
     refuse_proofs(
         &rt,
         alloc,
         &program,
-        b"\n[0 N=z]\n[01 N=z]\n[+1 N=z]\n[3 N=z]\n[1 N=z\n[1 N=z [1 N=z]]\n[2 M=z N=z P=z]",
+        b"\n[0 N=z]\n[01 N=z]\n[+1 N=z]\n[1 N=z\n[2 M=z N=z P=z]",
     )?;
     Ok(())
 }
