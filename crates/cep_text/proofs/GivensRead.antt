@@ -1,13 +1,13 @@
 -- What variables are given, as it is read.
-use Rattle.std.proofs.Common.{◌≡◌, ℕ, suc, ◌+◌, ◌≤◌, List, [], ◌∷◌, ◌++◌, length, codes, Option, Some, None, refl, sym, ap, subst, ◌∙◌, arith, append_assoc, append-nil}
+use Rattle.std.proofs.Common.{◌≡◌, ℕ, ◌+◌, ◌≤◌, List, [], ◌∷◌, ◌++◌, length, codes, Some, refl, sym, ap, subst, ◌∙◌, arith, append_assoc, append-nil}
 use Rattle.std.specs.List.{AllByRecursion}
 use Rattle.cep_term.specs.Tree.{Tree, depth_of}
 use Rattle.cep_rule.specs.declared.signature.Signature.{Signature}
 use Rattle.cep_rule.specs.Names.{AreNames}
-use Rattle.cep_rule.specs.Typing.{IsValue, AreValues}
-use Rattle.cep_text.specs.Texts.{term_text, given_text, all_given_text}
+use Rattle.cep_rule.specs.Typing.{AreValues}
+use Rattle.cep_text.specs.Texts.{term_text, all_given_text}
 use Rattle.cep_text.specs.Reads.{IsSmall}
-use Rattle.cep_text.specs.Reading.{◌>>=◌, Reader, literal_at, con_names, value_at, small_at, given_at, givens_at}
+use Rattle.cep_text.specs.Reading.{Reader, literal_at, con_names, value_at, small_at, given_at, givens_at}
 use Rattle.cep_text.proofs.Literals.{literal_again, literal_found}
 use Rattle.cep_text.proofs.Numbers.{by_bind, some_is}
 use Rattle.cep_text.proofs.Heads.{IsApart}

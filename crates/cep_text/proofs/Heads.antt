@@ -1,5 +1,5 @@
 -- Names at the front of a text.
-use Rattle.std.proofs.Common.{◌≡◌, ℕ, suc, ◌+◌, ◌≤◌, Bool, true, false, cond, eqb, ◌&&◌, ◌||◌, nat_le, List, [], ◌∷◌, ◌++◌, length, take, drop, map, slice_get, codes, Option, Some, None, IsSomeAnd, refl, sym, ap, subst, ◌∙◌, arith, take_at, drop_at, take-append-drop}
+use Rattle.std.proofs.Common.{◌≡◌, ℕ, Bool, true, false, cond, eqb, ◌&&◌, ◌||◌, nat_le, List, [], ◌∷◌, ◌++◌, length, slice_get, codes, Option, Some, None, refl, sym, ap, subst, ◌∙◌, arith, take_at, drop_at, take-append-drop}
 use Rattle.std.specs.Prelude.{IsTrue, ◌==◌}
 use Rattle.std.specs.List.{AllByRecursion}
 use Rattle.std.specs.Char.{is_ascii_lowercase}
@@ -9,7 +9,7 @@ use Rattle.std.proofs.lemmas.Option.{slice_get-map}
 use Rattle.cep_rule.specs.declared.signature.Con.{Con}
 use Rattle.cep_rule.specs.declared.signature.PredDecl.{PredDecl}
 use Rattle.cep_rule.specs.Names.{is_name_byte, IsWord, IsName, AreNames}
-use Rattle.cep_text.specs.Reading.{◌>>=◌, literal_at, name_len, front_name, behind_name, number_of, con_names, pred_names, of_sort, con_at, pred_head, pred_at}
+use Rattle.cep_text.specs.Reading.{literal_at, name_len, front_name, behind_name, number_of, con_names, pred_names, of_sort, con_at, pred_head, pred_at}
 use Rattle.cep_text.proofs.Numbers.{by_bind, guard_some, some_is, all_at, number_is, number_found, item_name}
 
 -- No byte of a name stands at the front.

@@ -1,5 +1,5 @@
 -- The number of a name among names.
-use Rattle.std.proofs.Common.{◌≡◌, ◌≢◌, ℕ, zero, suc, ◌+◌, ◌<◌, Bool, true, false, cond, List, [], ◌∷◌, length, take, map, slice_get, Option, Some, None, refl, sym, ap, subst, ◌∙◌, bytes_eq, arith}
+use Rattle.std.proofs.Common.{◌≡◌, ◌≢◌, ℕ, zero, suc, ◌<◌, Bool, true, false, cond, List, [], ◌∷◌, length, take, map, slice_get, Option, Some, None, refl, ap, subst, ◌∙◌, bytes_eq, arith}
 use Rattle.std.specs.List.{AllByRecursion}
 use Rattle.std.specs.Option.{option_map}
 use Rattle.std.proofs.lemmas.List.{length-map}
@@ -70,15 +70,6 @@ number_here zero (first ∷ names) name other e same before = let p : first ≡ 
 number_here (suc i) (first ∷ names) name other e same before =
     let parts = first_apart (bytes_eq first name) (number_of (take i names) name) before in
     rw (parts.0, number_here i names name other e same parts.1) refl
-
-take_all : (names : List (List ℕ)) → take (length names) names ≡ names
-take_all [] = refl
-take_all (name ∷ names) = ap (λ rest. name ∷ rest) (take_all names)
-
-pub number_nowhere : (i : ℕ) (names : List (List ℕ)) (name : List ℕ) → i ≡ length names → IsNotBefore i names name → number_of names name ≡ None
-number_nowhere i names name e before =
-    let all : take i names ≡ names = ap (λ n. take n names) e ∙ take_all names in
-    subst (λ some. number_of some name ≡ None) all before
 
 -- the same where each name is of an item
 pub item_name : {X : Type 0} (name_of : X → List ℕ) (items : List X) (i : ℕ) (item : X) → slice_get items i ≡ Some item → slice_get (map name_of items) i ≡ Some (name_of item)

@@ -1,5 +1,5 @@
 -- Whole texts of offers.
-use Rattle.std.proofs.Common.{◌≡◌, ℕ, ◌+◌, ◌≤◌, List, [], ◌∷◌, ◌++◌, length, take-append-drop, slice_get, Option, Some, None, IsSomeAnd, refl, sym, ap, subst, ◌∙◌, arith, append-nil, append_assoc}
+use Rattle.std.proofs.Common.{◌≡◌, ℕ, List, [], ◌++◌, length, take-append-drop, slice_get, Option, Some, None, IsSomeAnd, refl, sym, ap, subst, ◌∙◌, append-nil}
 use Rattle.std.specs.List.{AllByRecursion}
 use Rattle.std.specs.Option.{option_map}
 use Rattle.std.proofs.lemmas.Option.{slice_get-map}
@@ -12,11 +12,11 @@ use Rattle.cep_rule.specs.Typing.{AreValues}
 use Rattle.cep_rule.specs.Program.{IsProgram, IsTypedRule}
 use Rattle.cep_text.specs.Texts.{rule_name, rule_vars, all_given_text, offer_text, IsOfferOf}
 use Rattle.cep_text.specs.Reads.{IsSmall, IsOfferText}
-use Rattle.cep_text.specs.Reading.{◌>>=◌, Reader, name_len, front_name, behind_name, number_of, rule_names, small_at, whole, givens_at, rule_at, offer_read}
+use Rattle.cep_text.specs.Reading.{Reader, name_len, front_name, behind_name, number_of, rule_names, small_at, whole, givens_at, rule_at, offer_read}
 use Rattle.cep_text.proofs.Numbers.{by_bind, some_is, none_is, all_at, number_is, number_found, item_name}
 use Rattle.cep_text.proofs.Heads.{IsApart, name_bytes, front_is, behind_is}
 use Rattle.cep_text.proofs.TermTexts.{whole_is}
-use Rattle.cep_text.proofs.GivensRead.{GivensFound, givens_found, AreRead, givens_apart, givens_again, small_read}
+use Rattle.cep_text.proofs.GivensRead.{givens_found, AreRead, givens_apart, givens_again, small_read}
 
 -- a rule that is read
 pub record RuleFound (rules : List Rule) (bytes : List ℕ) (number : ℕ) (rule : Rule) (rest : List ℕ) : Type 0 where

@@ -1,6 +1,5 @@
 -- Whole texts of derivations.
-use Rattle.std.proofs.Common.{◌≡◌, ℕ, ◌+◌, ◌≤◌, List, [], ◌∷◌, ◌++◌, slice_get, Option, Some, None, IsSomeAnd, refl, sym, ap, subst, ◌∙◌, arith, append-nil}
-use Rattle.std.specs.List.{AllByRecursion}
+use Rattle.std.proofs.Common.{◌≡◌, ℕ, ◌+◌, ◌≤◌, List, [], ◌++◌, slice_get, Option, Some, None, IsSomeAnd, refl, sym, ap, subst, ◌∙◌, arith, append-nil}
 use Rattle.cep_term.specs.Tree.{Tree}
 use Rattle.cep_rule.specs.declared.parts.Parts.{Parts}
 use Rattle.cep_rule.specs.Patterns.{ClauseTree}
@@ -8,13 +7,13 @@ use Rattle.cep_rule.specs.Typing.{AreValues}
 use Rattle.cep_rule.specs.Derivations.{ProofTree, ProofTrees, by_clause, no_goal, goal_by, height_of}
 use Rattle.cep_rule.specs.Program.{IsProgram}
 use Rattle.cep_text.specs.Texts.{proof_text, AreAsMany, IsProofOf, AreProofsOf}
-use Rattle.cep_text.specs.Reads.{IsSmall, HasSmallValues, HaveSmallValues, IsProofText}
+use Rattle.cep_text.specs.Reads.{HasSmallValues, HaveSmallValues, IsProofText}
 use Rattle.cep_text.specs.declared.read_proofs.TheConstants.{MAX_BRACKETS}
-use Rattle.cep_text.specs.Reading.{◌>>=◌, Reader, value_at, small_at, whole, proof_at, proof_read}
+use Rattle.cep_text.specs.Reading.{Reader, value_at, small_at, proof_at, proof_read}
 use Rattle.cep_text.proofs.Numbers.{by_bind, none_is}
 use Rattle.cep_text.proofs.TermTexts.{whole_is}
 use Rattle.cep_text.proofs.GivensRead.{AreRead, small_read, all_read, levels_of}
-use Rattle.cep_text.proofs.ProofsFound.{ProofFound, proof_found}
+use Rattle.cep_text.proofs.ProofsFound.{proof_found}
 use Rattle.cep_text.proofs.ProofsAgain.{NodeRead, IsRead, AllAreRead, proof_again}
 
 -- a node's clause, where the values by the clause's types are read

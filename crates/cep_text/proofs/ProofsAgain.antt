@@ -1,7 +1,6 @@
 -- The text of a derivation is read as that derivation.
-use Rattle.std.proofs.Common.{◌≡◌, ℕ, zero, suc, ◌+◌, ◌-◌, ◌<◌, ◌≤◌, ◌^◌, Bool, true, false, ◌&&◌, ◌||◌, nat_le, List, [], ◌∷◌, ◌++◌, length, slice_get, codes, Option, Some, None, IsSomeAnd, refl, sym, ap, subst, ◌∙◌, arith, append_assoc, append-nil}
-use Rattle.std.specs.Prelude.{decimal, IsTrue, ◌==◌}
-use Rattle.std.specs.List.{AllByRecursion}
+use Rattle.std.proofs.Common.{◌≡◌, ℕ, suc, ◌+◌, ◌-◌, ◌<◌, ◌≤◌, ◌^◌, Bool, true, false, ◌&&◌, ◌||◌, nat_le, List, [], ◌∷◌, ◌++◌, length, slice_get, codes, Some, refl, ap, ◌∙◌, arith, append_assoc}
+use Rattle.std.specs.Prelude.{decimal, ◌==◌}
 use Rattle.std.specs.Char.{is_ascii_digit}
 use Rattle.std.specs.Str.{all_ascii_digits}
 use Rattle.std.proofs.lemmas.Fmt.{digits_decimal}
@@ -12,16 +11,14 @@ use Rattle.cep_rule.specs.declared.limits.TheConstants.{MOST_CLAUSES}
 use Rattle.cep_rule.specs.declared.parts.Parts.{Parts}
 use Rattle.cep_rule.specs.Names.{is_name_byte}
 use Rattle.cep_rule.specs.Patterns.{ClauseTree}
-use Rattle.cep_rule.specs.Typing.{AreValues}
 use Rattle.cep_rule.specs.Derivations.{ProofTree, ProofTrees, by_clause, no_goal, goal_by, height_of, height_among}
 use Rattle.cep_rule.specs.Program.{IsProgram}
-use Rattle.cep_text.specs.Texts.{clause_vars, all_given_text, begin_text, proof_text, proofs_text, AreAsMany, IsProofOf, AreProofsOf}
-use Rattle.cep_text.specs.Reads.{IsSmall, HasSmallValues, HaveSmallValues}
-use Rattle.cep_text.specs.Reading.{◌>>=◌, Reader, literal_at, name_len, front_name, behind_name, numbered_by, value_at, small_at, givens_at, clause_at, begin_at, proofs_at, node_at, proof_at}
+use Rattle.cep_text.specs.Texts.{clause_vars, all_given_text, begin_text, proof_text, proofs_text, AreAsMany}
+use Rattle.cep_text.specs.Reading.{Reader, clause_at, begin_at, proofs_at, node_at, proof_at}
 use Rattle.cep_text.proofs.Literals.{literal_again}
 use Rattle.cep_text.proofs.Heads.{IsApart, AreNameBytes, front_is, behind_is}
 use Rattle.cep_text.proofs.ClauseNumbers.{numbered_again}
-use Rattle.cep_text.proofs.GivensRead.{AreRead, givens_apart, givens_again, small_read, all_read, levels_of}
+use Rattle.cep_text.proofs.GivensRead.{AreRead, givens_apart, givens_again}
 use Rattle.cep_text.proofs.Steps.{proof_more}
 use Rattle.cep_text.proofs.ProofsFound.{clause_as_many}
 

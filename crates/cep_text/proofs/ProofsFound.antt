@@ -1,5 +1,5 @@
 -- What is read as a derivation is the text of one.
-use Rattle.std.proofs.Common.{◌≡◌, ℕ, zero, suc, ◌+◌, ◌<◌, ◌≤◌, Bool, List, [], ◌∷◌, ◌++◌, length, take-append-drop, slice_get, codes, Option, Some, None, IsSomeAnd, refl, sym, ap, subst, ◌∙◌, arith, append_assoc}
+use Rattle.std.proofs.Common.{◌≡◌, ℕ, zero, suc, ◌+◌, ◌≤◌, List, [], ◌∷◌, ◌++◌, length, take-append-drop, slice_get, codes, Option, Some, None, IsSomeAnd, refl, sym, ap, subst, ◌∙◌, arith, append_assoc}
 use Rattle.std.specs.Prelude.{decimal}
 use Rattle.std.specs.List.{AllByRecursion}
 use Rattle.cep_term.specs.Tree.{Tree, AtomTree}
@@ -8,13 +8,13 @@ use Rattle.cep_rule.specs.Patterns.{ClauseTree}
 use Rattle.cep_rule.specs.Typing.{AreValues}
 use Rattle.cep_rule.specs.Derivations.{ProofTree, ProofTrees, by_clause, no_goal, goal_by, height_of, height_among}
 use Rattle.cep_rule.specs.Program.{IsProgram, IsTypedClause}
-use Rattle.cep_text.specs.Texts.{clause_vars, all_given_text, begin_text, proof_text, proofs_text, AreAsMany, IsNodeOf, IsProofOf, AreProofsOf}
+use Rattle.cep_text.specs.Texts.{clause_vars, all_given_text, begin_text, proof_text, proofs_text, AreAsMany, IsProofOf, AreProofsOf}
 use Rattle.cep_text.specs.Reads.{IsSmall, HasSmallValues, HaveSmallValues}
-use Rattle.cep_text.specs.Reading.{◌>>=◌, Reader, literal_at, name_len, front_name, behind_name, numbered_by, small_at, givens_at, clause_at, begin_at, proofs_at, node_at, proof_at}
+use Rattle.cep_text.specs.Reading.{Reader, literal_at, name_len, front_name, behind_name, numbered_by, small_at, givens_at, clause_at, begin_at, proofs_at, node_at, proof_at}
 use Rattle.cep_text.proofs.Literals.{literal_found}
 use Rattle.cep_text.proofs.Numbers.{by_bind, some_is, all_at}
 use Rattle.cep_text.proofs.ClauseNumbers.{numbered_found}
-use Rattle.cep_text.proofs.GivensRead.{GivensFound, givens_found}
+use Rattle.cep_text.proofs.GivensRead.{givens_found}
 
 -- a clause that is read
 pub record ClauseFound (clauses : List ClauseTree) (bytes : List ℕ) (number : ℕ) (clause : ClauseTree) (rest : List ℕ) : Type 0 where

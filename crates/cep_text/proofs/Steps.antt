@@ -1,6 +1,6 @@
 -- One step of a reading, as the functions take it.
-use Rattle.std.proofs.Common.{◌≡◌, ℕ, zero, suc, ◌+◌, ◌-◌, ◌<◌, List, [], ◌∷◌, ◌++◌, length, drop, slice_get, codes, Option, Some, None, refl, sym, ap, ◌∙◌, arith}
-use Rattle.cep_term.specs.Tree.{Tree, Trees, none, more}
+use Rattle.std.proofs.Common.{◌≡◌, ℕ, zero, suc, ◌+◌, List, [], ◌∷◌, ◌++◌, length, drop, slice_get, codes, Option, Some, None, refl, ap, arith}
+use Rattle.cep_term.specs.Tree.{Tree, none, more}
 use Rattle.cep_rule.specs.declared.signature.Con.{Con}
 use Rattle.cep_rule.specs.declared.parts.Parts.{Parts}
 use Rattle.cep_rule.specs.Derivations.{ProofTree, no_goal, goal_by}
@@ -13,12 +13,6 @@ pub fails_first : {A B : Type 0} (stop : Stop) (r : Option A) (f : A → Option 
 fails_first (stops.Memory error) r f failed = tt
 fails_first stops.Unread None f failed = refl
 fails_first stops.Unread (Some x) f failed = absurd cc
-
--- so does one behind a step that does not
-pub fails_then : {A B : Type 0} (stop : Stop) (r : Option A) (f : A → Option B) (x : A) → r ≡ Some x → Fails stop (f x) → Fails stop (r >>= f)
-fails_then (stops.Memory error) r f x e failed = tt
-fails_then stops.Unread None f x e failed = absurd cc
-fails_then stops.Unread (Some y) f x e failed = let p : y ≡ x = cc in ap f p ∙ failed
 
 pub value_zero : (cons : List Con) (depth sort : ℕ) (bytes : List ℕ) → depth ≡ 0 → value_at cons depth sort bytes ≡ None
 unfolding value_at

@@ -1,5 +1,5 @@
 -- Whole texts of terms and atoms.
-use Rattle.std.proofs.Common.{◌≡◌, ℕ, ◌+◌, ◌-◌, ◌<◌, ◌≤◌, Bool, true, false, cond, eqb, nat_le, List, [], ◌∷◌, ◌++◌, length, slice_get, Option, Some, None, IsSomeAnd, refl, sym, ap, subst, ◌∙◌, arith, append-nil}
+use Rattle.std.proofs.Common.{◌≡◌, ℕ, ◌-◌, ◌<◌, ◌≤◌, true, eqb, nat_le, List, [], ◌∷◌, ◌++◌, length, slice_get, Option, Some, None, IsSomeAnd, refl, sym, ap, subst, ◌∙◌, arith, append-nil}
 use Rattle.std.proofs.lemmas.Bool.{eqb-true, leb-true, le-leb}
 use Rattle.cep_term.specs.declared.term.TheConstants.{MAX_NODES, MAX_DEPTH}
 use Rattle.cep_term.specs.Tree.{Tree, Trees, AtomTree, variable, node, IsGround, AreGround, IsFit, nodes_of, nodes_among, depth_among}
@@ -7,16 +7,16 @@ use Rattle.cep_rule.specs.declared.signature.Con.{Con}
 use Rattle.cep_rule.specs.declared.signature.PredDecl.{PredDecl}
 use Rattle.cep_rule.specs.declared.signature.Signature.{Signature}
 use Rattle.cep_rule.specs.declared.parts.Parts.{Parts}
-use Rattle.cep_rule.specs.Names.{IsName, AreNames}
-use Rattle.cep_rule.specs.Typing.{HasSort, HaveSorts, IsTyped, IsValue}
+use Rattle.cep_rule.specs.Names.{AreNames}
+use Rattle.cep_rule.specs.Typing.{HasSort, HaveSorts, IsValue}
 use Rattle.cep_rule.specs.Program.{IsProgram}
-use Rattle.cep_text.specs.Texts.{pred_name, term_text, args_text, atom_text}
+use Rattle.cep_text.specs.Texts.{pred_name, term_text, args_text}
 use Rattle.cep_text.specs.Reads.{IsSmall, IsTermText, IsAtomText}
-use Rattle.cep_text.specs.Reading.{◌>>=◌, con_names, pred_names, pred_head, name_len, front_name, behind_name, number_of, pred_at, arguments_at, value_at, small_at, whole, term_read, atom_read}
-use Rattle.cep_text.proofs.Numbers.{by_bind, guard_some, some_is, none_is, all_at, item_name}
+use Rattle.cep_text.specs.Reading.{◌>>=◌, con_names, pred_names, pred_at, arguments_at, value_at, small_at, whole, term_read, atom_read}
+use Rattle.cep_text.proofs.Numbers.{by_bind, guard_some, none_is, all_at}
 use Rattle.cep_text.proofs.Heads.{IsApart, pred_found, pred_again}
 use Rattle.cep_text.proofs.ValuesFound.{FoundAll, value_found, arguments_found}
-use Rattle.cep_text.proofs.ValuesAgain.{ConOf, con_of, value_again, arguments_again, args_apart}
+use Rattle.cep_text.proofs.ValuesAgain.{con_of, value_again, arguments_again, args_apart}
 
 -- A small value of the type, whose text stands before the rest.
 pub record SmallFound (signature : Signature) (sort : ℕ) (bytes : List ℕ) (t : Tree) (rest : List ℕ) : Type 0 where

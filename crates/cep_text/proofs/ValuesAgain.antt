@@ -1,5 +1,5 @@
 -- The text of a term is read as that term.
-use Rattle.std.proofs.Common.{◌≡◌, ℕ, zero, suc, ◌+◌, ◌-◌, ◌≤◌, Bool, true, false, cond, eqb, List, [], ◌∷◌, ◌++◌, length, slice_get, codes, Option, Some, None, IsSomeAnd, refl, sym, ap, subst, ◌∙◌, arith, append_assoc, append-nil}
+use Rattle.std.proofs.Common.{◌≡◌, ℕ, suc, ◌-◌, ◌≤◌, false, eqb, List, [], ◌∷◌, ◌++◌, length, slice_get, codes, Option, Some, None, IsSomeAnd, refl, ap, ◌∙◌, arith, append_assoc, append-nil}
 use Rattle.std.proofs.Math.Dec.{eqb-suc-zero}
 use Rattle.cep_term.specs.Tree.{Tree, Trees, variable, node, none, more, IsGround, AreGround, depth_of, depth_among}
 use Rattle.cep_rule.specs.declared.signature.Con.{Con}
@@ -7,7 +7,7 @@ use Rattle.cep_rule.specs.declared.signature.Signature.{Signature}
 use Rattle.cep_rule.specs.Names.{IsName, AreNames}
 use Rattle.cep_rule.specs.Typing.{HasSort, HaveSorts}
 use Rattle.cep_text.specs.Texts.{con_name, term_text, args_text}
-use Rattle.cep_text.specs.Reading.{◌>>=◌, Reader, literal_at, con_names, con_at, bare_at, argument_at, arguments_at, inside_at, enclosed_at, value_by, value_at}
+use Rattle.cep_text.specs.Reading.{literal_at, con_names, bare_at, argument_at, arguments_at, inside_at, enclosed_at, value_by, value_at}
 use Rattle.cep_text.proofs.Literals.{literal_again}
 use Rattle.cep_text.proofs.Numbers.{all_at, item_name}
 use Rattle.cep_text.proofs.Heads.{IsApart, con_again, no_parenthesis}

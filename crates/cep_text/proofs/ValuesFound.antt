@@ -1,15 +1,15 @@
 -- What is read as a term is the text of one.
-use Rattle.std.proofs.Common.{◌≡◌, ℕ, zero, suc, ◌+◌, ◌≤◌, Bool, true, false, cond, eqb, List, [], ◌∷◌, ◌++◌, length, slice_get, codes, Option, Some, None, IsSomeAnd, refl, sym, ap, subst, ◌∙◌, arith, append_assoc, append-nil}
+use Rattle.std.proofs.Common.{◌≡◌, ℕ, zero, suc, ◌≤◌, Bool, true, false, cond, eqb, List, [], ◌∷◌, ◌++◌, length, slice_get, codes, Option, Some, None, IsSomeAnd, refl, sym, ap, subst, ◌∙◌, arith, append_assoc, append-nil}
 use Rattle.std.proofs.lemmas.Bool.{eqb-true}
-use Rattle.cep_term.specs.Tree.{Tree, Trees, variable, node, none, more, IsGround, AreGround, depth_of, depth_among}
+use Rattle.cep_term.specs.Tree.{Tree, Trees, node, none, more, AreGround, depth_of, depth_among}
 use Rattle.cep_rule.specs.declared.signature.Con.{Con}
 use Rattle.cep_rule.specs.declared.signature.Signature.{Signature}
-use Rattle.cep_rule.specs.Typing.{HasSort, HaveSorts, IsValue}
-use Rattle.cep_text.specs.Texts.{con_name, enclosed, term_text, args_text}
-use Rattle.cep_text.specs.Reading.{◌>>=◌, Reader, literal_at, con_at, bare_at, argument_at, arguments_at, inside_at, enclosed_at, value_by, value_at}
+use Rattle.cep_rule.specs.Typing.{HaveSorts, IsValue}
+use Rattle.cep_text.specs.Texts.{con_name, term_text, args_text}
+use Rattle.cep_text.specs.Reading.{Reader, literal_at, con_at, bare_at, argument_at, arguments_at, inside_at, enclosed_at, value_by, value_at}
 use Rattle.cep_text.proofs.Literals.{literal_found}
-use Rattle.cep_text.proofs.Numbers.{by_bind, guard_some, some_is, none_is}
-use Rattle.cep_text.proofs.Heads.{ConFound, con_found}
+use Rattle.cep_text.proofs.Numbers.{by_bind, guard_some, some_is}
+use Rattle.cep_text.proofs.Heads.{con_found}
 
 -- The term is a value of the type, of at most so many levels, and its text stands before the rest.
 pub record Found (signature : Signature) (depth sort : ℕ) (bytes : List ℕ) (t : Tree) (rest : List ℕ) : Type 0 where

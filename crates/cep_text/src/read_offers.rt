@@ -7,7 +7,7 @@ ghost use Rattle.cep_text.specs.Reading.{Gives, given_at, givens_at, rule_at, of
 
 use crate::stop::Stop;
 use crate::values::small_value;
-use crate::words::{find_rule, literal, name_len};
+use crate::words::{find, literal, name_len};
 use cep_base::Name;
 use cep_rule::{Kinds, Names, Offer, Program, Rule, Terms};
 use cep_term::Term;
@@ -58,7 +58,7 @@ fn rule<'p, 'a>(program: &'p Program, bytes: &'a [u8]) -> Result<(u32, &'p Rule,
 {
     let rules = &program.parts().rules;
     let (name, rest) = bytes.split_at(name_len(bytes));
-    match find_rule(rules, name) {
+    match find(rules, name) {
         Some(number) => Ok((number as u32, rules.get(number), rest)),
         None => Err(Stop::Unread),
     }

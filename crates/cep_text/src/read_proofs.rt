@@ -40,6 +40,7 @@ fn whole_proof(alloc: Global, program: &Program, bytes: &[u8]) -> Result<Derivat
     ensures read { Gives proof_of result (proof_read program.now (small_at program.now.signature.cons) MAX_BRACKETS bytes.now) }
     ensures kept { IsProgram program.now }
 {
+    // What each program keeps is known from here on.
     program.parts();
     let (d, rest) = proof(alloc, program, MAX_BRACKETS, bytes)?;
     if !rest.is_empty() {

@@ -6,7 +6,7 @@ ghost use Rattle.cep_text.specs.Reading.{Gives, pred_at, term_read, atom_read};
 
 use crate::stop::Stop;
 use crate::values::{arguments, left_after_all, small_value};
-use crate::words::{find_pred, name_len};
+use crate::words::{find, name_len};
 use cep_rule::{Kinds, Program};
 use cep_term::{Atom, MAX_DEPTH, MAX_NODES, Term};
 use std::alloc::{AllocError, Global};
@@ -85,7 +85,7 @@ fn pred<'p, 'a>(program: &'p Program, bytes: &'a [u8]) -> Result<(u32, &'p Kinds
 {
     let preds = &program.parts().signature.preds;
     let (name, rest) = bytes.split_at(name_len(bytes));
-    match find_pred(preds, name) {
+    match find(preds, name) {
         Some(number) => Ok((number as u32, &preds.get(number).args, rest)),
         None => Err(Stop::Unread),
     }

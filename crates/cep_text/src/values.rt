@@ -3,7 +3,7 @@ ghost use Rattle.cep_term.specs.Tree.{tree_of, trees_of, nodes_of, nodes_among};
 ghost use Rattle.cep_text.specs.Reading.{Gives, con_at, bare_at, argument_at, arguments_at, inside_at, enclosed_at, value_at, small_at};
 
 use crate::stop::Stop;
-use crate::words::{find_con, literal, name_len, strip};
+use crate::words::{find, literal, name_len, strip};
 use cep_rule::{Kinds, Program};
 use cep_term::{Args, MAX_DEPTH, MAX_NODES, Term};
 use std::alloc::Global;
@@ -20,7 +20,7 @@ fn con<'p, 'a>(
 {
     let cons = &program.parts().signature.cons;
     let (name, rest) = bytes.split_at(name_len(bytes));
-    let Some(number) = find_con(cons, name) else {
+    let Some(number) = find(cons, name) else {
         return Err(Stop::Unread);
     };
     let con = cons.get(number);

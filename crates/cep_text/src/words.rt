@@ -1,9 +1,10 @@
-ghost use Rattle.std.specs.Prelude.{◌≡◌, ◌≢◌, ℕ, ◌≤◌, ◌<◌, ◌+◌, ◌^◌, length, decimal, MatchOption, IfOk, IfSome, IfNone};
+ghost use Rattle.std.specs.Prelude.{◌≡◌, ◌≢◌, ℕ, ◌≤◌, ◌<◌, ◌+◌, ◌^◌, List, length, map, decimal, MatchOption, IfOk, IfSome, IfNone};
 ghost use Rattle.cep_rule.specs.Names.{is_name_byte};
-ghost use Rattle.cep_text.specs.Reading.{Gives, literal_at, name_len, number_of, con_names, pred_names, rule_names, numbered_by};
+ghost use Rattle.cep_text.specs.Reading.{Gives, literal_at, name_len, number_of, numbered_by};
 
 use crate::stop::Stop;
-use cep_rule::{Cons, Preds, Rules};
+use cep_base::Name;
+use cep_rule::{Con, Items, PredDecl, Rule};
 use itoa::Buffer;
 
 // The bytes behind a word, if it stands at the front.
@@ -40,36 +41,44 @@ fn is_name_byte(byte: u8) -> bool
     byte.is_ascii_alphanumeric() || byte == b'_' || byte == b'/' || byte == b'\''
 }
 
-// The number of the constructor of this name.
-pub(crate) fn find_con(cons: &Cons, name: &[u8]) -> Option<usize>
-    ensures { result ≡ number_of (con_names cons.now) name.now }
-{
-    for i in 0..cons.len() {
-        if cons.get(i).name.bytes() == name {
-            return Some(i);
-        }
-    }
-    None
+// What a program declares by a name.
+pub(crate) trait Named {
+    ghost name_of: { Self → List ℕ };
+
+    fn name(&self) -> &Name
+        ensures { result.now ≡ name_of self.now };
 }
 
-// The number of the predicate of this name.
-pub(crate) fn find_pred(preds: &Preds, name: &[u8]) -> Option<usize>
-    ensures { result ≡ number_of (pred_names preds.now) name.now }
-{
-    for i in 0..preds.len() {
-        if preds.get(i).name.bytes() == name {
-            return Some(i);
-        }
+impl Named for Con {
+    ghost name_of = { λ con. con.name };
+
+    fn name(&self) -> &Name {
+        &self.name
     }
-    None
 }
 
-// The number of the rule of this name.
-pub(crate) fn find_rule(rules: &Rules, name: &[u8]) -> Option<usize>
-    ensures { result ≡ number_of (rule_names rules.now) name.now }
+impl Named for PredDecl {
+    ghost name_of = { λ pred. pred.name };
+
+    fn name(&self) -> &Name {
+        &self.name
+    }
+}
+
+impl Named for Rule {
+    ghost name_of = { λ rule. rule.name };
+
+    fn name(&self) -> &Name {
+        &self.name
+    }
+}
+
+// The number of the item of this name.
+pub(crate) fn find<T: Named>(items: &Items<T>, name: &[u8]) -> Option<usize>
+    ensures { result ≡ number_of (map T.name_of items.now) name.now }
 {
-    for i in 0..rules.len() {
-        if rules.get(i).name.bytes() == name {
+    for i in 0..items.len() {
+        if items.get(i).name().bytes() == name {
             return Some(i);
         }
     }

@@ -1,4 +1,4 @@
-use Rattle.std.proofs.Common.{◌≡◌, ◌≤◌, ℕ, length, take, drop, sym, ◌∙◌, arith, append_assoc, refl}
+use Rattle.std.proofs.Common.{◌∙◌, arith, refl}
 use Rattle.std.proofs.lemmas.Result.{err_from_is_err_and}
 use Rattle.cep_text.specs.Reading.{small_at}
 use Rattle.cep_text.proofs.Steps.{fails_first, givens_next, givens_end}

@@ -1,8 +1,7 @@
-use Rattle.std.proofs.Common.{◌≡◌, ◌<◌, ◌≤◌, length, sym, ap, ◌∙◌, arith, slice_get, Some}
+use Rattle.std.proofs.Common.{◌≡◌, ◌≤◌, length, sym, arith, slice_get, Some}
 use Rattle.cep_rule.specs.declared.limits.TheConstants.{MOST_CLAUSES}
 use Rattle.cep_rule.specs.Patterns.{clause_of}
 use Rattle.cep_rule.specs.Program.{IsTypedClause}
-use Rattle.cep_text.specs.Reading.{numbered_by}
 use Rattle.cep_text.proofs.Numbers.{all_at}
 use Rattle.cep_text.proofs.ClauseNumbers.{numbered_found}
 use Rattle.cep_text.proofs.read_proofs.clause.Goals as goal

@@ -1,7 +1,7 @@
 use Rattle.std.proofs.Common.{◌≡◌, ◌-◌, suc, refl, arith}
 use Rattle.std.proofs.lemmas.Result.{err_from_is_err_and}
-use Rattle.cep_text.specs.Reading.{value_at, arguments_at}
-use Rattle.cep_text.proofs.Steps.{fails_first, fails_then, value_zero, value_more, arguments_end, arguments_next}
+use Rattle.cep_text.specs.Reading.{value_at}
+use Rattle.cep_text.proofs.Steps.{fails_first, value_zero, value_more, arguments_end, arguments_next}
 use Rattle.cep_text.proofs.values.+value.Goals as goal
 
 pub value-returns-then-depth-eq0-clause-read : goal.value-returns-then-depth-eq0-clause-read
