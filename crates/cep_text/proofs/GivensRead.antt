@@ -6,7 +6,7 @@ use Rattle.cep_rule.specs.declared.signature.Signature.{Signature}
 use Rattle.cep_rule.specs.Names.{AreNames}
 use Rattle.cep_rule.specs.Typing.{AreValues}
 use Rattle.cep_text.specs.Texts.{term_text, all_given_text}
-use Rattle.cep_text.specs.Reads.{IsSmall}
+use Rattle.cep_text.specs.Reads.{IsSmallTerm}
 use Rattle.cep_text.specs.Reading.{Reader, literal_at, con_names, value_at, small_at, given_at, givens_at}
 use Rattle.cep_text.proofs.Literals.{literal_again, literal_found}
 use Rattle.cep_text.proofs.Numbers.{by_bind, some_is}
@@ -19,7 +19,7 @@ pub record GivensFound (signature : Signature) (names : List (List ℕ)) (kinds 
   pub values : List Tree
   pub behind : all ≡ before ++ values
   pub typed : AreValues signature.cons kinds values
-  pub small : AllByRecursion IsSmall values
+  pub small : AllByRecursion IsSmallTerm values
   pub text : bytes ≡ all_given_text signature names values ++ rest
 
 given_found : (signature : Signature) (name : List ℕ) (kind : ℕ) (bytes : List ℕ) (t : Tree) (rest : List ℕ) → given_at (small_at signature.cons kind) name bytes ≡ Some (t, rest)
@@ -99,7 +99,7 @@ givens_again signature value (name ∷ names) (kind ∷ kinds) before (t ∷ val
     ∙ rw (one, others) (ap (λ all. Some (all, rest)) (append_assoc before (t ∷ []) values))
 
 -- small values are read
-pub small_read : (signature : Signature) → AreNames (con_names signature.cons) → (kinds : List ℕ) (values : List Tree) → AreValues signature.cons kinds values → AllByRecursion IsSmall values → AreRead signature (small_at signature.cons) kinds values
+pub small_read : (signature : Signature) → AreNames (con_names signature.cons) → (kinds : List ℕ) (values : List Tree) → AreValues signature.cons kinds values → AllByRecursion IsSmallTerm values → AreRead signature (small_at signature.cons) kinds values
 small_read signature names [] [] typed small = tt
 small_read signature names [] (t ∷ values) typed small = absurd typed
 small_read signature names (kind ∷ kinds) [] typed small = absurd typed

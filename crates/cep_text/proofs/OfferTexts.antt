@@ -11,7 +11,7 @@ use Rattle.cep_rule.specs.Names.{IsName, AreNames}
 use Rattle.cep_rule.specs.Typing.{AreValues}
 use Rattle.cep_rule.specs.Program.{IsProgram, IsTypedRule}
 use Rattle.cep_text.specs.Texts.{rule_name, rule_vars, all_given_text, offer_text, IsOfferOf}
-use Rattle.cep_text.specs.Reads.{IsSmall, IsOfferText}
+use Rattle.cep_text.specs.Reads.{IsSmallTerm, IsOfferText}
 use Rattle.cep_text.specs.Reading.{Reader, name_len, front_name, behind_name, number_of, rule_names, small_at, whole, givens_at, rule_at, offer_read}
 use Rattle.cep_text.proofs.Numbers.{by_bind, some_is, none_is, all_at, number_is, number_found, item_name}
 use Rattle.cep_text.proofs.Heads.{IsApart, name_bytes, front_is, behind_is}
@@ -86,7 +86,7 @@ offer_some program bytes offer keeps e =
     let typed = subst (AreValues program.signature.cons rule.0.1.kinds) same found.typed in
     subst (IsOfferText program bytes) (some_is read offer e) (record {
       of_rule = is_of program all (slice_get program.rules rule.0.0) rule.0.1 head.numbered typed;
-      small = subst (AllByRecursion IsSmall) same found.small;
+      small = subst (AllByRecursion IsSmallTerm) same found.small;
       text = head.text
           ∙ ap (λ text. rule.0.1.name ++ text) (found.text ∙ ap (λ rest. all_given_text program.signature rule.0.1.vars found.values ++ rest) ended.1 ∙ append-nil (all_given_text program.signature rule.0.1.vars found.values) ∙ ap (all_given_text program.signature rule.0.1.vars) same)
           ∙ text_by program rule.0.0 rule.0.1 all head.numbered;

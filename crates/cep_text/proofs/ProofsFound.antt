@@ -9,7 +9,7 @@ use Rattle.cep_rule.specs.Typing.{AreValues}
 use Rattle.cep_rule.specs.Derivations.{ProofTree, ProofTrees, by_clause, no_goal, goal_by, height_of, height_among}
 use Rattle.cep_rule.specs.Program.{IsProgram, IsTypedClause}
 use Rattle.cep_text.specs.Texts.{clause_vars, all_given_text, begin_text, proof_text, proofs_text, AreAsMany, IsProofOf, AreProofsOf}
-use Rattle.cep_text.specs.Reads.{IsSmall, HasSmallValues, HaveSmallValues}
+use Rattle.cep_text.specs.Reads.{IsSmallTerm, HasSmallValues, HaveSmallValues}
 use Rattle.cep_text.specs.Reading.{Reader, literal_at, name_len, front_name, behind_name, numbered_by, small_at, givens_at, clause_at, begin_at, proofs_at, node_at, proof_at}
 use Rattle.cep_text.proofs.Literals.{literal_found}
 use Rattle.cep_text.proofs.Numbers.{by_bind, some_is, all_at}
@@ -42,7 +42,7 @@ pub record BeginFound (program : Parts) (bytes : List ℕ) (number : ℕ) (value
   pub clause : ClauseTree
   pub numbered : slice_get program.clauses number ≡ Some clause
   pub typed : AreValues program.signature.cons clause.kinds values
-  pub small : AllByRecursion IsSmall values
+  pub small : AllByRecursion IsSmallTerm values
   pub as_many : length clause.goals ≡ goals
   pub text : bytes ≡ begin_text program number values ++ rest
 
@@ -70,7 +70,7 @@ begin_found program bytes number values goals rest keeps e =
       clause = clause.0.1;
       numbered = head.numbered;
       typed = subst (AreValues program.signature.cons clause.0.1.kinds) same found.typed;
-      small = subst (AllByRecursion IsSmall) same found.small;
+      small = subst (AllByRecursion IsSmallTerm) same found.small;
       as_many = refl;
       text = literal_found (codes "[") bytes bracket bracket-is
           ∙ ap (λ text. codes "[" ++ text) (head.text ∙ ap (λ text. decimal (clause.0.0 + 1) ++ text) (found.text ∙ ap (λ vs. all_given_text program.signature clause.0.1.vars vs ++ given.1) same))

@@ -11,7 +11,7 @@ use Rattle.cep_rule.specs.Names.{AreNames}
 use Rattle.cep_rule.specs.Typing.{HasSort, HaveSorts, IsValue}
 use Rattle.cep_rule.specs.Program.{IsProgram}
 use Rattle.cep_text.specs.Texts.{pred_name, term_text, args_text}
-use Rattle.cep_text.specs.Reads.{IsSmall, IsTermText, IsAtomText}
+use Rattle.cep_text.specs.Reads.{IsSmallTerm, IsTermText, IsAtomText}
 use Rattle.cep_text.specs.Reading.{◌>>=◌, con_names, pred_names, pred_at, arguments_at, value_at, small_at, whole, term_read, atom_read}
 use Rattle.cep_text.proofs.Numbers.{by_bind, guard_some, none_is, all_at}
 use Rattle.cep_text.proofs.Heads.{IsApart, pred_found, pred_again}
@@ -21,7 +21,7 @@ use Rattle.cep_text.proofs.ValuesAgain.{con_of, value_again, arguments_again, ar
 -- A small value of the type, whose text stands before the rest.
 pub record SmallFound (signature : Signature) (sort : ℕ) (bytes : List ℕ) (t : Tree) (rest : List ℕ) : Type 0 where
   pub value : IsValue signature.cons sort t
-  pub small : IsSmall t
+  pub small : IsSmallTerm t
   pub text : bytes ≡ term_text signature t ++ rest
 
 pub small_found : (signature : Signature) (sort : ℕ) (bytes : List ℕ) (t : Tree) (rest : List ℕ) → small_at signature.cons sort bytes ≡ Some (t, rest) → SmallFound signature sort bytes t rest
@@ -36,7 +36,7 @@ small_found signature sort bytes t rest e =
       text = found.text;
     }))
 
-pub small_again : (signature : Signature) → AreNames (con_names signature.cons) → (t : Tree) (sort : ℕ) (rest : List ℕ) → IsValue signature.cons sort t → IsSmall t → IsApart rest
+pub small_again : (signature : Signature) → AreNames (con_names signature.cons) → (t : Tree) (sort : ℕ) (rest : List ℕ) → IsValue signature.cons sort t → IsSmallTerm t → IsApart rest
     → small_at signature.cons sort (term_text signature t ++ rest) ≡ Some (t, rest)
 unfolding small_at
 small_again signature names t sort rest value small apart =

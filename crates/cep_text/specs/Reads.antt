@@ -11,14 +11,14 @@ use Rattle.cep_text.specs.declared.read_proofs.TheConstants.{MAX_BRACKETS}
 use Rattle.cep_text.specs.Texts.{term_text, atom_text, offer_text, proof_text, IsTypedFact, IsOfferOf, IsProofOf}
 
 -- A term is small enough to be read: the limits are those of an atom that is kept.
-pub record IsSmall (t : Tree) : Type 0 where
+pub record IsSmallTerm (t : Tree) : Type 0 where
   pub nodes : nodes_of t ≤ MAX_NODES
   pub depth : depth_of t ≤ MAX_DEPTH
 
 -- The bytes are the text of a value of the type, which is small enough.
 pub record IsTermText (program : Parts) (sort : ℕ) (bytes : List ℕ) (t : Tree) : Type 0 where
   pub value : IsValue program.signature.cons sort t
-  pub small : IsSmall t
+  pub small : IsSmallTerm t
   pub text : bytes ≡ term_text program.signature t
 
 -- The bytes are the text of a ground, well-typed, fit atom, linear or backward.
@@ -30,13 +30,13 @@ pub record IsAtomText (program : Parts) (bytes : List ℕ) (a : AtomTree) : Type
 -- The bytes are the text of an instance of a rule of the program, with values that are small enough.
 pub record IsOfferText (program : Parts) (bytes : List ℕ) (offer : Offer) : Type 0 where
   pub of_rule : IsOfferOf program offer
-  pub small : AllByRecursion IsSmall offer.values
+  pub small : AllByRecursion IsSmallTerm offer.values
   pub text : bytes ≡ offer_text program offer
 
 -- All values of a derivation, and of derivations, are small enough.
 abbrev mutual
   pub HasSmallValues : ProofTree → Type 0
-  HasSmallValues (by_clause number values subs) = AllByRecursion IsSmall values × HaveSmallValues subs
+  HasSmallValues (by_clause number values subs) = AllByRecursion IsSmallTerm values × HaveSmallValues subs
 
   pub HaveSmallValues : ProofTrees → Type 0
   HaveSmallValues no_goal = Unit {0}

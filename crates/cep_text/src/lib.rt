@@ -1,5 +1,7 @@
 //! The canonical texts of terms, atoms, offers and derivations. `specs/` says what they are, over
-//! plain trees; the writers add them to a text.
+//! plain trees; the writers add them to a text, and the readers read these texts and no others,
+//! within the sizes of what is kept. No text is the text of two values: that is the law in `laws`.
+//! Recursion goes down a term and its arguments, or a derivation and its goals, alone.
 #![tactic(auto)]
 
 mod derivations;
