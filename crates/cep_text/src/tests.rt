@@ -382,49 +382,33 @@ fn refuse_proofs(
     Ok(())
 }
 
+// Texts of no natural number, one on each line; so with the functions below. (A proof that sees
+// the bytes of so many literals takes minutes.)
+fn no_terms() -> &'static [u8] {
+    b"\ns\ns z\n(s  z)\n((s z))\n(z)\n(s z\n(s z) \nnum\nN"
+}
+
+fn no_atoms() -> &'static [u8] {
+    b"\nnum\nnum s z\n(num z)\nnum  z\nnum z z\nnu z"
+}
+
+fn no_offers() -> &'static [u8] {
+    b"\nr\nr M=z\nr N=s\nr  N=z\nr N=z N=z\nq N=z"
+}
+
+fn no_proofs() -> &'static [u8] {
+    b"\n[0 N=z]\n[01 N=z]\n[+1 N=z]\n[3 N=z]\n[1 N=z\n[1 N=z [1 N=z]]\n[2 M=z N=z P=z]"
+}
+
 #[test]
-fn other_texts_are_of_no_term(rt: HostRuntime) -> Result<(), Fail> {
+fn other_texts_are_of_nothing(rt: HostRuntime) -> Result<(), Fail> {
     let alloc = rt.alloc();
     let program = Program::seal(parts(alloc)?);
-    refuse_terms(
-        &rt,
-        alloc,
-        &program,
-        b"\ns\ns z\n(s  z)\n((s z))\n(z)\n(s z\n(s z) ",
-    )?;
+    refuse_terms(&rt, alloc, &program, no_terms())?;
+    refuse_atoms(&rt, alloc, &program, no_atoms())?;
+    refuse_offers(&rt, alloc, &program, no_offers())?;
+    refuse_proofs(&rt, alloc, &program, no_proofs())?;
     assert!(rt; read_term(alloc, &program, 1, b"z")?.is_none());
-    Ok(())
-}
-
-#[test]
-fn other_texts_are_of_no_atom_and_no_offer(rt: HostRuntime) -> Result<(), Fail> {
-    let alloc = rt.alloc();
-    let program = Program::seal(parts(alloc)?);
-    refuse_atoms(
-        &rt,
-        alloc,
-        &program,
-        b"\nnum\nnum s z\n(num z)\nnum  z\nnum z z",
-    )?;
-    refuse_offers(
-        &rt,
-        alloc,
-        &program,
-        b"\nr\nr M=z\nr N=s\nr  N=z\nr N=z N=z",
-    )?;
-    Ok(())
-}
-
-#[test]
-fn other_texts_are_of_no_derivation(rt: HostRuntime) -> Result<(), Fail> {
-    let alloc = rt.alloc();
-    let program = Program::seal(parts(alloc)?);
-    refuse_proofs(
-        &rt,
-        alloc,
-        &program,
-        b"\n[0 N=z]\n[01 N=z]\n[+1 N=z]\n[1 N=z\n[2 M=z N=z P=z]",
-    )?;
     Ok(())
 }
 
