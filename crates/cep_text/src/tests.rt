@@ -412,26 +412,58 @@ fn other_texts_are_of_nothing(rt: HostRuntime) -> Result<(), Fail> {
     Ok(())
 }
 
-// The text of the natural number of so many levels.
-fn deep(alloc: Global, levels: u32) -> Result<Text, AllocError> {
+// So many levels around an innermost text.
+fn nested(
+    alloc: Global,
+    levels: u32,
+    begin: &[u8],
+    inner: &[u8],
+    end: &[u8],
+) -> Result<Text, AllocError> {
     let mut text = Text::new(alloc);
     for _ in 1..levels {
-        text.append(b"(s ")?;
+        text.append(begin)?;
     }
-    text.append(b"z")?;
+    text.append(inner)?;
     for _ in 1..levels {
-        text.append(b")")?;
+        text.append(end)?;
     }
     Ok(text)
 }
 
+// A natural number of so many levels.
+fn deep(alloc: Global, levels: u32) -> Result<Text, AllocError> {
+    nested(alloc, levels, b"(s ", b"z", b")")
+}
+
+// How a derivation by the second clause begins, which has one goal.
+fn with_a_goal() -> &'static [u8] {
+    b"[2 M=z N=z P=z "
+}
+
+// A derivation with so many brackets open.
+fn high(alloc: Global, brackets: u32) -> Result<Text, AllocError> {
+    nested(alloc, brackets, with_a_goal(), b"[1 N=z]", b"]")
+}
+
 #[test]
-fn a_term_of_512_levels_is_the_deepest(rt: HostRuntime) -> Result<(), Fail> {
+fn a_term_has_at_most_512_levels(rt: HostRuntime) -> Result<(), Fail> {
     let alloc = rt.alloc();
     let program = Program::seal(parts(alloc)?);
     let most = deep(alloc, 512)?;
     expect_term(&rt, alloc, &program, most.bytes())?;
     let too_many = deep(alloc, 513)?;
     assert!(rt; read_term(alloc, &program, 0, too_many.bytes())?.is_none());
+    Ok(())
+}
+
+#[test]
+fn a_derivation_has_at_most_512_open_brackets(rt: HostRuntime) -> Result<(), Fail> {
+    let alloc = rt.alloc();
+    let program = Program::seal(parts(alloc)?);
+    let most = high(alloc, 512)?;
+    expect_proof(&rt, alloc, &program, most.bytes())?;
+    let too_many = high(alloc, 513)?;
+    assert!(rt; read_proof(alloc, &program, too_many.bytes())?.is_none());
     Ok(())
 }
