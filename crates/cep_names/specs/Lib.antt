@@ -1,0 +1,15 @@
+pub mod Items
+pub mod Spaces
+pub mod Uses
+pub mod Variables
+pub mod Starts
+pub mod First
+pub mod Tables
+pub mod Misnamed
+pub mod Filling
+pub mod Looks
+pub mod Faults
+pub mod Seen
+pub mod Levels
+pub mod Totals
+pub mod Named
