@@ -1,0 +1,7 @@
+pub mod Items
+pub mod Spaces
+pub mod Uses
+pub mod Variables
+pub mod Starts
+pub mod First
+pub mod Misnamed
