@@ -4,4 +4,5 @@ pub mod Uses
 pub mod Variables
 pub mod Starts
 pub mod First
+pub mod Tables
 pub mod Misnamed
