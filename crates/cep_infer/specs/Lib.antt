@@ -1,0 +1,4 @@
+pub mod Sites
+pub mod Heads
+pub mod Meaning
+pub mod Places

@@ -1,0 +1,8 @@
+//! From a program's raw file to its parts: each name is replaced by the number of its declaration,
+//! each term is of the type that is wanted of it, and what is wrong is told at its place.
+#![tactic(auto)]
+
+mod draft;
+
+pub use cep_names::Reason;
+pub use draft::{Draft, PlaceLists, Places, Refusal};
