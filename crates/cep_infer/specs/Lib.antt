@@ -1,3 +1,4 @@
+pub mod Shapes
 pub mod Sites
 pub mod Heads
 pub mod Meaning

@@ -3,6 +3,7 @@
 #![tactic(auto)]
 
 mod draft;
+pub mod laws;
 
 pub use cep_names::Reason;
 pub use draft::{Draft, PlaceLists, Places, Refusal};

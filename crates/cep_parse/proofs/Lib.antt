@@ -13,3 +13,4 @@ pub mod Within
 pub mod Endings
 pub mod Reading
 pub mod TokenLemmas
+pub mod WellWritten

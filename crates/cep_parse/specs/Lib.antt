@@ -2,3 +2,4 @@ pub mod Symbols
 pub mod Grammar
 pub mod Machine
 pub mod Files
+pub mod Written

@@ -1,10 +1,22 @@
 // What holds of the grammar, as the definitions say what it is.
-ghost use Rattle.std.specs.Prelude.{◌≡◌, List};
+ghost use Rattle.std.specs.Prelude.{◌≡◌, ℕ, List};
+ghost use Rattle.std.specs.List.{AllByRecursion};
+ghost use Rattle.cep_lex.specs.declared.token.Token.{Token};
 ghost use Rattle.cep_parse.specs.declared.raw.RawItem.{RawItem};
 ghost use Rattle.cep_parse.specs.declared.symbol.Symbol.{Symbol};
+ghost use Rattle.cep_parse.specs.Symbols.{symbols_of};
 ghost use Rattle.cep_parse.specs.Grammar.{File};
+ghost use Rattle.cep_parse.specs.Written.{IsItemOf};
 
 /// Symbols are one raw file at most, so what `parse` accepts is a function of the text.
 pub fn one_raw_file()
     ensures { (symbols : List Symbol) (one : List RawItem) (other : List RawItem) → File symbols one → File symbols other → one ≡ other }
+{}
+
+/// The items of a raw file are made of its tokens: names stand at names and variables at variables,
+/// and the nodes of each atom are its arguments.
+pub fn items_are_made_of_tokens()
+    ensures { (text : List ℕ) (tokens : List Token) (file : List RawItem)
+        → File (symbols_of text tokens) file
+        → AllByRecursion (IsItemOf tokens) file }
 {}

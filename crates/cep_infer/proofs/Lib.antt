@@ -1,0 +1,4 @@
+pub mod Members
+pub mod Filled
+pub mod HeadLaws
+pub mod TypedTerms

@@ -1,0 +1,251 @@
+-- What the grammar says of each item: the nodes of its atoms are their arguments, and its names and variables are tokens of these kinds.
+use Rattle.std.proofs.Common.{◌≡◌, ℕ, zero, suc, ◌+◌, ◌<◌, Bool, List, [], ◌∷◌, ◌++◌, length, refl, sym, ap, subst, ◌∙◌, arith, append_assoc, Contains, if◌then◌else◌, true, false, map}
+use Rattle.std.proofs.lemmas.List.{append-nil}
+use Rattle.std.specs.Prelude.{Option, Some, None, codes, bytes_eq}
+use Rattle.std.specs.List.{AllByRecursion}
+use Rattle.cep_lex.specs.declared.token.Token.{Token}
+use Rattle.cep_lex.specs.declared.token.TokenKind.{TokenKind}
+use Rattle.cep_lex.specs.declared.token.TokenKind.TheVariants as token
+use Rattle.cep_parse.specs.declared.raw.Span.{Span}
+use Rattle.cep_parse.specs.declared.raw.RawKind.{RawKind}
+use Rattle.cep_parse.specs.declared.raw.RawKind.TheVariants as kind
+use Rattle.cep_parse.specs.declared.raw.RawNode.{RawNode}
+use Rattle.cep_parse.specs.declared.raw.RawAtom.{RawAtom}
+use Rattle.cep_parse.specs.declared.raw.RawElem.{RawElem}
+use Rattle.cep_parse.specs.declared.raw.RawRule.{RawRule}
+use Rattle.cep_parse.specs.declared.raw.RawItem.{RawItem}
+use Rattle.cep_parse.specs.declared.symbol.Symbol.{Symbol}
+use Rattle.cep_parse.specs.declared.symbol.Word.{Word}
+use Rattle.cep_parse.specs.declared.symbol.Word.TheVariants as word
+use Rattle.cep_parse.specs.Symbols.{symbol_of, symbols_of, word_of, slice_of, directive_word}
+use Rattle.cep_parse.specs.Grammar as grammar
+use Rattle.cep_parse.specs.Grammar.{Side, at, names}
+use Rattle.cep_parse.specs.Written.{IsTokenAt, IsNameAt, Fill, IsNodeOf, IsAtomOf, IsElemOf, IsLabelOf, IsRuleOf, IsItemOf}
+
+-- what holds of two lists holds of both, one behind the other
+both_all : {A : Type 0} (P : A → Type 0) (xs ys : List A) → AllByRecursion P xs → AllByRecursion P ys → AllByRecursion P (xs ++ ys)
+both_all P [] ys here there = there
+both_all P (x ∷ xs) ys here there = (here.0, both_all P xs ys here.1 there)
+
+-- and the other way round
+first_all : {A : Type 0} (P : A → Type 0) (xs ys : List A) → AllByRecursion P (xs ++ ys) → AllByRecursion P xs
+first_all P [] ys all = tt
+first_all P (x ∷ xs) ys all = (all.0, first_all P xs ys all.1)
+
+rest_all : {A : Type 0} (P : A → Type 0) (xs ys : List A) → AllByRecursion P (xs ++ ys) → AllByRecursion P ys
+rest_all P [] ys all = all
+rest_all P (x ∷ xs) ys all = rest_all P xs ys all.1
+
+module _ (tokens : List Token) where
+  -- what is said of a symbol that is a name, and of one that is a variable
+  abbrev IsSaid : Word → Span → Type 0
+  IsSaid word.Name span = IsNameAt tokens span
+  IsSaid word.Variable span = IsTokenAt tokens token.Variable span
+  IsSaid _ span = Unit {0}
+
+  abbrev AreSaid : List Symbol → Type 0
+  AreSaid symbols = AllByRecursion (λ symbol. IsSaid symbol.word symbol.at) symbols
+
+  abbrev AreNodes : List RawNode → Type 0
+  AreNodes nodes = AllByRecursion (λ node. IsNodeOf tokens node.kind node.at) nodes
+
+  abbrev AreAtoms : List RawAtom → Type 0
+  AreAtoms atoms = AllByRecursion (IsAtomOf tokens) atoms
+
+  abbrev AreElems : List RawElem → Type 0
+  AreElems elems = AllByRecursion (IsElemOf tokens) elems
+
+  abbrev AreRules : List RawRule → Type 0
+  AreRules rules = AllByRecursion (IsRuleOf tokens) rules
+
+  abbrev AreItems : List RawItem → Type 0
+  AreItems items = AllByRecursion (IsItemOf tokens) items
+
+  one_more : (args terms : ℕ) (nodes : List RawNode) → Fill (suc (args + terms)) nodes → Fill (args + 1 + terms) nodes
+  one_more args terms nodes fill = let e : suc (args + terms) ≡ args + 1 + terms = omega arith in subst (λ n. Fill n nodes) e fill
+
+  no_more : (terms : ℕ) (nodes : List RawNode) → Fill terms nodes → Fill (0 + terms) nodes
+  no_more terms nodes fill = let e : terms ≡ 0 + terms = omega arith in subst (λ n. Fill n nodes) e fill
+
+  mutual
+    arg_fills : (symbols : List Symbol) (nodes : List RawNode) → grammar.Arg symbols nodes → (terms : ℕ) (rest : List RawNode) → Fill terms rest → Fill (suc terms) (nodes ++ rest)
+    arg_fills _ _ (grammar.Arg.arg_name a) terms rest fill = (tt, no_more terms rest fill)
+    arg_fills _ _ (grammar.Arg.arg_variable a) terms rest fill = (refl, no_more terms rest fill)
+    arg_fills _ _ (grammar.Arg.arg_blank a) terms rest fill = (refl, no_more terms rest fill)
+    arg_fills _ _ (grammar.Arg.arg_term open_ close symbols nodes term) terms rest fill = term_fills symbols nodes term terms rest fill
+
+    term_fills : (symbols : List Symbol) (nodes : List RawNode) → grammar.Term symbols nodes → (terms : ℕ) (rest : List RawNode) → Fill terms rest → Fill (suc terms) (nodes ++ rest)
+    term_fills _ _ (grammar.Term.applied a symbols args nodes all) terms rest fill = (tt, args_fill symbols args nodes all terms rest fill)
+    term_fills _ _ (grammar.Term.variable a) terms rest fill = (refl, no_more terms rest fill)
+    term_fills _ _ (grammar.Term.blank a) terms rest fill = (refl, no_more terms rest fill)
+    term_fills _ _ (grammar.Term.nested open_ close symbols nodes term) terms rest fill = term_fills symbols nodes term terms rest fill
+
+    args_fill : (symbols : List Symbol) (args : ℕ) (nodes : List RawNode) → grammar.Args symbols args nodes → (terms : ℕ) (rest : List RawNode) → Fill terms rest → Fill (args + terms) (nodes ++ rest)
+    args_fill _ _ _ grammar.Args.no_args terms rest fill = no_more terms rest fill
+    args_fill _ _ _ (grammar.Args.more_args first others args nodes more arg all) terms rest fill =
+        one_more args terms ((nodes ++ more) ++ rest)
+        (subst (Fill (suc (args + terms))) (sym (append_assoc nodes more rest))
+        (arg_fills first nodes arg (args + terms) (more ++ rest) (args_fill others args more all terms rest fill)))
+
+  mutual
+    arg_nodes : (symbols : List Symbol) (nodes : List RawNode) → grammar.Arg symbols nodes → AreSaid symbols → AreNodes nodes
+    arg_nodes _ _ (grammar.Arg.arg_name a) said = (said.0, tt)
+    arg_nodes _ _ (grammar.Arg.arg_variable a) said = (said.0, tt)
+    arg_nodes _ _ (grammar.Arg.arg_blank a) said = (tt, tt)
+    arg_nodes _ _ (grammar.Arg.arg_term open_ close symbols nodes term) said = term_nodes symbols nodes term (first_all _ symbols _ said.1)
+
+    term_nodes : (symbols : List Symbol) (nodes : List RawNode) → grammar.Term symbols nodes → AreSaid symbols → AreNodes nodes
+    term_nodes _ _ (grammar.Term.applied a symbols args nodes all) said = (said.0, args_nodes symbols args nodes all said.1)
+    term_nodes _ _ (grammar.Term.variable a) said = (said.0, tt)
+    term_nodes _ _ (grammar.Term.blank a) said = (tt, tt)
+    term_nodes _ _ (grammar.Term.nested open_ close symbols nodes term) said = term_nodes symbols nodes term (first_all _ symbols _ said.1)
+
+    args_nodes : (symbols : List Symbol) (args : ℕ) (nodes : List RawNode) → grammar.Args symbols args nodes → AreSaid symbols → AreNodes nodes
+    args_nodes _ _ _ grammar.Args.no_args said = tt
+    args_nodes _ _ _ (grammar.Args.more_args first others args nodes more arg all) said =
+        both_all _ nodes more (arg_nodes first nodes arg (first_all _ first others said)) (args_nodes others args more all (rest_all _ first others said))
+
+  whole_fill : (args : ℕ) (nodes : List RawNode) → Fill (args + 0) (nodes ++ []) → Fill args nodes
+  whole_fill args nodes fill = let e : args + 0 ≡ args = omega arith in subst (λ n. Fill n nodes) e (subst (Fill (args + 0)) (append-nil nodes) fill)
+
+  atom_well : (symbols : List Symbol) (atom : RawAtom) → grammar.Atom symbols atom → AreSaid symbols → IsAtomOf tokens atom
+  atom_well _ _ (grammar.Atom.atom a symbols args nodes all) said = record {
+    name = said.0;
+    filled = whole_fill args nodes (args_fill symbols args nodes all 0 [] tt);
+    nodes = args_nodes symbols args nodes all said.1;
+  }
+
+  elem_well : (side : Side) (symbols : List Symbol) (elems : List RawElem) → grammar.Elem side symbols elems → AreSaid symbols → AreElems elems
+  elem_well _ _ _ (grammar.Elem.unit side open_ close) said = tt
+  elem_well _ _ _ (grammar.Elem.atom side symbols a is) said = (atom_well symbols a is said, tt)
+  elem_well _ _ _ (grammar.Elem.kept outer dollar symbols a is) said = (atom_well symbols a is said.1, tt)
+  elem_well _ _ _ (grammar.Elem.qui a) said = (tt, tt)
+  elem_well _ _ _ (grammar.Elem.stage right stage_ a) said = (said.1.0, tt)
+
+  stars_well : (side : Side) (symbols : List Symbol) (elems : List RawElem) → grammar.Stars side symbols elems → AreSaid symbols → AreElems elems
+  stars_well _ _ _ (grammar.Stars.none side) said = tt
+  stars_well _ _ _ (grammar.Stars.more side star first rest elems others is further) said =
+      both_all (IsElemOf tokens) elems others (elem_well side first elems is (first_all _ first rest said.1)) (stars_well side rest others further (rest_all _ first rest said.1))
+
+  elems_well : (side : Side) (symbols : List Symbol) (elems : List RawElem) → grammar.Elems side symbols elems → AreSaid symbols → AreElems elems
+  elems_well _ _ _ (grammar.Elems.elems side first rest elems others is further) said =
+      both_all (IsElemOf tokens) elems others (elem_well side first elems is (first_all _ first rest said)) (stars_well side rest others further (rest_all _ first rest said))
+
+  sides_well : (outer : Bool) (symbols : List Symbol) (left right : List RawElem) → grammar.Sides outer symbols left right → AreSaid symbols → AreElems left × AreElems right
+  sides_well _ _ _ _ (grammar.Sides.sides outer arrow dot before after left right is is') said = (
+    elems_well _ before left is (first_all _ before _ said),
+    elems_well _ after right is' (first_all _ after _ (rest_all _ before _ said).1))
+
+  rules_well : (symbols : List Symbol) (rules : List RawRule) → grammar.Rules symbols rules → AreSaid symbols → AreRules rules
+  rules_well _ _ grammar.Rules.none said = tt
+  rules_well _ _ (grammar.Rules.more a colon symbols rest left right rules is further) said =
+      let sides = sides_well false symbols left right is (first_all _ symbols rest said.1.1) in
+      (record { label = said.0; left = sides.0; right = sides.1 }, rules_well rest rules further (rest_all _ symbols rest said.1.1))
+
+  goals_well : (symbols : List Symbol) (goals : List RawAtom) → grammar.Goals symbols goals → AreSaid symbols → AreAtoms goals
+  goals_well _ _ grammar.Goals.none said = tt
+  goals_well _ _ (grammar.Goals.more mark a first rest goal goals mark_is is further) said =
+      (atom_well first goal is (first_all _ first rest said.1), goals_well rest goals further (rest_all _ first rest said.1))
+
+  bag_elem_well : (symbols : List Symbol) (atoms : List RawAtom) → grammar.BagElem symbols atoms → AreSaid symbols → AreAtoms atoms
+  bag_elem_well _ _ (grammar.BagElem.unit open_ close) said = tt
+  bag_elem_well _ _ (grammar.BagElem.atom symbols a is) said = (atom_well symbols a is said, tt)
+
+  bag_more_well : (symbols : List Symbol) (atoms : List RawAtom) → grammar.BagMore symbols atoms → AreSaid symbols → AreAtoms atoms
+  bag_more_well _ _ grammar.BagMore.none said = tt
+  bag_more_well _ _ (grammar.BagMore.more mark a first rest atoms others mark_is is further) said =
+      both_all (IsAtomOf tokens) atoms others (bag_elem_well first atoms is (first_all _ first rest said.1)) (bag_more_well rest others further (rest_all _ first rest said.1))
+
+  bag_well : (symbols : List Symbol) (atoms : List RawAtom) → grammar.Bag symbols atoms → AreSaid symbols → AreAtoms atoms
+  bag_well _ _ (grammar.Bag.empty close) said = tt
+  bag_well _ _ (grammar.Bag.some close first rest atoms others is further) said =
+      both_all (IsAtomOf tokens) atoms others (bag_elem_well first atoms is (first_all _ first _ said)) (bag_more_well rest others further (first_all _ rest _ (rest_all _ first _ said)))
+
+  names_well : (spans : List Span) (rest : List Symbol) → AreSaid (names spans ++ rest) → AllByRecursion (IsNameAt tokens) spans × AreSaid rest
+  names_well [] rest said = (tt, said)
+  names_well (span ∷ spans) rest said = let more = names_well spans rest said.1 in ((said.0, more.0), more.1)
+
+  label_well : (before rest : List Symbol) (label : Option Span) → grammar.Label before label → AreSaid (before ++ rest) → IsLabelOf tokens label × AreSaid rest
+  label_well _ rest _ grammar.Label.none said = (tt, said)
+  label_well _ rest _ (grammar.Label.named a colon) said = (said.0, said.1.1)
+
+  item_well : (symbols : List Symbol) (item_ : RawItem) → grammar.Item symbols item_ → AreSaid symbols → IsItemOf tokens item_
+  item_well _ _ (grammar.Item.sort a colon type_ dot) said = said.0
+  item_well _ _ (grammar.Item.pred a colon pred_ dot args) said = (said.0, (names_well args _ said.1).0)
+  item_well _ _ (grammar.Item.back a colon bwd dot args) said = (said.0, (names_well args _ said.1).0)
+  item_well _ _ (grammar.Item.colon a colon_ b dot args) said = let spans = names_well args _ said.1 in (said.0, spans.0, spans.1.1.0)
+  item_well _ _ (grammar.Item.fact dot symbols head is) said = (atom_well symbols head is (first_all _ symbols _ said), tt)
+  item_well _ _ (grammar.Item.labelled a colon_ dot symbols head is some) said = (atom_well symbols head is (first_all _ symbols _ said.1.1), tt)
+  item_well _ _ (grammar.Item.clause arrow dot before symbols first rest label head goal goals labelled is is' further) said =
+      let behind = (label_well before _ label labelled said).1 in
+      let next = (rest_all _ symbols _ behind).1 in
+      (atom_well symbols head is (first_all _ symbols _ behind),
+       (atom_well first goal is' (first_all _ first _ next),
+       goals_well rest goals further (first_all _ rest _ (rest_all _ first _ next))))
+  item_well _ _ (grammar.Item.outer before symbols label left right labelled is) said =
+      let behind = label_well before symbols label labelled said in
+      let sides = sides_well true symbols left right is behind.1 in
+      record { label = behind.0; left = sides.0; right = sides.1 }
+  item_well _ _ (grammar.Item.unnamed blank colon_ symbols left right is) said =
+      let sides = sides_well true symbols left right is said.1.1 in
+      record { label = tt; left = sides.0; right = sides.1 }
+  item_well _ _ (grammar.Item.stage stage_ a equals open_ close symbols ending rules is dot_is) said =
+      (said.1.0, rules_well symbols rules is (first_all _ symbols _ said.1.1.1.1))
+  item_well _ _ (grammar.Item.context context_ a equals open_ symbols ending atoms is dot_is) said =
+      (said.1.0, bag_well symbols atoms is (first_all _ symbols _ said.1.1.1.1))
+  item_well _ _ (grammar.Item.interactive directive a dot) said = said.1.0
+  item_well _ _ (grammar.Item.trace_named directive stage_ a dot mark limit is) said = (said.1.1.0, said.1.1.1.0)
+  item_well _ _ (grammar.Item.trace_listed directive stage_ open_ dot mark limit symbols atoms is bag) said =
+      (said.1.1.0, bag_well symbols atoms bag (first_all _ symbols _ said.1.1.1.1))
+
+  file_well : (symbols : List Symbol) (items : List RawItem) → grammar.File symbols items → AreSaid symbols → AreItems items
+  file_well _ _ grammar.File.none said = tt
+  file_well _ _ (grammar.File.more first rest item_ items is further) said =
+      (item_well first item_ is (first_all _ first rest said), file_well rest items further (rest_all _ first rest said))
+
+  -- what a directive is
+  directive_said : (bytes : List ℕ) (span : Span) → IsSaid (directive_word bytes) span
+  directive_said bytes span = first (bytes_eq bytes (codes "#interactive")) (bytes_eq bytes (codes "#trace"))
+    where
+      first : (one other : Bool) → IsSaid (if one then word.Interactive else (if other then word.Trace else word.Other)) span
+      first true other = tt
+      first false true = tt
+      first false false = tt
+
+  -- a token as a symbol
+  token_said : (bytes : List ℕ) (kind : TokenKind) (span : Span) → IsTokenAt tokens kind span → IsSaid (word_of kind bytes) span
+  token_said bytes token.Name span is = is
+  token_said bytes token.Variable span is = is
+  token_said bytes token.Directive span is = directive_said bytes span
+  token_said bytes token.Blank span is = tt
+  token_said bytes token.Number span is = tt
+  token_said bytes token.Colon span is = tt
+  token_said bytes token.Dot span is = tt
+  token_said bytes token.Comma span is = tt
+  token_said bytes token.Star span is = tt
+  token_said bytes token.Dollar span is = tt
+  token_said bytes token.Equals span is = tt
+  token_said bytes token.Open span is = tt
+  token_said bytes token.Close span is = tt
+  token_said bytes token.OpenBrace span is = tt
+  token_said bytes token.CloseBrace span is = tt
+  token_said bytes token.Lolli span is = tt
+  token_said bytes token.Back span is = tt
+  token_said bytes token.KwType span is = tt
+  token_said bytes token.KwPred span is = tt
+  token_said bytes token.KwBwd span is = tt
+  token_said bytes token.KwFact span is = tt
+  token_said bytes token.KwStage span is = tt
+  token_said bytes token.KwContext span is = tt
+  token_said bytes token.KwQui span is = tt
+
+  -- tokens among these as symbols
+  symbols_said : (text : List ℕ) (some : List Token) → ((one : Token) → Contains some one → Contains tokens one) → AreSaid (symbols_of text some)
+  symbols_said text [] among = tt
+  symbols_said text (one ∷ some) among = (
+    token_said (slice_of text one.from one.to) one.kind (record { from = one.from; to = one.to })
+      (record { token = one; there = among one (0, (omega arith), refl); kind_is = refl; from_is = refl; to_is = refl }),
+    symbols_said text some (λ other there. among other (suc there.0, (omega (arith, there.1)), there.2)))
+
+pub well_written : (text : List ℕ) (tokens : List Token) (file : List RawItem) → grammar.File (symbols_of text tokens) file → AllByRecursion (IsItemOf tokens) file
+well_written text tokens file is = file_well tokens (symbols_of text tokens) file is (symbols_said tokens text tokens (λ one there. there))
