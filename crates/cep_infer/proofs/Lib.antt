@@ -1,4 +1,2 @@
 pub mod Members
 pub mod Filled
-pub mod HeadLaws
-pub mod TypedTerms

@@ -1,6 +1,6 @@
 -- What the grammar says of each item: the nodes of its atoms are their arguments, and its names and variables are tokens of these kinds.
-use Rattle.std.proofs.Common.{◌≡◌, ℕ, zero, suc, ◌+◌, ◌<◌, Bool, List, [], ◌∷◌, ◌++◌, length, refl, sym, ap, subst, ◌∙◌, arith, append_assoc, Contains, if◌then◌else◌, true, false, map}
-use Rattle.std.proofs.lemmas.List.{append-nil}
+use Rattle.std.proofs.Common.{◌≡◌, ℕ, zero, suc, ◌+◌, ◌<◌, ◌≤◌, Bool, List, [], ◌∷◌, ◌++◌, length, refl, sym, ap, subst, ◌∙◌, arith, append_assoc, length-append, Contains, if◌then◌else◌, true, false, map}
+use Rattle.std.proofs.lemmas.List.{append-nil, length-map}
 use Rattle.std.specs.Prelude.{Option, Some, None, codes, bytes_eq}
 use Rattle.std.specs.List.{AllByRecursion}
 use Rattle.cep_lex.specs.declared.token.Token.{Token}
@@ -43,8 +43,23 @@ module _ (tokens : List Token) where
   IsSaid word.Variable span = IsTokenAt tokens token.Variable span
   IsSaid _ span = Unit {0}
 
-  abbrev AreSaid : List Symbol → Type 0
-  AreSaid symbols = AllByRecursion (λ symbol. IsSaid symbol.word symbol.at) symbols
+  abbrev AllSaid : List Symbol → Type 0
+  AllSaid symbols = AllByRecursion (λ symbol. IsSaid symbol.word symbol.at) symbols
+
+  -- symbols of the tokens, and no more of them
+  record AreSaid (symbols : List Symbol) : Type 0 where
+    all : AllSaid symbols
+    few : length symbols ≤ length tokens
+
+  -- those behind the first, those in front of others, and those behind others
+  next : (symbol : Symbol) (symbols : List Symbol) → AreSaid (symbol ∷ symbols) → AreSaid symbols
+  next symbol symbols said = record { all = said.all.1; few = let f = said.few in omega arith }
+
+  front : (one other : List Symbol) → AreSaid (one ++ other) → AreSaid one
+  front one other said = record { all = first_all _ one other said.all; few = let f = said.few in let e = length-append one other in omega arith }
+
+  back : (one other : List Symbol) → AreSaid (one ++ other) → AreSaid other
+  back one other said = record { all = rest_all _ one other said.all; few = let f = said.few in let e = length-append one other in omega arith }
 
   abbrev AreNodes : List RawNode → Type 0
   AreNodes nodes = AllByRecursion (λ node. IsNodeOf tokens node.kind node.at) nodes
@@ -89,63 +104,87 @@ module _ (tokens : List Token) where
 
   mutual
     arg_nodes : (symbols : List Symbol) (nodes : List RawNode) → grammar.Arg symbols nodes → AreSaid symbols → AreNodes nodes
-    arg_nodes _ _ (grammar.Arg.arg_name a) said = (said.0, tt)
-    arg_nodes _ _ (grammar.Arg.arg_variable a) said = (said.0, tt)
+    arg_nodes _ _ (grammar.Arg.arg_name a) said = (said.all.0, tt)
+    arg_nodes _ _ (grammar.Arg.arg_variable a) said = (said.all.0, tt)
     arg_nodes _ _ (grammar.Arg.arg_blank a) said = (tt, tt)
-    arg_nodes _ _ (grammar.Arg.arg_term open_ close symbols nodes term) said = term_nodes symbols nodes term (first_all _ symbols _ said.1)
+    arg_nodes _ _ (grammar.Arg.arg_term open_ close symbols nodes term) said = term_nodes symbols nodes term (front symbols _ (next _ _ said))
 
     term_nodes : (symbols : List Symbol) (nodes : List RawNode) → grammar.Term symbols nodes → AreSaid symbols → AreNodes nodes
-    term_nodes _ _ (grammar.Term.applied a symbols args nodes all) said = (said.0, args_nodes symbols args nodes all said.1)
-    term_nodes _ _ (grammar.Term.variable a) said = (said.0, tt)
+    term_nodes _ _ (grammar.Term.applied a symbols args nodes all) said = (said.all.0, args_nodes symbols args nodes all (next _ _ said))
+    term_nodes _ _ (grammar.Term.variable a) said = (said.all.0, tt)
     term_nodes _ _ (grammar.Term.blank a) said = (tt, tt)
-    term_nodes _ _ (grammar.Term.nested open_ close symbols nodes term) said = term_nodes symbols nodes term (first_all _ symbols _ said.1)
+    term_nodes _ _ (grammar.Term.nested open_ close symbols nodes term) said = term_nodes symbols nodes term (front symbols _ (next _ _ said))
 
     args_nodes : (symbols : List Symbol) (args : ℕ) (nodes : List RawNode) → grammar.Args symbols args nodes → AreSaid symbols → AreNodes nodes
     args_nodes _ _ _ grammar.Args.no_args said = tt
     args_nodes _ _ _ (grammar.Args.more_args first others args nodes more arg all) said =
-        both_all _ nodes more (arg_nodes first nodes arg (first_all _ first others said)) (args_nodes others args more all (rest_all _ first others said))
+        both_all _ nodes more (arg_nodes first nodes arg (front first others said)) (args_nodes others args more all (back first others said))
 
   whole_fill : (args : ℕ) (nodes : List RawNode) → Fill (args + 0) (nodes ++ []) → Fill args nodes
   whole_fill args nodes fill = let e : args + 0 ≡ args = omega arith in subst (λ n. Fill n nodes) e (subst (Fill (args + 0)) (append-nil nodes) fill)
 
+  -- there are no more nodes than symbols
+  mutual
+    arg_few : (symbols : List Symbol) (nodes : List RawNode) → grammar.Arg symbols nodes → length nodes ≤ length symbols
+    arg_few _ _ (grammar.Arg.arg_name a) = omega arith
+    arg_few _ _ (grammar.Arg.arg_variable a) = omega arith
+    arg_few _ _ (grammar.Arg.arg_blank a) = omega arith
+    arg_few _ _ (grammar.Arg.arg_term open_ close symbols nodes term) = let e = term_few symbols nodes term in let f = length-append symbols (at word.Close close ∷ []) in omega arith
+
+    term_few : (symbols : List Symbol) (nodes : List RawNode) → grammar.Term symbols nodes → length nodes ≤ length symbols
+    term_few _ _ (grammar.Term.applied a symbols args nodes all) = let e = args_few symbols args nodes all in omega arith
+    term_few _ _ (grammar.Term.variable a) = omega arith
+    term_few _ _ (grammar.Term.blank a) = omega arith
+    term_few _ _ (grammar.Term.nested open_ close symbols nodes term) = let e = term_few symbols nodes term in let f = length-append symbols (at word.Close close ∷ []) in omega arith
+
+    args_few : (symbols : List Symbol) (args : ℕ) (nodes : List RawNode) → grammar.Args symbols args nodes → length nodes ≤ length symbols
+    args_few _ _ _ grammar.Args.no_args = omega arith
+    args_few _ _ _ (grammar.Args.more_args first others args nodes more arg all) =
+        let e = arg_few first nodes arg in
+        let f = args_few others args more all in
+        let g = length-append first others in
+        let h = length-append nodes more in
+        omega arith
+
   atom_well : (symbols : List Symbol) (atom : RawAtom) → grammar.Atom symbols atom → AreSaid symbols → IsAtomOf tokens atom
   atom_well _ _ (grammar.Atom.atom a symbols args nodes all) said = record {
-    name = said.0;
+    name = said.all.0;
     filled = whole_fill args nodes (args_fill symbols args nodes all 0 [] tt);
-    nodes = args_nodes symbols args nodes all said.1;
+    few = let e = args_few symbols args nodes all in let f = said.few in omega arith;
+    nodes = args_nodes symbols args nodes all (next _ _ said);
   }
 
   elem_well : (side : Side) (symbols : List Symbol) (elems : List RawElem) → grammar.Elem side symbols elems → AreSaid symbols → AreElems elems
   elem_well _ _ _ (grammar.Elem.unit side open_ close) said = tt
   elem_well _ _ _ (grammar.Elem.atom side symbols a is) said = (atom_well symbols a is said, tt)
-  elem_well _ _ _ (grammar.Elem.kept outer dollar symbols a is) said = (atom_well symbols a is said.1, tt)
+  elem_well _ _ _ (grammar.Elem.kept outer dollar symbols a is) said = (atom_well symbols a is (next _ _ said), tt)
   elem_well _ _ _ (grammar.Elem.qui a) said = (tt, tt)
-  elem_well _ _ _ (grammar.Elem.stage right stage_ a) said = (said.1.0, tt)
+  elem_well _ _ _ (grammar.Elem.stage right stage_ a) said = ((next _ _ said).all.0, tt)
 
   stars_well : (side : Side) (symbols : List Symbol) (elems : List RawElem) → grammar.Stars side symbols elems → AreSaid symbols → AreElems elems
   stars_well _ _ _ (grammar.Stars.none side) said = tt
   stars_well _ _ _ (grammar.Stars.more side star first rest elems others is further) said =
-      both_all (IsElemOf tokens) elems others (elem_well side first elems is (first_all _ first rest said.1)) (stars_well side rest others further (rest_all _ first rest said.1))
+      both_all (IsElemOf tokens) elems others (elem_well side first elems is (front first rest (next _ _ said))) (stars_well side rest others further (back first rest (next _ _ said)))
 
   elems_well : (side : Side) (symbols : List Symbol) (elems : List RawElem) → grammar.Elems side symbols elems → AreSaid symbols → AreElems elems
   elems_well _ _ _ (grammar.Elems.elems side first rest elems others is further) said =
-      both_all (IsElemOf tokens) elems others (elem_well side first elems is (first_all _ first rest said)) (stars_well side rest others further (rest_all _ first rest said))
+      both_all (IsElemOf tokens) elems others (elem_well side first elems is (front first rest said)) (stars_well side rest others further (back first rest said))
 
   sides_well : (outer : Bool) (symbols : List Symbol) (left right : List RawElem) → grammar.Sides outer symbols left right → AreSaid symbols → AreElems left × AreElems right
   sides_well _ _ _ _ (grammar.Sides.sides outer arrow dot before after left right is is') said = (
-    elems_well _ before left is (first_all _ before _ said),
-    elems_well _ after right is' (first_all _ after _ (rest_all _ before _ said).1))
+    elems_well _ before left is (front before _ said),
+    elems_well _ after right is' (front after _ (next _ _ (back before _ said))))
 
   rules_well : (symbols : List Symbol) (rules : List RawRule) → grammar.Rules symbols rules → AreSaid symbols → AreRules rules
   rules_well _ _ grammar.Rules.none said = tt
   rules_well _ _ (grammar.Rules.more a colon symbols rest left right rules is further) said =
-      let sides = sides_well false symbols left right is (first_all _ symbols rest said.1.1) in
-      (record { label = said.0; left = sides.0; right = sides.1 }, rules_well rest rules further (rest_all _ symbols rest said.1.1))
+      let sides = sides_well false symbols left right is (front symbols rest (next _ _ (next _ _ said))) in
+      (record { label = said.all.0; left = sides.0; right = sides.1 }, rules_well rest rules further (back symbols rest (next _ _ (next _ _ said))))
 
   goals_well : (symbols : List Symbol) (goals : List RawAtom) → grammar.Goals symbols goals → AreSaid symbols → AreAtoms goals
   goals_well _ _ grammar.Goals.none said = tt
   goals_well _ _ (grammar.Goals.more mark a first rest goal goals mark_is is further) said =
-      (atom_well first goal is (first_all _ first rest said.1), goals_well rest goals further (rest_all _ first rest said.1))
+      (atom_well first goal is (front first rest (next _ _ said)), goals_well rest goals further (back first rest (next _ _ said)))
 
   bag_elem_well : (symbols : List Symbol) (atoms : List RawAtom) → grammar.BagElem symbols atoms → AreSaid symbols → AreAtoms atoms
   bag_elem_well _ _ (grammar.BagElem.unit open_ close) said = tt
@@ -154,54 +193,54 @@ module _ (tokens : List Token) where
   bag_more_well : (symbols : List Symbol) (atoms : List RawAtom) → grammar.BagMore symbols atoms → AreSaid symbols → AreAtoms atoms
   bag_more_well _ _ grammar.BagMore.none said = tt
   bag_more_well _ _ (grammar.BagMore.more mark a first rest atoms others mark_is is further) said =
-      both_all (IsAtomOf tokens) atoms others (bag_elem_well first atoms is (first_all _ first rest said.1)) (bag_more_well rest others further (rest_all _ first rest said.1))
+      both_all (IsAtomOf tokens) atoms others (bag_elem_well first atoms is (front first rest (next _ _ said))) (bag_more_well rest others further (back first rest (next _ _ said)))
 
   bag_well : (symbols : List Symbol) (atoms : List RawAtom) → grammar.Bag symbols atoms → AreSaid symbols → AreAtoms atoms
   bag_well _ _ (grammar.Bag.empty close) said = tt
   bag_well _ _ (grammar.Bag.some close first rest atoms others is further) said =
-      both_all (IsAtomOf tokens) atoms others (bag_elem_well first atoms is (first_all _ first _ said)) (bag_more_well rest others further (first_all _ rest _ (rest_all _ first _ said)))
+      both_all (IsAtomOf tokens) atoms others (bag_elem_well first atoms is (front first _ said)) (bag_more_well rest others further (front rest _ (back first _ said)))
 
   names_well : (spans : List Span) (rest : List Symbol) → AreSaid (names spans ++ rest) → AllByRecursion (IsNameAt tokens) spans × AreSaid rest
   names_well [] rest said = (tt, said)
-  names_well (span ∷ spans) rest said = let more = names_well spans rest said.1 in ((said.0, more.0), more.1)
+  names_well (span ∷ spans) rest said = let more = names_well spans rest (next _ _ said) in ((said.all.0, more.0), more.1)
 
   label_well : (before rest : List Symbol) (label : Option Span) → grammar.Label before label → AreSaid (before ++ rest) → IsLabelOf tokens label × AreSaid rest
   label_well _ rest _ grammar.Label.none said = (tt, said)
-  label_well _ rest _ (grammar.Label.named a colon) said = (said.0, said.1.1)
+  label_well _ rest _ (grammar.Label.named a colon) said = (said.all.0, (next _ _ (next _ _ said)))
 
   item_well : (symbols : List Symbol) (item_ : RawItem) → grammar.Item symbols item_ → AreSaid symbols → IsItemOf tokens item_
-  item_well _ _ (grammar.Item.sort a colon type_ dot) said = said.0
-  item_well _ _ (grammar.Item.pred a colon pred_ dot args) said = (said.0, (names_well args _ said.1).0)
-  item_well _ _ (grammar.Item.back a colon bwd dot args) said = (said.0, (names_well args _ said.1).0)
-  item_well _ _ (grammar.Item.colon a colon_ b dot args) said = let spans = names_well args _ said.1 in (said.0, spans.0, spans.1.1.0)
-  item_well _ _ (grammar.Item.fact dot symbols head is) said = (atom_well symbols head is (first_all _ symbols _ said), tt)
-  item_well _ _ (grammar.Item.labelled a colon_ dot symbols head is some) said = (atom_well symbols head is (first_all _ symbols _ said.1.1), tt)
+  item_well _ _ (grammar.Item.sort a colon type_ dot) said = said.all.0
+  item_well _ _ (grammar.Item.pred a colon pred_ dot args) said = (said.all.0, (names_well args _ (next _ _ said)).0)
+  item_well _ _ (grammar.Item.back a colon bwd dot args) said = (said.all.0, (names_well args _ (next _ _ said)).0)
+  item_well _ _ (grammar.Item.colon a colon_ b dot args) said = let spans = names_well args _ (next _ _ said) in (said.all.0, spans.0, (next _ _ spans.1).all.0)
+  item_well _ _ (grammar.Item.fact dot symbols head is) said = (atom_well symbols head is (front symbols _ said), tt)
+  item_well _ _ (grammar.Item.labelled a colon_ dot symbols head is some) said = (atom_well symbols head is (front symbols _ (next _ _ (next _ _ said))), tt)
   item_well _ _ (grammar.Item.clause arrow dot before symbols first rest label head goal goals labelled is is' further) said =
       let behind = (label_well before _ label labelled said).1 in
-      let next = (rest_all _ symbols _ behind).1 in
-      (atom_well symbols head is (first_all _ symbols _ behind),
-       (atom_well first goal is' (first_all _ first _ next),
-       goals_well rest goals further (first_all _ rest _ (rest_all _ first _ next))))
+      let later = next _ _ (back symbols _ behind) in
+      (atom_well symbols head is (front symbols _ behind),
+       (atom_well first goal is' (front first _ later),
+       goals_well rest goals further (front rest _ (back first _ later))))
   item_well _ _ (grammar.Item.outer before symbols label left right labelled is) said =
       let behind = label_well before symbols label labelled said in
       let sides = sides_well true symbols left right is behind.1 in
       record { label = behind.0; left = sides.0; right = sides.1 }
   item_well _ _ (grammar.Item.unnamed blank colon_ symbols left right is) said =
-      let sides = sides_well true symbols left right is said.1.1 in
+      let sides = sides_well true symbols left right is (next _ _ (next _ _ said)) in
       record { label = tt; left = sides.0; right = sides.1 }
   item_well _ _ (grammar.Item.stage stage_ a equals open_ close symbols ending rules is dot_is) said =
-      (said.1.0, rules_well symbols rules is (first_all _ symbols _ said.1.1.1.1))
+      ((next _ _ said).all.0, rules_well symbols rules is (front symbols _ (next _ _ (next _ _ (next _ _ (next _ _ said))))))
   item_well _ _ (grammar.Item.context context_ a equals open_ symbols ending atoms is dot_is) said =
-      (said.1.0, bag_well symbols atoms is (first_all _ symbols _ said.1.1.1.1))
-  item_well _ _ (grammar.Item.interactive directive a dot) said = said.1.0
-  item_well _ _ (grammar.Item.trace_named directive stage_ a dot mark limit is) said = (said.1.1.0, said.1.1.1.0)
+      ((next _ _ said).all.0, bag_well symbols atoms is (front symbols _ (next _ _ (next _ _ (next _ _ (next _ _ said))))))
+  item_well _ _ (grammar.Item.interactive directive a dot) said = (next _ _ said).all.0
+  item_well _ _ (grammar.Item.trace_named directive stage_ a dot mark limit is) said = ((next _ _ (next _ _ said)).all.0, (next _ _ (next _ _ (next _ _ said))).all.0)
   item_well _ _ (grammar.Item.trace_listed directive stage_ open_ dot mark limit symbols atoms is bag) said =
-      (said.1.1.0, bag_well symbols atoms bag (first_all _ symbols _ said.1.1.1.1))
+      ((next _ _ (next _ _ said)).all.0, bag_well symbols atoms bag (front symbols _ (next _ _ (next _ _ (next _ _ (next _ _ said))))))
 
   file_well : (symbols : List Symbol) (items : List RawItem) → grammar.File symbols items → AreSaid symbols → AreItems items
   file_well _ _ grammar.File.none said = tt
   file_well _ _ (grammar.File.more first rest item_ items is further) said =
-      (item_well first item_ is (first_all _ first rest said), file_well rest items further (rest_all _ first rest said))
+      (item_well first item_ is (front first rest said), file_well rest items further (back first rest said))
 
   -- what a directive is
   directive_said : (bytes : List ℕ) (span : Span) → IsSaid (directive_word bytes) span
@@ -240,7 +279,7 @@ module _ (tokens : List Token) where
   token_said bytes token.KwQui span is = tt
 
   -- tokens among these as symbols
-  symbols_said : (text : List ℕ) (some : List Token) → ((one : Token) → Contains some one → Contains tokens one) → AreSaid (symbols_of text some)
+  symbols_said : (text : List ℕ) (some : List Token) → ((one : Token) → Contains some one → Contains tokens one) → AllSaid (symbols_of text some)
   symbols_said text [] among = tt
   symbols_said text (one ∷ some) among = (
     token_said (slice_of text one.from one.to) one.kind (record { from = one.from; to = one.to })
@@ -248,4 +287,38 @@ module _ (tokens : List Token) where
     symbols_said text some (λ other there. among other (suc there.0, (omega (arith, there.1)), there.2)))
 
 pub well_written : (text : List ℕ) (tokens : List Token) (file : List RawItem) → grammar.File (symbols_of text tokens) file → AllByRecursion (IsItemOf tokens) file
-well_written text tokens file is = file_well tokens (symbols_of text tokens) file is (symbols_said tokens text tokens (λ one there. there))
+well_written text tokens file is = file_well tokens (symbols_of text tokens) file is (record { all = symbols_said tokens text tokens (λ one there. there); few = let e = length-map tokens (symbol_of text) in omega arith })
+
+-- each item has a symbol
+item_some : (symbols : List Symbol) (item_ : RawItem) → grammar.Item symbols item_ → 1 ≤ length symbols
+item_some _ _ (grammar.Item.sort a colon type_ dot) = omega arith
+item_some _ _ (grammar.Item.pred a colon pred_ dot args) = omega arith
+item_some _ _ (grammar.Item.back a colon bwd dot args) = omega arith
+item_some _ _ (grammar.Item.colon a colon_ b dot args) = omega arith
+item_some _ _ (grammar.Item.fact dot symbols head is) = let e = length-append symbols (at word.Dot dot ∷ []) in omega arith
+item_some _ _ (grammar.Item.labelled a colon_ dot symbols head is some) = omega arith
+item_some _ _ (grammar.Item.clause arrow dot before symbols first rest label head goal goals labelled is is' further) =
+    let e = length-append before (symbols ++ at word.Back arrow ∷ (first ++ (rest ++ at word.Dot dot ∷ []))) in
+    let f = length-append symbols (at word.Back arrow ∷ (first ++ (rest ++ at word.Dot dot ∷ []))) in
+    omega arith
+item_some _ _ (grammar.Item.outer before symbols label left right labelled is) = let e = length-append before symbols in let f = sides_some symbols left right is in omega arith
+  where
+    sides_some : (symbols : List Symbol) (left right : List RawElem) → grammar.Sides true symbols left right → 1 ≤ length symbols
+    sides_some _ _ _ (grammar.Sides.sides outer arrow dot before after left right is is') = let e = length-append before (at word.Lolli arrow ∷ (after ++ at word.Dot dot ∷ [])) in omega arith
+item_some _ _ (grammar.Item.unnamed blank colon_ symbols left right is) = omega arith
+item_some _ _ (grammar.Item.stage stage_ a equals open_ close symbols ending rules is dot_is) = omega arith
+item_some _ _ (grammar.Item.context context_ a equals open_ symbols ending atoms is dot_is) = omega arith
+item_some _ _ (grammar.Item.interactive directive a dot) = omega arith
+item_some _ _ (grammar.Item.trace_named directive stage_ a dot mark limit is) = omega arith
+item_some _ _ (grammar.Item.trace_listed directive stage_ open_ dot mark limit symbols atoms is bag) = omega arith
+
+items_few : (symbols : List Symbol) (items : List RawItem) → grammar.File symbols items → length items ≤ length symbols
+items_few _ _ grammar.File.none = omega arith
+items_few _ _ (grammar.File.more first rest item_ items is further) =
+    let e = item_some first item_ is in
+    let f = items_few rest items further in
+    let g = length-append first rest in
+    omega arith
+
+pub no_more_items : (text : List ℕ) (tokens : List Token) (file : List RawItem) → grammar.File (symbols_of text tokens) file → length file ≤ length tokens
+no_more_items text tokens file is = let e = items_few (symbols_of text tokens) file is in let f = length-map tokens (symbol_of text) in omega arith

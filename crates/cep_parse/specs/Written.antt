@@ -1,5 +1,5 @@
 -- What the items of a raw file are made of.
-use Rattle.std.specs.Prelude.{◌≡◌, ℕ, zero, suc, ◌+◌, List, [], ◌∷◌, Option, Some, None, Contains}
+use Rattle.std.specs.Prelude.{◌≡◌, ℕ, zero, suc, ◌+◌, ◌<◌, List, [], ◌∷◌, length, Option, Some, None, Contains}
 use Rattle.std.specs.List.{AllByRecursion}
 use Rattle.cep_lex.specs.declared.token.Token.{Token}
 use Rattle.cep_lex.specs.declared.token.TokenKind.{TokenKind}
@@ -47,10 +47,11 @@ IsNodeOf tokens kind.App span = IsNameAt tokens span
 IsNodeOf tokens kind.Var span = IsTokenAt tokens token.Variable span
 IsNodeOf tokens kind.Blank span = Unit {0}
 
--- An atom has a name, and its nodes are its arguments.
+-- An atom has a name, and its nodes are its arguments, each a token.
 pub record IsAtomOf (tokens : List Token) (atom : RawAtom) : Type 0 where
   pub name : IsNameAt tokens atom.name
   pub filled : Fill atom.args atom.nodes
+  pub few : length atom.nodes < length tokens
   pub nodes : AllByRecursion (λ node. IsNodeOf tokens node.kind node.at) atom.nodes
 
 abbrev pub IsElemOf : List Token → RawElem → Type 0

@@ -1,5 +1,5 @@
 // What holds of the grammar, as the definitions say what it is.
-ghost use Rattle.std.specs.Prelude.{◌≡◌, ℕ, List};
+ghost use Rattle.std.specs.Prelude.{◌≡◌, ℕ, ◌≤◌, List, length};
 ghost use Rattle.std.specs.List.{AllByRecursion};
 ghost use Rattle.cep_lex.specs.declared.token.Token.{Token};
 ghost use Rattle.cep_parse.specs.declared.raw.RawItem.{RawItem};
@@ -14,9 +14,12 @@ pub fn one_raw_file()
 {}
 
 /// The items of a raw file are made of its tokens: names stand at names and variables at variables,
-/// and the nodes of each atom are its arguments.
+/// and the nodes of each atom are its arguments. There are no more items than tokens.
 pub fn items_are_made_of_tokens()
-    ensures { (text : List ℕ) (tokens : List Token) (file : List RawItem)
+    ensures made { (text : List ℕ) (tokens : List Token) (file : List RawItem)
         → File (symbols_of text tokens) file
         → AllByRecursion (IsItemOf tokens) file }
+    ensures few { (text : List ℕ) (tokens : List Token) (file : List RawItem)
+        → File (symbols_of text tokens) file
+        → length file ≤ length tokens }
 {}

@@ -1,5 +1,5 @@
-use Rattle.cep_parse.proofs.WellWritten.{well_written}
+use Rattle.cep_parse.proofs.WellWritten.{well_written, no_more_items}
 use Rattle.cep_parse.proofs.laws.items_are_made_of_tokens.Goals as goal
 
 pub returns : goal.returns
-returns c = well_written
+returns c = record { made = well_written; few = no_more_items }

@@ -3,7 +3,7 @@ use Rattle.std.proofs.Common.{◌≡◌, ◌⊎◌, inl, inr, ⊎_elim, ℕ, zer
 use Rattle.std.specs.List.{AllByRecursion}
 use Rattle.cep_term.specs.Tree.{Tree, Trees, AtomTree, variable, node, none, more, AreGround, IsGround, nodes_of, nodes_among, Occurs, OccursAmong}
 use Rattle.cep_infer.specs.Heads.{Head, var, con, count_of, heads_of, heads_among}
-use Rattle.cep_infer.proofs.Members.{contains_cases, contains_none}
+use Rattle.cep_ground.proofs.Members.{contains_cases, contains_none}
 
 -- two lists of terms that are as many and have the same nodes in front of others are the same
 pub record AreSame {A : Type 0} (one other : A) (heads heads' : List Head) : Type 0 where

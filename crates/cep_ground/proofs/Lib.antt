@@ -1,0 +1,4 @@
+pub mod Members
+pub mod HeadLaws
+pub mod TypedTerms
+pub mod Spelled

@@ -1,0 +1,27 @@
+//! Laws of texts and programs. Each function computes nothing, and its contract is the law.
+ghost use Rattle.std.specs.Prelude.{◌≡◌, []};
+ghost use Rattle.std.specs.List.{AllByRecursion};
+ghost use Rattle.cep_rule.specs.declared.parts.Parts.{Parts};
+ghost use Rattle.cep_rule.specs.Groundness.{IsGrounded};
+ghost use Rattle.cep_rule.specs.Program.{IsProgram};
+ghost use Rattle.cep_names.specs.Items.{Source};
+ghost use Rattle.cep_infer.specs.Meaning.{AreParts};
+ghost use Rattle.cep_ground.specs.Texts.{IsClean, IsBound};
+
+use cep_parse::items_are_made_of_tokens;
+use cep_term::laws::{atoms_are_gathered, counts_are_set};
+
+/// What a text declares is a program, where nothing is wrong with its names and types, each variable
+/// of a right side is on the left, and no rule has a backward premise yet.
+pub fn clean_parts_are_a_program()
+    ensures { (source : Source) (parts : Parts)
+        → IsClean source
+        → IsBound source
+        → AreParts source parts
+        → AllByRecursion (λ rule. rule.backs ≡ []) parts.rules
+        → IsProgram parts }
+{
+    items_are_made_of_tokens();
+    atoms_are_gathered();
+    counts_are_set();
+}

@@ -1,0 +1,4 @@
+//! Which text is which program, and what is wrong with the others.
+#![tactic(auto)]
+
+pub mod laws;
