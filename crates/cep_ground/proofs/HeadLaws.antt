@@ -3,7 +3,7 @@ use Rattle.std.proofs.Common.{◌≡◌, ◌⊎◌, inl, inr, ⊎_elim, ℕ, zer
 use Rattle.std.specs.List.{AllByRecursion}
 use Rattle.cep_term.specs.Tree.{Tree, Trees, AtomTree, variable, node, none, more, AreGround, IsGround, nodes_of, nodes_among, Occurs, OccursAmong}
 use Rattle.cep_infer.specs.Heads.{Head, var, con, count_of, heads_of, heads_among}
-use Rattle.cep_ground.proofs.Members.{contains_cases, contains_none}
+use Rattle.cep_ground.proofs.Members.{contains_cases, contains_none, contains_either}
 
 -- two lists of terms that are as many and have the same nodes in front of others are the same
 pub record AreSame {A : Type 0} (one other : A) (heads heads' : List Head) : Type 0 where
@@ -71,18 +71,6 @@ mutual
   terms_ground none all = tt
   terms_ground (more t rest) all = (term_ground t (left_all (heads_of t) (heads_among rest) all), terms_ground rest (right_all (heads_of t) (heads_among rest) all))
 
--- an element of two lists is in one of them
-split_contains : {X : Type 0} (xs ys : List X) (x : X) → Contains (xs ++ ys) x → Contains xs x ⊎ Contains ys x
-split_contains [] ys x there = inr there
-split_contains (first ∷ xs) ys x there =
-    ⊎_elim
-    (λ (here : first ≡ x). inl (0, (omega arith), here))
-    (λ later. ⊎_elim
-        (λ (left : Contains xs x). inl (suc left.0, (omega (arith, left.1)), left.2))
-        (λ right. inr right)
-        (split_contains xs ys x later))
-    (contains_cases first (xs ++ ys) x there)
-
 -- a variable among the nodes occurs in the terms
 mutual
   pub term_occurs : (t : Tree) (v : ℕ) → Contains (heads_of t) (var v) → Occurs v t
@@ -91,4 +79,4 @@ mutual
 
   pub terms_occur : (ts : Trees) (v : ℕ) → Contains (heads_among ts) (var v) → OccursAmong v ts
   terms_occur none v there = absurd (contains_none (var v) there)
-  terms_occur (more t rest) v there = ⊎_elim (λ left. inl (term_occurs t v left)) (λ right. inr (terms_occur rest v right)) (split_contains (heads_of t) (heads_among rest) (var v) there)
+  terms_occur (more t rest) v there = ⊎_elim (λ left. inl (term_occurs t v left)) (λ right. inr (terms_occur rest v right)) (contains_either (heads_of t) (heads_among rest) (var v) there)

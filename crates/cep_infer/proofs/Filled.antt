@@ -1,5 +1,5 @@
 -- Which atoms and names of a raw file are tokens of the text, and that the nodes of an atom are its arguments.
-use Rattle.std.proofs.Common.{◌≡◌, ℕ, Bool, true, false, List, [], ◌∷◌, ◌++◌, map, refl, Contains}
+use Rattle.std.proofs.Common.{◌≡◌, ℕ, Bool, true, false, List, [], ◌∷◌, ◌++◌, map, refl, arith, Contains}
 use Rattle.std.specs.List.{AllByRecursion, flat_map}
 use Rattle.cep_lex.specs.declared.token.Token.{Token}
 use Rattle.cep_parse.specs.declared.raw.Span.{Span}
@@ -66,7 +66,7 @@ module _ (tokens : List Token) where
   own_placed (item.Trace at limit stage start_) is = placed_all _ (start_listed start_) (start_all start_ is.1)
 
   labelled_placed : (labelled : Bool) (right : Span) → IsNameAt tokens right → AllByRecursion IsWell (flat_map clause_atoms (clause_or_none labelled (record { head = bare right; goals = [] })))
-  labelled_placed true right is = (record { name = is; filled = tt; nodes = tt }, tt)
+  labelled_placed true right is = (record { name = is; filled = tt; few = (let e = is.there.1 in omega arith); nodes = tt }, tt)
   labelled_placed false right is = tt
 
   clause_placed : (source : Source) (item_ : RawItem) → IsItemOf tokens item_ → AllByRecursion IsWell (flat_map clause_atoms (clauses_in source item_))

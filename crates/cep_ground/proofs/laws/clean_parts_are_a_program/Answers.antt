@@ -1,0 +1,11 @@
+use Rattle.cep_ground.proofs.HeadLaws.{terms_once, terms_nodes, terms_ground, terms_occur}
+use Rattle.cep_ground.proofs.TypedTerms.{typed_args}
+use Rattle.cep_ground.proofs.Spelled.{name_is}
+use Rattle.cep_ground.proofs.Distinct.{names_differ}
+use Rattle.cep_ground.proofs.Members.{all_of, contains_at, contains_map, map_cases, contains_flat, flat_cases}
+use Rattle.cep_ground.proofs.Known.{con_known, pred_known, clause_placed, own_placed, pred_item_uses, con_item_uses, own_item_uses}
+use Rattle.cep_ground.proofs.Located.{located}
+use Rattle.cep_ground.proofs.laws.clean_parts_are_a_program.Goals as goal
+
+pub returns : goal.returns
+returns c = let h1 = terms_once in let h2 = typed_args in let h3 = terms_nodes in let h4 = terms_ground in let h5 = terms_occur in let h6 = name_is in let h7 = located in let h8 = names_differ in let h9 = pred_known in ?
