@@ -2,6 +2,8 @@ pub mod Members
 pub mod Distinct
 pub mod Finds
 pub mod Known
+pub mod RuleItems
+pub mod Wanted
 pub mod HeadLaws
 pub mod TypedTerms
 pub mod Spelled

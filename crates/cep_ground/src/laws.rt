@@ -8,6 +8,7 @@ ghost use Rattle.cep_names.specs.Items.{Source};
 ghost use Rattle.cep_infer.specs.Meaning.{AreParts};
 ghost use Rattle.cep_ground.specs.Texts.{IsClean, IsBound};
 
+use cep_infer::laws::atoms_are_made_of_tokens;
 use cep_parse::items_are_made_of_tokens;
 use cep_term::laws::{atoms_are_gathered, counts_are_set};
 
@@ -22,6 +23,7 @@ pub fn clean_parts_are_a_program()
         → IsProgram parts }
 {
     items_are_made_of_tokens();
+    atoms_are_made_of_tokens();
     atoms_are_gathered();
     counts_are_set();
 }
