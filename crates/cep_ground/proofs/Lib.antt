@@ -4,6 +4,7 @@ pub mod Finds
 pub mod Known
 pub mod RuleItems
 pub mod Wanted
+pub mod Scopes
 pub mod HeadLaws
 pub mod TypedTerms
 pub mod Spelled

@@ -82,3 +82,56 @@ variable_is source is span at =
       word = inl (run_word is_ascii_uppercase (said source span) all.0);
       short = ⊎_elim (λ (never : token.Variable ≡ token.Number). absurd cc) (λ short. short) all.1;
     }
+
+-- a variable begins with a capital letter
+pub variable_word : (source : Source) (is : IsSource source) (span : Span) → IsTokenAt is.tokens token.Variable span → IsWord is_ascii_uppercase (said source span)
+variable_word source is span at = run_word is_ascii_uppercase (said source span) (span_spelled source is token.Variable span at).0
+
+some_run : (first next : ℕ → Bool) (word : List ℕ) → Runs first next word → 1 ≤ length word
+some_run first next [] runs = absurd runs
+some_run first next (byte ∷ word) runs = omega arith
+
+one_byte : (word codes_ : List ℕ) → word ≡ codes_ → 1 ≤ length codes_ → 1 ≤ length word
+one_byte word codes_ same some = subst (λ w. 1 ≤ length w) (sym same) some
+
+-- a token has a byte
+token_some : (kind : TokenKind) (word : List ℕ) → Spells kind word → 1 ≤ length word
+token_some token.Name word spells = some_run is_ascii_lowercase is_name_byte word spells.0
+token_some token.Variable word spells = some_run is_ascii_uppercase is_name_byte word spells
+token_some token.Blank word spells = one_byte word _ spells (omega arith)
+token_some token.Number word spells = some_run _ _ word spells
+token_some token.Directive word spells = some_run _ _ word spells.0
+token_some token.Colon word spells = one_byte word _ spells (omega arith)
+token_some token.Dot word spells = one_byte word _ spells (omega arith)
+token_some token.Comma word spells = one_byte word _ spells (omega arith)
+token_some token.Star word spells = one_byte word _ spells (omega arith)
+token_some token.Dollar word spells = one_byte word _ spells (omega arith)
+token_some token.Equals word spells = one_byte word _ spells (omega arith)
+token_some token.Open word spells = one_byte word _ spells (omega arith)
+token_some token.Close word spells = one_byte word _ spells (omega arith)
+token_some token.OpenBrace word spells = one_byte word _ spells (omega arith)
+token_some token.CloseBrace word spells = one_byte word _ spells (omega arith)
+token_some token.Lolli word spells = one_byte word _ spells (omega arith)
+token_some token.Back word spells = one_byte word _ spells (omega arith)
+token_some token.KwType word spells = one_byte word _ spells (omega arith)
+token_some token.KwPred word spells = one_byte word _ spells (omega arith)
+token_some token.KwBwd word spells = one_byte word _ spells (omega arith)
+token_some token.KwFact word spells = one_byte word _ spells (omega arith)
+token_some token.KwStage word spells = one_byte word _ spells (omega arith)
+token_some token.KwContext word spells = one_byte word _ spells (omega arith)
+token_some token.KwQui word spells = one_byte word _ spells (omega arith)
+
+cuts_few : (at : ℕ) (bytes : List ℕ) (tokens : List Token) (rest : List ℕ) → Cuts at bytes tokens rest → length tokens ≤ length bytes
+cuts_few at bytes [] rest cut = omega arith
+cuts_few at bytes (one ∷ tokens) rest cut =
+    let start : StartsWith at bytes one cut.0 = cut.1 in
+    let some = token_some one.kind start.word start.split.spelled in
+    let more = cuts_few one.to cut.0 tokens rest cut.2 in
+    let e = ap length start.split.cut in
+    let f = length-append start.gap (start.word ++ cut.0) in
+    let g = length-append start.word cut.0 in
+    omega (arith, some, more, e, f, g)
+
+-- there are no more tokens than bytes
+pub tokens_few : (source : Source) (is : IsSource source) → length is.tokens ≤ length source.text
+tokens_few source is = cuts_few 0 source.text is.tokens is.lexed.rest is.lexed.cut
