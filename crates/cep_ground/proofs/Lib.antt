@@ -4,6 +4,8 @@ pub mod Finds
 pub mod Known
 pub mod RuleItems
 pub mod Wanted
+pub mod FirstPlaces
+pub mod Limits
 pub mod Scopes
 pub mod HeadLaws
 pub mod TypedTerms

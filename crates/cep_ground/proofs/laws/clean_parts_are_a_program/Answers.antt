@@ -1,3 +1,4 @@
+use Rattle.std.proofs.Common.{◌≡◌, ℕ, refl}
 use Rattle.cep_ground.proofs.HeadLaws.{terms_once, terms_nodes, terms_ground, terms_occur}
 use Rattle.cep_ground.proofs.TypedTerms.{typed_args}
 use Rattle.cep_ground.proofs.Spelled.{name_is}
@@ -7,8 +8,10 @@ use Rattle.cep_ground.proofs.Known.{con_known, pred_known, clause_placed, own_pl
 use Rattle.cep_ground.proofs.RuleItems.{rule_placed, rule_uses, home_within}
 use Rattle.cep_ground.proofs.Wanted.{sites_whole, wanted_both, wanted_names, any_is, is_any, first_there, firsts_there, first_wanted}
 use Rattle.cep_ground.proofs.Scopes.{scope_nodes}
+use Rattle.cep_ground.proofs.FirstPlaces.{variable_at, firsts_append}
+use Rattle.cep_ground.proofs.Limits.{nodes_few}
 use Rattle.cep_ground.proofs.Located.{located}
 use Rattle.cep_ground.proofs.laws.clean_parts_are_a_program.Goals as goal
 
 pub returns : goal.returns
-returns c = let h1 = terms_once in let h2 = typed_args in let h3 = terms_nodes in let h4 = terms_ground in let h5 = terms_occur in let h6 = name_is in let h7 = located in let h8 = names_differ in let h9 = pred_known in let h10 = rule_placed in let h11 = sites_whole in let h12 = first_wanted in let h13 = scope_nodes in ?
+returns c = let h1 = terms_once in let h2 = typed_args in let h3 = terms_nodes in let h4 = terms_ground in let h5 = terms_occur in let h6 = name_is in let h7 = located in let h8 = names_differ in let h9 = pred_known in let h10 = rule_placed in let h11 = sites_whole in let h12 = first_wanted in let h13 = scope_nodes in let h14 = variable_at in let h15 = nodes_few in ?
