@@ -7,6 +7,7 @@ pub mod Wanted
 pub mod FirstPlaces
 pub mod Limits
 pub mod Scopes
+pub mod RuleScopes
 pub mod HeadLaws
 pub mod TypedTerms
 pub mod Spelled
