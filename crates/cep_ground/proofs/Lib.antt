@@ -8,6 +8,7 @@ pub mod FirstPlaces
 pub mod Limits
 pub mod Scopes
 pub mod RuleScopes
+pub mod RuleParts
 pub mod HeadLaws
 pub mod TypedTerms
 pub mod Spelled
