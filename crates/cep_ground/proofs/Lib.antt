@@ -9,6 +9,7 @@ pub mod Limits
 pub mod Scopes
 pub mod RuleScopes
 pub mod RuleParts
+pub mod BoundVariables
 pub mod HeadLaws
 pub mod TypedTerms
 pub mod Spelled
