@@ -10,6 +10,7 @@ pub mod Scopes
 pub mod RuleScopes
 pub mod RuleParts
 pub mod BoundVariables
+pub mod VariableKinds
 pub mod HeadLaws
 pub mod TypedTerms
 pub mod Spelled
