@@ -11,6 +11,7 @@ pub mod RuleScopes
 pub mod RuleParts
 pub mod BoundVariables
 pub mod VariableKinds
+pub mod StateAtoms
 pub mod HeadLaws
 pub mod TypedTerms
 pub mod Spelled
