@@ -12,6 +12,7 @@ pub mod RuleParts
 pub mod BoundVariables
 pub mod VariableKinds
 pub mod StateAtoms
+pub mod StartState
 pub mod HeadLaws
 pub mod TypedTerms
 pub mod Spelled
