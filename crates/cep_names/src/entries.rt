@@ -158,6 +158,7 @@ impl Tabled {
         Ok(unlabelled)
     }
 
+    #[tactic(auto, using(crate::proofs::RuleNames::rules_then))]
     fn declare_all_rules(
         &mut self,
         alloc: Global,
