@@ -1,3 +1,4 @@
 pub mod TableEntries
 pub mod RuleNames
 pub mod SpaceNames
+pub mod Firsts
