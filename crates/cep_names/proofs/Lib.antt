@@ -2,3 +2,4 @@ pub mod TableEntries
 pub mod RuleNames
 pub mod SpaceNames
 pub mod Firsts
+pub mod Growing
