@@ -3,3 +3,4 @@ pub mod RuleNames
 pub mod SpaceNames
 pub mod Firsts
 pub mod Growing
+pub mod Declaring
