@@ -4,3 +4,4 @@ pub mod SpaceNames
 pub mod Firsts
 pub mod Growing
 pub mod Declaring
+pub mod Telling
