@@ -5,3 +5,4 @@ pub mod Firsts
 pub mod Growing
 pub mod Declaring
 pub mod Telling
+pub mod Again

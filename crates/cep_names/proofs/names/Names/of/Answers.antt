@@ -1,11 +1,14 @@
 use Rattle.std.proofs.Common.{◌≡◌, ◌∙◌, None, ap, sym, subst}
 use Rattle.cep_names.specs.Items.{Source}
-use Rattle.cep_names.specs.Tables.{AreTablesOf}
+use Rattle.cep_names.specs.First.{IsFirstOrNone}
+use Rattle.cep_names.specs.Misnamed.{IsTwice}
+use Rattle.cep_names.specs.Tables.{AreTablesOf, AreWhole}
 use Rattle.cep_names.specs.Filling.{all_declared}
 use Rattle.cep_names.specs.declared.entries.Tabled.{Tabled}
 use Rattle.cep_names.proofs.Growing.{nothing}
 use Rattle.cep_names.proofs.Declaring.{all, basics}
 use Rattle.cep_names.proofs.Telling.{in_turns, are_tables, all_whole}
+use Rattle.cep_names.proofs.Again.{first_twice}
 use Rattle.cep_names.proofs.names.Names.of.Goals as goal
 
 -- what was declared is all
@@ -23,9 +26,11 @@ returns-clause-tables c =
     subst (λ (tabled : Tabled). AreTablesOf source tabled.names) (sym (filled c)) (are_tables source)
 
 pub returns-clause-first : goal.returns-clause-first
-returns-clause-first c = ?
+returns-clause-first c =
+    let source : Source = record { text = c.args.text.now; file = c.args.file.now } in
+    subst (λ (tabled : Tabled). IsFirstOrNone (IsTwice source) tabled.first) (sym (filled c)) (first_twice source)
 
 pub returns-clause-whole : goal.returns-clause-whole
 returns-clause-whole c =
     let source : Source = record { text = c.args.text.now; file = c.args.file.now } in
-    λ none space. let e = filled c in ?
+    subst (λ (tabled : Tabled). tabled.first ≡ None → AreWhole source tabled.names) (sym (filled c)) (all_whole source)
