@@ -40,14 +40,14 @@ one_more : (P : Fault → Type 0) (before : List Declaration) (d : Declaration) 
 one_more P before d first =
     let old = all_declared nothing before in
     rw (fold-append declared nothing before (d ∷ []), firsts_after old d, has_declared before d.space d.name) (cases (is_again before d) refl) where
-  cases : (again : Bool) → is_again before d ≡ again → IsFirstOrNone (λ fault. P fault ⊎ ((again ≡ true) × (fault ≡ wrong Twice d.at))) (first_after again (all_declared nothing before).first d)
-  cases true e =
-      first_same (λ fault. P fault ⊎ (fault ≡ wrong Twice d.at)) (λ fault. P fault ⊎ ((true ≡ true) × (fault ≡ wrong Twice d.at))) (first_of (all_declared nothing before).first (Some (wrong Twice d.at)))
-      (λ fault. ⊎_elim (λ h. inl h) (λ is. inr (refl, is))) (λ fault. ⊎_elim (λ h. inl h) (λ both. inr both.1))
-      (first_union P (λ fault. fault ≡ wrong Twice d.at) (all_declared nothing before).first (Some (wrong Twice d.at)) first (first_alone (wrong Twice d.at)))
-  cases false e =
-      first_same P (λ fault. P fault ⊎ ((false ≡ true) × (fault ≡ wrong Twice d.at))) (all_declared nothing before).first
-      (λ fault h. inl h) (λ fault. ⊎_elim (λ h. h) (λ both. absurd (false≢true both.0))) first
+      cases : (again : Bool) → is_again before d ≡ again → IsFirstOrNone (λ fault. P fault ⊎ ((again ≡ true) × (fault ≡ wrong Twice d.at))) (first_after again (all_declared nothing before).first d)
+      cases true e =
+          first_same (λ fault. P fault ⊎ (fault ≡ wrong Twice d.at)) (λ fault. P fault ⊎ ((true ≡ true) × (fault ≡ wrong Twice d.at))) (first_of (all_declared nothing before).first (Some (wrong Twice d.at)))
+          (λ fault. ⊎_elim (λ h. inl h) (λ is. inr (refl, is))) (λ fault. ⊎_elim (λ h. inl h) (λ both. inr both.1))
+          (first_union P (λ fault. fault ≡ wrong Twice d.at) (all_declared nothing before).first (Some (wrong Twice d.at)) first (first_alone (wrong Twice d.at)))
+      cases false e =
+          first_same P (λ fault. P fault ⊎ ((false ≡ true) × (fault ≡ wrong Twice d.at))) (all_declared nothing before).first
+          (λ fault h. inl h) (λ fault. ⊎_elim (λ h. h) (λ both. absurd (false≢true both.0))) first
 
 many_more : (P : Fault → Type 0) (before ds : List Declaration) → IsFirstOrNone P (all_declared nothing before).first → IsFirstOrNone (λ fault. P fault ⊎ IsAgain before ds fault) (all_declared nothing (before ++ ds)).first
 many_more P before [] first =
@@ -100,7 +100,7 @@ module _ (source : Source) where
     after = seen d.space ds;
     names = sym (named_all source d.space) ∙ ap (seen d.space) (sym e) ∙ seen-append d.space before (d ∷ ds) ∙ ap (λ (rest : List Named). seen d.space before ++ rest) (seen_here d ds);
     earlier = subst (λ (names : List (List ℕ)). Contains names d.name) (sym (names_seen d.space before)) (name_there d.name (in_space d.space before) here.0);
-    is = here.1
+    is = here.1;
   }
   again_is_twice before (d ∷ ds) fault e (inr later) = again_is_twice (before ++ d ∷ []) ds fault (append_assoc before (d ∷ []) ds ∙ e) later
 
@@ -117,17 +117,17 @@ module _ (source : Source) where
       let whole : named_of source d ∷ seen d.space ds ≡ entry ∷ back = sym (seen_here d ds) ∙ e in
       let is : named_of source d ≡ entry = cc in
       let there : Contains (map (λ d. d.name) (in_space d.space before)) d.name =
-        subst (λ (named : Named). Contains (map (λ d. d.name) (in_space d.space before)) named.name) (sym is)
-        (subst (λ (names : List (List ℕ)). Contains names entry.name) (ap (map (λ (named : Named). named.name)) (append-nil (seen d.space before)) ∙ names_seen d.space before) at) in
+      subst (λ (named : Named). Contains (map (λ d. d.name) (in_space d.space before)) named.name) (sym is)
+      (subst (λ (names : List (List ℕ)). Contains names entry.name) (ap (map (λ (named : Named). named.name)) (append-nil (seen d.space before)) ∙ names_seen d.space before) at) in
       inl (there_named d.name (in_space d.space before) there, ap (λ (named : Named). wrong Twice named.at) (sym is))
   at_first before ds d rest (named ∷ front) back entry e at =
       let whole : named_of source d ∷ seen d.space ds ≡ named ∷ (front ++ entry ∷ back) = sym (seen_here d ds) ∙ e in
       let is : named_of source d ≡ named = cc in
       let more : seen d.space ds ≡ front ++ entry ∷ back = cc in
       let moved : seen d.space before ++ named ∷ front ≡ seen d.space (before ++ d ∷ []) ++ front =
-        sym (append_assoc (seen d.space before) (named ∷ []) front)
-        ∙ ap (λ (list : List Named). (seen d.space before ++ list) ++ front) (ap (λ (one : Named). one ∷ []) (sym is) ∙ sym (seen_here d []))
-        ∙ ap (λ (list : List Named). list ++ front) (sym (seen-append d.space before (d ∷ []))) in
+      sym (append_assoc (seen d.space before) (named ∷ []) front)
+      ∙ ap (λ (list : List Named). (seen d.space before ++ list) ++ front) (ap (λ (one : Named). one ∷ []) (sym is) ∙ sym (seen_here d []))
+      ∙ ap (λ (list : List Named). list ++ front) (sym (seen-append d.space before (d ∷ []))) in
       inr (rest front back entry more (subst (λ (list : List Named). Contains (map (λ named. named.name) list) entry.name) moved at))
 
   at_other : (before ds : List Declaration) (d : Declaration) (s : Space) → same d.space s ≡ false → WithinRest (before ++ d ∷ []) ds s → WithinRest before (d ∷ ds) s
@@ -135,9 +135,9 @@ module _ (source : Source) where
       let more : seen s ds ≡ front ++ entry ∷ back = sym (passed ds) ∙ e in
       let same_front : seen s before ≡ seen s (before ++ d ∷ []) = sym (seen-append s before (d ∷ []) ∙ ap (λ (list : List Named). seen s before ++ list) (passed []) ∙ append-nil (seen s before)) in
       inr (rest front back entry more (subst (λ (list : List Named). Contains (map (λ named. named.name) (list ++ front)) entry.name) same_front at))
-      where
-        passed : (ds : List Declaration) → seen s (d ∷ ds) ≡ seen s ds
-        passed ds = rw other refl
+    where
+      passed : (ds : List Declaration) → seen s (d ∷ ds) ≡ seen s ds
+      passed ds = rw other refl
 
   within : (before ds : List Declaration) (s : Space) → WithinRest before ds s
   within before [] s = no_rest before s

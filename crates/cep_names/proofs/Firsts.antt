@@ -2,14 +2,10 @@
 use Rattle.std.proofs.Common.{◌≡◌, ℕ, zero, suc, length, get_or, ◌+◌, ◌<◌, ◌≤◌, ◌⊎◌, inl, inr, ⊎_elim, Bool, true, false, ◌||◌, ◌&&◌, ◌==◌, nat_lt, nat_le, if◌then◌else◌, List, [], ◌∷◌, ◌++◌, Option, Some, None, refl, ap, sym, subst, ◌∙◌, arith}
 use Rattle.std.specs.List.{Contains}
 use Rattle.std.proofs.lemmas.List.Elements.{Contains-get_or, Contains-append_right, Contains-append_cases}
-use Rattle.std.proofs.lemmas.Bool.{ltb-true, ltb-false, lt-ltb, le-leb, eq-eqb, false≢true, leb-true, leb-false, eqb-true, eqb-false, or_cases, and_cases}
+use Rattle.std.proofs.lemmas.Bool.{ltb-true, ltb-false, lt-ltb, le-leb, eq-eqb, false≢true, leb-true, leb-false, eqb-true, eqb-false, or_cases, or_parts, and_cases}
 use Rattle.std.proofs.Math.Nat.{eq-or-lt_of_le}
 use Rattle.cep_names.specs.declared.fault.Fault.{Fault}
 use Rattle.cep_names.specs.First.{number, IsNoLater, IsFirst, IsFirstOrNone, is_no_later, first_of, first_in}
-
-or_both : (a b : Bool) → (a || b) ≡ false → (a ≡ false) × (b ≡ false)
-or_both false b e = (refl, e)
-or_both true b e = absurd cc
 
 and_both : (a b : Bool) → (a && b) ≡ true → (a ≡ true) × (b ≡ true)
 and_both true b e = (refl, e)
@@ -24,7 +20,7 @@ no_later_true one two e =
 
 pub no_later_false : (one two : Fault) → is_no_later one two ≡ false → IsNoLater two one
 no_later_false one two e =
-    let both = or_both (nat_lt one.at two.at) ((one.at == two.at) && nat_le (number one.reason) (number two.reason)) e in
+    let both = or_parts (nat_lt one.at two.at) ((one.at == two.at) && nat_le (number one.reason) (number two.reason)) e in
     let reach : two.at ≤ one.at = ltb-false one.at two.at both.0 in
     ⊎_elim
     (λ apart. inl (let ne = eqb-false one.at two.at apart in omega (arith, reach, ne)))
@@ -75,13 +71,13 @@ first_among (fault ∷ faults) =
     (λ other. ⊎_elim (λ is. subst (Contains (fault ∷ faults)) (sym is) (Contains-get_or (fault ∷ faults) 0 fault (omega arith))) (Contains-append_right (fault ∷ []) faults other))
     (λ other at. ⊎_elim (λ here. inl (alone other here)) (λ later. inr later) (Contains-append_cases (fault ∷ []) faults other at))
     (first_union (λ other. other ≡ fault) (Contains faults) (Some fault) (first_in faults) (first_alone fault) (first_among faults))
-    where
-      alone_at : (other : Fault) (k : ℕ) → k < length (fault ∷ []) → get_or (fault ∷ []) k other ≡ other → other ≡ fault
-      alone_at other zero within is = sym is
-      alone_at other (suc k) within is = absurd (omega arith)
+  where
+    alone_at : (other : Fault) (k : ℕ) → k < length (fault ∷ []) → get_or (fault ∷ []) k other ≡ other → other ≡ fault
+    alone_at other zero within is = sym is
+    alone_at other (suc k) within is = absurd (omega arith)
 
-      alone : (other : Fault) → Contains (fault ∷ []) other → other ≡ fault
-      alone other at = alone_at other at.0 at.1 at.2
+    alone : (other : Fault) → Contains (fault ∷ []) other → other ≡ fault
+    alone other at = alone_at other at.0 at.1 at.2
 
 -- of three it does not matter which two come first
 pub first_of_three : (one two three : Option Fault) → first_of one (first_of two three) ≡ first_of (first_of one two) three

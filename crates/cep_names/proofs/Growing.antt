@@ -140,6 +140,7 @@ pub names_after : (old : Tabled) (d : Declaration) → (declared old d).names �
 names_after old d = cases (has_in old.names d.space d.name) where
   names_of : Tabled → Tables
   names_of tabled = tabled.names
+
   cases : (there : Bool) → names_of (if there then record { names = old.names; first = first_of old.first (Some (wrong Twice d.at)) } else record { names = with_entry old.names d.space (d.name, d.shape); first = old.first }) ≡ after there old.names d
   cases true = refl
   cases false = refl
@@ -148,6 +149,7 @@ under_one : (old : Tabled) (d : Declaration) (s : Space) (name : List ℕ) → u
 under_one old d s name = rw (names_after old d) (cases (has_in old.names d.space d.name) (same d.space s) refl refl) where
   entry : List ℕ × Shape
   entry = (d.name, d.shape)
+
   cases : (there here : Bool) → has_in old.names d.space d.name ≡ there → same d.space s ≡ here
       → under (table_in (after there old.names d) s) name ≡ option_or (under (table_in old.names s) name) (first_shape name (if here then d ∷ [] else []))
   cases true true x y = kept (table_in old.names s) name d.name d.shape (subst (λ t. has_name (table_in old.names t) d.name ≡ true) (same_is d.space s y) x)

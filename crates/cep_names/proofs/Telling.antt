@@ -64,7 +64,7 @@ module _ (source : Source) where
   are_tables = record {
     names = names_told;
     arities = arities_told;
-    backs = λ name. ap (option_map (λ shape. shape.back)) (pred_shape name) ∙ twice_mapped (λ shape. shape.back) (λ pred. (pred_declared source pred).shape) (pred_named source name)
+    backs = λ name. ap (option_map (λ shape. shape.back)) (pred_shape name) ∙ twice_mapped (λ shape. shape.back) (λ pred. (pred_declared source pred).shape) (pred_named source name);
   }
 
   -- ---- the types and the predicates alone tell which items declare constructors
@@ -109,6 +109,7 @@ pub firsts_after : (old : Tabled) (d : Declaration) → (declared old d).first �
 firsts_after old d = cases (has_in old.names d.space d.name) where
   first_in : Tabled → Option Fault
   first_in tabled = tabled.first
+
   cases : (there : Bool) → first_in (if there then record { names = old.names; first = first_of old.first (Some (wrong Twice d.at)) } else record { names = with_entry old.names d.space (d.name, d.shape); first = old.first }) ≡ first_after there old.first d
   cases true = refl
   cases false = refl
@@ -129,12 +130,14 @@ whole old [] none s = sym (append-nil (table_in old.names s))
 whole old (d ∷ ds) none s = cases (has_in old.names d.space d.name) refl (whole (declared old d) ds none s) where
   rest : List Declaration
   rest = in_space s ds
+
   split : (there here : Bool) → there ≡ false → same d.space s ≡ here → table_in (after there old.names d) s ++ map entry_of rest ≡ table_in old.names s ++ map entry_of (if here then d ∷ rest else rest)
   split true here e x = absurd (false≢true (sym e))
   split false true e x =
       subst (λ t. table_in (with_entry old.names d.space (entry_of d)) t ++ map entry_of rest ≡ table_in old.names t ++ map entry_of (d ∷ rest)) (same_is d.space s x)
       (rw (put_same old.names d.space (entry_of d)) (append_assoc (table_in old.names d.space) (entry_of d ∷ []) (map entry_of rest)))
   split false false e x = rw (put_other old.names d.space s (entry_of d) x) refl
+
   cases : (there : Bool) → has_in old.names d.space d.name ≡ there → table_in (all_declared (declared old d) ds).names s ≡ table_in (declared old d).names s ++ map entry_of rest
       → table_in (all_declared (declared old d) ds).names s ≡ table_in old.names s ++ map entry_of (in_space s (d ∷ ds))
   cases true e more = absurd (false≢true (sym (ap is_some none) ∙ stays (declared old d) ds (rw (firsts_after old d, e) (some_of old.first (wrong Twice d.at)))))
