@@ -37,4 +37,4 @@ all_differ before (x ∷ items) once =
 pub names_differ : (source : Source) → ((fault : Fault) → ¬ (Misnamed source fault)) → (space : Space) → AllDiffer (map (λ entry. entry.name) (names_in source space))
 names_differ source clean space =
     all_differ [] (names_in source space)
-    (λ before after entry cut again. clean (wrong Twice entry.at) (twice (record { space = space; before = before; after = after; entry = entry; cut = cut; again = again; fault_is = refl })))
+    (λ before after entry cut again. clean (wrong Twice entry.at) (twice (record { space = space; before = before; after = after; entry = entry; names = cut; earlier = again; is = refl })))
