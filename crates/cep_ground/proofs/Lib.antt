@@ -13,6 +13,7 @@ pub mod BoundVariables
 pub mod VariableKinds
 pub mod StateAtoms
 pub mod StartState
+pub mod NameLaws
 pub mod HeadLaws
 pub mod TypedTerms
 pub mod Spelled
