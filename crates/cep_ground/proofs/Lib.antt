@@ -14,6 +14,8 @@ pub mod VariableKinds
 pub mod StateAtoms
 pub mod StartState
 pub mod NameLaws
+pub mod GroupLaws
+pub mod Programs
 pub mod HeadLaws
 pub mod TypedTerms
 pub mod Spelled

@@ -17,8 +17,10 @@ use Rattle.cep_ground.proofs.VariableKinds.{variable_names, kinds_in_range}
 use Rattle.cep_ground.proofs.StateAtoms.{atom_depth}
 use Rattle.cep_ground.proofs.StartState.{start_good}
 use Rattle.cep_ground.proofs.NameLaws.{rule_names, sort_names}
+use Rattle.cep_ground.proofs.GroupLaws.{rule_grouped}
+use Rattle.cep_ground.proofs.Programs.{is_program}
 use Rattle.cep_ground.proofs.Located.{located}
 use Rattle.cep_ground.proofs.laws.clean_parts_are_a_program.Goals as goal
 
 pub returns : goal.returns
-returns c = let h1 = terms_once in let h2 = typed_args in let h3 = terms_nodes in let h4 = terms_ground in let h5 = terms_occur in let h6 = name_is in let h7 = located in let h8 = names_differ in let h9 = pred_known in let h10 = rule_placed in let h11 = sites_whole in let h12 = first_wanted in let h13 = scope_nodes in let h14 = variable_at in let h15 = nodes_few in let h16 = rule_here in let h17 = rule_typed in let h18 = rule_bound in let h19 = variable_names in let h20 = atom_depth in let h21 = start_good in let h22 = rule_names in ?
+returns c = let h1 = terms_once in let h2 = typed_args in let h3 = terms_nodes in let h4 = terms_ground in let h5 = terms_occur in let h6 = name_is in let h7 = located in let h8 = names_differ in let h9 = pred_known in let h10 = rule_placed in let h11 = sites_whole in let h12 = first_wanted in let h13 = scope_nodes in let h14 = variable_at in let h15 = nodes_few in let h16 = rule_here in let h17 = rule_typed in let h18 = rule_bound in let h19 = variable_names in let h20 = atom_depth in let h21 = start_good in let h22 = rule_names in let h23 = rule_grouped in let h24 = is_program in ?
