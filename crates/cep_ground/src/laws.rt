@@ -10,7 +10,7 @@ ghost use Rattle.cep_ground.specs.Texts.{IsClean, IsBound};
 
 use cep_infer::laws::atoms_are_made_of_tokens;
 use cep_parse::items_are_made_of_tokens;
-use cep_term::laws::{atoms_are_gathered, counts_are_set};
+use cep_term::laws::{atoms_are_gathered, counts_are_set, order_is_total};
 
 /// What a text declares is a program, where nothing is wrong with its names and types, each variable
 /// of a right side is on the left, and no rule has a backward premise yet.
@@ -26,4 +26,5 @@ pub fn clean_parts_are_a_program()
     atoms_are_made_of_tokens();
     atoms_are_gathered();
     counts_are_set();
+    order_is_total();
 }
