@@ -16,6 +16,8 @@ pub mod StartState
 pub mod NameLaws
 pub mod GroupLaws
 pub mod Programs
+pub mod Once
+pub mod OneProgram
 pub mod HeadLaws
 pub mod TypedTerms
 pub mod Spelled

@@ -12,7 +12,7 @@ use Rattle.cep_infer.specs.Sites.{Mistyped}
 use Rattle.cep_infer.specs.Meaning.{AreParts}
 use Rattle.cep_infer.specs.Places.{unbound_of}
 
--- Nothing is wrong with the names of a source, nor with its types.
+-- A source in order: nothing is wrong with its length, its tokens, its grammar, its names and its types.
 pub record IsClean (source : Source) : Type 0 where
   pub is_source : IsSource source
   pub short : length source.text ≤ MOST_BYTES
@@ -22,3 +22,12 @@ pub record IsClean (source : Source) : Type 0 where
 -- Each variable of a right side is on the left side.
 abbrev pub IsBound : Source → Type 0
 IsBound source = AllByRecursion (λ rule. unbound_of source rule ≡ []) (rules_of source)
+
+-- The text spells the program with these parts: it is in order, the parts are what it declares, each variable of a right side is on the left side, and no backward premise may leave a variable unknown.
+pub record Spells (text : List ℕ) (parts : Parts) : Type 0 where
+  pub source : Source
+  pub text_is : source.text ≡ text
+  pub clean : IsClean source
+  pub declared : AreParts source parts
+  pub bound : IsBound source
+  pub grounded : AllByRecursion (IsGrounded parts.clauses) parts.rules

@@ -1,15 +1,16 @@
 //! Laws of texts and programs. Each function computes nothing, and its contract is the law.
-ghost use Rattle.std.specs.Prelude.{◌≡◌, []};
+ghost use Rattle.std.specs.Prelude.{◌≡◌, ℕ, List, []};
 ghost use Rattle.std.specs.List.{AllByRecursion};
 ghost use Rattle.cep_rule.specs.declared.parts.Parts.{Parts};
 ghost use Rattle.cep_rule.specs.Groundness.{IsGrounded};
 ghost use Rattle.cep_rule.specs.Program.{IsProgram};
 ghost use Rattle.cep_names.specs.Items.{Source};
 ghost use Rattle.cep_infer.specs.Meaning.{AreParts};
-ghost use Rattle.cep_ground.specs.Texts.{IsClean, IsBound};
+ghost use Rattle.cep_ground.specs.Texts.{IsClean, IsBound, Spells};
 
 use cep_infer::laws::atoms_are_made_of_tokens;
-use cep_parse::items_are_made_of_tokens;
+use cep_lex::lexed_once;
+use cep_parse::{items_are_made_of_tokens, one_raw_file};
 use cep_term::laws::{atoms_are_gathered, counts_are_set, order_is_total};
 
 /// What a text declares is a program, where nothing is wrong with its names and types, each variable
@@ -27,4 +28,15 @@ pub fn clean_parts_are_a_program()
     atoms_are_gathered();
     counts_are_set();
     order_is_total();
+}
+
+/// A text spells one program at most.
+pub fn one_program()
+    ensures { (text : List ℕ) (one other : Parts)
+        → Spells text one
+        → Spells text other
+        → one ≡ other }
+{
+    lexed_once();
+    one_raw_file();
 }
