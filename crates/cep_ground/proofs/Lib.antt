@@ -17,6 +17,7 @@ pub mod NameLaws
 pub mod GroupLaws
 pub mod Programs
 pub mod Once
+pub mod Declared
 pub mod OneProgram
 pub mod HeadLaws
 pub mod TypedTerms

@@ -40,3 +40,11 @@ pub fn one_program()
     lexed_once();
     one_raw_file();
 }
+
+/// A text in order declares a program's parts, and no other ones: so a text has what it declares
+/// exactly where nothing is wrong with its names and types.
+pub fn a_text_in_order_declares()
+    ensures { (source : Source) → IsClean source → (parts : Parts) × AreParts source parts }
+{
+    atoms_are_made_of_tokens();
+}
