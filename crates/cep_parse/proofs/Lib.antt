@@ -14,3 +14,4 @@ pub mod Endings
 pub mod Reading
 pub mod TokenLemmas
 pub mod WellWritten
+pub mod ParsedOnce

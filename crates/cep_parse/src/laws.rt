@@ -1,11 +1,13 @@
 // What holds of the grammar, as the definitions say what it is.
-ghost use Rattle.std.specs.Prelude.{◌≡◌, ℕ, ◌≤◌, List, length};
+ghost use Rattle.std.specs.Prelude.{◌≡◌, ℕ, ◌≤◌, List, Result, length};
 ghost use Rattle.std.specs.List.{AllByRecursion};
 ghost use Rattle.cep_lex.specs.declared.token.Token.{Token};
+ghost use Rattle.cep_parse.specs.declared.fault.ParseFault.{ParseFault};
 ghost use Rattle.cep_parse.specs.declared.raw.RawItem.{RawItem};
 ghost use Rattle.cep_parse.specs.declared.symbol.Symbol.{Symbol};
 ghost use Rattle.cep_parse.specs.Symbols.{symbols_of};
 ghost use Rattle.cep_parse.specs.Grammar.{File};
+ghost use Rattle.cep_parse.specs.Files.{IsParsed};
 ghost use Rattle.cep_parse.specs.Written.{IsItemOf};
 
 /// Symbols are one raw file at most, so what `parse` accepts is a function of the text.
@@ -23,3 +25,14 @@ pub fn items_are_made_of_tokens()
         → File (symbols_of text tokens) file
         → length file ≤ length tokens }
 {}
+
+/// The tokens of a text have one raw file or one first fault, so what `parse` answers is a function
+/// of the text, but for want of memory.
+pub fn parsed_once()
+    ensures { (text : List ℕ) (tokens : List Token) (one other : Result (List RawItem) ParseFault)
+        → IsParsed text tokens one
+        → IsParsed text tokens other
+        → one ≡ other }
+{
+    one_raw_file();
+}

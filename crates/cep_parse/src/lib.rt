@@ -15,7 +15,7 @@ mod steps;
 mod symbol;
 
 pub use fault::ParseFault;
-pub use laws::{items_are_made_of_tokens, one_raw_file};
+pub use laws::{items_are_made_of_tokens, one_raw_file, parsed_once};
 pub use list::List;
 pub use parser::{MOST_OPEN, parse};
 pub use raw::{
