@@ -4,13 +4,15 @@ ghost use Rattle.std.specs.List.{AllByRecursion};
 ghost use Rattle.cep_rule.specs.declared.parts.Parts.{Parts};
 ghost use Rattle.cep_rule.specs.Groundness.{IsGrounded};
 ghost use Rattle.cep_rule.specs.Program.{IsProgram};
+ghost use Rattle.cep_names.specs.declared.fault.Fault.{Fault};
 ghost use Rattle.cep_names.specs.Items.{Source};
 ghost use Rattle.cep_infer.specs.Meaning.{AreParts};
 ghost use Rattle.cep_ground.specs.Texts.{IsClean, IsBound, Spells};
+ghost use Rattle.cep_ground.specs.Refusals.{IsBuilt, IsWrong};
 
 use cep_infer::laws::atoms_are_made_of_tokens;
 use cep_lex::lexed_once;
-use cep_parse::{items_are_made_of_tokens, one_raw_file};
+use cep_parse::{items_are_made_of_tokens, one_raw_file, parsed_once};
 use cep_term::laws::{atoms_are_gathered, counts_are_set, order_is_total};
 
 /// What a text declares is a program, where nothing is wrong with its names and types, each variable
@@ -47,4 +49,17 @@ pub fn a_text_in_order_declares()
     ensures { (source : Source) → IsClean source → (parts : Parts) × AreParts source parts }
 {
     atoms_are_made_of_tokens();
+}
+
+/// Nothing is wrong with a text that spells a program which can be played today, so a text is a
+/// program or is refused, and never both.
+pub fn no_program_is_refused()
+    ensures { (text : List ℕ) (parts : Parts) (fault : Fault)
+        → Spells text parts
+        → IsBuilt parts
+        → ¬ (IsWrong text fault) }
+{
+    lexed_once();
+    one_raw_file();
+    parsed_once();
 }
