@@ -19,11 +19,11 @@ abbrev pub LexedOnce : Type 0
 LexedOnce = (text : List ℕ) (one other : Result (List Token) LexFault) → IsLexed text one → IsLexed text other → one ≡ other
 
 -- tokens as an answer
-abbrev Ok' : List Token → Result (List Token) LexFault
+abbrev pub Ok' : List Token → Result (List Token) LexFault
 Ok' tokens = Ok tokens
 
 -- the tokens are those of the other list
-tokens_once : LexedOnce → (text : List ℕ) (one other : List Token) → AreTokens text one → AreTokens text other → one ≡ other
+pub tokens_once : LexedOnce → (text : List ℕ) (one other : List Token) → AreTokens text one → AreTokens text other → one ≡ other
 tokens_once law text one other is is' = ok_once one other (law text (Ok one) (Ok other) is is')
   where
     ok_once : (xs ys : List Token) → (the_same : Ok' xs ≡ Ok' ys) → xs ≡ ys

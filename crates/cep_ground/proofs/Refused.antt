@@ -26,7 +26,7 @@ use Rattle.cep_infer.specs.Meaning.{AreParts}
 use Rattle.cep_ground.specs.Texts.{IsClean}
 use Rattle.cep_ground.specs.Refusals.{IsBuilt, phase, IsWrong, IsToldFirst, IsRefusedFor}
 use Rattle.cep_ground.specs.Refusals.IsWrong.{too_long, bad_byte, name_long, unexpected, nested, misnamed, mistyped, not_built}
-use Rattle.cep_ground.proofs.OneProgram.{LexedOnce, FileOnce, source_once}
+use Rattle.cep_ground.proofs.OneProgram.{LexedOnce, FileOnce, tokens_once, source_once}
 use Rattle.cep_ground.proofs.Once.{parts_once}
 
 -- what the law of parsed tokens says
@@ -55,9 +55,6 @@ refused_too_long text long = record { holds = too_long long refl; first = first 
         let short = clean.short in
         let e = ap length text_is in
         absurd (omega (arith, long, short, e))
-
-lexed_ok : List Token → Result (List Token) LexFault
-lexed_ok tokens = Ok tokens
 
 module _ (lexed : LexedOnce) (text : List ℕ) where
   -- a text that has tokens has no fault of tokens
@@ -104,10 +101,7 @@ module _ (lexed : LexedOnce) (text : List ℕ) where
 
   -- the tokens of a text are one list
   tokens_same : (one other : List Token) → AreTokens text one → AreTokens text other → one ≡ other
-  tokens_same one other is is' = let e = lexed text (Ok one) (Ok other) is is' in ok_same e
-    where
-      ok_same : {xs ys : List Token} → lexed_ok xs ≡ lexed_ok ys → xs ≡ ys
-      ok_same e = cc
+  tokens_same one other is is' = tokens_once lexed text one other is is'
 
   module _ (parsed : ParsedOnce) where
     -- a text that has a raw file has no fault of the grammar
