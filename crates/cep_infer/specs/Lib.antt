@@ -3,3 +3,4 @@ pub mod Sites
 pub mod Heads
 pub mod Meaning
 pub mod Places
+pub mod Resolved
