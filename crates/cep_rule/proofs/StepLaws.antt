@@ -4,11 +4,12 @@ use Rattle.std.specs.Cmp.{IsTotalOrder}
 use Rattle.std.specs.FinMap.{IsAntisymmetric}
 use Rattle.cep_term.specs.Tree.{Tree, AtomTree}
 use Rattle.cep_term.specs.Order.{atom_cmp}
-use Rattle.cep_term.specs.Multiset.{Multiset, count_of, sum_of, difference_of, IsBag}
+use Rattle.cep_term.specs.Multiset.{Multiset, count_of, sum_of, difference_of, IsContained, IsBag}
 use Rattle.cep_rule.specs.declared.rule.Rule.{Rule}
 use Rattle.cep_rule.specs.Binding.{needed_of}
 use Rattle.cep_rule.specs.Instances.{instances_by, kept_of, left_of, right_of}
 use Rattle.cep_rule.specs.Step.{Step, StepsByCounts}
+use Rattle.cep_rule.specs.Matching.{state_after}
 use Rattle.cep_rule.proofs.Copies.{HasCopies, copies-bag, copies-gathered, copies-sum_of, same_counts}
 
 -- The counts of a sum are the sums of the counts.
@@ -50,6 +51,26 @@ back l o h = omega arith
 
 onward : (l r o n : ℕ) → l ≤ o → n + l ≡ o + r → n ≡ r + (o - l)
 onward l r o n h e = omega arith
+
+-- What a bag contains can be taken from it and added again.
+abbrev pub UndoesTaking : Type 0
+UndoesTaking = (bag other : Multiset) → IsBag bag → IsBag other → IsContained other bag → sum_of (difference_of bag other) other ≡ bag
+
+-- The sum of two bags is that of the other and the one.
+abbrev pub SumCommutes : Type 0
+SumCommutes = (bag other : Multiset) → IsBag bag → IsBag other → sum_of bag other ≡ sum_of other bag
+
+pub edit_is_step : KeepsBags → UndoesTaking → SumCommutes → (rule : Rule) (values : List Tree) (state : Multiset) → IsBag (left_of rule values) → IsBag (right_of rule values) → IsBag state → IsContained (left_of rule values) state → Step rule values state (state_after state (left_of rule values) (instances_by values (rule.right ++ kept_of rule)))
+edit_is_step keeps undoes commutes rule values state kept_left kept_right kept contained =
+    let left = left_of rule values in
+    let rest = difference_of state left in
+    let kept_rest = keeps state left kept kept_left in
+    record {
+      rest = rest;
+      bag = kept_rest;
+      before = sym (undoes state left kept kept_left contained) ∙ commutes rest left kept_rest kept_left;
+      after = commutes rest (right_of rule values) kept_rest kept_right;
+    }
 
 module _ (total : IsTotalOrder atom_cmp) (ties : IsAntisymmetric atom_cmp) (sums : SumsCounts) where
   counts_at : (rule : Rule) (values : List Tree) (old new : Multiset) → Step rule values old new → (a : AtomTree) → (count_of (left_of rule values) a ≤ count_of old a) × (count_of new a + count_of (left_of rule values) a ≡ count_of old a + count_of (right_of rule values) a)

@@ -10,4 +10,5 @@ pub mod Derivations
 pub mod Offers
 pub mod Step
 pub mod Stages
+pub mod Matching
 pub mod Program

@@ -1,10 +1,10 @@
 //! Laws of what programs mean, for the crates that rest on them. Each function does nothing, and its
 //! contract is the law.
-ghost use Rattle.std.specs.Prelude.{◌≡◌, ◌↔◌, ℕ, List, [], true};
+ghost use Rattle.std.specs.Prelude.{◌≡◌, ◌↔◌, ℕ, List, [], ◌++◌, true};
 ghost use Rattle.std.specs.declared.cmp.Ordering.TheVariants.{Equal};
 ghost use Rattle.std.specs.Cmp.{IsTotalOrder};
 ghost use Rattle.cep_term.specs.Tree.{Tree, AtomTree, IsGroundAtom};
-ghost use Rattle.cep_term.specs.Multiset.{Multiset, IsBag};
+ghost use Rattle.cep_term.specs.Multiset.{Multiset, IsContained, IsBag};
 ghost use Rattle.cep_rule.specs.declared.signature.Signature.{Signature};
 ghost use Rattle.cep_rule.specs.declared.rule.Rule.{Rule};
 ghost use Rattle.cep_rule.specs.declared.parts.Parts.{Parts};
@@ -12,9 +12,10 @@ ghost use Rattle.cep_rule.specs.declared.offer.Offer.{Offer};
 ghost use Rattle.cep_rule.specs.Patterns.{ClauseTree};
 ghost use Rattle.cep_rule.specs.Typing.{IsTyped, AreValues};
 ghost use Rattle.cep_rule.specs.Groundness.{Known, IsBad};
-ghost use Rattle.cep_rule.specs.Instances.{instance_by, left_of, right_of};
+ghost use Rattle.cep_rule.specs.Instances.{instance_by, instances_by, kept_of, left_of, right_of};
 ghost use Rattle.cep_rule.specs.Offers.{offer_cmp, AreOffers};
 ghost use Rattle.cep_rule.specs.Step.{Step, StepsByCounts};
+ghost use Rattle.cep_rule.specs.Matching.{state_after};
 ghost use Rattle.cep_rule.specs.Program.{IsTypedRule};
 
 use cep_term::laws::{atoms_are_gathered, counts_decide, order_is_total, sums_and_differences};
@@ -64,6 +65,21 @@ pub fn steps_can_be_told_by_counts()
 {
     order_is_total();
     sums_and_differences();
+}
+
+/// Taking the left side from a state that contains it, and adding the instances of the right atoms
+/// and of the premises that are kept, is a step.
+pub fn edits_are_steps()
+    ensures { (signature : Signature) (rule : Rule) (values : List Tree) (state : Multiset)
+        → IsTypedRule signature rule
+        → AreValues signature.cons rule.kinds values
+        → IsBag state
+        → IsContained (left_of rule values) state
+        → Step rule values state (state_after state (left_of rule values) (instances_by values (rule.right ++ kept_of rule))) }
+{
+    sides_are_bags();
+    sums_and_differences();
+    counts_decide();
 }
 
 /// Values of the right types make a well-typed atom a ground one that is well typed.

@@ -4,6 +4,9 @@
 //! are well typed, which instances of rules apply to a state, what the offers of a group are, what a
 //! step does, which group a stage asks, and what a derivation proves; no code is named there. The
 //! laws of these that other crates rest on are the contracts of the functions in `laws`.
+//!
+//! The trait `Matcher` is what finds the offers and goes with the state: what stands above is
+//! generic over it, and its contracts and its law say all that may be used of one.
 #![tactic(auto)]
 
 mod atoms;
@@ -13,6 +16,7 @@ mod instances;
 mod items;
 pub mod laws;
 mod limits;
+mod matcher;
 mod offer;
 mod parts;
 mod program;
@@ -29,10 +33,11 @@ pub use instances::instance;
 pub use items::Items;
 pub use limits::{
     MOST_ARGUMENTS, MOST_BACKS, MOST_CLAUSES, MOST_CONS, MOST_COPIES, MOST_GOALS, MOST_NAME,
-    MOST_PATTERN_NODES, MOST_PREDS, MOST_PREMISES, MOST_RIGHT, MOST_RULES, MOST_SORTS, MOST_STAGES,
-    MOST_STATE_NODES, MOST_TURNS, MOST_VARIABLES,
+    MOST_OFFERS, MOST_PATTERN_NODES, MOST_PREDS, MOST_PREMISES, MOST_RIGHT, MOST_RULES, MOST_SORTS,
+    MOST_STAGES, MOST_STATE_NODES, MOST_TURNS, MOST_VARIABLES,
 };
-pub use offer::Offer;
+pub use matcher::Matcher;
+pub use offer::{Offer, order_offer};
 pub use parts::{Parts, Stage, Stages};
 pub use program::Program;
 pub use rule::{Premise, Premises, Rule, Rules};

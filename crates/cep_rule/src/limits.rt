@@ -50,3 +50,6 @@ pub const MOST_COPIES: u64 = 100_000;
 
 /// The most nodes in a state, each copy counted.
 pub const MOST_STATE_NODES: u64 = 4_194_304;
+
+/// The most offers of one turn.
+pub const MOST_OFFERS: usize = 65_536;

@@ -1,4 +1,12 @@
+ghost use Rattle.std.specs.Prelude.{◌≡◌, map};
+ghost use Rattle.std.specs.Cmp.Lexicographic.{slice_cmp};
+ghost use Rattle.cep_term.specs.Tree.{tree_of};
+ghost use Rattle.cep_term.specs.Order.{tree_cmp};
+ghost use Rattle.cep_rule.specs.Offers.{offer_cmp};
+
 use crate::terms::Terms;
+use cep_term::{Term, order_term};
+use std::cmp::Ordering;
 
 /// An instance of a rule: the rule by its number, with a value for each of its variables, in the
 /// order of the variables' numbers.
@@ -6,4 +14,31 @@ use crate::terms::Terms;
 pub struct Offer {
     pub rule: u32,
     pub values: Terms,
+}
+
+/// Compares two offers by their rule's number, and then by the values from the first variable to the
+/// last. The order is this profile's. It takes no memory.
+pub fn order_offer(one: &Offer, other: &Offer) -> Ordering
+    ensures { result ≡ offer_cmp one.now other.now }
+{
+    one.rule.cmp(&other.rule).then(order_terms(one.values.as_slice(), other.values.as_slice()))
+}
+
+// Compares two lists of terms from left to right. Where one ends first, it is less.
+fn order_terms(terms: &[Term], others: &[Term]) -> Ordering
+    ensures { result ≡ slice_cmp tree_cmp (map tree_of terms.now) (map tree_of others.now) }
+{
+    match terms {
+        [] => {
+            if others.is_empty() {
+                Ordering::Equal
+            } else {
+                Ordering::Less
+            }
+        }
+        [t, terms @ ..] => match others {
+            [] => Ordering::Greater,
+            [u, others @ ..] => order_term(t, u).then(order_terms(terms, others)),
+        },
+    }
 }

@@ -1,4 +1,4 @@
-ghost use Rattle.std.specs.Prelude.{◌≡◌, ◌<◌, [], ◌∷◌, ◌++◌, length, slice_get, Some, OnOk, OnErr};
+ghost use Rattle.std.specs.Prelude.{◌≡◌, ◌<◌, [], ◌∷◌, ◌++◌, length, map, slice_get, Some, OnOk, OnErr};
 ghost use Rattle.cep_term.specs.Tree.{tree_of};
 
 use cep_term::Term;
@@ -47,6 +47,13 @@ impl Terms {
         ensures { slice_get self.now i ≡ Some (tree_of result.now) }
     {
         &self.terms[i]
+    }
+
+    // The terms as they are kept.
+    pub(crate) fn as_slice(&self) -> &[Term]
+        ensures { map tree_of result.now ≡ self.now }
+    {
+        self.terms.as_slice()
     }
 
     /// Adds a term at the end. After want of memory the list is as before, and the term is gone.

@@ -1,17 +1,20 @@
 -- The program of the tests keeps what every program keeps.
-use Rattle.std.proofs.Common.{◌≡◌, ℕ, ◌<◌, List, [], ◌∷◌, length, true, false, None, unwrap_or, refl, sym, ap, subst, ◌∙◌, arith}
+use Rattle.std.proofs.Common.{◌≡◌, ℕ, zero, suc, ◌<◌, List, [], ◌∷◌, length, true, false, None, unwrap_or, refl, sym, ap, subst, ◌∙◌, inl, inr, arith}
 use Rattle.std.specs.Prelude.{codes, Bool, ◌==◌, ◌&&◌, ◌≢◌, not}
 use Rattle.std.proofs.lemmas.Bool.{eq-eqb}
 use Rattle.std.specs.List.{AllByRecursion, list_all}
 use Rattle.std.specs.FinMap.{get-empty, len-empty, len-entries}
 use Rattle.std.specs.FinMap as finite
-use Rattle.cep_term.specs.Tree.{AtomTree}
+use Rattle.cep_term.specs.Tree.{AtomTree, variable, node, none, more}
 use Rattle.cep_term.specs.Order.{atom_cmp}
 use Rattle.cep_term.specs.Multiset.{count_of, IsEntry}
 use Rattle.cep_rule.specs.declared.signature.Signature.{Signature}
+use Rattle.cep_rule.specs.declared.rule.Rule.{Rule}
 use Rattle.cep_rule.specs.declared.parts.Parts.{Parts}
 use Rattle.cep_rule.specs.declared.parts.Stage.{Stage}
-use Rattle.cep_rule.specs.Names.{IsName, AreNames, reserved_words}
+use Rattle.cep_rule.specs.Patterns.{ClauseTree}
+use Rattle.cep_rule.specs.Names.{IsName, IsVariableName, AreNames, reserved_words}
+use Rattle.cep_rule.specs.Binding.{OccursInSome}
 use Rattle.cep_rule.specs.State.{IsState, Fits}
 use Rattle.cep_rule.specs.Program.{IsProgram}
 
@@ -19,14 +22,34 @@ abbrev pub the_signature : Signature
 the_signature = record {
   sorts = codes "nat" ∷ [];
   cons = record { name = codes "z"; sort = 0; args = [] } ∷ record { name = codes "s"; sort = 0; args = 0 ∷ [] } ∷ [];
-  preds = record { name = codes "num"; back = false; args = 0 ∷ [] } ∷ [];
+  preds = record { name = codes "plus"; back = true; args = 0 ∷ 0 ∷ 0 ∷ [] } ∷ record { name = codes "num"; back = false; args = 0 ∷ [] } ∷ [];
 }
+
+abbrev pub the_rules : List Rule
+the_rules = record {
+  name = codes "r";
+  group = 0;
+  vars = codes "N" ∷ [];
+  kinds = 0 ∷ [];
+  premises = record { atom = record { pred = 1; args = more (variable 0) none }; kept = false } ∷ [];
+  backs = [];
+  right = record { pred = 1; args = more (variable 0) none } ∷ [];
+  next = None;
+} ∷ []
+
+abbrev pub the_clauses : List ClauseTree
+the_clauses = record { vars = codes "N" ∷ []; kinds = 0 ∷ []; head = record { pred = 0; args = more (node 0 none) (more (variable 0) (more (variable 0) none)) }; goals = [] } ∷ record {
+  vars = codes "M" ∷ codes "N" ∷ codes "P" ∷ [];
+  kinds = 0 ∷ 0 ∷ 0 ∷ [];
+  head = record { pred = 0; args = more (node 1 (more (variable 0) none)) (more (variable 1) (more (node 1 (more (variable 2) none)) none)) };
+  goals = record { pred = 0; args = more (variable 0) (more (variable 1) (more (variable 2) none)) } ∷ [];
+} ∷ []
 
 abbrev pub the_stages : List Stage
 the_stages = record { name = codes "main"; interactive = true } ∷ []
 
 abbrev pub the_parts : Parts
-the_parts = record { signature = the_signature; stages = the_stages; rules = []; clauses = []; start_stage = 0; start = finite.empty; turns = None }
+the_parts = record { signature = the_signature; stages = the_stages; rules = the_rules; clauses = the_clauses; start_stage = 0; start = finite.empty; turns = None }
 
 no_length : {A : Type 0} (es : List A) → length es ≡ 0 → es ≡ []
 no_length [] e = refl
@@ -90,59 +113,81 @@ name_z = record { word = (refl, tt); free = free_by _ reserved_words refl; short
 name_s : IsName (codes "s")
 name_s = record { word = (refl, tt); free = free_by _ reserved_words refl; short = omega arith }
 
+name_plus : IsName (codes "plus")
+name_plus = record { word = (refl, (refl, (refl, (refl, tt)))); free = free_by _ reserved_words refl; short = omega arith }
+
 name_num : IsName (codes "num")
 name_num = record { word = (refl, (refl, (refl, tt))); free = free_by _ reserved_words refl; short = omega arith }
 
 name_main : IsName (codes "main")
 name_main = record { word = (refl, (refl, (refl, (refl, tt)))); free = free_by _ reserved_words refl; short = omega arith }
 
+name_r : IsName (codes "r")
+name_r = record { word = (refl, tt); free = free_by _ reserved_words refl; short = omega arith }
+
+name_M : IsVariableName (codes "M")
+name_M = record { word = inl (refl, tt); short = omega arith }
+
+name_P : IsVariableName (codes "P")
+name_P = record { word = inl (refl, tt); short = omega arith }
+
+name_N : IsVariableName (codes "N")
+name_N = record { word = inl (refl, tt); short = omega arith }
+
 one_name : (name : List ℕ) → IsName name → AreNames (name ∷ [])
 one_name name is = record { each = (is, tt); differ = (tt, tt) }
+
+-- each variable of the second clause occurs in its head
+bound_step : (v : ℕ) → v < 3 → OccursInSome v (record { pred = 0; args = more (node 1 (more (variable 0) none)) (more (variable 1) (more (node 1 (more (variable 2) none)) none)) } ∷ record { pred = 0; args = more (variable 0) (more (variable 1) (more (variable 2) none)) } ∷ [])
+bound_step zero below = inl (inl (inl refl))
+bound_step (suc zero) below = inl (inr (inl refl))
+bound_step (suc (suc zero)) below = inl (inr (inr (inl (inl refl))))
+bound_step (suc (suc (suc v))) below = absurd (omega arith)
 
 pub the_parts_keep : IsProgram the_parts
 the_parts_keep = record {
   small = record {
-    signature = record { sorts = omega arith; cons = omega arith; preds = omega arith; con_args = ((omega arith), ((omega arith), tt)); pred_args = ((omega arith), tt) };
+    signature = record { sorts = omega arith; cons = omega arith; preds = omega arith; con_args = ((omega arith), ((omega arith), tt)); pred_args = ((omega arith), ((omega arith), tt)) };
     stages = omega arith;
     rules = omega arith;
     clauses = omega arith;
-    each_rule = tt;
-    each_clause = tt;
+    each_rule = (record { vars = omega arith; premises = omega arith; backs = omega arith; right = omega arith; premise_nodes = ((omega arith), tt); back_nodes = tt; right_nodes = ((omega arith), tt) }, tt);
+    each_clause = (record { vars = omega arith; goals = omega arith; head_nodes = omega arith; goal_nodes = tt }, (record { vars = omega arith; goals = omega arith; head_nodes = omega arith; goal_nodes = ((omega arith), tt) }, tt));
     turns = tt;
   };
   named = record {
     sorts = one_name (codes "nat") name_nat;
     cons = record { each = (name_z, (name_s, tt)); differ = ((differ _ _ refl, tt), (tt, tt)) };
-    preds = one_name (codes "num") name_num;
+    preds = record { each = (name_plus, (name_num, tt)); differ = ((differ _ _ refl, tt), (tt, tt)) };
     stages = one_name (codes "main") name_main;
-    rules = record { each = tt; differ = tt };
-    rule_vars = tt;
-    clause_vars = tt;
+    rules = one_name (codes "r") name_r;
+    rule_vars = ((name_N, tt), tt);
+    clause_vars = ((name_N, tt), ((name_M, (name_N, (name_P, tt))), tt));
   };
   in_range = record {
     con_sorts = ((omega arith), ((omega arith), tt));
     con_args = (tt, (((omega arith), tt), tt));
-    pred_args = (((omega arith), tt), tt);
-    rule_kinds = tt;
-    clause_kinds = tt;
-    next_stages = tt;
+    pred_args = (((omega arith), ((omega arith), ((omega arith), tt))), (((omega arith), tt), tt));
+    rule_kinds = (((omega arith), tt), tt);
+    clause_kinds = (((omega arith), tt), (((omega arith), ((omega arith), ((omega arith), tt))), tt));
+    next_stages = (tt, tt);
     start_stage = omega arith;
   };
-  typed_rules = tt;
-  typed_clauses = tt;
-  bound_rules = tt;
-  bound_clauses = tt;
-  divided_rules = tt;
-  divided_clauses = tt;
-  grouped = tt;
-  grounded = tt;
+  typed_rules = (record { kinds = refl; premises = ((refl, tt), tt); backs = tt; right = ((refl, tt), tt) }, tt);
+  typed_clauses = (record { kinds = refl; head = ((refl, tt), (refl, (refl, tt))); goals = tt }, (record { kinds = refl; head = ((refl, (refl, tt)), (refl, ((refl, (refl, tt)), tt))); goals = ((refl, (refl, (refl, tt))), tt) }, tt));
+  bound_rules = ((λ v below. inl (inl (omega arith))), tt);
+  bound_clauses = ((λ v below. inl (inr (inl (omega arith)))), (bound_step, tt));
+  divided_rules = (record { premises = (refl, tt); right = (refl, tt); backs = tt }, tt);
+  divided_clauses = (record { head = refl; goals = tt }, (record { head = refl; goals = (refl, tt) }, tt));
+  grouped = (record { in_range = omega arith; leaves = ((λ some. cc), (λ odd. cc)) }, tt);
+  grounded = ((λ calls. calls), tt);
   start = empty_state the_signature;
   start_fits = empty_fits;
-  no_backs = tt;
+  no_backs = (refl, tt);
 }
 
 -- so do parts that are the same one by one
-pub same_parts_keep : (parts : Parts) → parts.signature ≡ the_signature → parts.stages ≡ the_stages → parts.rules ≡ [] → parts.clauses ≡ [] → parts.start_stage ≡ 0 → parts.start ≡ finite.empty → parts.turns ≡ None → IsProgram parts
+pub same_parts_keep : (parts : Parts) → parts.signature ≡ the_signature → parts.stages ≡ the_stages → parts.rules ≡ the_rules → parts.clauses ≡ the_clauses → parts.start_stage ≡ 0 → parts.start ≡ finite.empty → parts.turns ≡ None → IsProgram parts
 same_parts_keep parts a b c d e f g =
     let same : the_parts ≡ parts = λ i. record { signature = sym a i; stages = sym b i; rules = sym c i; clauses = sym d i; start_stage = sym e i; start = sym f i; turns = sym g i } in
     subst IsProgram same the_parts_keep

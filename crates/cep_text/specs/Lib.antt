@@ -1,2 +1,4 @@
 pub mod Texts
 pub mod Writing
+pub mod Reads
+pub mod Reading

@@ -1,0 +1,4 @@
+pub mod Partial
+pub mod Groups
+pub mod Scratch
+pub mod Sample

@@ -1,0 +1,17 @@
+//! Matching from scratch: the plain matcher of Ceptre's rules, which at each step looks at the whole
+//! state again.
+//!
+//! A rule is matched premise by premise, in written order. For each premise the entries of the state
+//! that have its predicate are tried, one after another, and each that meets it is followed before
+//! the next. What was found is sorted in the end, group by group.
+#![tactic(auto)]
+
+mod edits;
+mod groups;
+mod partial;
+mod scratch;
+mod search;
+#[cfg(test)]
+mod tests;
+
+pub use scratch::Scratch;

@@ -1,0 +1,167 @@
+-- What is read as a derivation is the text of one.
+use Rattle.std.proofs.Common.{◌≡◌, ℕ, zero, suc, ◌+◌, ◌≤◌, List, [], ◌∷◌, ◌++◌, length, take-append-drop, slice_get, codes, Option, Some, None, IsSomeAnd, refl, sym, ap, subst, ◌∙◌, arith, append_assoc}
+use Rattle.std.specs.Prelude.{decimal}
+use Rattle.std.specs.List.{AllByRecursion}
+use Rattle.cep_term.specs.Tree.{Tree, AtomTree}
+use Rattle.cep_rule.specs.declared.parts.Parts.{Parts}
+use Rattle.cep_rule.specs.Patterns.{ClauseTree}
+use Rattle.cep_rule.specs.Typing.{AreValues}
+use Rattle.cep_rule.specs.Derivations.{ProofTree, ProofTrees, by_clause, no_goal, goal_by, height_of, height_among}
+use Rattle.cep_rule.specs.Program.{IsProgram, IsTypedClause}
+use Rattle.cep_text.specs.Texts.{clause_vars, all_given_text, begin_text, proof_text, proofs_text, AreAsMany, IsProofOf, AreProofsOf}
+use Rattle.cep_text.specs.Reads.{IsSmallTerm, HasSmallValues, HaveSmallValues}
+use Rattle.cep_text.specs.Reading.{Reader, literal_at, name_len, front_name, behind_name, numbered_by, small_at, givens_at, clause_at, begin_at, proofs_at, node_at, proof_at}
+use Rattle.cep_text.proofs.Literals.{literal_found}
+use Rattle.cep_text.proofs.Numbers.{by_bind, some_is, all_at}
+use Rattle.cep_text.proofs.ClauseNumbers.{numbered_found}
+use Rattle.cep_text.proofs.GivensRead.{givens_found}
+
+-- a clause that is read
+pub record ClauseFound (clauses : List ClauseTree) (bytes : List ℕ) (number : ℕ) (clause : ClauseTree) (rest : List ℕ) : Type 0 where
+  pub numbered : slice_get clauses number ≡ Some clause
+  pub text : bytes ≡ decimal (number + 1) ++ rest
+
+clause_found : (clauses : List ClauseTree) (bytes : List ℕ) (number : ℕ) (clause : ClauseTree) (rest : List ℕ) → clause_at clauses bytes ≡ Some ((number, clause), rest) → ClauseFound clauses bytes number clause rest
+unfolding clause_at
+clause_found clauses bytes number clause rest e =
+    by_bind (numbered_by (length clauses) (front_name bytes)) _ _ e (λ n n-is e.
+    by_bind (slice_get clauses n) _ _ e (λ found found-is e.
+    let read : (ℕ × ClauseTree) × List ℕ = ((n, found), behind_name bytes) in
+    let wanted : (ℕ × ClauseTree) × List ℕ = ((number, clause), rest) in
+    let pair = some_is read wanted e in
+    let on : n + 1 ≡ suc n = omega arith in
+    let name : front_name bytes ≡ decimal (n + 1) = (numbered_found (length clauses) (front_name bytes) n n-is).1 ∙ ap decimal (sym on) in
+    let text : bytes ≡ decimal (n + 1) ++ behind_name bytes = sym (take-append-drop (name_len bytes) bytes) ∙ ap (λ front. front ++ behind_name bytes) name in
+    subst (λ (x : (ℕ × ClauseTree) × List ℕ). ClauseFound clauses bytes x.0.0 x.0.1 x.1) pair (record { numbered = found-is; text = text })))
+
+pub clause_as_many : (program : Parts) (number : ℕ) (clause : ClauseTree) → IsProgram program → slice_get program.clauses number ≡ Some clause → length clause.kinds ≡ length clause.vars
+clause_as_many program number clause keeps there = (all_at (IsTypedClause program.signature) program.clauses number clause keeps.typed_clauses there).kinds
+
+-- The clause is there, its values are small and of its types, there are as many goals, and so begins the text.
+pub record BeginFound (program : Parts) (bytes : List ℕ) (number : ℕ) (values : List Tree) (goals : ℕ) (rest : List ℕ) : Type 0 where
+  pub clause : ClauseTree
+  pub numbered : slice_get program.clauses number ≡ Some clause
+  pub typed : AreValues program.signature.cons clause.kinds values
+  pub small : AllByRecursion IsSmallTerm values
+  pub as_many : length clause.goals ≡ goals
+  pub text : bytes ≡ begin_text program number values ++ rest
+
+begin_of_text : (program : Parts) (number : ℕ) (clause : ClauseTree) (values : List Tree) (rest : List ℕ) → slice_get program.clauses number ≡ Some clause
+    → codes "[" ++ (decimal (number + 1) ++ (all_given_text program.signature clause.vars values ++ rest)) ≡ begin_text program number values ++ rest
+begin_of_text program number clause values rest there =
+    let given = all_given_text program.signature clause.vars values in
+    ap (λ text. codes "[" ++ text) (sym (append_assoc (decimal (number + 1)) given rest))
+    ∙ ap (λ found. (codes "[" ++ (decimal (number + 1) ++ all_given_text program.signature (clause_vars found) values)) ++ rest) (sym there)
+
+begin_found : (program : Parts) (bytes : List ℕ) (number : ℕ) (values : List Tree) (goals : ℕ) (rest : List ℕ) → IsProgram program
+    → begin_at program (small_at program.signature.cons) bytes ≡ Some ((number, values, goals), rest) → BeginFound program bytes number values goals rest
+unfolding begin_at
+begin_found program bytes number values goals rest keeps e =
+    by_bind (literal_at (codes "[") bytes) _ _ e (λ bracket bracket-is e.
+    by_bind (clause_at program.clauses bracket) _ _ e (λ clause clause-is e.
+    by_bind (givens_at (small_at program.signature.cons) clause.0.1.vars clause.0.1.kinds [] clause.1) _ _ e (λ given given-is e.
+    let read : (ℕ × List Tree × ℕ) × List ℕ = ((clause.0.0, given.0, length clause.0.1.goals), given.1) in
+    let wanted : (ℕ × List Tree × ℕ) × List ℕ = ((number, values, goals), rest) in
+    let pair = some_is read wanted e in
+    let head = clause_found program.clauses bracket clause.0.0 clause.0.1 clause.1 clause-is in
+    let found = givens_found program.signature clause.0.1.vars clause.0.1.kinds [] clause.1 given.0 given.1 (clause_as_many program clause.0.0 clause.0.1 keeps head.numbered) given-is in
+    let same : found.values ≡ given.0 = sym found.behind in
+    subst (λ (x : (ℕ × List Tree × ℕ) × List ℕ). BeginFound program bytes x.0.0 x.0.1 x.0.2 x.1) pair (record {
+      clause = clause.0.1;
+      numbered = head.numbered;
+      typed = subst (AreValues program.signature.cons clause.0.1.kinds) same found.typed;
+      small = subst (AllByRecursion IsSmallTerm) same found.small;
+      as_many = refl;
+      text = literal_found (codes "[") bytes bracket bracket-is
+          ∙ ap (λ text. codes "[" ++ text) (head.text ∙ ap (λ text. decimal (clause.0.0 + 1) ++ text) (found.text ∙ ap (λ vs. all_given_text program.signature clause.0.1.vars vs ++ given.1) same))
+          ∙ begin_of_text program clause.0.0 clause.0.1 given.0 given.1 head.numbered;
+    }))))
+
+-- The derivation is of the program's shape, small and low enough, and its text stands before the rest.
+pub record ProofFound (program : Parts) (height : ℕ) (bytes : List ℕ) (proof : ProofTree) (rest : List ℕ) : Type 0 where
+  pub of_clauses : IsProofOf program proof
+  pub small : HasSmallValues proof
+  pub low : height_of proof ≤ height
+  pub text : bytes ≡ proof_text program proof ++ rest
+
+-- There are as many derivations, each such, and their texts stand before the rest.
+pub record ProofsFound (program : Parts) (height goals : ℕ) (bytes : List ℕ) (proofs : ProofTrees) (rest : List ℕ) : Type 0 where
+  pub as_many : (atoms : List AtomTree) → length atoms ≡ goals → AreAsMany proofs atoms
+  pub of_clauses : AreProofsOf program proofs
+  pub small : HaveSmallValues proofs
+  pub low : height_among proofs ≤ height
+  pub text : bytes ≡ proofs_text program proofs ++ rest
+
+-- Each derivation that the reader gives is found so.
+abbrev pub IsSoundProof : Parts → ℕ → Reader ProofTree → Type 0
+IsSoundProof program height read = (bytes : List ℕ) (proof : ProofTree) (rest : List ℕ) → read bytes ≡ Some (proof, rest) → ProofFound program height bytes proof rest
+
+none_as_many : (atoms : List AtomTree) → length atoms ≡ 0 → AreAsMany no_goal atoms
+none_as_many [] e = tt
+none_as_many (a ∷ atoms) e = absurd (omega arith)
+
+more_as_many : (goals : ℕ) (proof : ProofTree) (proofs : ProofTrees) → ((atoms : List AtomTree) → length atoms ≡ goals → AreAsMany proofs atoms) → (atoms : List AtomTree) → length atoms ≡ suc goals → AreAsMany (goal_by proof proofs) atoms
+more_as_many goals proof proofs many [] e = absurd (omega arith)
+more_as_many goals proof proofs many (a ∷ atoms) e = many atoms (omega arith)
+
+proofs_found : (program : Parts) (height : ℕ) (read : Reader ProofTree) → IsSoundProof program height read
+    → (goals : ℕ) (bytes : List ℕ) (proofs : ProofTrees) (rest : List ℕ) → proofs_at read goals bytes ≡ Some (proofs, rest) → ProofsFound program height goals bytes proofs rest
+unfolding proofs_at
+proofs_found program height read sound zero bytes proofs rest e =
+    let got : ProofTrees × List ℕ = (no_goal, bytes) in
+    let pair = some_is got (proofs, rest) e in
+    subst (λ (x : ProofTrees × List ℕ). ProofsFound program height zero bytes x.0 x.1) pair (record { as_many = none_as_many; of_clauses = tt; small = tt; low = omega arith; text = refl })
+proofs_found program height read sound (suc goals) bytes proofs rest e =
+    by_bind (literal_at (codes " ") bytes) _ (proofs, rest) e (λ space space-is e.
+    by_bind (read space) _ (proofs, rest) e (λ first first-is e.
+    by_bind (proofs_at read goals first.1) _ (proofs, rest) e (λ others others-is e.
+    let got : ProofTrees × List ℕ = (goal_by first.0 others.0, others.1) in
+    let pair = some_is got (proofs, rest) e in
+    let one = sound space first.0 first.1 first-is in
+    let all = proofs_found program height read sound goals first.1 others.0 others.1 others-is in
+    subst (λ (x : ProofTrees × List ℕ). ProofsFound program height (suc goals) bytes x.0 x.1) pair (record {
+      as_many = more_as_many goals first.0 others.0 all.as_many;
+      of_clauses = (one.of_clauses, all.of_clauses);
+      small = (one.small, all.small);
+      low = let a = one.low in let b = all.low in omega arith;
+      text = literal_found (codes " ") bytes space space-is
+          ∙ ap (λ text. codes " " ++ text) (one.text ∙ ap (λ text. proof_text program first.0 ++ text) all.text ∙ sym (append_assoc (proof_text program first.0) (proofs_text program others.0) others.1));
+    }))))
+
+-- what holds of the clause that is found
+told : (P : ClauseTree → Type 0) (found : Option ClauseTree) (clause : ClauseTree) → found ≡ Some clause → P clause → IsSomeAnd found P
+told P None clause e p = absurd cc
+told P (Some other) clause e p = let same : clause ≡ other = cc in subst P same p
+
+node_found : (program : Parts) (height : ℕ) (read : Reader ProofTree) → IsProgram program → IsSoundProof program height read
+    → (bytes : List ℕ) (proof : ProofTree) (rest : List ℕ) → node_at program (small_at program.signature.cons) read bytes ≡ Some (proof, rest) → ProofFound program (suc height) bytes proof rest
+unfolding node_at
+node_found program height read keeps sound bytes proof rest e =
+    by_bind (begin_at program (small_at program.signature.cons) bytes) _ (proof, rest) e (λ begun begun-is e.
+    by_bind (proofs_at read begun.0.2 begun.1) _ (proof, rest) e (λ subs subs-is e.
+    by_bind (literal_at (codes "]") subs.1) _ (proof, rest) e (λ behind behind-is e.
+    let got : ProofTree × List ℕ = (by_clause begun.0.0 begun.0.1 subs.0, behind) in
+    let pair = some_is got (proof, rest) e in
+    let head = begin_found program bytes begun.0.0 begun.0.1 begun.0.2 begun.1 keeps begun-is in
+    let all = proofs_found program height read sound begun.0.2 begun.1 subs.0 subs.1 subs-is in
+    let clauses = program.clauses in
+    let start = begin_text program begun.0.0 begun.0.1 in
+    let goals = proofs_text program subs.0 in
+    subst (λ (x : ProofTree × List ℕ). ProofFound program (suc height) bytes x.0 x.1) pair (record {
+      of_clauses = (
+        told (λ clause. AreValues program.signature.cons clause.kinds begun.0.1) (slice_get clauses begun.0.0) head.clause head.numbered head.typed,
+        told (λ clause. AreAsMany subs.0 clause.goals) (slice_get clauses begun.0.0) head.clause head.numbered (all.as_many head.clause.goals head.as_many),
+        all.of_clauses,
+      );
+      small = (head.small, all.small);
+      low = let low = all.low in omega arith;
+      text = head.text
+          ∙ ap (λ text. start ++ text) (all.text ∙ ap (λ text. goals ++ text) (literal_found (codes "]") subs.1 behind behind-is) ∙ sym (append_assoc goals (codes "]") behind))
+          ∙ sym (append_assoc start (goals ++ codes "]") behind);
+    }))))
+
+pub proof_found : (program : Parts) (height : ℕ) → IsProgram program → IsSoundProof program height (proof_at program (small_at program.signature.cons) height)
+unfolding proof_at
+proof_found program zero keeps bytes proof rest e = absurd cc
+proof_found program (suc height) keeps bytes proof rest e =
+    node_found program height (proof_at program (small_at program.signature.cons) height) keeps (proof_found program height keeps) bytes proof rest e

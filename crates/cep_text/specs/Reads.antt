@@ -1,0 +1,50 @@
+-- Of which values the bytes are the canonical text, within the sizes that are read.
+use Rattle.std.specs.Prelude.{◌≡◌, ℕ, ◌≤◌, List}
+use Rattle.std.specs.List.{AllByRecursion}
+use Rattle.cep_term.specs.declared.term.TheConstants.{MAX_NODES, MAX_DEPTH}
+use Rattle.cep_term.specs.Tree.{Tree, AtomTree, IsFit, nodes_of, depth_of}
+use Rattle.cep_rule.specs.declared.parts.Parts.{Parts}
+use Rattle.cep_rule.specs.declared.offer.Offer.{Offer}
+use Rattle.cep_rule.specs.Typing.{IsValue}
+use Rattle.cep_rule.specs.Derivations.{ProofTree, ProofTrees, by_clause, no_goal, goal_by, height_of}
+use Rattle.cep_text.specs.declared.read_proofs.TheConstants.{MAX_BRACKETS}
+use Rattle.cep_text.specs.Texts.{term_text, atom_text, offer_text, proof_text, IsTypedFact, IsOfferOf, IsProofOf}
+
+-- A term is small enough to be read: the limits are those of an atom that is kept.
+pub record IsSmallTerm (t : Tree) : Type 0 where
+  pub nodes : nodes_of t ≤ MAX_NODES
+  pub depth : depth_of t ≤ MAX_DEPTH
+
+-- The bytes are the text of a value of the type, which is small enough.
+pub record IsTermText (program : Parts) (sort : ℕ) (bytes : List ℕ) (t : Tree) : Type 0 where
+  pub value : IsValue program.signature.cons sort t
+  pub small : IsSmallTerm t
+  pub text : bytes ≡ term_text program.signature t
+
+-- The bytes are the text of a ground, well-typed, fit atom, linear or backward.
+pub record IsAtomText (program : Parts) (bytes : List ℕ) (a : AtomTree) : Type 0 where
+  pub fact : IsTypedFact program.signature a
+  pub fit : IsFit a
+  pub text : bytes ≡ atom_text program.signature a
+
+-- The bytes are the text of an instance of a rule of the program, with values that are small enough.
+pub record IsOfferText (program : Parts) (bytes : List ℕ) (offer : Offer) : Type 0 where
+  pub of_rule : IsOfferOf program offer
+  pub small : AllByRecursion IsSmallTerm offer.values
+  pub text : bytes ≡ offer_text program offer
+
+-- All values of a derivation, and of derivations, are small enough.
+abbrev mutual
+  pub HasSmallValues : ProofTree → Type 0
+  HasSmallValues (by_clause number values subs) = AllByRecursion IsSmallTerm values × HaveSmallValues subs
+
+  pub HaveSmallValues : ProofTrees → Type 0
+  HaveSmallValues no_goal = Unit {0}
+  HaveSmallValues (goal_by proof proofs) = HasSmallValues proof × HaveSmallValues proofs
+
+-- The bytes are the text of a derivation of the program's shape, with values that are small enough, and not too many brackets are open at once: it is as high.
+pub record IsProofText (program : Parts) (bytes : List ℕ) (proof : ProofTree) : Type 0 where
+  pub of_clauses : IsProofOf program proof
+  pub small : HasSmallValues proof
+  pub low : height_of proof ≤ MAX_BRACKETS
+  pub text : bytes ≡ proof_text program proof

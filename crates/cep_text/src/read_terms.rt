@@ -1,0 +1,92 @@
+ghost use Rattle.std.specs.Prelude.{◌≡◌, IfOk, IfSome, IfNone};
+ghost use Rattle.cep_term.specs.Tree.{Tree, AtomTree, atom_of, tree_of};
+ghost use Rattle.cep_rule.specs.Program.{IsProgram};
+ghost use Rattle.cep_text.specs.Reads.{IsTermText, IsAtomText};
+ghost use Rattle.cep_text.specs.Reading.{Gives, pred_at, term_read, atom_read};
+
+use crate::stop::Stop;
+use crate::values::{arguments, left_after_all, small_value};
+use crate::words::{find, name_len};
+use cep_rule::{Kinds, Program};
+use cep_term::{Atom, MAX_DEPTH, MAX_NODES, Term};
+use std::alloc::{AllocError, Global};
+
+/// The term of this type that the bytes are the text of, as it stands as an argument, or `None`
+/// exactly where they are the text of none. It is ground and well typed, with at most 65,536 nodes
+/// and 512 levels; the type may be any number. The form and the sizes are this profile's. Only want
+/// of memory is refused.
+pub fn read_term(
+    alloc: Global,
+    program: &Program,
+    sort: u32,
+    bytes: &[u8],
+) -> Result<Option<Term>, AllocError>
+    ensures some { IfOk result (λ read. IfSome read (λ t. IsTermText program.now sort bytes.now (tree_of t))) }
+    ensures none { IfOk result (λ read. IfNone read ((t : Tree) → ¬ (IsTermText program.now sort bytes.now t))) }
+{
+    if sort as usize >= program.parts().signature.sorts.len() {
+        return Ok(None);
+    }
+    match whole_term(alloc, program, sort, bytes) {
+        Ok(t) => Ok(Some(t)),
+        Err(Stop::Unread) => Ok(None),
+        Err(Stop::Memory(error)) => Err(error),
+    }
+}
+
+// All of the bytes as a term of the type.
+#[tactic(auto, unfolding(crate::specs::Reading::term_read))]
+fn whole_term(alloc: Global, program: &Program, sort: u32, bytes: &[u8]) -> Result<Term, Stop>
+    ensures { Gives tree_of result (term_read program.now.signature.cons sort bytes.now) }
+{
+    let (t, rest) = small_value(alloc, program, sort, bytes)?;
+    if !rest.is_empty() {
+        return Err(Stop::Unread);
+    }
+    Ok(t)
+}
+
+/// The atom that the bytes are the text of, or `None` exactly where they are the text of none. It is
+/// ground, well typed and fit, and its predicate may be linear or backward. The form and the sizes
+/// are this profile's. Only want of memory is refused.
+pub fn read_atom(alloc: Global, program: &Program, bytes: &[u8]) -> Result<Option<Atom>, AllocError>
+    ensures some { IfOk result (λ read. IfSome read (λ a. IsAtomText program.now bytes.now (atom_of a))) }
+    ensures none { IfOk result (λ read. IfNone read ((a : AtomTree) → ¬ (IsAtomText program.now bytes.now a))) }
+{
+    match whole_atom(alloc, program, bytes) {
+        Ok(a) => Ok(Some(a)),
+        Err(Stop::Unread) => Ok(None),
+        Err(Stop::Memory(error)) => Err(error),
+    }
+}
+
+// All of the bytes as an atom.
+#[tactic(auto, unfolding(crate::specs::Reading::atom_read))]
+fn whole_atom(alloc: Global, program: &Program, bytes: &[u8]) -> Result<Atom, Stop>
+    ensures read { Gives atom_of result (atom_read program.now.signature bytes.now) }
+    ensures kept { IsProgram program.now }
+{
+    let (pred, kinds, rest) = pred(program, bytes)?;
+    let (args, rest) = arguments(alloc, program, MAX_DEPTH as u32 - 1, kinds, 0, rest)?;
+    if !rest.is_empty() {
+        return Err(Stop::Unread);
+    }
+    match left_after_all(&args, MAX_NODES - 1) {
+        Some(_) => Ok(Atom { pred, args }),
+        None => Err(Stop::Unread),
+    }
+}
+
+// A predicate at the front: its number, and the types of its arguments.
+#[tactic(auto, unfolding(crate::specs::Reading::pred_at))]
+fn pred<'p, 'a>(program: &'p Program, bytes: &'a [u8]) -> Result<(u32, &'p Kinds, &'a [u8]), Stop>
+    ensures read { Gives (λ x. ((x.0, x.1.now), x.2.now)) result (pred_at program.now.signature.preds bytes.now) }
+    ensures kept { IsProgram program.now }
+{
+    let preds = &program.parts().signature.preds;
+    let (name, rest) = bytes.split_at(name_len(bytes));
+    match find(preds, name) {
+        Some(number) => Ok((number as u32, &preds.get(number).args, rest)),
+        None => Err(Stop::Unread),
+    }
+}

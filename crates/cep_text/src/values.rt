@@ -1,0 +1,187 @@
+ghost use Rattle.std.specs.Prelude.{◌≡◌, ◌≤◌, ◌<◌, ◌-◌, length, drop, IfOk, SomeIff};
+ghost use Rattle.cep_term.specs.Tree.{tree_of, trees_of, nodes_of, nodes_among};
+ghost use Rattle.cep_text.specs.Reading.{Gives, con_at, bare_at, argument_at, arguments_at, inside_at, enclosed_at, value_at, small_at};
+
+use crate::stop::Stop;
+use crate::words::{find, literal, name_len, strip};
+use cep_rule::{Kinds, Program};
+use cep_term::{Args, MAX_DEPTH, MAX_NODES, Term};
+use std::alloc::Global;
+
+// A constructor of the type at the front: its number, and the types of its arguments.
+#[tactic(auto, unfolding(crate::specs::Reading::con_at))]
+fn con<'p, 'a>(
+    program: &'p Program,
+    sort: u32,
+    bytes: &'a [u8],
+) -> Result<(u32, &'p Kinds, &'a [u8]), Stop>
+    ensures read { Gives (λ x. ((x.0, x.1.now), x.2.now)) result (con_at program.now.signature.cons sort bytes.now) }
+    ensures shorter { IfOk result (λ x. length x.2.now ≤ length bytes.now) }
+{
+    let cons = &program.parts().signature.cons;
+    let (name, rest) = bytes.split_at(name_len(bytes));
+    let Some(number) = find(cons, name) else {
+        return Err(Stop::Unread);
+    };
+    let con = cons.get(number);
+    if con.sort != sort {
+        return Err(Stop::Unread);
+    }
+    Ok((number as u32, &con.args, rest))
+}
+
+// A constructor without arguments at the front.
+#[tactic(auto, unfolding(crate::specs::Reading::bare_at))]
+fn bare<'a>(
+    alloc: Global,
+    program: &Program,
+    sort: u32,
+    bytes: &'a [u8],
+) -> Result<(Term, &'a [u8]), Stop>
+    ensures read { Gives (λ x. (tree_of x.0, x.1.now)) result (bare_at program.now.signature.cons sort bytes.now) }
+    ensures shorter { IfOk result (λ x. length x.1.now ≤ length bytes.now) }
+{
+    let (number, kinds, rest) = con(program, sort, bytes)?;
+    if kinds.len() != 0 {
+        return Err(Stop::Unread);
+    }
+    Ok((Term::App(number, Box::new(alloc, Args::Nil)?), rest))
+}
+
+// A term of the type, of at most so many levels, at the front.
+#[cycle(value)]
+pub(crate) fn value<'a>(
+    alloc: Global,
+    program: &Program,
+    depth: u32,
+    sort: u32,
+    bytes: &'a [u8],
+) -> Result<(Term, &'a [u8]), Stop>
+    ensures read { Gives (λ x. (tree_of x.0, x.1.now)) result (value_at program.now.signature.cons depth sort bytes.now) }
+    ensures shorter { IfOk result (λ x. length x.1.now ≤ length bytes.now) }
+{
+    if depth == 0 {
+        return Err(Stop::Unread);
+    }
+    match strip(b"(", bytes) {
+        Some(inside) => enclosed(alloc, program, depth - 1, sort, inside),
+        None => bare(alloc, program, sort, bytes),
+    }
+}
+
+// A constructor with arguments, behind its parenthesis.
+#[cycle(value)]
+#[tactic(auto, unfolding(crate::specs::Reading::enclosed_at))]
+fn enclosed<'a>(
+    alloc: Global,
+    program: &Program,
+    depth: u32,
+    sort: u32,
+    bytes: &'a [u8],
+) -> Result<(Term, &'a [u8]), Stop>
+    ensures read { Gives (λ x. (tree_of x.0, x.1.now)) result (enclosed_at (value_at program.now.signature.cons depth) program.now.signature.cons sort bytes.now) }
+    ensures shorter { IfOk result (λ x. length x.1.now ≤ length bytes.now) }
+{
+    let (number, kinds, rest) = con(program, sort, bytes)?;
+    let (args, rest) = inside(alloc, program, depth, kinds, rest)?;
+    Ok((Term::App(number, Box::new(alloc, args)?), rest))
+}
+
+// Some arguments, and the parenthesis that ends them.
+#[cycle(value)]
+#[tactic(auto, unfolding(crate::specs::Reading::inside_at))]
+fn inside<'a>(
+    alloc: Global,
+    program: &Program,
+    depth: u32,
+    kinds: &Kinds,
+    bytes: &'a [u8],
+) -> Result<(Args, &'a [u8]), Stop>
+    ensures read { Gives (λ x. (trees_of x.0, x.1.now)) result (inside_at (value_at program.now.signature.cons depth) kinds.now bytes.now) }
+    ensures shorter { IfOk result (λ x. length x.1.now ≤ length bytes.now) }
+{
+    if kinds.len() == 0 {
+        return Err(Stop::Unread);
+    }
+    let (args, rest) = arguments(alloc, program, depth, kinds, 0, bytes)?;
+    Ok((args, literal(b")", rest)?))
+}
+
+// The arguments from one place on.
+#[cycle(value)]
+pub(crate) fn arguments<'a>(
+    alloc: Global,
+    program: &Program,
+    depth: u32,
+    kinds: &Kinds,
+    from: usize,
+    bytes: &'a [u8],
+) -> Result<(Args, &'a [u8]), Stop>
+    requires { from ≤ length kinds.now }
+    ensures read { Gives (λ x. (trees_of x.0, x.1.now)) result (arguments_at (value_at program.now.signature.cons depth) (drop from kinds.now) bytes.now) }
+    ensures shorter { IfOk result (λ x. length x.1.now ≤ length bytes.now) }
+{
+    if from == kinds.len() {
+        return Ok((Args::Nil, bytes));
+    }
+    let (first, rest) = argument(alloc, program, depth, *kinds.get(from), bytes)?;
+    let (others, rest) = arguments(alloc, program, depth, kinds, from + 1, rest)?;
+    Ok((Args::Cons(first, Box::new(alloc, others)?), rest))
+}
+
+// An argument behind its space.
+#[cycle(value)]
+#[tactic(auto, unfolding(crate::specs::Reading::argument_at))]
+fn argument<'a>(
+    alloc: Global,
+    program: &Program,
+    depth: u32,
+    sort: u32,
+    bytes: &'a [u8],
+) -> Result<(Term, &'a [u8]), Stop>
+    ensures read { Gives (λ x. (tree_of x.0, x.1.now)) result (argument_at (value_at program.now.signature.cons depth sort) bytes.now) }
+    ensures shorter { IfOk result (λ x. length x.1.now < length bytes.now) }
+{
+    let rest = literal(b" ", bytes)?;
+    value(alloc, program, depth, sort, rest)
+}
+
+// A term of the type at the front, within the sizes of one.
+#[tactic(auto, unfolding(crate::specs::Reading::small_at))]
+pub(crate) fn small_value<'a>(
+    alloc: Global,
+    program: &Program,
+    sort: u32,
+    bytes: &'a [u8],
+) -> Result<(Term, &'a [u8]), Stop>
+    ensures read { Gives (λ x. (tree_of x.0, x.1.now)) result (small_at program.now.signature.cons sort bytes.now) }
+    ensures shorter { IfOk result (λ x. length x.1.now ≤ length bytes.now) }
+{
+    let (t, rest) = value(alloc, program, MAX_DEPTH as u32, sort, bytes)?;
+    match left_after(&t, MAX_NODES) {
+        Some(_) => Ok((t, rest)),
+        None => Err(Stop::Unread),
+    }
+}
+
+// How many nodes are left after those of the term, if it has not more.
+#[cycle(left)]
+pub(crate) fn left_after(t: &Term, left: u64) -> Option<u64>
+    ensures { SomeIff result (nodes_of (tree_of t.now) ≤ left) (left - nodes_of (tree_of t.now)) }
+{
+    match t {
+        Term::Var(_) => left.checked_sub(1),
+        Term::App(_, args) => left_after_all(args, left.checked_sub(1)?),
+    }
+}
+
+// How many nodes are left after those of the arguments.
+#[cycle(left)]
+pub(crate) fn left_after_all(args: &Args, left: u64) -> Option<u64>
+    ensures { SomeIff result (nodes_among (trees_of args.now) ≤ left) (left - nodes_among (trees_of args.now)) }
+{
+    match args {
+        Args::Nil => Some(left),
+        Args::Cons(t, rest) => left_after_all(rest, left_after(t, left)?),
+    }
+}
