@@ -20,6 +20,7 @@ pub mod Once
 pub mod Declared
 pub mod OneProgram
 pub mod Refused
+pub mod Plain
 pub mod HeadLaws
 pub mod TypedTerms
 pub mod Spelled

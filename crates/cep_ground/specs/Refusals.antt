@@ -27,10 +27,14 @@ pub record IsPlainRule (rule : Rule) : Type 0 where
   pub backs : rule.backs ≡ []
   pub next : rule.next ≡ None
 
+-- In the start stage the player chooses.
+abbrev pub IsInteractive : Parts → Type 0
+IsInteractive parts = IsSomeAnd (slice_get parts.stages parts.start_stage) (λ stage. stage.interactive ≡ true)
+
 -- A program that can be played today: all its rules can, and its start stage is interactive.
 pub record IsBuilt (parts : Parts) : Type 0 where
   pub rules : AllByRecursion IsPlainRule parts.rules
-  pub asked : IsSomeAnd (slice_get parts.stages parts.start_stage) (λ stage. stage.interactive ≡ true)
+  pub interactive : IsInteractive parts
 
 -- the phase in which a reason is judged
 abbrev pub phase : Reason → ℕ
