@@ -4,6 +4,7 @@ use Rattle.cep_parse.specs.Symbols.{symbols_of}
 use Rattle.cep_names.specs.declared.reason.Reason.TheVariants.{NotBuilt}
 use Rattle.cep_names.specs.Misnamed.{wrong}
 use Rattle.cep_rule.specs.declared.parts.Parts.{Parts}
+use Rattle.cep_rule.specs.Groundness.{IsGrounded}
 use Rattle.cep_infer.specs.Meaning.{AreParts}
 use Rattle.cep_ground.specs.Refusals.{IsPlainRule, IsInteractive, IsBuilt}
 use Rattle.cep_ground.proofs.Plain.{plain_bound, plain_backs, yes_of, no_of}
@@ -35,7 +36,9 @@ returns-then-is_asked c =
       clean = c.requires.clean;
       declared = subst (AreParts (record { text = c.args.text.now; file = c.args.file.now })) (sym same) c.requires.declared;
       bound = plain_bound (record { text = c.args.text.now; file = c.args.file.now }) c.args.parts c.requires.declared plain;
-      grounded = c.program.invariant.grounded;
+      grounded = subst (λ (p : Parts). AllByRecursion (IsGrounded p.clauses) p.rules) (sym same)
+          (c.clean_parts_are_a_program.ensures (record { text = c.args.text.now; file = c.args.file.now }) c.args.parts c.requires.clean
+          (plain_bound (record { text = c.args.text.now; file = c.args.file.now }) c.args.parts c.requires.declared plain) c.requires.declared (plain_backs c.args.parts.rules plain)).grounded;
     },
     record {
       rules = subst (λ (p : Parts). AllByRecursion IsPlainRule p.rules) (sym same) plain;
