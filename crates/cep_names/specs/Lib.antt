@@ -6,3 +6,4 @@ pub mod Starts
 pub mod First
 pub mod Tables
 pub mod Misnamed
+pub mod Filling

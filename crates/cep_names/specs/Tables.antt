@@ -1,57 +1,69 @@
 -- Tables of the names of each space, each with what is asked of it later. In place of all declarations of a name they have the first.
-use Rattle.std.specs.Prelude.{◌≡◌, ℕ, Bool, List, Option, Some, None, map}
+use Rattle.std.specs.Prelude.{◌≡◌, ℕ, ◌==◌, Bool, ◌&&◌, not, List, Option, None, map, length, position}
 use Rattle.std.specs.Option.{option_map}
 use Rattle.std.specs.Str.{bytes_eq}
-use Rattle.std.specs.List.{list_any, find, position}
+use Rattle.std.specs.List.{list_any}
+use Rattle.std.specs.Map.{lookup}
+use Rattle.cep_parse.specs.declared.raw.Span.{Span}
+use Rattle.cep_parse.specs.Symbols.{slice_of}
 use Rattle.cep_names.specs.declared.space.Space.{Space}
 use Rattle.cep_names.specs.declared.space.Space.TheVariants as space
+use Rattle.cep_names.specs.declared.table.Shape.{Shape}
 use Rattle.cep_names.specs.Items.{Source}
 use Rattle.cep_names.specs.Spaces.{names_in, is_in, arity_of, pred_named}
 
--- What is asked of a predicate: how many arguments it takes, and whether clauses define it.
-pub record Shape : Type 0 where
-  pub args : ℕ
-  pub back : Bool
+-- whether a table has the name
+abbrev pub has_name : List (List ℕ × Shape) → List ℕ → Bool
+has_name table name = list_any (λ entry. bytes_eq name entry.0) table
 
--- A table for each space. A constructor's entry says how many arguments it takes.
+-- the number of the name, from 0
+abbrev pub number_of : List (List ℕ × Shape) → List ℕ → Option ℕ
+number_of table name = position (λ entry. bytes_eq name entry.0) table
+
+-- what stands under the name
+abbrev pub under : List (List ℕ × Shape) → List ℕ → Option Shape
+under table name = lookup (λ other. bytes_eq name other) table
+
+-- A table for each space: each name once, with how many arguments it takes and whether clauses define it.
 pub record Tables : Type 0 where
-  pub sorts : List (List ℕ)
-  pub constructors : List (List ℕ × ℕ)
+  pub sorts : List (List ℕ × Shape)
+  pub constructors : List (List ℕ × Shape)
   pub predicates : List (List ℕ × Shape)
-  pub stages : List (List ℕ)
-  pub contexts : List (List ℕ)
-  pub rules : List (List ℕ)
+  pub stages : List (List ℕ × Shape)
+  pub contexts : List (List ℕ × Shape)
+  pub rules : List (List ℕ × Shape)
 
--- the names of a space, each once
-abbrev pub table_in : Tables → Space → List (List ℕ)
+-- the table of a space
+abbrev pub table_in : Tables → Space → List (List ℕ × Shape)
 table_in tables space.Sorts = tables.sorts
-table_in tables space.Constructors = map (λ entry. entry.0) tables.constructors
-table_in tables space.Predicates = map (λ entry. entry.0) tables.predicates
+table_in tables space.Constructors = tables.constructors
+table_in tables space.Predicates = tables.predicates
 table_in tables space.Stages = tables.stages
 table_in tables space.Contexts = tables.contexts
 table_in tables space.Rules = tables.rules
 
 -- whether a space has the name
 abbrev pub has_in : Tables → Space → List ℕ → Bool
-has_in tables space name = list_any (λ other. bytes_eq other name) (table_in tables space)
+has_in tables space name = has_name (table_in tables space) name
 
 -- the number of the name in its space, from 0
 abbrev pub number_in : Tables → Space → List ℕ → Option ℕ
-number_in tables space name = position (λ other. bytes_eq other name) (table_in tables space)
-
--- what stands under the name
-abbrev pub under : {T : Type 0} → List (List ℕ × T) → List ℕ → Option T
-under entries name = option_map (λ entry. entry.1) (find (λ entry. bytes_eq entry.0 name) entries)
+number_in tables space name = number_of (table_in tables space) name
 
 -- how many arguments the constructor or the predicate of this name takes
 abbrev pub arity_in : Tables → Space → List ℕ → Option ℕ
-arity_in tables space.Constructors name = under tables.constructors name
+arity_in tables space.Constructors name = option_map (λ shape. shape.args) (under tables.constructors name)
 arity_in tables space.Predicates name = option_map (λ shape. shape.args) (under tables.predicates name)
 arity_in tables _ name = None
 
 -- whether clauses define the predicate of this name
 abbrev pub back_in : Tables → List ℕ → Option Bool
 back_in tables name = option_map (λ shape. shape.back) (under tables.predicates name)
+
+-- whether `x : y.` is a clause with a label, as the types and the predicates say
+abbrev pub is_labelled_in : Tables → List ℕ → List Span → Span → Bool
+is_labelled_in tables text args right =
+    (length args == 0) && (not (has_in tables space.Sorts (slice_of text right.from right.to)) && has_in tables space.Predicates (slice_of text right.from right.to))
 
 -- The tables say of each name what the first declaration of it in its space says.
 pub record AreTablesOf (source : Source) (tables : Tables) : Type 0 where
@@ -61,4 +73,4 @@ pub record AreTablesOf (source : Source) (tables : Tables) : Type 0 where
 
 -- The tables are the names of each space in written order: no name is declared again.
 abbrev pub AreWhole : Source → Tables → Type 0
-AreWhole source tables = (space : Space) → table_in tables space ≡ map (λ named. named.name) (names_in source space)
+AreWhole source tables = (space : Space) → map (λ entry. entry.0) (table_in tables space) ≡ map (λ named. named.name) (names_in source space)

@@ -2,10 +2,17 @@
 //! wrong with its names.
 #![tactic(auto)]
 
+mod entries;
 mod fault;
+mod names;
 mod reason;
 mod space;
+mod table;
+mod text;
 
+pub use entries::Tabled;
 pub use fault::Fault;
+pub use names::Names;
 pub use reason::Reason;
 pub use space::{Role, Space};
+pub use text::said;

@@ -1,3 +1,6 @@
+ghost use Rattle.std.specs.Prelude.{◌≡◌};
+ghost use Rattle.cep_names.specs.First.{number, reason_name};
+
 /// Why a text is refused. The reasons are numbered from 1 in this order, and all of them, with
 /// their numbers, are this profile's.
 #[derive(Clone, Copy, Debug, PartialEq, Eq)]
@@ -42,4 +45,41 @@ pub enum Reason {
     TooLong,
     /// A program that cannot be played yet.
     NotBuilt,
+}
+
+impl Reason {
+    /// The number of the reason, from 1 to 20.
+    pub fn number(self) -> u8
+        ensures { result ≡ number self }
+    {
+        self as u8 + 1
+    }
+
+    /// The name of the reason, by which a refusal is told.
+    pub fn name(self) -> &'static str
+        ensures { result.now ≡ reason_name self }
+    {
+        match self {
+            Reason::BadByte => "BadByte",
+            Reason::NameLong => "NameLong",
+            Reason::Unexpected => "Unexpected",
+            Reason::Nested => "Nested",
+            Reason::Twice => "Twice",
+            Reason::Unknown => "Unknown",
+            Reason::WrongKind => "WrongKind",
+            Reason::WrongArity => "WrongArity",
+            Reason::TypeClash => "TypeClash",
+            Reason::VarInContext => "VarInContext",
+            Reason::BwdInState => "BwdInState",
+            Reason::LinearInClause => "LinearInClause",
+            Reason::BadQui => "BadQui",
+            Reason::NoTrace => "NoTrace",
+            Reason::TwoTraces => "TwoTraces",
+            Reason::Unbound => "Unbound",
+            Reason::Ungrounded => "Ungrounded",
+            Reason::OverLimit => "OverLimit",
+            Reason::TooLong => "TooLong",
+            Reason::NotBuilt => "NotBuilt",
+        }
+    }
 }

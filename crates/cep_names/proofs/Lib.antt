@@ -1,0 +1,3 @@
+pub mod TableEntries
+pub mod RuleNames
+pub mod SpaceNames
