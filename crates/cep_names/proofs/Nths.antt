@@ -47,3 +47,31 @@ pub past_none : {X : Type 0} (f : X → List ℕ) (xs : List X) (i before most :
 past_none f xs i before most end is few =
     let all : before ≡ length (flat_map f xs) = is ∙ ap (λ ys. length (flat_map f ys)) (take_past xs i end) in
     sym (ap (λ o. first_in (past o)) (slice_get_past (flat_map f xs) most (omega arith)))
+
+slice_get_behind : {X : Type 0} (xs ys : List X) (n k : ℕ) → n ≡ length xs + k → slice_get (xs ++ ys) n ≡ slice_get ys k
+slice_get_behind [] ys n k e = ap (slice_get ys) (omega (arith, e))
+slice_get_behind (x ∷ xs) ys zero k e = absurd (omega (arith, e))
+slice_get_behind (x ∷ xs) ys (suc n) k e = slice_get_behind xs ys n k (omega (arith, e))
+
+-- the first one too many is among those of an item
+pub past_within : {X : Type 0} (f : X → List ℕ) (xs : List X) (i : ℕ) (x : X) (before most p : ℕ) (result : Option Fault) → i < length xs → x ≡ get_or xs i x
+    → before ≡ length (flat_map f (take i xs)) → before ≤ most → slice_get (f x) (most - before) ≡ Some p → result ≡ first_in (past (Some p)) → result ≡ first_in (past (slice_get (flat_map f xs) most))
+past_within f xs i x before most p result h at was few here is =
+    is ∙ sym (ap (λ o. first_in (past o))
+        (ap (λ ys. slice_get ys most) (given_rest f xs (i + 1))
+        ∙ slice_get_kept (flat_map f (take (i + 1) xs)) (flat_map f (drop (i + 1) xs)) most p
+            (ap (λ ys. slice_get ys most) (given_more f xs i x h at)
+            ∙ slice_get_behind (flat_map f (take i xs)) (f x) most (most - before) (omega (arith, was)) ∙ here)))
+
+slice_get_none : {X : Type 0} (xs : List X) (n : ℕ) → slice_get xs n ≡ None → length xs ≤ n
+slice_get_none [] n e = omega arith
+slice_get_none (x ∷ xs) zero e = absurd cc
+slice_get_none (x ∷ xs) (suc n) e = let h = slice_get_none xs n e in omega arith
+
+pub counted_more : {X : Type 0} (f : X → List ℕ) (xs : List X) (i : ℕ) (x : X) (before more : ℕ) → i < length xs → x ≡ get_or xs i x
+    → before ≡ length (flat_map f (take i xs)) → more ≡ length (f x) → before + more ≡ length (flat_map f (take (i + 1) xs))
+counted_more f xs i x before more h at was is =
+    sym (ap length (given_more f xs i x h at) ∙ length-append (flat_map f (take i xs)) (f x) ∙ ap (λ n. n + length (f x)) (sym was) ∙ ap (λ n. before + n) (sym is))
+
+pub counted_few : {X : Type 0} (ys : List X) (before most more : ℕ) → before ≤ most → slice_get ys (most - before) ≡ None → more ≡ length ys → before + more ≤ most
+counted_few ys before most more few none is = let h = slice_get_none ys (most - before) none in omega (arith, is)

@@ -21,6 +21,7 @@ use Rattle.cep_names.specs.declared.space.Role.{Role}
 use Rattle.cep_names.specs.declared.space.Role.TheVariants as role
 use Rattle.cep_names.specs.Items.{PredItem, ConItem, ClauseItem, TraceItem, preds_in, traces_in}
 use Rattle.cep_names.specs.Uses.{Placed, Use, placed, node_uses, con_uses, own_uses, rule_atoms, start_listed, clause_atoms, atoms_of}
+use Rattle.cep_names.specs.Filling.{item_rules}
 use Rattle.cep_names.specs.Misnamed.{wrong, is_declared, is_qui, is_stage}
 use Rattle.cep_names.specs.Looks.{Looks, says, is_anywhere, names_context, cons_by, clauses_by}
 
@@ -146,12 +147,7 @@ turns_faults text (Some number) = if is_turn_limit (digits_value 10 (slice_of te
 abbrev pub trace_faults : Looks → TraceItem → List Fault
 trace_faults looks trace = turns_faults looks.text trace.limit
 
--- the rules of an item, and those outside of stages
-abbrev pub raws_in : RawItem → List RawRule
-raws_in (item.Outer rule) = rule ∷ []
-raws_in (item.Stage name rules) = rules
-raws_in _ = []
-
+-- the rules outside of stages
 abbrev pub outers_in : RawItem → List RawRule
 outers_in (item.Outer rule) = rule ∷ []
 outers_in _ = []
@@ -170,6 +166,6 @@ item_faults looks item =
     ++ (flat_map (λ pred. argument_faults pred.args) (preds_in item)
     ++ (flat_map (placed_faults looks) (state_atoms item)
     ++ (flat_map (clause_faults looks) (clauses_by looks item)
-    ++ (flat_map (rule_faults looks) (raws_in item)
+    ++ (flat_map (rule_faults looks) (item_rules item)
     ++ (flat_map qui_faults (outers_in item)
     ++ flat_map (trace_faults looks) (traces_in item)))))))

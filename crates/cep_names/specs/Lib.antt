@@ -7,3 +7,6 @@ pub mod First
 pub mod Tables
 pub mod Misnamed
 pub mod Filling
+pub mod Looks
+pub mod Faults
+pub mod Totals

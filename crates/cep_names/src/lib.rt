@@ -2,13 +2,22 @@
 //! wrong with its names.
 #![tactic(auto)]
 
+mod atoms;
+mod counts;
 mod entries;
 mod fault;
+mod items;
 mod names;
 mod reason;
+mod rules;
+mod sizes;
+
 mod space;
 mod table;
 mod text;
+mod traces;
+
+mod uses;
 
 pub use entries::Tabled;
 pub use fault::Fault;
