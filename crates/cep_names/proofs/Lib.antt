@@ -5,3 +5,4 @@ pub mod Firsts
 pub mod Nths
 pub mod SizeTables
 pub mod TraceSteps
+pub mod SeenLaws

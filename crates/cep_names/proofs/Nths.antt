@@ -8,13 +8,13 @@ use Rattle.cep_names.specs.declared.fault.Fault.{Fault}
 use Rattle.cep_names.specs.First.{first_in}
 use Rattle.cep_names.specs.Faults.{past}
 
-slice_get_at : {X : Type 0} (xs : List X) (y : X) (ys : List X) (n : ℕ) → n ≡ length xs → slice_get (xs ++ y ∷ ys) n ≡ Some y
+pub slice_get_at : {X : Type 0} (xs : List X) (y : X) (ys : List X) (n : ℕ) → n ≡ length xs → slice_get (xs ++ y ∷ ys) n ≡ Some y
 slice_get_at [] y ys zero e = refl
 slice_get_at [] y ys (suc n) e = cc
 slice_get_at (x ∷ xs) y ys zero e = cc
 slice_get_at (x ∷ xs) y ys (suc n) e = slice_get_at xs y ys n (omega (arith, e))
 
-slice_get_kept : {X : Type 0} (xs ys : List X) (n : ℕ) (x : X) → slice_get xs n ≡ Some x → slice_get (xs ++ ys) n ≡ Some x
+pub slice_get_kept : {X : Type 0} (xs ys : List X) (n : ℕ) (x : X) → slice_get xs n ≡ Some x → slice_get (xs ++ ys) n ≡ Some x
 slice_get_kept [] ys n x e = cc
 slice_get_kept (y ∷ xs) ys zero x e = e
 slice_get_kept (y ∷ xs) ys (suc n) x e = slice_get_kept xs ys n x e
@@ -26,7 +26,7 @@ given_more f xs i x h at =
     ∙ ap (λ ys. flat_map f (take i xs) ++ ys) (append-nil (f (get_or xs i x)) ∙ sym (ap f at))
 
 -- the first of some items and the rest
-given_rest : {X : Type 0} {Y : Type 0} (f : X → List Y) (xs : List X) (i : ℕ) → flat_map f xs ≡ flat_map f (take i xs) ++ flat_map f (drop i xs)
+pub given_rest : {X : Type 0} {Y : Type 0} (f : X → List Y) (xs : List X) (i : ℕ) → flat_map f xs ≡ flat_map f (take i xs) ++ flat_map f (drop i xs)
 given_rest f xs i = ap (flat_map f) (sym (take-append-drop i xs)) ∙ flat_map-append f (take i xs) (drop i xs)
 
 -- the first one too many is found
@@ -39,7 +39,7 @@ past_found f xs i x before most p result h at was one reached is =
             (ap (λ ys. slice_get ys most) (given_more f xs i x h at ∙ ap (λ ys. flat_map f (take i xs) ++ ys) one)
             ∙ slice_get_at (flat_map f (take i xs)) p [] most (sym reached ∙ was))))
 
-take_past : {X : Type 0} (xs : List X) (i : ℕ) → length xs ≤ i → take i xs ≡ xs
+pub take_past : {X : Type 0} (xs : List X) (i : ℕ) → length xs ≤ i → take i xs ≡ xs
 take_past xs i h = grind (arith, common_steps)
 
 -- there are not too many
@@ -48,7 +48,7 @@ past_none f xs i before most end is few =
     let all : before ≡ length (flat_map f xs) = is ∙ ap (λ ys. length (flat_map f ys)) (take_past xs i end) in
     sym (ap (λ o. first_in (past o)) (slice_get_past (flat_map f xs) most (omega arith)))
 
-slice_get_behind : {X : Type 0} (xs ys : List X) (n k : ℕ) → n ≡ length xs + k → slice_get (xs ++ ys) n ≡ slice_get ys k
+pub slice_get_behind : {X : Type 0} (xs ys : List X) (n k : ℕ) → n ≡ length xs + k → slice_get (xs ++ ys) n ≡ slice_get ys k
 slice_get_behind [] ys n k e = ap (slice_get ys) (omega (arith, e))
 slice_get_behind (x ∷ xs) ys zero k e = absurd (omega (arith, e))
 slice_get_behind (x ∷ xs) ys (suc n) k e = slice_get_behind xs ys n k (omega (arith, e))
@@ -63,7 +63,7 @@ past_within f xs i x before most p result h at was few here is =
             (ap (λ ys. slice_get ys most) (given_more f xs i x h at)
             ∙ slice_get_behind (flat_map f (take i xs)) (f x) most (most - before) (omega (arith, was)) ∙ here)))
 
-slice_get_none : {X : Type 0} (xs : List X) (n : ℕ) → slice_get xs n ≡ None → length xs ≤ n
+pub slice_get_none : {X : Type 0} (xs : List X) (n : ℕ) → slice_get xs n ≡ None → length xs ≤ n
 slice_get_none [] n e = omega arith
 slice_get_none (x ∷ xs) zero e = absurd cc
 slice_get_none (x ∷ xs) (suc n) e = let h = slice_get_none xs n e in omega arith

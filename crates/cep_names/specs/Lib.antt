@@ -9,4 +9,5 @@ pub mod Misnamed
 pub mod Filling
 pub mod Looks
 pub mod Faults
+pub mod Seen
 pub mod Totals

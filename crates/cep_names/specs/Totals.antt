@@ -20,9 +20,10 @@ use Rattle.cep_names.specs.declared.counts.Counted.{Counted}
 use Rattle.cep_names.specs.declared.counts.Counted.TheVariants as counted
 use Rattle.cep_names.specs.declared.sizes.Size.{Size}
 use Rattle.cep_names.specs.Items.{ClauseItem, ContextItem, TraceItem, preds_in, traces_in}
-use Rattle.cep_names.specs.Filling.{text_alone, item_rules}
+use Rattle.cep_names.specs.Filling.{item_rules}
 use Rattle.cep_names.specs.Misnamed.{wrong}
-use Rattle.cep_names.specs.Variables.{variables_of}
+use Rattle.cep_names.specs.Variables.{nodes_of}
+use Rattle.cep_names.specs.Seen.{unseen, new_in}
 use Rattle.cep_names.specs.Starts.{nodes_written, depth_written}
 use Rattle.cep_names.specs.Looks.{Looks, says, names_context, cons_by, clauses_by}
 use Rattle.cep_names.specs.Uses.{atoms_of}
@@ -48,7 +49,7 @@ all_count_faults looks file =
 
 -- the first variable that is one too many
 abbrev pub variable_faults : List ℕ → List RawAtom → List Fault
-variable_faults text atoms = past (slice_get (map (λ occurrence. occurrence.at.from) (variables_of (text_alone text) atoms)) MOST_VARIABLES)
+variable_faults text atoms = past (slice_get (new_in text unseen (nodes_of atoms)) MOST_VARIABLES)
 
 abbrev pub item_variable_faults : Looks → RawItem → List Fault
 item_variable_faults looks item =

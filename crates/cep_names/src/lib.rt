@@ -18,6 +18,7 @@ mod text;
 mod traces;
 
 mod uses;
+mod variables;
 
 pub use entries::Tabled;
 pub use fault::Fault;
