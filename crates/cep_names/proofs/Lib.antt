@@ -6,3 +6,4 @@ pub mod Nths
 pub mod SizeTables
 pub mod TraceSteps
 pub mod SeenLaws
+pub mod Pending

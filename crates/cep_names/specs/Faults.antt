@@ -152,11 +152,18 @@ abbrev pub outers_in : RawItem → List RawRule
 outers_in (item.Outer rule) = rule ∷ []
 outers_in _ = []
 
--- the atoms of states
+-- the atoms that a context or a trace lists
+abbrev pub listed_atoms : RawItem → List RawAtom
+listed_atoms (item.Context name atoms) = atoms
+listed_atoms (item.Trace at limit stage start) = start_listed start
+listed_atoms _ = []
+
+abbrev pub state_role : RawItem → Role
+state_role (item.Trace at limit stage start) = role.Start
+state_role _ = role.Listed
+
 abbrev pub state_atoms : RawItem → List Placed
-state_atoms (item.Context name atoms) = map (placed role.Listed) atoms
-state_atoms (item.Trace at limit stage start) = map (placed role.Start) (start_listed start)
-state_atoms _ = []
+state_atoms item = map (placed (state_role item)) (listed_atoms item)
 
 -- an item, but for its variables, the sizes of its atoms and its number among others
 abbrev pub item_faults : Looks → RawItem → List Fault

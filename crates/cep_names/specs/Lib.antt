@@ -10,4 +10,5 @@ pub mod Filling
 pub mod Looks
 pub mod Faults
 pub mod Seen
+pub mod Levels
 pub mod Totals

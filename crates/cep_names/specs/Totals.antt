@@ -27,7 +27,7 @@ use Rattle.cep_names.specs.Seen.{unseen, new_in}
 use Rattle.cep_names.specs.Starts.{nodes_written, depth_written}
 use Rattle.cep_names.specs.Looks.{Looks, says, names_context, cons_by, clauses_by}
 use Rattle.cep_names.specs.Uses.{atoms_of}
-use Rattle.cep_names.specs.Faults.{past, state_atoms}
+use Rattle.cep_names.specs.Faults.{past, listed_atoms}
 
 -- the places of what an item declares
 abbrev pub places_in : Looks → Counted → RawItem → List ℕ
@@ -64,7 +64,7 @@ abbrev pub unfit_faults : RawAtom → List Fault
 unfit_faults atom = if is_fit atom then [] else wrong OverLimit atom.name.from ∷ []
 
 abbrev pub item_unfit_faults : RawItem → List Fault
-item_unfit_faults item = flat_map (λ p. unfit_faults p.atom) (state_atoms item)
+item_unfit_faults item = flat_map unfit_faults (listed_atoms item)
 
 -- how many atoms there are, and how many nodes they have
 abbrev pub size_of : List RawAtom → Size

@@ -6,6 +6,7 @@ mod atoms;
 mod counts;
 mod entries;
 mod fault;
+mod fitness;
 mod items;
 mod names;
 mod reason;
