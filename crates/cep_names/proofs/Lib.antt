@@ -2,8 +2,13 @@ pub mod TableEntries
 pub mod RuleNames
 pub mod SpaceNames
 pub mod Firsts
+pub mod FirstLoops
 pub mod Nths
 pub mod SizeTables
 pub mod TraceSteps
 pub mod SeenLaws
 pub mod Pending
+pub mod Growing
+pub mod Declaring
+pub mod Telling
+pub mod Again

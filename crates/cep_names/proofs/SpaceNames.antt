@@ -6,11 +6,8 @@ use Rattle.cep_parse.specs.declared.raw.Span.{Span}
 use Rattle.cep_names.specs.declared.space.Space.TheVariants as space
 use Rattle.cep_names.specs.Items.{Source, said, sorts_of, preds_of, is_said, is_labelled}
 use Rattle.cep_names.specs.Spaces.{named, is_in}
+use Rattle.cep_names.proofs.Growing.{any_map}
 use Rattle.cep_names.specs.Tables.{Tables, AreTablesOf, has_in, is_labelled_in}
-
-any_map : {X Y : Type 0} (test : Y → Bool) (f : X → Y) (xs : List X) → list_any test (map f xs) ≡ list_any (λ x. test (f x)) xs
-any_map test f [] = refl
-any_map test f (x ∷ xs) = ap (λ (rest : Bool). test (f x) || rest) (any_map test f xs)
 
 sorts_said : (source : Source) (name : List ℕ) → is_in source space.Sorts name ≡ is_said source (sorts_of source) name
 sorts_said source name = any_map (λ other. bytes_eq other.name name) (named source) (sorts_of source)

@@ -1,14 +1,11 @@
 -- The entries of a table, whose keys hold their names in a field that `name_of` reads.
 use Rattle.std.proofs.Common.{◌≡◌, ℕ, ◌+◌, Bool, true, false, ◌||◌, not, if◌then◌else◌, List, [], ◌∷◌, ◌++◌, map, Option, None, Some, is_some, position, length, refl, ap, sym, ◌∙◌}
 use Rattle.std.specs.List.{list_any, prefix_len}
+use Rattle.std.proofs.lemmas.Bool.{or_parts}
 use Rattle.std.proofs.lemmas.List.{length-map}
 use Rattle.indexmap.specs.IndexMap.{insert_entry}
 use Rattle.std.specs.Map.{lookup, keys_of}
 use Rattle.std.specs.Str.{bytes_eq}
-
-or_false : (a b : Bool) → (a || b) ≡ false → (a ≡ false) × (b ≡ false)
-or_false false b e = (refl, e)
-or_false true b e = absurd cc
 
 module _ {K X : Type 0} (name_of : K → List ℕ) where
   abbrev pub seen : List (K × X) → List (List ℕ × X)
@@ -40,7 +37,7 @@ module _ {K X : Type 0} (name_of : K → List ℕ) where
       → seen (insert_entry (λ one other. bytes_eq (name_of one) (name_of other)) entries key value) ≡ seen entries ++ (name_of key, value) ∷ []
   insert_seen key value [] absent = refl
   insert_seen key value (entry ∷ entries) absent =
-      let both = or_false (bytes_eq (name_of key) (name_of entry.0)) (list_any (λ other. bytes_eq (name_of key) other.0) (seen entries)) absent in
+      let both = or_parts (bytes_eq (name_of key) (name_of entry.0)) (list_any (λ other. bytes_eq (name_of key) other.0) (seen entries)) absent in
       rw both.0 (ap (λ (rest : List (List ℕ × X)). (name_of entry.0, entry.1) ∷ rest) (insert_seen key value entries both.1))
 
   -- a new name stands at the end

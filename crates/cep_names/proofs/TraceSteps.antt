@@ -11,7 +11,7 @@ use Rattle.cep_names.specs.Items.{TraceItem, traces_in}
 use Rattle.cep_names.specs.Misnamed.{wrong}
 use Rattle.cep_names.specs.Looks.{Looks}
 use Rattle.cep_names.specs.Totals.{start_faults, trace_step, after_trace}
-use Rattle.cep_names.proofs.Firsts.{first_in_append}
+use Rattle.cep_names.proofs.FirstLoops.{first_in_append}
 use Rattle.cep_names.proofs.Nths.{given_more}
 
 abbrev two : TraceItem → Fault

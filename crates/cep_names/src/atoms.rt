@@ -86,7 +86,7 @@ fn linear_fault(back: Option<bool>, at: u32) -> Option<Fault>
 }
 
 // The first fault of an atom of a state, apart from the names that it uses.
-#[tactic(auto, using(crate::proofs::Firsts::first_in_append))]
+#[tactic(auto, using(crate::proofs::FirstLoops::first_in_append))]
 fn state_fault(names: &Names, text: &[u8], name: Span, nodes: &[RawNode]) -> Option<Fault>
     ensures { result ≡ first_in (state_faults (looks_in text.now names.now) name nodes.now) }
 {
@@ -115,7 +115,7 @@ fn role_fault(
 }
 
 // The first fault of an atom: of the names that it uses, and of its role.
-#[tactic(auto, using(crate::proofs::Firsts::first_in_append))]
+#[tactic(auto, using(crate::proofs::FirstLoops::first_in_append))]
 pub(crate) fn placed_fault(
     names: &Names,
     text: &[u8],

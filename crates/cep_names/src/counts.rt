@@ -109,7 +109,7 @@ fn count_past(
 }
 
 // The first of all that is one too many.
-#[tactic(auto, using(crate::proofs::Firsts::first_in_append))]
+#[tactic(auto, using(crate::proofs::FirstLoops::first_in_append))]
 pub(crate) fn counts_fault(names: &Names, text: &[u8], items: &[RawItem]) -> Option<Fault>
     ensures { result ≡ first_in (all_count_faults (looks_in text.now names.now) items.now) }
 {

@@ -158,7 +158,6 @@ impl Tabled {
         Ok(unlabelled)
     }
 
-    #[tactic(auto, using(crate::proofs::RuleNames::rules_then))]
     fn declare_all_rules(
         &mut self,
         alloc: Global,

@@ -28,7 +28,7 @@ fn argument_past(args: &[Span]) -> Option<Fault>
 }
 
 // The first fault of a constructor's declaration.
-#[tactic(auto, using(crate::proofs::Firsts::first_in_append))]
+#[tactic(auto, using(crate::proofs::FirstLoops::first_in_append))]
 fn con_fault(names: &Names, text: &[u8], left: Span, args: &[Span], right: Span) -> Option<Fault>
     ensures { result ≡ first_in (con_faults (looks_in text.now names.now) (record { name = left; args = args.now; sort = right })) }
 {
@@ -40,7 +40,7 @@ fn con_fault(names: &Names, text: &[u8], left: Span, args: &[Span], right: Span)
 }
 
 // The first fault of a predicate's declaration.
-#[tactic(auto, using(crate::proofs::Firsts::first_in_append))]
+#[tactic(auto, using(crate::proofs::FirstLoops::first_in_append))]
 fn pred_fault(names: &Names, text: &[u8], name: Span, args: &Spans, back: bool) -> Option<Fault>
     ensures { result ≡ first_in (item_faults (looks_in text.now names.now) (RawItem.Pred name args.now back)) }
 {
@@ -66,7 +66,7 @@ fn colon_fault(
 }
 
 // The first fault of a rule outside of stages, but for its variables.
-#[tactic(auto, using(crate::proofs::Firsts::first_in_append))]
+#[tactic(auto, using(crate::proofs::FirstLoops::first_in_append))]
 fn outer_fault(names: &Names, text: &[u8], rule: &RawRule) -> Option<Fault>
     ensures { result ≡ first_in (item_faults (looks_in text.now names.now) (RawItem.Outer rule.now)) }
 {
@@ -135,7 +135,7 @@ fn turns_fault(text: &[u8], limit: Option<Span>) -> Option<Fault>
 }
 
 // The first fault of a trace, but for its number among others and the size of its start state.
-#[tactic(auto, using(crate::proofs::Firsts::first_in_append))]
+#[tactic(auto, using(crate::proofs::FirstLoops::first_in_append))]
 fn trace_fault(
     names: &Names,
     text: &[u8],

@@ -27,3 +27,6 @@ pub use names::Names;
 pub use reason::Reason;
 pub use space::{Role, Space};
 pub use text::said;
+
+#[cfg(test)]
+mod tests;

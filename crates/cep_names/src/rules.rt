@@ -102,7 +102,7 @@ fn atom_past(side: &[RawElem], most: usize) -> Option<Fault>
 }
 
 // The first of what is too many in a rule.
-#[tactic(auto, using(crate::proofs::Firsts::first_in_append))]
+#[tactic(auto, using(crate::proofs::FirstLoops::first_in_append))]
 fn size_fault(names: &Names, text: &[u8], rule: &RawRule) -> Option<Fault>
     ensures { result ≡ first_in (size_faults (looks_in text.now names.now) rule.now) }
 {
@@ -115,7 +115,7 @@ fn size_fault(names: &Names, text: &[u8], rule: &RawRule) -> Option<Fault>
 }
 
 // The first fault of the atoms of a rule.
-#[tactic(auto, using(crate::proofs::Firsts::first_in_parts))]
+#[tactic(auto, using(crate::proofs::FirstLoops::first_in_parts))]
 fn rule_atoms_fault(names: &Names, text: &[u8], rule: &RawRule) -> Option<Fault>
     ensures { result ≡ first_in (flat_map (placed_faults (looks_in text.now names.now)) (rule_atoms rule.now)) }
 {
@@ -126,7 +126,7 @@ fn rule_atoms_fault(names: &Names, text: &[u8], rule: &RawRule) -> Option<Fault>
 }
 
 // The first fault of a rule, but for its variables.
-#[tactic(auto, using(crate::proofs::Firsts::first_in_append))]
+#[tactic(auto, using(crate::proofs::FirstLoops::first_in_append))]
 pub(crate) fn rule_fault(names: &Names, text: &[u8], rule: &RawRule) -> Option<Fault>
     ensures { result ≡ first_in (rule_faults (looks_in text.now names.now) rule.now) }
 {
@@ -215,7 +215,7 @@ fn goal_past(goals: &[RawAtom]) -> Option<Fault>
 }
 
 // The first fault of a clause, but for its variables.
-#[tactic(auto, using(crate::proofs::Firsts::first_in_append))]
+#[tactic(auto, using(crate::proofs::FirstLoops::first_in_append))]
 pub(crate) fn clause_fault(
     names: &Names,
     text: &[u8],
@@ -232,7 +232,7 @@ pub(crate) fn clause_fault(
 }
 
 // The first fault of a clause that is a predicate without arguments.
-#[tactic(auto, using(crate::proofs::Firsts::first_in_append))]
+#[tactic(auto, using(crate::proofs::FirstLoops::first_in_append))]
 pub(crate) fn bare_fault(names: &Names, text: &[u8], name: Span) -> Option<Fault>
     ensures { result ≡ first_in (clause_faults (looks_in text.now names.now) (record { head = bare name; goals = [] })) }
 {

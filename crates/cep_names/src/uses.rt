@@ -59,7 +59,7 @@ fn arity_fault(arity: Option<usize>, args: u32, at: u32) -> Option<Fault>
 }
 
 // The first fault of a use of a name with so many arguments.
-#[tactic(auto, using(crate::proofs::Firsts::first_in_append))]
+#[tactic(auto, using(crate::proofs::FirstLoops::first_in_append))]
 pub(crate) fn use_fault(
     names: &Names,
     text: &[u8],
@@ -76,7 +76,7 @@ pub(crate) fn use_fault(
 }
 
 // The first fault of the types that these spans name.
-#[tactic(auto, using(crate::proofs::Firsts::first_in_append))]
+#[tactic(auto, using(crate::proofs::FirstLoops::first_in_append))]
 pub(crate) fn sorts_fault(names: &Names, text: &[u8], sorts: &[Span]) -> Option<Fault>
     ensures { result ≡ first_in (flat_map (use_faults (looks_in text.now names.now)) (map (use_in Space.Sorts) sorts.now)) }
 {
@@ -98,7 +98,7 @@ fn node_fault(names: &Names, text: &[u8], node: &RawNode) -> Option<Fault>
 }
 
 // The first fault of the constructors at nodes.
-#[tactic(auto, using(crate::proofs::Firsts::first_in_append))]
+#[tactic(auto, using(crate::proofs::FirstLoops::first_in_append))]
 pub(crate) fn nodes_fault(names: &Names, text: &[u8], nodes: &[RawNode]) -> Option<Fault>
     ensures { result ≡ first_in (flat_map (node_faults (looks_in text.now names.now)) nodes.now) }
 {

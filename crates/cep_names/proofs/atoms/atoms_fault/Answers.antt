@@ -1,7 +1,7 @@
 use Rattle.cep_names.specs.Looks.{looks_in}
 use Rattle.cep_names.specs.Uses.{placed}
 use Rattle.cep_names.specs.Faults.{placed_faults}
-use Rattle.cep_names.proofs.Firsts.{first_mapped}
+use Rattle.cep_names.proofs.FirstLoops.{first_mapped}
 use Rattle.cep_names.proofs.atoms.atoms_fault.Goals as goal
 
 pub loop-atom-preserved : goal.loop-atom-preserved

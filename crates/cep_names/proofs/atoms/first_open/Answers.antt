@@ -1,5 +1,5 @@
 use Rattle.cep_names.specs.Faults.{open_faults}
-use Rattle.cep_names.proofs.Firsts.{first_more_at}
+use Rattle.cep_names.proofs.FirstLoops.{first_more_at}
 use Rattle.cep_names.proofs.atoms.first_open.Goals as goal
 
 pub loop-node-preserved : goal.loop-node-preserved

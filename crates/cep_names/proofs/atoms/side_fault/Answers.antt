@@ -2,7 +2,7 @@ use Rattle.cep_names.specs.Looks.{looks_in}
 use Rattle.cep_names.specs.Uses.{placed, atoms_of}
 use Rattle.cep_names.specs.Faults.{placed_faults}
 use Rattle.cep_names.specs.Uses.{atoms_in}
-use Rattle.cep_names.proofs.Firsts.{first_flat_mapped}
+use Rattle.cep_names.proofs.FirstLoops.{first_flat_mapped}
 use Rattle.cep_names.proofs.atoms.side_fault.Goals as goal
 
 pub loop-elem-preserved : goal.loop-elem-preserved

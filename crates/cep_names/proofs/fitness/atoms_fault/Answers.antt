@@ -1,5 +1,5 @@
 use Rattle.cep_names.specs.Totals.{unfit_faults}
-use Rattle.cep_names.proofs.Firsts.{first_more}
+use Rattle.cep_names.proofs.FirstLoops.{first_more}
 use Rattle.cep_names.proofs.fitness.atoms_fault.Goals as goal
 
 pub loop-atom-preserved : goal.loop-atom-preserved

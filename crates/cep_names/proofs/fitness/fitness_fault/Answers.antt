@@ -2,7 +2,7 @@ use Rattle.std.proofs.Common.{ap, ◌∙◌}
 use Rattle.cep_names.specs.First.{first_in}
 use Rattle.std.specs.List.{flat_map}
 use Rattle.cep_names.specs.Totals.{unfit_faults, item_unfit_faults}
-use Rattle.cep_names.proofs.Firsts.{first_more}
+use Rattle.cep_names.proofs.FirstLoops.{first_more}
 use Rattle.cep_names.proofs.fitness.fitness_fault.Goals as goal
 
 pub loop-item-preserved : goal.loop-item-preserved

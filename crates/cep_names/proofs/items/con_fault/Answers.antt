@@ -2,7 +2,7 @@ use Rattle.cep_names.specs.declared.space.Space.TheVariants as space
 use Rattle.cep_names.specs.Looks.{looks_in}
 use Rattle.cep_names.specs.Uses.{use_in}
 use Rattle.cep_names.specs.Faults.{use_faults, argument_faults}
-use Rattle.cep_names.proofs.Firsts.{first_with_end}
+use Rattle.cep_names.proofs.FirstLoops.{first_with_end}
 use Rattle.cep_names.proofs.items.con_fault.Goals as goal
 
 pub returns : goal.returns

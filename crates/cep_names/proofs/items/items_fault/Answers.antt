@@ -1,6 +1,6 @@
 use Rattle.cep_names.specs.Looks.{looks_in}
 use Rattle.cep_names.specs.Faults.{item_faults}
-use Rattle.cep_names.proofs.Firsts.{first_more}
+use Rattle.cep_names.proofs.FirstLoops.{first_more}
 use Rattle.cep_names.proofs.items.items_fault.Goals as goal
 
 pub loop-item-preserved : goal.loop-item-preserved

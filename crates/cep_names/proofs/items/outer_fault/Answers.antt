@@ -4,7 +4,7 @@ use Rattle.cep_names.specs.First.{first_in}
 use Rattle.cep_names.specs.Looks.{looks_in}
 use Rattle.cep_names.specs.Uses.{elem_uses}
 use Rattle.cep_names.specs.Faults.{use_faults, rule_faults, qui_faults}
-use Rattle.cep_names.proofs.Firsts.{first_with_sides}
+use Rattle.cep_names.proofs.FirstLoops.{first_with_sides}
 use Rattle.cep_names.proofs.items.outer_fault.Goals as goal
 
 pub returns : goal.returns

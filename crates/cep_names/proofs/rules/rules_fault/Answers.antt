@@ -1,6 +1,6 @@
 use Rattle.cep_names.specs.Looks.{looks_in}
 use Rattle.cep_names.specs.Faults.{rule_faults}
-use Rattle.cep_names.proofs.Firsts.{first_more}
+use Rattle.cep_names.proofs.FirstLoops.{first_more}
 use Rattle.cep_names.proofs.rules.rules_fault.Goals as goal
 
 pub loop-rule-preserved : goal.loop-rule-preserved

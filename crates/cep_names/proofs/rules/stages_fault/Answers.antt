@@ -1,7 +1,7 @@
 use Rattle.cep_names.specs.Looks.{looks_in}
 use Rattle.cep_names.specs.Uses.{elem_uses}
 use Rattle.cep_names.specs.Faults.{use_faults}
-use Rattle.cep_names.proofs.Firsts.{first_flat}
+use Rattle.cep_names.proofs.FirstLoops.{first_flat}
 use Rattle.cep_names.proofs.rules.stages_fault.Goals as goal
 
 pub loop-elem-preserved : goal.loop-elem-preserved

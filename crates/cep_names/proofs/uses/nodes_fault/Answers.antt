@@ -1,6 +1,6 @@
 use Rattle.cep_names.specs.Looks.{looks_in}
 use Rattle.cep_names.specs.Faults.{node_faults}
-use Rattle.cep_names.proofs.Firsts.{first_more_at}
+use Rattle.cep_names.proofs.FirstLoops.{first_more_at}
 use Rattle.cep_names.proofs.uses.nodes_fault.Goals as goal
 
 pub loop-node-preserved : goal.loop-node-preserved

@@ -2,7 +2,7 @@ use Rattle.cep_names.specs.Looks.{looks_in}
 use Rattle.cep_names.specs.declared.space.Space.TheVariants as space
 use Rattle.cep_names.specs.Uses.{use_in}
 use Rattle.cep_names.specs.Faults.{use_faults}
-use Rattle.cep_names.proofs.Firsts.{first_more_map}
+use Rattle.cep_names.proofs.FirstLoops.{first_more_map}
 use Rattle.cep_names.proofs.uses.sorts_fault.Goals as goal
 
 pub loop-sort-preserved : goal.loop-sort-preserved

@@ -9,7 +9,7 @@ use Rattle.cep_names.specs.Faults.{past}
 use Rattle.cep_names.specs.Uses.{atoms_in}
 use Rattle.cep_names.specs.Variables.{nodes_of}
 use Rattle.cep_names.specs.Seen.{unseen, new_in}
-use Rattle.cep_names.proofs.Firsts.{flat_map-flat_map}
+use Rattle.cep_names.proofs.FirstLoops.{flat_map-flat_map}
 use Rattle.cep_names.proofs.variables.rule_fault.Goals as goal
 
 pub returns : goal.returns

@@ -1,6 +1,6 @@
 use Rattle.cep_names.specs.Uses.{atoms_of}
 use Rattle.cep_names.specs.Totals.{variable_faults}
-use Rattle.cep_names.proofs.Firsts.{first_more}
+use Rattle.cep_names.proofs.FirstLoops.{first_more}
 use Rattle.cep_names.proofs.variables.rules_fault.Goals as goal
 
 pub loop-rule-preserved : goal.loop-rule-preserved

@@ -1,6 +1,6 @@
 use Rattle.cep_names.specs.Looks.{looks_in}
 use Rattle.cep_names.specs.Totals.{item_variable_faults}
-use Rattle.cep_names.proofs.Firsts.{first_more}
+use Rattle.cep_names.proofs.FirstLoops.{first_more}
 use Rattle.cep_names.proofs.variables.variables_fault.Goals as goal
 
 pub loop-item-preserved : goal.loop-item-preserved

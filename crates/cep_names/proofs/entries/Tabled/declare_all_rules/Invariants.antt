@@ -6,5 +6,5 @@ use Rattle.cep_names.proofs.entries.Tabled.declare_all_rules.Given as goal
 abbrev pub invariant-loop-item : goal.invariant-loop-item
 invariant-loop-item l = record {
   items : l.item-items ≡ l.file;
-  rest : all_declared l.self (rules_in_turn l.text l.unlabelled (flat_map item_rules (drop l.item-index l.item-items))) ≡ all_declared l.fn.self (rules_in_turn l.text 0 (flat_map item_rules l.file))
+  rest : all_declared l.self (rules_in_turn l.text l.unlabelled (flat_map item_rules (drop l.item-index l.item-items))) ≡ all_declared l.fn.self (rules_in_turn l.text 0 (flat_map item_rules l.file));
 }

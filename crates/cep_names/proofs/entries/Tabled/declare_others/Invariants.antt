@@ -9,5 +9,5 @@ invariant-loop-item l = record {
   items : l.item-items ≡ l.file;
   sorts : l.self.names.sorts ≡ l.fn.self.names.sorts;
   predicates : l.self.names.predicates ≡ l.fn.self.names.predicates;
-  rest : all_declared l.self (flat_map (others_in (is_labelled_in l.fn.self.names l.text) l.text) (drop l.item-index l.item-items)) ≡ all_declared l.fn.self (flat_map (others_in (is_labelled_in l.fn.self.names l.text) l.text) l.file)
+  rest : all_declared l.self (flat_map (others_in (is_labelled_in l.fn.self.names l.text) l.text) (drop l.item-index l.item-items)) ≡ all_declared l.fn.self (flat_map (others_in (is_labelled_in l.fn.self.names l.text) l.text) l.file);
 }

@@ -19,5 +19,5 @@ pub returns-clause-entries : goal.returns-clause-entries
 returns-clause-entries c =
     let entries = c.self.inside.entries.entries in
     let absent : has_name c.args.self.now c.args.name.now ≡ false =
-      rw (← c.self.view_is) (sym (sym c.if-contains_key.false ∙ c.contains_key.ensures ∙ has_seen (λ key. key.items) c.args.name.now entries)) in
+    rw (← c.self.view_is) (sym (sym c.if-contains_key.false ∙ c.contains_key.ensures ∙ has_seen (λ key. key.items) c.args.name.now entries)) in
     rw absent (pushed (λ key. key.items) c.in_ok-name.name c.args.shape entries c.insert.new.self.entries c.args.name.now c.args.self.now c.self.view_is c.in_ok-name.ensures.items absent c.in_ok-insert.ensures.entries)
