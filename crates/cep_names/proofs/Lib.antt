@@ -12,3 +12,6 @@ pub mod Growing
 pub mod Declaring
 pub mod Telling
 pub mod Again
+pub mod Members
+pub mod SourceLooks
+pub mod Sound

@@ -12,3 +12,4 @@ pub mod Faults
 pub mod Seen
 pub mod Levels
 pub mod Totals
+pub mod Named

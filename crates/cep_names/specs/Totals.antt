@@ -19,7 +19,7 @@ use Rattle.cep_names.specs.declared.space.Role.TheVariants as role
 use Rattle.cep_names.specs.declared.counts.Counted.{Counted}
 use Rattle.cep_names.specs.declared.counts.Counted.TheVariants as counted
 use Rattle.cep_names.specs.declared.sizes.Size.{Size}
-use Rattle.cep_names.specs.Items.{ClauseItem, ContextItem, TraceItem, preds_in, traces_in}
+use Rattle.cep_names.specs.Items.{ClauseItem, ContextItem, TraceItem, preds_in, contexts_in, traces_in}
 use Rattle.cep_names.specs.Filling.{item_rules}
 use Rattle.cep_names.specs.Misnamed.{wrong}
 use Rattle.cep_names.specs.Variables.{nodes_of}
@@ -27,7 +27,7 @@ use Rattle.cep_names.specs.Seen.{unseen, new_in}
 use Rattle.cep_names.specs.Starts.{nodes_written, depth_written}
 use Rattle.cep_names.specs.Looks.{Looks, says, names_context, cons_by, clauses_by}
 use Rattle.cep_names.specs.Uses.{atoms_of}
-use Rattle.cep_names.specs.Faults.{past, listed_atoms}
+use Rattle.cep_names.specs.Faults.{past, listed_atoms, item_faults}
 
 -- the places of what an item declares
 abbrev pub places_in : Looks → Counted → RawItem → List ℕ
@@ -130,3 +130,12 @@ trace_step looks sizes false (trace ∷ rest) = start_faults looks sizes trace.a
 abbrev pub after_trace : Bool → List TraceItem → Bool
 after_trace seen [] = seen
 after_trace seen (trace ∷ rest) = true
+
+-- the faults of a file, but for names that are declared again
+abbrev pub all_faults : Looks → List RawItem → List Fault
+all_faults looks file =
+    flat_map (item_faults looks) file
+    ++ (flat_map item_unfit_faults file
+    ++ (flat_map (item_variable_faults looks) file
+    ++ (all_count_faults looks file
+    ++ traces_faults looks (first_size looks.text (flat_map contexts_in file)) (flat_map traces_in file))))
