@@ -14,4 +14,7 @@ pub mod Telling
 pub mod Again
 pub mod Members
 pub mod SourceLooks
+pub mod Parts
+pub mod Same
 pub mod Sound
+pub mod SoundItems
