@@ -18,3 +18,5 @@ pub mod Parts
 pub mod Same
 pub mod Sound
 pub mod SoundItems
+pub mod Complete
+pub mod Joined
