@@ -1,5 +1,5 @@
 -- The first of the names that are declared again.
-use Rattle.std.proofs.Common.{◌≡◌, ℕ, ◌+◌, ◌<◌, ◌⊎◌, inl, inr, ⊎_elim, Bool, true, false, ◌||◌, if◌then◌else◌, List, [], ◌∷◌, ◌++◌, map, filter, length, get_or, Option, None, Some, refl, ap, sym, subst, ◌∙◌, append_assoc, arith}
+use Rattle.std.proofs.Common.{◌≡◌, ℕ, ◌<◌, ◌⊎◌, inl, inr, ⊎_elim, Bool, true, false, List, [], ◌∷◌, ◌++◌, map, length, get_or, Some, refl, ap, sym, subst, ◌∙◌, append_assoc, arith}
 use Rattle.std.specs.List.{list_any, Contains}
 use Rattle.std.specs.Str.{bytes_eq}
 use Rattle.std.proofs.lemmas.Bool.{false≢true, or_cases}
@@ -11,13 +11,11 @@ use Rattle.std.proofs.lemmas.Slice.Eq.{bytes_eq-Decides}
 use Rattle.std.proofs.lemmas.Simd.{map-map}
 use Rattle.cep_names.specs.declared.space.Space.{Space}
 use Rattle.cep_names.specs.declared.fault.Fault.{Fault}
-use Rattle.cep_names.specs.declared.entries.Tabled.{Tabled}
 use Rattle.cep_names.specs.declared.reason.Reason.TheVariants.{Twice}
 use Rattle.cep_names.specs.Items.{Source}
-use Rattle.cep_names.specs.Spaces.{Named, names_in}
+use Rattle.cep_names.specs.Spaces.{Named}
 use Rattle.cep_names.specs.First.{IsFirstOrNone, first_of}
 use Rattle.cep_names.specs.Misnamed.{wrong, IsTwice}
-use Rattle.cep_names.specs.Tables.{has_in}
 use Rattle.cep_names.specs.Filling.{Declaration, declared, all_declared}
 use Rattle.cep_names.proofs.Firsts.{first_union, first_same, first_alone}
 use Rattle.cep_names.proofs.Growing.{same, same_self, same_is, in_space, nothing, has_declared}

@@ -1,8 +1,6 @@
 -- What a text declares, space by space.
-use Rattle.std.proofs.Common.{◌≡◌, ℕ, Bool, true, false, ◌==◌, ◌&&◌, not, if◌then◌else◌, List, [], ◌∷◌, ◌++◌, map, filter, length, Option, None, Some, refl, ap, sym, subst, ◌∙◌}
-use Rattle.std.specs.Option.{option_map}
-use Rattle.std.specs.List.{flat_map, list_any, find}
-use Rattle.std.specs.Str.{bytes_eq}
+use Rattle.std.proofs.Common.{◌≡◌, ℕ, Bool, true, false, List, [], ◌∷◌, ◌++◌, map, length, Option, Some, refl, ap, sym, ◌∙◌}
+use Rattle.std.specs.List.{flat_map}
 use Rattle.std.proofs.lemmas.List.{map-append, append-nil}
 use Rattle.std.proofs.lemmas.List.Elements.{filter-append}
 use Rattle.std.proofs.lemmas.Simd.{map-map}
@@ -13,9 +11,9 @@ use Rattle.cep_parse.specs.declared.raw.RawRule.{RawRule}
 use Rattle.cep_names.specs.declared.space.Space.{Space}
 use Rattle.cep_names.specs.declared.space.Space.TheVariants.{Sorts, Constructors, Predicates, Stages, Contexts, Rules}
 use Rattle.cep_names.specs.Items.{Source, PredItem, ConItem, RuleItem, ContextItem, sorts_in, sorts_of, preds_in, preds_of, con_or_none, cons_in, cons_of, stages_in, stages_of, contexts_in, contexts_of, rules_in, rules_from, rules_of, stages_behind, is_labelled}
-use Rattle.cep_names.specs.Spaces.{Named, named, names_in, rule_names_from, unlabelled_behind}
+use Rattle.cep_names.specs.Spaces.{Named, names_in, rule_names_from, unlabelled_behind}
 use Rattle.cep_names.specs.Filling.{Declaration, plain, declaration, basics_in, con_unless, others_in, item_rules, rule_declaration, rules_in_turn}
-use Rattle.cep_names.proofs.Growing.{same, in_space, any_map}
+use Rattle.cep_names.proofs.Growing.{same, in_space}
 
 -- ---- parts of lists
 

@@ -1,13 +1,12 @@
 -- What the tables of a text say of it.
-use Rattle.std.proofs.Common.{◌≡◌, ℕ, ◌==◌, Bool, ◌||◌, ◌&&◌, not, List, [], ◌∷◌, map, length, refl, ap, sym, ◌∙◌}
-use Rattle.std.specs.List.{list_any}
+use Rattle.std.proofs.Common.{◌≡◌, ℕ, List, map, refl, sym, ◌∙◌}
 use Rattle.std.specs.Str.{bytes_eq}
 use Rattle.cep_parse.specs.declared.raw.Span.{Span}
 use Rattle.cep_names.specs.declared.space.Space.TheVariants as space
 use Rattle.cep_names.specs.Items.{Source, said, sorts_of, preds_of, is_said, is_labelled}
 use Rattle.cep_names.specs.Spaces.{named, is_in}
 use Rattle.cep_names.proofs.Growing.{any_map}
-use Rattle.cep_names.specs.Tables.{Tables, AreTablesOf, has_in, is_labelled_in}
+use Rattle.cep_names.specs.Tables.{Tables, AreTablesOf, is_labelled_in}
 
 sorts_said : (source : Source) (name : List ℕ) → is_in source space.Sorts name ≡ is_said source (sorts_of source) name
 sorts_said source name = any_map (λ other. bytes_eq other.name name) (named source) (sorts_of source)

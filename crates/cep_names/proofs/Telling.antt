@@ -1,5 +1,5 @@
 -- The tables of a text say of each name what its first declaration says.
-use Rattle.std.proofs.Common.{◌≡◌, ℕ, Bool, true, false, ◌==◌, ◌&&◌, not, if◌then◌else◌, List, [], ◌∷◌, ◌++◌, map, length, Option, None, Some, is_some, refl, ap, sym, subst, ◌∙◌, append_assoc}
+use Rattle.std.proofs.Common.{◌≡◌, ℕ, Bool, true, false, if◌then◌else◌, List, [], ◌∷◌, ◌++◌, map, Option, None, Some, is_some, refl, ap, sym, subst, ◌∙◌, append_assoc}
 use Rattle.std.specs.Option.{option_map}
 use Rattle.std.specs.List.{flat_map, list_any, find}
 use Rattle.std.specs.Str.{bytes_eq}
@@ -11,16 +11,16 @@ use Rattle.cep_parse.specs.declared.raw.Span.{Span}
 use Rattle.cep_parse.specs.declared.raw.RawItem.{RawItem}
 use Rattle.cep_parse.specs.declared.raw.RawItem.TheVariants as item
 use Rattle.cep_names.specs.declared.space.Space.{Space}
-use Rattle.cep_names.specs.declared.space.Space.TheVariants.{Sorts, Constructors, Predicates, Stages, Contexts, Rules}
+use Rattle.cep_names.specs.declared.space.Space.TheVariants.{Sorts, Constructors, Predicates}
 use Rattle.cep_names.specs.declared.table.Shape.{Shape}
 use Rattle.cep_names.specs.declared.fault.Fault.{Fault}
 use Rattle.cep_names.specs.declared.entries.Tabled.{Tabled}
 use Rattle.cep_names.specs.declared.reason.Reason.TheVariants.{Twice}
 use Rattle.cep_names.specs.Items.{Source, said, sorts_of, preds_of, cons_of, is_said, is_labelled}
-use Rattle.cep_names.specs.Spaces.{names_in, is_in, arity_of, pred_named, con_named}
+use Rattle.cep_names.specs.Spaces.{is_in, arity_of, pred_named, con_named}
 use Rattle.cep_names.specs.First.{first_of}
 use Rattle.cep_names.specs.Misnamed.{wrong}
-use Rattle.cep_names.specs.Tables.{Tables, AreTablesOf, AreWhole, table_in, has_in, under, arity_in, back_in, is_labelled_in}
+use Rattle.cep_names.specs.Tables.{Tables, AreTablesOf, AreWhole, table_in, has_in, under, arity_in, is_labelled_in}
 use Rattle.cep_names.specs.Filling.{Declaration, with_entry, declared, all_declared, con_unless, others_in}
 use Rattle.cep_names.proofs.Growing.{same, same_is, in_space, any_map, flip, first_shape, after, names_after, put_same, put_other, nothing, none_yet, under_declared, has_declared}
 use Rattle.cep_names.proofs.Declaring.{all, basics, others, rules, sort_declared, pred_declared, con_declared, named_of, basic_sorts, basic_preds, declared_cons, declared_preds, named_all}

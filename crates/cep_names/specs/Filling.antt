@@ -1,6 +1,5 @@
 -- How the tables are filled: by one declaration after another, of which the later ones of a name are passed over and are wrong.
-use Rattle.std.specs.Prelude.{ℕ, ◌+◌, Bool, true, false, if◌then◌else◌, List, [], ◌∷◌, ◌++◌, Option, Some, None, length, fold}
-use Rattle.std.specs.List.{flat_map}
+use Rattle.std.specs.Prelude.{ℕ, Bool, true, false, if◌then◌else◌, List, [], ◌∷◌, ◌++◌, Some, length, fold}
 use Rattle.cep_parse.specs.declared.raw.Span.{Span}
 use Rattle.cep_parse.specs.declared.raw.RawRule.{RawRule}
 use Rattle.cep_parse.specs.declared.raw.RawItem.{RawItem}
@@ -15,7 +14,7 @@ use Rattle.cep_names.specs.Items.{Source}
 use Rattle.cep_names.specs.Spaces.{rule_name, unlabelled_behind}
 use Rattle.cep_names.specs.First.{first_of}
 use Rattle.cep_names.specs.Misnamed.{wrong}
-use Rattle.cep_names.specs.Tables.{Tables, has_in, is_labelled_in}
+use Rattle.cep_names.specs.Tables.{Tables, has_in}
 
 -- A declaration of a name in a space, with its place and what is asked of the name later.
 pub record Declaration : Type 0 where

@@ -1,4 +1,4 @@
-use Rattle.std.proofs.Common.{◌≡◌, ◌∙◌, ap, sym, not, true, false, refl}
+use Rattle.std.proofs.Common.{◌≡◌, ◌∙◌, ap, sym, not, false, refl}
 use Rattle.cep_names.specs.Tables.{has_name}
 use Rattle.cep_names.proofs.TableEntries.{has_seen, pushed}
 use Rattle.cep_names.proofs.table.Table.declare.Goals as goal
