@@ -29,4 +29,6 @@ pub use space::{Role, Space};
 pub use text::said;
 
 #[cfg(test)]
+mod refusals;
+#[cfg(test)]
 mod tests;
