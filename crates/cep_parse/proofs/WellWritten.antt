@@ -1,14 +1,12 @@
 -- What the grammar says of each item: the nodes of its atoms are their arguments, and its names and variables are tokens of these kinds.
-use Rattle.std.proofs.Common.{◌≡◌, ℕ, zero, suc, ◌+◌, ◌<◌, ◌≤◌, Bool, List, [], ◌∷◌, ◌++◌, length, refl, sym, ap, subst, ◌∙◌, arith, append_assoc, length-append, Contains, if◌then◌else◌, true, false, map}
+use Rattle.std.proofs.Common.{◌≡◌, ℕ, suc, ◌+◌, ◌≤◌, Bool, List, [], ◌∷◌, ◌++◌, length, refl, sym, subst, arith, append_assoc, length-append, Contains, if◌then◌else◌, true, false}
 use Rattle.std.proofs.lemmas.List.{append-nil, length-map}
-use Rattle.std.specs.Prelude.{Option, Some, None, codes, bytes_eq}
+use Rattle.std.specs.Prelude.{Option, codes, bytes_eq}
 use Rattle.std.specs.List.{AllByRecursion}
 use Rattle.cep_lex.specs.declared.token.Token.{Token}
 use Rattle.cep_lex.specs.declared.token.TokenKind.{TokenKind}
 use Rattle.cep_lex.specs.declared.token.TokenKind.TheVariants as token
 use Rattle.cep_parse.specs.declared.raw.Span.{Span}
-use Rattle.cep_parse.specs.declared.raw.RawKind.{RawKind}
-use Rattle.cep_parse.specs.declared.raw.RawKind.TheVariants as kind
 use Rattle.cep_parse.specs.declared.raw.RawNode.{RawNode}
 use Rattle.cep_parse.specs.declared.raw.RawAtom.{RawAtom}
 use Rattle.cep_parse.specs.declared.raw.RawElem.{RawElem}
@@ -173,7 +171,8 @@ module _ (tokens : List Token) where
   sides_well : (outer : Bool) (symbols : List Symbol) (left right : List RawElem) → grammar.Sides outer symbols left right → AreSaid symbols → AreElems left × AreElems right
   sides_well _ _ _ _ (grammar.Sides.sides outer arrow dot before after left right is is') said = (
     elems_well _ before left is (front before _ said),
-    elems_well _ after right is' (front after _ (next _ _ (back before _ said))))
+    elems_well _ after right is' (front after _ (next _ _ (back before _ said))),
+  )
 
   rules_well : (symbols : List Symbol) (rules : List RawRule) → grammar.Rules symbols rules → AreSaid symbols → AreRules rules
   rules_well _ _ grammar.Rules.none said = tt
@@ -217,10 +216,13 @@ module _ (tokens : List Token) where
   item_well _ _ (grammar.Item.labelled a colon_ dot symbols head is some) said = (atom_well symbols head is (front symbols _ (next _ _ (next _ _ said))), tt)
   item_well _ _ (grammar.Item.clause arrow dot before symbols first rest label head goal goals labelled is is' further) said =
       let behind = (label_well before _ label labelled said).1 in
-      let later = next _ _ (back symbols _ behind) in
-      (atom_well symbols head is (front symbols _ behind),
-       (atom_well first goal is' (front first _ later),
-       goals_well rest goals further (front rest _ (back first _ later))))
+      let later = next _ _ (back symbols _ behind) in (
+        atom_well symbols head is (front symbols _ behind),
+        (
+          atom_well first goal is' (front first _ later),
+          goals_well rest goals further (front rest _ (back first _ later)),
+        ),
+      )
   item_well _ _ (grammar.Item.outer before symbols label left right labelled is) said =
       let behind = label_well before symbols label labelled said in
       let sides = sides_well true symbols left right is behind.1 in
@@ -283,8 +285,9 @@ module _ (tokens : List Token) where
   symbols_said text [] among = tt
   symbols_said text (one ∷ some) among = (
     token_said (slice_of text one.from one.to) one.kind (record { from = one.from; to = one.to })
-      (record { token = one; there = among one (0, (omega arith), refl); kind_is = refl; from_is = refl; to_is = refl }),
-    symbols_said text some (λ other there. among other (suc there.0, (omega (arith, there.1)), there.2)))
+        (record { token = one; there = among one (0, (omega arith), refl); kind_is = refl; from_is = refl; to_is = refl }),
+    symbols_said text some (λ other there. among other (suc there.0, (omega (arith, there.1)), there.2)),
+  )
 
 pub well_written : (text : List ℕ) (tokens : List Token) (file : List RawItem) → grammar.File (symbols_of text tokens) file → AllByRecursion (IsItemOf tokens) file
 well_written text tokens file is = file_well tokens (symbols_of text tokens) file is (record { all = symbols_said tokens text tokens (λ one there. there); few = let e = length-map tokens (symbol_of text) in omega arith })
