@@ -19,6 +19,7 @@ pub mod Programs
 pub mod Once
 pub mod Declared
 pub mod OneProgram
+pub mod PlaceOrder
 pub mod Refused
 pub mod Plain
 pub mod HeadLaws

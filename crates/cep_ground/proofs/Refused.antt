@@ -1,5 +1,6 @@
 -- For which fault a text is refused.
-use Rattle.std.proofs.Common.{◌≡◌, ◌⊎◌, inl, inr, ⊎_elim, ℕ, zero, suc, ◌+◌, ◌<◌, ◌≤◌, List, [], length, refl, sym, ap, subst, ◌∙◌, arith, Contains}
+use Rattle.std.proofs.Common.{◌≡◌, ◌⊎◌, inl, inr, ⊎_elim, ℕ, zero, suc, ◌+◌, ◌<◌, ◌≤◌, Bool, true, false, List, [], length, refl, sym, ap, subst, ◌∙◌, arith, Contains, ltb}
+use Rattle.std.proofs.lemmas.Bool.{ltb-true, ltb-false}
 use Rattle.std.specs.Prelude.{Result, Ok, Err}
 use Rattle.cep_lex.specs.declared.token.Token.{Token}
 use Rattle.cep_lex.specs.declared.token.TheConstants.{MOST_BYTES}
@@ -14,8 +15,9 @@ use Rattle.cep_parse.specs.Files.{IsUnexpected, IsNested, IsParsed}
 use Rattle.cep_rule.specs.declared.parts.Parts.{Parts}
 use Rattle.cep_names.specs.declared.fault.Fault.{Fault}
 use Rattle.cep_names.specs.declared.reason.Reason.{Reason}
-use Rattle.cep_names.specs.declared.reason.Reason.TheVariants.{BadByte, NameLong, Unexpected, Nested, TypeClash, TooLong, NotBuilt}
-use Rattle.cep_names.specs.Items.{Source}
+use Rattle.cep_names.specs.declared.reason.Reason.TheVariants.{BadByte, NameLong, Unexpected, Nested, TypeClash, Unbound, TooLong, NotBuilt}
+use Rattle.cep_names.specs.Items.{Source, RuleItem, rules_of}
+use Rattle.cep_names.specs.Variables.{Occurrence}
 use Rattle.cep_names.specs.First.{IsFirst, IsNoLater}
 use Rattle.cep_names.specs.Misnamed.{wrong, Misnamed}
 use Rattle.cep_names.specs.Misnamed.{Misnamed as misnamed_}
@@ -23,15 +25,25 @@ use Rattle.cep_infer.specs.Shapes.{IsSource}
 use Rattle.cep_infer.specs.Sites.{Mistyped}
 use Rattle.cep_infer.specs.Sites.{Mistyped as mistyped_}
 use Rattle.cep_infer.specs.Meaning.{AreParts}
-use Rattle.cep_ground.specs.Texts.{IsClean}
+use Rattle.cep_infer.specs.Places.{unbound_of}
+use Rattle.cep_ground.specs.Texts.{IsClean, IsBound}
 use Rattle.cep_ground.specs.Refusals.{IsBuilt, phase, IsWrong, IsToldFirst, IsRefusedFor}
-use Rattle.cep_ground.specs.Refusals.IsWrong.{too_long, bad_byte, name_long, unexpected, nested, misnamed, mistyped, not_built}
+use Rattle.cep_ground.specs.Refusals.IsWrong.{too_long, bad_byte, name_long, unexpected, nested, misnamed, mistyped, unbound, not_built}
 use Rattle.cep_ground.proofs.OneProgram.{LexedOnce, FileOnce, tokens_once, source_once}
+use Rattle.cep_ground.proofs.Members.{contains_none, all_at}
 use Rattle.cep_ground.proofs.Once.{parts_once}
 
 -- what the law of parsed tokens says
 abbrev pub ParsedOnce : Type 0
 ParsedOnce = (text : List ℕ) (tokens : List Token) (one other : Result (List RawItem) ParseFault) → IsParsed text tokens one → IsParsed text tokens other → one ≡ other
+
+-- less or the same
+le_cases : (a b : ℕ) → a ≤ b → (a < b) ⊎ (a ≡ b)
+le_cases a b less = by (ltb a b) refl
+  where
+    by : (t : Bool) → ltb a b ≡ t → (a < b) ⊎ (a ≡ b)
+    by true e = inl (ltb-true a b e)
+    by false e = let more_ = ltb-false a b e in inr (omega (arith, less, more_))
 
 -- a fault is told no later than itself
 told_itself : (fault other : Fault) → fault ≡ other → IsToldFirst fault other
@@ -51,7 +63,8 @@ refused_too_long text long = record { holds = too_long long refl; first = first 
     first other (nested tokens at short are bad is) = absurd (omega (arith, long, short))
     first other (misnamed source text_is short is_source bad) = absurd (omega (arith, long, short))
     first other (mistyped source text_is short is_source bad) = absurd (omega (arith, long, short))
-    first other (not_built source parts text_is clean are not_ is) =
+    first other (unbound source rule o text_is short is_source there inside is) = absurd (omega (arith, long, short))
+    first other (not_built source parts text_is clean bound are not_ is) =
         let short = clean.short in
         let e = ap length text_is in
         absurd (omega (arith, long, short, e))
@@ -84,7 +97,8 @@ module _ (lexed : LexedOnce) (text : List ℕ) where
       first other (nested tokens at' short' are bad' is) = absurd (no_fault tokens (lex.BadByte at) are bad)
       first other (misnamed source text_is short' is_source bad') = absurd (no_source (lex.BadByte at) source bad text_is is_source)
       first other (mistyped source text_is short' is_source bad') = absurd (no_source (lex.BadByte at) source bad text_is is_source)
-      first other (not_built source parts text_is clean are not_ is) = absurd (no_source (lex.BadByte at) source bad text_is clean.is_source)
+      first other (unbound source rule o text_is short' is_source there inside is) = absurd (no_source (lex.BadByte at) source bad text_is is_source)
+      first other (not_built source parts text_is clean bound are not_ is) = absurd (no_source (lex.BadByte at) source bad text_is clean.is_source)
 
   pub refused_name_long : (at : ℕ) → length text ≤ MOST_BYTES → IsNameLong text at → IsRefusedFor text (wrong NameLong at)
   refused_name_long at short bad = record { holds = name_long at short bad refl; first = first }
@@ -97,7 +111,8 @@ module _ (lexed : LexedOnce) (text : List ℕ) where
       first other (nested tokens at' short' are bad' is) = absurd (no_fault tokens (lex.NameLong at) are bad)
       first other (misnamed source text_is short' is_source bad') = absurd (no_source (lex.NameLong at) source bad text_is is_source)
       first other (mistyped source text_is short' is_source bad') = absurd (no_source (lex.NameLong at) source bad text_is is_source)
-      first other (not_built source parts text_is clean are not_ is) = absurd (no_source (lex.NameLong at) source bad text_is clean.is_source)
+      first other (unbound source rule o text_is short' is_source there inside is) = absurd (no_source (lex.NameLong at) source bad text_is is_source)
+      first other (not_built source parts text_is clean bound are not_ is) = absurd (no_source (lex.NameLong at) source bad text_is clean.is_source)
 
   -- the tokens of a text are one list
   tokens_same : (one other : List Token) → AreTokens text one → AreTokens text other → one ≡ other
@@ -135,7 +150,8 @@ module _ (lexed : LexedOnce) (text : List ℕ) where
         first other (nested tokens' at' short' are' bad' is) = absurd (not_both_parse tokens tokens' at at' are are' bad bad')
         first other (misnamed source text_is short' is_source bad') = absurd (no_parse_fault tokens (parse.Unexpected at) source are bad text_is is_source)
         first other (mistyped source text_is short' is_source bad') = absurd (no_parse_fault tokens (parse.Unexpected at) source are bad text_is is_source)
-        first other (not_built source parts text_is clean are' not_ is) = absurd (no_parse_fault tokens (parse.Unexpected at) source are bad text_is clean.is_source)
+        first other (unbound source rule o text_is short' is_source there inside is) = absurd (no_parse_fault tokens (parse.Unexpected at) source are bad text_is is_source)
+        first other (not_built source parts text_is clean bound are' not_ is) = absurd (no_parse_fault tokens (parse.Unexpected at) source are bad text_is clean.is_source)
 
     pub refused_nested : (tokens : List Token) (at : ℕ) → length text ≤ MOST_BYTES → AreTokens text tokens → IsNested (symbols_of text tokens) at → IsRefusedFor text (wrong Nested at)
     refused_nested tokens at short are bad = record { holds = nested tokens at short are bad refl; first = first }
@@ -148,7 +164,8 @@ module _ (lexed : LexedOnce) (text : List ℕ) where
         first other (nested tokens' at' short' are' bad' is) = told_itself (wrong Nested at) other (same_wrong Nested at at' other (one_nested tokens tokens' at at' are are' bad bad') is)
         first other (misnamed source text_is short' is_source bad') = absurd (no_parse_fault tokens (parse.Nested at) source are bad text_is is_source)
         first other (mistyped source text_is short' is_source bad') = absurd (no_parse_fault tokens (parse.Nested at) source are bad text_is is_source)
-        first other (not_built source parts text_is clean are' not_ is) = absurd (no_parse_fault tokens (parse.Nested at) source are bad text_is clean.is_source)
+        first other (unbound source rule o text_is short' is_source there inside is) = absurd (no_parse_fault tokens (parse.Nested at) source are bad text_is is_source)
+        first other (not_built source parts text_is clean bound are' not_ is) = absurd (no_parse_fault tokens (parse.Nested at) source are bad text_is clean.is_source)
 
     module _ (file_once : FileOnce) (source : Source) (text_is : source.text ≡ text) (short : length text ≤ MOST_BYTES) (is_source : IsSource source) where
       tokens_are : AreTokens text is_source.tokens
@@ -198,7 +215,11 @@ module _ (lexed : LexedOnce) (text : List ℕ) where
               let one = misnamed_phase fault bad.holds in
               let next = mistyped_phase other here in
               inl (omega (arith, one, next))
-          first other (not_built source' parts text_is' clean are not_ is) = absurd (clean.names fault (subst (λ s. Misnamed s fault) (sym (same_source source' text_is' clean.is_source)) bad.holds))
+          first other (unbound source' rule o text_is' short' is_source' there inside is) =
+              let one = misnamed_phase fault bad.holds in
+              let next : phase other.reason ≡ 6 = ap (λ (f : Fault). phase f.reason) is in
+              inl (omega (arith, one, next))
+          first other (not_built source' parts text_is' clean bound are not_ is) = absurd (clean.names fault (subst (λ s. Misnamed s fault) (sym (same_source source' text_is' clean.is_source)) bad.holds))
 
       pub refused_mistyped : (fault : Fault) → ((other : Fault) → ¬ (Misnamed source other)) → IsFirst (Mistyped source) fault → IsRefusedFor text fault
       refused_mistyped fault names bad = record { holds = mistyped source text_is short is_source bad.holds; first = first }
@@ -213,10 +234,46 @@ module _ (lexed : LexedOnce) (text : List ℕ) where
           first other (mistyped source' text_is' short' is_source' bad') =
               let here : Mistyped source other = subst (λ s. Mistyped s other) (same_source source' text_is' is_source') bad' in
               inr (mistyped_phase fault bad.holds ∙ sym (mistyped_phase other here), bad.first other here)
-          first other (not_built source' parts text_is' clean are not_ is) = absurd (clean.types fault (subst (λ s. Mistyped s fault) (sym (same_source source' text_is' clean.is_source)) bad.holds))
+          first other (unbound source' rule o text_is' short' is_source' there inside is) =
+              let one = mistyped_phase fault bad.holds in
+              let next : phase other.reason ≡ 6 = ap (λ (f : Fault). phase f.reason) is in
+              inl (omega (arith, one, next))
+          first other (not_built source' parts text_is' clean bound are not_ is) = absurd (clean.types fault (subst (λ s. Mistyped s fault) (sym (same_source source' text_is' clean.is_source)) bad.holds))
 
-      pub refused_not_built : (clean : IsClean source) (parts : Parts) → AreParts source parts → ¬ (IsBuilt parts) → IsRefusedFor text (wrong NotBuilt 0)
-      refused_not_built clean parts are not_ = record { holds = not_built source parts text_is clean are not_ refl; first = first }
+      -- where each variable is bound, none is unbound
+      none_unbound : (other : Source) (rule : RuleItem) (o : Occurrence) → other ≡ source → IsBound source → Contains (rules_of other) rule → Contains (unbound_of other rule) o → ⊥
+      none_unbound other rule o same bound there inside =
+          let all = all_at (λ (item : RuleItem). unbound_of source item ≡ []) (rules_of source) rule bound (subst (λ s. Contains (rules_of s) rule) same there) in
+          contains_none o (subst (λ os. Contains os o) all (subst (λ s. Contains (unbound_of s rule) o) same inside))
+
+      no_later : (at at' : ℕ) → at ≤ at' → IsNoLater (wrong Unbound at) (wrong Unbound at')
+      no_later at at' less = by (le_cases at at' less)
+        where
+          by : (at < at') ⊎ (at ≡ at') → IsNoLater (wrong Unbound at) (wrong Unbound at')
+          by (inl before) = inl before
+          by (inr same) = inr (same, omega arith)
+
+      pub refused_unbound : (clean : IsClean source) (rule : RuleItem) (o : Occurrence) → Contains (rules_of source) rule → Contains (unbound_of source rule) o
+          → ((rule' : RuleItem) (o' : Occurrence) → Contains (rules_of source) rule' → Contains (unbound_of source rule') o' → o.at.from ≤ o'.at.from)
+          → IsRefusedFor text (wrong Unbound o.at.from)
+      refused_unbound clean rule o there inside least = record { holds = unbound source rule o text_is short is_source there inside refl; first = first }
+        where
+          first : (other : Fault) → IsWrong text other → IsToldFirst (wrong Unbound o.at.from) other
+          first other (too_long long is) = absurd (omega (arith, long, short))
+          first other (bad_byte at short' bad' is) = absurd (no_fault is_source.tokens (lex.BadByte at) tokens_are bad')
+          first other (name_long at short' bad' is) = absurd (no_fault is_source.tokens (lex.NameLong at) tokens_are bad')
+          first other (unexpected tokens at short' are' bad' is) = absurd (no_unexpected tokens at are' bad')
+          first other (nested tokens at short' are' bad' is) = absurd (no_nested tokens at are' bad')
+          first other (misnamed source' text_is' short' is_source' bad') = absurd (clean.names other (subst (λ s. Misnamed s other) (same_source source' text_is' is_source') bad'))
+          first other (mistyped source' text_is' short' is_source' bad') = absurd (clean.types other (subst (λ s. Mistyped s other) (same_source source' text_is' is_source') bad'))
+          first other (unbound source' rule' o' text_is' short' is_source' there' inside' is) =
+              let same = same_source source' text_is' is_source' in
+              let less = least rule' o' (subst (λ s. Contains (rules_of s) rule') same there') (subst (λ s. Contains (unbound_of s rule') o') same inside') in
+              subst (IsToldFirst (wrong Unbound o.at.from)) (sym is) (inr (refl, no_later o.at.from o'.at.from less))
+          first other (not_built source' parts' text_is' clean' bound' are' not_' is) = absurd (none_unbound source rule o refl (subst IsBound (same_source source' text_is' clean'.is_source) bound') there inside)
+
+      pub refused_not_built : (clean : IsClean source) → IsBound source → (parts : Parts) → AreParts source parts → ¬ (IsBuilt parts) → IsRefusedFor text (wrong NotBuilt 0)
+      refused_not_built clean bound parts are not_ = record { holds = not_built source parts text_is clean bound are not_ refl; first = first }
         where
           first : (other : Fault) → IsWrong text other → IsToldFirst (wrong NotBuilt 0) other
           first other (too_long long is) = absurd (omega (arith, long, short))
@@ -226,16 +283,18 @@ module _ (lexed : LexedOnce) (text : List ℕ) where
           first other (nested tokens at short' are' bad' is) = absurd (no_nested tokens at are' bad')
           first other (misnamed source' text_is' short' is_source' bad') = absurd (clean.names other (subst (λ s. Misnamed s other) (same_source source' text_is' is_source') bad'))
           first other (mistyped source' text_is' short' is_source' bad') = absurd (clean.types other (subst (λ s. Mistyped s other) (same_source source' text_is' is_source') bad'))
-          first other (not_built source' parts' text_is' clean' are' not_' is) = told_itself (wrong NotBuilt 0) other (sym is)
+          first other (unbound source' rule o text_is' short' is_source' there inside is) = absurd (none_unbound source' rule o (same_source source' text_is' is_source') bound there inside)
+          first other (not_built source' parts' text_is' clean' bound' are' not_' is) = told_itself (wrong NotBuilt 0) other (sym is)
 
       -- nothing is wrong with a text that spells a program which can be played
-      pub nothing_wrong : (clean : IsClean source) (parts : Parts) → AreParts source parts → IsBuilt parts → (fault : Fault) → ¬ (IsWrong text fault)
-      nothing_wrong clean parts are built fault (too_long long is) = absurd (omega (arith, long, short))
-      nothing_wrong clean parts are built fault (bad_byte at short' bad' is) = no_fault is_source.tokens (lex.BadByte at) tokens_are bad'
-      nothing_wrong clean parts are built fault (name_long at short' bad' is) = no_fault is_source.tokens (lex.NameLong at) tokens_are bad'
-      nothing_wrong clean parts are built fault (unexpected tokens at short' are' bad' is) = no_unexpected tokens at are' bad'
-      nothing_wrong clean parts are built fault (nested tokens at short' are' bad' is) = no_nested tokens at are' bad'
-      nothing_wrong clean parts are built fault (misnamed source' text_is' short' is_source' bad') = clean.names fault (subst (λ s. Misnamed s fault) (same_source source' text_is' is_source') bad')
-      nothing_wrong clean parts are built fault (mistyped source' text_is' short' is_source' bad') = clean.types fault (subst (λ s. Mistyped s fault) (same_source source' text_is' is_source') bad')
-      nothing_wrong clean parts are built fault (not_built source' parts' text_is' clean' are' not_' is) =
+      pub nothing_wrong : (clean : IsClean source) → IsBound source → (parts : Parts) → AreParts source parts → IsBuilt parts → (fault : Fault) → ¬ (IsWrong text fault)
+      nothing_wrong clean bound parts are built fault (too_long long is) = absurd (omega (arith, long, short))
+      nothing_wrong clean bound parts are built fault (bad_byte at short' bad' is) = no_fault is_source.tokens (lex.BadByte at) tokens_are bad'
+      nothing_wrong clean bound parts are built fault (name_long at short' bad' is) = no_fault is_source.tokens (lex.NameLong at) tokens_are bad'
+      nothing_wrong clean bound parts are built fault (unexpected tokens at short' are' bad' is) = no_unexpected tokens at are' bad'
+      nothing_wrong clean bound parts are built fault (nested tokens at short' are' bad' is) = no_nested tokens at are' bad'
+      nothing_wrong clean bound parts are built fault (misnamed source' text_is' short' is_source' bad') = clean.names fault (subst (λ s. Misnamed s fault) (same_source source' text_is' is_source') bad')
+      nothing_wrong clean bound parts are built fault (mistyped source' text_is' short' is_source' bad') = clean.types fault (subst (λ s. Mistyped s fault) (same_source source' text_is' is_source') bad')
+      nothing_wrong clean bound parts are built fault (unbound source' rule o text_is' short' is_source' there inside is) = none_unbound source' rule o (same_source source' text_is' is_source') bound there inside
+      nothing_wrong clean bound parts are built fault (not_built source' parts' text_is' clean' bound' are' not_' is) =
           not_' (subst IsBuilt (parts_once source parts parts' are (subst (λ s. AreParts s parts') (same_source source' text_is' clean'.is_source) are')) built)

@@ -1,6 +1,7 @@
 -- What is wrong with a text, case by case, and what of it is told.
-use Rattle.std.specs.Prelude.{◌≡◌, ◌⊎◌, ℕ, ◌<◌, ◌≤◌, true, List, [], length, take, None, IsSomeAnd, slice_get, Result, Ok, Err}
+use Rattle.std.specs.Prelude.{◌≡◌, ◌⊎◌, ℕ, ◌<◌, ◌≤◌, true, List, [], length, take, None, IsSomeAnd, slice_get, Contains, Result, Ok, Err}
 use Rattle.std.specs.List.{AllByRecursion}
+use Rattle.cep_base.specs.declared.place.Pos.{Pos}
 use Rattle.cep_lex.specs.declared.token.Token.{Token}
 use Rattle.cep_lex.specs.declared.token.TheConstants.{MOST_BYTES}
 use Rattle.cep_lex.specs.Cuts.{AreTokens, IsBadByte, IsNameLong}
@@ -12,18 +13,19 @@ use Rattle.cep_rule.specs.declared.parts.Parts.{Parts}
 use Rattle.cep_names.specs.declared.fault.Fault.{Fault}
 use Rattle.cep_names.specs.declared.reason.Reason.{Reason}
 use Rattle.cep_names.specs.declared.reason.Reason.TheVariants.{BadByte, NameLong, Unexpected, Nested, TypeClash, Unbound, Ungrounded, TooLong, NotBuilt}
-use Rattle.cep_names.specs.Items.{Source}
+use Rattle.cep_names.specs.Items.{Source, RuleItem, rules_of}
+use Rattle.cep_names.specs.Variables.{Occurrence}
 use Rattle.cep_names.specs.First.{IsNoLater}
 use Rattle.cep_names.specs.Misnamed.{wrong, Misnamed}
 use Rattle.cep_infer.specs.declared.draft.Refusal.{Refusal}
 use Rattle.cep_infer.specs.Shapes.{IsSource}
 use Rattle.cep_infer.specs.Sites.{Mistyped}
 use Rattle.cep_infer.specs.Meaning.{AreParts}
-use Rattle.cep_ground.specs.Texts.{IsClean, Spells}
+use Rattle.cep_infer.specs.Places.{unbound_of}
+use Rattle.cep_ground.specs.Texts.{IsClean, IsBound, Spells}
 
--- A rule that can be played today: it has no variables and no backward premises, and leaves no stage.
+-- A rule that can be played today: it has no backward premises, and leaves no stage.
 pub record IsPlainRule (rule : Rule) : Type 0 where
-  pub vars : rule.vars ≡ []
   pub backs : rule.backs ≡ []
   pub next : rule.next ≡ None
 
@@ -62,8 +64,10 @@ pub data IsWrong (text : List ℕ) (fault : Fault) : Type 0 where
   -- something is wrong with its names, or a term is of another type than is wanted of it
   misnamed : (source : Source) → source.text ≡ text → length text ≤ MOST_BYTES → IsSource source → Misnamed source fault → IsWrong text fault
   mistyped : (source : Source) → source.text ≡ text → length text ≤ MOST_BYTES → IsSource source → Mistyped source fault → IsWrong text fault
+  -- a variable of a right side is not on the left, or a blank stands there
+  unbound : (source : Source) (rule : RuleItem) (occurrence : Occurrence) → source.text ≡ text → length text ≤ MOST_BYTES → IsSource source → Contains (rules_of source) rule → Contains (unbound_of source rule) occurrence → fault ≡ wrong Unbound occurrence.at.from → IsWrong text fault
   -- nothing of that is wrong, but what it declares cannot be played yet
-  not_built : (source : Source) (parts : Parts) → source.text ≡ text → IsClean source → AreParts source parts → ¬ (IsBuilt parts) → fault ≡ wrong NotBuilt 0 → IsWrong text fault
+  not_built : (source : Source) (parts : Parts) → source.text ≡ text → IsClean source → IsBound source → AreParts source parts → ¬ (IsBuilt parts) → fault ≡ wrong NotBuilt 0 → IsWrong text fault
 
 -- The fault is told no later than the other: it is of an earlier phase, or of the same one and stands no later.
 abbrev pub IsToldFirst : Fault → Fault → Type 0
@@ -73,6 +77,10 @@ IsToldFirst fault other = (phase fault.reason < phase other.reason) ⊎ ((phase 
 pub record IsRefusedFor (text : List ℕ) (fault : Fault) : Type 0 where
   pub holds : IsWrong text fault
   pub first : (other : Fault) → IsWrong text other → IsToldFirst fault other
+
+-- A line and a column stand before others: the line is less, or it is the same and the column is less.
+abbrev pub StandsBefore : Pos → Pos → Type 0
+StandsBefore one other = (one.line < other.line) ⊎ ((one.line ≡ other.line) × (one.col < other.col))
 
 -- The refusal tells of the fault, at the line and the column of its place.
 pub record Tells (text : List ℕ) (fault : Fault) (refusal : Refusal) : Type 0 where
