@@ -22,6 +22,8 @@ pub mod OneProgram
 pub mod PlaceOrder
 pub mod Refused
 pub mod Plain
+pub mod EarliestLaws
+pub mod Unbound
 pub mod HeadLaws
 pub mod TypedTerms
 pub mod Spelled

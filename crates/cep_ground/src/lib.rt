@@ -2,5 +2,6 @@
 #![tactic(auto)]
 
 pub mod laws;
+mod places;
 mod refusals;
 mod sealing;
