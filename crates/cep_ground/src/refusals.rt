@@ -21,6 +21,16 @@ pub(crate) fn tell(text: &[u8], reason: Reason, at: u32) -> Refusal
     }
 }
 
+// Tells of what is wrong with a text as a whole: at its first line and column.
+pub(crate) fn tell_at_front(text: &[u8], reason: Reason) -> Refusal
+    ensures { Tells text.now (wrong reason 0) result }
+{
+    Refusal {
+        pos: place(&text[..0], 0),
+        reason,
+    }
+}
+
 // The refusal of a text whose tokens have a fault.
 pub(crate) fn of_tokens(text: &[u8], fault: LexFault) -> Refusal
     requires short { length text.now ≤ MOST_BYTES }
