@@ -2,8 +2,14 @@
 //! each term is of the type that is wanted of it, and what is wrong is told at its place.
 #![tactic(auto)]
 
+mod declarations;
 mod draft;
+mod firsts;
 pub mod laws;
+mod pending;
+mod sites;
+mod terms;
+mod variables;
 
 pub use cep_names::Reason;
 pub use draft::{Draft, PlaceLists, Places, Refusal};
