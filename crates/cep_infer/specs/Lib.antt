@@ -6,3 +6,6 @@ pub mod Places
 pub mod Codes
 pub mod Kept
 pub mod Met
+pub mod Clashes
+pub mod Listed
+pub mod Resolved

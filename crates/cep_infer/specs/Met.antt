@@ -1,5 +1,6 @@
 -- The variables that were met so far, site by site: each once, with the type that is wanted where it occurs first.
 use Rattle.std.specs.Prelude.{◌≡◌, ℕ, ◌+◌, Bool, if◌then◌else◌, List, [], ◌∷◌, ◌++◌, Option, Some, None, map, fold, position, codes, decimal}
+use Rattle.std.specs.Option.{option_map}
 use Rattle.std.specs.Str.{bytes_eq}
 use Rattle.std.specs.List.{list_any}
 use Rattle.std.specs.Map.{lookup}
@@ -28,6 +29,10 @@ under firsts name = lookup (λ other. bytes_eq name other) firsts
 -- one more name, if it is new
 abbrev pub added : List (List ℕ × Span) → List ℕ × Span → List (List ℕ × Span)
 added firsts entry = if has_name firsts entry.0 then firsts else firsts ++ entry ∷ []
+
+-- the name of a name's type
+abbrev pub type_met : Source → List (List ℕ × Span) → List ℕ → Option (List ℕ)
+type_met source firsts name = option_map (said source) (under firsts name)
 
 abbrev pub names_in : List (List ℕ × Span) → List (List ℕ)
 names_in firsts = map (λ entry. entry.0) firsts

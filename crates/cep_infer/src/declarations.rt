@@ -1,14 +1,19 @@
-// What a text declares of types, constructors and predicates, and which number each name has.
-ghost use Rattle.std.specs.Prelude.{◌≡◌, map, IfOk};
+// What a text declares of types, constructors, predicates and contexts, and which number each name
+// has.
+ghost use Rattle.std.specs.Prelude.{◌≡◌, List, map, option_to_list, IfOk};
+ghost use Rattle.std.specs.List.{flat_map};
 ghost use Rattle.std.specs.Option.{option_map};
-ghost use Rattle.cep_names.specs.Items.{said};
-ghost use Rattle.cep_names.specs.Spaces.{con_named, pred_named};
+ghost use Rattle.cep_parse.specs.declared.raw.RawItem.{RawItem};
+ghost use Rattle.cep_names.specs.Items.{said, cons_in, cons_of, preds_in, contexts_in};
+ghost use Rattle.cep_names.specs.Spaces.{con_named, pred_named, context_named};
+ghost use Rattle.cep_names.specs.Starts.{listed_in};
+ghost use Rattle.cep_names.specs.Tables.{AreTablesOf, AreWhole};
 ghost use Rattle.cep_infer.specs.Heads.{number_of};
 ghost use Rattle.cep_infer.specs.Meaning.{sorts_said};
-ghost use Rattle.cep_infer.specs.Kept.{con_item, pred_item};
+ghost use Rattle.cep_infer.specs.Kept.{con_item, pred_item, context_item};
 
 use cep_names::{Names, Space, said};
-use cep_parse::{RawFile, Span};
+use cep_parse::{RawAtom, RawFile, RawItem, Span};
 use cep_rule::Kinds;
 use std::alloc::{AllocError, Global};
 use std::marker::Model;
@@ -29,8 +34,15 @@ pub(crate) struct RawPred<'a> {
     pub back: bool,
 }
 
+/// A context by the span of its name, and its atoms.
+#[derive(Clone, Copy, Debug, Drop)]
+pub(crate) struct RawContext<'a> {
+    pub name: Span,
+    pub atoms: &'a [RawAtom],
+}
+
 /// A text in which no name is declared twice in its space: its raw file, its names, and its
-/// constructors and predicates in written order.
+/// constructors, predicates and contexts in written order.
 #[derive(Drop)]
 pub(crate) struct Declarations<'a> {
     pub alloc: Global,
@@ -39,6 +51,7 @@ pub(crate) struct Declarations<'a> {
     pub names: &'a Names,
     pub cons: Vec<RawCon<'a>>,
     pub preds: Vec<RawPred<'a>>,
+    pub contexts: Vec<RawContext<'a>>,
 }
 
 impl<'a> Model for Declarations<'a> {
@@ -57,7 +70,117 @@ ghost use Rattle.cep_infer.specs.Kept.{source_of, IsDeclared};
     ghost invariant = { IsDeclared };
 }
 
+// The constructor of an item.
+fn con_in<'a>(names: &Names, text: &[u8], item: &'a RawItem) -> Option<RawCon<'a>>
+    ensures { (file : List RawItem) → AreTablesOf (record { text = text.now; file = file }) names.now → map con_item (option_to_list result) ≡ cons_in (record { text = text.now; file = file }) item.now }
+{
+    match item {
+        RawItem::Colon { left, args, right } if !names.is_labelled(text, args, *right) => {
+            Some(RawCon {
+                name: *left,
+                args: args.as_slice(),
+                sort: *right,
+            })
+        }
+        _ => None,
+    }
+}
+
+// The predicate of an item.
+fn pred_in(item: &RawItem) -> Option<RawPred<'_>>
+    ensures { map pred_item (option_to_list result) ≡ preds_in item.now }
+{
+    match item {
+        RawItem::Pred { name, args, back } => Some(RawPred {
+            name: *name,
+            args: args.as_slice(),
+            back: *back,
+        }),
+        _ => None,
+    }
+}
+
+// The context of an item.
+fn context_in(item: &RawItem) -> Option<RawContext<'_>>
+    ensures { map context_item (option_to_list result) ≡ contexts_in item.now }
+{
+    match item {
+        RawItem::Context { name, atoms } => Some(RawContext {
+            name: *name,
+            atoms: atoms.as_slice(),
+        }),
+        _ => None,
+    }
+}
+
+// The constructors in written order.
+fn cons_of<'a>(
+    alloc: Global,
+    text: &[u8],
+    file: &'a RawFile,
+    names: &Names,
+) -> Result<Vec<RawCon<'a>>, AllocError>
+    requires { AreTablesOf (record { text = text.now; file = file.now }) names.now }
+    ensures { IfOk result (λ cons. map con_item cons.items ≡ cons_of (record { text = text.now; file = file.now })) }
+{
+    let mut cons = Vec::new(alloc);
+    for item in file.as_slice() {
+        if let Some(con) = con_in(names, text, item) {
+            cons.push(con)?;
+        }
+    }
+    Ok(cons)
+}
+
+// The predicates in written order.
+fn preds_of(alloc: Global, file: &RawFile) -> Result<Vec<RawPred<'_>>, AllocError>
+    ensures { IfOk result (λ preds. map pred_item preds.items ≡ flat_map preds_in file.now) }
+{
+    let mut preds = Vec::new(alloc);
+    for item in file.as_slice() {
+        if let Some(pred) = pred_in(item) {
+            preds.push(pred)?;
+        }
+    }
+    Ok(preds)
+}
+
+// The contexts in written order.
+fn contexts_of(alloc: Global, file: &RawFile) -> Result<Vec<RawContext<'_>>, AllocError>
+    ensures { IfOk result (λ contexts. map context_item contexts.items ≡ flat_map contexts_in file.now) }
+{
+    let mut contexts = Vec::new(alloc);
+    for item in file.as_slice() {
+        if let Some(context) = context_in(item) {
+            contexts.push(context)?;
+        }
+    }
+    Ok(contexts)
+}
+
 impl<'a> Declarations<'a> {
+    // The declarations of a text by its names.
+    pub(crate) fn of(
+        alloc: Global,
+        text: &'a [u8],
+        file: &'a RawFile,
+        names: &'a Names,
+    ) -> Result<Declarations<'a>, AllocError>
+        requires tables { AreTablesOf (record { text = text.now; file = file.now }) names.now }
+        requires whole { AreWhole (record { text = text.now; file = file.now }) names.now }
+        ensures { IfOk result (λ declared. declared ≡ record { text = text.entry.now; file = file.entry.now }) }
+    {
+        Ok(Declarations {
+            alloc,
+            text,
+            file,
+            names,
+            cons: cons_of(alloc, text, file, names)?,
+            preds: preds_of(alloc, file)?,
+            contexts: contexts_of(alloc, file)?,
+        })
+    }
+
     // What the text says at a span.
     pub(crate) fn said(&self, span: Span) -> &'a [u8]
         ensures { result.now ≡ said self.now span }
@@ -88,6 +211,19 @@ impl<'a> Declarations<'a> {
     {
         let number = self.names.number(Space::Predicates, said(self.text, name))?;
         self.preds.get(number).copied()
+    }
+
+    // The atoms of the context of this name, and none where there is no such context.
+    pub(crate) fn context(&self, name: Span) -> &'a [RawAtom]
+        ensures { result.now ≡ listed_in (context_named self.now (said self.now name)) }
+    {
+        let Some(number) = self.names.number(Space::Contexts, said(self.text, name)) else {
+            return &[];
+        };
+        match self.contexts.get(number) {
+            Some(context) => context.atoms,
+            None => &[],
+        }
     }
 
     // The numbers of types by their names.

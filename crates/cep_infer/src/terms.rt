@@ -21,7 +21,7 @@ pub(crate) struct Cursor {
 }
 
 // How many blanks there are behind a node.
-fn blanks_behind(blanks: u64, kind: RawKind) -> Result<u64, AllocError>
+pub(crate) fn blanks_behind(blanks: u64, kind: RawKind) -> Result<u64, AllocError>
     ensures { IfOk result (λ behind. behind ≡ blanks_behind blanks kind) }
 {
     match kind {
