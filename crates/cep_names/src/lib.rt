@@ -2,16 +2,28 @@
 //! wrong with its names.
 #![tactic(auto)]
 
+mod anchor_;
+mod atoms;
+mod counts;
 mod entries;
 mod fault;
+mod fitness;
+mod items;
+mod checking;
 mod names;
 mod reason;
+mod rules;
+mod sizes;
 mod space;
 mod table;
 mod text;
+mod traces;
+mod uses;
+mod variables;
 
 pub use entries::Tabled;
 pub use fault::Fault;
+pub use checking::named;
 pub use names::Names;
 pub use reason::Reason;
 pub use space::{Role, Space};

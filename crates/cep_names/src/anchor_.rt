@@ -1,0 +1,4 @@
+ghost use Rattle.std.specs.Prelude.{◌≡◌};
+pub fn anchor(x: bool)
+    ensures { x ≡ x }
+{}
