@@ -11,7 +11,7 @@ pub mod laws;
 mod listing;
 mod pending;
 mod places;
-mod resolve;
+mod resolving;
 mod rules;
 mod signature;
 mod sites;
@@ -21,4 +21,7 @@ mod variables;
 
 pub use cep_names::Reason;
 pub use draft::{Draft, PlaceLists, Places, Refusal};
-pub use resolve::resolve;
+pub use resolving::resolve;
+
+#[cfg(test)]
+mod tests;

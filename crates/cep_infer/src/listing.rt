@@ -1,7 +1,7 @@
 // The rules, the contexts and the first trace of a file, as they are written.
 ghost use Rattle.std.specs.Prelude.{◌≡◌, map, IfOk, OnOk, ◌++◌, ◌+◌};
 ghost use Rattle.cep_names.specs.Items.{rules_of, rules_in, stages_behind, contexts_of, traces_of};
-ghost use Rattle.cep_infer.specs.Listed.{rule_item, rule_items, trace_items, IsFirstTrace};
+ghost use Rattle.cep_infer.specs.Listed.{rule_item, IsFirstTrace};
 
 use crate::declarations::Declarations;
 use cep_parse::{RawItem, RawRule, RawStart, Span};

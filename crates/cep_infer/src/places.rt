@@ -115,8 +115,8 @@ impl<'a> Declarations<'a> {
     }
 
     // The places of the unbound ones of a rule.
-    fn unbound_at(&self, item: RuleRef) -> Result<Vec<u32>, AllocError>
-        ensures { IfOk result (λ ats. ats.items ≡ unbound_at self.now (rule_item item)) }
+    fn unbound_at(&self, item: &RuleRef) -> Result<Vec<u32>, AllocError>
+        ensures { IfOk result (λ ats. ats.items ≡ unbound_at self.now (rule_item item.now)) }
     {
         let mut left = Variables::new(self.alloc);
         left.meet_side(self, item.raw.left.as_slice())?;
@@ -148,7 +148,7 @@ impl<'a> Declarations<'a> {
         let mut reached = FRONT;
         let mut lists = PlaceLists::new(self.alloc);
         for rule in rules {
-            let ats = self.unbound_at(*rule)?;
+            let ats = self.unbound_at(rule)?;
             lists.push(place_all(self.alloc, self.text, &mut reached, &ats)?)?;
         }
         Ok(lists)

@@ -194,8 +194,8 @@ impl<'a> Declarations<'a> {
         Ok(variables)
     }
 
-    fn rule(&self, unlabelled: u64, item: RuleRef) -> Result<Rule, AllocError>
-        ensures { IfOk result (λ rule. IsRuleBy self.now (rule_name self.now unlabelled item.raw.now.label) (rule_item item) rule) }
+    fn rule(&self, unlabelled: u64, item: &RuleRef) -> Result<Rule, AllocError>
+        ensures { IfOk result (λ rule. IsRuleBy self.now (rule_name self.now unlabelled item.now.raw.now.label) (rule_item item.now) rule) }
     {
         let raw = item.raw;
         let variables = self.rule_variables(raw)?;
@@ -221,7 +221,7 @@ impl<'a> Declarations<'a> {
         let mut rules = Rules::new(self.alloc);
         let mut unlabelled = 0;
         for item in items {
-            rules.push(self.rule(unlabelled, *item)?)?;
+            rules.push(self.rule(unlabelled, item)?)?;
             unlabelled = unlabelled_behind(unlabelled, item.raw.label)?;
         }
         Ok(rules)

@@ -45,7 +45,7 @@ impl<'a> Declarations<'a> {
         }
     }
 
-    fn draft_from(&self, trace: TraceRef) -> Result<Draft, AllocError> {
+    fn draft_from(&self, trace: &TraceRef) -> Result<Draft, AllocError> {
         let rules = self.rule_refs()?;
         let parts = Parts {
             signature: self.signature()?,
@@ -77,7 +77,7 @@ fn typed(
     }
     // In a text without wrong names there is a trace.
     let trace = declared.first_trace().ok_or(AllocError)?;
-    Ok(Ok(declared.draft_from(trace)?))
+    Ok(Ok(declared.draft_from(&trace)?))
 }
 
 /// What a text declares, or the first fault of its names, or else of its types.
