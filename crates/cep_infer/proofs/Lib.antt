@@ -1,2 +1,4 @@
 pub mod Members
 pub mod Filled
+pub mod Entries
+pub mod Lookups

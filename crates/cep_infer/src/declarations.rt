@@ -194,14 +194,19 @@ impl<'a> Declarations<'a> {
     {
         let number = self.names.number(space, said(self.text, name)).unwrap_or(0);
         // No memory holds so many names that a number does not fit.
-        u32::try_from(number).map_err(|_| AllocError)
+        match u32::try_from(number) {
+            Ok(number) => Ok(number),
+            Err(_) => Err(AllocError),
+        }
     }
 
     // The constructor of this name.
     pub(crate) fn con(&self, name: Span) -> Option<RawCon<'a>>
         ensures { option_map con_item result ≡ con_named self.now (said self.now name) }
     {
-        let number = self.names.number(Space::Constructors, said(self.text, name))?;
+        let Some(number) = self.names.number(Space::Constructors, said(self.text, name)) else {
+            return None;
+        };
         self.cons.get(number).copied()
     }
 
@@ -209,7 +214,9 @@ impl<'a> Declarations<'a> {
     pub(crate) fn pred(&self, name: Span) -> Option<RawPred<'a>>
         ensures { option_map pred_item result ≡ pred_named self.now (said self.now name) }
     {
-        let number = self.names.number(Space::Predicates, said(self.text, name))?;
+        let Some(number) = self.names.number(Space::Predicates, said(self.text, name)) else {
+            return None;
+        };
         self.preds.get(number).copied()
     }
 

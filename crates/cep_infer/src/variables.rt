@@ -130,7 +130,10 @@ impl Variables {
     {
         let number = self.firsts.number(name).unwrap_or(0);
         // No memory holds so many names that a number does not fit.
-        u32::try_from(number).map_err(|_| AllocError)
+        match u32::try_from(number) {
+            Ok(number) => Ok(number),
+            Err(_) => Err(AllocError),
+        }
     }
 
     // The number of what stands at a node, a constructor or a variable, where so many blanks stand
