@@ -1,6 +1,6 @@
 // What a text declares of types, constructors, predicates and contexts, and which number each name
 // has.
-ghost use Rattle.std.specs.Prelude.{◌≡◌, List, map, option_to_list, IfOk};
+ghost use Rattle.std.specs.Prelude.{◌≡◌, List, map, option_to_list, slice_get, IfOk};
 ghost use Rattle.std.specs.List.{flat_map};
 ghost use Rattle.std.specs.Option.{option_map};
 ghost use Rattle.cep_parse.specs.declared.raw.RawItem.{RawItem};
@@ -68,6 +68,16 @@ ghost use Rattle.cep_infer.specs.Kept.{source_of, IsDeclared};
     ghost view = { source_of };
 
     ghost invariant = { IsDeclared };
+}
+
+// The item at a place, from 0.
+fn item_at<T: Copy>(items: &[T], i: usize) -> Option<T>
+    ensures { result ≡ slice_get items.now i }
+{
+    if i < items.len() {
+        return Some(items[i]);
+    }
+    None
 }
 
 // The constructor of an item.
@@ -207,7 +217,7 @@ impl<'a> Declarations<'a> {
         let Some(number) = self.names.number(Space::Constructors, said(self.text, name)) else {
             return None;
         };
-        self.cons.get(number).copied()
+        item_at(&self.cons, number)
     }
 
     // The predicate of this name.
@@ -217,7 +227,7 @@ impl<'a> Declarations<'a> {
         let Some(number) = self.names.number(Space::Predicates, said(self.text, name)) else {
             return None;
         };
-        self.preds.get(number).copied()
+        item_at(&self.preds, number)
     }
 
     // The atoms of the context of this name, and none where there is no such context.
@@ -227,7 +237,7 @@ impl<'a> Declarations<'a> {
         let Some(number) = self.names.number(Space::Contexts, said(self.text, name)) else {
             return &[];
         };
-        match self.contexts.get(number) {
+        match item_at(&self.contexts, number) {
             Some(context) => context.atoms,
             None => &[],
         }
