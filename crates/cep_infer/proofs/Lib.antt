@@ -2,3 +2,4 @@ pub mod Members
 pub mod Filled
 pub mod Entries
 pub mod Lookups
+pub mod Meeting

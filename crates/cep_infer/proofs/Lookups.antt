@@ -11,7 +11,9 @@ use Rattle.std.proofs.lemmas.List.Folds.{find_at}
 use Rattle.std.proofs.lemmas.Option.{slice_get_past}
 use Rattle.std.proofs.lemmas.Slice.Eq.{bytes_eq-Decides}
 use Rattle.cep_names.specs.declared.table.Shape.{Shape}
+use Rattle.cep_names.specs.Items.{ContextItem}
 use Rattle.cep_names.specs.Spaces.{Named}
+use Rattle.cep_names.specs.Starts.{listed_in}
 
 not_true : (b : Bool) → (b ≡ true → b ≡ false) → b ≡ false
 not_true true h = h refl
@@ -93,3 +95,13 @@ pub flat_more : {X Y : Type 0} (f : X → List Y) (xs : List X) (i : ℕ) (x : X
     → old ≡ flat_map f (take i xs) → new ≡ old ++ f x → new ≡ flat_map f (take (i + 1) xs)
 flat_more f xs i x old new h at was is =
     is ∙ ap (λ ys. ys ++ f x) was ∙ sym (ap (flat_map f) (take_more xs i x h) ∙ flat_map-append f (take i xs) (get_or xs i x ∷ []) ∙ ap (λ ys. flat_map f (take i xs) ++ ys) (append-nil (f (get_or xs i x)) ∙ ap f (sym at)))
+
+-- one more item of a loop that adds its image
+pub push_map : {X Y : Type 0} (f : X → Y) (xs : List X) (i : ℕ) (d : X) (old new : List Y) (y : Y) → i < length xs
+    → old ≡ map f (take i xs) → y ≡ f (get_or xs i d) → new ≡ old ++ y ∷ [] → new ≡ map f (take (i + 1) xs)
+push_map f xs i d old new y h was is_y is =
+    is ∙ ap (λ ys. ys ++ y ∷ []) was ∙ ap (λ z. map f (take i xs) ++ z ∷ []) is_y ∙ sym (ap (map f) (take_more xs i d h) ∙ map-append f (take i xs) (get_or xs i d ∷ []))
+
+-- the atoms of the context that is found
+pub listed_some : (o : Option ContextItem) (c : ContextItem) (found : Option ContextItem) → o ≡ Some c → o ≡ found → c.atoms ≡ listed_in found
+listed_some o c found is same = ap listed_in (sym is ∙ same)

@@ -43,8 +43,10 @@ impl Pending {
     pub(crate) fn put(&mut self, types: &[Span]) -> Result<(), AllocError>
         ensures { OnOk result (self.new ≡ types.now ++ self.old) }
     {
-        for span in types.iter().rev() {
-            self.spans.push(*span)?;
+        let mut left = types.len();
+        while left > 0 {
+            left -= 1;
+            self.spans.push(types[left])?;
         }
         Ok(())
     }
