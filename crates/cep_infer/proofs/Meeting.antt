@@ -1,9 +1,9 @@
 -- Nodes are met one after another.
-use Rattle.std.proofs.Common.{◌≡◌, ℕ, ◌+◌, ◌<◌, Bool, true, false, ◌||◌, if◌then◌else◌, List, [], ◌∷◌, ◌++◌, map, fold, length, take, drop, get_or, refl, ap, sym, subst, ◌∙◌, append_assoc}
+use Rattle.std.proofs.Common.{◌≡◌, ℕ, ◌+◌, ◌<◌, ◌≤◌, Bool, true, false, ◌||◌, if◌then◌else◌, List, [], ◌∷◌, ◌++◌, map, fold, length, take, drop, get_or, refl, ap, sym, subst, ◌∙◌, append_assoc}
 use Rattle.std.specs.Prelude.{codes, decimal}
 use Rattle.std.specs.List.{list_any, flat_map}
 use Rattle.std.specs.Str.{bytes_eq}
-use Rattle.std.proofs.lemmas.List.{map-append, append-nil, take_more}
+use Rattle.std.proofs.lemmas.List.{map-append, append-nil, take_more, drop_more, drop_all}
 use Rattle.std.proofs.lemmas.List.Sums.{fold-append}
 use Rattle.std.proofs.lemmas.Grind.{flat_map-append}
 use Rattle.cep_parse.specs.declared.raw.Span.{Span}
@@ -73,6 +73,14 @@ meeting_goes_on source sites nodes start old new next later node rest wants site
   blanks_are : new.blanks ≡ blanks_behind old.blanks node.kind
   blanks_are = ap (λ (v : Variables). v.blanks) is ∙ met_blanks source old node.kind node.at wants
 
+pub meeting_more : (source : Source) (sites : List Site) (nodes : List RawNode) (start old new : Variables) (next later : List (List ℕ)) (i : ℕ) (d : RawNode) (wants : Span) → i < length nodes
+    → sites_from source next (get_or nodes i d ∷ drop (i + 1) nodes) ≡ record { node = get_or nodes i d; wants = said source wants } ∷ sites_from source later (drop (i + 1) nodes)
+    → new ≡ met_site source old (get_or nodes i d).kind (get_or nodes i d).at wants
+    → IsMeeting source sites nodes start old next (drop i nodes) → IsMeeting source sites nodes start new later (drop (i + 1) nodes)
+meeting_more source sites nodes start old new next later i d wants h site is was =
+    meeting_goes_on source sites nodes start old new next later (get_or nodes i d) (drop (i + 1) nodes) wants site is
+    (subst (λ (ns : List RawNode). IsMeeting source sites nodes start old next ns) (drop_more nodes i d h) was)
+
 no_sites : (source : Source) (next : List (List ℕ)) → sites_from source next [] ≡ []
 no_sites source [] = refl
 no_sites source (wants ∷ next) = refl
@@ -86,6 +94,12 @@ meeting_ends source atom sites nodes start now next sites_are nodes_are was = re
   blanks = sym (ap (blanks_after start.blanks) (append-nil atom.nodes ∙ sym nodes_are) ∙ was.blanks);
   covered = ap nodes_at (append-nil (sites_in source atom) ∙ sym sites_are) ∙ was.covered (ap nodes_at (no_sites source next)) ∙ nodes_are ∙ sym (append-nil atom.nodes);
 }
+
+pub meeting_over : (source : Source) (atom : RawAtom) (types : List (List ℕ)) (nodes : List RawNode) (start now : Variables) (next : List (List ℕ)) (i : ℕ) → sites_from source types atom.nodes ≡ sites_in source atom → nodes ≡ atom.nodes → length nodes ≤ i
+    → IsMeeting source (sites_from source types nodes) nodes start now next (drop i nodes) → AreMet source (atom ∷ []) start now
+meeting_over source atom types nodes start now next i types_are nodes_are h was =
+    meeting_ends source atom (sites_from source types nodes) nodes start now next (ap (sites_from source types) nodes_are ∙ types_are) nodes_are
+    (subst (λ (ns : List RawNode). IsMeeting source (sites_from source types nodes) nodes start now next ns) (drop_all i nodes h) was)
 
 -- ---- atoms are met one after another
 
