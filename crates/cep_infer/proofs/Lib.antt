@@ -3,3 +3,5 @@ pub mod Filled
 pub mod Entries
 pub mod Lookups
 pub mod Meeting
+pub mod FirstOccurrences
+pub mod Building

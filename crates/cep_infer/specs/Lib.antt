@@ -9,3 +9,4 @@ pub mod Met
 pub mod Clashes
 pub mod Listed
 pub mod Resolved
+pub mod Built

@@ -14,23 +14,6 @@ use cep_rule::{AtomList, Clause, Clauses};
 use std::alloc::AllocError;
 
 impl<'a> Declarations<'a> {
-    // The atoms that are written, before which so many blanks stand.
-    pub(crate) fn atoms(
-        &self,
-        variables: &Variables,
-        blanks: u64,
-        raws: &[RawAtom],
-    ) -> Result<AtomList, AllocError>
-        ensures { IfOk result (λ atoms. AreAtomsBy self.now (names_in variables.now.firsts) blanks raws.now atoms) }
-    {
-        let mut blanks = blanks;
-        let mut atoms = AtomList::new(self.alloc);
-        for raw in raws {
-            atoms.push(read_atom(self, variables, &mut blanks, raw)?)?;
-        }
-        Ok(atoms)
-    }
-
     fn clause(&self, head: &RawAtom, goals: &[RawAtom]) -> Result<Clause, AllocError>
         ensures { IfOk result (λ clause. IsClauseBy self.now (record { head = head.now; goals = goals.now }) (clause_of clause)) }
     {
@@ -39,12 +22,13 @@ impl<'a> Declarations<'a> {
         variables.meet_atoms(self, goals)?;
         let mut blanks = 0;
         let head = read_atom(self, &variables, &mut blanks, head)?;
-        let goals = self.atoms(&variables, blanks, goals)?;
+        let mut atoms = AtomList::new(self.alloc);
+        self.push_atoms(&variables, goals, &mut blanks, &mut atoms)?;
         Ok(Clause {
             vars: variables.firsts.names(self.alloc)?,
             kinds: variables.kinds(self)?,
             head,
-            goals,
+            goals: atoms,
         })
     }
 

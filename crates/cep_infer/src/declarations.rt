@@ -71,7 +71,7 @@ ghost use Rattle.cep_infer.specs.Kept.{source_of, IsDeclared};
 }
 
 // The item at a place, from 0.
-fn item_at<T: Copy>(items: &[T], i: usize) -> Option<T>
+pub(crate) fn item_at<T: Copy>(items: &[T], i: usize) -> Option<T>
     ensures { result ≡ slice_get items.now i }
 {
     if i < items.len() {

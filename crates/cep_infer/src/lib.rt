@@ -2,12 +2,14 @@
 //! each term is of the type that is wanted of it, and what is wrong is told at its place.
 #![tactic(auto)]
 
+mod atoms;
 mod clashes;
 mod clauses;
 mod declarations;
 mod draft;
 mod firsts;
 pub mod laws;
+mod left;
 mod listing;
 mod pending;
 mod places;

@@ -9,42 +9,14 @@ ghost use Rattle.cep_infer.specs.Met.{none_met, AreMet, names_in};
 ghost use Rattle.cep_infer.specs.Listed.{rule_item};
 
 use crate::declarations::Declarations;
+use crate::left::LeftSide;
 use crate::listing::RuleRef;
-use crate::terms::read_atom;
 use crate::variables::Variables;
 use cep_base::{Name, Text};
 use cep_names::Space;
 use cep_parse::{RawElem, RawRule, Span};
-use cep_rule::{AtomList, Premise, Premises, Rule, Rules};
-use cep_term::Atom;
-use std::alloc::{AllocError, Global};
-
-/// The premises of a left side, the linear ones and the backward ones.
-#[derive(Drop)]
-pub(crate) struct LeftSide {
-    pub premises: Premises,
-    pub backs: AtomList,
-}
-
-impl LeftSide {
-    fn new(alloc: Global) -> LeftSide
-        ensures { result ≡ record { premises = []; backs = [] } }
-    {
-        LeftSide {
-            premises: Premises::new(alloc),
-            backs: AtomList::new(alloc),
-        }
-    }
-
-    // One premise more.
-    fn push(&mut self, back: bool, kept: bool, atom: Atom) -> Result<(), AllocError> {
-        if back {
-            self.backs.push(atom)
-        } else {
-            self.premises.push(Premise { atom, kept })
-        }
-    }
-}
+use cep_rule::{AtomList, Rule, Rules};
+use std::alloc::AllocError;
 
 // How many rules without a label there are behind one with this label.
 fn unlabelled_behind(unlabelled: u64, label: Option<Span>) -> Result<u64, AllocError>
@@ -68,72 +40,6 @@ fn stage_in(elem: &RawElem) -> Option<Span>
 }
 
 impl<'a> Declarations<'a> {
-    // Whether clauses define the predicate of a name.
-    fn is_back(&self, name: Span) -> bool {
-        match self.pred(name) {
-            Some(pred) => pred.back,
-            None => false,
-        }
-    }
-
-    fn premise(
-        &self,
-        variables: &Variables,
-        blanks: &mut u64,
-        elem: &RawElem,
-        left: &mut LeftSide,
-    ) -> Result<(), AllocError> {
-        match elem {
-            RawElem::Atom { kept, atom } => {
-                let back = self.is_back(atom.name);
-                let atom = read_atom(self, variables, blanks, atom)?;
-                left.push(back, *kept, atom)
-            }
-            RawElem::Qui(_) | RawElem::Stage(_) => Ok(()),
-        }
-    }
-
-    // The premises of a left side, before which so many blanks stand.
-    fn left_side(
-        &self,
-        variables: &Variables,
-        blanks: &mut u64,
-        side: &[RawElem],
-    ) -> Result<LeftSide, AllocError> {
-        let mut left = LeftSide::new(self.alloc);
-        for elem in side {
-            self.premise(variables, blanks, elem, &mut left)?;
-        }
-        Ok(left)
-    }
-
-    fn push_elem(
-        &self,
-        variables: &Variables,
-        blanks: &mut u64,
-        elem: &RawElem,
-        atoms: &mut AtomList,
-    ) -> Result<(), AllocError> {
-        match elem {
-            RawElem::Atom { atom, .. } => atoms.push(read_atom(self, variables, blanks, atom)?),
-            RawElem::Qui(_) | RawElem::Stage(_) => Ok(()),
-        }
-    }
-
-    // The atoms of a right side, before which so many blanks stand.
-    fn right_side(
-        &self,
-        variables: &Variables,
-        blanks: &mut u64,
-        side: &[RawElem],
-    ) -> Result<AtomList, AllocError> {
-        let mut atoms = AtomList::new(self.alloc);
-        for elem in side {
-            self.push_elem(variables, blanks, elem, &mut atoms)?;
-        }
-        Ok(atoms)
-    }
-
     // The number of the first stage that a side names, and 0 where it names none.
     fn stage_named(&self, side: &[RawElem]) -> Result<u32, AllocError>
         ensures { IfOk result (λ stage. stage ≡ stage_named self.now side.now) }
@@ -200,8 +106,10 @@ impl<'a> Declarations<'a> {
         let raw = item.raw;
         let variables = self.rule_variables(raw)?;
         let mut blanks = 0;
-        let left = self.left_side(&variables, &mut blanks, raw.left.as_slice())?;
-        let right = self.right_side(&variables, &mut blanks, raw.right.as_slice())?;
+        let mut left = LeftSide::new(self.alloc);
+        self.push_left(&variables, raw.left.as_slice(), &mut blanks, &mut left)?;
+        let mut right = AtomList::new(self.alloc);
+        self.push_side(&variables, raw.right.as_slice(), &mut blanks, &mut right)?;
         Ok(Rule {
             name: self.rule_name(unlabelled, raw.label)?,
             group: self.group(item.home, raw.left.as_slice())?,

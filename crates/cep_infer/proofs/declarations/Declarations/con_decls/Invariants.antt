@@ -4,4 +4,4 @@ use Rattle.cep_infer.specs.Kept.{con_item}
 use Rattle.cep_infer.proofs.declarations.Declarations.con_decls.Given as goal
 
 abbrev pub invariant-loop-con : goal.invariant-loop-con
-invariant-loop-con l = l.cons ≡ map (λ con. con_by l.self (con_item con)) (take l.con-index l.con-items.items)
+invariant-loop-con l = l.cons ≡ map (λ con. con_by l.self (con_item con)) (take l.con-index l.con-items)
