@@ -1,5 +1,5 @@
 -- Atoms and premises are built one after another.
-use Rattle.std.proofs.Common.{◌≡◌, ℕ, ◌+◌, ◌<◌, Bool, true, false, not, if◌then◌else◌, List, [], ◌∷◌, ◌++◌, map, filter, length, take, get_or, refl, ap, sym, subst, ◌∙◌, append_assoc}
+use Rattle.std.proofs.Common.{◌≡◌, ℕ, ◌+◌, ◌<◌, Bool, true, false, not, if◌then◌else◌, List, [], ◌∷◌, ◌++◌, map, filter, length, take, get_or, refl, ap, sym, subst, ◌∙◌, append_assoc, arith}
 use Rattle.std.specs.Prelude.{Result, Ok, Err, OnOk}
 use Rattle.std.specs.List.{flat_map}
 use Rattle.std.proofs.lemmas.List.{map-append, append-nil, take_more}
@@ -8,15 +8,17 @@ use Rattle.cep_parse.specs.declared.raw.RawNode.{RawNode}
 use Rattle.cep_parse.specs.declared.raw.RawAtom.{RawAtom}
 use Rattle.cep_parse.specs.declared.raw.RawElem.{RawElem}
 use Rattle.cep_parse.specs.declared.raw.RawElem.TheVariants as elem
+use Rattle.cep_parse.specs.declared.raw.RawItem.{RawItem}
+use Rattle.cep_rule.specs.declared.rule.Rule.{Rule}
 use Rattle.cep_term.specs.Tree.{AtomTree}
 use Rattle.cep_rule.specs.Patterns.{PremiseTree, ClauseTree}
-use Rattle.cep_names.specs.Items.{Source}
+use Rattle.cep_names.specs.Items.{Source, ClauseItem, RuleItem}
 use Rattle.cep_names.specs.Uses.{atoms_in, atoms_of}
 use Rattle.cep_names.specs.Variables.{nodes_of}
 use Rattle.cep_infer.specs.declared.left.LeftSide.{LeftSide}
 use Rattle.cep_infer.specs.declared.variables.Variables.{Variables}
 use Rattle.cep_infer.specs.Heads.{IsAtomBy, AreAtomsBy, blanks_after}
-use Rattle.cep_infer.specs.Meaning.{ArePremisesBy, is_back, IsClauseBy}
+use Rattle.cep_infer.specs.Meaning.{ArePremisesBy, is_back, IsClauseBy, AreClausesBy, IsRuleBy, AreRulesBy}
 use Rattle.cep_infer.specs.Met.{AreMet, none_met, names_in, kinds_met}
 use Rattle.cep_infer.specs.Built.{AreBuilt, IsLeftBuilt}
 use Rattle.cep_infer.proofs.Meeting.{blanks_both}
@@ -110,10 +112,10 @@ module _ (source : Source) (vars : List (List ℕ)) where
     backs_are = backs_are ∙ backward back back_is;
     behind_is = blanks_are ∙ ap (blanks_after before) (sym (append-nil raw.nodes));
   } where
-    linear : (b : Bool) → b ≡ is_back source atom → (if b then old.premises else old.premises ++ record { atom = atom; kept = kept } ∷ []) ≡ old.premises ++ filter (λ premise. not (is_back source premise.atom)) (record { atom = atom; kept = kept } ∷ [])
+    linear : (b : Bool) → b ≡ is_back source atom → (if b then old.premises else old.premises ++ record { atom = atom; kept = kept } ∷ []) ≡ old.premises ++ filter (λ (premise : PremiseTree). not (is_back source premise.atom)) (record { atom = atom; kept = kept } ∷ [])
     linear true e = rw (← e) (sym (append-nil old.premises))
     linear false e = rw (← e) refl
-    backward : (b : Bool) → b ≡ is_back source atom → (if b then old.backs ++ atom ∷ [] else old.backs) ≡ old.backs ++ map (λ premise. premise.atom) (filter (λ premise. is_back source premise.atom) (record { atom = atom; kept = kept } ∷ []))
+    backward : (b : Bool) → b ≡ is_back source atom → (if b then old.backs ++ atom ∷ [] else old.backs) ≡ old.backs ++ map (λ (premise : PremiseTree). premise.atom) (filter (λ (premise : PremiseTree). is_back source premise.atom) (record { atom = atom; kept = kept } ∷ []))
     backward true e = rw (← e) refl
     backward false e = rw (← e) (sym (append-nil old.backs))
 
@@ -136,3 +138,28 @@ clause_built source head goals variables names kinds middle behind tree none ato
 pub on_ok_both : {T E P Q R : Type 0} (r : Result T E) → (P → Q → R) → OnOk r P → OnOk r Q → OnOk r R
 on_ok_both (Ok x) f p q = f p q
 on_ok_both (Err e) f p q = tt
+
+-- ---- clauses and rules, one after another
+
+pub clauses_both : (source : Source) (one two : List ClauseItem) (cs ds : List ClauseTree) → AreClausesBy source one cs → AreClausesBy source two ds → AreClausesBy source (one ++ two) (cs ++ ds)
+clauses_both source [] two [] ds first second = second
+clauses_both source [] two (c ∷ cs) ds first second = absurd first
+clauses_both source (x ∷ one) two [] ds first second = absurd first
+clauses_both source (x ∷ one) two (c ∷ cs) ds first second = (first.0, clauses_both source one two cs ds first.1 second)
+
+pub clauses_more : (source : Source) (g : RawItem → List ClauseItem) (xs : List RawItem) (i : ℕ) (x : RawItem) (old more new : List ClauseTree) → i < length xs → x ≡ get_or xs i x
+    → AreClausesBy source (flat_map g (take i xs)) old → AreClausesBy source (g x) more → new ≡ old ++ more → AreClausesBy source (flat_map g (take (i + 1) xs)) new
+clauses_more source g xs i x old more new h at was is new_is =
+    let items : flat_map g (take (i + 1) xs) ≡ flat_map g (take i xs) ++ g x =
+        ap (flat_map g) (take_more xs i x h) ∙ flat_map-append g (take i xs) (get_or xs i x ∷ []) ∙ ap (λ ys. flat_map g (take i xs) ++ ys) (append-nil (g (get_or xs i x)) ∙ ap g (sym at)) in
+    subst (λ (ys : List ClauseItem). AreClausesBy source ys new) (sym items)
+    (subst (λ (cs : List ClauseTree). AreClausesBy source (flat_map g (take i xs) ++ g x) cs) (sym new_is) (clauses_both source (flat_map g (take i xs)) (g x) old more was is))
+
+pub rules_more : (source : Source) (names : List (List ℕ)) (items : List RuleItem) (rules : List Rule) (name : List ℕ) (item : RuleItem) (rule : Rule) → AreRulesBy source names items rules → length names ≡ length items → IsRuleBy source name item rule
+    → AreRulesBy source (names ++ name ∷ []) (items ++ item ∷ []) (rules ++ rule ∷ [])
+rules_more source [] [] [] name item rule are same is = (is, tt)
+rules_more source [] [] (r ∷ rules) name item rule are same is = absurd are
+rules_more source names (i ∷ items) [] name item rule are same is = absurd are
+rules_more source [] (i ∷ items) (r ∷ rules) name item rule are same is = absurd are
+rules_more source (n ∷ names) [] rules name item rule are same is = absurd (omega (arith, same))
+rules_more source (n ∷ names) (i ∷ items) (r ∷ rules) name item rule are same is = (are.0, rules_more source names items rules name item rule are.1 (omega (arith, same)) is)

@@ -1,7 +1,7 @@
 // The clauses of a text.
-ghost use Rattle.std.specs.Prelude.{◌≡◌, ◌++◌, ◌∷◌, [], map, IfOk, OnOk};
-ghost use Rattle.cep_names.specs.Items.{clauses_of};
-ghost use Rattle.cep_rule.specs.Patterns.{clause_of};
+ghost use Rattle.std.specs.Prelude.{◌≡◌, ◌++◌, ◌∷◌, [], map, option_to_list, List, IfOk, OnOk};
+ghost use Rattle.cep_names.specs.Items.{clauses_in, clauses_of};
+ghost use Rattle.cep_rule.specs.Patterns.{ClauseTree, clause_of};
 ghost use Rattle.cep_infer.specs.Heads.{AreAtomsBy};
 ghost use Rattle.cep_infer.specs.Meaning.{IsClauseBy, AreClausesBy};
 ghost use Rattle.cep_infer.specs.Met.{names_in};
@@ -33,7 +33,9 @@ impl<'a> Declarations<'a> {
     }
 
     // The clause of an item.
-    fn clause_in(&self, item: &RawItem) -> Result<Option<Clause>, AllocError> {
+    fn clause_in(&self, item: &RawItem) -> Result<Option<Clause>, AllocError>
+        ensures { IfOk result (λ clause. AreClausesBy self.now (clauses_in self.now item.now) (map clause_of (option_to_list clause))) }
+    {
         match item {
             RawItem::Clause { head, goals, .. } => Ok(Some(self.clause(head, goals.as_slice())?)),
             RawItem::Colon { args, right, .. } if self.names.is_labelled(self.text, args, *right) => {
@@ -48,15 +50,23 @@ impl<'a> Declarations<'a> {
         }
     }
 
+    // Adds the clause of an item.
+    fn push_clause(&self, item: &RawItem, clauses: &mut Clauses) -> Result<(), AllocError>
+        ensures { OnOk result ((more : List ClauseTree) × (clauses.new ≡ clauses.old ++ more) × AreClausesBy self.now (clauses_in self.now item.now) more) }
+    {
+        match self.clause_in(item)? {
+            Some(clause) => clauses.push(clause),
+            None => Ok(()),
+        }
+    }
+
     // The clauses in written order, those with a label too.
     pub(crate) fn clauses(&self) -> Result<Clauses, AllocError>
         ensures { IfOk result (λ clauses. AreClausesBy self.now (clauses_of self.now) clauses) }
     {
         let mut clauses = Clauses::new(self.alloc);
         for item in self.file.as_slice() {
-            if let Some(clause) = self.clause_in(item)? {
-                clauses.push(clause)?;
-            }
+            self.push_clause(item, &mut clauses)?;
         }
         Ok(clauses)
     }
