@@ -5,3 +5,4 @@ pub mod Lookups
 pub mod Meeting
 pub mod FirstOccurrences
 pub mod Building
+pub mod RulesInTurn
