@@ -1,7 +1,7 @@
-// The rules, the contexts and the first trace of a file, as they are written.
-ghost use Rattle.std.specs.Prelude.{◌≡◌, map, IfOk, OnOk, ◌++◌, ◌+◌};
-ghost use Rattle.cep_names.specs.Items.{rules_of, rules_in, stages_behind, contexts_of, traces_of};
-ghost use Rattle.cep_infer.specs.Listed.{rule_item, IsFirstTrace};
+// The rules and the first trace of a file, as they are written.
+ghost use Rattle.std.specs.Prelude.{◌≡◌, ◌++◌, map, option_to_list, IfOk, OnOk};
+ghost use Rattle.cep_names.specs.Items.{rules_of, rules_in, stages_behind, traces_in, traces_of};
+ghost use Rattle.cep_infer.specs.Listed.{rule_item, in_stage, trace_item, IsFirstTrace};
 
 use crate::declarations::Declarations;
 use cep_parse::{RawItem, RawRule, RawStart, Span};
@@ -28,7 +28,9 @@ fn push_rules<'a>(
     stage: u32,
     raws: &'a [RawRule],
     rules: &mut Vec<RuleRef<'a>>,
-) -> Result<(), AllocError> {
+) -> Result<(), AllocError>
+    ensures { OnOk result (map rule_item rules.new.items ≡ map rule_item rules.old.items ++ map (in_stage stage) raws.now) }
+{
     for raw in raws {
         rules.push(RuleRef {
             home: Some(stage),
@@ -43,7 +45,9 @@ fn push_item<'a>(
     stages: u32,
     item: &'a RawItem,
     rules: &mut Vec<RuleRef<'a>>,
-) -> Result<(), AllocError> {
+) -> Result<(), AllocError>
+    ensures { OnOk result (map rule_item rules.new.items ≡ map rule_item rules.old.items ++ rules_in stages item.now) }
+{
     match item {
         RawItem::Outer(raw) => {
             rules.push(RuleRef { home: None, raw })?;
@@ -66,7 +70,9 @@ fn stages_behind(stages: u32, item: &RawItem) -> Result<u32, AllocError>
 }
 
 // The trace of an item.
-fn trace_in(item: &RawItem) -> Option<TraceRef<'_>> {
+fn trace_in(item: &RawItem) -> Option<TraceRef<'_>>
+    ensures { map trace_item (option_to_list result) ≡ traces_in item.now }
+{
     match item {
         RawItem::Trace {
             at,
