@@ -6,3 +6,6 @@ pub mod Meeting
 pub mod FirstOccurrences
 pub mod Building
 pub mod RulesInTurn
+pub mod FirstFaults
+pub mod FirstLoops
+pub mod Clashing

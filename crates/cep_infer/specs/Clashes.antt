@@ -15,7 +15,7 @@ use Rattle.cep_names.specs.Items.{Source, said}
 use Rattle.cep_names.specs.Spaces.{con_named}
 use Rattle.cep_names.specs.Uses.{atoms_of, start_listed}
 use Rattle.cep_names.specs.Misnamed.{wrong}
-use Rattle.cep_infer.specs.Sites.{Site, sites_of, type_of}
+use Rattle.cep_infer.specs.Sites.{Site, sites_in, type_of}
 
 -- the type of the term at a node, as variables have types
 abbrev pub type_at : Source → (List ℕ → Option (List ℕ)) → RawKind → Span → Option (List ℕ)
@@ -32,8 +32,11 @@ abbrev pub clash_of : Source → (List ℕ → Option (List ℕ)) → Site → L
 clash_of source type_under site = clash_if (type_at source type_under site.node.kind site.node.at) site.wants site.node.at.from
 
 -- the faults of atoms that share their variables
+abbrev pub atom_clashes : Source → (List ℕ → Option (List ℕ)) → RawAtom → List Fault
+atom_clashes source type_under atom = flat_map (clash_of source type_under) (sites_in source atom)
+
 abbrev pub scope_clashes : Source → List RawAtom → List Fault
-scope_clashes source atoms = flat_map (clash_of source (type_of source atoms)) (sites_of source atoms)
+scope_clashes source atoms = flat_map (atom_clashes source (type_of source atoms)) atoms
 
 -- the atoms of an item, those that share their variables together
 abbrev pub item_scopes : RawItem → List (List RawAtom)

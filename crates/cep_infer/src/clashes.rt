@@ -1,13 +1,11 @@
 // The terms of a text that are of other types than are wanted.
-ghost use Rattle.std.specs.Prelude.{◌≡◌, ◌++◌, ◌∷◌, [], List, map, IfOk, OnOk};
+ghost use Rattle.std.specs.Prelude.{◌≡◌, ◌++◌, ◌∷◌, [], IfOk};
 ghost use Rattle.std.specs.List.{flat_map};
 ghost use Rattle.std.specs.Option.{option_map};
-ghost use Rattle.cep_parse.specs.declared.raw.RawElem.{RawElem};
 ghost use Rattle.cep_names.specs.First.{first_in};
 ghost use Rattle.cep_names.specs.Items.{said};
 ghost use Rattle.cep_names.specs.Uses.{atoms_in, atoms_of};
-ghost use Rattle.cep_infer.specs.Sites.{sites_in, sites_of};
-ghost use Rattle.cep_infer.specs.Clashes.{type_at, clash_of, scope_clashes, item_scopes};
+ghost use Rattle.cep_infer.specs.Clashes.{type_at, clash_of, atom_clashes, scope_clashes, item_scopes};
 ghost use Rattle.cep_infer.specs.Met.{type_met};
 
 use crate::declarations::Declarations;
@@ -51,7 +49,7 @@ impl<'a> Declarations<'a> {
         variables: &Variables,
         atom: &RawAtom,
     ) -> Result<Option<Fault>, AllocError>
-        ensures { IfOk result (λ first. first ≡ first_in (flat_map (clash_of self.now (type_met self.now variables.now.firsts)) (sites_in self.now atom.now))) }
+        ensures { IfOk result (λ first. first ≡ first_in (atom_clashes self.now (type_met self.now variables.now.firsts) atom.now)) }
     {
         let mut first = None;
         let mut pending = self.pending(atom.name)?;
@@ -68,7 +66,7 @@ impl<'a> Declarations<'a> {
         variables: &Variables,
         atoms: &[RawAtom],
     ) -> Result<Option<Fault>, AllocError>
-        ensures { IfOk result (λ first. first ≡ first_in (flat_map (clash_of self.now (type_met self.now variables.now.firsts)) (sites_of self.now atoms.now))) }
+        ensures { IfOk result (λ first. first ≡ first_in (flat_map (atom_clashes self.now (type_met self.now variables.now.firsts)) atoms.now)) }
     {
         let mut first = None;
         for atom in atoms {
@@ -82,7 +80,7 @@ impl<'a> Declarations<'a> {
         variables: &Variables,
         elem: &RawElem,
     ) -> Result<Option<Fault>, AllocError>
-        ensures { IfOk result (λ first. first ≡ first_in (flat_map (clash_of self.now (type_met self.now variables.now.firsts)) (sites_of self.now (atoms_in elem.now)))) }
+        ensures { IfOk result (λ first. first ≡ first_in (flat_map (atom_clashes self.now (type_met self.now variables.now.firsts)) (atoms_in elem.now))) }
     {
         match elem {
             RawElem::Atom { atom, .. } => self.atom_clash(variables, atom),
@@ -96,7 +94,7 @@ impl<'a> Declarations<'a> {
         variables: &Variables,
         side: &[RawElem],
     ) -> Result<Option<Fault>, AllocError>
-        ensures { IfOk result (λ first. first ≡ first_in (flat_map (clash_of self.now (type_met self.now variables.now.firsts)) (sites_of self.now (atoms_of side.now)))) }
+        ensures { IfOk result (λ first. first ≡ first_in (flat_map (atom_clashes self.now (type_met self.now variables.now.firsts)) (atoms_of side.now))) }
     {
         let mut first = None;
         for elem in side {

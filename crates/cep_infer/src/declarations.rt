@@ -5,7 +5,7 @@ ghost use Rattle.std.specs.List.{flat_map};
 ghost use Rattle.std.specs.Option.{option_map};
 ghost use Rattle.cep_parse.specs.declared.raw.RawItem.{RawItem};
 ghost use Rattle.cep_names.specs.Items.{said, cons_in, cons_of, preds_in, contexts_in};
-ghost use Rattle.cep_names.specs.Spaces.{con_named, pred_named, context_named};
+ghost use Rattle.cep_names.specs.Spaces.{is_in, con_named, pred_named, context_named};
 ghost use Rattle.cep_names.specs.Starts.{listed_in};
 ghost use Rattle.cep_names.specs.Tables.{AreTablesOf, AreWhole};
 ghost use Rattle.cep_infer.specs.Heads.{number_of};
@@ -196,6 +196,13 @@ impl<'a> Declarations<'a> {
         ensures { result.now ≡ said self.now span }
     {
         said(self.text, span)
+    }
+
+    // Whether a space has a name.
+    pub(crate) fn has(&self, space: Space, name: Span) -> bool
+        ensures { result ≡ is_in self.now space (said self.now name) }
+    {
+        self.names.has(space, said(self.text, name))
     }
 
     // The number of a name in its space, from 0.

@@ -25,10 +25,9 @@ impl<'a> Declarations<'a> {
     fn is_context(&self, atom: &RawAtom) -> bool
         ensures { result ≡ is_context self.now (placed role.Start atom.now) }
     {
-        let name = self.said(atom.name);
         atom.args == 0
-            && !self.names.has(Space::Predicates, name)
-            && self.names.has(Space::Contexts, name)
+            && !self.has(Space::Predicates, atom.name)
+            && self.has(Space::Contexts, atom.name)
     }
 
     // Adds an atom in braces, or the atoms of the context for which it stands.

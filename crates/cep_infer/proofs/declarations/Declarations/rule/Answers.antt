@@ -14,7 +14,9 @@ returns c =
     let source = c.args.self.now in
     let item = c.args.item.now in
     let variables = c.in_ok-variables.variables in
-    rule_built source (rule_name source c.args.unlabelled item.raw.now.label) (rule_item item) variables _ c.push_left.new.blanks c.push_side.new.blanks c.new-left.result c.push_left.new.left c.new-right.result
+    rule_built source (rule_name source c.args.unlabelled item.raw.now.label) (rule_item item) variables
+    (record { name = c.in_ok-rule_name.field-0; group = c.in_ok-group.field-0; vars = c.in_ok-names.field-0; kinds = c.in_ok-kinds.field-0; premises = c.push_left.new.left.premises; backs = c.push_left.new.left.backs; right = c.push_side.new.atoms; next = c.in_ok-next.field-0 })
+    c.push_left.new.blanks c.push_side.new.blanks c.new-left.result c.push_left.new.left c.new-right.result
     c.in_ok-variables.ensures c.in_ok-names.ensures c.in_ok-kinds.ensures c.in_ok-rule_name.ensures
     (c.in_ok-group.ensures ∙ ap (group_of source item.home) c.as_slice-3.ensures) (c.in_ok-next.ensures ∙ ap (next_of source item.home) c.as_slice-4.ensures)
     c.new-left.ensures.none c.new-left.ensures.none_back
