@@ -16,8 +16,8 @@ use Rattle.cep_infer.specs.Sites.{Site, sites_from, sites_in, type_of}
 use Rattle.cep_infer.specs.Clashes.{type_at, clash_if, clash_of, atom_clashes, scope_clashes}
 use Rattle.cep_infer.specs.Met.{type_met, none_met, AreMet}
 use Rattle.cep_infer.proofs.FirstFaults.{first_of_three}
-use Rattle.cep_infer.proofs.FirstLoops.{first_in_append}
-use Rattle.cep_infer.proofs.Meeting.{no_sites}
+use Rattle.cep_infer.proofs.FirstLoops.{first_in_append, first_in_parts}
+use Rattle.cep_infer.proofs.Meeting.{no_sites, both_are_met}
 use Rattle.cep_infer.proofs.FirstOccurrences.{types_met}
 
 pub first_none : (first : Option Fault) → first_of first None ≡ first
@@ -62,3 +62,18 @@ module _ (source : Source) (f g : List ℕ → Option (List ℕ)) (same : (name 
 -- what is found of a scope with the types that were met
 pub scope_found : (source : Source) (atoms : List RawAtom) (variables : Variables) → AreMet source atoms none_met variables → flat_map (atom_clashes source (type_met source variables.firsts)) atoms ≡ scope_clashes source atoms
 scope_found source atoms variables met = clashes_same source (type_met source variables.firsts) (type_of source atoms) (types_met source atoms variables met) atoms
+
+-- the same, of one part and of two
+pub found_from : (source : Source) (atoms : List RawAtom) (start variables : Variables) → start ≡ none_met → AreMet source atoms start variables → flat_map (atom_clashes source (type_met source variables.firsts)) atoms ≡ scope_clashes source atoms
+found_from source atoms start variables is met = scope_found source atoms variables (subst (λ (v : Variables). AreMet source atoms v variables) is met)
+
+pub one_found : (source : Source) (atom : RawAtom) (start variables : Variables) → start ≡ none_met → AreMet source (atom ∷ []) start variables → atom_clashes source (type_met source variables.firsts) atom ≡ scope_clashes source (atom ∷ [])
+one_found source atom start variables is met = sym (append-nil (atom_clashes source (type_met source variables.firsts) atom)) ∙ found_from source (atom ∷ []) start variables is met
+
+pub two_found : (source : Source) (one two : List RawAtom) (start middle variables : Variables) (first other both : Option Fault) → start ≡ none_met → AreMet source one start middle → AreMet source two middle variables
+    → first ≡ first_in (flat_map (atom_clashes source (type_met source variables.firsts)) one) → other ≡ first_in (flat_map (atom_clashes source (type_met source variables.firsts)) two) → both ≡ first_of first other
+    → both ≡ first_in (scope_clashes source (one ++ two))
+two_found source one two start middle variables first other both is before behind first_is other_is both_is =
+    let clashes = atom_clashes source (type_met source variables.firsts) in
+    both_is ∙ ap (λ o. first_of o other) first_is ∙ ap (first_of (first_in (flat_map clashes one))) other_is
+    ∙ sym (first_in_parts clashes one two) ∙ ap first_in (found_from source (one ++ two) start variables is (both_are_met source one two start middle variables before behind))

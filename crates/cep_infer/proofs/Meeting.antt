@@ -81,7 +81,7 @@ meeting_more source sites nodes start old new next later i d wants h site is was
     meeting_goes_on source sites nodes start old new next later (get_or nodes i d) (drop (i + 1) nodes) wants site is
     (subst (λ (ns : List RawNode). IsMeeting source sites nodes start old next ns) (drop_more nodes i d h) was)
 
-no_sites : (source : Source) (next : List (List ℕ)) → sites_from source next [] ≡ []
+pub no_sites : (source : Source) (next : List (List ℕ)) → sites_from source next [] ≡ []
 no_sites source [] = refl
 no_sites source (wants ∷ next) = refl
 

@@ -1,7 +1,15 @@
-ghost use Rattle.std.specs.Prelude.{◌≤◌, length, IfOk};
+ghost use Rattle.std.specs.Prelude.{◌≡◌, ◌≤◌, ◌∷◌, List, length, take, IfOk, IfSome};
+ghost use Rattle.std.specs.Option.{option_map};
+ghost use Rattle.std.specs.Str.Parse.{digits_value};
 ghost use Rattle.cep_lex.specs.declared.token.TheConstants.{MOST_BYTES};
+ghost use Rattle.cep_lex.specs.Places.{IsPlaceBehind};
+ghost use Rattle.cep_names.specs.Items.{TraceItem, traces_of};
+ghost use Rattle.cep_names.specs.Misnamed.{number_said};
+ghost use Rattle.cep_names.specs.Named.{AreNames};
 ghost use Rattle.cep_infer.specs.Shapes.{IsSource};
-ghost use Rattle.cep_infer.specs.Resolved.{IsResolved};
+ghost use Rattle.cep_infer.specs.Places.{IsDraft};
+ghost use Rattle.cep_infer.specs.Listed.{trace_item};
+ghost use Rattle.cep_infer.specs.Resolved.{IsResolved, IsTyped};
 
 use crate::declarations::Declarations;
 use crate::draft::{Draft, Refusal};
@@ -15,6 +23,8 @@ use std::alloc::{AllocError, Global};
 // The refusal of a text for a fault. A place behind the end is the end.
 fn refusal(text: &[u8], fault: Fault) -> Refusal
     requires { length text.now ≤ MOST_BYTES }
+    ensures reason { result.reason ≡ fault.reason }
+    ensures pos { IsPlaceBehind (take fault.at text.now) result.pos }
 {
     let end = text.len() as u32;
     Refusal {
@@ -24,7 +34,9 @@ fn refusal(text: &[u8], fault: Fault) -> Refusal
 }
 
 // The number that digits say.
-fn number_said(digits: &[u8]) -> Option<u32> {
+fn number_said(digits: &[u8]) -> Option<u32>
+    ensures { IfSome result (λ number. number ≡ digits_value 10 digits.now) }
+{
     let mut number: u32 = 0;
     for digit in digits {
         let value = u32::from(digit.checked_sub(b'0')?);
@@ -35,7 +47,9 @@ fn number_said(digits: &[u8]) -> Option<u32> {
 
 impl<'a> Declarations<'a> {
     // The number of turns.
-    fn turns(&self, limit: Option<Span>) -> Result<Option<u32>, AllocError> {
+    fn turns(&self, limit: Option<Span>) -> Result<Option<u32>, AllocError>
+        ensures { IfOk result (λ turns. turns ≡ option_map (number_said self.now) limit) }
+    {
         match limit {
             None => Ok(None),
             Some(digits) => {
@@ -45,7 +59,9 @@ impl<'a> Declarations<'a> {
         }
     }
 
-    fn draft_from(&self, trace: &TraceRef) -> Result<Draft, AllocError> {
+    fn draft_from(&self, trace: &TraceRef) -> Result<Draft, AllocError>
+        ensures { (rest : List TraceItem) → traces_of self.now ≡ trace_item trace.now ∷ rest → IfOk result (λ draft. IsDraft self.now draft) }
+    {
         let rules = self.rule_refs()?;
         let parts = Parts {
             signature: self.signature()?,
@@ -70,7 +86,10 @@ fn typed(
     text: &[u8],
     file: &RawFile,
     names: &Names,
-) -> Result<Result<Draft, Fault>, AllocError> {
+) -> Result<Result<Draft, Fault>, AllocError>
+    requires { AreNames (record { text = text.now; file = file.now }) names.now }
+    ensures { IfOk result (λ answer. IsTyped (record { text = text.now; file = file.now }) answer) }
+{
     let declared = Declarations::of(alloc, text, file, names)?;
     if let Some(fault) = declared.first_clash()? {
         return Ok(Err(fault));

@@ -10,7 +10,7 @@ use Rattle.cep_infer.proofs.RulesInTurn.{rule_built}
 use Rattle.cep_infer.proofs.declarations.Declarations.rule.Goals as goal
 
 pub returns : goal.returns
-returns c =
+returns c = 
     let source = c.args.self.now in
     let item = c.args.item.now in
     let variables = c.in_ok-variables.variables in
