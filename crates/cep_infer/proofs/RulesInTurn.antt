@@ -1,5 +1,7 @@
 -- Rules are built one after another.
 use Rattle.std.proofs.Common.{◌≡◌, ℕ, suc, ◌+◌, ◌<◌, List, [], ◌∷◌, ◌++◌, map, filter, not, Option, Some, None, length, take, drop, get_or, refl, ap, sym, subst, ◌∙◌, arith}
+use Rattle.std.specs.Prelude.{Result, Ok, Err, IfOk}
+use Rattle.std.specs.declared.alloc.AllocError.{AllocError}
 use Rattle.std.specs.List.{flat_map}
 use Rattle.std.proofs.lemmas.List.{map-append, append-nil, take_more, drop_more}
 use Rattle.cep_term.specs.Tree.{AtomTree}
@@ -94,3 +96,15 @@ pub stage_here : (source : Source) (side : List RawElem) (i : ℕ) (x : RawElem)
     → first_stage source (flat_map stages_in_elem side) ≡ number_of source space.Stages (said source name)
 stage_here source side i x name h at was one =
     ap (first_stage source) (was ∙ ap (flat_map stages_in_elem) (drop_more side i x h) ∙ ap (λ ss. ss ++ flat_map stages_in_elem (drop (i + 1) side)) (ap stages_in_elem (sym at) ∙ one))
+
+-- the same of the answer of a call
+pub rule_answered : (source : Source) (name : List ℕ) (item : RuleItem) (variables : Variables) (r : Result Rule AllocError) (middle behind : ℕ) (start left : LeftSide) (none right : List AtomTree)
+    → AreMet source (rule_scope item) none_met variables → IfOk r (λ rule. rule.vars ≡ names_in variables.firsts) → IfOk r (λ rule. rule.kinds ≡ kinds_met source variables.firsts)
+    → IfOk r (λ rule. rule.name ≡ name) → IfOk r (λ rule. rule.group ≡ group_of source item.home item.raw.left) → IfOk r (λ rule. rule.next ≡ next_of source item.home item.raw.right)
+    → start.premises ≡ [] → start.backs ≡ [] → IsLeftBuilt source (names_in variables.firsts) item.raw.left 0 middle start left → IfOk r (λ rule. rule.premises ≡ left.premises) → IfOk r (λ rule. rule.backs ≡ left.backs)
+    → none ≡ [] → AreBuilt source (names_in variables.firsts) (atoms_of item.raw.right) middle behind none right → IfOk r (λ rule. rule.right ≡ right)
+    → IfOk r (λ rule. IsRuleBy source name item rule)
+rule_answered source name item variables (Ok rule) middle behind start left none right met vars_are kinds_are name_is group_is next_is no_premises no_backs left_is premises_are backs_are none_is right_is is_right =
+    rule_built source name item variables rule middle behind start left none met vars_are kinds_are name_is group_is next_is no_premises no_backs left_is premises_are backs_are none_is
+    (subst (λ (ts : List AtomTree). AreBuilt source (names_in variables.firsts) (atoms_of item.raw.right) middle behind none ts) (sym is_right) right_is)
+rule_answered source name item variables (Err e) middle behind start left none right met vars_are kinds_are name_is group_is next_is no_premises no_backs left_is premises_are backs_are none_is right_is is_right = tt

@@ -5,7 +5,8 @@ ghost use Rattle.cep_names.specs.Uses.{atoms_of};
 ghost use Rattle.cep_names.specs.Variables.{nodes_of};
 ghost use Rattle.cep_infer.specs.Heads.{AreAtomsBy, blanks_after};
 ghost use Rattle.cep_infer.specs.Meaning.{AreRulesBy, IsRuleBy, stages_in_elem, stage_named, group_of, next_of};
-ghost use Rattle.cep_infer.specs.Met.{none_met, AreMet, names_in};
+ghost use Rattle.cep_infer.specs.Met.{none_met, AreMet, names_in, kinds_met};
+ghost use Rattle.cep_infer.specs.Sites.{rule_scope};
 ghost use Rattle.cep_infer.specs.Listed.{rule_item};
 
 use crate::declarations::Declarations;
@@ -100,16 +101,25 @@ impl<'a> Declarations<'a> {
         Ok(variables)
     }
 
-    fn rule(&self, unlabelled: u64, item: &RuleRef) -> Result<Rule, AllocError>
-        ensures { IfOk result (λ rule. IsRuleBy self.now (rule_name self.now unlabelled item.now.raw.now.label) (rule_item item.now) rule) }
+    // A rule with these variables and atoms.
+    fn rule_from(
+        &self,
+        variables: &Variables,
+        unlabelled: u64,
+        item: &RuleRef,
+        left: LeftSide,
+        right: AtomList,
+    ) -> Result<Rule, AllocError>
+        ensures name { IfOk result (λ rule. rule.name ≡ rule_name self.now unlabelled item.now.raw.now.label) }
+        ensures group { IfOk result (λ rule. rule.group ≡ group_of self.now item.now.home item.now.raw.now.left) }
+        ensures vars { IfOk result (λ rule. rule.vars ≡ names_in variables.now.firsts) }
+        ensures kinds { IfOk result (λ rule. rule.kinds ≡ kinds_met self.now variables.now.firsts) }
+        ensures premises { IfOk result (λ rule. rule.premises ≡ left.premises) }
+        ensures backs { IfOk result (λ rule. rule.backs ≡ left.backs) }
+        ensures right { IfOk result (λ rule. rule.right ≡ right) }
+        ensures next { IfOk result (λ rule. rule.next ≡ next_of self.now item.now.home item.now.raw.now.right) }
     {
         let raw = item.raw;
-        let variables = self.rule_variables(raw)?;
-        let mut blanks = 0;
-        let mut left = LeftSide::new(self.alloc);
-        self.push_left(&variables, raw.left.as_slice(), &mut blanks, &mut left)?;
-        let mut right = AtomList::new(self.alloc);
-        self.push_side(&variables, raw.right.as_slice(), &mut blanks, &mut right)?;
         Ok(Rule {
             name: self.rule_name(unlabelled, raw.label)?,
             group: self.group(item.home, raw.left.as_slice())?,
@@ -120,6 +130,32 @@ impl<'a> Declarations<'a> {
             right,
             next: self.next(item.home, raw.right.as_slice())?,
         })
+    }
+
+    // A rule with these variables.
+    fn rule_of(
+        &self,
+        variables: &Variables,
+        unlabelled: u64,
+        item: &RuleRef,
+    ) -> Result<Rule, AllocError>
+        requires { AreMet self.now (rule_scope (rule_item item.now)) none_met variables.now }
+        ensures { IfOk result (λ rule. IsRuleBy self.now (rule_name self.now unlabelled item.now.raw.now.label) (rule_item item.now) rule) }
+    {
+        let raw = item.raw;
+        let mut blanks = 0;
+        let mut left = LeftSide::new(self.alloc);
+        self.push_left(variables, raw.left.as_slice(), &mut blanks, &mut left)?;
+        let mut right = AtomList::new(self.alloc);
+        self.push_side(variables, raw.right.as_slice(), &mut blanks, &mut right)?;
+        self.rule_from(variables, unlabelled, item, left, right)
+    }
+
+    fn rule(&self, unlabelled: u64, item: &RuleRef) -> Result<Rule, AllocError>
+        ensures { IfOk result (λ rule. IsRuleBy self.now (rule_name self.now unlabelled item.now.raw.now.label) (rule_item item.now) rule) }
+    {
+        let variables = self.rule_variables(item.raw)?;
+        self.rule_of(&variables, unlabelled, item)
     }
 
     // The rules in written order.
