@@ -1,12 +1,13 @@
 // The lines and columns of many places.
-ghost use Rattle.std.specs.Prelude.{◌≡◌, ◌≤◌, map, length, take, IfOk, OnOk};
-ghost use Rattle.cep_lex.specs.declared.token.TheConstants.{MOST_BYTES};
-ghost use Rattle.cep_lex.specs.Places.{IsPlaceBehind};
-ghost use Rattle.cep_names.specs.Items.{rules_of};
-ghost use Rattle.cep_names.specs.Uses.{atoms_in};
-ghost use Rattle.cep_names.specs.Variables.{nodes_of};
+ghost use Rattle.std.specs.Prelude.{◌≡◌, ◌++◌, ◌∷◌, [], true, not, if◌then◌else◌, map, filter, IfOk, OnOk};
+ghost use Rattle.cep_names.specs.Misnamed.{is_declared};
+ghost use Rattle.cep_names.specs.Spaces.{back_of};
+ghost use Rattle.cep_names.specs.Uses.{atoms_in, atoms_of};
+ghost use Rattle.cep_names.specs.Variables.{nodes_of, occurrence_at, occurrences_from};
+ghost use Rattle.cep_infer.specs.Heads.{blanks_after};
 ghost use Rattle.cep_infer.specs.Places.{ArePlaces, ArePlaceLists, backs_at, unbound_at};
 ghost use Rattle.cep_infer.specs.Listed.{rule_item};
+ghost use Rattle.cep_infer.specs.Met.{has_name};
 
 use crate::declarations::Declarations;
 use crate::draft::{PlaceLists, Places};
@@ -31,7 +32,7 @@ const FRONT: Reached = Reached {
 
 // One byte further.
 fn passed(pos: Pos, byte: u8) -> Result<Pos, AllocError> {
-    // A text within the limit has fewer bytes.
+    // No text within the limit has so many lines or bytes.
     if byte == b'\n' {
         let line = pos.line.checked_add(1).ok_or(AllocError)?;
         return Ok(Pos { line, col: 1 });
@@ -73,7 +74,9 @@ fn place_all(
 
 impl<'a> Declarations<'a> {
     // The places of the backward premises of a left side.
-    fn backs_at(&self, side: &[RawElem]) -> Result<Vec<u32>, AllocError> {
+    fn backs_at(&self, side: &[RawElem]) -> Result<Vec<u32>, AllocError>
+        ensures { IfOk result (λ ats. ats.items ≡ map (λ atom. atom.name.from) (filter (λ atom. is_declared true (back_of self.now atom)) (atoms_of side.now))) }
+    {
         let mut ats = Vec::new(self.alloc);
         for elem in side {
             if let RawElem::Atom { atom, .. } = elem
@@ -86,7 +89,9 @@ impl<'a> Declarations<'a> {
     }
 
     // Whether a node is a variable that is not on the left, or a blank.
-    fn is_unbound(&self, left: &Variables, blanks: u64, node: &RawNode) -> Result<bool, AllocError> {
+    fn is_unbound(&self, left: &Variables, blanks: u64, node: &RawNode) -> Result<bool, AllocError>
+        ensures { IfOk result (λ unbound. (if unbound then node.now.at.from ∷ [] else []) ≡ map (λ occurrence. occurrence.at.from) (filter (λ occurrence. not (has_name left.now.firsts occurrence.name)) (occurrence_at self.now blanks node.now.at node.now.kind))) }
+    {
         match node.kind {
             RawKind::App => Ok(false),
             RawKind::Var => Ok(!left.firsts.has(self.said(node.at))),
@@ -104,7 +109,10 @@ impl<'a> Declarations<'a> {
         blanks: &mut u64,
         nodes: &[RawNode],
         ats: &mut Vec<u32>,
-    ) -> Result<(), AllocError> {
+    ) -> Result<(), AllocError>
+        ensures ats { OnOk result (ats.new.items ≡ ats.old.items ++ map (λ occurrence. occurrence.at.from) (filter (λ occurrence. not (has_name left.now.firsts occurrence.name)) (occurrences_from self.now blanks.old nodes.now))) }
+        ensures blanks { OnOk result (blanks.new ≡ blanks_after blanks.old nodes.now) }
+    {
         for node in nodes {
             if self.is_unbound(left, *blanks, node)? {
                 ats.push(node.at.from)?;
