@@ -9,3 +9,4 @@ pub mod RulesInTurn
 pub mod FirstFaults
 pub mod FirstLoops
 pub mod Clashing
+pub mod Interactive

@@ -9,7 +9,7 @@ use Rattle.cep_parse.specs.declared.raw.RawKind.{RawKind}
 use Rattle.cep_parse.specs.declared.raw.RawKind.TheVariants as kind
 use Rattle.cep_parse.specs.declared.raw.RawAtom.{RawAtom}
 use Rattle.cep_names.specs.declared.space.Space.TheVariants as space
-use Rattle.cep_names.specs.Items.{Source, said}
+use Rattle.cep_names.specs.Items.{Source, said, is_said, interactives_of}
 use Rattle.cep_names.specs.Variables.{nodes_of, blanks_behind}
 use Rattle.cep_infer.specs.declared.variables.Variables.{Variables}
 use Rattle.cep_infer.specs.Sites.{Wanted, sites_in, sites_of, wanted_from}
@@ -29,6 +29,10 @@ under firsts name = lookup (λ other. bytes_eq name other) firsts
 -- one more name, if it is new
 abbrev pub added : List (List ℕ × Span) → List ℕ × Span → List (List ℕ × Span)
 added firsts entry = if has_name firsts entry.0 then firsts else firsts ++ entry ∷ []
+
+-- These names are those of the stages that are said to be interactive.
+abbrev pub AreInteractive : Source → List (List ℕ × Span) → Type 0
+AreInteractive source firsts = (name : List ℕ) → has_name firsts name ≡ is_said source (interactives_of source) name
 
 -- the name of a name's type
 abbrev pub type_met : Source → List (List ℕ × Span) → List ℕ → Option (List ℕ)

@@ -1,5 +1,6 @@
 ghost use Rattle.std.specs.Prelude.{◌≡◌, ◌≤◌, ◌∷◌, List, length, take, IfOk, IfSome};
 ghost use Rattle.std.specs.Option.{option_map};
+ghost use Rattle.std.specs.Char.{digit_value};
 ghost use Rattle.std.specs.Str.Parse.{digits_value};
 ghost use Rattle.cep_lex.specs.declared.token.TheConstants.{MOST_BYTES};
 ghost use Rattle.cep_lex.specs.Places.{IsPlaceBehind};
@@ -33,14 +34,25 @@ fn refusal(text: &[u8], fault: Fault) -> Refusal
     }
 }
 
-// The number that digits say.
+// The value of a digit.
+fn digit_value(byte: u8) -> u32
+    ensures { result ≡ digit_value byte }
+{
+    match byte {
+        b'0'..=b'9' => (byte - b'0') as u32,
+        b'A'..=b'Z' => (byte - b'A') as u32 + 10,
+        b'a'..=b'z' => (byte - b'a') as u32 + 10,
+        _ => 36,
+    }
+}
+
+// The number that digits say, where it fits.
 fn number_said(digits: &[u8]) -> Option<u32>
     ensures { IfSome result (λ number. number ≡ digits_value 10 digits.now) }
 {
     let mut number: u32 = 0;
     for digit in digits {
-        let value = u32::from(digit.checked_sub(b'0')?);
-        number = number.checked_mul(10)?.checked_add(value)?;
+        number = number.checked_mul(10)?.checked_add(digit_value(*digit))?;
     }
     Some(number)
 }

@@ -1,18 +1,16 @@
 // What a text declares of terms, atoms and stages.
-ghost use Rattle.std.specs.Prelude.{◌≡◌, [], ◌++◌, ◌∷◌, List, ℕ, map, option_to_list, IfOk, OnOk};
-ghost use Rattle.cep_parse.specs.declared.raw.RawItem.{RawItem};
-ghost use Rattle.cep_names.specs.Items.{Source, said, sorts_in, sorts_of, stages_in, stages_of, interactives_in, interactives_of, is_said, cons_of, preds_of};
-ghost use Rattle.std.specs.List.{flat_map, list_any};
-ghost use Rattle.std.specs.Str.{bytes_eq};
+ghost use Rattle.std.specs.Prelude.{◌≡◌, ◌++◌, ◌||◌, List, ℕ, map, option_to_list, IfOk, OnOk};
+ghost use Rattle.cep_names.specs.Items.{said, sorts_in, sorts_of, stages_in, stages_of, interactives_in, is_said, cons_of, preds_of};
 ghost use Rattle.cep_infer.specs.Meaning.{con_by, pred_by, signature_of, stage_by};
 ghost use Rattle.cep_infer.specs.Kept.{con_item, pred_item};
+ghost use Rattle.cep_infer.specs.Met.{has_name, AreInteractive};
 
 use crate::declarations::{Declarations, RawCon, RawPred};
+use crate::firsts::Firsts;
 use cep_base::Name;
 use cep_names::Space;
 use cep_parse::{RawItem, Span};
 use cep_rule::{Con, Cons, Names, PredDecl, Preds, Signature, Stage, Stages};
-use indexmap::IndexSet;
 use std::alloc::AllocError;
 
 // The type that an item declares.
@@ -115,17 +113,44 @@ impl<'a> Declarations<'a> {
         })
     }
 
-    // The names of the interactive stages.
-    fn interactives(&self) -> Result<IndexSet<&'a [u8]>, AllocError>
-        ensures { IfOk result (λ names. (name : List ℕ) → list_any (λ other. bytes_eq other.now name) names.keys ≡ is_said self.now (interactives_of self.now) name) }
+    // Adds the name of a stage that an item says to be interactive.
+    fn push_interactive(&self, item: &RawItem, names: &mut Firsts) -> Result<(), AllocError>
+        ensures { (name : List ℕ) → OnOk result (has_name names.new name ≡ (has_name names.old name || is_said self.now (interactives_in item.now) name)) }
     {
-        let mut names = IndexSet::new(self.alloc);
+        match interactive_in(item) {
+            Some(span) => names.add(self.said(span), span),
+            None => Ok(()),
+        }
+    }
+
+    // The names of the interactive stages.
+    fn interactives(&self) -> Result<Firsts, AllocError>
+        ensures { IfOk result (AreInteractive self.now) }
+    {
+        let mut names = Firsts::new(self.alloc);
         for item in self.file.as_slice() {
-            if let Some(span) = interactive_in(item) {
-                names.insert(self.said(span))?;
-            }
+            self.push_interactive(item, &mut names)?;
         }
         Ok(names)
+    }
+
+    // Adds the stage of an item.
+    fn push_stage(
+        &self,
+        interactives: &Firsts,
+        item: &RawItem,
+        stages: &mut Stages,
+    ) -> Result<(), AllocError>
+        requires { AreInteractive self.now interactives.now }
+        ensures { OnOk result (stages.new ≡ stages.old ++ map (stage_by self.now) (stages_in item.now)) }
+    {
+        match stage_in(item) {
+            Some(span) => stages.push(Stage {
+                name: self.name(span)?,
+                interactive: interactives.has(self.said(span)),
+            }),
+            None => Ok(()),
+        }
     }
 
     // The stages.
@@ -135,12 +160,7 @@ impl<'a> Declarations<'a> {
         let interactives = self.interactives()?;
         let mut stages = Stages::new(self.alloc);
         for item in self.file.as_slice() {
-            if let Some(span) = stage_in(item) {
-                stages.push(Stage {
-                    name: self.name(span)?,
-                    interactive: interactives.contains(self.said(span)),
-                })?;
-            }
+            self.push_stage(&interactives, item, &mut stages)?;
         }
         Ok(stages)
     }
