@@ -2,6 +2,8 @@
 ghost use Rattle.std.specs.Prelude.{◌≡◌, [], IfOk, OnOk};
 ghost use Rattle.cep_parse.specs.declared.raw.RawStart.TheVariants as start;
 ghost use Rattle.cep_term.specs.Multiset.{gathered};
+ghost use Rattle.cep_term.specs.Tree.{IsGroundAtom};
+ghost use Rattle.std.specs.List.{AllByRecursion};
 ghost use Rattle.cep_names.specs.declared.space.Role.TheVariants as role;
 ghost use Rattle.cep_names.specs.Starts.{listed_or, start_atoms};
 ghost use Rattle.cep_names.specs.Uses.{placed, is_context};
@@ -88,13 +90,21 @@ impl<'a> Declarations<'a> {
     }
 }
 
-// The multiset of atoms.
+// The multiset of ground atoms.
 fn gather(alloc: Global, atoms: &AtomList) -> Result<Bag, AllocError>
+    requires { AllByRecursion IsGroundAtom atoms.now }
     ensures { IfOk result (λ bag. bag ≡ gathered atoms.now) }
 {
     let mut bag = Bag::new(alloc);
-    for i in (0..atoms.len()).rev() {
-        bag.add(atoms.get(i))?;
+    let mut left = atoms.len();
+    while left > 0 {
+        left -= 1;
+        let atom = atoms.get(left);
+        if bag.count(atom) == u32::MAX || bag.copies() == u64::MAX {
+            // No memory holds so many atoms.
+            return Err(AllocError);
+        }
+        bag.add(atom)?;
     }
     Ok(bag)
 }
