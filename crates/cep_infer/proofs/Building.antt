@@ -50,7 +50,7 @@ module _ (source : Source) (vars : List (List ℕ)) where
       → AreBuilt source vars (flat_map g (take i xs)) before middle old between → AreBuilt source vars (g x) middle behind between new → AreBuilt source vars (flat_map g (take (i + 1) xs)) before behind old new
   part_built g xs i x before middle behind old between new h at was is =
       let atoms : flat_map g (take (i + 1) xs) ≡ flat_map g (take i xs) ++ g x =
-          ap (flat_map g) (take_more xs i x h) ∙ flat_map-append g (take i xs) (get_or xs i x ∷ []) ∙ ap (λ ys. flat_map g (take i xs) ++ ys) (append-nil (g (get_or xs i x)) ∙ ap g (sym at)) in
+      ap (flat_map g) (take_more xs i x h) ∙ flat_map-append g (take i xs) (get_or xs i x ∷ []) ∙ ap (λ ys. flat_map g (take i xs) ++ ys) (append-nil (g (get_or xs i x)) ∙ ap g (sym at)) in
       subst (λ (ys : List RawAtom). AreBuilt source vars ys before behind old new) (sym atoms) (both_built (flat_map g (take i xs)) (g x) before middle behind old between new was is)
 
   pub atom_built : (xs : List RawAtom) (i : ℕ) (x : RawAtom) (before middle behind : ℕ) (old between new : List AtomTree) → i < length xs → x ≡ get_or xs i x
@@ -115,6 +115,7 @@ module _ (source : Source) (vars : List (List ℕ)) where
     linear : (b : Bool) → b ≡ is_back source atom → (if b then old.premises else old.premises ++ record { atom = atom; kept = kept } ∷ []) ≡ old.premises ++ filter (λ (premise : PremiseTree). not (is_back source premise.atom)) (record { atom = atom; kept = kept } ∷ [])
     linear true e = rw (← e) (sym (append-nil old.premises))
     linear false e = rw (← e) refl
+
     backward : (b : Bool) → b ≡ is_back source atom → (if b then old.backs ++ atom ∷ [] else old.backs) ≡ old.backs ++ map (λ (premise : PremiseTree). premise.atom) (filter (λ (premise : PremiseTree). is_back source premise.atom) (record { atom = atom; kept = kept } ∷ []))
     backward true e = rw (← e) refl
     backward false e = rw (← e) (sym (append-nil old.backs))
@@ -127,9 +128,11 @@ pub clause_built : (source : Source) (head : RawAtom) (goals : List RawAtom) (va
 clause_built source head goals variables names kinds middle behind tree none atoms met names_are kinds_are first blanks_are none_is built = record {
   vars_are = names_are ∙ names_met source (head ∷ goals) variables met;
   kinds_are = kinds_are ∙ kinds_are_met source (head ∷ goals) variables met;
-  atoms_are = (subst (λ (vs : List (List ℕ)). IsAtomBy source vs 0 head tree) (sym names_are) first,
+  atoms_are = (
+    subst (λ (vs : List (List ℕ)). IsAtomBy source vs 0 head tree) (sym names_are) first,
     subst (λ (vs : List (List ℕ)). AreAtomsBy source vs (blanks_after 0 head.nodes) goals atoms) (sym names_are)
-    (subst (λ n. AreAtomsBy source (names_in variables.firsts) n goals atoms) blanks_are (subst (λ (ts : List AtomTree). AreAtomsBy source (names_in variables.firsts) middle goals ts) more_is built.are)));
+        (subst (λ n. AreAtomsBy source (names_in variables.firsts) n goals atoms) blanks_are (subst (λ (ts : List AtomTree). AreAtomsBy source (names_in variables.firsts) middle goals ts) more_is built.are)),
+  );
 } where
   more_is : built.more ≡ atoms
   more_is = sym (built.new_is ∙ ap (λ ts. ts ++ built.more) none_is)
@@ -151,7 +154,7 @@ pub clauses_more : (source : Source) (g : RawItem → List ClauseItem) (xs : Lis
     → AreClausesBy source (flat_map g (take i xs)) old → AreClausesBy source (g x) more → new ≡ old ++ more → AreClausesBy source (flat_map g (take (i + 1) xs)) new
 clauses_more source g xs i x old more new h at was is new_is =
     let items : flat_map g (take (i + 1) xs) ≡ flat_map g (take i xs) ++ g x =
-        ap (flat_map g) (take_more xs i x h) ∙ flat_map-append g (take i xs) (get_or xs i x ∷ []) ∙ ap (λ ys. flat_map g (take i xs) ++ ys) (append-nil (g (get_or xs i x)) ∙ ap g (sym at)) in
+    ap (flat_map g) (take_more xs i x h) ∙ flat_map-append g (take i xs) (get_or xs i x ∷ []) ∙ ap (λ ys. flat_map g (take i xs) ++ ys) (append-nil (g (get_or xs i x)) ∙ ap g (sym at)) in
     subst (λ (ys : List ClauseItem). AreClausesBy source ys new) (sym items)
     (subst (λ (cs : List ClauseTree). AreClausesBy source (flat_map g (take i xs) ++ g x) cs) (sym new_is) (clauses_both source (flat_map g (take i xs)) (g x) old more was is))
 

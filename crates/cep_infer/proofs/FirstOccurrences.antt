@@ -66,6 +66,7 @@ met_names seen acc [] same = sym (append-nil (wanted_names_of acc))
 met_names seen acc (w ∷ ws) same = rw (← same w.name) (cases (has seen w.name) (met_names seen acc ws same) (met_names (w.name ∷ seen) (acc ++ w ∷ []) ws more)) where
   more : (name : List ℕ) → has (w.name ∷ seen) name ≡ has_wanted (acc ++ w ∷ []) name
   more name = ap (λ b. bytes_eq w.name name || b) (same name) ∙ ap (λ b. b || has_wanted acc name) (bytes_eq_sym w.name name) ∙ sym (any_end acc w name)
+
   cases : (b : Bool) → wanted_names_of (fold further acc ws) ≡ wanted_names_of acc ++ new_names seen (wanted_names_of ws)
       → wanted_names_of (fold further (acc ++ w ∷ []) ws) ≡ wanted_names_of (acc ++ w ∷ []) ++ new_names (w.name ∷ seen) (wanted_names_of ws)
       → wanted_names_of (fold further (if b then acc else acc ++ w ∷ []) ws) ≡ wanted_names_of acc ++ (if b then new_names seen (wanted_names_of ws) else w.name ∷ new_names (w.name ∷ seen) (wanted_names_of ws))
@@ -109,9 +110,10 @@ found_there (v ∷ acc) w name there = cases (bytes_eq v.name name) refl (bytes_
   is_v : bytes_eq v.name name ≡ false → bytes_eq w.name v.name ≡ true → found (acc ++ w ∷ []) name ≡ found acc name
   is_v differs is =
       found_both acc (w ∷ []) name ∙ ap (or_found (found acc name)) (ap (λ b. cond b (Some w) None) (ap (λ n. bytes_eq n name) ((bytes_eq-Decides w.name v.name).0 is) ∙ differs)) ∙ none (found acc name) where
-    none : (o : Option Wanted) → or_found o None ≡ o
-    none (Some w) = refl
-    none None = refl
+        none : (o : Option Wanted) → or_found o None ≡ o
+        none (Some w) = refl
+        none None = refl
+
   cases : (b : Bool) → bytes_eq v.name name ≡ b → (here : Bool) → bytes_eq w.name v.name ≡ here → (here || has_wanted acc w.name) ≡ true → (has_wanted acc w.name ≡ true → found (acc ++ w ∷ []) name ≡ found acc name) → cond b (Some v) (found (acc ++ w ∷ []) name) ≡ cond b (Some v) (found acc name)
   cases true e here h any rest = refl
   cases false e true h any rest = is_v e h
@@ -122,6 +124,7 @@ found_met acc [] name = ap (λ vs. found vs name) (sym (append-nil acc))
 found_met acc (w ∷ ws) name = cases (has_wanted acc w.name) refl (found_met acc ws name) (found_met (acc ++ w ∷ []) ws name) where
   split : found (acc ++ w ∷ ws) name ≡ or_found (found (acc ++ w ∷ []) name) (found ws name)
   split = ap (λ vs. found vs name) (sym (append_assoc acc (w ∷ []) ws)) ∙ found_both (acc ++ w ∷ []) ws name
+
   cases : (b : Bool) → has_wanted acc w.name ≡ b → found (fold further acc ws) name ≡ found (acc ++ ws) name → found (fold further (acc ++ w ∷ []) ws) name ≡ found ((acc ++ w ∷ []) ++ ws) name
       → found (fold further (if b then acc else acc ++ w ∷ []) ws) name ≡ found (acc ++ w ∷ ws) name
   cases true e old new = old ∙ found_both acc ws name ∙ ap (λ o. or_found o (found ws name)) (sym (found_there acc w name e)) ∙ sym split
@@ -156,6 +159,7 @@ all_found acc (w ∷ ws) are = cases (has_wanted acc w.name) refl (all_found acc
     where
       last : found (acc ++ w ∷ []) w.name ≡ Some w
       last = found_both acc (w ∷ []) w.name ∙ ap (λ o. or_found o (found (w ∷ []) w.name)) (not_found acc w.name e) ∙ ap (λ b. cond b (Some w) None) ((bytes_eq-Decides w.name w.name).1 refl)
+
   cases : (b : Bool) → has_wanted acc w.name ≡ b → AreFound (fold further acc ws) (fold further acc ws) → (AreFound (acc ++ w ∷ []) (acc ++ w ∷ []) → AreFound (fold further (acc ++ w ∷ []) ws) (fold further (acc ++ w ∷ []) ws))
       → AreFound (fold further (if b then acc else acc ++ w ∷ []) ws) (fold further (if b then acc else acc ++ w ∷ []) ws)
   cases true e old new = old
@@ -210,5 +214,5 @@ module _ (source : Source) (atoms : List RawAtom) (variables : Variables) (met :
       ∙ map-map kind_found (λ (w : Wanted). found firsts w.name) firsts
       ∙ sym (each_kind firsts)
       ∙ ap (map (λ (name : List ℕ). kind_of (type_of source atoms name)))
-          (met_names [] [] all (λ name. refl) ∙ ap (new_names []) (wanted_names source 0 (sites_of source atoms) ∙ ap (λ nodes. occurring (occurrences_from source 0 nodes)) met.covered) ∙ sym (firsts_names [] (occurrences_from source 0 (nodes_of atoms))))
+      (met_names [] [] all (λ name. refl) ∙ ap (new_names []) (wanted_names source 0 (sites_of source atoms) ∙ ap (λ nodes. occurring (occurrences_from source 0 nodes)) met.covered) ∙ sym (firsts_names [] (occurrences_from source 0 (nodes_of atoms))))
       ∙ map-map (λ (name : List ℕ). kind_of (type_of source atoms name)) (λ (o : Occurrence). o.name) (variables_of source atoms)

@@ -29,6 +29,7 @@ has_added source firsts span wants name = cases (has_name firsts (said source sp
     yes : has_name firsts name ≡ true
     yes = ap (has_name firsts) (sym ((bytes_eq-Decides (said source span) name).0 is)) ∙ e
   there e false is = sym (or_false (has_name firsts name))
+
   cases : (b : Bool) → has_name firsts (said source span) ≡ b → has_name (if b then firsts else firsts ++ (said source span, wants) ∷ []) name ≡ (has_name firsts name || is_said source (span ∷ []) name)
   cases true e = there e (bytes_eq (said source span) name) refl
   cases false e = any_both (λ entry. bytes_eq name entry.0) firsts ((said source span, wants) ∷ []) ∙ ap (λ b. has_name firsts name || (b || false)) (bytes_eq_sym name (said source span))
@@ -39,8 +40,8 @@ pub interactive_more : (source : Source) (items : List RawItem) (i : ℕ) (x : R
 interactive_more source items i x old new name h at was is =
     is ∙ ap (λ b. b || is_said source (interactives_in x) name) was
     ∙ sym (ap (λ spans. is_said source spans name)
-        (ap (flat_map interactives_in) (take_more items i x h) ∙ flat_map-append interactives_in (take i items) (get_or items i x ∷ []) ∙ ap (λ ys. flat_map interactives_in (take i items) ++ ys) (append-nil (interactives_in (get_or items i x)) ∙ ap interactives_in (sym at)))
-        ∙ any_both (λ span. bytes_eq (said source span) name) (flat_map interactives_in (take i items)) (interactives_in x))
+    (ap (flat_map interactives_in) (take_more items i x h) ∙ flat_map-append interactives_in (take i items) (get_or items i x ∷ []) ∙ ap (λ ys. flat_map interactives_in (take i items) ++ ys) (append-nil (interactives_in (get_or items i x)) ∙ ap interactives_in (sym at)))
+    ∙ any_both (λ span. bytes_eq (said source span) name) (flat_map interactives_in (take i items)) (interactives_in x))
 
 -- one more item of a loop that adds images
 pub images_more : {X Y Z : Type 0} (f : Y → Z) (g : X → List Y) (xs : List X) (i : ℕ) (x : X) (old new : List Z) → i < length xs → x ≡ get_or xs i x

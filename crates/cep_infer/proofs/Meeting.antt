@@ -35,6 +35,7 @@ module _ (source : Source) where
   added_wanted firsts name wants = rw (← any_wanted name firsts) (cases (has_name firsts name)) where
     entry : List (List ℕ × Span)
     entry = (name, wants) ∷ []
+
     cases : (there : Bool) → wanted_in source (if there then firsts else firsts ++ (name, wants) ∷ []) ≡ (if there then wanted_in source firsts else wanted_in source firsts ++ record { name = name; wants = said source wants } ∷ [])
     cases true = refl
     cases false = map-append (λ (e : List ℕ × Span). record { name = e.0; wants = said source e.1 }) firsts ((name, wants) ∷ [])
@@ -121,10 +122,10 @@ pub both_are_met : (source : Source) (one two : List RawAtom) (start middle now 
 both_are_met source one two start middle now first second = record {
   firsts = second.firsts ∙ ap (λ ws. fold further ws (wanted_from source middle.blanks (sites_of source two))) first.firsts
       ∙ sym (ap (λ ss. fold further (wanted_in source start.firsts) (wanted_from source start.blanks ss)) (flat_map-append (sites_in source) one two)
-          ∙ ap (fold further (wanted_in source start.firsts)) (wanted_both source start.blanks (sites_of source one) (sites_of source two))
-          ∙ fold-append further (wanted_in source start.firsts) (wanted_from source start.blanks (sites_of source one)) (wanted_from source (blanks_after start.blanks (nodes_at (sites_of source one))) (sites_of source two))
-          ∙ ap (λ n. fold further (fold further (wanted_in source start.firsts) (wanted_from source start.blanks (sites_of source one))) (wanted_from source n (sites_of source two)))
-              (ap (blanks_after start.blanks) first.covered ∙ sym first.blanks));
+      ∙ ap (fold further (wanted_in source start.firsts)) (wanted_both source start.blanks (sites_of source one) (sites_of source two))
+      ∙ fold-append further (wanted_in source start.firsts) (wanted_from source start.blanks (sites_of source one)) (wanted_from source (blanks_after start.blanks (nodes_at (sites_of source one))) (sites_of source two))
+      ∙ ap (λ n. fold further (fold further (wanted_in source start.firsts) (wanted_from source start.blanks (sites_of source one))) (wanted_from source n (sites_of source two)))
+      (ap (blanks_after start.blanks) first.covered ∙ sym first.blanks));
   blanks = second.blanks ∙ ap (λ n. blanks_after n (nodes_of two)) first.blanks
       ∙ sym (ap (blanks_after start.blanks) (flat_map-append (λ (atom : RawAtom). atom.nodes) one two) ∙ blanks_both start.blanks (nodes_of one) (nodes_of two));
   covered = ap nodes_at (flat_map-append (sites_in source) one two) ∙ map-append (λ (site : Site). site.node) (sites_of source one) (sites_of source two)
@@ -137,7 +138,7 @@ pub part_is_met : {X : Type 0} (source : Source) (g : X → List RawAtom) (xs : 
     → AreMet source (flat_map g (take i xs)) start old → AreMet source (g x) old new → AreMet source (flat_map g (take (i + 1) xs)) start new
 part_is_met source g xs i x start old new h at was is =
     let atoms : flat_map g (take (i + 1) xs) ≡ flat_map g (take i xs) ++ g x =
-        ap (flat_map g) (take_more xs i x h) ∙ flat_map-append g (take i xs) (get_or xs i x ∷ []) ∙ ap (λ ys. flat_map g (take i xs) ++ ys) (append-nil (g (get_or xs i x)) ∙ ap g (sym at)) in
+    ap (flat_map g) (take_more xs i x h) ∙ flat_map-append g (take i xs) (get_or xs i x ∷ []) ∙ ap (λ ys. flat_map g (take i xs) ++ ys) (append-nil (g (get_or xs i x)) ∙ ap g (sym at)) in
     subst (λ (ys : List RawAtom). AreMet source ys start new) (sym atoms) (both_are_met source (flat_map g (take i xs)) (g x) start old new was is)
 
 pub atom_is_met : (source : Source) (xs : List RawAtom) (i : ℕ) (x : RawAtom) (start old new : Variables) → i < length xs → x ≡ get_or xs i x

@@ -62,7 +62,7 @@ module _ (source : Source) (refs : List RuleRef) (i : ℕ) (d : RuleRef) (h : i 
       (subst (λ (names : List (List ℕ)). AreRulesBy source names (before ++ rule_item (get_or refs i d) ∷ []) new) (sym (names_more source 0 before (rule_item (get_or refs i d))))
       (subst (λ (rs : List Rule). AreRulesBy source (map (λ (n : Named). n.name) (rule_names_from source 0 before) ++ rule_name source (unlabelled_over 0 before) (get_or refs i d).raw.now.label ∷ []) (before ++ rule_item (get_or refs i d) ∷ []) rs) (sym new_is)
       (rules_more source (map (λ (n : Named). n.name) (rule_names_from source 0 before)) before rules (rule_name source (unlabelled_over 0 before) (get_or refs i d).raw.now.label) (rule_item (get_or refs i d)) rule are (names_count source 0 before)
-          (subst (λ n. IsRuleBy source (rule_name source n (get_or refs i d).raw.now.label) (rule_item (get_or refs i d)) rule) was is))))
+      (subst (λ n. IsRuleBy source (rule_name source n (get_or refs i d).raw.now.label) (rule_item (get_or refs i d)) rule) was is))))
 
 -- a rule is built
 pub rule_built : (source : Source) (name : List ℕ) (item : RuleItem) (variables : Variables) (rule : Rule) (middle behind : ℕ) (start left : LeftSide) (none : List AtomTree)

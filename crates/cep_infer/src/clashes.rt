@@ -44,11 +44,7 @@ impl<'a> Declarations<'a> {
     }
 
     // The first one of an atom.
-    fn atom_clash(
-        &self,
-        variables: &Variables,
-        atom: &RawAtom,
-    ) -> Result<Option<Fault>, AllocError>
+    fn atom_clash(&self, variables: &Variables, atom: &RawAtom) -> Result<Option<Fault>, AllocError>
         ensures { IfOk result (λ first. first ≡ first_in (atom_clashes self.now (type_met self.now variables.now.firsts) atom.now)) }
     {
         let mut first = None;
@@ -75,11 +71,7 @@ impl<'a> Declarations<'a> {
         Ok(first)
     }
 
-    fn elem_clash(
-        &self,
-        variables: &Variables,
-        elem: &RawElem,
-    ) -> Result<Option<Fault>, AllocError>
+    fn elem_clash(&self, variables: &Variables, elem: &RawElem) -> Result<Option<Fault>, AllocError>
         ensures { IfOk result (λ first. first ≡ first_in (flat_map (atom_clashes self.now (type_met self.now variables.now.firsts)) (atoms_in elem.now))) }
     {
         match elem {
@@ -128,11 +120,7 @@ impl<'a> Declarations<'a> {
     }
 
     // The first one of a clause.
-    fn clause_clash(
-        &self,
-        head: &RawAtom,
-        goals: &[RawAtom],
-    ) -> Result<Option<Fault>, AllocError>
+    fn clause_clash(&self, head: &RawAtom, goals: &[RawAtom]) -> Result<Option<Fault>, AllocError>
         ensures { IfOk result (λ first. first ≡ first_in (scope_clashes self.now (head.now ∷ goals.now))) }
     {
         let mut variables = Variables::new(self.alloc);

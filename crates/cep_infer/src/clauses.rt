@@ -38,14 +38,15 @@ impl<'a> Declarations<'a> {
     {
         match item {
             RawItem::Clause { head, goals, .. } => Ok(Some(self.clause(head, goals.as_slice())?)),
-            RawItem::Colon { args, right, .. } if self.names.is_labelled(self.text, args, *right) => {
-                let head = RawAtom {
-                    name: *right,
-                    args: 0,
-                    nodes: RawNodes::new(self.alloc),
-                };
-                Ok(Some(self.clause(&head, &[])?))
-            }
+            RawItem::Colon { args, right, .. } if self.names.is_labelled(self.text, args, *right) =>
+                {
+                    let head = RawAtom {
+                        name: *right,
+                        args: 0,
+                        nodes: RawNodes::new(self.alloc),
+                    };
+                    Ok(Some(self.clause(&head, &[])?))
+                }
             _ => Ok(None),
         }
     }

@@ -63,7 +63,7 @@ impl<'a> Model for Declarations<'a> {
     ghost coded = { source_code };
 
     ghost use Rattle.cep_infer.specs.Meaning.{sorts_said};
-ghost use Rattle.cep_infer.specs.Kept.{source_of, IsDeclared};
+    ghost use Rattle.cep_infer.specs.Kept.{source_of, IsDeclared};
 
     ghost view = { source_of };
 
@@ -221,7 +221,10 @@ impl<'a> Declarations<'a> {
     pub(crate) fn con(&self, name: Span) -> Option<RawCon<'a>>
         ensures { option_map con_item result ≡ con_named self.now (said self.now name) }
     {
-        let Some(number) = self.names.number(Space::Constructors, said(self.text, name)) else {
+        let Some(number) = self
+            .names
+            .number(Space::Constructors, said(self.text, name))
+        else {
             return None;
         };
         item_at(&self.cons, number)

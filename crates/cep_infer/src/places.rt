@@ -102,6 +102,22 @@ impl<'a> Declarations<'a> {
         }
     }
 
+    // Adds the place of a node that is unbound.
+    fn push_node(
+        &self,
+        left: &Variables,
+        blanks: u64,
+        node: &RawNode,
+        ats: &mut Vec<u32>,
+    ) -> Result<(), AllocError>
+        ensures { OnOk result (ats.new.items ≡ ats.old.items ++ map (λ occurrence. occurrence.at.from) (filter (λ occurrence. not (has_name left.now.firsts occurrence.name)) (occurrence_at self.now blanks node.now.at node.now.kind))) }
+    {
+        if self.is_unbound(left, blanks, node)? {
+            ats.push(node.at.from)?;
+        }
+        Ok(())
+    }
+
     // The places of the unbound ones among nodes.
     fn push_unbound(
         &self,
@@ -114,9 +130,7 @@ impl<'a> Declarations<'a> {
         ensures blanks { OnOk result (blanks.new ≡ blanks_after blanks.old nodes.now) }
     {
         for node in nodes {
-            if self.is_unbound(left, *blanks, node)? {
-                ats.push(node.at.from)?;
-            }
+            self.push_node(left, *blanks, node, ats)?;
             *blanks = blanks_behind(*blanks, node.kind)?;
         }
         Ok(())

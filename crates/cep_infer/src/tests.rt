@@ -62,9 +62,11 @@ fn a_text_declares_its_parts(rt: HostRuntime) -> Result<(), Fail> {
 
 #[test]
 fn a_term_of_another_type_is_refused_at_its_place(rt: HostRuntime) -> Result<(), Fail> {
-    let con = b"a : type. b : type. x : a. y : b. p a b : pred.\nstage s = { r : p x x -o (). } #trace _ s { p y y }.";
+    let con =
+        b"a : type. b : type. x : a. y : b. p a b : pred.\nstage s = { r : p x x -o (). } #trace _ s { p y y }.";
     assert_eq!(rt; refused(rt.alloc(), con)?, (2, 21, Reason::TypeClash));
-    let var = b"a : type. b : type. x : a. y : b. p a b : pred.\nstage s = { r : p X Y -o p Y X. } #trace _ s { p x y }.";
+    let var =
+        b"a : type. b : type. x : a. y : b. p a b : pred.\nstage s = { r : p X Y -o p Y X. } #trace _ s { p x y }.";
     assert_eq!(rt; refused(rt.alloc(), var)?, (2, 28, Reason::TypeClash));
     Ok(())
 }

@@ -14,11 +14,11 @@ pub returns-in_default : goal.returns-in_default
 returns-in_default c =
     let source = source_of c.self.inside in
     rw (← c.self.view_is) (sym (told_none con_item (λ item. named source item.name) c.self.inside.cons.items (cons_of source) (table_in c.self.inside.names.now space.Constructors) (said source c.args.name) (c.self.invariant.whole space.Constructors) c.self.invariant.cons
-        (sym (ap (number_in c.self.inside.names.now space.Constructors) c.said.ensures) ∙ sym c.number.ensures ∙ c.in_default.is)))
+    (sym (ap (number_in c.self.inside.names.now space.Constructors) c.said.ensures) ∙ sym c.number.ensures ∙ c.in_default.is)))
 
 pub returns : goal.returns
 returns c =
     let source = source_of c.self.inside in
     rw (← c.self.view_is) (ap (option_map con_item) (c.item_at.ensures ∙ ap (λ (items : List RawCon). slice_get items c.in-Some.number) c.deref.ensures.value)
-        ∙ told_some con_item (λ item. named source item.name) c.self.inside.cons.items (cons_of source) (table_in c.self.inside.names.now space.Constructors) (said source c.args.name) (c.self.invariant.whole space.Constructors) c.self.invariant.cons
-        c.in-Some.number (sym (ap (number_in c.self.inside.names.now space.Constructors) c.said.ensures) ∙ sym c.number.ensures ∙ c.in-Some.is))
+    ∙ told_some con_item (λ item. named source item.name) c.self.inside.cons.items (cons_of source) (table_in c.self.inside.names.now space.Constructors) (said source c.args.name) (c.self.invariant.whole space.Constructors) c.self.invariant.cons
+    c.in-Some.number (sym (ap (number_in c.self.inside.names.now space.Constructors) c.said.ensures) ∙ sym c.number.ensures ∙ c.in-Some.is))

@@ -22,7 +22,7 @@ returns-in-Stage c =
     let scope = λ (rule : RawRule). atoms_of rule.left ++ atoms_of rule.right in
     subst (λ (fs : List Fault). IfOk c.rules_clash.result (λ first. first ≡ first_in fs))
     (ap (flat_map (λ rule. scope_clashes source (scope rule))) c.as_slice.ensures ∙ sym (flat_map-map (scope_clashes source) scope c.in-Stage.rules)
-        ∙ ap (λ (x : RawItem). flat_map (scope_clashes source) (item_scopes x)) (sym c.in-Stage.is))
+    ∙ ap (λ (x : RawItem). flat_map (scope_clashes source) (item_scopes x)) (sym c.in-Stage.is))
     c.rules_clash.ensures
 
 pub returns-in-Context : goal.returns-in-Context
@@ -31,7 +31,7 @@ returns-in-Context c =
     let scope = λ (atom : RawAtom). atom ∷ [] in
     subst (λ (fs : List Fault). IfOk c.states_clash.result (λ first. first ≡ first_in fs))
     (ap (flat_map (λ atom. scope_clashes source (scope atom))) c.as_slice-in-Context.ensures ∙ sym (flat_map-map (scope_clashes source) scope c.in-Context.atoms)
-        ∙ ap (λ (x : RawItem). flat_map (scope_clashes source) (item_scopes x)) (sym c.in-Context.is))
+    ∙ ap (λ (x : RawItem). flat_map (scope_clashes source) (item_scopes x)) (sym c.in-Context.is))
     c.states_clash.ensures
 
 pub returns-in-Listed : goal.returns-in-Listed
@@ -40,6 +40,6 @@ returns-in-Listed c =
     let scope = λ (atom : RawAtom). atom ∷ [] in
     subst (λ (fs : List Fault). IfOk c.states_clash-in-Listed.result (λ first. first ≡ first_in fs))
     (ap (flat_map (λ atom. scope_clashes source (scope atom))) c.as_slice-in-Listed.ensures ∙ sym (flat_map-map (scope_clashes source) scope c.in-Listed.atoms)
-        ∙ ap (λ (start : RawStart). flat_map (scope_clashes source) (item_scopes (item.Trace c.in-Trace.at c.in-Trace.limit c.in-Trace.stage start))) (sym c.in-Listed.is)
-        ∙ ap (λ (x : RawItem). flat_map (scope_clashes source) (item_scopes x)) (sym c.in-Trace.is))
+    ∙ ap (λ (start : RawStart). flat_map (scope_clashes source) (item_scopes (item.Trace c.in-Trace.at c.in-Trace.limit c.in-Trace.stage start))) (sym c.in-Listed.is)
+    ∙ ap (λ (x : RawItem). flat_map (scope_clashes source) (item_scopes x)) (sym c.in-Trace.is))
     c.states_clash-in-Listed.ensures

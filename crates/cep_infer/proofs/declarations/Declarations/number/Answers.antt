@@ -13,5 +13,5 @@ returns-in-Ok c =
     let name = said source c.args.name in
     c.in-Ok.ensures.1 ∙ c.unwrap_or-number.ensures
     ∙ ap (λ n. unwrap_or n 0) (c.number.ensures ∙ ap (number_in c.self.inside.names.now c.args.space) c.said.ensures
-        ∙ number_told (table_in c.self.inside.names.now c.args.space) (names_in source c.args.space) name (c.self.invariant.whole c.args.space))
+    ∙ number_told (table_in c.self.inside.names.now c.args.space) (names_in source c.args.space) name (c.self.invariant.whole c.args.space))
     ∙ ap (λ (s : Source). number_of s c.args.space (said s c.args.name)) c.self.view_is

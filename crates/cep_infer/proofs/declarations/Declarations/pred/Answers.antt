@@ -14,11 +14,11 @@ pub returns-in_default : goal.returns-in_default
 returns-in_default c =
     let source = source_of c.self.inside in
     rw (← c.self.view_is) (sym (told_none pred_item (λ item. named source item.name) c.self.inside.preds.items (preds_of source) (table_in c.self.inside.names.now space.Predicates) (said source c.args.name) (c.self.invariant.whole space.Predicates) c.self.invariant.preds
-        (sym (ap (number_in c.self.inside.names.now space.Predicates) c.said.ensures) ∙ sym c.number.ensures ∙ c.in_default.is)))
+    (sym (ap (number_in c.self.inside.names.now space.Predicates) c.said.ensures) ∙ sym c.number.ensures ∙ c.in_default.is)))
 
 pub returns : goal.returns
 returns c =
     let source = source_of c.self.inside in
     rw (← c.self.view_is) (ap (option_map pred_item) (c.item_at.ensures ∙ ap (λ (items : List RawPred). slice_get items c.in-Some.number) c.deref.ensures.value)
-        ∙ told_some pred_item (λ item. named source item.name) c.self.inside.preds.items (preds_of source) (table_in c.self.inside.names.now space.Predicates) (said source c.args.name) (c.self.invariant.whole space.Predicates) c.self.invariant.preds
-        c.in-Some.number (sym (ap (number_in c.self.inside.names.now space.Predicates) c.said.ensures) ∙ sym c.number.ensures ∙ c.in-Some.is))
+    ∙ told_some pred_item (λ item. named source item.name) c.self.inside.preds.items (preds_of source) (table_in c.self.inside.names.now space.Predicates) (said source c.args.name) (c.self.invariant.whole space.Predicates) c.self.invariant.preds
+    c.in-Some.number (sym (ap (number_in c.self.inside.names.now space.Predicates) c.said.ensures) ∙ sym c.number.ensures ∙ c.in-Some.is))

@@ -13,5 +13,5 @@ returns-in-Some c = λ name.
     let span = c.in-Some.span in
     on_ok_weaker c.add.result
     (λ is. ap (λ firsts. has_name firsts name) (is ∙ ap (λ (n : List ℕ). added old (n, span)) c.said.ensures) ∙ has_added source old span span name
-        ∙ ap (λ (spans : List Span). has_name old name || is_said source spans name) c.in-Some.ensures)
+    ∙ ap (λ (spans : List Span). has_name old name || is_said source spans name) c.in-Some.ensures)
     c.add.ensures

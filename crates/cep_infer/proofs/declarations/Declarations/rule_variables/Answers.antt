@@ -13,5 +13,5 @@ returns c =
     let raw = c.args.raw.now in
     subst (λ (v : Variables). AreMet source (atoms_of raw.left ++ atoms_of raw.right) v c.meet_side-2.new.self) c.new-variables.ensures
     (both_are_met source (atoms_of raw.left) (atoms_of raw.right) c.new-variables.result c.meet_side.new.self c.meet_side-2.new.self
-        (subst (λ (side : List RawElem). AreMet source (atoms_of side) c.new-variables.result c.meet_side.new.self) c.as_slice.ensures c.in_ok-meet_side.ensures)
-        (subst (λ (side : List RawElem). AreMet source (atoms_of side) c.meet_side.new.self c.meet_side-2.new.self) c.as_slice-2.ensures c.in_ok-meet_side-2.ensures))
+    (subst (λ (side : List RawElem). AreMet source (atoms_of side) c.new-variables.result c.meet_side.new.self) c.as_slice.ensures c.in_ok-meet_side.ensures)
+    (subst (λ (side : List RawElem). AreMet source (atoms_of side) c.meet_side.new.self c.meet_side-2.new.self) c.as_slice-2.ensures c.in_ok-meet_side-2.ensures))

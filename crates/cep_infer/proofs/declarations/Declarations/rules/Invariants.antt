@@ -8,4 +8,5 @@ use Rattle.cep_infer.proofs.declarations.Declarations.rules.Given as goal
 abbrev pub invariant-loop-item : goal.invariant-loop-item
 invariant-loop-item l = record {
   rules : AreRulesBy l.self (map (λ named. named.name) (rule_names_from l.self 0 (map rule_item (take l.item-index l.items)))) (map rule_item (take l.item-index l.items)) l.rules;
-  unlabelled : l.unlabelled ≡ unlabelled_over 0 (map rule_item (take l.item-index l.items)) }
+  unlabelled : l.unlabelled ≡ unlabelled_over 0 (map rule_item (take l.item-index l.items));
+}
