@@ -1,5 +1,5 @@
 -- The first fault of lists of faults, as loops find it.
-use Rattle.std.proofs.Common.{◌≡◌, ℕ, ◌+◌, ◌<◌, List, [], ◌∷◌, ◌++◌, length, get_or, take, map, Option, Some, None, refl, sym, ◌∙◌, ap, append-nil}
+use Rattle.std.proofs.Common.{◌≡◌, ℕ, ◌+◌, ◌<◌, List, [], ◌∷◌, ◌++◌, length, get_or, take, map, Option, refl, sym, ◌∙◌, ap, append-nil}
 use Rattle.std.specs.List.{flat_map}
 use Rattle.std.proofs.lemmas.Grind.{flat_map-append}
 use Rattle.std.proofs.lemmas.List.{take_more, map-append}
@@ -18,9 +18,9 @@ pub first_more_at : {X : Type 0} (f : X → List Fault) (xs : List X) (i : ℕ) 
 first_more_at f xs i d old item new h was is_item is_new =
     is_new ∙ ap (λ o. first_of o item) was ∙ ap (first_of (first_in (flat_map f (take i xs)))) is_item
     ∙ sym (ap (λ ys. first_in (flat_map f ys)) (take_more xs i d h)
-        ∙ ap first_in (flat_map-append f (take i xs) (get_or xs i d ∷ []))
-        ∙ first_in_append (flat_map f (take i xs)) (f (get_or xs i d) ++ [])
-        ∙ ap (λ ys. first_of (first_in (flat_map f (take i xs))) (first_in ys)) (append-nil (f (get_or xs i d))))
+    ∙ ap first_in (flat_map-append f (take i xs) (get_or xs i d ∷ []))
+    ∙ first_in_append (flat_map f (take i xs)) (f (get_or xs i d) ++ [])
+    ∙ ap (λ ys. first_of (first_in (flat_map f (take i xs))) (first_in ys)) (append-nil (f (get_or xs i d))))
 
 pub first_more : {X : Type 0} (f : X → List Fault) (xs : List X) (i : ℕ) (x : X) (old item new : Option Fault) → i < length xs → x ≡ get_or xs i x
     → old ≡ first_in (flat_map f (take i xs)) → item ≡ first_in (f x) → new ≡ first_of old item → new ≡ first_in (flat_map f (take (i + 1) xs))
@@ -69,8 +69,8 @@ first_with_end f v xs x more some end_ both last all is_some is_end is_both is_l
     is_all ∙ ap (λ o. first_of o last) (is_both ∙ ap (λ o. first_of o end_) is_some ∙ ap (first_of (first_in (flat_map f (map v xs)))) is_end)
     ∙ ap (first_of (first_of (first_in (flat_map f (map v xs))) (first_in (f (v x))))) is_last
     ∙ sym (first_in_append (flat_map f (map v (xs ++ x ∷ []))) more
-        ∙ ap (λ o. first_of o (first_in more)) (ap (λ ys. first_in (flat_map f ys)) (map-append v xs (x ∷ []))
-            ∙ first_in_parts f (map v xs) (v x ∷ []) ∙ ap (λ ys. first_of (first_in (flat_map f (map v xs))) (first_in ys)) (append-nil (f (v x)))))
+    ∙ ap (λ o. first_of o (first_in more)) (ap (λ ys. first_in (flat_map f ys)) (map-append v xs (x ∷ []))
+    ∙ first_in_parts f (map v xs) (v x ∷ []) ∙ ap (λ ys. first_of (first_in (flat_map f (map v xs))) (first_in ys)) (append-nil (f (v x)))))
 
 -- what two sides give, and two further parts
 pub first_with_sides : {X Y : Type 0} (f : Y → List Fault) (g : X → List Y) (left right : List X) (more others : List Fault) (one two both last rest end_ all : Option Fault)
@@ -79,8 +79,8 @@ pub first_with_sides : {X Y : Type 0} (f : Y → List Fault) (g : X → List Y) 
     → all ≡ first_in (flat_map f (flat_map g (left ++ right)) ++ ((more ++ []) ++ ((others ++ []) ++ [])))
 first_with_sides f g left right more others one two both last rest end_ all is_one is_two is_both is_last is_end is_rest is_all =
     let sides : first_in (flat_map f (flat_map g (left ++ right))) ≡ first_of (first_in (flat_map f (flat_map g left))) (first_in (flat_map f (flat_map g right))) =
-        ap (λ ys. first_in (flat_map f ys)) (flat_map-append g left right) ∙ first_in_parts f (flat_map g left) (flat_map g right) in
+    ap (λ ys. first_in (flat_map f ys)) (flat_map-append g left right) ∙ first_in_parts f (flat_map g left) (flat_map g right) in
     let parts : first_in ((more ++ []) ++ ((others ++ []) ++ [])) ≡ first_of (first_in more) (first_in others) =
-        simp append-nil (first_in_append more others) in
+    simp append-nil (first_in_append more others) in
     let whole = first_in_append (flat_map f (flat_map g (left ++ right))) ((more ++ []) ++ ((others ++ []) ++ [])) in
     cc

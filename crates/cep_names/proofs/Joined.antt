@@ -1,5 +1,5 @@
 -- The first of all faults.
-use Rattle.std.proofs.Common.{◌≡◌, ℕ, ◌⊎◌, inl, inr, ⊎_elim, List, [], ◌∷◌, ◌++◌, Option, Some, None, refl, ap, sym, ◌∙◌, subst}
+use Rattle.std.proofs.Common.{◌≡◌, ℕ, ◌⊎◌, inl, inr, ⊎_elim, List, ◌++◌, Option, Some, None, refl, ap, sym, ◌∙◌, subst}
 use Rattle.std.specs.List.{flat_map, Contains}
 use Rattle.cep_parse.specs.declared.raw.RawItem.{RawItem}
 use Rattle.cep_names.specs.declared.fault.Fault.{Fault}
@@ -30,10 +30,10 @@ pub all_first : (looks : Looks) (items : List RawItem) (sizes : List ℕ → Opt
     → each ≡ first_in (flat_map (item_faults looks) items) → four ≡ first_of each three → four ≡ first_in (all_faults looks items)
 all_first looks items sizes counts traces totals variables two fits three each four same a b ab c abc d abcd e is =
     followed (flat_map (item_faults looks) items) _ each three four e
-      (followed (flat_map item_unfit_faults items) _ fits two three d
-        (followed (flat_map (item_variable_faults looks) items) _ variables totals two c
-          (followed (all_count_faults looks items) (traces_faults looks (first_size looks.text (flat_map contexts_in items)) (flat_map traces_in items)) counts traces totals a
-            (b ∙ ap (λ (s : List ℕ → Option Size). first_in (traces_faults looks s (flat_map traces_in items))) (λ i name. same name i)) ab) abc) abcd) is
+    (followed (flat_map item_unfit_faults items) _ fits two three d
+    (followed (flat_map (item_variable_faults looks) items) _ variables totals two c
+    (followed (all_count_faults looks items) (traces_faults looks (first_size looks.text (flat_map contexts_in items)) (flat_map traces_in items)) counts traces totals a
+    (b ∙ ap (λ (s : List ℕ → Option Size). first_in (traces_faults looks s (flat_map traces_in items))) (λ i name. same name i)) ab) abc) abcd) is
 
 -- with names that are declared again
 pub named_first : (source : Source) (tables : Tables) (first other answer : Option Fault) → AreTablesOf source tables → IsFirstOrNone (IsTwice source) first
@@ -41,10 +41,10 @@ pub named_first : (source : Source) (tables : Tables) (first other answer : Opti
 named_first source tables first other answer are again others is =
     let found : other ≡ first_in (all_faults (looks_of source) source.file) = others ∙ ap (λ (looks : Looks). first_in (all_faults looks source.file)) (looks_is source tables are) in
     subst (IsFirstOrNone (Misnamed source)) (sym (is ∙ ap (first_of first) found))
-      (first_same (λ fault. IsTwice source fault ⊎ Contains (all_faults (looks_of source) source.file) fault) (Misnamed source) (first_of first (first_in (all_faults (looks_of source) source.file)))
-        (λ fault. ⊎_elim (λ h. twice h) (λ k. all_sound source fault (from_contains (all_faults (looks_of source) source.file) fault k)))
-        (λ fault h. ⊎_elim (λ k. inl k) (λ k. inr (to_contains (all_faults (looks_of source) source.file) fault k)) (complete source fault h))
-        (first_union (IsTwice source) (Contains (all_faults (looks_of source) source.file)) first (first_in (all_faults (looks_of source) source.file)) again (first_among (all_faults (looks_of source) source.file))))
+    (first_same (λ fault. IsTwice source fault ⊎ Contains (all_faults (looks_of source) source.file) fault) (Misnamed source) (first_of first (first_in (all_faults (looks_of source) source.file)))
+    (λ fault. ⊎_elim (λ h. twice h) (λ k. all_sound source fault (from_contains (all_faults (looks_of source) source.file) fault k)))
+    (λ fault h. ⊎_elim (λ k. inl k) (λ k. inr (to_contains (all_faults (looks_of source) source.file) fault k)) (complete source fault h))
+    (first_union (IsTwice source) (Contains (all_faults (looks_of source) source.file)) first (first_in (all_faults (looks_of source) source.file)) again (first_among (all_faults (looks_of source) source.file))))
 
 -- where there is no first fault, none of the two parts has one
 pub none_before : (first other : Option Fault) → first_of first other ≡ None → first ≡ None

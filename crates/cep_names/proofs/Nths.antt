@@ -1,5 +1,5 @@
 -- The n-th of what items give.
-use Rattle.std.proofs.Common.{◌≡◌, ℕ, zero, suc, ◌+◌, ◌-◌, ◌<◌, ◌≤◌, List, [], ◌∷◌, ◌++◌, length, get_or, take, drop, map, Option, Some, None, refl, sym, ◌∙◌, ap, arith, length-append, append-nil}
+use Rattle.std.proofs.Common.{◌≡◌, ℕ, zero, suc, ◌+◌, ◌-◌, ◌<◌, ◌≤◌, List, [], ◌∷◌, ◌++◌, length, get_or, take, drop, Option, Some, None, refl, sym, ◌∙◌, ap, arith, length-append, append-nil}
 use Rattle.std.specs.List.{flat_map, slice_get}
 use Rattle.std.proofs.lemmas.Grind.{common_steps, flat_map-append}
 use Rattle.std.proofs.lemmas.List.{take_more, take-append-drop}
@@ -34,10 +34,10 @@ pub past_found : {X : Type 0} (f : X → List ℕ) (xs : List X) (i : ℕ) (x : 
     → before ≡ length (flat_map f (take i xs)) → f x ≡ p ∷ [] → before ≡ most → result ≡ first_in (past (Some p)) → result ≡ first_in (past (slice_get (flat_map f xs) most))
 past_found f xs i x before most p result h at was one reached is =
     is ∙ sym (ap (λ o. first_in (past o))
-        (ap (λ ys. slice_get ys most) (given_rest f xs (i + 1))
-        ∙ slice_get_kept (flat_map f (take (i + 1) xs)) (flat_map f (drop (i + 1) xs)) most p
-            (ap (λ ys. slice_get ys most) (given_more f xs i x h at ∙ ap (λ ys. flat_map f (take i xs) ++ ys) one)
-            ∙ slice_get_at (flat_map f (take i xs)) p [] most (sym reached ∙ was))))
+    (ap (λ ys. slice_get ys most) (given_rest f xs (i + 1))
+    ∙ slice_get_kept (flat_map f (take (i + 1) xs)) (flat_map f (drop (i + 1) xs)) most p
+    (ap (λ ys. slice_get ys most) (given_more f xs i x h at ∙ ap (λ ys. flat_map f (take i xs) ++ ys) one)
+    ∙ slice_get_at (flat_map f (take i xs)) p [] most (sym reached ∙ was))))
 
 pub take_past : {X : Type 0} (xs : List X) (i : ℕ) → length xs ≤ i → take i xs ≡ xs
 take_past xs i h = grind (arith, common_steps)
@@ -58,10 +58,10 @@ pub past_within : {X : Type 0} (f : X → List ℕ) (xs : List X) (i : ℕ) (x :
     → before ≡ length (flat_map f (take i xs)) → before ≤ most → slice_get (f x) (most - before) ≡ Some p → result ≡ first_in (past (Some p)) → result ≡ first_in (past (slice_get (flat_map f xs) most))
 past_within f xs i x before most p result h at was few here is =
     is ∙ sym (ap (λ o. first_in (past o))
-        (ap (λ ys. slice_get ys most) (given_rest f xs (i + 1))
-        ∙ slice_get_kept (flat_map f (take (i + 1) xs)) (flat_map f (drop (i + 1) xs)) most p
-            (ap (λ ys. slice_get ys most) (given_more f xs i x h at)
-            ∙ slice_get_behind (flat_map f (take i xs)) (f x) most (most - before) (omega (arith, was)) ∙ here)))
+    (ap (λ ys. slice_get ys most) (given_rest f xs (i + 1))
+    ∙ slice_get_kept (flat_map f (take (i + 1) xs)) (flat_map f (drop (i + 1) xs)) most p
+    (ap (λ ys. slice_get ys most) (given_more f xs i x h at)
+    ∙ slice_get_behind (flat_map f (take i xs)) (f x) most (most - before) (omega (arith, was)) ∙ here)))
 
 pub slice_get_none : {X : Type 0} (xs : List X) (n : ℕ) → slice_get xs n ≡ None → length xs ≤ n
 slice_get_none [] n e = omega arith

@@ -1,17 +1,14 @@
 -- Where the uses, the atoms and the rules of a text stand.
-use Rattle.std.proofs.Common.{◌≡◌, ℕ, ◌+◌, ◌⊎◌, inl, inr, ⊎_elim, Bool, List, [], ◌∷◌, ◌++◌, map, Option, Some, None, refl, ap, sym, ◌∙◌, subst}
+use Rattle.std.proofs.Common.{◌≡◌, ℕ, ◌⊎◌, inl, inr, ⊎_elim, List, [], ◌∷◌, map, Option, Some, None, ap, sym, ◌∙◌, subst}
 use Rattle.std.specs.List.{flat_map}
-use Rattle.cep_parse.specs.declared.raw.RawAtom.{RawAtom}
 use Rattle.cep_parse.specs.declared.raw.RawRule.{RawRule}
 use Rattle.cep_parse.specs.declared.raw.RawItem.{RawItem}
 use Rattle.cep_parse.specs.declared.raw.RawItem.TheVariants as item
-use Rattle.cep_names.specs.declared.space.Role.{Role}
-use Rattle.cep_names.specs.declared.space.Role.TheVariants as role
 use Rattle.cep_names.specs.Items.{Source, ConItem, ClauseItem, RuleItem, cons_in, clauses_in, rules_in, rules_from, rules_of, stages_behind}
 use Rattle.cep_names.specs.Filling.{item_rules}
-use Rattle.cep_names.specs.Uses.{Placed, Use, placed, own_atoms, item_atoms, placed_of, rule_atoms, clause_atoms, own_uses, con_uses, atom_uses, item_uses, uses_of, start_listed}
-use Rattle.cep_names.specs.Faults.{outers_in, listed_atoms, state_role, state_atoms}
-use Rattle.cep_names.proofs.Members.{In, here, there, in_nil, in_one, in_same, in_left, in_right, in_parts, Through, through, via, Image, image, mapped}
+use Rattle.cep_names.specs.Uses.{Placed, Use, own_atoms, item_atoms, placed_of, rule_atoms, clause_atoms, own_uses, con_uses, atom_uses, item_uses, uses_of}
+use Rattle.cep_names.specs.Faults.{outers_in, state_atoms}
+use Rattle.cep_names.proofs.Members.{In, here, there, in_nil, in_one, in_same, in_left, in_right, in_parts, through, via, image, mapped}
 
 pub own_use : (source : Source) (item : RawItem) (used : Use) → In source.file item → In (own_uses item) used → In (uses_of source) used
 own_use source item used member h = via (item_uses source) source.file item used member (in_left (own_uses item) _ used h)
@@ -19,13 +16,13 @@ own_use source item used member h = via (item_uses source) source.file item used
 pub con_use : (source : Source) (item : RawItem) (con : ConItem) (used : Use) → In source.file item → In (cons_in source item) con → In (con_uses con) used → In (uses_of source) used
 con_use source item con used member m h =
     via (item_uses source) source.file item used member
-      (in_right (own_uses item) _ used (in_left (flat_map con_uses (cons_in source item)) _ used (via con_uses (cons_in source item) con used m h)))
+    (in_right (own_uses item) _ used (in_left (flat_map con_uses (cons_in source item)) _ used (via con_uses (cons_in source item) con used m h)))
 
 pub placed_use : (source : Source) (p : Placed) (used : Use) → In (placed_of source) p → In (atom_uses source p) used → In (uses_of source) used
 placed_use source p used at h =
     let t = through (item_atoms source) source.file p at in
     via (item_uses source) source.file t.from used t.member
-      (in_right (own_uses t.from) _ used (in_right (flat_map con_uses (cons_in source t.from)) _ used (via (atom_uses source) (item_atoms source t.from) p used t.given h)))
+    (in_right (own_uses t.from) _ used (in_right (flat_map con_uses (cons_in source t.from)) _ used (via (atom_uses source) (item_atoms source t.from) p used t.given h)))
 
 pub own_placed : (source : Source) (item : RawItem) (p : Placed) → In source.file item → In (own_atoms item) p → In (placed_of source) p
 own_placed source item p member h = via (item_atoms source) source.file item p member (in_left (own_atoms item) _ p h)

@@ -1,5 +1,5 @@
 -- The levels of the terms that are still to come.
-use Rattle.std.proofs.Common.{◌≡◌, ℕ, zero, suc, ◌+◌, ◌-◌, ◌<◌, ◌≤◌, Bool, true, false, max, nat_le, List, [], ◌∷◌, ◌++◌, length, get_or, set, take, drop, refl, ap, sym, ◌∙◌, append_assoc, append-nil, arith, drop-cons, length-set}
+use Rattle.std.proofs.Common.{◌≡◌, ℕ, zero, suc, ◌+◌, ◌-◌, ◌<◌, false, max, nat_le, List, [], ◌∷◌, ◌++◌, length, get_or, set, take, drop, ap, sym, ◌∙◌, append_assoc, append-nil, arith, drop-cons, length-set}
 use Rattle.std.specs.List.{repeat}
 use Rattle.std.proofs.lemmas.Bool.Decides.{nat_tests}
 use Rattle.std.proofs.lemmas.List.{take_more, take_more_set}
@@ -36,8 +36,8 @@ pub next_again : (runs later : List Run) (last : ℕ) (run : Run) → last + 1 �
 next_again runs later last run end at some is =
     let within : last < length runs = omega arith in
     let whole : later ≡ take last runs ++ record { level = run.level; more = run.more - 1 } ∷ [] =
-      is ∙ sym (take_past (set runs last (record { level = run.level; more = run.more - 1 })) (last + 1) (simp length-set (omega arith)))
-      ∙ take_more_set runs last (record { level = run.level; more = run.more - 1 }) within in
+    is ∙ sym (take_past (set runs last (record { level = run.level; more = run.more - 1 })) (last + 1) (simp length-set (omega arith)))
+    ∙ take_more_set runs last (record { level = run.level; more = run.more - 1 }) within in
     ap pending (at_last runs last run end at) ∙ pending_push (take last runs) run
     ∙ ap (λ ys. run.level ∷ (ys ++ pending (take last runs))) (repeat_some run.more run.level some)
     ∙ ap (λ ys. run.level ∷ ys) (sym (ap pending whole ∙ pending_push (take last runs) (record { level = run.level; more = run.more - 1 })))

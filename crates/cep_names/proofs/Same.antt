@@ -1,10 +1,9 @@
 -- What the faults count is what the definitions count.
-use Rattle.std.proofs.Common.{◌≡◌, ℕ, suc, ◌+◌, ◌-◌, ◌^◌, ◌<◌, ◌≤◌, min, nat_lt, nat_le, ◌⊎◌, ⊎_elim, Bool, true, false, ◌||◌, ◌&&◌, cond, if◌then◌else◌, List, [], ◌∷◌, ◌++◌, length, map, Option, Some, None, refl, ap, sym, ◌∙◌, subst, arith, codes, decimal, lit<, length-append}
-use Rattle.std.specs.List.{flat_map, list_any, filter, find, sum_by}
+use Rattle.std.proofs.Common.{◌≡◌, ℕ, ◌+◌, ◌<◌, min, nat_lt, Bool, true, false, ◌||◌, cond, if◌then◌else◌, List, [], ◌∷◌, ◌++◌, length, map, Option, Some, None, refl, ap, sym, ◌∙◌, arith, codes, decimal, lit<, length-append}
+use Rattle.std.specs.List.{flat_map, list_any, filter, sum_by}
 use Rattle.std.specs.Option.{option_map}
 use Rattle.std.specs.Str.{bytes_eq}
 use Rattle.std.proofs.lemmas.Bool.Decides.{nat_tests}
-use Rattle.std.proofs.lemmas.Bool.{le-leb, leb-true}
 use Rattle.std.proofs.lemmas.List.{map-append}
 use Rattle.std.proofs.lemmas.List.Folds.{list_any-append}
 use Rattle.std.proofs.lemmas.List.Sums.{sum_by-cons, sum_by-append}
@@ -23,7 +22,6 @@ use Rattle.cep_parse.specs.declared.raw.RawItem.TheVariants as item
 use Rattle.cep_names.specs.declared.space.Space.TheVariants as space
 use Rattle.cep_names.specs.declared.space.Role.TheVariants as role
 use Rattle.cep_names.specs.declared.sizes.Size.{Size}
-use Rattle.cep_names.specs.declared.table.Shape.{Shape}
 use Rattle.cep_names.specs.declared.variables.Seen.{Seen}
 use Rattle.cep_names.specs.declared.counts.Counted.TheVariants as counted
 use Rattle.cep_names.specs.Items.{Source, ContextItem, ClauseItem, RuleItem, clauses_in, clauses_of, said, preds_in, preds_of, cons_in, cons_of, rules_in, rules_from, rules_of, stages_behind, contexts_of}
@@ -33,11 +31,11 @@ use Rattle.cep_names.specs.Seen.{met, new_at, blanked, new_in, new_kind, met_kin
 use Rattle.cep_names.specs.Spaces.{Named, named, names_in, rule_names_from, unlabelled_behind, context_named}
 use Rattle.cep_names.specs.Starts.{nodes_written, listed_in, listed_or, start_atoms}
 use Rattle.cep_names.specs.Tables.{has_name}
-use Rattle.cep_names.specs.Uses.{placed, is_context, atoms_in, atoms_of}
+use Rattle.cep_names.specs.Uses.{placed, is_context, atoms_of}
 use Rattle.cep_names.specs.Variables.{Occurrence, occurrence_at, blanks_behind, occurrences_from, firsts_beside}
-use Rattle.cep_names.specs.Looks.{Looks, looks_of, says, cons_by}
+use Rattle.cep_names.specs.Looks.{Looks, looks_of, says}
 use Rattle.cep_names.specs.Faults.{place_if, premise_places, atom_places}
-use Rattle.cep_names.specs.Totals.{places_in, cut, most_counted, size_of, sum_of, size_or_none, first_size, listed_size, start_size, is_large}
+use Rattle.cep_names.specs.Totals.{places_in, cut, most_counted, size_of, size_or_none, first_size, listed_size, start_size, is_large}
 use Rattle.cep_names.proofs.Members.{map-flat_map}
 use Rattle.cep_names.proofs.SizeTables.{bytes_eq_sym}
 use Rattle.cep_names.proofs.SourceLooks.{cons_by_is, clauses_by_is}
@@ -189,8 +187,8 @@ module _ (source : Source) where
   copies_all [] = refl
   copies_all (atom ∷ atoms) =
       ap (λ n. min n most_counted)
-        (sum_by-cons (λ (size : Size). size.copies) (listed_size (looks_of source) contexts_size atom) (map (listed_size (looks_of source) contexts_size) atoms)
-        ∙ ap (λ (size : Size). size.copies + sum_by (λ (other : Size). other.copies) (map (listed_size (looks_of source) contexts_size) atoms)) (listed_case (is_context source (placed role.Start atom)) atom))
+      (sum_by-cons (λ (size : Size). size.copies) (listed_size (looks_of source) contexts_size atom) (map (listed_size (looks_of source) contexts_size) atoms)
+      ∙ ap (λ (size : Size). size.copies + sum_by (λ (other : Size). other.copies) (map (listed_size (looks_of source) contexts_size) atoms)) (listed_case (is_context source (placed role.Start atom)) atom))
       ∙ cut_step (length (lists atom)) (sum_by (λ (size : Size). size.copies) (map (listed_size (looks_of source) contexts_size) atoms)) (length (flat_map lists atoms)) most_counted (copies_all atoms)
       ∙ sym (ap (λ n. min n most_counted) (length-append (lists atom) (flat_map lists atoms)))
 
@@ -198,8 +196,8 @@ module _ (source : Source) where
   nodes_all [] = refl
   nodes_all (atom ∷ atoms) =
       ap (λ n. min n most_counted)
-        (sum_by-cons (λ (size : Size). size.nodes) (listed_size (looks_of source) contexts_size atom) (map (listed_size (looks_of source) contexts_size) atoms)
-        ∙ ap (λ (size : Size). size.nodes + sum_by (λ (other : Size). other.nodes) (map (listed_size (looks_of source) contexts_size) atoms)) (listed_case (is_context source (placed role.Start atom)) atom))
+      (sum_by-cons (λ (size : Size). size.nodes) (listed_size (looks_of source) contexts_size atom) (map (listed_size (looks_of source) contexts_size) atoms)
+      ∙ ap (λ (size : Size). size.nodes + sum_by (λ (other : Size). other.nodes) (map (listed_size (looks_of source) contexts_size) atoms)) (listed_case (is_context source (placed role.Start atom)) atom))
       ∙ cut_step (sum_by nodes_written (lists atom)) (sum_by (λ (size : Size). size.nodes) (map (listed_size (looks_of source) contexts_size) atoms)) (sum_by nodes_written (flat_map lists atoms)) most_counted (nodes_all atoms)
       ∙ sym (ap (λ n. min n most_counted) (sum_by-append nodes_written (lists atom) (flat_map lists atoms)))
 

@@ -1,5 +1,5 @@
 -- The variables among nodes, one part after another.
-use Rattle.std.proofs.Common.{◌≡◌, ℕ, zero, suc, ◌+◌, ◌-◌, ◌<◌, ◌≤◌, Bool, true, false, if◌then◌else◌, List, [], ◌∷◌, ◌++◌, length, get_or, take, drop, Option, None, Some, refl, ap, sym, ◌∙◌, append_assoc, length-append, arith, lit≤}
+use Rattle.std.proofs.Common.{◌≡◌, ℕ, ◌+◌, ◌-◌, ◌<◌, ◌≤◌, Bool, true, false, if◌then◌else◌, List, [], ◌∷◌, ◌++◌, length, get_or, take, drop, Option, None, Some, refl, ap, sym, ◌∙◌, append_assoc, length-append, arith, lit≤}
 use Rattle.std.specs.List.{slice_get, flat_map}
 use Rattle.std.proofs.lemmas.List.{take_more, take-append-drop}
 use Rattle.std.proofs.lemmas.Option.{slice_get_past}
@@ -72,9 +72,9 @@ found_in : (text : List ℕ) (start old : Seen) (front back : List RawNode) (nod
 found_in text start old front back node most was full few one =
     let counted : old.count ≡ start.count + length (new_in text start front) = ap (λ (s : Seen). s.count) was ∙ count_all text start front in
     ap (λ (places : List ℕ). slice_get places (most - start.count))
-      (new_in_append text start front (node ∷ back)
-      ∙ ap (λ (seen : Seen). new_in text start front ++ (new_kind text seen node.at node.kind ++ new_in text (met_kind text seen node.at node.kind) back)) (sym was)
-      ∙ ap (λ (places : List ℕ). new_in text start front ++ (places ++ new_in text (met_kind text old node.at node.kind) back)) one)
+    (new_in_append text start front (node ∷ back)
+    ∙ ap (λ (seen : Seen). new_in text start front ++ (new_kind text seen node.at node.kind ++ new_in text (met_kind text seen node.at node.kind) back)) (sym was)
+    ∙ ap (λ (places : List ℕ). new_in text start front ++ (places ++ new_in text (met_kind text old node.at node.kind) back)) one)
     ∙ slice_get_at (new_in text start front) node.at.from (new_in text (met_kind text old node.at node.kind) back) (most - start.count) (omega arith)
 
 cut_at : {X : Type 0} (xs : List X) (i : ℕ) (d : X) → i < length xs → xs ≡ take i xs ++ get_or xs i d ∷ drop (i + 1) xs
@@ -86,12 +86,12 @@ pub found : (text : List ℕ) (start old new : Seen) (nodes : List RawNode) (i :
     → Some (get_or nodes i d).at.from ≡ slice_get (new_in text start nodes) (most - start.count)
 found text start old new nodes i d b most h was is same known few over start_few =
     let one : new_kind text old (get_or nodes i d).at (get_or nodes i d).kind ≡ (get_or nodes i d).at.from ∷ [] =
-      sym same ∙ ap (λ (c : Bool). let places : List ℕ = if c then (get_or nodes i d).at.from ∷ [] else [] in places) known in
+    sym same ∙ ap (λ (c : Bool). let places : List ℕ = if c then (get_or nodes i d).at.from ∷ [] else [] in places) known in
     let counted : new.count ≡ old.count + length (new_kind text old (get_or nodes i d).at (get_or nodes i d).kind) =
-      ap (λ (s : Seen). s.count) is ∙ count_kind text old (get_or nodes i d).at (get_or nodes i d).kind in
+    ap (λ (s : Seen). s.count) is ∙ count_kind text old (get_or nodes i d).at (get_or nodes i d).kind in
     let single : length (new_kind text old (get_or nodes i d).at (get_or nodes i d).kind) ≡ 1 = ap length one in
     sym (ap (λ ys. slice_get (new_in text start ys) (most - start.count)) (cut_at nodes i d h)
-      ∙ found_in text start old (take i nodes) (drop (i + 1) nodes) (get_or nodes i d) most was (omega arith) start_few one)
+    ∙ found_in text start old (take i nodes) (drop (i + 1) nodes) (get_or nodes i d) most was (omega arith) start_few one)
 
 -- none is too many
 pub found_none : (text : List ℕ) (start old : Seen) (nodes : List RawNode) (i most : ℕ) → length nodes ≤ i → old ≡ met_all text start (take i nodes) → old.count ≤ most
@@ -115,12 +115,12 @@ pub parts_found : {X : Type 0} (text : List ℕ) (start old : Seen) (f : X → L
 parts_found text start old f xs i x most p h at was few start_few here =
     let counted : old.count ≡ start.count + length (new_in text start (flat_map f (take i xs))) = ap (λ (s : Seen). s.count) was ∙ count_all text start (flat_map f (take i xs)) in
     sym (ap (λ (places : List ℕ). slice_get places (most - start.count))
-        (ap (new_in text start) (given_rest f xs (i + 1) ∙ ap (λ ys. ys ++ flat_map f (drop (i + 1) xs)) (given_more f xs i x h at))
-        ∙ new_in_append text start (flat_map f (take i xs) ++ f x) (flat_map f (drop (i + 1) xs))
-        ∙ ap (λ (places : List ℕ). places ++ new_in text (met_all text start (flat_map f (take i xs) ++ f x)) (flat_map f (drop (i + 1) xs))) (new_in_append text start (flat_map f (take i xs)) (f x)))
-      ∙ slice_get_kept (new_in text start (flat_map f (take i xs)) ++ new_in text (met_all text start (flat_map f (take i xs))) (f x)) _ (most - start.count) p
-          (slice_get_behind (new_in text start (flat_map f (take i xs))) (new_in text (met_all text start (flat_map f (take i xs))) (f x)) (most - start.count) (most - old.count) (omega arith)
-          ∙ ap (λ seen. slice_get (new_in text seen (f x)) (most - old.count)) (sym was) ∙ sym here))
+    (ap (new_in text start) (given_rest f xs (i + 1) ∙ ap (λ ys. ys ++ flat_map f (drop (i + 1) xs)) (given_more f xs i x h at))
+    ∙ new_in_append text start (flat_map f (take i xs) ++ f x) (flat_map f (drop (i + 1) xs))
+    ∙ ap (λ (places : List ℕ). places ++ new_in text (met_all text start (flat_map f (take i xs) ++ f x)) (flat_map f (drop (i + 1) xs))) (new_in_append text start (flat_map f (take i xs)) (f x)))
+    ∙ slice_get_kept (new_in text start (flat_map f (take i xs)) ++ new_in text (met_all text start (flat_map f (take i xs))) (f x)) _ (most - start.count) p
+    (slice_get_behind (new_in text start (flat_map f (take i xs))) (new_in text (met_all text start (flat_map f (take i xs))) (f x)) (most - start.count) (most - old.count) (omega arith)
+    ∙ ap (λ seen. slice_get (new_in text seen (f x)) (most - old.count)) (sym was) ∙ sym here))
 
 pub parts_none : {X : Type 0} (text : List ℕ) (start old : Seen) (f : X → List RawNode) (xs : List X) (i most : ℕ) → length xs ≤ i → old ≡ met_all text start (flat_map f (take i xs)) → old.count ≤ most
     → None ≡ slice_get (new_in text start (flat_map f xs)) (most - start.count)
@@ -133,7 +133,7 @@ parts_none text start old f xs i most end was few =
 pub two_found : (text : List ℕ) (start : Seen) (xs ys : List RawNode) (n p : ℕ) → Some p ≡ slice_get (new_in text start xs) n → Some p ≡ slice_get (new_in text start (xs ++ ys)) n
 two_found text start xs ys n p here =
     sym (ap (λ (places : List ℕ). slice_get places n) (new_in_append text start xs ys)
-      ∙ slice_get_kept (new_in text start xs) (new_in text (met_all text start xs) ys) n p (sym here))
+    ∙ slice_get_kept (new_in text start xs) (new_in text (met_all text start xs) ys) n p (sym here))
 
 pub two_rest : (text : List ℕ) (start mid : Seen) (xs ys : List RawNode) (most : ℕ) (at : Option ℕ) → mid ≡ met_all text start xs → mid.count ≤ most → start.count ≤ most
     → at ≡ slice_get (new_in text mid ys) (most - mid.count) → at ≡ slice_get (new_in text start (xs ++ ys)) (most - start.count)
@@ -141,7 +141,7 @@ two_rest text start mid xs ys most at is few start_few here =
     let counted : mid.count ≡ start.count + length (new_in text start xs) = ap (λ (s : Seen). s.count) is ∙ count_all text start xs in
     here ∙ ap (λ seen. slice_get (new_in text seen ys) (most - mid.count)) is
     ∙ sym (ap (λ (places : List ℕ). slice_get places (most - start.count)) (new_in_append text start xs ys)
-      ∙ slice_get_behind (new_in text start xs) (new_in text (met_all text start xs) ys) (most - start.count) (most - mid.count) (omega arith))
+    ∙ slice_get_behind (new_in text start xs) (new_in text (met_all text start xs) ys) (most - start.count) (most - mid.count) (omega arith))
 
 -- a clause's head and goals
 pub clause_found : (text : List ℕ) (start : Seen) (head goals : List RawNode) (p : ℕ) (result : Option Fault) → start ≡ unseen → Some p ≡ slice_get (new_in text start head) (MOST_VARIABLES - start.count)

@@ -1,5 +1,5 @@
 -- What is found is wrong: uses and atoms.
-use Rattle.std.proofs.Common.{◌≡◌, ℕ, ◌⊎◌, inl, inr, ⊎_elim, ◌==◌, Bool, true, false, if◌then◌else◌, List, [], ◌∷◌, ◌++◌, Option, Some, None, refl, ap, sym, ◌∙◌, subst}
+use Rattle.std.proofs.Common.{◌≡◌, ℕ, ⊎_elim, ◌==◌, Bool, true, false, if◌then◌else◌, List, [], ◌∷◌, Option, Some, None, refl, ap, sym, subst}
 use Rattle.std.specs.List.{flat_map}
 use Rattle.std.proofs.lemmas.Bool.{eqb-false}
 use Rattle.cep_parse.specs.declared.raw.Span.{Span}
@@ -46,25 +46,24 @@ use_sound source used fault use_ found =
     (arity source used fault (arity_of source used.space (said source used.name)) use_ refl)
     (in_parts (lack_faults (is_in source used.space (said source used.name)) (is_somewhere source (said source used.name)) used.name.from) (arity_faults (arity_of source used.space (said source used.name)) used.args used.name.from) fault found)
 
-
 -- an atom
 pred_sound : (source : Source) (p : Placed) (fault : Fault) (context : Bool) → In (placed_of source) p → is_context source p ≡ context
     → In (let found : List Fault = if context then [] else use_faults (looks_of source) (record { space = space.Predicates; name = p.atom.name; args = p.atom.args }) in found) fault → Misnamed source fault
 pred_sound source p fault true at c found = absurd (in_nil fault found)
 pred_sound source p fault false at c found =
     use_sound source (record { space = space.Predicates; name = p.atom.name; args = p.atom.args }) fault
-      (placed_use source p (record { space = space.Predicates; name = p.atom.name; args = p.atom.args }) at
-        (in_left (pred_uses source p) (flat_map node_uses p.atom.nodes) _ (in_same (pred_uses source p) (record { space = space.Predicates; name = p.atom.name; args = p.atom.args } ∷ []) _
-          (ap (λ (b : Bool). let uses : List Use = if b then [] else record { space = space.Predicates; name = p.atom.name; args = p.atom.args } ∷ [] in uses) c) (here _ []))))
-      found
+    (placed_use source p (record { space = space.Predicates; name = p.atom.name; args = p.atom.args }) at
+    (in_left (pred_uses source p) (flat_map node_uses p.atom.nodes) _ (in_same (pred_uses source p) (record { space = space.Predicates; name = p.atom.name; args = p.atom.args } ∷ []) _
+    (ap (λ (b : Bool). let uses : List Use = if b then [] else record { space = space.Predicates; name = p.atom.name; args = p.atom.args } ∷ [] in uses) c) (here _ []))))
+    found
 
 node_sound : (source : Source) (p : Placed) (fault : Fault) → In (placed_of source) p → In (flat_map (node_faults (looks_of source)) p.atom.nodes) fault → Misnamed source fault
 node_sound source p fault at found =
     let node = through (node_faults (looks_of source)) p.atom.nodes fault found in
     let used = through (use_faults (looks_of source)) (node_uses node.from) fault node.given in
     use_sound source used.from fault
-      (placed_use source p used.from at (in_right (pred_uses source p) (flat_map node_uses p.atom.nodes) used.from (via node_uses p.atom.nodes node.from used.from node.member used.member)))
-      used.given
+    (placed_use source p used.from at (in_right (pred_uses source p) (flat_map node_uses p.atom.nodes) used.from (via node_uses p.atom.nodes node.from used.from node.member used.member)))
+    used.given
 
 open_kind : (at : Span) (kind_ : RawKind) (args : ℕ) (fault : Fault) → In (open_by kind_ at.from) fault → IsOpen (record { at = at; kind = kind_; args = args }) × (fault ≡ wrong VarInContext at.from)
 open_kind at kind.App args fault found = absurd (in_nil fault found)
@@ -104,7 +103,7 @@ pub placed_sound : (source : Source) (p : Placed) (fault : Fault) → In (placed
 placed_sound source p fault at found =
     ⊎_elim (pred_sound source p fault (is_context source p) at refl)
     (λ rest. ⊎_elim (node_sound source p fault at) (role_sound source p fault p.role at refl)
-      (in_parts (flat_map (node_faults (looks_of source)) p.atom.nodes) (role_faults (looks_of source) p.role p.atom.name p.atom.nodes) fault rest))
+    (in_parts (flat_map (node_faults (looks_of source)) p.atom.nodes) (role_faults (looks_of source) p.role p.atom.name p.atom.nodes) fault rest))
     (in_parts (pred_faults (looks_of source) p.role p.atom.name p.atom.args) _ fault found)
 
 pub sound : (source : Source) (fault : Fault) → Misnamed source fault → Misnamed source fault

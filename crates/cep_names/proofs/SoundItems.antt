@@ -1,9 +1,8 @@
 -- What is found is wrong: items, one by one, and the whole file.
-use Rattle.std.proofs.Common.{◌≡◌, ℕ, ◌<◌, ◌≤◌, ◌⊎◌, inl, inr, ⊎_elim, ◌==◌, Bool, true, false, ◌||◌, ◌&&◌, nat_lt, nat_le, not, if◌then◌else◌, List, [], ◌∷◌, ◌++◌, length, map, Option, Some, None, refl, ap, sym, ◌∙◌, subst, count_by}
-use Rattle.std.specs.List.{flat_map, slice_get, filter, sum_by}
+use Rattle.std.proofs.Common.{◌≡◌, ℕ, ⊎_elim, ◌==◌, Bool, true, false, ◌&&◌, nat_lt, nat_le, if◌then◌else◌, List, [], ◌∷◌, length, map, Option, Some, None, refl, ap, sym, ◌∙◌, count_by}
+use Rattle.std.specs.List.{flat_map, slice_get, sum_by}
 use Rattle.std.specs.Str.Parse.{digits_value}
 use Rattle.std.proofs.lemmas.Bool.{false≢true, le-leb, eq-eqb, ltb-true, or_cases}
-use Rattle.std.proofs.lemmas.Option.{slice_get-map}
 use Rattle.cep_parse.specs.declared.raw.Span.{Span}
 use Rattle.cep_parse.specs.declared.raw.RawAtom.{RawAtom}
 use Rattle.cep_parse.specs.declared.raw.RawRule.{RawRule}
@@ -16,22 +15,21 @@ use Rattle.cep_term.specs.declared.term.TheConstants.{MAX_NODES, MAX_DEPTH}
 use Rattle.cep_names.specs.declared.fault.Fault.{Fault}
 use Rattle.cep_names.specs.declared.reason.Reason.TheVariants.{OverLimit, BadQui, TwoTraces}
 use Rattle.cep_names.specs.declared.space.Space.TheVariants as space
-use Rattle.cep_names.specs.declared.space.Role.TheVariants as role
 use Rattle.cep_names.specs.declared.counts.Counted.TheVariants as counted
 use Rattle.cep_names.specs.Items.{Source, PredItem, ConItem, ClauseItem, RuleItem, TraceItem, said, cons_in, cons_of, preds_in, preds_of, clauses_in, clauses_of, rules_of, traces_in, traces_of, contexts_of}
 use Rattle.cep_names.specs.Filling.{item_rules}
 use Rattle.cep_names.specs.Misnamed.{Misnamed, IsOver, IsOfState, IsQuiRule, wrong, arguments_of, linear_of, backward_of, is_qui, is_stage}
 use Rattle.cep_names.specs.Misnamed.Misnamed.{bad_qui, no_trace, two_traces, over}
 use Rattle.cep_names.specs.Misnamed.IsOfState.{listed, start}
-use Rattle.cep_names.specs.Spaces.{Named, names_in}
+use Rattle.cep_names.specs.Spaces.{names_in}
 use Rattle.cep_names.specs.Starts.{IsFitWritten, nodes_written, depth_written, start_atoms}
 use Rattle.cep_names.specs.Uses.{Placed, placed, own_uses, con_uses, placed_of, rule_atoms, clause_atoms, atoms_of}
-use Rattle.cep_names.specs.Variables.{Occurrence, variables_of, nodes_of, occurrences_from, firsts_beside}
+use Rattle.cep_names.specs.Variables.{variables_of, nodes_of}
 use Rattle.cep_names.specs.Seen.{unseen, new_in}
 use Rattle.cep_names.specs.Looks.{looks_of, cons_by, clauses_by}
 use Rattle.cep_names.specs.Faults.{use_faults, placed_faults, past, places, argument_faults, con_faults, size_faults, rule_faults, clause_faults, premise_places, atom_places, is_qui_rule, qui_faults, is_turn_limit, turns_faults, trace_faults, outers_in, listed_atoms, state_role, state_atoms, item_faults}
-use Rattle.cep_names.specs.Totals.{variable_faults, item_variable_faults, is_fit, unfit_faults, item_unfit_faults, count_faults, all_count_faults, places_in, first_size, size_of, cut, is_large, start_size, start_faults, traces_faults, all_faults}
-use Rattle.cep_names.proofs.Members.{In, here, there, in_nil, in_one, in_same, in_left, in_right, in_parts, through, via, image, mapped, to_contains, in_got, got, give}
+use Rattle.cep_names.specs.Totals.{variable_faults, item_variable_faults, is_fit, unfit_faults, item_unfit_faults, count_faults, all_count_faults, places_in, first_size, size_of, is_large, start_size, start_faults, traces_faults, all_faults}
+use Rattle.cep_names.proofs.Members.{In, in_nil, in_one, in_same, in_left, in_right, in_parts, through, via, image, mapped, to_contains, got}
 use Rattle.cep_names.proofs.Parts.{own_use, con_use, own_placed, clause_placed, state_own, rule_own, numbered, outer}
 use Rattle.cep_names.proofs.Same.{atom_at, entry_at, occurrence_from, premise_list, atom_list, preds_at, cons_at, head_at, clauses_at, rules_at, variables_same, size_same, large_same}
 use Rattle.cep_names.proofs.SourceLooks.{cons_by_is, clauses_by_is}
@@ -74,9 +72,9 @@ clause_sound source item clause fault member m found =
     ⊎_elim
     (λ k. let t = through (placed_faults (looks_of source)) (clause_atoms clause) fault k in placed_sound source t.from fault (clause_placed source item clause t.from member m t.member) t.given)
     (λ k.
-      let p = past_at (slice_get (places clause.goals) MOST_GOALS) fault k in
-      let g = got atom_at clause.goals MOST_GOALS p.at p.is in
-      over p.at (IsOver.goal clause g.from (to_contains (clauses_of source) clause (via (clauses_in source) source.file item clause member m)) g.got g.is) p.fault_is)
+    let p = past_at (slice_get (places clause.goals) MOST_GOALS) fault k in
+    let g = got atom_at clause.goals MOST_GOALS p.at p.is in
+    over p.at (IsOver.goal clause g.from (to_contains (clauses_of source) clause (via (clauses_in source) source.file item clause member m)) g.got g.is) p.fault_is)
     (in_parts (flat_map (placed_faults (looks_of source)) (clause_atoms clause)) (past (slice_get (places clause.goals) MOST_GOALS)) fault found)
 
 -- the sizes of a rule
@@ -84,19 +82,19 @@ size_sound : (source : Source) (rule : RuleItem) (fault : Fault) → In (rules_o
 size_sound source rule fault at found =
     ⊎_elim
     (λ k.
-      let p = past_at (slice_get (flat_map (premise_places (looks_of source) false) rule.raw.left) MOST_PREMISES) fault k in
-      let g = got atom_at (linear_of source rule.raw) MOST_PREMISES p.at (ap (λ (ys : List ℕ). slice_get ys MOST_PREMISES) (sym (premise_list (looks_of source) false rule.raw.left)) ∙ p.is) in
-      over p.at (IsOver.premise rule g.from (to_contains (rules_of source) rule at) g.got g.is) p.fault_is)
+    let p = past_at (slice_get (flat_map (premise_places (looks_of source) false) rule.raw.left) MOST_PREMISES) fault k in
+    let g = got atom_at (linear_of source rule.raw) MOST_PREMISES p.at (ap (λ (ys : List ℕ). slice_get ys MOST_PREMISES) (sym (premise_list (looks_of source) false rule.raw.left)) ∙ p.is) in
+    over p.at (IsOver.premise rule g.from (to_contains (rules_of source) rule at) g.got g.is) p.fault_is)
     (λ rest. ⊎_elim
-      (λ k.
-        let p = past_at (slice_get (flat_map (premise_places (looks_of source) true) rule.raw.left) MOST_BACKS) fault k in
-        let g = got atom_at (backward_of source rule.raw) MOST_BACKS p.at (ap (λ (ys : List ℕ). slice_get ys MOST_BACKS) (sym (premise_list (looks_of source) true rule.raw.left)) ∙ p.is) in
-        over p.at (IsOver.back rule g.from (to_contains (rules_of source) rule at) g.got g.is) p.fault_is)
-      (λ k.
-        let p = past_at (slice_get (flat_map atom_places rule.raw.right) MOST_RIGHT) fault k in
-        let g = got atom_at (atoms_of rule.raw.right) MOST_RIGHT p.at (ap (λ (ys : List ℕ). slice_get ys MOST_RIGHT) (sym (atom_list rule.raw.right)) ∙ p.is) in
-        over p.at (IsOver.right rule g.from (to_contains (rules_of source) rule at) g.got g.is) p.fault_is)
-      (in_parts (past (slice_get (flat_map (premise_places (looks_of source) true) rule.raw.left) MOST_BACKS)) (past (slice_get (flat_map atom_places rule.raw.right) MOST_RIGHT)) fault rest))
+    (λ k.
+    let p = past_at (slice_get (flat_map (premise_places (looks_of source) true) rule.raw.left) MOST_BACKS) fault k in
+    let g = got atom_at (backward_of source rule.raw) MOST_BACKS p.at (ap (λ (ys : List ℕ). slice_get ys MOST_BACKS) (sym (premise_list (looks_of source) true rule.raw.left)) ∙ p.is) in
+    over p.at (IsOver.back rule g.from (to_contains (rules_of source) rule at) g.got g.is) p.fault_is)
+    (λ k.
+    let p = past_at (slice_get (flat_map atom_places rule.raw.right) MOST_RIGHT) fault k in
+    let g = got atom_at (atoms_of rule.raw.right) MOST_RIGHT p.at (ap (λ (ys : List ℕ). slice_get ys MOST_RIGHT) (sym (atom_list rule.raw.right)) ∙ p.is) in
+    over p.at (IsOver.right rule g.from (to_contains (rules_of source) rule at) g.got g.is) p.fault_is)
+    (in_parts (past (slice_get (flat_map (premise_places (looks_of source) true) rule.raw.left) MOST_BACKS)) (past (slice_get (flat_map atom_places rule.raw.right) MOST_RIGHT)) fault rest))
     (in_parts (past (slice_get (flat_map (premise_places (looks_of source) false) rule.raw.left) MOST_PREMISES)) _ fault found)
 
 rule_sound : (source : Source) (item : RawItem) (rule : RawRule) (fault : Fault) → In source.file item → In (item_rules item) rule → In (rule_faults (looks_of source) rule) fault → Misnamed source fault
@@ -176,16 +174,16 @@ variables_sound : (source : Source) (item : RawItem) (fault : Fault) → In sour
 variables_sound source item fault member found =
     ⊎_elim
     (λ k.
-      let t = through (λ (rule : RawRule). variable_faults source.text (atoms_of rule.left)) (item_rules item) fault k in
-      let n = numbered source item t.from member t.member in
-      let p = past_at (slice_get (new_in source.text unseen (nodes_of (atoms_of t.from.left))) MOST_VARIABLES) fault t.given in
-      let g = got occurrence_from (variables_of source (atoms_of t.from.left)) MOST_VARIABLES p.at (sym (variable_list source (atoms_of t.from.left)) ∙ p.is) in
-      over p.at (IsOver.rule_variable (record { home = n.home; raw = t.from }) g.from (to_contains (rules_of source) _ n.member) g.got g.is) p.fault_is)
+    let t = through (λ (rule : RawRule). variable_faults source.text (atoms_of rule.left)) (item_rules item) fault k in
+    let n = numbered source item t.from member t.member in
+    let p = past_at (slice_get (new_in source.text unseen (nodes_of (atoms_of t.from.left))) MOST_VARIABLES) fault t.given in
+    let g = got occurrence_from (variables_of source (atoms_of t.from.left)) MOST_VARIABLES p.at (sym (variable_list source (atoms_of t.from.left)) ∙ p.is) in
+    over p.at (IsOver.rule_variable (record { home = n.home; raw = t.from }) g.from (to_contains (rules_of source) _ n.member) g.got g.is) p.fault_is)
     (λ k.
-      let t = through (λ (clause : ClauseItem). variable_faults source.text (clause.head ∷ clause.goals)) (clauses_by (looks_of source) item) fault k in
-      let p = past_at (slice_get (new_in source.text unseen (nodes_of (t.from.head ∷ t.from.goals))) MOST_VARIABLES) fault t.given in
-      let g = got occurrence_from (variables_of source (t.from.head ∷ t.from.goals)) MOST_VARIABLES p.at (sym (variable_list source (t.from.head ∷ t.from.goals)) ∙ p.is) in
-      over p.at (IsOver.clause_variable t.from g.from (to_contains (clauses_of source) t.from (via (clauses_in source) source.file item t.from member (in_same (clauses_in source item) (clauses_by (looks_of source) item) t.from (sym (clauses_by_is source item)) t.member))) g.got g.is) p.fault_is)
+    let t = through (λ (clause : ClauseItem). variable_faults source.text (clause.head ∷ clause.goals)) (clauses_by (looks_of source) item) fault k in
+    let p = past_at (slice_get (new_in source.text unseen (nodes_of (t.from.head ∷ t.from.goals))) MOST_VARIABLES) fault t.given in
+    let g = got occurrence_from (variables_of source (t.from.head ∷ t.from.goals)) MOST_VARIABLES p.at (sym (variable_list source (t.from.head ∷ t.from.goals)) ∙ p.is) in
+    over p.at (IsOver.clause_variable t.from g.from (to_contains (clauses_of source) t.from (via (clauses_in source) source.file item t.from member (in_same (clauses_in source item) (clauses_by (looks_of source) item) t.from (sym (clauses_by_is source item)) t.member))) g.got g.is) p.fault_is)
     (in_parts (flat_map (λ (rule : RawRule). variable_faults source.text (atoms_of rule.left)) (item_rules item)) _ fault found)
 
 -- numbers of declarations
@@ -193,23 +191,23 @@ counts_sound : (source : Source) (fault : Fault) → In (all_count_faults (looks
 counts_sound source fault found =
     ⊎_elim
     (λ k.
-      let p = past_at (slice_get (flat_map (places_in (looks_of source) counted.Predicates) source.file) MOST_PREDS) fault k in
-      let g = got entry_at (names_in source space.Predicates) MOST_PREDS p.at (ap (λ (ys : List ℕ). slice_get ys MOST_PREDS) (sym (preds_at source)) ∙ p.is) in
-      over p.at (IsOver.predicate g.from g.got g.is) p.fault_is)
+    let p = past_at (slice_get (flat_map (places_in (looks_of source) counted.Predicates) source.file) MOST_PREDS) fault k in
+    let g = got entry_at (names_in source space.Predicates) MOST_PREDS p.at (ap (λ (ys : List ℕ). slice_get ys MOST_PREDS) (sym (preds_at source)) ∙ p.is) in
+    over p.at (IsOver.predicate g.from g.got g.is) p.fault_is)
     (λ r. ⊎_elim
     (λ k.
-      let p = past_at (slice_get (flat_map (places_in (looks_of source) counted.Constructors) source.file) MOST_CONS) fault k in
-      let g = got entry_at (names_in source space.Constructors) MOST_CONS p.at (ap (λ (ys : List ℕ). slice_get ys MOST_CONS) (sym (cons_at source)) ∙ p.is) in
-      over p.at (IsOver.constructor g.from g.got g.is) p.fault_is)
+    let p = past_at (slice_get (flat_map (places_in (looks_of source) counted.Constructors) source.file) MOST_CONS) fault k in
+    let g = got entry_at (names_in source space.Constructors) MOST_CONS p.at (ap (λ (ys : List ℕ). slice_get ys MOST_CONS) (sym (cons_at source)) ∙ p.is) in
+    over p.at (IsOver.constructor g.from g.got g.is) p.fault_is)
     (λ r. ⊎_elim
     (λ k.
-      let p = past_at (slice_get (flat_map (places_in (looks_of source) counted.Rules) source.file) MOST_RULES) fault k in
-      let g = got entry_at (names_in source space.Rules) MOST_RULES p.at (ap (λ (ys : List ℕ). slice_get ys MOST_RULES) (sym (rules_at source)) ∙ p.is) in
-      over p.at (IsOver.rule g.from g.got g.is) p.fault_is)
+    let p = past_at (slice_get (flat_map (places_in (looks_of source) counted.Rules) source.file) MOST_RULES) fault k in
+    let g = got entry_at (names_in source space.Rules) MOST_RULES p.at (ap (λ (ys : List ℕ). slice_get ys MOST_RULES) (sym (rules_at source)) ∙ p.is) in
+    over p.at (IsOver.rule g.from g.got g.is) p.fault_is)
     (λ k.
-      let p = past_at (slice_get (flat_map (places_in (looks_of source) counted.Clauses) source.file) MOST_CLAUSES) fault k in
-      let g = got head_at (clauses_of source) MOST_CLAUSES p.at (ap (λ (ys : List ℕ). slice_get ys MOST_CLAUSES) (sym (clauses_at source)) ∙ p.is) in
-      over p.at (IsOver.clause g.from g.got g.is) p.fault_is)
+    let p = past_at (slice_get (flat_map (places_in (looks_of source) counted.Clauses) source.file) MOST_CLAUSES) fault k in
+    let g = got head_at (clauses_of source) MOST_CLAUSES p.at (ap (λ (ys : List ℕ). slice_get ys MOST_CLAUSES) (sym (clauses_at source)) ∙ p.is) in
+    over p.at (IsOver.clause g.from g.got g.is) p.fault_is)
     (in_parts (count_faults (looks_of source) counted.Rules MOST_RULES source.file) _ fault r))
     (in_parts (count_faults (looks_of source) counted.Constructors MOST_CONS source.file) _ fault r))
     (in_parts (count_faults (looks_of source) counted.Predicates MOST_PREDS source.file) _ fault found)
@@ -224,10 +222,10 @@ start_by source trace rest fault false traces e found = absurd (in_nil fault fou
 start_by source trace rest fault true traces e found =
     let large : is_large (size_of (start_atoms source trace.start)) ≡ true = sym (ap is_large (size_same source trace.start) ∙ large_same (size_of (start_atoms source trace.start))) ∙ e in
     over trace.at
-      (⊎_elim (λ k. IsOver.copies trace rest traces (ltb-true MOST_COPIES (length (start_atoms source trace.start)) k) refl)
-        (λ k. IsOver.nodes trace rest traces (ltb-true MOST_STATE_NODES (sum_by nodes_written (start_atoms source trace.start)) k) refl)
-        (or_cases (nat_lt MOST_COPIES (length (start_atoms source trace.start))) (nat_lt MOST_STATE_NODES (sum_by nodes_written (start_atoms source trace.start))) large))
-      (in_one _ fault found)
+    (⊎_elim (λ k. IsOver.copies trace rest traces (ltb-true MOST_COPIES (length (start_atoms source trace.start)) k) refl)
+    (λ k. IsOver.nodes trace rest traces (ltb-true MOST_STATE_NODES (sum_by nodes_written (start_atoms source trace.start)) k) refl)
+    (or_cases (nat_lt MOST_COPIES (length (start_atoms source trace.start))) (nat_lt MOST_STATE_NODES (sum_by nodes_written (start_atoms source trace.start))) large))
+    (in_one _ fault found)
 
 traces_sound : (source : Source) (traces : List TraceItem) (fault : Fault) → traces_of source ≡ traces → In (traces_faults (looks_of source) (context_sizes source) traces) fault → Misnamed source fault
 traces_sound source [] fault e found = no_trace e (in_one _ fault found)

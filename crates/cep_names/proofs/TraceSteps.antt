@@ -1,5 +1,5 @@
 -- Traces, one item after another.
-use Rattle.std.proofs.Common.{◌≡◌, ℕ, ◌+◌, ◌<◌, Bool, true, false, List, [], ◌∷◌, ◌++◌, length, get_or, take, map, Option, None, Some, refl, ap, sym, ◌∙◌, append_assoc}
+use Rattle.std.proofs.Common.{◌≡◌, ℕ, ◌+◌, ◌<◌, Bool, true, false, List, [], ◌∷◌, ◌++◌, length, get_or, take, map, Option, refl, ap, sym, ◌∙◌, append_assoc}
 use Rattle.std.specs.List.{flat_map}
 use Rattle.std.proofs.lemmas.List.{map-append}
 use Rattle.cep_parse.specs.declared.raw.RawItem.{RawItem}
@@ -38,12 +38,11 @@ pub traced_more : (looks : Looks) (sizes : List ℕ → Option Size) (items : Li
     → one ≡ first_in (trace_step looks sizes seen (traces_in item)) → new ≡ first_of old one
     → new ≡ first_in (trace_step looks sizes false (flat_map traces_in (take (i + 1) items)))
 traced_more looks sizes items i item seen old one new h at was was_seen is_one is_new =
-
     is_new ∙ ap (λ o. first_of o one) was
     ∙ ap (first_of (first_in (trace_step looks sizes false (flat_map traces_in (take i items))))) (is_one ∙ ap (λ b. first_in (trace_step looks sizes b (traces_in item))) was_seen)
     ∙ sym (ap (λ traces. first_in (trace_step looks sizes false traces)) (given_more traces_in items i item h at)
-        ∙ ap first_in (steps looks sizes (flat_map traces_in (take i items)) (traces_in item))
-        ∙ first_in_append (trace_step looks sizes false (flat_map traces_in (take i items))) (trace_step looks sizes (after_trace false (flat_map traces_in (take i items))) (traces_in item)))
+    ∙ ap first_in (steps looks sizes (flat_map traces_in (take i items)) (traces_in item))
+    ∙ first_in_append (trace_step looks sizes false (flat_map traces_in (take i items))) (trace_step looks sizes (after_trace false (flat_map traces_in (take i items))) (traces_in item)))
 
 pub seen_more : (items : List RawItem) (i : ℕ) (item : RawItem) (seen new : Bool) → i < length items → item ≡ get_or items i item
     → seen ≡ after_trace false (flat_map traces_in (take i items)) → new ≡ after_trace seen (traces_in item)

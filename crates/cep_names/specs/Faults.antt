@@ -1,5 +1,5 @@
 -- The faults of each part of a file, by what is looked up of its names.
-use Rattle.std.specs.Prelude.{ℕ, ◌+◌, ◌==◌, Bool, true, false, ◌&&◌, if◌then◌else◌, List, [], ◌∷◌, ◌++◌, Option, Some, None, map, filter, length, nat_le, count_by, slice_get}
+use Rattle.std.specs.Prelude.{ℕ, ◌==◌, Bool, true, false, ◌&&◌, if◌then◌else◌, List, [], ◌∷◌, ◌++◌, Option, Some, None, map, nat_le, count_by, slice_get}
 use Rattle.std.specs.List.{flat_map}
 use Rattle.std.specs.Str.Parse.{digits_value}
 use Rattle.cep_parse.specs.declared.raw.Span.{Span}
@@ -19,8 +19,8 @@ use Rattle.cep_names.specs.declared.reason.Reason.TheVariants.{Unknown, WrongKin
 use Rattle.cep_names.specs.declared.space.Space.TheVariants as space
 use Rattle.cep_names.specs.declared.space.Role.{Role}
 use Rattle.cep_names.specs.declared.space.Role.TheVariants as role
-use Rattle.cep_names.specs.Items.{PredItem, ConItem, ClauseItem, TraceItem, preds_in, traces_in}
-use Rattle.cep_names.specs.Uses.{Placed, Use, placed, node_uses, con_uses, own_uses, rule_atoms, start_listed, clause_atoms, atoms_of}
+use Rattle.cep_names.specs.Items.{ConItem, ClauseItem, TraceItem, preds_in, traces_in}
+use Rattle.cep_names.specs.Uses.{Placed, Use, placed, node_uses, con_uses, own_uses, rule_atoms, start_listed, clause_atoms}
 use Rattle.cep_names.specs.Filling.{item_rules}
 use Rattle.cep_names.specs.Misnamed.{wrong, is_declared, is_qui, is_stage}
 use Rattle.cep_names.specs.Looks.{Looks, says, is_anywhere, names_context, cons_by, clauses_by}

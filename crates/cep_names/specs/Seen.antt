@@ -1,5 +1,5 @@
 -- The variables that were met so far, node by node.
-use Rattle.std.specs.Prelude.{ℕ, ◌+◌, Bool, true, false, if◌then◌else◌, List, [], ◌∷◌, ◌++◌, fold, codes, decimal}
+use Rattle.std.specs.Prelude.{ℕ, ◌+◌, if◌then◌else◌, List, [], ◌∷◌, ◌++◌, codes, decimal}
 use Rattle.cep_parse.specs.declared.raw.Span.{Span}
 use Rattle.cep_parse.specs.declared.raw.RawKind.{RawKind}
 use Rattle.cep_parse.specs.declared.raw.RawKind.TheVariants as kind

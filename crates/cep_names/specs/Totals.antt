@@ -1,12 +1,10 @@
 -- The faults of a whole file: of its numbers of declarations, of the variables of its rules and clauses, of the sizes of its atoms, and of its traces.
-use Rattle.std.specs.Prelude.{ℕ, ◌+◌, Bool, true, false, ◌||◌, ◌&&◌, if◌then◌else◌, List, [], ◌∷◌, ◌++◌, Option, Some, None, map, length, ◌^◌, ◌-◌, min, nat_lt, nat_le, sum_by, slice_get}
+use Rattle.std.specs.Prelude.{ℕ, Bool, true, false, ◌||◌, ◌&&◌, if◌then◌else◌, List, [], ◌∷◌, ◌++◌, Option, Some, None, map, length, ◌^◌, ◌-◌, min, nat_lt, nat_le, sum_by, slice_get}
 use Rattle.std.specs.List.{flat_map, find}
 use Rattle.std.specs.Map.{lookup}
 use Rattle.std.specs.Option.{option_map}
 use Rattle.std.specs.Str.{bytes_eq}
-use Rattle.cep_parse.specs.declared.raw.Span.{Span}
 use Rattle.cep_parse.specs.declared.raw.RawAtom.{RawAtom}
-use Rattle.cep_parse.specs.declared.raw.RawRule.{RawRule}
 use Rattle.cep_parse.specs.declared.raw.RawStart.{RawStart}
 use Rattle.cep_parse.specs.declared.raw.RawStart.TheVariants as start
 use Rattle.cep_parse.specs.declared.raw.RawItem.{RawItem}
@@ -19,7 +17,7 @@ use Rattle.cep_names.specs.declared.space.Role.TheVariants as role
 use Rattle.cep_names.specs.declared.counts.Counted.{Counted}
 use Rattle.cep_names.specs.declared.counts.Counted.TheVariants as counted
 use Rattle.cep_names.specs.declared.sizes.Size.{Size}
-use Rattle.cep_names.specs.Items.{ClauseItem, ContextItem, TraceItem, preds_in, contexts_in, traces_in}
+use Rattle.cep_names.specs.Items.{ContextItem, TraceItem, preds_in, contexts_in, traces_in}
 use Rattle.cep_names.specs.Filling.{item_rules}
 use Rattle.cep_names.specs.Misnamed.{wrong}
 use Rattle.cep_names.specs.Variables.{nodes_of}

@@ -162,7 +162,6 @@ pub(crate) fn atoms_fault(
     first
 }
 
-
 fn elem_fault(names: &Names, text: &[u8], role: Role, elem: &RawElem) -> Option<Fault>
     ensures { result ≡ first_in (flat_map (placed_faults (looks_in text.now names.now)) (map (placed role) (atoms_in elem.now))) }
 {
@@ -173,12 +172,7 @@ fn elem_fault(names: &Names, text: &[u8], role: Role, elem: &RawElem) -> Option<
 }
 
 // The first fault of the atoms of a rule's side.
-pub(crate) fn side_fault(
-    names: &Names,
-    text: &[u8],
-    role: Role,
-    side: &[RawElem],
-) -> Option<Fault>
+pub(crate) fn side_fault(names: &Names, text: &[u8], role: Role, side: &[RawElem]) -> Option<Fault>
     ensures { result ≡ first_in (flat_map (placed_faults (looks_in text.now names.now)) (map (placed role) (atoms_of side.now))) }
 {
     let mut first = None;

@@ -44,11 +44,7 @@ fn other_fault(
 /// use of a name that goes nowhere or to another kind of thing, a wrong number of arguments, an
 /// atom that may not stand where it does, a missing or a second `#trace`, or more of something
 /// than may be. The rules are Ceptre's, and the limits and the order of faults this profile's.
-pub fn named(
-    alloc: Global,
-    text: &[u8],
-    file: &RawFile,
-) -> Result<Result<Names, Fault>, AllocError>
+pub fn named(alloc: Global, text: &[u8], file: &RawFile) -> Result<Result<Names, Fault>, AllocError>
     requires { length text.now ≤ MOST_BYTES }
     ensures { IfOk result (λ answer. IsNamed (record { text = text.now; file = file.now }) answer) }
 {

@@ -56,13 +56,7 @@ fn place(names: &Names, text: &[u8], counted: Counted, item: &RawItem) -> Option
 }
 
 // The place of the n-th of what an item declares, from 0.
-fn nth_place(
-    names: &Names,
-    text: &[u8],
-    counted: Counted,
-    item: &RawItem,
-    n: usize,
-) -> Option<u32>
+fn nth_place(names: &Names, text: &[u8], counted: Counted, item: &RawItem, n: usize) -> Option<u32>
     ensures { result ≡ slice_get (places_in (looks_in text.now names.now) counted item.now) n }
 {
     match counted {

@@ -127,10 +127,7 @@ fn listed_atoms(item: &RawItem) -> &[RawAtom]
 }
 
 // The first atom of a state that may not be kept there.
-pub(crate) fn fitness_fault(
-    alloc: Global,
-    items: &[RawItem],
-) -> Result<Option<Fault>, AllocError>
+pub(crate) fn fitness_fault(alloc: Global, items: &[RawItem]) -> Result<Option<Fault>, AllocError>
     ensures { IfOk result (λ first. first ≡ first_in (flat_map item_unfit_faults items.now)) }
 {
     let mut first = None;

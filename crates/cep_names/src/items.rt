@@ -12,7 +12,9 @@ use crate::atoms::atoms_fault;
 use crate::fault::Fault;
 use crate::names::Names;
 use crate::reason::Reason;
-use crate::rules::{bare_fault, clause_fault, past, qui_fault, rule_fault, rules_fault, stages_fault};
+use crate::rules::{
+    bare_fault, clause_fault, past, qui_fault, rule_fault, rules_fault, stages_fault,
+};
 use crate::space::{Role, Space};
 use crate::text::said;
 use crate::uses::{sorts_fault, use_fault};
@@ -49,13 +51,7 @@ fn pred_fault(names: &Names, text: &[u8], name: Span, args: &Spans, back: bool) 
 }
 
 // The first fault of `x a : y.`, but for its number among others.
-fn colon_fault(
-    names: &Names,
-    text: &[u8],
-    left: Span,
-    args: &Spans,
-    right: Span,
-) -> Option<Fault>
+fn colon_fault(names: &Names, text: &[u8], left: Span, args: &Spans, right: Span) -> Option<Fault>
     ensures { result ≡ first_in (item_faults (looks_in text.now names.now) (RawItem.Colon left args.now right)) }
 {
     if names.is_labelled(text, args, right) {

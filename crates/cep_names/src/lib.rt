@@ -2,14 +2,13 @@
 //! wrong with its names.
 #![tactic(auto)]
 
-mod anchor_;
 mod atoms;
+mod checking;
 mod counts;
 mod entries;
 mod fault;
 mod fitness;
 mod items;
-mod checking;
 mod names;
 mod reason;
 mod rules;
@@ -21,13 +20,15 @@ mod traces;
 mod uses;
 mod variables;
 
+pub use checking::named;
 pub use entries::Tabled;
 pub use fault::Fault;
-pub use checking::named;
 pub use names::Names;
 pub use reason::Reason;
 pub use space::{Role, Space};
 pub use text::said;
 
+#[cfg(test)]
+mod refusals;
 #[cfg(test)]
 mod tests;

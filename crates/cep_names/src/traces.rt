@@ -15,7 +15,13 @@ use cep_parse::{RawItem, RawStart};
 use cep_rule::{MOST_COPIES, MOST_STATE_NODES};
 
 // The fault of a start state that is too large.
-fn start_fault(names: &Names, text: &[u8], sizes: &Sizes, at: u32, start: &RawStart) -> Option<Fault>
+fn start_fault(
+    names: &Names,
+    text: &[u8],
+    sizes: &Sizes,
+    at: u32,
+    start: &RawStart,
+) -> Option<Fault>
     ensures { result ≡ first_in (start_faults (looks_in text.now names.now) (size_under sizes.now) at start.now) }
 {
     let size = sizes.of_start(names, text, start);

@@ -7,11 +7,10 @@ ghost use Rattle.cep_names.specs.Uses.{use_in};
 ghost use Rattle.cep_names.specs.Faults.{lack_faults, arity_faults, use_faults, node_faults};
 
 use crate::fault::Fault;
-
 use crate::names::Names;
 use crate::reason::Reason;
-use crate::text::said;
 use crate::space::Space;
+use crate::text::said;
 use cep_parse::{RawKind, RawNode, Span};
 
 // Whether some space has the name.

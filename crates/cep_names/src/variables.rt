@@ -69,12 +69,7 @@ impl Seen {
     }
 
     // Meets a node, and answers whether it is a new variable.
-    fn meet_node(
-        &mut self,
-        alloc: Global,
-        text: &[u8],
-        node: &RawNode,
-    ) -> Result<bool, AllocError>
+    fn meet_node(&mut self, alloc: Global, text: &[u8], node: &RawNode) -> Result<bool, AllocError>
         requires { self.old.count ≤ MOST_VARIABLES }
         ensures new { IfOk result (λ new. (if new then node.now.at.from ∷ [] else []) ≡ new_kind text.now self.old node.now.at node.now.kind) }
         ensures met { OnOk result (self.new ≡ met_kind text.now self.old node.now.at node.now.kind) }
@@ -167,11 +162,7 @@ fn rule_fault(alloc: Global, text: &[u8], rule: &RawRule) -> Result<Option<Fault
     Ok(past(at))
 }
 
-fn rules_fault(
-    alloc: Global,
-    text: &[u8],
-    rules: &[RawRule],
-) -> Result<Option<Fault>, AllocError>
+fn rules_fault(alloc: Global, text: &[u8], rules: &[RawRule]) -> Result<Option<Fault>, AllocError>
     ensures { IfOk result (λ first. first ≡ first_in (flat_map (λ rule. variable_faults text.now (atoms_of rule.left)) rules.now)) }
 {
     let mut first = None;

@@ -1,4 +1,4 @@
-use Rattle.std.proofs.Common.{◌≡◌, ◌+◌, ◌≤◌, sym, ◌∙◌, refl, arith}
+use Rattle.std.proofs.Common.{◌+◌, ◌≤◌, sym, ◌∙◌, arith}
 use Rattle.cep_names.specs.Looks.{looks_in}
 use Rattle.cep_names.specs.Totals.{places_in}
 use Rattle.cep_names.proofs.Nths.{past_within, past_none, counted_more, counted_few}
@@ -12,7 +12,7 @@ returns-in-Some c =
 pub overflow_add-before : goal.overflow_add-before
 overflow_add-before c =
     let h : c.loop-item.before + c.places-before.result ≤ c.args.most =
-      counted_few (places_in (looks_in c.args.text.now c.args.names.now) c.args.counted c.item-item.result) c.loop-item.before c.args.most c.places-before.result c.loop-item.invariant.few (sym c.nth_place.ensures ∙ c.in_default.is) c.places-before.ensures in
+    counted_few (places_in (looks_in c.args.text.now c.args.names.now) c.args.counted c.item-item.result) c.loop-item.before c.args.most c.places-before.result c.loop-item.invariant.few (sym c.nth_place.ensures ∙ c.in_default.is) c.places-before.ensures in
     omega (arith, c.ranges.most.fits)
 
 pub loop-item-preserved : goal.loop-item-preserved

@@ -6,5 +6,5 @@ use Rattle.cep_names.proofs.FirstLoops.{first_more}
 use Rattle.cep_names.proofs.fitness.fitness_fault.Goals as goal
 
 pub loop-item-preserved : goal.loop-item-preserved
-loop-item-preserved c = 
+loop-item-preserved c =
     first_more item_unfit_faults c.args.items.now c.loop-item.item-index c.item-item.result _ _ _ c.loop-item-test.true c.item-item.is c.loop-item.invariant (c.in_ok-atoms_fault.ensures ∙ ap (λ atoms. first_in (flat_map unfit_faults atoms)) c.listed_atoms.ensures) c.first_of-first.ensures

@@ -1,4 +1,4 @@
-use Rattle.std.proofs.Common.{◌≡◌, ◌+◌, length, refl, arith}
+use Rattle.std.proofs.Common.{refl, arith}
 use Rattle.cep_names.proofs.Pending.{next_again, next_other}
 use Rattle.cep_names.proofs.fitness.next_level.Goals as goal
 

@@ -1,4 +1,4 @@
-use Rattle.std.proofs.Common.{◌≡◌, ℕ, ◌+◌, take, min}
+use Rattle.std.proofs.Common.{◌≡◌, take, min}
 use Rattle.std.specs.Str.Parse.{digits_value}
 use Rattle.cep_names.proofs.items.is_turn_limit.Given as goal
 

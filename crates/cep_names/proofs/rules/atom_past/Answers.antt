@@ -1,5 +1,5 @@
 use Rattle.cep_names.specs.Faults.{atom_places}
-use Rattle.std.proofs.Common.{sym, refl}
+use Rattle.std.proofs.Common.{sym}
 use Rattle.cep_names.proofs.Nths.{past_found, past_none}
 use Rattle.cep_names.proofs.rules.atom_past.Goals as goal
 

@@ -1,6 +1,6 @@
 use Rattle.cep_names.specs.Looks.{looks_in}
 use Rattle.cep_names.specs.Faults.{premise_places}
-use Rattle.std.proofs.Common.{sym, refl}
+use Rattle.std.proofs.Common.{sym}
 use Rattle.cep_names.proofs.Nths.{past_found, past_none}
 use Rattle.cep_names.proofs.rules.premise_past.Goals as goal
 

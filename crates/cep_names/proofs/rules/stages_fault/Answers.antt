@@ -5,5 +5,5 @@ use Rattle.cep_names.proofs.FirstLoops.{first_flat}
 use Rattle.cep_names.proofs.rules.stages_fault.Goals as goal
 
 pub loop-elem-preserved : goal.loop-elem-preserved
-loop-elem-preserved c = 
+loop-elem-preserved c =
     first_flat (use_faults (looks_in c.args.text.now c.args.names.now)) elem_uses c.args.side.now c.loop-elem.elem-index _ _ _ _ c.loop-elem-test.true c.elem-item.is c.loop-elem.invariant c.elem_fault.ensures c.first_of-first.ensures

@@ -6,5 +6,5 @@ use Rattle.cep_names.proofs.FirstLoops.{first_more_map}
 use Rattle.cep_names.proofs.uses.sorts_fault.Goals as goal
 
 pub loop-sort-preserved : goal.loop-sort-preserved
-loop-sort-preserved c = 
+loop-sort-preserved c =
     first_more_map (use_faults (looks_in c.args.text.now c.args.names.now)) (use_in space.Sorts) c.args.sorts.now c.loop-sort.sort-index _ _ _ _ c.loop-sort-test.true c.loop-sort.invariant c.use_fault.ensures c.first_of-first.ensures

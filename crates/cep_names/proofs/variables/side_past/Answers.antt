@@ -1,4 +1,4 @@
-use Rattle.std.proofs.Common.{ℕ, List, sym, ap, ◌∙◌, ◌-◌, Ok, lit≤}
+use Rattle.std.proofs.Common.{List, sym, ap, ◌∙◌, ◌-◌, Ok, lit≤}
 use Rattle.std.specs.List.{slice_get}
 use Rattle.cep_parse.specs.declared.raw.RawNode.{RawNode}
 use Rattle.cep_parse.specs.declared.raw.RawElem.{RawElem}
@@ -20,7 +20,7 @@ returns-in-Some c =
 pub loop-elem-preserved : goal.loop-elem-preserved
 loop-elem-preserved c = record {
   met = parts_more c.args.text.now unseen c.loop-elem.seen c.meet_nodes.new.self nodes c.args.side.now c.loop-elem.elem-index c.elem-item.result c.loop-elem-test.true c.elem-item.is c.loop-elem.invariant.met
-    (c.in_ok-at.ensures.met (ap Ok c.in_default.is) ∙ ap (λ (ns : List RawNode). met_all c.args.text.now c.loop-elem.seen ns) c.nodes_in.ensures);
+      (c.in_ok-at.ensures.met (ap Ok c.in_default.is) ∙ ap (λ (ns : List RawNode). met_all c.args.text.now c.loop-elem.seen ns) c.nodes_in.ensures);
   few = c.in_ok-at.ensures.few (ap Ok c.in_default.is);
 }
 

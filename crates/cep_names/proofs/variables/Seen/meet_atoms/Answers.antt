@@ -1,4 +1,4 @@
-use Rattle.std.proofs.Common.{ℕ, List, sym, ap, ◌∙◌, ◌-◌, Ok}
+use Rattle.std.proofs.Common.{List, sym, ap, ◌∙◌, ◌-◌, Ok}
 use Rattle.std.specs.List.{slice_get}
 use Rattle.cep_parse.specs.declared.raw.RawNode.{RawNode}
 use Rattle.cep_parse.specs.declared.raw.RawAtom.{RawAtom}
@@ -18,7 +18,7 @@ returns-in-Some-clause-past c =
 pub loop-atom-preserved : goal.loop-atom-preserved
 loop-atom-preserved c = record {
   met = parts_more c.args.text.now c.args.self.now c.loop-atom.self c.meet_nodes.new.self nodes c.args.atoms.now c.loop-atom.atom-index c.atom-item.result c.loop-atom-test.true c.atom-item.is c.loop-atom.invariant.met
-    (c.in_ok-at.ensures.met (ap Ok c.in_default.is) ∙ ap (λ (ns : List RawNode). met_all c.args.text.now c.loop-atom.self ns) c.as_slice.ensures);
+      (c.in_ok-at.ensures.met (ap Ok c.in_default.is) ∙ ap (λ (ns : List RawNode). met_all c.args.text.now c.loop-atom.self ns) c.as_slice.ensures);
   few = c.in_ok-at.ensures.few (ap Ok c.in_default.is);
 }
 

@@ -1,4 +1,3 @@
-use Rattle.std.proofs.Common.{sym, arith}
 use Rattle.cep_names.proofs.SeenLaws.{met_more, few_kept, found, found_none}
 use Rattle.cep_names.proofs.variables.Seen.meet_nodes.Goals as goal
 
