@@ -87,7 +87,6 @@ module _ (tokens : List Token) where
       (both_all IsWell (own_atoms item_) _ (own_placed item_ all.0) (clause_placed source item_ all.0))
       (items_placed source items all.1)
 
-
 -- each atom of the file is made of tokens
 pub atom_made : MadeOfTokens → (source : Source) (is : IsSource source) (p : Placed) → Contains (placed_of source) p → IsAtomOf is.tokens p.atom
 atom_made law source is p there = all_at (IsWell is.tokens) (placed_of source) p (items_placed is.tokens source source.file (law source.text is.tokens source.file is.parsed)) there

@@ -40,9 +40,10 @@ pred_by source pred = record { name = said source pred.name; back = pred.back; a
 -- what is declared of terms and atoms
 abbrev pub signature_of : Source → Signature
 signature_of source = record {
-    sorts = map (said source) (sorts_of source);
-    cons = map (con_by source) (cons_of source);
-    preds = map (pred_by source) (preds_of source) }
+  sorts = map (said source) (sorts_of source);
+  cons = map (con_by source) (cons_of source);
+  preds = map (pred_by source) (preds_of source);
+}
 
 -- a stage: interactive where the text says so of its name
 abbrev pub stage_by : Source → Span → Stage

@@ -2,8 +2,28 @@
 //! each term is of the type that is wanted of it, and what is wrong is told at its place.
 #![tactic(auto)]
 
+mod atoms;
+mod clashes;
+mod clauses;
+mod declarations;
 mod draft;
+mod firsts;
 pub mod laws;
+mod left;
+mod listing;
+mod pending;
+mod places;
+mod resolving;
+mod rules;
+mod signature;
+mod sites;
+mod start;
+mod terms;
+mod variables;
 
 pub use cep_names::Reason;
 pub use draft::{Draft, PlaceLists, Places, Refusal};
+pub use resolving::resolve;
+
+#[cfg(test)]
+mod tests;
