@@ -140,9 +140,9 @@ module _ (source : Source) where
       ap (λ ns. firsts_beside [] (occurrences_from source 0 ns)) (flat_map-append (λ (atom : RawAtom). atom.nodes) left right)
       ∙ ap (firsts_beside []) (occurrences_both source 0 (nodes_of left) (nodes_of right))
       ∙ firsts_append [] left_occurrences right_occurrences
-        (λ o there.
-            let left_out = none_pass (λ (o : Occurrence). not (list_any (λ name. bytes_eq name o.name) (names_of source left))) right_occurrences o bound there in
-            inr (any_is (names_of source left) o.name (not_false (list_any (λ name. bytes_eq name o.name) (names_of source left)) left_out)))
+      (λ o there.
+      let left_out = none_pass (λ (o : Occurrence). not (list_any (λ name. bytes_eq name o.name) (names_of source left))) right_occurrences o bound there in
+      inr (any_is (names_of source left) o.name (not_false (list_any (λ name. bytes_eq name o.name) (names_of source left)) left_out)))
 
   variable_there : (atoms : List RawAtom) (v : ℕ) → v < length (names_of source atoms) → IsFound (slice_get (variables_of source atoms) v)
   variable_there atoms v within = there (variables_of source atoms) v (let e = length-map (variables_of source atoms) (λ (o : Occurrence). o.name) in omega (arith, e, within))

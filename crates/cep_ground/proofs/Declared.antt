@@ -142,10 +142,14 @@ module _ (source : Source) (clean : IsClean source) (made : AtomsMade source) wh
       let right = has_atoms source vars (blanks_after 0 (nodes_of (atoms_of item.raw.left))) (atoms_of item.raw.right) (λ raw inside. (right_here source clean made item there raw inside).filled) in
       record {
         rule = record {
-          name = name; group = group_of source item.home item.raw.left; vars = vars; kinds = kinds_of source (rule_scope item);
+          name = name;
+          group = group_of source item.home item.raw.left;
+          vars = vars;
+          kinds = kinds_of source (rule_scope item);
           premises = filter (λ (p : PremiseTree). not (is_back source p.atom)) left.list;
           backs = map (λ (p : PremiseTree). p.atom) (filter (λ (p : PremiseTree). is_back source p.atom) left.list);
-          right = right.list; next = next_of source item.home item.raw.right;
+          right = right.list;
+          next = next_of source item.home item.raw.right;
         };
         by = record { name_is = refl; group_is = refl; next_is = refl; vars_are = refl; kinds_are = refl; left = left.list; left_is = left.by; premises_are = refl; backs_are = refl; right_is = right.by };
       }
@@ -185,21 +189,30 @@ module _ (source : Source) (clean : IsClean source) (made : AtomsMade source) wh
       let start = has_atoms source [] 0 (start_atoms source trace.start) (λ raw inside. let listed = start_listed_all source trace raw there inside in (atom_of_tokens source clean made listed.role raw listed.there).filled) in
       let names = map (λ (n : Named). n.name) (names_in source space.Rules) in
       let rules = has_rules names (rules_of source) (length-map (names_in source space.Rules) (λ (n : Named). n.name) ∙ names_from source 0 (rules_of source)) (λ item inside. inside) in
-      let clauses = has_clauses (clauses_of source) (λ item inside. inside) in
-      (record {
-        signature = signature_of source;
-        stages = map (stage_by source) (stages_of source);
-        rules = rules.rules;
-        clauses = clauses.clauses;
-        start_stage = number_of source space.Stages (said source trace.stage);
-        start = gathered start.list;
-        turns = option_map (number_said source) trace.limit;
-      },
-      record {
-        signature_is = refl; stages_are = refl; rules_are = rules.by; clauses_are = clauses.by; trace = trace; rest = rest; first = is; start_stage_is = refl;
-        start_is = record { atoms = start.list; atoms_are = start.by; start_is = refl };
-        turns_are = refl;
-      })
+      let clauses = has_clauses (clauses_of source) (λ item inside. inside) in (
+        record {
+          signature = signature_of source;
+          stages = map (stage_by source) (stages_of source);
+          rules = rules.rules;
+          clauses = clauses.clauses;
+          start_stage = number_of source space.Stages (said source trace.stage);
+          start = gathered start.list;
+          turns = option_map (number_said source) trace.limit;
+        },
+        record {
+          signature_is = refl;
+          stages_are = refl;
+          rules_are = rules.by;
+          clauses_are = clauses.by;
+          trace = trace;
+          rest = rest;
+          first = is;
+          start_stage_is = refl;
+          start_is = record { atoms = start.list; atoms_are = start.by; start_is = refl };
+          turns_are = refl;
+        },
+      )
+
   -- what a text in order declares
   pub declared : (parts : Parts) × AreParts source parts
   declared = parts_from (traces_of source) refl

@@ -21,17 +21,19 @@ contains_middle (first ∷ before) x mid = contains_behind first.name _ x.name (
 
 apart : (before : List Named) (x : Named) (mid xs : List Named) → IsOnce (before ++ x ∷ (mid ++ xs)) → AllByRecursion (λ other. x.name ≢ other) (map (λ entry. entry.name) xs)
 apart before x mid [] once = tt
-apart before x mid (y ∷ ys) once =
-    ((λ (same : x.name ≡ y.name).
-        once (before ++ x ∷ mid) ys y (sym (append_assoc before (x ∷ mid) (y ∷ ys)))
-        (subst (λ name. Contains (map (λ other. other.name) (before ++ x ∷ mid)) name) same (contains_middle before x mid))),
-    apart before x (mid ++ y ∷ []) ys (subst (λ tail. IsOnce (before ++ x ∷ tail)) (sym (append_assoc mid (y ∷ []) ys)) once))
+apart before x mid (y ∷ ys) once = (
+  (λ (same : x.name ≡ y.name).
+      once (before ++ x ∷ mid) ys y (sym (append_assoc before (x ∷ mid) (y ∷ ys)))
+      (subst (λ name. Contains (map (λ other. other.name) (before ++ x ∷ mid)) name) same (contains_middle before x mid))),
+  apart before x (mid ++ y ∷ []) ys (subst (λ tail. IsOnce (before ++ x ∷ tail)) (sym (append_assoc mid (y ∷ []) ys)) once),
+)
 
 all_differ : (before items : List Named) → IsOnce (before ++ items) → AllDiffer (map (λ entry. entry.name) items)
 all_differ before [] once = tt
-all_differ before (x ∷ items) once =
-    (apart before x [] items once,
-    all_differ (before ++ x ∷ []) items (subst IsOnce (sym (append_assoc before (x ∷ []) items)) once))
+all_differ before (x ∷ items) once = (
+  apart before x [] items once,
+  all_differ (before ++ x ∷ []) items (subst IsOnce (sym (append_assoc before (x ∷ []) items)) once),
+)
 
 -- the names of a space of a text in which none is declared again
 pub names_differ : (source : Source) → ((fault : Fault) → ¬ (Misnamed source fault)) → (space : Space) → AllDiffer (map (λ entry. entry.name) (names_in source space))

@@ -60,6 +60,7 @@ one_place one other no_ no' = by_line (lines one.line other.line)
     by_col h (below g) = absurd (no_ (inr (h, g)))
     by_col h (level g) = same_pos one other h g
     by_col h (above g) = absurd (no' (inr (sym h, g)))
+
     by_line : Lines one.line other.line → one ≡ other
     by_line (below h) = absurd (no_ (inl h))
     by_line (above h) = absurd (no' (inl h))
@@ -75,13 +76,15 @@ not_both one other before after =
 
 pub earlier_other : (pos next : Pos) → StandsBefore next pos → (xs ys : List Pos) → IsEarliest xs (Some pos) → IsEarliest ys (Some next) → IsEarliest (xs ++ ys) (Some next)
 earlier_other pos next before xs ys one other = (
-    contains_right xs ys next other.0,
-    λ q there. ⊎_elim (λ left. chain next pos q (not_both next pos before) (one.1 q left)) (λ right. other.1 q right) (contains_either xs ys q there))
+  contains_right xs ys next other.0,
+  λ q there. ⊎_elim (λ left. chain next pos q (not_both next pos before) (one.1 q left)) (λ right. other.1 q right) (contains_either xs ys q there),
+)
 
 pub earlier_one : (pos next : Pos) → ¬ (StandsBefore next pos) → (xs ys : List Pos) → IsEarliest xs (Some pos) → IsEarliest ys (Some next) → IsEarliest (xs ++ ys) (Some pos)
 earlier_one pos next later xs ys one other = (
-    contains_left xs ys pos one.0,
-    λ q there. ⊎_elim (λ left. one.1 q left) (λ right. chain pos next q later (other.1 q right)) (contains_either xs ys q there))
+  contains_left xs ys pos one.0,
+  λ q there. ⊎_elim (λ left. one.1 q left) (λ right. chain pos next q later (other.1 q right)) (contains_either xs ys q there),
+)
 
 pub one_alone : (answer : Option Pos) (xs ys : List Pos) → IsEarliest xs answer → ys ≡ [] → IsEarliest (xs ++ ys) answer
 one_alone answer xs ys one none = subst (λ zs. IsEarliest zs answer) (sym (ap (λ zs. xs ++ zs) none ∙ append-nil xs)) one

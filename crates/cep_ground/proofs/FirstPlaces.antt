@@ -29,13 +29,13 @@ append_by : (b : Bool) (seen : List (List ℕ)) (x : Occurrence) (xs ys : List O
 append_by true seen x xs ys all old new = old all
 append_by false seen x xs ys all old new =
     ap (λ os. x ∷ os) (new (λ y there.
-        ⊎_elim
-        (λ seen_. inl (contains_behind x.name seen y.name seen_))
-        (λ first. ⊎_elim
-            (λ (same : x.name ≡ y.name). inl (subst (Contains (x.name ∷ seen)) same (contains_first x.name seen)))
-            (λ later. inr later)
-            (contains_cases x.name (names_among (firsts_beside (x.name ∷ seen) xs)) y.name first))
-        (all y there)))
+    ⊎_elim
+    (λ seen_. inl (contains_behind x.name seen y.name seen_))
+    (λ first. ⊎_elim
+    (λ (same : x.name ≡ y.name). inl (subst (Contains (x.name ∷ seen)) same (contains_first x.name seen)))
+    (λ later. inr later)
+    (contains_cases x.name (names_among (firsts_beside (x.name ∷ seen) xs)) y.name first))
+    (all y there)))
 
 -- where all further names occur before, the first occurrences stay
 pub firsts_append : (seen : List (List ℕ)) (xs ys : List Occurrence) → ((y : Occurrence) → Contains ys y → Contains seen y.name ⊎ Contains (names_among (firsts_beside seen xs)) y.name) → firsts_beside seen (xs ++ ys) ≡ firsts_beside seen xs

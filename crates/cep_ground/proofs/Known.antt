@@ -66,7 +66,7 @@ pred_in_item : (item_ : RawItem) (pred : PredItem) (span : Span) → Contains (p
 pred_in_item (item.Pred name args back) pred span there inside =
     ⊎_elim
     (λ (same : record { name = name; args = args; back = back } ≡ pred).
-        contains_map (use_in space.Sorts) args span (subst (λ (one : PredItem). Contains one.args span) (sym same) inside))
+    contains_map (use_in space.Sorts) args span (subst (λ (one : PredItem). Contains one.args span) (sym same) inside))
     (λ later. absurd (contains_none pred later))
     (contains_cases (record { name = name; args = args; back = back }) [] pred there)
 pred_in_item (item.Sort name) pred span there inside = absurd (contains_none pred there)
@@ -139,7 +139,7 @@ pub con_known : (source : Source) (p : Placed) (at : Span) (args : ℕ) → AreN
 con_known source p at args clean there inside =
     let use_ : Use = record { space = space.Constructors; name = at; args = args } in
     let used = placed_uses source p use_ there
-        (contains_right (pred_uses source p) _ use_ (contains_flat node_uses p.atom.nodes (record { at = at; kind = kind.App; args = args }) use_ inside (contains_first use_ []))) in
+    (contains_right (pred_uses source p) _ use_ (contains_flat node_uses p.atom.nodes (record { at = at; kind = kind.App; args = args }) use_ inside (contains_first use_ []))) in
     let found = any_found (λ (con : ConItem). named source con.name) (λ other. bytes_eq other.name (said source at)) (cons_of source) (known source use_ clean used) in
     record {
       con = found.it;

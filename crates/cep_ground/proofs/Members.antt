@@ -58,9 +58,9 @@ module _ {X : Type 0} where
       ⊎_elim
       (λ here. inl (contains_same first xs x here))
       (λ later. ⊎_elim
-          (λ (left : Contains xs x). inl (contains_behind first xs x left))
-          (λ right. inr right)
-          (contains_either xs ys x later))
+      (λ (left : Contains xs x). inl (contains_behind first xs x left))
+      (λ right. inr right)
+      (contains_either xs ys x later))
       (contains_cases first (xs ++ ys) x there)
 
   -- what stands at a place is an element

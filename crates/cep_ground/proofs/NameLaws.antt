@@ -59,15 +59,28 @@ apart one other same yes_ no_ = let e : true ≡ false = sym yes_ ∙ ap has_sla
 pub qui_name : (k : ℕ) → k + 1 < 2 ^ 63 → IsName (codes "qui/" ++ decimal (k + 1))
 qui_name k few = record {
   word = (refl, (refl, (refl, (refl, digits_go_on (decimal (k + 1)) (decimal_is_IsNumeral (k + 1) (omega arith)).0.1))));
-  free =
-    ((λ e. apart (codes "qui/" ++ decimal (k + 1)) (codes "type") e refl refl),
-    ((λ e. apart (codes "qui/" ++ decimal (k + 1)) (codes "pred") e refl refl),
-    ((λ e. apart (codes "qui/" ++ decimal (k + 1)) (codes "bwd") e refl refl),
-    ((λ e. apart (codes "qui/" ++ decimal (k + 1)) (codes "fact") e refl refl),
-    ((λ e. apart (codes "qui/" ++ decimal (k + 1)) (codes "stage") e refl refl),
-    ((λ e. apart (codes "qui/" ++ decimal (k + 1)) (codes "context") e refl refl),
-    ((λ e. apart (codes "qui/" ++ decimal (k + 1)) (codes "qui") e refl refl),
-    tt)))))));
+  free = (
+    (λ e. apart (codes "qui/" ++ decimal (k + 1)) (codes "type") e refl refl),
+    (
+      (λ e. apart (codes "qui/" ++ decimal (k + 1)) (codes "pred") e refl refl),
+      (
+        (λ e. apart (codes "qui/" ++ decimal (k + 1)) (codes "bwd") e refl refl),
+        (
+          (λ e. apart (codes "qui/" ++ decimal (k + 1)) (codes "fact") e refl refl),
+          (
+            (λ e. apart (codes "qui/" ++ decimal (k + 1)) (codes "stage") e refl refl),
+            (
+              (λ e. apart (codes "qui/" ++ decimal (k + 1)) (codes "context") e refl refl),
+              (
+                (λ e. apart (codes "qui/" ++ decimal (k + 1)) (codes "qui") e refl refl),
+                tt,
+              ),
+            ),
+          ),
+        ),
+      ),
+    ),
+  );
   short = let size = length-decimal-le 20 (k + 1) (omega arith) (omega arith) (omega arith) in omega (arith, size);
 }
 
@@ -145,9 +158,10 @@ module _ (source : Source) (clean : IsClean source) (items : AllByRecursion (IsI
 
   rule_names_are : (unlabelled : ℕ) (rules : List RuleItem) → unlabelled + length rules < 2 ^ 62 → ((rule : RuleItem) → Contains rules rule → Contains (rules_of source) rule) → AllByRecursion IsName (map (λ (n : Named). n.name) (rule_names_from source unlabelled rules))
   rule_names_are unlabelled [] few among = tt
-  rule_names_are unlabelled (rule ∷ rules) few among =
-      (rule_name_is unlabelled rule.raw.label (omega arith) (label_made rule (among rule (contains_first rule rules))),
-      rule_names_are (unlabelled_behind unlabelled rule.raw.label) rules (more_rules unlabelled (length rules) rule.raw.label few) (λ other there. among other (contains_behind rule rules other there)))
+  rule_names_are unlabelled (rule ∷ rules) few among = (
+    rule_name_is unlabelled rule.raw.label (omega arith) (label_made rule (among rule (contains_first rule rules))),
+    rule_names_are (unlabelled_behind unlabelled rule.raw.label) rules (more_rules unlabelled (length rules) rule.raw.label few) (λ other there. among other (contains_behind rule rules other there)),
+  )
 
   -- as many names as rules
   pub rule_names_size : (unlabelled : ℕ) (rules : List RuleItem) → length (rule_names_from source unlabelled rules) ≡ length rules

@@ -66,7 +66,6 @@ one_cut lines bytes lines' bytes' e ended ended' all all' = by (cut lines bytes 
     by (longer byte rest e f) = absurd (never_ended lines byte rest (subst IsEnded e ended') (unbroken_front (byte ∷ rest) bytes' (subst IsUnbroken f all)))
     by (shorter byte rest e f) = absurd (never_ended lines' byte rest (subst IsEnded e ended) (unbroken_front (byte ∷ rest) bytes (subst IsUnbroken f all')))
 
-
 -- whether a byte is one, as a number
 abbrev one_break : ℕ → ℕ
 one_break byte = cond (byte == 10) 1 0
@@ -90,14 +89,14 @@ later_place before mid pos pos' is is' earlier =
     ⊎_elim
     (λ (less : pos'.line < pos.line). omega (arith, lines, one, other, less))
     (λ same.
-        let none : sum_by one_break mid ≡ 0 = let s = same.0 in omega (arith, lines, one, other, s) in
-        let whole : is'.lines ++ is'.bytes ≡ is.lines ++ (is.bytes ++ mid) = sym is'.cut ∙ ap (λ b. b ++ mid) is.cut ∙ append_assoc is.lines is.bytes mid in
-        let bytes = one_cut is'.lines is'.bytes is.lines (is.bytes ++ mid) whole is'.ended is.ended is'.unbroken (unbroken_both is.bytes mid is.unbroken (no_breaks mid none)) in
-        let size = ap length bytes ∙ length-append is.bytes mid in
-        let col = is.col in
-        let col' = is'.col in
-        let less = same.1 in
-        omega (arith, size, col, col', less))
+    let none : sum_by one_break mid ≡ 0 = let s = same.0 in omega (arith, lines, one, other, s) in
+    let whole : is'.lines ++ is'.bytes ≡ is.lines ++ (is.bytes ++ mid) = sym is'.cut ∙ ap (λ b. b ++ mid) is.cut ∙ append_assoc is.lines is.bytes mid in
+    let bytes = one_cut is'.lines is'.bytes is.lines (is.bytes ++ mid) whole is'.ended is.ended is'.unbroken (unbroken_both is.bytes mid is.unbroken (no_breaks mid none)) in
+    let size = ap length bytes ∙ length-append is.bytes mid in
+    let col = is.col in
+    let col' = is'.col in
+    let less = same.1 in
+    omega (arith, size, col, col', less))
     earlier
 
 take_nothing : (n : ℕ) → take {A = ℕ} n [] ≡ []

@@ -117,9 +117,10 @@ module _ (source : Source) (clean : IsClean source) (made : AtomsMade source) (i
   all_rules P names [] (rule ∷ rules) each by = absurd by
   all_rules P names (item_ ∷ written) [] each by = absurd by
   all_rules P [] (item_ ∷ written) (rule ∷ rules) each by = absurd by
-  all_rules P (name ∷ names) (item_ ∷ written) (rule ∷ rules) each by =
-      (each name item_ rule (contains_first item_ written) by.0,
-      all_rules P names written rules (λ n i r there is. each n i r (contains_behind item_ written i there) is) by.1)
+  all_rules P (name ∷ names) (item_ ∷ written) (rule ∷ rules) each by = (
+    each name item_ rule (contains_first item_ written) by.0,
+    all_rules P names written rules (λ n i r there is. each n i r (contains_behind item_ written i there) is) by.1,
+  )
 
   rules_named : (names : List (List ℕ)) (written : List RuleItem) (rules : List Rule) → length names ≡ length written → AreRulesBy source names written rules → map (λ (rule : Rule). rule.name) rules ≡ names
   rules_named [] [] [] size by = refl
@@ -212,10 +213,10 @@ module _ (source : Source) (clean : IsClean source) (made : AtomsMade source) (i
         let most = at_most (names_in source space.Predicates) 1024 (λ entry found. clean.names (wrong OverLimit entry.at) (over entry.at (overs.predicate entry found refl) refl)) in omega (arith, e, f, most);
     con_args = all_map (λ (con : Con). length con.args ≤ 8) (con_by source) (cons_of source) (all_of (λ (con : ConItem). length (sorts_said source con.args) ≤ 8) (cons_of source)
         (λ con there. let e = length-map con.args (λ span. number_of source space.Sorts (said source span)) in
-            let most = at_most con.args 8 (λ name found. clean.names (wrong OverLimit name.from) (over name.from (overs.argument con.args name (contains_left (map (λ (c : ConItem). c.args) (cons_of source)) _ con.args (contains_map (λ (c : ConItem). c.args) (cons_of source) con there)) found refl) refl)) in omega (arith, e, most)));
+        let most = at_most con.args 8 (λ name found. clean.names (wrong OverLimit name.from) (over name.from (overs.argument con.args name (contains_left (map (λ (c : ConItem). c.args) (cons_of source)) _ con.args (contains_map (λ (c : ConItem). c.args) (cons_of source) con there)) found refl) refl)) in omega (arith, e, most)));
     pred_args = all_map (λ (pred : PredDecl). length pred.args ≤ 8) (pred_by source) (preds_of source) (all_of (λ (pred : PredItem). length (sorts_said source pred.args) ≤ 8) (preds_of source)
         (λ pred there. let e = length-map pred.args (λ span. number_of source space.Sorts (said source span)) in
-            let most = at_most pred.args 8 (λ name found. clean.names (wrong OverLimit name.from) (over name.from (overs.argument pred.args name (contains_right (map (λ (c : ConItem). c.args) (cons_of source)) _ pred.args (contains_map (λ (p : PredItem). p.args) (preds_of source) pred there)) found refl) refl)) in omega (arith, e, most)));
+        let most = at_most pred.args 8 (λ name found. clean.names (wrong OverLimit name.from) (over name.from (overs.argument pred.args name (contains_right (map (λ (c : ConItem). c.args) (cons_of source)) _ pred.args (contains_map (λ (p : PredItem). p.args) (preds_of source) pred there)) found refl) refl)) in omega (arith, e, most)));
   }
 
   turns_by : (limit : Option Span) (trace : TraceItem) → Contains (traces_of source) trace → trace.limit ≡ limit → IfSome (option_map (number_said source) limit) IsTurnLimit
@@ -229,6 +230,7 @@ module _ (source : Source) (clean : IsClean source) (made : AtomsMade source) (i
     where
       not_greater' : (number_said source number < 1 → ⊥) → 1 ≤ number_said source number
       not_greater' h = not_greater 1 (number_said source number) h
+
       not_greater'' : (1000000 < number_said source number → ⊥) → number_said source number ≤ 1000000
       not_greater'' h = not_greater (number_said source number) 1000000 h
 
@@ -299,10 +301,10 @@ module _ (source : Source) (clean : IsClean source) (made : AtomsMade source) (i
             (λ pred there. sorts_of_signature pred.args (all_follow _ _ (map (said source) pred.args) (λ name is. in_range source clean made name is) (pred_args_known source clean made pred there)))));
         rule_kinds = subst (λ n. AllByRecursion (λ (rule : Rule). AllByRecursion (λ sort. sort < n) rule.kinds) parts.rules) (sym sort_size)
             (each_rule (λ rule. AllByRecursion (λ sort. sort < length (sorts_of source)) rule.kinds) (λ name item_ rule there by.
-                subst (AllByRecursion (λ sort. sort < length (sorts_of source))) (sym by.kinds_are) (kinds_in_range source clean made (rule_scope item_) (rule_here source clean made item_ there))));
+            subst (AllByRecursion (λ sort. sort < length (sorts_of source))) (sym by.kinds_are) (kinds_in_range source clean made (rule_scope item_) (rule_here source clean made item_ there))));
         clause_kinds = subst (λ n. AllByRecursion (λ (clause : ClauseTree). AllByRecursion (λ sort. sort < n) clause.kinds) parts.clauses) (sym sort_size)
             (each_clause (λ clause. AllByRecursion (λ sort. sort < length (sorts_of source)) clause.kinds) (λ item_ clause there by.
-                subst (AllByRecursion (λ sort. sort < length (sorts_of source))) (sym by.kinds_are) (kinds_in_range source clean made (clause_scope item_) (clause_here source clean made item_ there))));
+            subst (AllByRecursion (λ sort. sort < length (sorts_of source))) (sym by.kinds_are) (kinds_in_range source clean made (clause_scope item_) (clause_here source clean made item_ there))));
         next_stages = subst (λ n. AllByRecursion (λ (rule : Rule). IfSome rule.next (λ stage. stage < n)) parts.rules) (sym stage_size) (each_rule (λ rule. IfSome rule.next (λ stage. stage < length (stages_of source))) (rule_next source clean));
         start_stage =
             let from = flat_cases traces_in source.file are.trace trace_there in

@@ -64,12 +64,12 @@ rule_stands (next ∷ items) before rule there =
     let size = length-append (stages_in next) (flat_map stages_in items) in
     ⊎_elim
     (λ here.
-        let stands = rule_in next before rule here in
-        record { item = next; stages = before; there = contains_first next items; stands = stands; within = λ home. let h = stage_within next before rule stands home in omega (arith, h, size) })
+    let stands = rule_in next before rule here in
+    record { item = next; stages = before; there = contains_first next items; stands = stands; within = λ home. let h = stage_within next before rule stands home in omega (arith, h, size) })
     (λ later.
-        let is = rule_stands items (stages_behind before next) rule later in
-        let e = behind_is next before in
-        record { item = is.item; stages = is.stages; there = contains_behind next items is.item is.there; stands = is.stands; within = λ home. let h = is.within home in omega (arith, h, e, size) })
+    let is = rule_stands items (stages_behind before next) rule later in
+    let e = behind_is next before in
+    record { item = is.item; stages = is.stages; there = contains_behind next items is.item is.there; stands = is.stands; within = λ home. let h = is.within home in omega (arith, h, e, size) })
     (contains_either (rules_in before next) _ rule there)
 
 stands_atoms : (item_ : RawItem) (stages : ℕ) (rule : RuleItem) (p : Placed) → StandsIn stages rule item_ → Contains (rule_atoms rule.raw) p → Contains (own_atoms item_) p

@@ -105,17 +105,19 @@ module _ (source : Source) (clean : IsClean source) (atoms_made : AtomsMade sour
   judged_premises vars blanks (elem.Qui span ∷ elems) list here by = judged_premises vars blanks elems list here by
   judged_premises vars blanks (elem.Stage span ∷ elems) list here by = judged_premises vars blanks elems list here by
   judged_premises vars blanks (elem.Atom kept raw ∷ elems) [] here by = absurd by
-  judged_premises vars blanks (elem.Atom kept raw ∷ elems) (p ∷ list) here by =
-      (judged_at vars blanks raw p.atom (here raw (contains_first raw (atoms_of elems))) by.1,
-      judged_premises vars (blanks_after blanks raw.nodes) elems list (λ other there. here other (contains_behind raw (atoms_of elems) other there)) by.2)
+  judged_premises vars blanks (elem.Atom kept raw ∷ elems) (p ∷ list) here by = (
+    judged_at vars blanks raw p.atom (here raw (contains_first raw (atoms_of elems))) by.1,
+    judged_premises vars (blanks_after blanks raw.nodes) elems list (λ other there. here other (contains_behind raw (atoms_of elems) other there)) by.2,
+  )
 
   pub judged_atoms : (vars : List (List ℕ)) (blanks : ℕ) (raws : List RawAtom) (list : List AtomTree) → ((raw : RawAtom) → Contains raws raw → IsHere source raw) → AreAtomsBy source vars blanks raws list → AllByRecursion IsJudged list
   judged_atoms vars blanks [] [] here by = tt
   judged_atoms vars blanks [] (atom ∷ list) here by = absurd by
   judged_atoms vars blanks (raw ∷ raws) [] here by = absurd by
-  judged_atoms vars blanks (raw ∷ raws) (atom ∷ list) here by =
-      (judged_at vars blanks raw atom (here raw (contains_first raw raws)) by.0,
-      judged_atoms vars (blanks_after blanks raw.nodes) raws list (λ other there. here other (contains_behind raw raws other there)) by.1)
+  judged_atoms vars blanks (raw ∷ raws) (atom ∷ list) here by = (
+    judged_at vars blanks raw atom (here raw (contains_first raw raws)) by.0,
+    judged_atoms vars (blanks_after blanks raw.nodes) raws list (λ other there. here other (contains_behind raw raws other there)) by.1,
+  )
 
   linear_is : (atom : AtomTree) (j : IsJudged atom) → is_back source atom ≡ false → IsLinear (signature_of source) atom
   linear_is atom j linear =
@@ -206,9 +208,10 @@ module _ (source : Source) (clean : IsClean source) (atoms_made : AtomsMade sour
       let is = here raw (contains_first raw raws) in
       let known = back_known source clean atoms_made raw is in
       let b = (pred_known source (placed is.role raw) clean.names is.there is.plain).pred.back in
-      let linear = no_back b (λ (e : b ≡ true). clean.names (wrong BwdInState raw.name.from) (backward_in_state (placed role.Made raw) (at raw (contains_first raw raws)) made (known ∙ ap Some e) refl)) in
-      (linear_is atom (judged_at vars blanks raw atom is by.0) ((pred_at vars blanks raw atom is by.0).judged ∙ linear),
-      right_linear vars (blanks_after blanks raw.nodes) raws list (λ other there. at other (contains_behind raw raws other there)) (λ other there. here other (contains_behind raw raws other there)) by.1)
+      let linear = no_back b (λ (e : b ≡ true). clean.names (wrong BwdInState raw.name.from) (backward_in_state (placed role.Made raw) (at raw (contains_first raw raws)) made (known ∙ ap Some e) refl)) in (
+        linear_is atom (judged_at vars blanks raw atom is by.0) ((pred_at vars blanks raw atom is by.0).judged ∙ linear),
+        right_linear vars (blanks_after blanks raw.nodes) raws list (λ other there. at other (contains_behind raw raws other there)) (λ other there. here other (contains_behind raw raws other there)) by.1,
+      )
     where
       no_back : (b : Bool) → (b ≡ true → ⊥) → b ≡ false
       no_back true never = absurd (never refl)
@@ -223,9 +226,10 @@ module _ (source : Source) (clean : IsClean source) (atoms_made : AtomsMade sour
       let is = here raw (contains_first raw raws) in
       let known = back_known source clean atoms_made raw is in
       let b = (pred_known source (placed is.role raw) clean.names is.there is.plain).pred.back in
-      let yes_ = all_back b (λ (e : b ≡ false). clean.names (wrong LinearInClause raw.name.from) (linear_in_clause (placed role.Clause raw) (at raw (contains_first raw raws)) refl (known ∙ ap Some e) refl)) in
-      (backward_is atom (judged_at vars blanks raw atom is by.0) ((pred_at vars blanks raw atom is by.0).judged ∙ yes_),
-      clause_backward vars (blanks_after blanks raw.nodes) raws list (λ other there. at other (contains_behind raw raws other there)) (λ other there. here other (contains_behind raw raws other there)) by.1)
+      let yes_ = all_back b (λ (e : b ≡ false). clean.names (wrong LinearInClause raw.name.from) (linear_in_clause (placed role.Clause raw) (at raw (contains_first raw raws)) refl (known ∙ ap Some e) refl)) in (
+        backward_is atom (judged_at vars blanks raw atom is by.0) ((pred_at vars blanks raw atom is by.0).judged ∙ yes_),
+        clause_backward vars (blanks_after blanks raw.nodes) raws list (λ other there. at other (contains_behind raw raws other there)) (λ other there. here other (contains_behind raw raws other there)) by.1,
+      )
     where
       all_back : (b : Bool) → (b ≡ false → ⊥) → b ≡ true
       all_back true never = refl
@@ -245,16 +249,16 @@ module _ (source : Source) (clean : IsClean source) (atoms_made : AtomsMade sour
       let s = short source clean atoms_made scope all in
       let sites_both : sites_of source scope ≡ sites_of source left ++ sites_of source right = flat_map-append _ left right in
       let wanted_all : wanted_from source 0 (sites_of source scope) ≡ wanted_from source 0 (sites_of source left) ++ wanted_from source (blanks_after 0 (nodes_at (sites_of source left))) (sites_of source right) =
-          ap (wanted_from source 0) sites_both ∙ wanted_both source 0 (sites_of source left) (sites_of source right) in
+      ap (wanted_from source 0) sites_both ∙ wanted_both source 0 (sites_of source left) (sites_of source right) in
       let after : blanks_after 0 (nodes_at (sites_of source left)) ≡ blanks_after 0 (nodes_of left) = ap (blanks_after 0) (scope_nodes source clean.names clean.types left (left_here source clean atoms_made item there)) in
       let list_typed = typed_premises source clean.names clean.types scope all.scope all.here w s item.raw.left by.left 0 (left_here source clean atoms_made item there)
-          (λ site inside. subst (λ sites. Contains sites site) (sym sites_both) (contains_left (sites_of source left) (sites_of source right) site inside))
-          (λ wanted inside. subst (λ ws. Contains ws wanted) (sym wanted_all) (contains_left (wanted_from source 0 (sites_of source left)) _ wanted inside))
-          (subst (λ vars. ArePremisesBy source vars 0 item.raw.left by.left) by.vars_are by.left_is) in
+      (λ site inside. subst (λ sites. Contains sites site) (sym sites_both) (contains_left (sites_of source left) (sites_of source right) site inside))
+      (λ wanted inside. subst (λ ws. Contains ws wanted) (sym wanted_all) (contains_left (wanted_from source 0 (sites_of source left)) _ wanted inside))
+      (subst (λ vars. ArePremisesBy source vars 0 item.raw.left by.left) by.vars_are by.left_is) in
       let right_typed = typed_atoms source clean.names clean.types scope all.scope all.here w s right rule.right (blanks_after 0 (nodes_of left)) (right_here source clean atoms_made item there)
-          (λ site inside. subst (λ sites. Contains sites site) (sym sites_both) (contains_right (sites_of source left) (sites_of source right) site inside))
-          (λ wanted inside. subst (λ ws. Contains ws wanted) (sym wanted_all) (contains_right (wanted_from source 0 (sites_of source left)) _ wanted (subst (λ b. Contains (wanted_from source b (sites_of source right)) wanted) (sym after) inside)))
-          (subst (λ vars. AreAtomsBy source vars (blanks_after 0 (nodes_of left)) right rule.right) by.vars_are by.right_is) in
+      (λ site inside. subst (λ sites. Contains sites site) (sym sites_both) (contains_right (sites_of source left) (sites_of source right) site inside))
+      (λ wanted inside. subst (λ ws. Contains ws wanted) (sym wanted_all) (contains_right (wanted_from source 0 (sites_of source left)) _ wanted (subst (λ b. Contains (wanted_from source b (sites_of source right)) wanted) (sym after) inside)))
+      (subst (λ vars. AreAtomsBy source vars (blanks_after 0 (nodes_of left)) right rule.right) by.vars_are by.right_is) in
       let typed : List AtomTree → Type 0 = λ list. AllByRecursion (IsTyped (signature_of source) (kinds_of source scope)) list in
       record {
         kinds = ap length by.kinds_are ∙ kinds_size scope ∙ ap length (sym by.vars_are);
@@ -281,8 +285,8 @@ module _ (source : Source) (clean : IsClean source) (atoms_made : AtomsMade sour
       let all = clause_here source clean atoms_made item there in
       let scope = clause_scope item in
       let typed = typed_atoms source clean.names clean.types scope all.scope all.here (words source clean atoms_made scope all) (short source clean atoms_made scope all) scope (clause.head ∷ clause.goals) 0 all.here
-          (λ site inside. inside) (λ wanted inside. inside)
-          (subst (λ vars. AreAtomsBy source vars 0 scope (clause.head ∷ clause.goals)) by.vars_are by.atoms_are) in
+      (λ site inside. inside) (λ wanted inside. inside)
+      (subst (λ vars. AreAtomsBy source vars 0 scope (clause.head ∷ clause.goals)) by.vars_are by.atoms_are) in
       record {
         kinds = ap length by.kinds_are ∙ kinds_size scope ∙ ap length (sym by.vars_are);
         head = subst (λ ks. IsTyped (signature_of source) ks clause.head) (sym by.kinds_are) typed.0;

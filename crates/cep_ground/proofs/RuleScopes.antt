@@ -120,10 +120,10 @@ module _ (source : Source) (clean : IsClean source) (made : AtomsMade source) wh
   left_few : (rule : RuleItem) → Contains (rules_of source) rule → length (atoms_of rule.raw.left) ≤ 24
   left_few rule there =
       let cover = filters_cover (λ atom. is_declared false (back_of source atom)) (λ atom. is_declared true (back_of source atom)) (atoms_of rule.raw.left)
-          (λ raw inside.
-              let here = left_here rule there raw inside in
-              let known = back_known raw here in
-              subst (λ b. (is_declared false b ≡ true) ⊎ (is_declared true b ≡ true)) (sym known) (declared_either (pred_known source (placed here.role raw) clean.names here.there here.plain).pred.back)) in
+      (λ raw inside.
+      let here = left_here rule there raw inside in
+      let known = back_known raw here in
+      subst (λ b. (is_declared false b ≡ true) ⊎ (is_declared true b ≡ true)) (sym known) (declared_either (pred_known source (placed here.role raw) clean.names here.there here.plain).pred.back)) in
       let one = linear_few rule there in
       let other = back_few rule there in
       omega (arith, cover, one, other)

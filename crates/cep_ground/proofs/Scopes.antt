@@ -179,13 +179,14 @@ module _ (source : Source) (names : AreNamesClean source) (types : (fault : Faul
     good_nodes (wants ∷ next) [] blanks known sites_there wanted_there = tt
     good_nodes (wants ∷ next) (first ∷ nodes) blanks known sites_there wanted_there =
         let further = sites_from source (node_types source first.kind first.at ++ next) nodes in
-        let site : Site = record { node = first; wants = wants } in
-        (good_node site first.kind first.at first.args blanks refl refl (sites_there site (contains_first site further)) (known first (contains_first first nodes))
-            (λ w inside. wanted_there w (contains_left (map (λ occurrence. record { name = occurrence.name; wants = wants }) (occurrence_at source blanks first.at first.kind)) (wanted_from source (blanks_behind blanks first.kind) further) w inside)),
-        good_nodes (node_types source first.kind first.at ++ next) nodes (blanks_behind blanks first.kind)
-            (λ node inside. known node (contains_behind first nodes node inside))
-            (λ other inside. sites_there other (contains_behind site further other inside))
-            (λ w inside. wanted_there w (contains_right (map (λ occurrence. record { name = occurrence.name; wants = wants }) (occurrence_at source blanks first.at first.kind)) (wanted_from source (blanks_behind blanks first.kind) further) w inside)))
+        let site : Site = record { node = first; wants = wants } in (
+          good_node site first.kind first.at first.args blanks refl refl (sites_there site (contains_first site further)) (known first (contains_first first nodes))
+              (λ w inside. wanted_there w (contains_left (map (λ occurrence. record { name = occurrence.name; wants = wants }) (occurrence_at source blanks first.at first.kind)) (wanted_from source (blanks_behind blanks first.kind) further) w inside)),
+          good_nodes (node_types source first.kind first.at ++ next) nodes (blanks_behind blanks first.kind)
+              (λ node inside. known node (contains_behind first nodes node inside))
+              (λ other inside. sites_there other (contains_behind site further other inside))
+              (λ w inside. wanted_there w (contains_right (map (λ occurrence. record { name = occurrence.name; wants = wants }) (occurrence_at source blanks first.at first.kind)) (wanted_from source (blanks_behind blanks first.kind) further) w inside)),
+        )
 
     -- an atom is well typed
     typed_atom : (raw : RawAtom) (atom : AtomTree) (blanks : ℕ) → IsHere source raw
@@ -199,14 +200,14 @@ module _ (source : Source) (names : AreNamesClean source) (types : (fault : Faul
         let types_ = pred_types source (pred_named source (said source raw.name)) in
         let good = good_nodes types_ raw.nodes blanks (here_con raw is) sites_there wanted_there in
         let typed = typed_args source (names_of source atoms) (kinds_of source atoms) (map (con_by source) (cons_of source)) atom.args types_ [] [] blanks raw.nodes
-            (by.count ∙ here_count raw is)
-            (append-nil (heads_among atom.args) ∙ by.heads)
-            (subst (λ ts. AreGood source (names_of source atoms) (kinds_of source atoms) (map (con_by source) (cons_of source)) blanks ts raw.nodes) (sym (append-nil types_)) good) in
+        (by.count ∙ here_count raw is)
+        (append-nil (heads_among atom.args) ∙ by.heads)
+        (subst (λ ts. AreGood source (names_of source atoms) (kinds_of source atoms) (map (con_by source) (cons_of source)) blanks ts raw.nodes) (sym (append-nil types_)) good) in
         let sorts : map (number_of source space.Sorts) types_ ≡ sorts_said source known.pred.args = ap (λ (f : Option PredItem). map (number_of source space.Sorts) (pred_types source f)) known.found ∙ sym (sorts_map known.pred.args) in
         let found : slice_get (map (pred_by source) (preds_of source)) atom.pred ≡ Some (pred_by source known.pred) =
-            ap (slice_get (map (pred_by source) (preds_of source))) by.pred
-            ∙ slice_get-map (pred_by source) (preds_of source) (number_of source space.Predicates (said source raw.name))
-            ∙ ap (option_map (pred_by source)) spot.here in
+        ap (slice_get (map (pred_by source) (preds_of source))) by.pred
+        ∙ slice_get-map (pred_by source) (preds_of source) (number_of source space.Predicates (said source raw.name))
+        ∙ ap (option_map (pred_by source)) spot.here in
         subst (λ f. IsSomeAnd f (λ (pred : PredDecl). HaveSorts (map (con_by source) (cons_of source)) (kinds_of source atoms) pred.args atom.args)) (sym found)
         (subst (λ ts. HaveSorts (map (con_by source) (cons_of source)) (kinds_of source atoms) ts atom.args) sorts typed.0)
 
@@ -222,15 +223,16 @@ module _ (source : Source) (names : AreNamesClean source) (types : (fault : Faul
     typed_atoms (raw ∷ raws) (atom ∷ list) blanks here' sites_there wanted_there by =
         let is = here' raw (contains_first raw raws) in
         let both = wanted_both source blanks (sites_in source raw) (sites_of source raws) in
-        let after : blanks_after blanks (nodes_at (sites_in source raw)) ≡ blanks_after blanks raw.nodes = ap (blanks_after blanks) (here_nodes raw is) in
-        (typed_atom raw atom blanks is
-            (λ site inside. sites_there site (contains_left (sites_in source raw) (sites_of source raws) site inside))
-            (λ w inside. wanted_there w (subst (λ ws. Contains ws w) (sym both) (contains_left (wanted_from source blanks (sites_in source raw)) _ w inside)))
-            by.0,
-        typed_atoms raws list (blanks_after blanks raw.nodes) (λ other there. here' other (contains_behind raw raws other there))
-            (λ site inside. sites_there site (contains_right (sites_in source raw) (sites_of source raws) site inside))
-            (λ w inside. wanted_there w (subst (λ ws. Contains ws w) (sym both) (contains_right (wanted_from source blanks (sites_in source raw)) _ w (subst (λ b. Contains (wanted_from source b (sites_of source raws)) w) (sym after) inside))))
-            by.1)
+        let after : blanks_after blanks (nodes_at (sites_in source raw)) ≡ blanks_after blanks raw.nodes = ap (blanks_after blanks) (here_nodes raw is) in (
+          typed_atom raw atom blanks is
+              (λ site inside. sites_there site (contains_left (sites_in source raw) (sites_of source raws) site inside))
+              (λ w inside. wanted_there w (subst (λ ws. Contains ws w) (sym both) (contains_left (wanted_from source blanks (sites_in source raw)) _ w inside)))
+              by.0,
+          typed_atoms raws list (blanks_after blanks raw.nodes) (λ other there. here' other (contains_behind raw raws other there))
+              (λ site inside. sites_there site (contains_right (sites_in source raw) (sites_of source raws) site inside))
+              (λ w inside. wanted_there w (subst (λ ws. Contains ws w) (sym both) (contains_right (wanted_from source blanks (sites_in source raw)) _ w (subst (λ b. Contains (wanted_from source b (sites_of source raws)) w) (sym after) inside))))
+              by.1,
+        )
 
     -- premises one after another are well typed
     pub typed_premises : (elems : List RawElem) (list : List PremiseTree) (blanks : ℕ) → ((raw : RawAtom) → Contains (atoms_of elems) raw → IsHere source raw)
@@ -246,12 +248,13 @@ module _ (source : Source) (names : AreNamesClean source) (types : (fault : Faul
     typed_premises (elem.Atom kept raw ∷ elems) (p ∷ list) blanks here' sites_there wanted_there by =
         let is = here' raw (contains_first raw (atoms_of elems)) in
         let both = wanted_both source blanks (sites_in source raw) (sites_of source (atoms_of elems)) in
-        let after : blanks_after blanks (nodes_at (sites_in source raw)) ≡ blanks_after blanks raw.nodes = ap (blanks_after blanks) (here_nodes raw is) in
-        (typed_atom raw p.atom blanks is
-            (λ site inside. sites_there site (contains_left (sites_in source raw) (sites_of source (atoms_of elems)) site inside))
-            (λ w inside. wanted_there w (subst (λ ws. Contains ws w) (sym both) (contains_left (wanted_from source blanks (sites_in source raw)) _ w inside)))
-            by.1,
-        typed_premises elems list (blanks_after blanks raw.nodes) (λ other there. here' other (contains_behind raw (atoms_of elems) other there))
-            (λ site inside. sites_there site (contains_right (sites_in source raw) (sites_of source (atoms_of elems)) site inside))
-            (λ w inside. wanted_there w (subst (λ ws. Contains ws w) (sym both) (contains_right (wanted_from source blanks (sites_in source raw)) _ w (subst (λ b. Contains (wanted_from source b (sites_of source (atoms_of elems))) w) (sym after) inside))))
-            by.2)
+        let after : blanks_after blanks (nodes_at (sites_in source raw)) ≡ blanks_after blanks raw.nodes = ap (blanks_after blanks) (here_nodes raw is) in (
+          typed_atom raw p.atom blanks is
+              (λ site inside. sites_there site (contains_left (sites_in source raw) (sites_of source (atoms_of elems)) site inside))
+              (λ w inside. wanted_there w (subst (λ ws. Contains ws w) (sym both) (contains_left (wanted_from source blanks (sites_in source raw)) _ w inside)))
+              by.1,
+          typed_premises elems list (blanks_after blanks raw.nodes) (λ other there. here' other (contains_behind raw (atoms_of elems) other there))
+              (λ site inside. sites_there site (contains_right (sites_in source raw) (sites_of source (atoms_of elems)) site inside))
+              (λ w inside. wanted_there w (subst (λ ws. Contains ws w) (sym both) (contains_right (wanted_from source blanks (sites_in source raw)) _ w (subst (λ b. Contains (wanted_from source b (sites_of source (atoms_of elems))) w) (sym after) inside))))
+              by.2,
+        )

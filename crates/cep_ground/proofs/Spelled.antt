@@ -42,11 +42,12 @@ all_spelled text before bytes at (one ∷ tokens) rest whole place cut =
     let from : one.from ≡ length before + length start.gap = start.from ∙ ap (λ n. n + length start.gap) place in
     let word : slice_of text one.from one.to ≡ start.word = ap (λ t. slice_of t one.from one.to) here ∙ word_cut before start.gap start.word cut.0 one.from one.to from start.to in
     let next : one.to ≡ length (before ++ (start.gap ++ start.word)) =
-        omega (arith, from, start.to, length-append before (start.gap ++ start.word), length-append start.gap start.word) in
+    omega (arith, from, start.to, length-append before (start.gap ++ start.word), length-append start.gap start.word) in
     let rest_is : text ≡ (before ++ (start.gap ++ start.word)) ++ cut.0 =
-        here ∙ ap (λ b. before ++ b) (sym (append_assoc start.gap start.word cut.0)) ∙ sym (append_assoc before (start.gap ++ start.word) cut.0) in
-    (record { spells = subst (Spells one.kind) (sym word) split.spelled; short = subst (IsShort one.kind) (sym word) start.short },
-    all_spelled text (before ++ (start.gap ++ start.word)) cut.0 one.to tokens rest rest_is next cut.2)
+    here ∙ ap (λ b. before ++ b) (sym (append_assoc start.gap start.word cut.0)) ∙ sym (append_assoc before (start.gap ++ start.word) cut.0) in (
+      record { spells = subst (Spells one.kind) (sym word) split.spelled; short = subst (IsShort one.kind) (sym word) start.short },
+      all_spelled text (before ++ (start.gap ++ start.word)) cut.0 one.to tokens rest rest_is next cut.2,
+    )
 
 pub tokens_spelled : (source : Source) (is : IsSource source) → AllByRecursion (IsSpelled source.text) is.tokens
 tokens_spelled source is = all_spelled source.text [] source.text 0 is.tokens is.lexed.rest refl refl is.lexed.cut
@@ -56,9 +57,10 @@ pub span_spelled : (source : Source) (is : IsSource source) (kind : TokenKind) (
 span_spelled source is kind span at =
     let one = all_at (IsSpelled source.text) is.tokens at.token (tokens_spelled source is) at.there in
     let word : slice_of source.text at.token.from at.token.to ≡ said source span =
-        ap (λ n. slice_of source.text n at.token.to) (sym at.from_is) ∙ ap (λ n. slice_of source.text span.from n) (sym at.to_is) in
-    (subst (λ k. Spells k (said source span)) at.kind_is (subst (Spells at.token.kind) word one.spells),
-    subst (λ k. IsShort k (said source span)) at.kind_is (subst (IsShort at.token.kind) word one.short))
+    ap (λ n. slice_of source.text n at.token.to) (sym at.from_is) ∙ ap (λ n. slice_of source.text span.from n) (sym at.to_is) in (
+      subst (λ k. Spells k (said source span)) at.kind_is (subst (Spells at.token.kind) word one.spells),
+      subst (λ k. IsShort k (said source span)) at.kind_is (subst (IsShort at.token.kind) word one.short),
+    )
 
 run_word : (begins : ℕ → Bool) (word : List ℕ) → Runs begins is_name_byte word → IsWord begins word
 run_word begins [] runs = absurd runs

@@ -104,9 +104,9 @@ module _ (source : Source) where
   atom_listed trace atoms atom raw false there is inside context listed =
       ⊎_elim
       (λ (same : atom ≡ raw).
-          let from = flat_cases traces_in source.file trace there in
-          let in_ : Contains (start_listed trace.start) atom = subst (λ s. Contains (start_listed s) atom) (sym is) inside in
-          subst (IsListed source) same (record { role = role.Start; there = own_placed source from.from (placed role.Start atom) from.there (trace_item from.from trace atom from.inside in_); of_state = of_state.start; plain = context }))
+      let from = flat_cases traces_in source.file trace there in
+      let in_ : Contains (start_listed trace.start) atom = subst (λ s. Contains (start_listed s) atom) (sym is) inside in
+      subst (IsListed source) same (record { role = role.Start; there = own_placed source from.from (placed role.Start atom) from.there (trace_item from.from trace atom from.inside in_); of_state = of_state.start; plain = context }))
       (λ later. absurd (contains_none raw later))
       (contains_cases atom [] raw listed)
 
@@ -163,7 +163,7 @@ module _ (source : Source) (clean : IsClean source) (made : AtomsMade source) wh
       let scope = raw ∷ [] in
       let same : IsAtomBy source (names_of source scope) 0 raw atom = atom_alike source [] (names_of source scope) blanks 0 raw atom (listed_closed raw listed) by in
       let typed = typed_atoms source clean.names clean.types scope all.scope all.here (words source clean made scope all) (short source clean made scope all) scope (atom ∷ []) 0 all.here
-          (λ site inside. inside) (λ wanted inside. inside) (same, tt) in
+      (λ site inside. inside) (λ wanted inside. inside) (same, tt) in
       subst (λ ks. IsTyped (signature_of source) ks atom) (no_kinds raw listed) typed.0
 
   listed_linear : (raw : RawAtom) (blanks : ℕ) (atom : AtomTree) (listed : IsListed source raw) → IsAtomBy source [] blanks raw atom → IsLinear (signature_of source) atom
@@ -256,6 +256,7 @@ module _ (laws : CountLaws) where
     where
       differ : (o : Ordering) → atom_cmp a b ≡ o → (o ≡ Equal → ⊥) → a ≢ b
       differ o is never same = never (sym is ∙ ap (atom_cmp a) (sym same) ∙ tied_itself laws.total a)
+
       by_test : (o : Ordering) → atom_cmp a b ≡ o → (a ≡ b) ⊎ (a ≢ b)
       by_test Equal is = inl (laws.ties a b is)
       by_test Less is = inr (differ Less is (λ (e : Less ≡ Equal). absurd cc))

@@ -87,12 +87,13 @@ module _ (source : Source) (vars : List (List ℕ)) where
         let left = le-max_left level (greatest (levels (repeat first.args ((level + 1) ∷ []) ++ next) nodes)) in
         let right = le-max_right level (greatest (levels (repeat first.args ((level + 1) ∷ []) ++ next) nodes)) in
         let behind_ = rest.1 in
-        let inside = behind_.within in
-        (⊎_elim
-            (λ (zero_ : depth_among args ≡ 0). omega (arith, zero_, left))
-            (λ deep. omega (arith, deep, right, same))
-            rest.0,
-        record { blanks = behind_.blanks; nodes = behind_.nodes; heads_are = behind_.heads_are; closed = behind_.closed; within = omega (arith, inside, right, same) })
+        let inside = behind_.within in (
+          ⊎_elim
+              (λ (zero_ : depth_among args ≡ 0). omega (arith, zero_, left))
+              (λ deep. omega (arith, deep, right, same))
+              rest.0,
+          record { blanks = behind_.blanks; nodes = behind_.nodes; heads_are = behind_.heads_are; closed = behind_.closed; within = omega (arith, inside, right, same) },
+        )
 
     deep_args : (ts : Trees) (level : ℕ) (next : List ℕ) (heads : List Head) (blanks : ℕ) (nodes : List RawNode)
         → heads_among ts ++ heads ≡ heads_from source vars blanks nodes → AreClosed nodes
@@ -109,16 +110,17 @@ module _ (source : Source) (vars : List (List ℕ)) where
         let other : depth_among rest ≤ (1 + most) - level = ⊎_elim (λ (zero_ : depth_among rest ≡ 0). omega (arith, zero_)) (λ deep. omega (arith, deep, inside)) others.0 in
         let both : max (depth_of t) (depth_among rest) ≤ (1 + most) - level = max-le one other in
         let last = others.1 in
-        let within : greatest (levels next last.nodes) ≤ most = let w = last.within in omega (arith, w, inside) in
-        (inr (omega (arith, both, here)),
-        record { blanks = last.blanks; nodes = last.nodes; heads_are = last.heads_are; closed = last.closed; within = within })
+        let within : greatest (levels next last.nodes) ≤ most = let w = last.within in omega (arith, w, inside) in (
+          inr (omega (arith, both, here)),
+          record { blanks = last.blanks; nodes = last.nodes; heads_are = last.heads_are; closed = last.closed; within = within },
+        )
 
 -- an atom without variables is no deeper than it is written
 pub atom_depth : (source : Source) (vars : List (List ℕ)) (blanks : ℕ) (raw : RawAtom) (atom : AtomTree) → IsAtomBy source vars blanks raw atom → AreClosed raw.nodes → depth_in atom ≤ depth_written raw
 atom_depth source vars blanks raw atom by all =
     let deep = deep_args source vars atom.args 2 [] [] blanks raw.nodes (append-nil (heads_among atom.args) ∙ by.heads) all in
     let same : greatest (levels (repeat (count_of atom.args) (2 ∷ []) ++ []) raw.nodes) ≡ greatest (levels (repeat raw.args (2 ∷ [])) raw.nodes) =
-        ap (λ ls. greatest (levels ls raw.nodes)) (append-nil (repeat (count_of atom.args) (2 ∷ []))) ∙ ap (λ n. greatest (levels (repeat n (2 ∷ [])) raw.nodes)) by.count in
+    ap (λ ls. greatest (levels ls raw.nodes)) (append-nil (repeat (count_of atom.args) (2 ∷ []))) ∙ ap (λ n. greatest (levels (repeat n (2 ∷ [])) raw.nodes)) by.count in
     let left = le-max_left 1 (greatest (levels (repeat raw.args (2 ∷ [])) raw.nodes)) in
     let right = le-max_right 1 (greatest (levels (repeat raw.args (2 ∷ [])) raw.nodes)) in
     ⊎_elim (λ (zero_ : depth_among atom.args ≡ 0). omega (arith, zero_, left)) (λ further. omega (arith, further, same, right)) deep.0

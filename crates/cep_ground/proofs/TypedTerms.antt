@@ -79,9 +79,10 @@ module _ (source : Source) (vars : List (List ℕ)) (kinds : List ℕ) (cons : L
         → HasSort cons kinds (type_number wants) t × Behind next heads
     typed_term (variable v) wants next heads blanks [] e good = absurd cc
     typed_term (variable v) wants next heads blanks (first ∷ nodes) e good =
-        let here : var v ≡ head_at source vars blanks first.kind first.at first.args = cc in
-        (var_good first.kind first.at first.args v blanks wants here good.0,
-        record { blanks = blanks_behind blanks first.kind; nodes = nodes; heads_are = cc; good = subst (λ types. AreGood (blanks_behind blanks first.kind) types nodes) (no_types first.kind first.at first.args v blanks next here) good.1 })
+        let here : var v ≡ head_at source vars blanks first.kind first.at first.args = cc in (
+          var_good first.kind first.at first.args v blanks wants here good.0,
+          record { blanks = blanks_behind blanks first.kind; nodes = nodes; heads_are = cc; good = subst (λ types. AreGood (blanks_behind blanks first.kind) types nodes) (no_types first.kind first.at first.args v blanks next here) good.1 },
+        )
     typed_term (node c args) wants next heads blanks [] e good = absurd cc
     typed_term (node c args) wants next heads blanks (first ∷ nodes) e good =
         let here : con c (count_of args) ≡ head_at source vars blanks first.kind first.at first.args = cc in

@@ -85,7 +85,6 @@ pub record IsFirstUnbound (source : Source) (pos : Pos) : Type 0 where
   pub pos_is : IsPlaceBehind (take occurrence.at.from source.text) pos
 
 module _ (source : Source) where
-
   at_there : (rule : RuleItem) (o : Occurrence) → Contains (rules_of source) rule → Contains (unbound_of source rule) o → Contains (flat_map (λ (xs : List ℕ). xs) (map (unbound_at source) (rules_of source))) o.at.from
   at_there rule o there inside =
       contains_flat (λ (xs : List ℕ). xs) (map (unbound_at source) (rules_of source)) (unbound_at source rule) o.at.from
@@ -111,7 +110,10 @@ module _ (source : Source) where
       let before : least.least ≤ at.at = least.first at.at (subst (λ ms. Contains ms at.at) is at.there) in
       let same = one_place own.pos pos (earliest.1 own.pos own.there) (places_rise source.text least.least at.at own.pos pos before own.is at.is) in
       record {
-        rule = rule.from; occurrence = o.from; there = rule.there; inside = o.there;
+        rule = rule.from;
+        occurrence = o.from;
+        there = rule.there;
+        inside = o.there;
         least = λ rule' o' there' inside'. let l = least.first o'.at.from (subst (λ ms. Contains ms o'.at.from) is (at_there rule' o' there' inside')) in let e = o.same in omega (arith, l, e);
         pos_is = subst (λ k. IsPlaceBehind (take k source.text) pos) (sym o.same) (subst (λ q. IsPlaceBehind (take least.least source.text) q) same own.is);
       }
@@ -127,5 +129,5 @@ module _ (source : Source) where
   all_bound lists are none =
       all_of (λ (rule : RuleItem). unbound_of source rule ≡ []) (rules_of source)
       (λ rule there. no_occurrence (unbound_of source rule) (λ o inside.
-          let own = at_pos source.text (flat_map (λ (xs : List ℕ). xs) (map (unbound_at source) (rules_of source))) (flat_map (λ ps. ps) lists) o.at.from (joined source.text (map (unbound_at source) (rules_of source)) lists are) (at_there rule o there inside) in
-          contains_none own.pos (subst (λ ps. Contains ps own.pos) none own.there)))
+      let own = at_pos source.text (flat_map (λ (xs : List ℕ). xs) (map (unbound_at source) (rules_of source))) (flat_map (λ ps. ps) lists) o.at.from (joined source.text (map (unbound_at source) (rules_of source)) lists are) (at_there rule o there inside) in
+      contains_none own.pos (subst (λ ps. Contains ps own.pos) none own.there)))

@@ -100,7 +100,7 @@ module _ (source : Source) (clean : IsClean source) (made : AtomsMade source) wh
   wanted_known blanks (site ∷ sites) w all there =
       ⊎_elim
       (λ here. let from = map_cases (λ (o : Occurrence). record { name = o.name; wants = site.wants }) (occurrence_at source blanks site.node.at site.node.kind) w here in
-          subst (λ (v : Wanted). is_in source space.Sorts v.wants ≡ true) from.same (all site (contains_first site sites)))
+      subst (λ (v : Wanted). is_in source space.Sorts v.wants ≡ true) from.same (all site (contains_first site sites)))
       (λ later. wanted_known (blanks_behind blanks site.node.kind) sites w (λ other in_. all other (contains_behind site sites other in_)) later)
       (contains_either (map (λ (o : Occurrence). record { name = o.name; wants = site.wants }) (occurrence_at source blanks site.node.at site.node.kind)) (wanted_from source (blanks_behind blanks site.node.kind) sites) w there)
 
@@ -151,8 +151,8 @@ module _ (source : Source) (clean : IsClean source) (made : AtomsMade source) wh
       all_map IsVariableName (λ (o : Occurrence). o.name) (variables_of source atoms)
       (all_of (λ (o : Occurrence). IsVariableName o.name) (variables_of source atoms)
       (λ o there. names_at 0 (nodes_of atoms) o (omega (arith, few))
-          (λ node inside.
-              let from = flat_cases (λ (atom : RawAtom). atom.nodes) atoms node inside in
-              let here = are.here from.from from.there in
-              all_at (λ (n : RawNode). IsNodeOf clean.is_source.tokens n.kind n.at) from.from.nodes node (atom_of_tokens source clean made here.role from.from here.there).nodes from.inside)
-          (firsts_there [] (occurrences_of source atoms) o there)))
+      (λ node inside.
+      let from = flat_cases (λ (atom : RawAtom). atom.nodes) atoms node inside in
+      let here = are.here from.from from.there in
+      all_at (λ (n : RawNode). IsNodeOf clean.is_source.tokens n.kind n.at) from.from.nodes node (atom_of_tokens source clean made here.role from.from here.there).nodes from.inside)
+      (firsts_there [] (occurrences_of source atoms) o there)))

@@ -35,6 +35,7 @@ types_count source kind.App at args count known =
     map_size : (source : Source) (spans : List Span) → length (map (said source) spans) ≡ length spans
     map_size source [] = refl
     map_size source (span ∷ spans) = ap suc (map_size source spans)
+
     size_of : (source : Source) (con : ConItem) → length (map (said source) con.args) ≡ length con.args
     size_of source con = map_size source con.args
 types_count source kind.Var at args count known = sym count
@@ -94,6 +95,7 @@ is_any (other ∷ names) name there = ⊎_elim (λ (same : other ≡ name). here
     here : (b : Bool) → b ≡ true → (b || list_any (λ other. bytes_eq other name) names) ≡ true
     here true e = refl
     here false e = absurd cc
+
     behind : (b : Bool) → list_any (λ other. bytes_eq other name) names ≡ true → (b || list_any (λ other. bytes_eq other name) names) ≡ true
     behind true h = refl
     behind false h = h
@@ -112,12 +114,12 @@ first_by false seen o occurrences name is there old new =
     ⊎_elim
     (λ (same : o.name ≡ name). inr (subst (Contains (o.name ∷ all)) same (contains_first o.name all)))
     (λ later. ⊎_elim
-        (λ before. ⊎_elim
-            (λ (same : o.name ≡ name). inr (subst (Contains (o.name ∷ all)) same (contains_first o.name all)))
-            (λ seen_. inl seen_)
-            (contains_cases o.name seen name before))
-        (λ behind. inr (contains_behind o.name all name behind))
-        (new later))
+    (λ before. ⊎_elim
+    (λ (same : o.name ≡ name). inr (subst (Contains (o.name ∷ all)) same (contains_first o.name all)))
+    (λ seen_. inl seen_)
+    (contains_cases o.name seen name before))
+    (λ behind. inr (contains_behind o.name all name behind))
+    (new later))
     there
 
 pub first_there : (seen : List (List ℕ)) (occurrences : List Occurrence) (name : List ℕ) → Contains (map (λ (o : Occurrence). o.name) occurrences) name
@@ -220,15 +222,15 @@ first_step source blanks site sites w kind.App is short word there later = behin
 first_step source blanks site sites w kind.Var is short word there later =
     ⊎_elim
     (λ (same : record { name = said source site.node.at; wants = site.wants } ≡ w).
-        written site (contains_first site sites) is (sym (ap (λ (v : Wanted). v.name) same)) (sym (ap (λ (v : Wanted). v.wants) same)))
+    written site (contains_first site sites) is (sym (ap (λ (v : Wanted). v.name) same)) (sym (ap (λ (v : Wanted). v.wants) same)))
     (λ behind. behind_var source blanks site sites w (word is) (later behind))
     (contains_cases (record { name = said source site.node.at; wants = site.wants }) (wanted_from source blanks sites) w there)
 first_step source blanks site sites w kind.Blank is short word there later =
     ⊎_elim
     (λ (same : record { name = codes "_" ++ decimal (blanks + 1); wants = site.wants } ≡ w).
-        blank blanks (omega arith) short (sym (ap (λ (v : Wanted). v.name) same))
-        (subst (λ (v : Wanted). find (λ (x : Wanted). bytes_eq x.name v.name) (wanted_at source blanks site kind.Blank sites) ≡ Some v) same
-        (find_here (record { name = codes "_" ++ decimal (blanks + 1); wants = site.wants }) (wanted_from source (blanks + 1) sites))))
+    blank blanks (omega arith) short (sym (ap (λ (v : Wanted). v.name) same))
+    (subst (λ (v : Wanted). find (λ (x : Wanted). bytes_eq x.name v.name) (wanted_at source blanks site kind.Blank sites) ≡ Some v) same
+    (find_here (record { name = codes "_" ++ decimal (blanks + 1); wants = site.wants }) (wanted_from source (blanks + 1) sites))))
     (λ behind. behind_blank source blanks site sites w (later behind))
     (contains_cases (record { name = codes "_" ++ decimal (blanks + 1); wants = site.wants }) (wanted_from source (blanks + 1) sites) w there)
 

@@ -19,13 +19,7 @@ fn earlier(one: Option<Pos>, other: Option<Pos>) -> Option<Pos>
     ensures { (xs ys : List Pos) → IsEarliest xs one → IsEarliest ys other → IsEarliest (xs ++ ys) result }
 {
     match (one, other) {
-        (Some(pos), Some(next)) => {
-            if stands_before(next, pos) {
-                other
-            } else {
-                one
-            }
-        }
+        (Some(pos), Some(next)) => { if stands_before(next, pos) { other } else { one } }
         (Some(_), None) => one,
         (None, _) => other,
     }

@@ -12,8 +12,6 @@ pub mod laws;
 mod left;
 mod listing;
 mod pending;
-mod places;
-mod resolving;
 mod rules;
 mod signature;
 mod sites;
@@ -23,7 +21,3 @@ mod variables;
 
 pub use cep_names::Reason;
 pub use draft::{Draft, PlaceLists, Places, Refusal};
-pub use resolving::resolve;
-
-#[cfg(test)]
-mod tests;

@@ -7,12 +7,14 @@ use Rattle.cep_ground.proofs.refusals.of_tokens.Goals as goal
 
 pub returns-in-BadByte : goal.returns-in-BadByte
 returns-in-BadByte c = (
-    wrong BadByte c.in-BadByte.at,
-    refused_bad_byte c.lexed_once.ensures c.args.text.now c.in-BadByte.at c.requires.short (subst (λ f. IsLexed c.args.text.now (Err f)) c.in-BadByte.is c.requires.fault),
-    c.tell.ensures)
+  wrong BadByte c.in-BadByte.at,
+  refused_bad_byte c.lexed_once.ensures c.args.text.now c.in-BadByte.at c.requires.short (subst (λ f. IsLexed c.args.text.now (Err f)) c.in-BadByte.is c.requires.fault),
+  c.tell.ensures,
+)
 
 pub returns-in-NameLong : goal.returns-in-NameLong
 returns-in-NameLong c = (
-    wrong NameLong c.in-NameLong.at,
-    refused_name_long c.lexed_once.ensures c.args.text.now c.in-NameLong.at c.requires.short (subst (λ f. IsLexed c.args.text.now (Err f)) c.in-NameLong.is c.requires.fault),
-    c.tell-in-NameLong.ensures)
+  wrong NameLong c.in-NameLong.at,
+  refused_name_long c.lexed_once.ensures c.args.text.now c.in-NameLong.at c.requires.short (subst (λ f. IsLexed c.args.text.now (Err f)) c.in-NameLong.is c.requires.fault),
+  c.tell-in-NameLong.ensures,
+)

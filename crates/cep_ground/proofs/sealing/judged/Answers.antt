@@ -16,8 +16,9 @@ sealed-requires-clause-bound c =
 pub returns-in-Some : goal.returns-in-Some
 returns-in-Some c =
     let first = first_unbound (record { text = c.args.text.now; file = c.args.file.now }) c.args.draft.right_places c.requires.declared.unbound_are c.in-Some.pos
-        (subst (IsEarliest (flat_map (λ ps. ps) c.args.draft.right_places)) c.in-Some.is c.earliest_of_all.ensures) in
-    (wrong Unbound first.occurrence.at.from,
-    refused_unbound c.lexed_once.ensures c.args.text.now c.parsed_once.ensures (λ text tokens one other. c.one_raw_file.ensures (symbols_of text tokens) one other)
-        (record { text = c.args.text.now; file = c.args.file.now }) refl c.requires.clean.short c.requires.clean.is_source c.requires.clean first.rule first.occurrence first.there first.inside first.least,
-    record { reason = refl; pos = first.pos_is })
+    (subst (IsEarliest (flat_map (λ ps. ps) c.args.draft.right_places)) c.in-Some.is c.earliest_of_all.ensures) in (
+      wrong Unbound first.occurrence.at.from,
+      refused_unbound c.lexed_once.ensures c.args.text.now c.parsed_once.ensures (λ text tokens one other. c.one_raw_file.ensures (symbols_of text tokens) one other)
+          (record { text = c.args.text.now; file = c.args.file.now }) refl c.requires.clean.short c.requires.clean.is_source c.requires.clean first.rule first.occurrence first.there first.inside first.least,
+      record { reason = refl; pos = first.pos_is },
+    )
