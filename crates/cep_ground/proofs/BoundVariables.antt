@@ -1,16 +1,10 @@
 -- Each variable of a rule or a clause occurs where it gets its value, has a name, and a type.
-use Rattle.std.proofs.Common.{◌≡◌, ◌≢◌, ◌⊎◌, inl, inr, ⊎_elim, ℕ, zero, suc, ◌+◌, ◌*◌, ◌<◌, ◌≤◌, ◌^◌, Bool, true, false, not, List, [], ◌∷◌, ◌++◌, length, map, filter, refl, sym, ap, subst, ◌∙◌, arith, append_assoc, Contains, length-append}
+use Rattle.std.proofs.Common.{◌≡◌, inl, inr, ⊎_elim, ℕ, zero, suc, ◌+◌, ◌<◌, Bool, true, false, not, List, [], ◌∷◌, ◌++◌, length, map, filter, refl, sym, ap, subst, ◌∙◌, arith, append_assoc, Contains}
 use Rattle.std.proofs.lemmas.List.{length-map}
 use Rattle.std.proofs.lemmas.Grind.{flat_map-append}
-use Rattle.std.proofs.lemmas.Option.{slice_get-map, slice_get_within}
-use Rattle.std.proofs.lemmas.Fmt.{length-decimal-le}
-use Rattle.std.specs.Prelude.{Option, Some, None, slice_get, unwrap_or, codes, decimal, cond}
-use Rattle.std.specs.Option.{option_map}
+use Rattle.std.specs.Prelude.{slice_get, codes, decimal}
 use Rattle.std.specs.Str.{bytes_eq}
-use Rattle.std.specs.Char.{is_ascii_uppercase}
-use Rattle.std.specs.List.{AllByRecursion, flat_map, find, list_any}
-use Rattle.cep_lex.specs.declared.token.Token.{Token}
-use Rattle.cep_lex.specs.declared.token.TokenKind.TheVariants as token
+use Rattle.std.specs.List.{list_any}
 use Rattle.cep_parse.specs.declared.raw.Span.{Span}
 use Rattle.cep_parse.specs.declared.raw.RawKind.{RawKind}
 use Rattle.cep_parse.specs.declared.raw.RawKind.TheVariants as kind
@@ -18,33 +12,23 @@ use Rattle.cep_parse.specs.declared.raw.RawNode.{RawNode}
 use Rattle.cep_parse.specs.declared.raw.RawAtom.{RawAtom}
 use Rattle.cep_parse.specs.declared.raw.RawElem.{RawElem}
 use Rattle.cep_parse.specs.declared.raw.RawElem.TheVariants as elem
-use Rattle.cep_parse.specs.Written.{IsNodeOf, IsTokenAt}
 use Rattle.cep_term.specs.Tree.{AtomTree, OccursIn}
 use Rattle.cep_rule.specs.declared.rule.Rule.{Rule}
 use Rattle.cep_rule.specs.Patterns.{PremiseTree, ClauseTree}
-use Rattle.cep_rule.specs.Names.{IsVariableName}
-use Rattle.cep_rule.specs.Binding.{OccursInSome, needed_of, IsBoundRule, IsBoundClause}
-use Rattle.cep_names.specs.declared.space.Space.TheVariants as space
-use Rattle.cep_names.specs.Items.{Source, RuleItem, ClauseItem, ConItem, PredItem, said, rules_of, clauses_of, cons_of, preds_of}
-use Rattle.cep_names.specs.Spaces.{named, names_in, is_in, con_named, pred_named}
-use Rattle.cep_names.specs.Uses.{atoms_of, use_in, con_uses}
+use Rattle.cep_rule.specs.Binding.{OccursInSome, IsBoundRule, IsBoundClause}
+use Rattle.cep_names.specs.Items.{Source, RuleItem, ClauseItem, said}
+use Rattle.cep_names.specs.Uses.{atoms_of}
 use Rattle.cep_names.specs.Variables.{Occurrence, occurrence_at, blanks_behind, occurrences_from, occurrences_of, firsts_beside, nodes_of, variables_of}
-use Rattle.cep_infer.specs.Shapes.{IsSource}
-use Rattle.cep_infer.specs.Sites.{Site, Wanted, con_types, pred_types, node_types, sites_from, sites_in, sites_of, wanted_from, type_of, rule_scope, clause_scope}
-use Rattle.cep_infer.specs.Heads.{Head, var, con, number_of, variable_of, head_at, heads_from, heads_among, blanks_after, IsAtomBy, AreAtomsBy}
-use Rattle.cep_infer.specs.Meaning.{names_of, kinds_of, is_back, ArePremisesBy, IsRuleBy, IsClauseBy}
+use Rattle.cep_infer.specs.Sites.{rule_scope, clause_scope}
+use Rattle.cep_infer.specs.Heads.{var, variable_of, head_at, heads_from, blanks_after, IsAtomBy, AreAtomsBy}
+use Rattle.cep_infer.specs.Meaning.{names_of, is_back, ArePremisesBy, IsRuleBy, IsClauseBy}
 use Rattle.cep_infer.specs.Places.{unbound_of}
-use Rattle.cep_ground.specs.Texts.{IsClean}
-use Rattle.cep_ground.proofs.Members.{contains_none, contains_first, contains_behind, contains_cases, contains_either, contains_left, contains_right, contains_map, map_cases, contains_at, flat_cases, all_at, all_of}
-use Rattle.cep_ground.proofs.Finds.{IsFound, any_found, found_in}
-use Rattle.cep_ground.proofs.Known.{known, con_item_uses, pred_item_uses}
-use Rattle.cep_ground.proofs.Located.{place, place_within, position_there}
+use Rattle.cep_ground.proofs.Members.{contains_none, contains_first, contains_behind, contains_cases, contains_either, contains_left, contains_right, contains_map, contains_at}
+use Rattle.cep_ground.proofs.Finds.{IsFound}
 use Rattle.cep_ground.proofs.Limits.{filter_keeps}
 use Rattle.cep_ground.proofs.HeadLaws.{terms_occur}
-use Rattle.cep_ground.proofs.FirstPlaces.{names_among, firsts_append, variable_at}
-use Rattle.cep_ground.proofs.Wanted.{nodes_at, wanted_names, same_bytes, bytes_same, is_any, any_is, firsts_there}
-use Rattle.cep_ground.proofs.Scopes.{IsHere, scope_nodes}
-use Rattle.cep_ground.proofs.RuleScopes.{AtomsMade, AreHere, left_here, rule_here, clause_here, atom_of_tokens, nodes_short}
+use Rattle.cep_ground.proofs.FirstPlaces.{firsts_append, variable_at}
+use Rattle.cep_ground.proofs.Wanted.{any_is, firsts_there}
 
 -- occurrences in two lists of nodes
 pub occurrences_both : (source : Source) (blanks : ℕ) (one other : List RawNode) → occurrences_from source blanks (one ++ other) ≡ occurrences_from source blanks one ++ occurrences_from source (blanks_after blanks one) other

@@ -1,7 +1,7 @@
 -- A text in order declares something: there are parts that are what is written.
-use Rattle.std.proofs.Common.{◌≡◌, ◌⊎◌, inl, inr, ⊎_elim, ℕ, suc, zero, ◌+◌, Bool, not, List, [], ◌∷◌, ◌++◌, length, map, filter, refl, sym, ap, subst, ◌∙◌, arith, append_assoc, Contains}
+use Rattle.std.proofs.Common.{◌≡◌, ℕ, suc, zero, ◌+◌, not, List, [], ◌∷◌, ◌++◌, length, map, filter, refl, sym, ap, subst, ◌∙◌, arith, append_assoc, Contains}
 use Rattle.std.proofs.lemmas.List.{length-map}
-use Rattle.std.specs.Prelude.{Option, Some, None, codes, decimal}
+use Rattle.std.specs.Prelude.{codes, decimal}
 use Rattle.std.specs.Option.{option_map}
 use Rattle.cep_parse.specs.declared.raw.Span.{Span}
 use Rattle.cep_parse.specs.declared.raw.RawKind.{RawKind}
@@ -11,8 +11,8 @@ use Rattle.cep_parse.specs.declared.raw.RawAtom.{RawAtom}
 use Rattle.cep_parse.specs.declared.raw.RawElem.{RawElem}
 use Rattle.cep_parse.specs.declared.raw.RawElem.TheVariants as elem
 use Rattle.cep_parse.specs.Written.{Fill, IsCount}
-use Rattle.cep_term.specs.Tree.{Tree, Trees, AtomTree, variable, node, none, more}
-use Rattle.cep_term.specs.Multiset.{Multiset, gathered}
+use Rattle.cep_term.specs.Tree.{Trees, AtomTree, variable, node, none, more}
+use Rattle.cep_term.specs.Multiset.{gathered}
 use Rattle.cep_rule.specs.declared.rule.Rule.{Rule}
 use Rattle.cep_rule.specs.declared.parts.Parts.{Parts}
 use Rattle.cep_rule.specs.Patterns.{PremiseTree, ClauseTree}
@@ -27,12 +27,11 @@ use Rattle.cep_names.specs.Misnamed.{wrong, number_said}
 use Rattle.cep_names.specs.Misnamed.Misnamed.{no_trace}
 use Rattle.cep_infer.specs.Sites.{rule_scope, clause_scope}
 use Rattle.cep_infer.specs.Heads.{Head, var, con, count_of, heads_of, heads_among, number_of, variable_of, head_at, heads_from, blanks_after, IsAtomBy, AreAtomsBy}
-use Rattle.cep_infer.specs.Meaning.{signature_of, stage_by, names_of, kinds_of, is_back, ArePremisesBy, group_of, next_of, stage_named, IsRuleBy, AreRulesBy, IsClauseBy, AreClausesBy, IsStartBy, AreParts}
+use Rattle.cep_infer.specs.Meaning.{signature_of, stage_by, names_of, kinds_of, is_back, ArePremisesBy, group_of, next_of, IsRuleBy, AreRulesBy, IsClauseBy, AreClausesBy, AreParts}
 use Rattle.cep_ground.specs.Texts.{IsClean}
 use Rattle.cep_ground.proofs.Members.{contains_first, contains_behind}
-use Rattle.cep_ground.proofs.Scopes.{IsHere}
-use Rattle.cep_ground.proofs.RuleScopes.{AtomsMade, AreHere, left_here, right_here, clause_here, atom_of_tokens}
-use Rattle.cep_ground.proofs.StartState.{IsListed, start_listed_all}
+use Rattle.cep_ground.proofs.RuleScopes.{AtomsMade, left_here, right_here, clause_here, atom_of_tokens}
+use Rattle.cep_ground.proofs.StartState.{start_listed_all}
 
 -- terms, so many in front and so many behind
 record AreSplit (front back : ℕ) (ts : Trees) : Type 0 where

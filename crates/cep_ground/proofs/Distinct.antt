@@ -1,5 +1,5 @@
 -- Names that are declared once differ.
-use Rattle.std.proofs.Common.{◌≡◌, ◌≢◌, ◌⊎◌, inl, inr, ⊎_elim, ℕ, List, [], ◌∷◌, ◌++◌, map, refl, sym, ap, subst, ◌∙◌, append_assoc, Contains}
+use Rattle.std.proofs.Common.{◌≡◌, ◌≢◌, List, [], ◌∷◌, ◌++◌, map, refl, sym, subst, append_assoc, Contains}
 use Rattle.std.specs.List.{AllByRecursion}
 use Rattle.cep_rule.specs.Names.{AllDiffer}
 use Rattle.cep_names.specs.declared.space.Space.{Space}

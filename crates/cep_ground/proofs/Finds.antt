@@ -1,6 +1,6 @@
 -- What is found in a list.
-use Rattle.std.proofs.Common.{◌≡◌, ℕ, Bool, true, false, ◌||◌, List, [], ◌∷◌, map, refl, Contains, subst}
-use Rattle.std.specs.Prelude.{Option, Some, None, cond}
+use Rattle.std.proofs.Common.{◌≡◌, Bool, true, false, ◌||◌, List, [], ◌∷◌, map, refl, Contains, subst}
+use Rattle.std.specs.Prelude.{Option, Some, cond}
 use Rattle.std.specs.List.{find, list_any}
 use Rattle.cep_ground.proofs.Members.{contains_first, contains_behind}
 

@@ -1,13 +1,13 @@
 -- The places of variables among the first occurrences.
-use Rattle.std.proofs.Common.{◌≡◌, ◌⊎◌, inl, inr, ⊎_elim, ℕ, zero, suc, ◌+◌, ◌<◌, ◌≤◌, Bool, true, false, if◌then◌else◌, List, [], ◌∷◌, ◌++◌, length, map, refl, sym, ap, subst, ◌∙◌, arith, Contains}
-use Rattle.std.specs.Prelude.{Option, Some, None, slice_get, unwrap_or, cond}
+use Rattle.std.proofs.Common.{◌≡◌, ◌⊎◌, inl, inr, ⊎_elim, ℕ, zero, suc, ◌+◌, ◌<◌, Bool, true, false, if◌then◌else◌, List, [], ◌∷◌, ◌++◌, length, map, refl, ap, subst, ◌∙◌, arith, Contains}
+use Rattle.std.specs.Prelude.{Some, slice_get, cond}
 use Rattle.std.specs.Str.{bytes_eq}
-use Rattle.std.specs.List.{list_any, position}
+use Rattle.std.specs.List.{list_any}
 use Rattle.cep_names.specs.Variables.{Occurrence, firsts_beside}
 use Rattle.cep_infer.specs.Heads.{variable_of}
 use Rattle.cep_ground.proofs.Members.{contains_none, contains_first, contains_behind, contains_cases, contains_map, contains_at}
 use Rattle.cep_ground.proofs.Located.{place, position_there, place_within}
-use Rattle.cep_ground.proofs.Wanted.{same_bytes, bytes_same, any_is, is_any}
+use Rattle.cep_ground.proofs.Wanted.{same_bytes, bytes_same, is_any}
 
 -- the names of occurrences
 abbrev pub names_among : List Occurrence → List (List ℕ)

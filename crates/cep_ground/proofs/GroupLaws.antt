@@ -1,6 +1,6 @@
 -- The groups of rules, and the stages that they name.
-use Rattle.std.proofs.Common.{◌≡◌, ◌⊎◌, inl, inr, ⊎_elim, ℕ, zero, suc, ◌+◌, ◌*◌, ◌%◌, ◌<◌, ◌≤◌, Bool, true, false, List, [], ◌∷◌, ◌++◌, length, map, refl, sym, ap, subst, ◌∙◌, arith, Contains}
-use Rattle.std.proofs.Math.Nat.{add-mul-mod_self_left, mul-add-mod_self_left}
+use Rattle.std.proofs.Common.{◌≡◌, ⊎_elim, ℕ, ◌+◌, ◌*◌, ◌%◌, ◌<◌, Bool, true, false, List, [], ◌∷◌, ◌++◌, length, refl, sym, ap, subst, ◌∙◌, arith, Contains}
+use Rattle.std.proofs.Math.Nat.{mul-add-mod_self_left}
 use Rattle.std.proofs.lemmas.Bool.{eqb-true, eqb-false}
 use Rattle.std.proofs.lemmas.List.{length-map}
 use Rattle.std.proofs.lemmas.List.Sums.{sum_by-cons}
@@ -8,8 +8,6 @@ use Rattle.std.specs.Prelude.{Option, Some, None, ◌==◌, ◌↔◌, IsSome, I
 use Rattle.std.specs.List.{flat_map}
 use Rattle.std.specs.Str.{bytes_eq}
 use Rattle.cep_parse.specs.declared.raw.Span.{Span}
-use Rattle.cep_parse.specs.declared.raw.RawAtom.{RawAtom}
-use Rattle.cep_parse.specs.declared.raw.RawRule.{RawRule}
 use Rattle.cep_parse.specs.declared.raw.RawElem.{RawElem}
 use Rattle.cep_parse.specs.declared.raw.RawElem.TheVariants as elem
 use Rattle.cep_names.specs.declared.reason.Reason.TheVariants.{BadQui}
@@ -25,7 +23,7 @@ use Rattle.cep_rule.specs.declared.rule.Rule.{Rule}
 use Rattle.cep_rule.specs.Program.{IsGroupedRule}
 use Rattle.cep_infer.specs.Meaning.{IsRuleBy}
 use Rattle.cep_ground.specs.Texts.{IsClean}
-use Rattle.cep_ground.proofs.Members.{contains_none, contains_first, contains_cases, contains_either, contains_left, contains_right, contains_flat, flat_cases}
+use Rattle.cep_ground.proofs.Members.{contains_none, contains_first, contains_cases, contains_left, contains_right, contains_flat, flat_cases}
 use Rattle.cep_ground.proofs.Known.{known}
 use Rattle.cep_ground.proofs.Located.{place_within, position_there}
 use Rattle.cep_ground.proofs.RuleItems.{rule_uses, home_within}

@@ -1,7 +1,7 @@
 -- What the nodes of terms in prefix order say of them.
-use Rattle.std.proofs.Common.{◌≡◌, ◌⊎◌, inl, inr, ⊎_elim, ℕ, zero, suc, ◌+◌, ◌<◌, List, [], ◌∷◌, ◌++◌, length, refl, sym, ap, subst, ◌∙◌, arith, append_assoc, length-append, Contains}
+use Rattle.std.proofs.Common.{◌≡◌, inl, inr, ⊎_elim, ℕ, List, [], ◌∷◌, ◌++◌, length, refl, sym, ◌∙◌, arith, append_assoc, length-append, Contains}
 use Rattle.std.specs.List.{AllByRecursion}
-use Rattle.cep_term.specs.Tree.{Tree, Trees, AtomTree, variable, node, none, more, AreGround, IsGround, nodes_of, nodes_among, Occurs, OccursAmong}
+use Rattle.cep_term.specs.Tree.{Tree, Trees, variable, node, none, more, AreGround, IsGround, nodes_of, nodes_among, Occurs, OccursAmong}
 use Rattle.cep_infer.specs.Heads.{Head, var, con, count_of, heads_of, heads_among}
 use Rattle.cep_ground.proofs.Members.{contains_cases, contains_none, contains_either}
 

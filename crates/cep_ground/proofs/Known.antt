@@ -1,27 +1,24 @@
 -- In a text whose names are in order, each name that is used is declared, with the number of arguments with which it is used.
-use Rattle.std.proofs.Common.{◌≡◌, ◌≢◌, ◌⊎◌, inl, inr, ⊎_elim, ℕ, zero, suc, Bool, true, false, List, [], ◌∷◌, ◌++◌, length, map, refl, sym, ap, subst, ◌∙◌, arith, Contains}
-use Rattle.std.specs.Prelude.{Option, Some, None, ◌==◌}
+use Rattle.std.proofs.Common.{◌≡◌, ⊎_elim, ℕ, Bool, true, false, [], ◌∷◌, length, refl, sym, ap, subst, Contains}
+use Rattle.std.specs.Prelude.{Some, ◌==◌}
 use Rattle.std.specs.Option.{option_map}
 use Rattle.std.specs.Str.{bytes_eq}
-use Rattle.std.specs.List.{flat_map, find, list_any}
+use Rattle.std.specs.List.{flat_map}
 use Rattle.std.proofs.lemmas.Bool.{eqb-true, eqb-false}
 use Rattle.cep_parse.specs.declared.raw.Span.{Span}
-use Rattle.cep_parse.specs.declared.raw.RawKind.{RawKind}
 use Rattle.cep_parse.specs.declared.raw.RawKind.TheVariants as kind
-use Rattle.cep_parse.specs.declared.raw.RawNode.{RawNode}
 use Rattle.cep_parse.specs.declared.raw.RawItem.{RawItem}
 use Rattle.cep_parse.specs.declared.raw.RawItem.TheVariants as item
 use Rattle.cep_names.specs.declared.fault.Fault.{Fault}
 use Rattle.cep_names.specs.declared.reason.Reason.TheVariants.{Unknown, WrongKind, WrongArity}
-use Rattle.cep_names.specs.declared.space.Space.{Space}
 use Rattle.cep_names.specs.declared.space.Space.TheVariants as space
 use Rattle.cep_names.specs.Items.{Source, PredItem, ConItem, ClauseItem, said, preds_in, preds_of, cons_in, cons_of, clauses_in, clauses_of}
-use Rattle.cep_names.specs.Spaces.{named, names_in, is_in, pred_named, con_named, arity_of}
-use Rattle.cep_names.specs.Uses.{Placed, Use, use_in, pred_uses, con_use, node_uses, atom_uses, con_uses, own_uses, item_uses, uses_of, item_atoms, own_atoms, clause_atoms, placed_of, is_context}
+use Rattle.cep_names.specs.Spaces.{named, is_in, pred_named, con_named, arity_of}
+use Rattle.cep_names.specs.Uses.{Placed, Use, use_in, pred_uses, node_uses, atom_uses, con_uses, own_uses, item_uses, uses_of, item_atoms, own_atoms, clause_atoms, placed_of, is_context}
 use Rattle.cep_names.specs.Misnamed.{Misnamed, wrong, is_somewhere}
 use Rattle.cep_names.specs.Misnamed.Misnamed.{unknown, wrong_kind, wrong_arity}
 use Rattle.cep_ground.proofs.Members.{contains_first, contains_none, contains_cases, contains_left, contains_right, contains_map, contains_flat, flat_cases}
-use Rattle.cep_ground.proofs.Finds.{IsFound, any_found}
+use Rattle.cep_ground.proofs.Finds.{any_found}
 
 -- the names of the source are in order
 abbrev pub AreNamesClean : Source → Type 0

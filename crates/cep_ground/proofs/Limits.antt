@@ -1,7 +1,7 @@
 -- How many there are at most.
-use Rattle.std.proofs.Common.{◌≡◌, ◌⊎◌, inl, inr, ⊎_elim, ℕ, zero, suc, ◌+◌, ◌*◌, ◌<◌, ◌≤◌, Bool, true, false, List, [], ◌∷◌, ◌++◌, length, map, filter, refl, sym, ap, subst, ◌∙◌, arith, Contains, length-append}
-use Rattle.std.specs.Prelude.{Option, Some, None, slice_get, cond}
-use Rattle.std.specs.List.{AllByRecursion, flat_map}
+use Rattle.std.proofs.Common.{◌≡◌, ◌⊎◌, inl, inr, ⊎_elim, ℕ, zero, suc, ◌+◌, ◌*◌, ◌≤◌, Bool, true, false, List, [], ◌∷◌, length, map, filter, refl, sym, subst, arith, Contains, length-append}
+use Rattle.std.specs.Prelude.{Some, slice_get, cond}
+use Rattle.std.specs.List.{AllByRecursion}
 use Rattle.cep_parse.specs.declared.raw.RawAtom.{RawAtom}
 use Rattle.cep_names.specs.Variables.{nodes_of}
 use Rattle.cep_ground.proofs.Members.{contains_first, contains_behind, contains_cases}

@@ -1,6 +1,6 @@
 -- Elements of lists.
-use Rattle.std.proofs.Common.{◌≡◌, ◌⊎◌, inl, inr, ⊎_elim, ℕ, zero, suc, ◌+◌, ◌<◌, List, [], ◌∷◌, ◌++◌, length, map, refl, sym, ap, subst, arith, Contains}
-use Rattle.std.specs.Prelude.{slice_index_or, slice_get, Some, None, Option}
+use Rattle.std.proofs.Common.{◌≡◌, ◌⊎◌, inl, inr, ⊎_elim, ℕ, zero, suc, ◌<◌, List, [], ◌∷◌, ◌++◌, length, map, refl, sym, ap, subst, arith, Contains}
+use Rattle.std.specs.Prelude.{slice_index_or, slice_get, Some}
 use Rattle.std.specs.List.{AllByRecursion, flat_map}
 
 module _ {X : Type 0} where

@@ -1,23 +1,17 @@
 -- The names of a text are names of a program.
-use Rattle.std.proofs.Common.{get_or, ◌≡◌, ◌≢◌, ◌⊎◌, inl, inr, ⊎_elim, ℕ, zero, suc, ◌+◌, ◌<◌, ◌≤◌, ◌^◌, ◌&&◌, ◌||◌, Bool, true, false, IsTrue, List, [], ◌∷◌, ◌++◌, length, map, refl, sym, ap, subst, ◌∙◌, arith, Contains, length-append, leb}
+use Rattle.std.proofs.Common.{get_or, ◌≡◌, ⊎_elim, ℕ, suc, ◌+◌, ◌<◌, ◌≤◌, ◌^◌, ◌&&◌, ◌||◌, Bool, true, false, IsTrue, List, [], ◌∷◌, ◌++◌, length, map, refl, sym, ap, subst, ◌∙◌, arith, Contains, leb}
 use Rattle.std.proofs.lemmas.Fmt.{decimal_is_IsNumeral, length-decimal-le}
 use Rattle.std.proofs.lemmas.Str.Parse.{digit_from_value}
 use Rattle.std.proofs.lemmas.Bool.{le-leb}
-use Rattle.std.proofs.lemmas.List.{length-map}
 use Rattle.std.specs.Prelude.{Option, Some, None, codes, decimal, ◌==◌}
 use Rattle.std.specs.Int.{is_in_range, IsInRange}
-use Rattle.std.specs.Char.{is_ascii_alphanumeric, is_ascii_lowercase}
 use Rattle.std.specs.Str.Parse.{AllDigits}
-use Rattle.std.specs.List.{AllByRecursion, flat_map}
-use Rattle.cep_lex.specs.declared.token.Token.{Token}
+use Rattle.std.specs.List.{AllByRecursion}
 use Rattle.cep_parse.specs.declared.raw.Span.{Span}
-use Rattle.cep_parse.specs.declared.raw.RawRule.{RawRule}
 use Rattle.cep_parse.specs.declared.raw.RawItem.{RawItem}
 use Rattle.cep_parse.specs.declared.raw.RawItem.TheVariants as item
-use Rattle.cep_parse.specs.Symbols.{symbols_of}
-use Rattle.cep_parse.specs.Grammar.{File}
 use Rattle.cep_parse.specs.Written.{IsNameAt, IsLabelOf, IsRuleOf, IsItemOf}
-use Rattle.cep_rule.specs.Names.{IsName, AreNames, AllDiffer, is_name_byte, reserved_words}
+use Rattle.cep_rule.specs.Names.{IsName, AreNames, AllDiffer, is_name_byte}
 use Rattle.cep_names.specs.declared.reason.Reason.TheVariants.{OverLimit}
 use Rattle.cep_names.specs.declared.space.Space.{Space}
 use Rattle.cep_names.specs.declared.space.Space.TheVariants as space
@@ -27,10 +21,10 @@ use Rattle.cep_names.specs.Misnamed.{wrong}
 use Rattle.cep_names.specs.Misnamed.Misnamed.{over}
 use Rattle.cep_names.specs.Misnamed.{IsOver as overs}
 use Rattle.cep_ground.specs.Texts.{IsClean}
-use Rattle.cep_ground.proofs.Members.{contains_none, contains_first, contains_behind, contains_cases, flat_cases, map_cases, all_at, all_of}
+use Rattle.cep_ground.proofs.Members.{contains_none, contains_first, contains_behind, contains_cases, flat_cases, all_at, all_of}
 use Rattle.cep_ground.proofs.Distinct.{names_differ}
 use Rattle.cep_ground.proofs.Limits.{at_most, all_map}
-use Rattle.cep_ground.proofs.RuleItems.{StandsIn, StandsAmong, rule_stands}
+use Rattle.cep_ground.proofs.RuleItems.{StandsIn, rule_stands}
 use Rattle.cep_ground.proofs.RuleItems.StandsIn.{out_of_stages, in_stage}
 use Rattle.cep_ground.proofs.Spelled.{name_is}
 

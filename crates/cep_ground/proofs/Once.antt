@@ -1,19 +1,18 @@
 -- A text declares one program at most.
-use Rattle.std.proofs.Common.{◌≡◌, ℕ, suc, zero, ◌+◌, Bool, not, List, [], ◌∷◌, ◌++◌, length, map, filter, refl, sym, ap, subst, ◌∙◌}
+use Rattle.std.proofs.Common.{◌≡◌, ℕ, not, List, [], ◌∷◌, map, filter, refl, sym, ap, subst, ◌∙◌}
 use Rattle.std.proofs.lemmas.List.{append-nil}
-use Rattle.std.specs.Prelude.{Option, Some, None}
 use Rattle.std.specs.Option.{option_map}
 use Rattle.cep_names.specs.declared.space.Space.TheVariants as space
 use Rattle.cep_names.specs.Misnamed.{number_said}
 use Rattle.cep_parse.specs.declared.raw.RawAtom.{RawAtom}
 use Rattle.cep_parse.specs.declared.raw.RawElem.{RawElem}
 use Rattle.cep_parse.specs.declared.raw.RawElem.TheVariants as elem
-use Rattle.cep_term.specs.Tree.{AtomTree, Trees}
+use Rattle.cep_term.specs.Tree.{AtomTree}
 use Rattle.cep_term.specs.Multiset.{Multiset, gathered}
 use Rattle.cep_rule.specs.declared.rule.Rule.{Rule}
 use Rattle.cep_rule.specs.declared.parts.Parts.{Parts}
 use Rattle.cep_rule.specs.Patterns.{PremiseTree, ClauseTree}
-use Rattle.cep_names.specs.Items.{Source, ClauseItem, RuleItem, TraceItem, said, traces_of}
+use Rattle.cep_names.specs.Items.{Source, ClauseItem, RuleItem, TraceItem, said}
 use Rattle.cep_names.specs.Uses.{atoms_of}
 use Rattle.cep_names.specs.Variables.{nodes_of}
 use Rattle.cep_infer.specs.Sites.{clause_scope}

@@ -1,6 +1,6 @@
 -- A text spells one program at most, since its tokens and its raw file are one.
-use Rattle.std.proofs.Common.{◌≡◌, ℕ, List, refl, sym, ap, subst, ◌∙◌}
-use Rattle.std.specs.Prelude.{Result, Ok, Err}
+use Rattle.std.proofs.Common.{◌≡◌, ℕ, List, sym, subst, ◌∙◌}
+use Rattle.std.specs.Prelude.{Result, Ok}
 use Rattle.cep_lex.specs.declared.token.Token.{Token}
 use Rattle.cep_lex.specs.declared.fault.LexFault.{LexFault}
 use Rattle.cep_lex.specs.Cuts.{AreTokens, IsLexed}

@@ -1,7 +1,7 @@
 -- What a text in order declares is a program.
-use Rattle.std.proofs.Common.{◌≡◌, ◌⊎◌, inl, inr, ⊎_elim, ℕ, zero, suc, ◌+◌, ◌*◌, ◌<◌, ◌≤◌, ◌^◌, Bool, true, false, not, List, [], ◌∷◌, ◌++◌, length, map, filter, refl, sym, ap, subst, ◌∙◌, arith, Contains, length-append}
+use Rattle.std.proofs.Common.{◌≡◌, ⊎_elim, ℕ, suc, ◌<◌, ◌≤◌, ◌^◌, not, List, [], ◌∷◌, length, map, filter, refl, sym, ap, subst, ◌∙◌, arith, Contains, length-append}
 use Rattle.std.proofs.lemmas.List.{length-map}
-use Rattle.std.specs.Prelude.{Option, Some, None, slice_get, IfSome}
+use Rattle.std.specs.Prelude.{Option, Some, None, IfSome}
 use Rattle.std.specs.Option.{option_map}
 use Rattle.std.specs.List.{AllByRecursion, flat_map}
 use Rattle.cep_parse.specs.declared.raw.Span.{Span}
@@ -9,8 +9,7 @@ use Rattle.cep_parse.specs.declared.raw.RawAtom.{RawAtom}
 use Rattle.cep_parse.specs.declared.raw.RawItem.{RawItem}
 use Rattle.cep_parse.specs.declared.raw.RawItem.TheVariants as item
 use Rattle.cep_parse.specs.Written.{IsItemOf}
-use Rattle.cep_term.specs.Tree.{AtomTree, nodes_in}
-use Rattle.cep_term.specs.Multiset.{Multiset}
+use Rattle.cep_term.specs.Tree.{AtomTree}
 use Rattle.cep_rule.specs.declared.signature.Con.{Con}
 use Rattle.cep_rule.specs.declared.signature.PredDecl.{PredDecl}
 use Rattle.cep_rule.specs.declared.signature.Signature.{Signature}
@@ -18,25 +17,25 @@ use Rattle.cep_rule.specs.declared.rule.Rule.{Rule}
 use Rattle.cep_rule.specs.declared.parts.Stage.{Stage}
 use Rattle.cep_rule.specs.declared.parts.Parts.{Parts}
 use Rattle.cep_rule.specs.Patterns.{PremiseTree, ClauseTree}
-use Rattle.cep_rule.specs.Names.{IsName, AreNames, IsVariableName}
+use Rattle.cep_rule.specs.Names.{AreNames, IsVariableName}
 use Rattle.cep_rule.specs.Binding.{IsBoundRule, IsBoundClause}
-use Rattle.cep_rule.specs.Limits.{IsSmallPattern, IsSmallSignature, IsSmallRule, IsSmallClause, IsTurnLimit, IsSmall}
+use Rattle.cep_rule.specs.Limits.{IsSmallPattern, IsSmallSignature, IsSmallRule, IsSmallClause, IsTurnLimit}
 use Rattle.cep_rule.specs.Groundness.{Calls, IsBad, IsGrounded, nothing, known_after_all}
 use Rattle.cep_rule.specs.Binding.{needed_of}
 use Rattle.cep_rule.specs.State.{IsState}
-use Rattle.cep_rule.specs.Program.{AreNamed, AreSorts, AreInRange, IsTypedRule, IsTypedClause, IsDividedRule, IsDividedClause, IsGroupedRule, IsProgram}
+use Rattle.cep_rule.specs.Program.{AreSorts, AreInRange, IsTypedRule, IsTypedClause, IsDividedRule, IsDividedClause, IsGroupedRule, IsProgram}
 use Rattle.cep_names.specs.declared.reason.Reason.TheVariants.{OverLimit}
 use Rattle.cep_names.specs.declared.space.Space.TheVariants as space
 use Rattle.cep_names.specs.Items.{Source, PredItem, ConItem, ClauseItem, RuleItem, TraceItem, said, sorts_in, sorts_of, preds_of, cons_of, stages_in, stages_of, clauses_of, rules_of, traces_in, traces_of}
 use Rattle.cep_names.specs.Spaces.{Named, named, names_in}
-use Rattle.cep_names.specs.Uses.{atoms_of, use_in, own_uses, start_uses, uses_of}
+use Rattle.cep_names.specs.Uses.{atoms_of, use_in, own_uses, start_uses}
 use Rattle.cep_names.specs.Variables.{Occurrence, nodes_of, variables_of}
-use Rattle.cep_names.specs.Misnamed.{wrong, number_said, linear_of, backward_of}
+use Rattle.cep_names.specs.Misnamed.{wrong, number_said}
 use Rattle.cep_names.specs.Misnamed.Misnamed.{over}
 use Rattle.cep_names.specs.Misnamed.{IsOver as overs}
 use Rattle.cep_infer.specs.Sites.{rule_scope, clause_scope}
 use Rattle.cep_infer.specs.Heads.{number_of}
-use Rattle.cep_infer.specs.Meaning.{sorts_said, con_by, pred_by, signature_of, stage_by, names_of, kinds_of, is_back, IsRuleBy, AreRulesBy, IsClauseBy, AreClausesBy, IsStartBy, AreParts}
+use Rattle.cep_infer.specs.Meaning.{sorts_said, con_by, pred_by, signature_of, stage_by, names_of, is_back, IsRuleBy, AreRulesBy, IsClauseBy, AreClausesBy, AreParts}
 use Rattle.cep_infer.specs.Places.{unbound_of}
 use Rattle.cep_ground.specs.Texts.{IsClean, IsBound}
 use Rattle.cep_ground.proofs.Members.{contains_none, contains_first, contains_behind, contains_cases, contains_left, contains_right, contains_map, flat_cases, all_at, all_of}
@@ -44,10 +43,10 @@ use Rattle.cep_ground.proofs.Known.{own_item_uses}
 use Rattle.cep_ground.proofs.Limits.{at_most, nodes_few, all_filter, all_map}
 use Rattle.cep_ground.proofs.Spelled.{tokens_few}
 use Rattle.cep_ground.proofs.RuleScopes.{AtomsMade, AreHere, rule_here, clause_here, left_here, right_here, linear_few, back_few, right_few, goals_few, nodes_short}
-use Rattle.cep_ground.proofs.RuleParts.{IsJudged, judged_premises, judged_atoms, linear_part, back_part, linear_count, back_count, atoms_count, all_follow, rule_typed, rule_divided, clause_typed, clause_divided}
+use Rattle.cep_ground.proofs.RuleParts.{IsJudged, judged_premises, judged_atoms, back_part, linear_count, back_count, atoms_count, all_follow, rule_typed, rule_divided, clause_typed, clause_divided}
 use Rattle.cep_ground.proofs.BoundVariables.{bound_vars, rule_bound, clause_bound}
 use Rattle.cep_ground.proofs.VariableKinds.{in_range, con_sort_known, con_args_known, pred_args_known, kinds_in_range, variable_names}
-use Rattle.cep_ground.proofs.StartState.{CountLaws, IsGoodStart, start_good}
+use Rattle.cep_ground.proofs.StartState.{CountLaws, start_good}
 use Rattle.cep_ground.proofs.StateAtoms.{not_greater}
 use Rattle.cep_ground.proofs.NameLaws.{rule_names_size, rules_few, sort_names, stage_names, con_names, pred_names, rule_names}
 use Rattle.cep_ground.proofs.GroupLaws.{used_stage, rule_grouped, rule_next}

@@ -1,5 +1,5 @@
 -- For which fault a text is refused.
-use Rattle.std.proofs.Common.{◌≡◌, ◌⊎◌, inl, inr, ⊎_elim, ℕ, zero, suc, ◌+◌, ◌<◌, ◌≤◌, Bool, true, false, List, [], length, refl, sym, ap, subst, ◌∙◌, arith, Contains, ltb}
+use Rattle.std.proofs.Common.{◌≡◌, ◌⊎◌, inl, inr, ℕ, ◌<◌, ◌≤◌, Bool, true, false, List, [], length, refl, sym, ap, subst, ◌∙◌, arith, Contains, ltb}
 use Rattle.std.proofs.lemmas.Bool.{ltb-true, ltb-false}
 use Rattle.std.specs.Prelude.{Result, Ok, Err}
 use Rattle.cep_lex.specs.declared.token.Token.{Token}
@@ -15,7 +15,7 @@ use Rattle.cep_parse.specs.Files.{IsUnexpected, IsNested, IsParsed}
 use Rattle.cep_rule.specs.declared.parts.Parts.{Parts}
 use Rattle.cep_names.specs.declared.fault.Fault.{Fault}
 use Rattle.cep_names.specs.declared.reason.Reason.{Reason}
-use Rattle.cep_names.specs.declared.reason.Reason.TheVariants.{BadByte, NameLong, Unexpected, Nested, TypeClash, Unbound, TooLong, NotBuilt}
+use Rattle.cep_names.specs.declared.reason.Reason.TheVariants.{BadByte, NameLong, Unexpected, Nested, Unbound, TooLong, NotBuilt}
 use Rattle.cep_names.specs.Items.{Source, RuleItem, rules_of}
 use Rattle.cep_names.specs.Variables.{Occurrence}
 use Rattle.cep_names.specs.First.{IsFirst, IsNoLater}

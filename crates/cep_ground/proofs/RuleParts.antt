@@ -1,13 +1,12 @@
 -- What the rules of a text keep: types, predicates, limits.
-use Rattle.std.proofs.Common.{◌≡◌, ◌≢◌, ◌⊎◌, inl, inr, ⊎_elim, ℕ, zero, suc, ◌+◌, ◌*◌, ◌<◌, ◌≤◌, Bool, true, false, not, List, [], ◌∷◌, ◌++◌, length, map, filter, refl, sym, ap, subst, ◌∙◌, arith, Contains, length-append}
-use Rattle.std.proofs.lemmas.List.{length-map, append-nil}
+use Rattle.std.proofs.Common.{◌≡◌, ℕ, suc, ◌+◌, ◌≤◌, Bool, true, false, not, List, [], ◌∷◌, ◌++◌, length, map, filter, refl, sym, ap, subst, ◌∙◌, arith, Contains}
+use Rattle.std.proofs.lemmas.List.{length-map}
 use Rattle.std.proofs.lemmas.Grind.{flat_map-append}
 use Rattle.std.proofs.lemmas.Option.{slice_get-map}
-use Rattle.std.specs.Prelude.{Option, Some, None, slice_get, unwrap_or, IsSomeAnd, cond}
+use Rattle.std.specs.Prelude.{Some, slice_get, unwrap_or, IsSomeAnd, cond}
 use Rattle.std.specs.Option.{option_map}
 use Rattle.std.specs.Str.{bytes_eq}
-use Rattle.std.specs.List.{AllByRecursion, flat_map}
-use Rattle.cep_parse.specs.declared.raw.Span.{Span}
+use Rattle.std.specs.List.{AllByRecursion}
 use Rattle.cep_parse.specs.declared.raw.RawNode.{RawNode}
 use Rattle.cep_parse.specs.declared.raw.RawAtom.{RawAtom}
 use Rattle.cep_parse.specs.declared.raw.RawElem.{RawElem}
@@ -18,30 +17,29 @@ use Rattle.cep_rule.specs.declared.rule.Rule.{Rule}
 use Rattle.cep_rule.specs.Patterns.{PremiseTree, ClauseTree}
 use Rattle.cep_rule.specs.Typing.{IsTyped, IsLinear, IsBackward}
 use Rattle.cep_rule.specs.Binding.{needed_of}
-use Rattle.cep_rule.specs.Limits.{IsSmallPattern}
 use Rattle.cep_rule.specs.Program.{IsTypedRule, IsDividedRule, IsTypedClause, IsDividedClause}
 use Rattle.cep_names.specs.declared.reason.Reason.TheVariants.{BwdInState, LinearInClause}
 use Rattle.cep_names.specs.declared.space.Role.TheVariants as role
 use Rattle.cep_names.specs.declared.space.Space.TheVariants as space
 use Rattle.cep_names.specs.Items.{Source, RuleItem, ClauseItem, PredItem, said, rules_of, clauses_of, preds_of}
-use Rattle.cep_names.specs.Spaces.{named, back_of, pred_named}
-use Rattle.cep_names.specs.Uses.{Placed, placed, placed_of, atoms_of}
+use Rattle.cep_names.specs.Spaces.{named, back_of}
+use Rattle.cep_names.specs.Uses.{placed, placed_of, atoms_of}
 use Rattle.cep_names.specs.Variables.{nodes_of, blanks_behind, variables_of, Occurrence}
-use Rattle.cep_names.specs.Misnamed.{wrong, is_declared, linear_of, backward_of, ComesToState}
+use Rattle.cep_names.specs.Misnamed.{wrong, is_declared}
 use Rattle.cep_names.specs.Misnamed.ComesToState.{made}
 use Rattle.cep_names.specs.Misnamed.Misnamed.{backward_in_state, linear_in_clause}
-use Rattle.cep_infer.specs.Sites.{Site, Wanted, sites_of, wanted_from, type_of, rule_scope, clause_scope}
-use Rattle.cep_infer.specs.Heads.{number_of, heads_among, heads_from, blanks_after, IsAtomBy, AreAtomsBy}
+use Rattle.cep_infer.specs.Sites.{sites_of, wanted_from, type_of, rule_scope, clause_scope}
+use Rattle.cep_infer.specs.Heads.{number_of, heads_from, blanks_after, IsAtomBy, AreAtomsBy}
 use Rattle.cep_infer.specs.Meaning.{pred_by, signature_of, names_of, kinds_of, is_back, ArePremisesBy, IsRuleBy, IsClauseBy}
 use Rattle.cep_ground.specs.Texts.{IsClean}
-use Rattle.cep_ground.proofs.Members.{contains_first, contains_behind, contains_left, contains_right, all_of}
-use Rattle.cep_ground.proofs.Known.{IsPredKnown, pred_known}
+use Rattle.cep_ground.proofs.Members.{contains_first, contains_behind, contains_left, contains_right}
+use Rattle.cep_ground.proofs.Known.{pred_known}
 use Rattle.cep_ground.proofs.Located.{located}
 use Rattle.cep_ground.proofs.Limits.{all_filter, all_map, all_pass}
 use Rattle.cep_ground.proofs.HeadLaws.{terms_nodes}
 use Rattle.cep_ground.proofs.Wanted.{nodes_at, wanted_both}
 use Rattle.cep_ground.proofs.Scopes.{IsHere, scope_nodes, typed_atoms, typed_premises}
-use Rattle.cep_ground.proofs.RuleScopes.{AtomsMade, AreHere, words, short, nodes_short, left_here, right_at, right_here, clause_at, clause_here, rule_here, back_known, linear_few, back_few, right_few, goals_few}
+use Rattle.cep_ground.proofs.RuleScopes.{AtomsMade, words, short, nodes_short, left_here, right_at, right_here, clause_at, clause_here, rule_here, back_known}
 
 -- the nodes of an atom are as many as are written
 heads_size : (source : Source) (vars : List (List ℕ)) (blanks : ℕ) (nodes : List RawNode) → length (heads_from source vars blanks nodes) ≡ length nodes

@@ -1,10 +1,9 @@
 -- The atoms of rules and clauses: they stand in the file, and there are not too many.
-use Rattle.std.proofs.Common.{◌≡◌, ◌⊎◌, inl, inr, ⊎_elim, ℕ, zero, suc, ◌+◌, ◌*◌, ◌<◌, ◌≤◌, ◌^◌, Bool, true, false, List, [], ◌∷◌, ◌++◌, length, map, refl, sym, ap, subst, ◌∙◌, arith, Contains, length-append}
+use Rattle.std.proofs.Common.{◌≡◌, ◌⊎◌, inl, inr, ⊎_elim, ◌<◌, ◌≤◌, ◌^◌, Bool, true, false, List, ◌∷◌, length, map, refl, sym, ap, subst, ◌∙◌, arith, Contains, length-append}
 use Rattle.std.proofs.lemmas.List.{length-map}
-use Rattle.std.specs.Prelude.{Option, Some, None, slice_get}
+use Rattle.std.specs.Prelude.{Some}
 use Rattle.std.specs.Option.{option_map}
 use Rattle.std.specs.Char.{is_ascii_uppercase}
-use Rattle.std.specs.List.{AllByRecursion, flat_map}
 use Rattle.cep_parse.specs.declared.raw.RawKind.{RawKind}
 use Rattle.cep_parse.specs.declared.raw.RawKind.TheVariants as kind
 use Rattle.cep_parse.specs.declared.raw.Span.{Span}
@@ -20,7 +19,7 @@ use Rattle.cep_names.specs.declared.space.Role.{Role}
 use Rattle.cep_names.specs.declared.space.Role.TheVariants as role
 use Rattle.cep_names.specs.Items.{Source, RuleItem, ClauseItem, PredItem, said, rules_of, clauses_of}
 use Rattle.cep_names.specs.Spaces.{back_of}
-use Rattle.cep_names.specs.Uses.{Placed, placed, placed_of, atoms_of, rule_atoms, clause_atoms}
+use Rattle.cep_names.specs.Uses.{Placed, placed, placed_of, atoms_of}
 use Rattle.cep_names.specs.Variables.{nodes_of}
 use Rattle.cep_names.specs.Misnamed.{wrong, is_declared, linear_of, backward_of}
 use Rattle.cep_names.specs.Misnamed.Misnamed.{over}
@@ -29,12 +28,12 @@ use Rattle.cep_infer.specs.Shapes.{IsSource}
 use Rattle.cep_infer.specs.Sites.{Site, sites_of, IsScope, rule_scope, clause_scope}
 use Rattle.cep_infer.specs.Sites.{IsScope as scopes}
 use Rattle.cep_ground.specs.Texts.{IsClean}
-use Rattle.cep_ground.proofs.Members.{contains_first, contains_behind, contains_either, contains_left, contains_right, contains_map, contains_flat, flat_cases, all_at}
+use Rattle.cep_ground.proofs.Members.{contains_either, contains_left, contains_right, contains_map, flat_cases, all_at}
 use Rattle.cep_ground.proofs.Known.{pred_known, clause_placed}
 use Rattle.cep_ground.proofs.RuleItems.{rule_placed}
 use Rattle.cep_ground.proofs.Limits.{at_most, filters_cover, nodes_few}
 use Rattle.cep_ground.proofs.Spelled.{variable_word, tokens_few}
-use Rattle.cep_ground.proofs.Wanted.{nodes_at, AreWords}
+use Rattle.cep_ground.proofs.Wanted.{AreWords}
 use Rattle.cep_ground.proofs.Scopes.{IsHere, scope_nodes}
 
 -- what the law of atoms says of a source

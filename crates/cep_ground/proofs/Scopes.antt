@@ -1,12 +1,11 @@
 -- The variables of a scope have the types that are wanted of them, and its atoms are well typed.
-use Rattle.std.proofs.Common.{◌≡◌, ◌≢◌, ◌⊎◌, inl, inr, ⊎_elim, ℕ, zero, suc, ◌+◌, ◌<◌, ◌≤◌, ◌^◌, Bool, true, false, List, [], ◌∷◌, ◌++◌, length, map, refl, sym, ap, subst, ◌∙◌, arith, append_assoc, length-append, Contains}
-use Rattle.std.proofs.lemmas.List.{append-nil, length-map, map-append}
+use Rattle.std.proofs.Common.{◌≡◌, ⊎_elim, ℕ, suc, ◌+◌, ◌<◌, ◌^◌, Bool, true, false, List, [], ◌∷◌, ◌++◌, length, map, refl, sym, ap, subst, ◌∙◌, arith, Contains}
+use Rattle.std.proofs.lemmas.List.{append-nil}
 use Rattle.std.proofs.lemmas.Option.{slice_get-map}
-use Rattle.std.specs.Prelude.{Option, Some, None, slice_get, unwrap_or, codes, decimal, IsSomeAnd}
+use Rattle.std.specs.Prelude.{Option, Some, slice_get, unwrap_or, codes, decimal, IsSomeAnd}
 use Rattle.std.specs.Option.{option_map}
 use Rattle.std.specs.Str.{bytes_eq}
-use Rattle.std.specs.Char.{is_ascii_uppercase}
-use Rattle.std.specs.List.{AllByRecursion, flat_map, find, list_any}
+use Rattle.std.specs.List.{AllByRecursion, find}
 use Rattle.cep_parse.specs.declared.raw.Span.{Span}
 use Rattle.cep_parse.specs.declared.raw.RawKind.{RawKind}
 use Rattle.cep_parse.specs.declared.raw.RawKind.TheVariants as kind
@@ -15,10 +14,8 @@ use Rattle.cep_parse.specs.declared.raw.RawAtom.{RawAtom}
 use Rattle.cep_parse.specs.declared.raw.RawElem.{RawElem}
 use Rattle.cep_parse.specs.declared.raw.RawElem.TheVariants as elem
 use Rattle.cep_parse.specs.Written.{Fill}
-use Rattle.cep_term.specs.Tree.{Tree, Trees, AtomTree}
-use Rattle.cep_rule.specs.declared.signature.Con.{Con}
+use Rattle.cep_term.specs.Tree.{AtomTree}
 use Rattle.cep_rule.specs.declared.signature.PredDecl.{PredDecl}
-use Rattle.cep_rule.specs.Names.{IsWord}
 use Rattle.cep_rule.specs.Patterns.{PremiseTree}
 use Rattle.cep_rule.specs.Typing.{HaveSorts, IsTyped}
 use Rattle.cep_names.specs.declared.fault.Fault.{Fault}
@@ -27,18 +24,18 @@ use Rattle.cep_names.specs.declared.space.Role.{Role}
 use Rattle.cep_names.specs.declared.space.Space.TheVariants as space
 use Rattle.cep_names.specs.Items.{Source, ConItem, PredItem, said, cons_of, preds_of}
 use Rattle.cep_names.specs.Spaces.{named, pred_named, con_named}
-use Rattle.cep_names.specs.Uses.{Placed, atoms_of, placed, placed_of, is_context}
+use Rattle.cep_names.specs.Uses.{atoms_of, placed, placed_of, is_context}
 use Rattle.cep_names.specs.Variables.{Occurrence, occurrence_at, blanks_behind, occurrences_from, nodes_of, variables_of}
 use Rattle.cep_names.specs.Misnamed.{wrong}
 use Rattle.cep_infer.specs.Sites.{Site, Wanted, con_types, pred_types, node_types, sites_from, sites_in, sites_of, wanted_from, type_of, IsScope, Mistyped}
 use Rattle.cep_infer.specs.Sites.Mistyped.{constructor, variable}
-use Rattle.cep_infer.specs.Heads.{Head, number_of, variable_of, heads_from, heads_among, count_of, blanks_after, IsAtomBy, AreAtomsBy}
+use Rattle.cep_infer.specs.Heads.{number_of, variable_of, heads_among, blanks_after, IsAtomBy, AreAtomsBy}
 use Rattle.cep_infer.specs.Meaning.{ArePremisesBy, sorts_said, con_by, pred_by, signature_of, names_of, kinds_of}
-use Rattle.cep_ground.proofs.Members.{contains_none, contains_first, contains_behind, contains_cases, contains_either, contains_left, contains_right, contains_map, map_cases, contains_flat}
-use Rattle.cep_ground.proofs.Finds.{IsFound, any_found, IsFoundIn, found_in}
+use Rattle.cep_ground.proofs.Members.{contains_none, contains_first, contains_behind, contains_left, contains_right, contains_map}
+use Rattle.cep_ground.proofs.Finds.{IsFound, any_found, found_in}
 use Rattle.cep_ground.proofs.Known.{AreNamesClean, IsPredKnown, pred_known, IsConKnown, con_known}
-use Rattle.cep_ground.proofs.Located.{IsLocated, located}
-use Rattle.cep_ground.proofs.TypedTerms.{type_number, IsGoodCon, IsGood, AreGood, typed_args}
+use Rattle.cep_ground.proofs.Located.{located}
+use Rattle.cep_ground.proofs.TypedTerms.{IsGoodCon, IsGood, AreGood, typed_args}
 use Rattle.cep_ground.proofs.Wanted.{nodes_at, sites_whole, wanted_both, wanted_names, same_bytes, bytes_same, is_any, first_there, IsFirstIn, AreWords, first_wanted}
 use Rattle.cep_ground.proofs.Wanted.IsFirstIn.{written, blank}
 

@@ -1,5 +1,5 @@
 -- Names that stand in a text are names of a program, and variables are names of variables.
-use Rattle.std.proofs.Common.{◌≡◌, ◌⊎◌, inl, inr, ⊎_elim, ℕ, zero, suc, ◌+◌, ◌-◌, ◌<◌, ◌≤◌, Bool, List, [], ◌∷◌, ◌++◌, length, take, drop, refl, sym, ap, subst, ◌∙◌, arith, append_assoc, length-append, Contains}
+use Rattle.std.proofs.Common.{◌≡◌, inl, ⊎_elim, ℕ, ◌+◌, ◌-◌, ◌≤◌, Bool, List, [], ◌∷◌, ◌++◌, length, take, drop, refl, sym, ap, subst, ◌∙◌, arith, append_assoc, length-append}
 use Rattle.std.proofs.Math.Seq.{drop-append_seam, take-append_seam}
 use Rattle.std.specs.List.{AllByRecursion}
 use Rattle.std.specs.Char.{is_ascii_lowercase, is_ascii_uppercase}
@@ -7,7 +7,7 @@ use Rattle.cep_lex.specs.declared.token.Token.{Token}
 use Rattle.cep_lex.specs.declared.token.TokenKind.{TokenKind}
 use Rattle.cep_lex.specs.declared.token.TokenKind.TheVariants as token
 use Rattle.cep_lex.specs.Words.{Spells, IsShort, Runs, is_name_byte}
-use Rattle.cep_lex.specs.Cuts.{AreTokens, Cuts, StartsWith}
+use Rattle.cep_lex.specs.Cuts.{Cuts, StartsWith}
 use Rattle.cep_parse.specs.Symbols.{slice_of}
 use Rattle.cep_parse.specs.declared.raw.Span.{Span}
 use Rattle.cep_parse.specs.Written.{IsTokenAt, IsNameAt}

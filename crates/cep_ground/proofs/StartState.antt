@@ -1,16 +1,15 @@
 -- The start state of a text is a state that fits.
-use Rattle.std.proofs.Common.{◌≡◌, ◌≢◌, ◌⊎◌, inl, inr, ⊎_elim, ℕ, zero, suc, ◌+◌, ◌*◌, ◌<◌, ◌≤◌, ◌^◌, Bool, true, false, List, [], ◌∷◌, ◌++◌, length, map, refl, sym, ap, subst, ◌∙◌, arith, Contains, length-append}
+use Rattle.std.proofs.Common.{◌≡◌, ◌≢◌, ◌⊎◌, inl, inr, ⊎_elim, ℕ, suc, ◌+◌, ◌*◌, ◌<◌, ◌≤◌, Bool, true, false, List, [], ◌∷◌, length, map, refl, sym, ap, subst, ◌∙◌, arith, Contains}
 use Rattle.std.proofs.Math.Nat.{suc-mul}
 use Rattle.std.proofs.lemmas.List.Sums.{sum_by-cons}
 use Rattle.std.proofs.lemmas.List.{append-nil}
 use Rattle.std.specs.Prelude.{Option, Some, None, sum_by, IsSomeAnd, unwrap_or}
-use Rattle.std.specs.Option.{option_map}
 use Rattle.std.specs.Str.{bytes_eq}
 use Rattle.std.specs.declared.cmp.Ordering.{Ordering}
 use Rattle.std.specs.declared.cmp.Ordering.TheVariants.{Less, Equal, Greater}
 use Rattle.std.specs.Cmp.{IsTotalOrder, tied_itself}
 use Rattle.std.specs.FinMap as finite
-use Rattle.std.specs.List.{AllByRecursion, flat_map, find}
+use Rattle.std.specs.List.{AllByRecursion}
 use Rattle.cep_parse.specs.declared.raw.Span.{Span}
 use Rattle.cep_parse.specs.declared.raw.RawKind.{RawKind}
 use Rattle.cep_parse.specs.declared.raw.RawKind.TheVariants as kind
@@ -22,31 +21,31 @@ use Rattle.cep_parse.specs.declared.raw.RawItem.{RawItem}
 use Rattle.cep_parse.specs.declared.raw.RawItem.TheVariants as item
 use Rattle.cep_term.specs.Tree.{AtomTree, IsGroundAtom, nodes_in, IsFit}
 use Rattle.cep_term.specs.Order.{atom_cmp}
-use Rattle.cep_term.specs.Multiset.{Multiset, count_of, with_count, with_one, gathered, copies_in, nodes_in_all, IsBag}
+use Rattle.cep_term.specs.Multiset.{Multiset, count_of, with_count, gathered, copies_in, nodes_in_all, IsBag}
 use Rattle.cep_rule.specs.declared.signature.PredDecl.{PredDecl}
 use Rattle.cep_rule.specs.Typing.{IsTyped, IsLinear}
 use Rattle.cep_rule.specs.State.{IsFact, IsState, Fits}
 use Rattle.cep_names.specs.declared.reason.Reason.TheVariants.{OverLimit, VarInContext, BwdInState}
 use Rattle.cep_names.specs.declared.space.Role.{Role}
 use Rattle.cep_names.specs.declared.space.Role.TheVariants as role
-use Rattle.cep_names.specs.Items.{Source, TraceItem, ContextItem, PredItem, said, contexts_in, contexts_of, traces_in, traces_of}
-use Rattle.cep_names.specs.Spaces.{context_named, back_of}
-use Rattle.cep_names.specs.Uses.{Placed, placed, placed_of, own_atoms, start_listed, is_context}
+use Rattle.cep_names.specs.Items.{Source, TraceItem, ContextItem, said, contexts_in, contexts_of, traces_in, traces_of}
+use Rattle.cep_names.specs.Spaces.{context_named}
+use Rattle.cep_names.specs.Uses.{placed, placed_of, own_atoms, start_listed, is_context}
 use Rattle.cep_names.specs.declared.space.Space.TheVariants as space
-use Rattle.cep_names.specs.Variables.{Occurrence, firsts, occurrences_from, nodes_of, variables_of, blanks_behind}
+use Rattle.cep_names.specs.Variables.{Occurrence, firsts, occurrences_from, nodes_of, blanks_behind}
 use Rattle.cep_names.specs.Starts.{listed_in, listed_or, start_atoms, nodes_written, IsFitWritten}
-use Rattle.cep_names.specs.Misnamed.{wrong, IsOfState, ComesToState, IsOpen}
+use Rattle.cep_names.specs.Misnamed.{wrong, IsOfState}
 use Rattle.cep_names.specs.Misnamed.{IsOfState as of_state}
 use Rattle.cep_names.specs.Misnamed.{ComesToState as comes}
 use Rattle.cep_names.specs.Misnamed.{IsOpen as opens}
 use Rattle.cep_names.specs.Misnamed.Misnamed.{over, variable_in_state, backward_in_state}
 use Rattle.cep_names.specs.Misnamed.IsOver.{unfit, copies, nodes}
-use Rattle.cep_infer.specs.Sites.{sites_of, wanted_from, type_of}
+use Rattle.cep_infer.specs.Sites.{type_of}
 use Rattle.cep_infer.specs.Sites.{IsScope as scopes}
 use Rattle.cep_infer.specs.Heads.{number_of, blanks_after, IsAtomBy, AreAtomsBy}
-use Rattle.cep_infer.specs.Meaning.{signature_of, names_of, kinds_of, is_back, IsStartBy}
+use Rattle.cep_infer.specs.Meaning.{signature_of, names_of, kinds_of, IsStartBy}
 use Rattle.cep_ground.specs.Texts.{IsClean}
-use Rattle.cep_ground.proofs.Members.{contains_none, contains_first, contains_behind, contains_cases, contains_map, flat_cases, all_at, all_of}
+use Rattle.cep_ground.proofs.Members.{contains_none, contains_first, contains_behind, contains_cases, contains_map, flat_cases, all_of}
 use Rattle.cep_ground.proofs.Finds.{found_in}
 use Rattle.cep_ground.proofs.Known.{own_placed, pred_known}
 use Rattle.cep_ground.proofs.Scopes.{IsHere, typed_atoms}

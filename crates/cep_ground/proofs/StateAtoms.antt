@@ -1,5 +1,5 @@
 -- The atoms of states: they are ground, and as deep as they are written.
-use Rattle.std.proofs.Common.{◌≡◌, ◌⊎◌, inl, inr, ⊎_elim, ℕ, zero, suc, ◌+◌, ◌-◌, ◌*◌, ◌<◌, ◌≤◌, Bool, true, false, List, [], ◌∷◌, ◌++◌, length, map, refl, sym, ap, subst, ◌∙◌, arith, append_assoc, Contains, ltb, max}
+use Rattle.std.proofs.Common.{◌≡◌, ◌⊎◌, inl, inr, ⊎_elim, ℕ, ◌+◌, ◌-◌, ◌<◌, ◌≤◌, Bool, true, false, List, [], ◌∷◌, ◌++◌, refl, sym, ap, subst, ◌∙◌, arith, append_assoc, ltb, max}
 use Rattle.std.proofs.Math.Nat.{le-max_left, le-max_right, max-le}
 use Rattle.std.proofs.lemmas.List.{append-nil}
 use Rattle.std.proofs.lemmas.Bool.{ltb-true, ltb-false}
@@ -14,7 +14,6 @@ use Rattle.cep_names.specs.Items.{Source}
 use Rattle.cep_names.specs.Variables.{blanks_behind}
 use Rattle.cep_names.specs.Starts.{levels, greatest, depth_written}
 use Rattle.cep_infer.specs.Heads.{Head, var, con, count_of, heads_of, heads_among, head_at, heads_from, IsAtomBy}
-use Rattle.cep_ground.proofs.Members.{contains_first, contains_behind}
 use Rattle.cep_ground.proofs.HeadLaws.{IsClosed, terms_ground}
 
 -- each node is a constructor

@@ -1,15 +1,14 @@
 -- The first variable of a right side that is not bound, by the places that a draft keeps.
-use Rattle.std.proofs.Common.{◌≡◌, ◌⊎◌, inl, inr, ⊎_elim, ℕ, zero, suc, ◌+◌, ◌<◌, ◌≤◌, Bool, true, false, List, [], ◌∷◌, ◌++◌, length, map, take, refl, sym, ap, subst, ◌∙◌, arith, Contains, ltb}
+use Rattle.std.proofs.Common.{◌≡◌, ⊎_elim, ℕ, ◌≤◌, Bool, true, false, List, [], ◌∷◌, ◌++◌, map, take, refl, sym, subst, arith, Contains, ltb}
 use Rattle.std.proofs.lemmas.Bool.{ltb-true, ltb-false}
-use Rattle.std.specs.Prelude.{Option, Some, None}
-use Rattle.std.specs.List.{AllByRecursion, flat_map}
+use Rattle.std.specs.Prelude.{Some, None}
+use Rattle.std.specs.List.{flat_map}
 use Rattle.cep_base.specs.declared.place.Pos.{Pos}
 use Rattle.cep_lex.specs.Places.{IsPlaceBehind}
 use Rattle.cep_names.specs.Items.{Source, RuleItem, rules_of}
 use Rattle.cep_names.specs.Variables.{Occurrence}
 use Rattle.cep_infer.specs.Places.{unbound_of, unbound_at, ArePlaces, ArePlaceLists}
 use Rattle.cep_ground.specs.Texts.{IsBound}
-use Rattle.cep_ground.specs.Refusals.{StandsBefore}
 use Rattle.cep_ground.specs.Earliest.{IsEarliest}
 use Rattle.cep_ground.proofs.Members.{contains_none, contains_first, contains_behind, contains_cases, contains_flat, flat_cases, map_cases, contains_map, all_of}
 use Rattle.cep_ground.proofs.PlaceOrder.{places_rise}

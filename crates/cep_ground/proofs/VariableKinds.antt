@@ -1,39 +1,36 @@
 -- The names and the types of variables.
-use Rattle.std.proofs.Common.{◌≡◌, ◌⊎◌, inl, inr, ⊎_elim, ℕ, zero, suc, ◌+◌, ◌*◌, ◌<◌, ◌≤◌, ◌^◌, Bool, true, false, List, [], ◌∷◌, ◌++◌, length, map, refl, sym, ap, subst, ◌∙◌, arith, append_assoc, Contains, length-append}
+use Rattle.std.proofs.Common.{◌≡◌, inr, ⊎_elim, ℕ, suc, ◌+◌, ◌<◌, ◌^◌, true, List, [], ◌∷◌, ◌++◌, length, map, refl, sym, ap, subst, ◌∙◌, arith, Contains}
 use Rattle.std.proofs.lemmas.List.{length-map}
 use Rattle.std.proofs.lemmas.Fmt.{length-decimal-le}
 use Rattle.std.specs.Prelude.{Option, Some, None, unwrap_or, codes, decimal}
 use Rattle.std.specs.Option.{option_map}
 use Rattle.std.specs.Str.{bytes_eq}
-use Rattle.std.specs.List.{AllByRecursion, flat_map, find, list_any}
-use Rattle.cep_lex.specs.declared.token.Token.{Token}
-use Rattle.cep_lex.specs.declared.token.TokenKind.TheVariants as token
+use Rattle.std.specs.List.{AllByRecursion}
 use Rattle.cep_parse.specs.declared.raw.Span.{Span}
 use Rattle.cep_parse.specs.declared.raw.RawKind.{RawKind}
 use Rattle.cep_parse.specs.declared.raw.RawKind.TheVariants as kind
 use Rattle.cep_parse.specs.declared.raw.RawNode.{RawNode}
 use Rattle.cep_parse.specs.declared.raw.RawAtom.{RawAtom}
-use Rattle.cep_parse.specs.Written.{IsNodeOf, IsTokenAt}
+use Rattle.cep_parse.specs.Written.{IsNodeOf}
 use Rattle.cep_rule.specs.Names.{IsVariableName}
 use Rattle.cep_names.specs.declared.space.Space.TheVariants as space
 use Rattle.cep_names.specs.Items.{Source, ConItem, PredItem, said, sorts_of, cons_of, preds_of}
 use Rattle.cep_names.specs.Spaces.{named, names_in, is_in, con_named, pred_named}
-use Rattle.cep_names.specs.Uses.{use_in, con_uses}
-use Rattle.cep_names.specs.Variables.{Occurrence, occurrence_at, blanks_behind, occurrences_from, occurrences_of, firsts_beside, nodes_of, variables_of}
-use Rattle.cep_infer.specs.Shapes.{IsSource}
+use Rattle.cep_names.specs.Uses.{use_in}
+use Rattle.cep_names.specs.Variables.{Occurrence, occurrence_at, blanks_behind, occurrences_from, occurrences_of, nodes_of, variables_of}
 use Rattle.cep_infer.specs.Sites.{Site, Wanted, con_types, pred_types, node_types, sites_from, sites_in, sites_of, wanted_from, type_of}
 use Rattle.cep_infer.specs.Heads.{number_of}
 use Rattle.cep_infer.specs.Meaning.{names_of, kinds_of}
 use Rattle.cep_ground.specs.Texts.{IsClean}
 use Rattle.cep_ground.proofs.Members.{contains_none, contains_first, contains_behind, contains_cases, contains_either, contains_left, contains_right, contains_map, map_cases, flat_cases, all_at, all_of}
-use Rattle.cep_ground.proofs.Finds.{IsFound, any_found, found_in}
+use Rattle.cep_ground.proofs.Finds.{any_found, found_in}
 use Rattle.cep_ground.proofs.Known.{known, con_item_uses, pred_item_uses}
-use Rattle.cep_ground.proofs.Located.{place, place_within, position_there}
+use Rattle.cep_ground.proofs.Located.{place_within, position_there}
 use Rattle.cep_ground.proofs.Limits.{all_map}
 use Rattle.cep_ground.proofs.Spelled.{variable_is}
-use Rattle.cep_ground.proofs.Wanted.{nodes_at, wanted_names, same_bytes, is_any, firsts_there}
+use Rattle.cep_ground.proofs.Wanted.{wanted_names, is_any, firsts_there}
 use Rattle.cep_ground.proofs.Scopes.{scope_nodes}
-use Rattle.cep_ground.proofs.RuleScopes.{AtomsMade, AreHere, atom_of_tokens, nodes_short, short}
+use Rattle.cep_ground.proofs.RuleScopes.{AtomsMade, AreHere, atom_of_tokens}
 
 module _ (source : Source) (clean : IsClean source) (made : AtomsMade source) where
   -- a name that is in a space has a number there

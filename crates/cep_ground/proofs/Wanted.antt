@@ -1,9 +1,8 @@
 -- The variables of atoms and the types that are wanted of them.
-use Rattle.std.proofs.Common.{◌≡◌, ◌≢◌, ◌⊎◌, inl, inr, ⊎_elim, ℕ, zero, suc, ◌+◌, ◌<◌, ◌≤◌, ◌^◌, Bool, true, false, ◌||◌, if◌then◌else◌, List, [], ◌∷◌, ◌++◌, length, map, refl, sym, ap, subst, ◌∙◌, arith, append_assoc, length-append, Contains}
-use Rattle.std.specs.Prelude.{Option, Some, None, slice_get, unwrap_or, codes, decimal, cond}
-use Rattle.std.specs.Option.{option_map}
+use Rattle.std.proofs.Common.{◌≡◌, ◌⊎◌, inl, inr, ⊎_elim, ℕ, suc, ◌+◌, ◌<◌, ◌≤◌, ◌^◌, Bool, true, false, ◌||◌, if◌then◌else◌, List, [], ◌∷◌, ◌++◌, length, map, refl, sym, ap, subst, ◌∙◌, arith, append_assoc, length-append, Contains}
+use Rattle.std.specs.Prelude.{Option, Some, codes, decimal, cond}
 use Rattle.std.specs.Str.{bytes_eq}
-use Rattle.std.specs.List.{flat_map, find, list_any}
+use Rattle.std.specs.List.{find, list_any}
 use Rattle.std.proofs.lemmas.Slice.Eq.{bytes_eq-Decides}
 use Rattle.std.proofs.lemmas.Fmt.{decimal_injective}
 use Rattle.std.specs.Char.{is_ascii_uppercase}
@@ -11,15 +10,13 @@ use Rattle.cep_parse.specs.declared.raw.Span.{Span}
 use Rattle.cep_parse.specs.declared.raw.RawKind.{RawKind}
 use Rattle.cep_parse.specs.declared.raw.RawKind.TheVariants as kind
 use Rattle.cep_parse.specs.declared.raw.RawNode.{RawNode}
-use Rattle.cep_parse.specs.declared.raw.RawAtom.{RawAtom}
 use Rattle.cep_parse.specs.Written.{Fill, IsCount}
 use Rattle.cep_rule.specs.Names.{IsWord}
 use Rattle.cep_names.specs.Items.{Source, ConItem, said}
-use Rattle.cep_names.specs.Spaces.{con_named}
 use Rattle.cep_names.specs.Variables.{Occurrence, occurrence_at, blanks_behind, occurrences_from, firsts_beside}
 use Rattle.cep_infer.specs.Sites.{Site, Wanted, con_types, node_types, sites_from, wanted_from}
 use Rattle.cep_infer.specs.Heads.{blanks_after}
-use Rattle.cep_ground.proofs.Members.{contains_none, contains_first, contains_behind, contains_cases, contains_either}
+use Rattle.cep_ground.proofs.Members.{contains_none, contains_first, contains_behind, contains_cases}
 use Rattle.cep_ground.proofs.Known.{IsConKnown}
 
 -- the nodes of terms

@@ -1,4 +1,4 @@
-use Rattle.std.proofs.Common.{subst, ap, sym, ◌≡◌, ◌≤◌, length}
+use Rattle.std.proofs.Common.{subst, ◌≤◌, length}
 use Rattle.cep_lex.specs.declared.token.TheConstants.{MOST_BYTES}
 use Rattle.cep_parse.specs.Symbols.{symbols_of}
 use Rattle.cep_ground.proofs.Refused.{nothing_wrong}

@@ -1,6 +1,4 @@
-use Rattle.std.proofs.Common.{subst, sym, ◌≡◌, List, ◌++◌, true, false}
-use Rattle.std.specs.Prelude.{Some, None}
-use Rattle.cep_base.specs.declared.place.Pos.{Pos}
+use Rattle.std.proofs.Common.{subst, sym, ◌++◌}
 use Rattle.cep_ground.specs.Refusals.{StandsBefore}
 use Rattle.cep_ground.specs.Earliest.{IsEarliest}
 use Rattle.cep_ground.proofs.Plain.{yes_of, no_of}

@@ -1,4 +1,4 @@
-use Rattle.std.proofs.Common.{subst, refl, sym, ap, ◌≡◌}
+use Rattle.std.proofs.Common.{subst, refl, sym, ◌≡◌}
 use Rattle.std.specs.List.{AllByRecursion}
 use Rattle.cep_parse.specs.Symbols.{symbols_of}
 use Rattle.cep_names.specs.declared.reason.Reason.TheVariants.{NotBuilt}
@@ -6,7 +6,7 @@ use Rattle.cep_names.specs.Misnamed.{wrong}
 use Rattle.cep_rule.specs.declared.parts.Parts.{Parts}
 use Rattle.cep_rule.specs.Groundness.{IsGrounded}
 use Rattle.cep_infer.specs.Meaning.{AreParts}
-use Rattle.cep_ground.specs.Refusals.{IsPlainRule, IsInteractive, IsBuilt}
+use Rattle.cep_ground.specs.Refusals.{IsPlainRule, IsInteractive}
 use Rattle.cep_ground.proofs.Plain.{plain_backs, yes_of, no_of}
 use Rattle.cep_ground.proofs.Refused.{refused_not_built}
 use Rattle.cep_ground.proofs.sealing.sealed.Goals as goal
