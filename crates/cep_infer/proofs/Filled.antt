@@ -1,5 +1,5 @@
 -- Which atoms and names of a raw file are tokens of the text, and that the nodes of an atom are its arguments.
-use Rattle.std.proofs.Common.{◌≡◌, ℕ, Bool, true, false, List, [], ◌∷◌, ◌++◌, map, refl, arith, Contains}
+use Rattle.std.proofs.Common.{ℕ, Bool, true, false, List, [], ◌∷◌, map, arith, Contains}
 use Rattle.std.specs.List.{AllByRecursion, flat_map}
 use Rattle.cep_lex.specs.declared.token.Token.{Token}
 use Rattle.cep_parse.specs.declared.raw.Span.{Span}

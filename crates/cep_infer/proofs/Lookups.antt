@@ -1,7 +1,7 @@
 -- At which place of a list a name stands, and what stands there.
-use Rattle.std.proofs.Common.{◌≡◌, ℕ, zero, suc, ◌+◌, ◌<◌, ◌≤◌, Bool, true, false, not, List, [], ◌∷◌, ◌++◌, map, Option, Some, None, length, take, get_or, refl, ap, sym, ◌∙◌, cond, nat_lt}
+use Rattle.std.proofs.Common.{◌≡◌, ℕ, zero, suc, ◌+◌, ◌<◌, Bool, true, false, not, List, [], ◌∷◌, ◌++◌, map, Option, Some, None, length, take, get_or, refl, ap, sym, ◌∙◌, cond, nat_lt}
 use Rattle.std.specs.Option.{option_map}
-use Rattle.std.specs.List.{position, position_or_len, prefix_len, find, slice_get, list_any, flat_map}
+use Rattle.std.specs.List.{position, position_or_len, prefix_len, find, slice_get, flat_map}
 use Rattle.std.specs.Str.{bytes_eq}
 use Rattle.std.proofs.lemmas.Bool.{false≢true, ltb-false}
 use Rattle.std.proofs.lemmas.List.{length-map, take_more}
@@ -10,7 +10,6 @@ use Rattle.std.proofs.lemmas.List.{map-append, append-nil}
 use Rattle.std.proofs.lemmas.List.Folds.{find_at}
 use Rattle.std.proofs.lemmas.Option.{slice_get_past}
 use Rattle.std.proofs.lemmas.Slice.Eq.{bytes_eq-Decides}
-use Rattle.cep_names.specs.declared.table.Shape.{Shape}
 use Rattle.cep_names.specs.Items.{ContextItem}
 use Rattle.cep_names.specs.Spaces.{Named}
 use Rattle.cep_names.specs.Starts.{listed_in}

@@ -1,5 +1,5 @@
 -- What a text declares: the parts of a program, each from what is written.
-use Rattle.std.specs.Prelude.{◌≡◌, ℕ, ◌+◌, ◌*◌, Bool, true, false, not, List, [], ◌∷◌, ◌++◌, Option, Some, None, map, filter, unwrap_or, slice_get}
+use Rattle.std.specs.Prelude.{◌≡◌, ℕ, ◌+◌, ◌*◌, Bool, false, not, List, [], ◌∷◌, Option, Some, None, map, filter, unwrap_or, slice_get}
 use Rattle.std.specs.Option.{option_map}
 use Rattle.std.specs.List.{flat_map}
 use Rattle.cep_parse.specs.declared.raw.Span.{Span}
@@ -15,7 +15,6 @@ use Rattle.cep_rule.specs.declared.rule.Rule.{Rule}
 use Rattle.cep_rule.specs.declared.parts.Stage.{Stage}
 use Rattle.cep_rule.specs.declared.parts.Parts.{Parts}
 use Rattle.cep_rule.specs.Patterns.{PremiseTree, ClauseTree}
-use Rattle.cep_names.specs.declared.space.Space.{Space}
 use Rattle.cep_names.specs.declared.space.Space.TheVariants as space
 use Rattle.cep_names.specs.Items.{Source, PredItem, ConItem, ClauseItem, RuleItem, TraceItem, said, is_said, sorts_of, preds_of, cons_of, stages_of, interactives_of, clauses_of, rules_of, traces_of}
 use Rattle.cep_names.specs.Spaces.{names_in}

@@ -1,5 +1,5 @@
 -- The variables that were met so far, site by site: each once, with the type that is wanted where it occurs first.
-use Rattle.std.specs.Prelude.{◌≡◌, ℕ, ◌+◌, Bool, if◌then◌else◌, List, [], ◌∷◌, ◌++◌, Option, Some, None, map, fold, position, codes, decimal}
+use Rattle.std.specs.Prelude.{◌≡◌, ℕ, ◌+◌, Bool, if◌then◌else◌, List, [], ◌∷◌, ◌++◌, Option, map, fold, position, codes, decimal}
 use Rattle.std.specs.Option.{option_map}
 use Rattle.std.specs.Str.{bytes_eq}
 use Rattle.std.specs.List.{list_any}
@@ -10,9 +10,9 @@ use Rattle.cep_parse.specs.declared.raw.RawKind.TheVariants as kind
 use Rattle.cep_parse.specs.declared.raw.RawAtom.{RawAtom}
 use Rattle.cep_names.specs.declared.space.Space.TheVariants as space
 use Rattle.cep_names.specs.Items.{Source, said, is_said, interactives_of}
-use Rattle.cep_names.specs.Variables.{nodes_of, blanks_behind}
+use Rattle.cep_names.specs.Variables.{nodes_of}
 use Rattle.cep_infer.specs.declared.variables.Variables.{Variables}
-use Rattle.cep_infer.specs.Sites.{Wanted, sites_in, sites_of, wanted_from}
+use Rattle.cep_infer.specs.Sites.{Wanted, sites_of, wanted_from}
 use Rattle.cep_infer.specs.Heads.{Head, con, var, blanks_after}
 use Rattle.cep_infer.specs.Heads as heads
 

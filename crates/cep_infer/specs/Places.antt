@@ -1,5 +1,5 @@
 -- The places that a draft keeps for what is judged later.
-use Rattle.std.specs.Prelude.{◌≡◌, ℕ, not, List, [], ◌∷◌, map, filter, take}
+use Rattle.std.specs.Prelude.{ℕ, not, List, [], ◌∷◌, map, filter, take}
 use Rattle.std.specs.Str.{bytes_eq}
 use Rattle.std.specs.List.{list_any}
 use Rattle.cep_base.specs.declared.place.Pos.{Pos}

@@ -1,5 +1,4 @@
-use Rattle.std.proofs.Common.{◌≡◌, ◌++◌, map, take, Some}
-use Rattle.cep_names.specs.Items.{RuleItem}
+use Rattle.std.proofs.Common.{◌≡◌, ◌++◌, map, take}
 use Rattle.cep_infer.specs.Listed.{rule_item, in_stage}
 use Rattle.cep_infer.proofs.listing.push_rules.Given as goal
 

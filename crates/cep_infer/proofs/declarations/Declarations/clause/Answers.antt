@@ -1,7 +1,7 @@
 use Rattle.std.proofs.Common.{[], ◌∷◌, subst}
 use Rattle.cep_term.specs.Tree.{atom_of}
 use Rattle.cep_infer.specs.declared.variables.Variables.{Variables}
-use Rattle.cep_infer.specs.Met.{AreMet, names_in}
+use Rattle.cep_infer.specs.Met.{AreMet}
 use Rattle.cep_infer.proofs.Meeting.{both_are_met}
 use Rattle.cep_infer.proofs.Building.{clause_built}
 use Rattle.cep_infer.proofs.declarations.Declarations.clause.Goals as goal

@@ -1,19 +1,8 @@
-use Rattle.std.proofs.Common.{List, [], ◌∷◌, ◌++◌, ◌≡◌, ◌∙◌, sym, ap, subst, append-nil}
-use Rattle.std.specs.Prelude.{IfOk}
-use Rattle.std.specs.List.{flat_map}
-use Rattle.std.proofs.lemmas.List.Folds.{flat_map-map}
-use Rattle.cep_parse.specs.declared.raw.RawElem.{RawElem}
-use Rattle.cep_parse.specs.declared.raw.RawRule.{RawRule}
-use Rattle.cep_parse.specs.declared.raw.RawAtom.{RawAtom}
-use Rattle.cep_parse.specs.declared.raw.RawItem.{RawItem}
-use Rattle.cep_parse.specs.declared.raw.RawItem.TheVariants as item
-use Rattle.cep_parse.specs.declared.raw.RawStart.{RawStart}
-use Rattle.cep_names.specs.declared.fault.Fault.{Fault}
+use Rattle.std.proofs.Common.{[], ◌∷◌, ◌∙◌, sym, ap, append-nil}
 use Rattle.cep_names.specs.First.{first_in}
-use Rattle.cep_names.specs.Uses.{atoms_of}
-use Rattle.cep_infer.specs.Clashes.{atom_clashes, scope_clashes, item_scopes}
-use Rattle.cep_infer.specs.Met.{AreMet, type_met}
-use Rattle.cep_infer.proofs.Clashing.{one_found, two_found}
+use Rattle.cep_infer.specs.Clashes.{atom_clashes}
+use Rattle.cep_infer.specs.Met.{type_met}
+use Rattle.cep_infer.proofs.Clashing.{two_found}
 use Rattle.cep_infer.proofs.declarations.Declarations.clause_clash.Goals as goal
 
 pub returns : goal.returns

@@ -3,8 +3,8 @@ use Rattle.std.specs.Option.{option_map}
 use Rattle.std.specs.List.{slice_get}
 use Rattle.cep_infer.specs.declared.declarations.RawCon.{RawCon}
 use Rattle.cep_names.specs.declared.space.Space.TheVariants as space
-use Rattle.cep_names.specs.Items.{Source, said, cons_of}
-use Rattle.cep_names.specs.Spaces.{named, con_named}
+use Rattle.cep_names.specs.Items.{said, cons_of}
+use Rattle.cep_names.specs.Spaces.{named}
 use Rattle.cep_names.specs.Tables.{table_in, number_in}
 use Rattle.cep_infer.specs.Kept.{source_of, con_item}
 use Rattle.cep_infer.proofs.Lookups.{told_some, told_none}

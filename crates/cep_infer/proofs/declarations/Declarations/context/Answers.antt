@@ -1,11 +1,10 @@
-use Rattle.std.proofs.Common.{List, refl, ◌∙◌, ap, sym, Some, None}
+use Rattle.std.proofs.Common.{List, ◌∙◌, ap, sym}
 use Rattle.std.specs.Option.{option_map}
-use Rattle.std.specs.List.{slice_get, find}
-use Rattle.std.specs.Str.{bytes_eq}
+use Rattle.std.specs.List.{slice_get}
 use Rattle.cep_infer.specs.declared.declarations.RawContext.{RawContext}
 use Rattle.cep_names.specs.declared.space.Space.TheVariants as space
-use Rattle.cep_names.specs.Items.{Source, said, contexts_of}
-use Rattle.cep_names.specs.Spaces.{named, context_named}
+use Rattle.cep_names.specs.Items.{said, contexts_of}
+use Rattle.cep_names.specs.Spaces.{named}
 use Rattle.cep_names.specs.Starts.{listed_in}
 use Rattle.cep_names.specs.Tables.{table_in, number_in}
 use Rattle.cep_infer.specs.Kept.{source_of, context_item}

@@ -1,8 +1,7 @@
-use Rattle.std.proofs.Common.{List, ◌∷◌, ◌++◌, ◌∙◌, ◌+◌, ap, sym, drop}
+use Rattle.std.proofs.Common.{◌++◌, ◌∙◌, ◌+◌, ap, sym, drop}
 use Rattle.std.specs.List.{flat_map}
 use Rattle.std.proofs.lemmas.List.{drop_more}
-use Rattle.cep_parse.specs.declared.raw.RawItem.{RawItem}
-use Rattle.cep_names.specs.Items.{Source, traces_in, traces_of}
+use Rattle.cep_names.specs.Items.{traces_in, traces_of}
 use Rattle.cep_infer.proofs.declarations.Declarations.first_trace.Goals as goal
 
 pub returns-in-Some : goal.returns-in-Some

@@ -1,4 +1,4 @@
-use Rattle.std.proofs.Common.{◌∙◌, ap, sym, unwrap_or}
+use Rattle.std.proofs.Common.{◌∙◌, ap, unwrap_or}
 use Rattle.cep_names.specs.Items.{Source, said}
 use Rattle.cep_names.specs.Spaces.{names_in}
 use Rattle.cep_names.specs.Tables.{table_in, number_in}

@@ -1,7 +1,7 @@
-use Rattle.std.proofs.Common.{List, ◌∙◌, ap, sym, map}
+use Rattle.std.proofs.Common.{◌∙◌, ap, sym, map}
 use Rattle.std.proofs.lemmas.List.{take_all}
 use Rattle.std.proofs.lemmas.Simd.{map-map}
-use Rattle.cep_names.specs.Items.{Source, preds_of}
+use Rattle.cep_names.specs.Items.{preds_of}
 use Rattle.cep_infer.specs.declared.declarations.RawPred.{RawPred}
 use Rattle.cep_infer.specs.Meaning.{pred_by}
 use Rattle.cep_infer.specs.Kept.{pred_item}

@@ -1,9 +1,8 @@
-use Rattle.std.proofs.Common.{◌≡◌, ◌++◌, take, map}
+use Rattle.std.proofs.Common.{◌≡◌, ◌++◌, take}
 use Rattle.std.specs.List.{flat_map}
 use Rattle.cep_names.specs.First.{first_in}
 use Rattle.cep_names.specs.Uses.{atoms_of}
-use Rattle.cep_infer.specs.Clashes.{atom_clashes, scope_clashes, item_scopes}
-use Rattle.cep_infer.specs.Met.{type_met}
+use Rattle.cep_infer.specs.Clashes.{scope_clashes}
 use Rattle.cep_infer.proofs.declarations.Declarations.rules_clash.Given as goal
 
 abbrev pub invariant-loop-rule : goal.invariant-loop-rule
