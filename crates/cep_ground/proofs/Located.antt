@@ -1,0 +1,62 @@
+-- The place at which a list has what is found in it, and the numbers of names.
+use Rattle.std.proofs.Common.{◌≡◌, ℕ, suc, ◌+◌, ◌<◌, Bool, true, false, ◌||◌, List, [], ◌∷◌, length, map, refl, sym, ap, subst, ◌∙◌, arith}
+use Rattle.std.specs.Prelude.{Option, Some, None, slice_get, unwrap_or, cond}
+use Rattle.std.specs.List.{find, position, position_or_len, list_any}
+use Rattle.std.proofs.lemmas.List.{length-map}
+use Rattle.std.proofs.lemmas.List.Recursion.{is_position_or_len}
+use Rattle.std.proofs.lemmas.Bool.{lt-ltb}
+
+-- how many stand before the first that passes
+abbrev pub place : {X : Type 0} → (X → Bool) → List X → ℕ
+place p [] = 0
+place p (x ∷ xs) = cond (p x) 0 (1 + place p xs)
+
+place_is : {X : Type 0} (p : X → Bool) (xs : List X) → place p xs ≡ position_or_len p xs
+place_is p xs = is_position_or_len (place p) p refl (λ x xs. refl) xs
+
+-- the number of what is there
+pub position_there : {X : Type 0} (p : X → Bool) (xs : List X) → place p xs < length xs → unwrap_or (position p xs) 0 ≡ place p xs
+position_there p xs within =
+    let within' : position_or_len p xs < length xs = subst (λ n. n < length xs) (place_is p xs) within in
+    let yes = lt-ltb (position_or_len p xs) (length xs) within' in
+    ap (λ (b : Bool). unwrap_or (cond b (Some (position_or_len p xs)) None) 0) yes ∙ sym (place_is p xs)
+
+or_rest : (one other : Bool) → one ≡ false → (one || other) ≡ true → other ≡ true
+or_rest true other e any = absurd cc
+or_rest false other e any = any
+
+within_by : (b : Bool) (n m : ℕ) → (b ≡ false → n < m) → cond b 0 (1 + n) < suc m
+within_by true n m later = omega arith
+within_by false n m later = let h = later refl in omega (arith, h)
+
+-- what passes somewhere has a place
+pub place_within : {X : Type 0} (p : X → Bool) (xs : List X) → list_any p xs ≡ true → place p xs < length xs
+place_within p [] any = absurd cc
+place_within p (x ∷ xs) any = within_by (p x) (place p xs) (length xs) (λ no. place_within p xs (or_rest (p x) (list_any p xs) no any))
+
+-- what is found stands at the place of the first that passes
+pub record IsLocated {X Y : Type 0} (g : Y → X) (p : X → Bool) (ys : List Y) (y : Y) : Type 0 where
+  pub here : slice_get ys (unwrap_or (position p (map g ys)) 0) ≡ Some y
+  pub within : unwrap_or (position p (map g ys)) 0 < length ys
+
+abbrev IsFoundAt : {Y : Type 0} → List Y → Y → ℕ → Type 0
+IsFoundAt ys y n = (slice_get ys n ≡ Some y) × (n < length ys)
+
+found_by : {Y : Type 0} (b : Bool) (z y : Y) (ys : List Y) (further : Option Y) (n : ℕ) → cond b (Some z) further ≡ Some y → (further ≡ Some y → IsFoundAt ys y n) → IsFoundAt (z ∷ ys) y (cond b 0 (1 + n))
+found_by true z y ys further n found later = (found, omega arith)
+found_by false z y ys further n found later =
+    let rest = later found in
+    let one : suc n ≡ 1 + n = omega arith in
+    subst (IsFoundAt (z ∷ ys) y) one (rest.0, omega (arith, rest.1))
+
+module _ {X Y : Type 0} (g : Y → X) (p : X → Bool) where
+  found_at : (ys : List Y) (y : Y) → find (λ z. p (g z)) ys ≡ Some y → IsFoundAt ys y (place p (map g ys))
+  found_at [] y found = absurd cc
+  found_at (z ∷ ys) y found = found_by (p (g z)) z y ys (find (λ z. p (g z)) ys) (place p (map g ys)) found (λ later. found_at ys y later)
+
+  pub located : (ys : List Y) (y : Y) → find (λ z. p (g z)) ys ≡ Some y → IsLocated g p ys y
+  located ys y found =
+      let at = found_at ys y found in
+      let size = length-map ys g in
+      let number = position_there p (map g ys) (omega (arith, at.1, size)) in
+      record { here = subst (λ n. slice_get ys n ≡ Some y) (sym number) at.0; within = subst (λ n. n < length ys) (sym number) at.1 }

@@ -1,0 +1,206 @@
+-- The names of a text are names of a program.
+use Rattle.std.proofs.Common.{get_or, ◌≡◌, ⊎_elim, ℕ, suc, ◌+◌, ◌<◌, ◌≤◌, ◌^◌, ◌&&◌, ◌||◌, Bool, true, false, IsTrue, List, [], ◌∷◌, ◌++◌, length, map, refl, sym, ap, subst, ◌∙◌, arith, Contains, leb}
+use Rattle.std.proofs.lemmas.Fmt.{decimal_is_IsNumeral, length-decimal-le}
+use Rattle.std.proofs.lemmas.Str.Parse.{digit_from_value}
+use Rattle.std.proofs.lemmas.Bool.{le-leb}
+use Rattle.std.specs.Prelude.{Option, Some, None, codes, decimal, ◌==◌}
+use Rattle.std.specs.Int.{is_in_range, IsInRange}
+use Rattle.std.specs.Str.Parse.{AllDigits}
+use Rattle.std.specs.List.{AllByRecursion}
+use Rattle.cep_parse.specs.declared.raw.Span.{Span}
+use Rattle.cep_parse.specs.declared.raw.RawItem.{RawItem}
+use Rattle.cep_parse.specs.declared.raw.RawItem.TheVariants as item
+use Rattle.cep_parse.specs.Written.{IsNameAt, IsLabelOf, IsRuleOf, IsItemOf}
+use Rattle.cep_rule.specs.Names.{IsName, AreNames, AllDiffer, is_name_byte}
+use Rattle.cep_names.specs.declared.reason.Reason.TheVariants.{OverLimit}
+use Rattle.cep_names.specs.declared.space.Space.{Space}
+use Rattle.cep_names.specs.declared.space.Space.TheVariants as space
+use Rattle.cep_names.specs.Items.{Source, PredItem, ConItem, RuleItem, said, sorts_in, sorts_of, preds_in, preds_of, con_or_none, cons_in, cons_of, stages_in, stages_of, rules_of, is_labelled}
+use Rattle.cep_names.specs.Spaces.{Named, named, names_in, rule_name, unlabelled_behind, rule_names_from}
+use Rattle.cep_names.specs.Misnamed.{wrong}
+use Rattle.cep_names.specs.Misnamed.Misnamed.{over}
+use Rattle.cep_names.specs.Misnamed.{IsOver as overs}
+use Rattle.cep_ground.specs.Texts.{IsClean}
+use Rattle.cep_ground.proofs.Members.{contains_none, contains_first, contains_behind, contains_cases, flat_cases, all_at, all_of}
+use Rattle.cep_ground.proofs.Distinct.{names_differ}
+use Rattle.cep_ground.proofs.Limits.{at_most, all_map}
+use Rattle.cep_ground.proofs.RuleItems.{StandsIn, rule_stands}
+use Rattle.cep_ground.proofs.RuleItems.StandsIn.{out_of_stages, in_stage}
+use Rattle.cep_ground.proofs.Spelled.{name_is}
+
+-- a digit goes on with a name
+digit_goes_on : (byte : ℕ) → IsInRange 48 57 byte → is_name_byte byte ≡ true
+digit_goes_on byte is =
+    ap (λ b. ((b || is_in_range 65 90 byte) || is_in_range 97 122 byte) || byte == 95 || byte == 47 || byte == 39) (in_range (leb 48 byte) (leb byte 57) (le-leb 48 byte is.0) (le-leb byte 57 is.1))
+  where
+    in_range : (one other : Bool) → one ≡ true → other ≡ true → (one && other) ≡ true
+    in_range true true e f = refl
+    in_range true false e f = absurd cc
+    in_range false other e f = absurd cc
+
+digits_go_on : (digits : List ℕ) → AllDigits 10 digits → AllByRecursion (λ byte. IsTrue (is_name_byte byte)) digits
+digits_go_on [] all = tt
+digits_go_on (digit ∷ digits) all = (digit_goes_on digit (digit_from_value digit all.0), digits_go_on digits all.1)
+
+-- whether the fourth byte is a slash
+abbrev has_slash : List ℕ → Bool
+has_slash bytes = get_or bytes 3 0 == 47
+
+apart : (one other : List ℕ) → one ≡ other → has_slash one ≡ true → has_slash other ≡ false → ⊥
+apart one other same yes_ no_ = let e : true ≡ false = sym yes_ ∙ ap has_slash same ∙ no_ in absurd cc
+
+-- the name of a rule without a label
+pub qui_name : (k : ℕ) → k + 1 < 2 ^ 63 → IsName (codes "qui/" ++ decimal (k + 1))
+qui_name k few = record {
+  word = (refl, (refl, (refl, (refl, digits_go_on (decimal (k + 1)) (decimal_is_IsNumeral (k + 1) (omega arith)).0.1))));
+  free = (
+    (λ e. apart (codes "qui/" ++ decimal (k + 1)) (codes "type") e refl refl),
+    (
+      (λ e. apart (codes "qui/" ++ decimal (k + 1)) (codes "pred") e refl refl),
+      (
+        (λ e. apart (codes "qui/" ++ decimal (k + 1)) (codes "bwd") e refl refl),
+        (
+          (λ e. apart (codes "qui/" ++ decimal (k + 1)) (codes "fact") e refl refl),
+          (
+            (λ e. apart (codes "qui/" ++ decimal (k + 1)) (codes "stage") e refl refl),
+            (
+              (λ e. apart (codes "qui/" ++ decimal (k + 1)) (codes "context") e refl refl),
+              (
+                (λ e. apart (codes "qui/" ++ decimal (k + 1)) (codes "qui") e refl refl),
+                tt,
+              ),
+            ),
+          ),
+        ),
+      ),
+    ),
+  );
+  short = let size = length-decimal-le 20 (k + 1) (omega arith) (omega arith) (omega arith) in omega (arith, size);
+}
+
+module _ (source : Source) (clean : IsClean source) (items : AllByRecursion (IsItemOf clean.is_source.tokens) source.file) where
+  name_at : (span : Span) → IsNameAt clean.is_source.tokens span → IsName (said source span)
+  name_at span at = name_is source clean.is_source span at
+
+  sort_at : (item_ : RawItem) (span : Span) → IsItemOf clean.is_source.tokens item_ → Contains (sorts_in item_) span → IsNameAt clean.is_source.tokens span
+  sort_at (item.Sort name) span is there = ⊎_elim (λ (same : name ≡ span). subst (IsNameAt clean.is_source.tokens) same is) (λ later. absurd (contains_none span later)) (contains_cases name [] span there)
+  sort_at (item.Pred name args back) span is there = absurd (contains_none span there)
+  sort_at (item.Colon left args right) span is there = absurd (contains_none span there)
+  sort_at (item.Clause label head goals) span is there = absurd (contains_none span there)
+  sort_at (item.Outer rule) span is there = absurd (contains_none span there)
+  sort_at (item.Stage name rules) span is there = absurd (contains_none span there)
+  sort_at (item.Context name atoms) span is there = absurd (contains_none span there)
+  sort_at (item.Interactive name) span is there = absurd (contains_none span there)
+  sort_at (item.Trace at limit stage start) span is there = absurd (contains_none span there)
+
+  stage_at : (item_ : RawItem) (span : Span) → IsItemOf clean.is_source.tokens item_ → Contains (stages_in item_) span → IsNameAt clean.is_source.tokens span
+  stage_at (item.Stage name rules) span is there = ⊎_elim (λ (same : name ≡ span). subst (IsNameAt clean.is_source.tokens) same is.0) (λ later. absurd (contains_none span later)) (contains_cases name [] span there)
+  stage_at (item.Sort name) span is there = absurd (contains_none span there)
+  stage_at (item.Pred name args back) span is there = absurd (contains_none span there)
+  stage_at (item.Colon left args right) span is there = absurd (contains_none span there)
+  stage_at (item.Clause label head goals) span is there = absurd (contains_none span there)
+  stage_at (item.Outer rule) span is there = absurd (contains_none span there)
+  stage_at (item.Context name atoms) span is there = absurd (contains_none span there)
+  stage_at (item.Interactive name) span is there = absurd (contains_none span there)
+  stage_at (item.Trace at limit stage start) span is there = absurd (contains_none span there)
+
+  pred_at : (item_ : RawItem) (pred : PredItem) → IsItemOf clean.is_source.tokens item_ → Contains (preds_in item_) pred → IsNameAt clean.is_source.tokens pred.name
+  pred_at (item.Pred name args back) pred is there = ⊎_elim (λ (same : record { name = name; args = args; back = back } ≡ pred). subst (λ (p : PredItem). IsNameAt clean.is_source.tokens p.name) same is.0) (λ later. absurd (contains_none pred later)) (contains_cases (record { name = name; args = args; back = back }) [] pred there)
+  pred_at (item.Sort name) pred is there = absurd (contains_none pred there)
+  pred_at (item.Colon left args right) pred is there = absurd (contains_none pred there)
+  pred_at (item.Clause label head goals) pred is there = absurd (contains_none pred there)
+  pred_at (item.Outer rule) pred is there = absurd (contains_none pred there)
+  pred_at (item.Stage name rules) pred is there = absurd (contains_none pred there)
+  pred_at (item.Context name atoms) pred is there = absurd (contains_none pred there)
+  pred_at (item.Interactive name) pred is there = absurd (contains_none pred there)
+  pred_at (item.Trace at limit stage start) pred is there = absurd (contains_none pred there)
+
+  con_by_label : (labelled : Bool) (one con : ConItem) → IsNameAt clean.is_source.tokens one.name → Contains (con_or_none labelled one) con → IsNameAt clean.is_source.tokens con.name
+  con_by_label true one con is there = absurd (contains_none con there)
+  con_by_label false one con is there = ⊎_elim (λ (same : one ≡ con). subst (λ (c : ConItem). IsNameAt clean.is_source.tokens c.name) same is) (λ later. absurd (contains_none con later)) (contains_cases one [] con there)
+
+  con_at : (item_ : RawItem) (con : ConItem) → IsItemOf clean.is_source.tokens item_ → Contains (cons_in source item_) con → IsNameAt clean.is_source.tokens con.name
+  con_at (item.Colon left args right) con is there = con_by_label (is_labelled source args right) (record { name = left; args = args; sort = right }) con is.0 there
+  con_at (item.Sort name) con is there = absurd (contains_none con there)
+  con_at (item.Pred name args back) con is there = absurd (contains_none con there)
+  con_at (item.Clause label head goals) con is there = absurd (contains_none con there)
+  con_at (item.Outer rule) con is there = absurd (contains_none con there)
+  con_at (item.Stage name rules) con is there = absurd (contains_none con there)
+  con_at (item.Context name atoms) con is there = absurd (contains_none con there)
+  con_at (item.Interactive name) con is there = absurd (contains_none con there)
+  con_at (item.Trace at limit stage start) con is there = absurd (contains_none con there)
+
+  item_made : (item_ : RawItem) → Contains source.file item_ → IsItemOf clean.is_source.tokens item_
+  item_made item_ there = all_at (IsItemOf clean.is_source.tokens) source.file item_ items there
+
+  stands_label : (item_ : RawItem) (stages : ℕ) (rule : RuleItem) → IsItemOf clean.is_source.tokens item_ → StandsIn stages rule item_ → IsLabelOf clean.is_source.tokens rule.raw.label
+  stands_label _ stages rule is (out_of_stages none) = is.label
+  stands_label _ stages rule is (in_stage name rules home there) = (all_at (IsRuleOf clean.is_source.tokens) rules rule.raw is.1 there).label
+
+  label_made : (rule : RuleItem) → Contains (rules_of source) rule → IsLabelOf clean.is_source.tokens rule.raw.label
+  label_made rule there =
+      let is = rule_stands source.file 0 rule there in
+      stands_label is.item is.stages rule (item_made is.item is.there) is.stands
+
+  rule_name_is : (unlabelled : ℕ) (label : Option Span) → unlabelled + 1 < 2 ^ 63 → IsLabelOf clean.is_source.tokens label → IsName (rule_name source unlabelled label)
+  rule_name_is unlabelled (Some label) few is = name_at label is
+  rule_name_is unlabelled None few is = qui_name unlabelled few
+
+  more_rules : (unlabelled size : ℕ) (label : Option Span) → unlabelled + suc size < 2 ^ 62 → unlabelled_behind unlabelled label + size < 2 ^ 62
+  more_rules unlabelled size (Some label) few = omega arith
+  more_rules unlabelled size None few = omega arith
+
+  rule_names_are : (unlabelled : ℕ) (rules : List RuleItem) → unlabelled + length rules < 2 ^ 62 → ((rule : RuleItem) → Contains rules rule → Contains (rules_of source) rule) → AllByRecursion IsName (map (λ (n : Named). n.name) (rule_names_from source unlabelled rules))
+  rule_names_are unlabelled [] few among = tt
+  rule_names_are unlabelled (rule ∷ rules) few among = (
+    rule_name_is unlabelled rule.raw.label (omega arith) (label_made rule (among rule (contains_first rule rules))),
+    rule_names_are (unlabelled_behind unlabelled rule.raw.label) rules (more_rules unlabelled (length rules) rule.raw.label few) (λ other there. among other (contains_behind rule rules other there)),
+  )
+
+  -- as many names as rules
+  pub rule_names_size : (unlabelled : ℕ) (rules : List RuleItem) → length (rule_names_from source unlabelled rules) ≡ length rules
+  rule_names_size unlabelled [] = refl
+  rule_names_size unlabelled (rule ∷ rules) = ap suc (rule_names_size (unlabelled_behind unlabelled rule.raw.label) rules)
+
+  pub rules_few : length (rules_of source) ≤ 4096
+  rules_few =
+      let few = at_most (names_in source space.Rules) 4096 (λ entry found. clean.names (wrong OverLimit entry.at) (over entry.at (overs.rule entry found refl) refl)) in
+      let size = rule_names_size 0 (rules_of source) in
+      omega (arith, few, size)
+
+  map_twice : {X Y Z : Type 0} (f : Y → Z) (g : X → Y) (xs : List X) → map f (map g xs) ≡ map (λ x. f (g x)) xs
+  map_twice f g [] = refl
+  map_twice f g (x ∷ xs) = ap (λ ys. f (g x) ∷ ys) (map_twice f g xs)
+
+  differ_as : (space_ : Space) (names : List (List ℕ)) → map (λ (n : Named). n.name) (names_in source space_) ≡ names → AllDiffer names
+  differ_as space_ names same = subst AllDiffer same (names_differ source clean.names space_)
+
+  pub sort_names : AreNames (map (said source) (sorts_of source))
+  sort_names = record {
+    each = all_map IsName (said source) (sorts_of source) (all_of (λ span. IsName (said source span)) (sorts_of source) (λ span there. let from = flat_cases sorts_in source.file span there in name_at span (sort_at from.from span (item_made from.from from.there) from.inside)));
+    differ = differ_as space.Sorts (map (said source) (sorts_of source)) (map_twice (λ (n : Named). n.name) (named source) (sorts_of source));
+  }
+
+  pub stage_names : AreNames (map (said source) (stages_of source))
+  stage_names = record {
+    each = all_map IsName (said source) (stages_of source) (all_of (λ span. IsName (said source span)) (stages_of source) (λ span there. let from = flat_cases stages_in source.file span there in name_at span (stage_at from.from span (item_made from.from from.there) from.inside)));
+    differ = differ_as space.Stages (map (said source) (stages_of source)) (map_twice (λ (n : Named). n.name) (named source) (stages_of source));
+  }
+
+  pub con_names : AreNames (map (λ (con : ConItem). said source con.name) (cons_of source))
+  con_names = record {
+    each = all_map IsName (λ (con : ConItem). said source con.name) (cons_of source) (all_of (λ (con : ConItem). IsName (said source con.name)) (cons_of source) (λ con there. let from = flat_cases (cons_in source) source.file con there in name_at con.name (con_at from.from con (item_made from.from from.there) from.inside)));
+    differ = differ_as space.Constructors (map (λ (con : ConItem). said source con.name) (cons_of source)) (map_twice (λ (n : Named). n.name) (λ (con : ConItem). named source con.name) (cons_of source));
+  }
+
+  pub pred_names : AreNames (map (λ (pred : PredItem). said source pred.name) (preds_of source))
+  pred_names = record {
+    each = all_map IsName (λ (pred : PredItem). said source pred.name) (preds_of source) (all_of (λ (pred : PredItem). IsName (said source pred.name)) (preds_of source) (λ pred there. let from = flat_cases preds_in source.file pred there in name_at pred.name (pred_at from.from pred (item_made from.from from.there) from.inside)));
+    differ = differ_as space.Predicates (map (λ (pred : PredItem). said source pred.name) (preds_of source)) (map_twice (λ (n : Named). n.name) (λ (pred : PredItem). named source pred.name) (preds_of source));
+  }
+
+  pub rule_names : AreNames (map (λ (n : Named). n.name) (names_in source space.Rules))
+  rule_names = record {
+    each = rule_names_are 0 (rules_of source) (let few = rules_few in omega (arith, few)) (λ rule there. there);
+    differ = names_differ source clean.names space.Rules;
+  }

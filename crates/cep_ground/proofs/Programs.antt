@@ -1,0 +1,315 @@
+-- What a text in order declares is a program.
+use Rattle.std.proofs.Common.{◌≡◌, ⊎_elim, ℕ, suc, ◌<◌, ◌≤◌, ◌^◌, not, List, [], ◌∷◌, length, map, filter, refl, sym, ap, subst, ◌∙◌, arith, Contains, length-append}
+use Rattle.std.proofs.lemmas.List.{length-map}
+use Rattle.std.specs.Prelude.{Option, Some, None, IfSome}
+use Rattle.std.specs.Option.{option_map}
+use Rattle.std.specs.List.{AllByRecursion, flat_map}
+use Rattle.cep_parse.specs.declared.raw.Span.{Span}
+use Rattle.cep_parse.specs.declared.raw.RawAtom.{RawAtom}
+use Rattle.cep_parse.specs.declared.raw.RawItem.{RawItem}
+use Rattle.cep_parse.specs.declared.raw.RawItem.TheVariants as item
+use Rattle.cep_parse.specs.Written.{IsItemOf}
+use Rattle.cep_term.specs.Tree.{AtomTree}
+use Rattle.cep_rule.specs.declared.signature.Con.{Con}
+use Rattle.cep_rule.specs.declared.signature.PredDecl.{PredDecl}
+use Rattle.cep_rule.specs.declared.signature.Signature.{Signature}
+use Rattle.cep_rule.specs.declared.rule.Rule.{Rule}
+use Rattle.cep_rule.specs.declared.parts.Stage.{Stage}
+use Rattle.cep_rule.specs.declared.parts.Parts.{Parts}
+use Rattle.cep_rule.specs.Patterns.{PremiseTree, ClauseTree}
+use Rattle.cep_rule.specs.Names.{AreNames, IsVariableName}
+use Rattle.cep_rule.specs.Binding.{IsBoundRule, IsBoundClause}
+use Rattle.cep_rule.specs.Limits.{IsSmallPattern, IsSmallSignature, IsSmallRule, IsSmallClause, IsTurnLimit}
+use Rattle.cep_rule.specs.Groundness.{Calls, IsBad, IsGrounded, nothing, known_after_all}
+use Rattle.cep_rule.specs.Binding.{needed_of}
+use Rattle.cep_rule.specs.State.{IsState}
+use Rattle.cep_rule.specs.Program.{AreSorts, AreInRange, IsTypedRule, IsTypedClause, IsDividedRule, IsDividedClause, IsGroupedRule, IsProgram}
+use Rattle.cep_names.specs.declared.reason.Reason.TheVariants.{OverLimit}
+use Rattle.cep_names.specs.declared.space.Space.TheVariants as space
+use Rattle.cep_names.specs.Items.{Source, PredItem, ConItem, ClauseItem, RuleItem, TraceItem, said, sorts_in, sorts_of, preds_of, cons_of, stages_in, stages_of, clauses_of, rules_of, traces_in, traces_of}
+use Rattle.cep_names.specs.Spaces.{Named, named, names_in}
+use Rattle.cep_names.specs.Uses.{atoms_of, use_in, own_uses, start_uses}
+use Rattle.cep_names.specs.Variables.{Occurrence, nodes_of, variables_of}
+use Rattle.cep_names.specs.Misnamed.{wrong, number_said}
+use Rattle.cep_names.specs.Misnamed.Misnamed.{over}
+use Rattle.cep_names.specs.Misnamed.{IsOver as overs}
+use Rattle.cep_infer.specs.Sites.{rule_scope, clause_scope}
+use Rattle.cep_infer.specs.Heads.{number_of}
+use Rattle.cep_infer.specs.Meaning.{sorts_said, con_by, pred_by, signature_of, stage_by, names_of, is_back, IsRuleBy, AreRulesBy, IsClauseBy, AreClausesBy, AreParts}
+use Rattle.cep_infer.specs.Places.{unbound_of}
+use Rattle.cep_ground.specs.Texts.{IsClean, IsBound}
+use Rattle.cep_ground.proofs.Members.{contains_none, contains_first, contains_behind, contains_cases, contains_left, contains_right, contains_map, flat_cases, all_at, all_of}
+use Rattle.cep_ground.proofs.Known.{own_item_uses}
+use Rattle.cep_ground.proofs.Limits.{at_most, nodes_few, all_filter, all_map}
+use Rattle.cep_ground.proofs.Spelled.{tokens_few}
+use Rattle.cep_ground.proofs.RuleScopes.{AtomsMade, AreHere, rule_here, clause_here, left_here, right_here, linear_few, back_few, right_few, goals_few, nodes_short}
+use Rattle.cep_ground.proofs.RuleParts.{IsJudged, judged_premises, judged_atoms, back_part, linear_count, back_count, atoms_count, all_follow, rule_typed, rule_divided, clause_typed, clause_divided}
+use Rattle.cep_ground.proofs.BoundVariables.{bound_vars, rule_bound, clause_bound}
+use Rattle.cep_ground.proofs.VariableKinds.{in_range, con_sort_known, con_args_known, pred_args_known, kinds_in_range, variable_names}
+use Rattle.cep_ground.proofs.StartState.{CountLaws, start_good}
+use Rattle.cep_ground.proofs.StateAtoms.{not_greater}
+use Rattle.cep_ground.proofs.NameLaws.{rule_names_size, rules_few, sort_names, stage_names, con_names, pred_names, rule_names}
+use Rattle.cep_ground.proofs.GroupLaws.{used_stage, rule_grouped, rule_next}
+
+map_same : {X Y Z : Type 0} (f : Y → Z) (g : X → Y) (h : X → Z) (xs : List X) → ((x : X) → f (g x) ≡ h x) → map h xs ≡ map f (map g xs)
+map_same f g h [] same = refl
+map_same f g h (x ∷ xs) same = let here = same x in let rest = map_same f g h xs same in cc
+
+-- where each makes one at most, there are not more than of them
+flat_few : {X Y : Type 0} (f : X → List Y) (xs : List X) → ((x : X) → length (f x) ≤ 1) → length (flat_map f xs) ≤ length xs
+flat_few f [] one = omega arith
+flat_few f (x ∷ xs) one =
+    let here = one x in
+    let rest = flat_few f xs one in
+    let size = length-append (f x) (flat_map f xs) in
+    omega (arith, here, rest, size)
+
+one_sort : (item_ : RawItem) → length (sorts_in item_) ≤ 1
+one_sort (item.Sort name) = omega arith
+one_sort (item.Pred name args back) = omega arith
+one_sort (item.Colon left args right) = omega arith
+one_sort (item.Clause label head goals) = omega arith
+one_sort (item.Outer rule) = omega arith
+one_sort (item.Stage name rules) = omega arith
+one_sort (item.Context name atoms) = omega arith
+one_sort (item.Interactive name) = omega arith
+one_sort (item.Trace at limit stage start) = omega arith
+
+one_stage : (item_ : RawItem) → length (stages_in item_) ≤ 1
+one_stage (item.Sort name) = omega arith
+one_stage (item.Pred name args back) = omega arith
+one_stage (item.Colon left args right) = omega arith
+one_stage (item.Clause label head goals) = omega arith
+one_stage (item.Outer rule) = omega arith
+one_stage (item.Stage name rules) = omega arith
+one_stage (item.Context name atoms) = omega arith
+one_stage (item.Interactive name) = omega arith
+one_stage (item.Trace at limit stage start) = omega arith
+
+trace_use : (item_ : RawItem) (trace : TraceItem) → Contains (traces_in item_) trace → Contains (own_uses item_) (use_in space.Stages trace.stage)
+trace_use (item.Trace at limit stage start) trace there =
+    ⊎_elim
+    (λ (same : record { at = at; limit = limit; stage = stage; start = start } ≡ trace). subst (λ (t : TraceItem). Contains (use_in space.Stages stage ∷ start_uses start) (use_in space.Stages t.stage)) same (contains_first (use_in space.Stages stage) (start_uses start)))
+    (λ later. absurd (contains_none trace later))
+    (contains_cases (record { at = at; limit = limit; stage = stage; start = start }) [] trace there)
+trace_use (item.Sort name) trace there = absurd (contains_none trace there)
+trace_use (item.Pred name args back) trace there = absurd (contains_none trace there)
+trace_use (item.Colon left args right) trace there = absurd (contains_none trace there)
+trace_use (item.Clause label head goals) trace there = absurd (contains_none trace there)
+trace_use (item.Outer rule) trace there = absurd (contains_none trace there)
+trace_use (item.Stage name rules) trace there = absurd (contains_none trace there)
+trace_use (item.Context name atoms) trace there = absurd (contains_none trace there)
+trace_use (item.Interactive name) trace there = absurd (contains_none trace there)
+
+-- the same of numbers that are sorts
+sorts_in_range : (source : Source) (spans : List Span) (most : ℕ) → AllByRecursion (λ name. number_of source space.Sorts name < most) (map (said source) spans) → AllByRecursion (λ sort. sort < most) (sorts_said source spans)
+sorts_in_range source [] most all = tt
+sorts_in_range source (span ∷ spans) most all = (all.0, sorts_in_range source spans most all.1)
+
+module _ (source : Source) (clean : IsClean source) (made : AtomsMade source) (items : AllByRecursion (IsItemOf clean.is_source.tokens) source.file) (few : length source.file ≤ length clean.is_source.tokens) (laws : CountLaws) (bound : IsBound source) where
+  file_few : length source.file ≤ 1048576
+  file_few = let tokens = tokens_few source clean.is_source in let s = clean.short in omega (arith, few, tokens, s)
+
+  -- what holds of each rule that is written holds of all
+  all_rules : (P : Rule → Type 0) (names : List (List ℕ)) (written : List RuleItem) (rules : List Rule) → ((name : List ℕ) (item_ : RuleItem) (rule : Rule) → Contains written item_ → IsRuleBy source name item_ rule → P rule) → AreRulesBy source names written rules → AllByRecursion P rules
+  all_rules P names [] [] each by = tt
+  all_rules P names [] (rule ∷ rules) each by = absurd by
+  all_rules P names (item_ ∷ written) [] each by = absurd by
+  all_rules P [] (item_ ∷ written) (rule ∷ rules) each by = absurd by
+  all_rules P (name ∷ names) (item_ ∷ written) (rule ∷ rules) each by = (
+    each name item_ rule (contains_first item_ written) by.0,
+    all_rules P names written rules (λ n i r there is. each n i r (contains_behind item_ written i there) is) by.1,
+  )
+
+  rules_named : (names : List (List ℕ)) (written : List RuleItem) (rules : List Rule) → length names ≡ length written → AreRulesBy source names written rules → map (λ (rule : Rule). rule.name) rules ≡ names
+  rules_named [] [] [] size by = refl
+  rules_named (name ∷ names) [] [] size by = absurd (omega (arith, size))
+  rules_named names [] (rule ∷ rules) size by = absurd by
+  rules_named names (item_ ∷ written) [] size by = absurd by
+  rules_named [] (item_ ∷ written) (rule ∷ rules) size by = absurd by
+  rules_named (name ∷ names) (item_ ∷ written) (rule ∷ rules) size by =
+      let here = by.0.name_is in
+      let rest = rules_named names written rules (omega (arith, size)) by.1 in
+      cc
+
+  rules_size : (names : List (List ℕ)) (written : List RuleItem) (rules : List Rule) → AreRulesBy source names written rules → length rules ≡ length written
+  rules_size names [] [] by = refl
+  rules_size names [] (rule ∷ rules) by = absurd by
+  rules_size names (item_ ∷ written) [] by = absurd by
+  rules_size [] (item_ ∷ written) (rule ∷ rules) by = absurd by
+  rules_size (name ∷ names) (item_ ∷ written) (rule ∷ rules) by = ap suc (rules_size names written rules by.1)
+
+  all_clauses : (P : ClauseTree → Type 0) (written : List ClauseItem) (clauses : List ClauseTree) → ((item_ : ClauseItem) (clause : ClauseTree) → Contains written item_ → IsClauseBy source item_ clause → P clause) → AreClausesBy source written clauses → AllByRecursion P clauses
+  all_clauses P [] [] each by = tt
+  all_clauses P [] (clause ∷ clauses) each by = absurd by
+  all_clauses P (item_ ∷ written) [] each by = absurd by
+  all_clauses P (item_ ∷ written) (clause ∷ clauses) each by =
+      (each item_ clause (contains_first item_ written) by.0, all_clauses P written clauses (λ i c there is. each i c (contains_behind item_ written i there) is) by.1)
+
+  clauses_size : (written : List ClauseItem) (clauses : List ClauseTree) → AreClausesBy source written clauses → length clauses ≡ length written
+  clauses_size [] [] by = refl
+  clauses_size [] (clause ∷ clauses) by = absurd by
+  clauses_size (item_ ∷ written) [] by = absurd by
+  clauses_size (item_ ∷ written) (clause ∷ clauses) by = ap suc (clauses_size written clauses by.1)
+
+  nodes_of_scope : (atoms : List RawAtom) → AreHere source clean made atoms → length (nodes_of atoms) < 2 ^ 63
+  nodes_of_scope atoms are =
+      let nodes = nodes_few atoms (λ raw there. let here = are.here raw there in let s = nodes_short source clean made here.role raw here.there in omega (arith, s)) in
+      let count = are.few in
+      omega (arith, nodes, count)
+
+  rule_vars_few : (item_ : RuleItem) → Contains (rules_of source) item_ → length (names_of source (rule_scope item_)) ≤ 32
+  rule_vars_few item_ there =
+      let size = length-map (variables_of source (rule_scope item_)) (λ (o : Occurrence). o.name) in
+      let same = ap length (bound_vars source item_ (all_at (λ (rule : RuleItem). unbound_of source rule ≡ []) (rules_of source) item_ bound there)) in
+      let most = at_most (variables_of source (atoms_of item_.raw.left)) 32 (λ o found. clean.names (wrong OverLimit o.at.from) (over o.at.from (overs.rule_variable item_ o there found refl) refl)) in
+      omega (arith, size, same, most)
+
+  clause_vars_few : (item_ : ClauseItem) → Contains (clauses_of source) item_ → length (names_of source (clause_scope item_)) ≤ 32
+  clause_vars_few item_ there =
+      let size = length-map (variables_of source (clause_scope item_)) (λ (o : Occurrence). o.name) in
+      let most = at_most (variables_of source (clause_scope item_)) 32 (λ o found. clean.names (wrong OverLimit o.at.from) (over o.at.from (overs.clause_variable item_ o there found refl) refl)) in
+      omega (arith, size, most)
+
+  small_atom : (atom : AtomTree) → IsJudged source clean made atom → IsSmallPattern atom
+  small_atom atom judged = judged.small
+
+  small_rule : (name : List ℕ) (item_ : RuleItem) (rule : Rule) → Contains (rules_of source) item_ → IsRuleBy source name item_ rule → IsSmallRule rule
+  small_rule name item_ rule there by =
+      let judged = judged_premises source clean made rule.vars 0 item_.raw.left by.left (left_here source clean made item_ there) by.left_is in
+      let small = all_follow (λ (p : PremiseTree). IsJudged source clean made p.atom) (λ p. IsSmallPattern p.atom) by.left (λ p j. small_atom p.atom j) judged in
+      let linear = linear_count source clean made rule.vars 0 item_.raw.left by.left (left_here source clean made item_ there) by.left_is in
+      let back = back_count source clean made rule.vars 0 item_.raw.left by.left (left_here source clean made item_ there) by.left_is in
+      let right = atoms_count source clean made rule.vars _ (atoms_of item_.raw.right) rule.right by.right_is in
+      let right_judged = judged_atoms source clean made rule.vars _ (atoms_of item_.raw.right) rule.right (right_here source clean made item_ there) by.right_is in
+      record {
+        vars = let v = ap length by.vars_are in let most = rule_vars_few item_ there in omega (arith, v, most);
+        premises = let e = ap length by.premises_are in let most = linear_few source clean made item_ there in omega (arith, e, linear, most);
+        backs = let e = ap length by.backs_are ∙ length-map (filter (λ (p : PremiseTree). is_back source p.atom) by.left) (λ (p : PremiseTree). p.atom) in let most = back_few source clean made item_ there in omega (arith, e, back, most);
+        right = let most = right_few source clean made item_ there in omega (arith, right, most);
+        premise_nodes = subst (AllByRecursion (λ (p : PremiseTree). IsSmallPattern p.atom)) (sym by.premises_are) (all_filter (λ (p : PremiseTree). IsSmallPattern p.atom) (λ p. not (is_back source p.atom)) by.left small);
+        back_nodes = subst (AllByRecursion IsSmallPattern) (sym by.backs_are) (back_part source clean made IsSmallPattern by.left small);
+        right_nodes = all_follow (IsJudged source clean made) IsSmallPattern rule.right small_atom right_judged;
+      }
+
+  small_clause : (item_ : ClauseItem) (clause : ClauseTree) → Contains (clauses_of source) item_ → IsClauseBy source item_ clause → IsSmallClause clause
+  small_clause item_ clause there by =
+      let judged = judged_atoms source clean made clause.vars 0 (clause_scope item_) (clause.head ∷ clause.goals) (clause_here source clean made item_ there).here by.atoms_are in
+      let size = atoms_count source clean made clause.vars 0 (clause_scope item_) (clause.head ∷ clause.goals) by.atoms_are in
+      record {
+        vars = let v = ap length by.vars_are in let most = clause_vars_few item_ there in omega (arith, v, most);
+        goals = let most = goals_few source clean made item_ there in omega (arith, size, most);
+        head_nodes = judged.0.small;
+        goal_nodes = all_follow (IsJudged source clean made) IsSmallPattern clause.goals small_atom judged.1;
+      }
+
+  small_signature : IsSmallSignature (signature_of source)
+  small_signature = record {
+    sorts = let e = length-map (sorts_of source) (said source) in let f = flat_few sorts_in source.file one_sort in let g = file_few in omega (arith, e, f, g);
+    cons = let e = length-map (cons_of source) (con_by source) in let f = length-map (cons_of source) (λ (con : ConItem). named source con.name) in
+        let most = at_most (names_in source space.Constructors) 65536 (λ entry found. clean.names (wrong OverLimit entry.at) (over entry.at (overs.constructor entry found refl) refl)) in omega (arith, e, f, most);
+    preds = let e = length-map (preds_of source) (pred_by source) in let f = length-map (preds_of source) (λ (pred : PredItem). named source pred.name) in
+        let most = at_most (names_in source space.Predicates) 1024 (λ entry found. clean.names (wrong OverLimit entry.at) (over entry.at (overs.predicate entry found refl) refl)) in omega (arith, e, f, most);
+    con_args = all_map (λ (con : Con). length con.args ≤ 8) (con_by source) (cons_of source) (all_of (λ (con : ConItem). length (sorts_said source con.args) ≤ 8) (cons_of source)
+        (λ con there. let e = length-map con.args (λ span. number_of source space.Sorts (said source span)) in
+        let most = at_most con.args 8 (λ name found. clean.names (wrong OverLimit name.from) (over name.from (overs.argument con.args name (contains_left (map (λ (c : ConItem). c.args) (cons_of source)) _ con.args (contains_map (λ (c : ConItem). c.args) (cons_of source) con there)) found refl) refl)) in omega (arith, e, most)));
+    pred_args = all_map (λ (pred : PredDecl). length pred.args ≤ 8) (pred_by source) (preds_of source) (all_of (λ (pred : PredItem). length (sorts_said source pred.args) ≤ 8) (preds_of source)
+        (λ pred there. let e = length-map pred.args (λ span. number_of source space.Sorts (said source span)) in
+        let most = at_most pred.args 8 (λ name found. clean.names (wrong OverLimit name.from) (over name.from (overs.argument pred.args name (contains_right (map (λ (c : ConItem). c.args) (cons_of source)) _ pred.args (contains_map (λ (p : PredItem). p.args) (preds_of source) pred there)) found refl) refl)) in omega (arith, e, most)));
+  }
+
+  turns_by : (limit : Option Span) (trace : TraceItem) → Contains (traces_of source) trace → trace.limit ≡ limit → IfSome (option_map (number_said source) limit) IsTurnLimit
+  turns_by None trace there is = tt
+  turns_by (Some number) trace there is =
+      let never : (IsTurnLimit (number_said source number) → ⊥) → ⊥ = λ not_limit. clean.names (wrong OverLimit number.from) (over number.from (overs.turns trace number there is not_limit refl) refl) in
+      record {
+        some = not_greater' (λ none. never (λ limit. let s = limit.some in omega (arith, s, none)));
+        few = not_greater'' (λ more_. never (λ limit. let f = limit.few in omega (arith, f, more_)));
+      }
+    where
+      not_greater' : (number_said source number < 1 → ⊥) → 1 ≤ number_said source number
+      not_greater' h = not_greater 1 (number_said source number) h
+
+      not_greater'' : (1000000 < number_said source number → ⊥) → number_said source number ≤ 1000000
+      not_greater'' h = not_greater (number_said source number) 1000000 h
+
+  -- no rule without backward premises calls a bad pair
+  grounded : (clauses : List ClauseTree) (rules : List Rule) → AllByRecursion (λ (rule : Rule). rule.backs ≡ []) rules → AllByRecursion (IsGrounded clauses) rules
+  grounded clauses rules none = all_follow (λ (rule : Rule). rule.backs ≡ []) (IsGrounded clauses) rules (λ rule empty calls. subst (λ backs. Calls (IsBad clauses) (known_after_all nothing (needed_of rule)) backs) empty calls) none
+
+  pub is_program : (parts : Parts) → AreParts source parts → AllByRecursion (λ (rule : Rule). rule.backs ≡ []) parts.rules → IsProgram parts
+  is_program parts are none =
+      let rule_names_ = map (λ (n : Named). n.name) (names_in source space.Rules) in
+      let each_rule : (P : Rule → Type 0) → ((name : List ℕ) (item_ : RuleItem) (rule : Rule) → Contains (rules_of source) item_ → IsRuleBy source name item_ rule → P rule) → AllByRecursion P parts.rules = λ P each. all_rules P rule_names_ (rules_of source) parts.rules each are.rules_are in
+      let each_clause : (P : ClauseTree → Type 0) → ((item_ : ClauseItem) (clause : ClauseTree) → Contains (clauses_of source) item_ → IsClauseBy source item_ clause → P clause) → AllByRecursion P parts.clauses = λ P each. all_clauses P (clauses_of source) parts.clauses each are.clauses_are in
+      let trace_there : Contains (traces_of source) are.trace = subst (λ ts. Contains ts are.trace) (sym are.first) (contains_first are.trace are.rest) in
+      let start = start_good source clean made laws are.trace are.rest parts.start are.first are.start_is in
+      let stage_size : length parts.stages ≡ length (stages_of source) = ap length are.stages_are ∙ length-map (stages_of source) (stage_by source) in
+      let sort_size : length parts.signature.sorts ≡ length (sorts_of source) = ap (λ (s : Signature). length s.sorts) are.signature_is ∙ length-map (sorts_of source) (said source) in
+      record {
+        small = record {
+          signature = subst IsSmallSignature (sym are.signature_is) small_signature;
+          stages = let f = flat_few stages_in source.file one_stage in let g = file_few in omega (arith, stage_size, f, g);
+          rules = let e = rules_size rule_names_ (rules_of source) parts.rules are.rules_are in let most = rules_few source clean items in omega (arith, e, most);
+          clauses = let e = clauses_size (clauses_of source) parts.clauses are.clauses_are in
+              let most = at_most (clauses_of source) 4096 (λ clause found. clean.names (wrong OverLimit clause.head.name.from) (over clause.head.name.from (overs.clause clause found refl) refl)) in omega (arith, e, most);
+          each_rule = each_rule IsSmallRule small_rule;
+          each_clause = each_clause IsSmallClause small_clause;
+          turns = subst (λ turns. IfSome turns IsTurnLimit) (sym are.turns_are) (turns_by are.trace.limit are.trace trace_there refl);
+        };
+        named = record {
+          sorts = subst (λ (s : Signature). AreNames s.sorts) (sym are.signature_is) (sort_names source clean items);
+          cons = subst (λ (s : Signature). AreNames (map (λ con. con.name) s.cons)) (sym are.signature_is) (subst AreNames (map_same (λ (con : Con). con.name) (con_by source) (λ (con : ConItem). said source con.name) (cons_of source) (λ con. refl)) (con_names source clean items));
+          preds = subst (λ (s : Signature). AreNames (map (λ pred. pred.name) s.preds)) (sym are.signature_is) (subst AreNames (map_same (λ (pred : PredDecl). pred.name) (pred_by source) (λ (pred : PredItem). said source pred.name) (preds_of source) (λ pred. refl)) (pred_names source clean items));
+          stages = subst (λ (ss : List Stage). AreNames (map (λ stage. stage.name) ss)) (sym are.stages_are) (subst AreNames (map_same (λ (stage : Stage). stage.name) (stage_by source) (said source) (stages_of source) (λ stage. refl)) (stage_names source clean items));
+          rules = subst AreNames (sym (rules_named rule_names_ (rules_of source) parts.rules (length-map (names_in source space.Rules) (λ (n : Named). n.name) ∙ rule_names_size source clean items 0 (rules_of source)) are.rules_are)) (rule_names source clean items);
+          rule_vars = each_rule (λ rule. AllByRecursion IsVariableName rule.vars) (λ name item_ rule there by.
+              let here = rule_here source clean made item_ there in
+              subst (AllByRecursion IsVariableName) (sym by.vars_are) (variable_names source clean made (rule_scope item_) here (nodes_of_scope (rule_scope item_) here)));
+          clause_vars = each_clause (λ clause. AllByRecursion IsVariableName clause.vars) (λ item_ clause there by.
+              let here = clause_here source clean made item_ there in
+              subst (AllByRecursion IsVariableName) (sym by.vars_are) (variable_names source clean made (clause_scope item_) here (nodes_of_scope (clause_scope item_) here)));
+        };
+        in_range = in_range_parts parts are each_rule each_clause sort_size stage_size trace_there;
+        typed_rules = subst (λ s. AllByRecursion (IsTypedRule s) parts.rules) (sym are.signature_is) (each_rule (IsTypedRule (signature_of source)) (rule_typed source clean made));
+        typed_clauses = subst (λ s. AllByRecursion (IsTypedClause s) parts.clauses) (sym are.signature_is) (each_clause (IsTypedClause (signature_of source)) (clause_typed source clean made));
+        bound_rules = each_rule IsBoundRule (λ name item_ rule there by. rule_bound source name item_ rule (all_at (λ (rule : RuleItem). unbound_of source rule ≡ []) (rules_of source) item_ bound there) by);
+        bound_clauses = each_clause IsBoundClause (λ item_ clause there by. clause_bound source item_ clause by);
+        divided_rules = subst (λ s. AllByRecursion (IsDividedRule s) parts.rules) (sym are.signature_is) (each_rule (IsDividedRule (signature_of source)) (rule_divided source clean made));
+        divided_clauses = subst (λ s. AllByRecursion (IsDividedClause s) parts.clauses) (sym are.signature_is) (each_clause (IsDividedClause (signature_of source)) (clause_divided source clean made));
+        grouped = subst (λ n. AllByRecursion (IsGroupedRule n) parts.rules) (sym stage_size) (each_rule (IsGroupedRule (length (stages_of source))) (rule_grouped source clean));
+        grounded = grounded parts.clauses parts.rules none;
+        start = subst (λ s. IsState s parts.start) (sym are.signature_is) start.state;
+        start_fits = start.fits;
+        no_backs = none;
+      }
+    where
+      in_range_parts : (parts : Parts) (are : AreParts source parts)
+          → ((P : Rule → Type 0) → ((name : List ℕ) (item_ : RuleItem) (rule : Rule) → Contains (rules_of source) item_ → IsRuleBy source name item_ rule → P rule) → AllByRecursion P parts.rules)
+          → ((P : ClauseTree → Type 0) → ((item_ : ClauseItem) (clause : ClauseTree) → Contains (clauses_of source) item_ → IsClauseBy source item_ clause → P clause) → AllByRecursion P parts.clauses)
+          → length parts.signature.sorts ≡ length (sorts_of source) → length parts.stages ≡ length (stages_of source) → Contains (traces_of source) are.trace → AreInRange parts
+      in_range_parts parts are each_rule each_clause sort_size stage_size trace_there = record {
+        con_sorts = subst (λ n. AllByRecursion (λ (con : Con). con.sort < n) parts.signature.cons) (sym sort_size)
+            (subst (λ (s : Signature). AllByRecursion (λ (con : Con). con.sort < length (sorts_of source)) s.cons) (sym are.signature_is)
+            (all_map (λ (con : Con). con.sort < length (sorts_of source)) (con_by source) (cons_of source) (all_of (λ (con : ConItem). number_of source space.Sorts (said source con.sort) < length (sorts_of source)) (cons_of source) (λ con there. in_range source clean made (said source con.sort) (con_sort_known source clean made con there)))));
+        con_args = subst (λ (s : Signature). AllByRecursion (λ (con : Con). AreSorts s con.args) s.cons) (sym are.signature_is)
+            (all_map (λ (con : Con). AreSorts (signature_of source) con.args) (con_by source) (cons_of source) (all_of (λ (con : ConItem). AreSorts (signature_of source) (sorts_said source con.args)) (cons_of source)
+            (λ con there. sorts_of_signature con.args (all_follow _ _ (map (said source) con.args) (λ name is. in_range source clean made name is) (con_args_known source clean made con there)))));
+        pred_args = subst (λ (s : Signature). AllByRecursion (λ (pred : PredDecl). AreSorts s pred.args) s.preds) (sym are.signature_is)
+            (all_map (λ (pred : PredDecl). AreSorts (signature_of source) pred.args) (pred_by source) (preds_of source) (all_of (λ (pred : PredItem). AreSorts (signature_of source) (sorts_said source pred.args)) (preds_of source)
+            (λ pred there. sorts_of_signature pred.args (all_follow _ _ (map (said source) pred.args) (λ name is. in_range source clean made name is) (pred_args_known source clean made pred there)))));
+        rule_kinds = subst (λ n. AllByRecursion (λ (rule : Rule). AllByRecursion (λ sort. sort < n) rule.kinds) parts.rules) (sym sort_size)
+            (each_rule (λ rule. AllByRecursion (λ sort. sort < length (sorts_of source)) rule.kinds) (λ name item_ rule there by.
+            subst (AllByRecursion (λ sort. sort < length (sorts_of source))) (sym by.kinds_are) (kinds_in_range source clean made (rule_scope item_) (rule_here source clean made item_ there))));
+        clause_kinds = subst (λ n. AllByRecursion (λ (clause : ClauseTree). AllByRecursion (λ sort. sort < n) clause.kinds) parts.clauses) (sym sort_size)
+            (each_clause (λ clause. AllByRecursion (λ sort. sort < length (sorts_of source)) clause.kinds) (λ item_ clause there by.
+            subst (AllByRecursion (λ sort. sort < length (sorts_of source))) (sym by.kinds_are) (kinds_in_range source clean made (clause_scope item_) (clause_here source clean made item_ there))));
+        next_stages = subst (λ n. AllByRecursion (λ (rule : Rule). IfSome rule.next (λ stage. stage < n)) parts.rules) (sym stage_size) (each_rule (λ rule. IfSome rule.next (λ stage. stage < length (stages_of source))) (rule_next source clean));
+        start_stage =
+            let from = flat_cases traces_in source.file are.trace trace_there in
+            let used = used_stage source clean are.trace.stage (own_item_uses source from.from (use_in space.Stages are.trace.stage) from.there (trace_use from.from are.trace from.inside)) in
+            subst (λ n. n < length parts.stages) (sym are.start_stage_is) (subst (λ n. number_of source space.Stages (said source are.trace.stage) < n) (sym stage_size) used);
+      }
+        where
+          sorts_of_signature : (spans : List Span) → AllByRecursion (λ name. number_of source space.Sorts name < length (sorts_of source)) (map (said source) spans) → AreSorts (signature_of source) (sorts_said source spans)
+          sorts_of_signature spans all = subst (λ n. AllByRecursion (λ sort. sort < n) (sorts_said source spans)) (sym (length-map (sorts_of source) (said source))) (sorts_in_range source spans (length (sorts_of source)) all)

@@ -1,0 +1,300 @@
+-- For which fault a text is refused.
+use Rattle.std.proofs.Common.{◌≡◌, ◌⊎◌, inl, inr, ℕ, ◌<◌, ◌≤◌, Bool, true, false, List, [], length, refl, sym, ap, subst, ◌∙◌, arith, Contains, ltb}
+use Rattle.std.proofs.lemmas.Bool.{ltb-true, ltb-false}
+use Rattle.std.specs.Prelude.{Result, Ok, Err}
+use Rattle.cep_lex.specs.declared.token.Token.{Token}
+use Rattle.cep_lex.specs.declared.token.TheConstants.{MOST_BYTES}
+use Rattle.cep_lex.specs.declared.fault.LexFault.{LexFault}
+use Rattle.cep_lex.specs.declared.fault.LexFault.TheVariants as lex
+use Rattle.cep_lex.specs.Cuts.{AreTokens, IsBadByte, IsNameLong, IsLexed}
+use Rattle.cep_parse.specs.declared.fault.ParseFault.{ParseFault}
+use Rattle.cep_parse.specs.declared.fault.ParseFault.TheVariants as parse
+use Rattle.cep_parse.specs.declared.raw.RawItem.{RawItem}
+use Rattle.cep_parse.specs.Symbols.{symbols_of}
+use Rattle.cep_parse.specs.Files.{IsUnexpected, IsNested, IsParsed}
+use Rattle.cep_rule.specs.declared.parts.Parts.{Parts}
+use Rattle.cep_names.specs.declared.fault.Fault.{Fault}
+use Rattle.cep_names.specs.declared.reason.Reason.{Reason}
+use Rattle.cep_names.specs.declared.reason.Reason.TheVariants.{BadByte, NameLong, Unexpected, Nested, Unbound, TooLong, NotBuilt}
+use Rattle.cep_names.specs.Items.{Source, RuleItem, rules_of}
+use Rattle.cep_names.specs.Variables.{Occurrence}
+use Rattle.cep_names.specs.First.{IsFirst, IsNoLater}
+use Rattle.cep_names.specs.Misnamed.{wrong, Misnamed}
+use Rattle.cep_names.specs.Misnamed.{Misnamed as misnamed_}
+use Rattle.cep_infer.specs.Shapes.{IsSource}
+use Rattle.cep_infer.specs.Sites.{Mistyped}
+use Rattle.cep_infer.specs.Sites.{Mistyped as mistyped_}
+use Rattle.cep_infer.specs.Meaning.{AreParts}
+use Rattle.cep_infer.specs.Places.{unbound_of}
+use Rattle.cep_ground.specs.Texts.{IsClean, IsBound}
+use Rattle.cep_ground.specs.Refusals.{IsBuilt, phase, IsWrong, IsToldFirst, IsRefusedFor}
+use Rattle.cep_ground.specs.Refusals.IsWrong.{too_long, bad_byte, name_long, unexpected, nested, misnamed, mistyped, unbound, not_built}
+use Rattle.cep_ground.proofs.OneProgram.{LexedOnce, FileOnce, tokens_once, source_once}
+use Rattle.cep_ground.proofs.Members.{contains_none, all_at}
+use Rattle.cep_ground.proofs.Once.{parts_once}
+
+-- what the law of parsed tokens says
+abbrev pub ParsedOnce : Type 0
+ParsedOnce = (text : List ℕ) (tokens : List Token) (one other : Result (List RawItem) ParseFault) → IsParsed text tokens one → IsParsed text tokens other → one ≡ other
+
+-- less or the same
+le_cases : (a b : ℕ) → a ≤ b → (a < b) ⊎ (a ≡ b)
+le_cases a b less = by (ltb a b) refl
+  where
+    by : (t : Bool) → ltb a b ≡ t → (a < b) ⊎ (a ≡ b)
+    by true e = inl (ltb-true a b e)
+    by false e = let more_ = ltb-false a b e in inr (omega (arith, less, more_))
+
+-- a fault is told no later than itself
+told_itself : (fault other : Fault) → fault ≡ other → IsToldFirst fault other
+told_itself fault other same = subst (IsToldFirst fault) same (inr (refl, inr (refl, omega arith)))
+
+same_wrong : (reason : Reason) (one other : ℕ) (fault : Fault) → one ≡ other → fault ≡ wrong reason other → wrong reason one ≡ fault
+same_wrong reason one other fault same is = ap (wrong reason) same ∙ sym is
+
+pub refused_too_long : (text : List ℕ) → MOST_BYTES < length text → IsRefusedFor text (wrong TooLong 0)
+refused_too_long text long = record { holds = too_long long refl; first = first }
+  where
+    first : (other : Fault) → IsWrong text other → IsToldFirst (wrong TooLong 0) other
+    first other (too_long long' is) = told_itself (wrong TooLong 0) other (sym is)
+    first other (bad_byte at short bad is) = absurd (omega (arith, long, short))
+    first other (name_long at short bad is) = absurd (omega (arith, long, short))
+    first other (unexpected tokens at short are bad is) = absurd (omega (arith, long, short))
+    first other (nested tokens at short are bad is) = absurd (omega (arith, long, short))
+    first other (misnamed source text_is short is_source bad) = absurd (omega (arith, long, short))
+    first other (mistyped source text_is short is_source bad) = absurd (omega (arith, long, short))
+    first other (unbound source rule o text_is short is_source there inside is) = absurd (omega (arith, long, short))
+    first other (not_built source parts text_is clean bound are not_ is) =
+        let short = clean.short in
+        let e = ap length text_is in
+        absurd (omega (arith, long, short, e))
+
+module _ (lexed : LexedOnce) (text : List ℕ) where
+  -- a text that has tokens has no fault of tokens
+  no_fault : (tokens : List Token) (fault : LexFault) → AreTokens text tokens → IsLexed text (Err fault) → ⊥
+  no_fault tokens fault are is = let e = lexed text (Ok tokens) (Err fault) are is in absurd cc
+
+  no_source : (fault : LexFault) (source : Source) → IsLexed text (Err fault) → source.text ≡ text → IsSource source → ⊥
+  no_source fault source is text_is is_source = no_fault is_source.tokens fault (subst (λ t. AreTokens t is_source.tokens) text_is is_source.lexed) is
+
+  one_bad_byte : (at at' : ℕ) → IsBadByte text at → IsBadByte text at' → at ≡ at'
+  one_bad_byte at at' is is' = let e = lexed text (Err (lex.BadByte at)) (Err (lex.BadByte at')) is is' in cc
+
+  one_name_long : (at at' : ℕ) → IsNameLong text at → IsNameLong text at' → at ≡ at'
+  one_name_long at at' is is' = let e = lexed text (Err (lex.NameLong at)) (Err (lex.NameLong at')) is is' in cc
+
+  not_both : (at at' : ℕ) → IsBadByte text at → IsNameLong text at' → ⊥
+  not_both at at' is is' = let e = lexed text (Err (lex.BadByte at)) (Err (lex.NameLong at')) is is' in absurd cc
+
+  pub refused_bad_byte : (at : ℕ) → length text ≤ MOST_BYTES → IsBadByte text at → IsRefusedFor text (wrong BadByte at)
+  refused_bad_byte at short bad = record { holds = bad_byte at short bad refl; first = first }
+    where
+      first : (other : Fault) → IsWrong text other → IsToldFirst (wrong BadByte at) other
+      first other (too_long long is) = absurd (omega (arith, long, short))
+      first other (bad_byte at' short' bad' is) = told_itself (wrong BadByte at) other (same_wrong BadByte at at' other (one_bad_byte at at' bad bad') is)
+      first other (name_long at' short' bad' is) = absurd (not_both at at' bad bad')
+      first other (unexpected tokens at' short' are bad' is) = absurd (no_fault tokens (lex.BadByte at) are bad)
+      first other (nested tokens at' short' are bad' is) = absurd (no_fault tokens (lex.BadByte at) are bad)
+      first other (misnamed source text_is short' is_source bad') = absurd (no_source (lex.BadByte at) source bad text_is is_source)
+      first other (mistyped source text_is short' is_source bad') = absurd (no_source (lex.BadByte at) source bad text_is is_source)
+      first other (unbound source rule o text_is short' is_source there inside is) = absurd (no_source (lex.BadByte at) source bad text_is is_source)
+      first other (not_built source parts text_is clean bound are not_ is) = absurd (no_source (lex.BadByte at) source bad text_is clean.is_source)
+
+  pub refused_name_long : (at : ℕ) → length text ≤ MOST_BYTES → IsNameLong text at → IsRefusedFor text (wrong NameLong at)
+  refused_name_long at short bad = record { holds = name_long at short bad refl; first = first }
+    where
+      first : (other : Fault) → IsWrong text other → IsToldFirst (wrong NameLong at) other
+      first other (too_long long is) = absurd (omega (arith, long, short))
+      first other (bad_byte at' short' bad' is) = absurd (not_both at' at bad' bad)
+      first other (name_long at' short' bad' is) = told_itself (wrong NameLong at) other (same_wrong NameLong at at' other (one_name_long at at' bad bad') is)
+      first other (unexpected tokens at' short' are bad' is) = absurd (no_fault tokens (lex.NameLong at) are bad)
+      first other (nested tokens at' short' are bad' is) = absurd (no_fault tokens (lex.NameLong at) are bad)
+      first other (misnamed source text_is short' is_source bad') = absurd (no_source (lex.NameLong at) source bad text_is is_source)
+      first other (mistyped source text_is short' is_source bad') = absurd (no_source (lex.NameLong at) source bad text_is is_source)
+      first other (unbound source rule o text_is short' is_source there inside is) = absurd (no_source (lex.NameLong at) source bad text_is is_source)
+      first other (not_built source parts text_is clean bound are not_ is) = absurd (no_source (lex.NameLong at) source bad text_is clean.is_source)
+
+  -- the tokens of a text are one list
+  tokens_same : (one other : List Token) → AreTokens text one → AreTokens text other → one ≡ other
+  tokens_same one other is is' = tokens_once lexed text one other is is'
+
+  module _ (parsed : ParsedOnce) where
+    -- a text that has a raw file has no fault of the grammar
+    no_parse_fault : (tokens : List Token) (fault : ParseFault) (source : Source) → AreTokens text tokens → IsParsed text tokens (Err fault) → source.text ≡ text → IsSource source → ⊥
+    no_parse_fault tokens fault source are is text_is is_source =
+        let same = tokens_same is_source.tokens tokens (subst (λ t. AreTokens t is_source.tokens) text_is is_source.lexed) are in
+        let file : IsParsed text is_source.tokens (Ok source.file) = subst (λ t. IsParsed t is_source.tokens (Ok source.file)) text_is (is_source.parsed, is_source.shallow) in
+        let e = parsed text tokens (Ok source.file) (Err fault) (subst (λ ts. IsParsed text ts (Ok source.file)) same file) is in
+        absurd cc
+
+    one_unexpected : (tokens tokens' : List Token) (at at' : ℕ) → AreTokens text tokens → AreTokens text tokens' → IsUnexpected (symbols_of text tokens) (length text) at → IsUnexpected (symbols_of text tokens') (length text) at' → at ≡ at'
+    one_unexpected tokens tokens' at at' are are' is is' =
+        let e = parsed text tokens (Err (parse.Unexpected at)) (Err (parse.Unexpected at')) is (subst (λ ts. IsUnexpected (symbols_of text ts) (length text) at') (tokens_same tokens' tokens are' are) is') in cc
+
+    one_nested : (tokens tokens' : List Token) (at at' : ℕ) → AreTokens text tokens → AreTokens text tokens' → IsNested (symbols_of text tokens) at → IsNested (symbols_of text tokens') at' → at ≡ at'
+    one_nested tokens tokens' at at' are are' is is' =
+        let e = parsed text tokens (Err (parse.Nested at)) (Err (parse.Nested at')) is (subst (λ ts. IsNested (symbols_of text ts) at') (tokens_same tokens' tokens are' are) is') in cc
+
+    not_both_parse : (tokens tokens' : List Token) (at at' : ℕ) → AreTokens text tokens → AreTokens text tokens' → IsUnexpected (symbols_of text tokens) (length text) at → IsNested (symbols_of text tokens') at' → ⊥
+    not_both_parse tokens tokens' at at' are are' is is' =
+        let e = parsed text tokens (Err (parse.Unexpected at)) (Err (parse.Nested at')) is (subst (λ ts. IsNested (symbols_of text ts) at') (tokens_same tokens' tokens are' are) is') in absurd cc
+
+    pub refused_unexpected : (tokens : List Token) (at : ℕ) → length text ≤ MOST_BYTES → AreTokens text tokens → IsUnexpected (symbols_of text tokens) (length text) at → IsRefusedFor text (wrong Unexpected at)
+    refused_unexpected tokens at short are bad = record { holds = unexpected tokens at short are bad refl; first = first }
+      where
+        first : (other : Fault) → IsWrong text other → IsToldFirst (wrong Unexpected at) other
+        first other (too_long long is) = absurd (omega (arith, long, short))
+        first other (bad_byte at' short' bad' is) = absurd (no_fault tokens (lex.BadByte at') are bad')
+        first other (name_long at' short' bad' is) = absurd (no_fault tokens (lex.NameLong at') are bad')
+        first other (unexpected tokens' at' short' are' bad' is) = told_itself (wrong Unexpected at) other (same_wrong Unexpected at at' other (one_unexpected tokens tokens' at at' are are' bad bad') is)
+        first other (nested tokens' at' short' are' bad' is) = absurd (not_both_parse tokens tokens' at at' are are' bad bad')
+        first other (misnamed source text_is short' is_source bad') = absurd (no_parse_fault tokens (parse.Unexpected at) source are bad text_is is_source)
+        first other (mistyped source text_is short' is_source bad') = absurd (no_parse_fault tokens (parse.Unexpected at) source are bad text_is is_source)
+        first other (unbound source rule o text_is short' is_source there inside is) = absurd (no_parse_fault tokens (parse.Unexpected at) source are bad text_is is_source)
+        first other (not_built source parts text_is clean bound are' not_ is) = absurd (no_parse_fault tokens (parse.Unexpected at) source are bad text_is clean.is_source)
+
+    pub refused_nested : (tokens : List Token) (at : ℕ) → length text ≤ MOST_BYTES → AreTokens text tokens → IsNested (symbols_of text tokens) at → IsRefusedFor text (wrong Nested at)
+    refused_nested tokens at short are bad = record { holds = nested tokens at short are bad refl; first = first }
+      where
+        first : (other : Fault) → IsWrong text other → IsToldFirst (wrong Nested at) other
+        first other (too_long long is) = absurd (omega (arith, long, short))
+        first other (bad_byte at' short' bad' is) = absurd (no_fault tokens (lex.BadByte at') are bad')
+        first other (name_long at' short' bad' is) = absurd (no_fault tokens (lex.NameLong at') are bad')
+        first other (unexpected tokens' at' short' are' bad' is) = absurd (not_both_parse tokens' tokens at' at are' are bad' bad)
+        first other (nested tokens' at' short' are' bad' is) = told_itself (wrong Nested at) other (same_wrong Nested at at' other (one_nested tokens tokens' at at' are are' bad bad') is)
+        first other (misnamed source text_is short' is_source bad') = absurd (no_parse_fault tokens (parse.Nested at) source are bad text_is is_source)
+        first other (mistyped source text_is short' is_source bad') = absurd (no_parse_fault tokens (parse.Nested at) source are bad text_is is_source)
+        first other (unbound source rule o text_is short' is_source there inside is) = absurd (no_parse_fault tokens (parse.Nested at) source are bad text_is is_source)
+        first other (not_built source parts text_is clean bound are' not_ is) = absurd (no_parse_fault tokens (parse.Nested at) source are bad text_is clean.is_source)
+
+    module _ (file_once : FileOnce) (source : Source) (text_is : source.text ≡ text) (short : length text ≤ MOST_BYTES) (is_source : IsSource source) where
+      tokens_are : AreTokens text is_source.tokens
+      tokens_are = subst (λ t. AreTokens t is_source.tokens) text_is is_source.lexed
+
+      same_source : (other : Source) → other.text ≡ text → IsSource other → other ≡ source
+      same_source other other_is is = source_once lexed file_once other source (other_is ∙ sym text_is) is is_source
+
+      no_unexpected : (tokens : List Token) (at : ℕ) → AreTokens text tokens → IsUnexpected (symbols_of text tokens) (length text) at → ⊥
+      no_unexpected tokens at are is = no_parse_fault tokens (parse.Unexpected at) source are is text_is is_source
+
+      no_nested : (tokens : List Token) (at : ℕ) → AreTokens text tokens → IsNested (symbols_of text tokens) at → ⊥
+      no_nested tokens at are is = no_parse_fault tokens (parse.Nested at) source are is text_is is_source
+
+      -- names are judged in one phase, types in the next
+      mistyped_phase : (fault : Fault) → Mistyped source fault → phase fault.reason ≡ 5
+      mistyped_phase fault (mistyped_.constructor atoms site con scope there app found differ is) = ap (λ (f : Fault). phase f.reason) is
+      mistyped_phase fault (mistyped_.variable atoms site first scope there var type_is differ is) = ap (λ (f : Fault). phase f.reason) is
+
+      misnamed_phase : (fault : Fault) → Misnamed source fault → phase fault.reason ≡ 4
+      misnamed_phase fault (misnamed_.twice is) = ap (λ (f : Fault). phase f.reason) is.is
+      misnamed_phase fault (misnamed_.unknown use_ there nowhere is) = ap (λ (f : Fault). phase f.reason) is
+      misnamed_phase fault (misnamed_.wrong_kind use_ there somewhere other is) = ap (λ (f : Fault). phase f.reason) is
+      misnamed_phase fault (misnamed_.wrong_arity use_ arity there found differ is) = ap (λ (f : Fault). phase f.reason) is
+      misnamed_phase fault (misnamed_.variable_in_state p node there of_state inside open_ is) = ap (λ (f : Fault). phase f.reason) is
+      misnamed_phase fault (misnamed_.backward_in_state p there comes back is) = ap (λ (f : Fault). phase f.reason) is
+      misnamed_phase fault (misnamed_.linear_in_clause p there clause linear is) = ap (λ (f : Fault). phase f.reason) is
+      misnamed_phase fault (misnamed_.bad_qui rule there home not_qui is) = ap (λ (f : Fault). phase f.reason) is
+      misnamed_phase fault (misnamed_.no_trace none is) = ap (λ (f : Fault). phase f.reason) is
+      misnamed_phase fault (misnamed_.two_traces first trace rest all there is) = ap (λ (f : Fault). phase f.reason) is
+      misnamed_phase fault (misnamed_.over at over_ is) = ap (λ (f : Fault). phase f.reason) is
+
+      pub refused_misnamed : (fault : Fault) → IsFirst (Misnamed source) fault → IsRefusedFor text fault
+      refused_misnamed fault bad = record { holds = misnamed source text_is short is_source bad.holds; first = first }
+        where
+          first : (other : Fault) → IsWrong text other → IsToldFirst fault other
+          first other (too_long long is) = absurd (omega (arith, long, short))
+          first other (bad_byte at short' bad' is) = absurd (no_fault is_source.tokens (lex.BadByte at) tokens_are bad')
+          first other (name_long at short' bad' is) = absurd (no_fault is_source.tokens (lex.NameLong at) tokens_are bad')
+          first other (unexpected tokens at short' are bad' is) = absurd (no_unexpected tokens at are bad')
+          first other (nested tokens at short' are bad' is) = absurd (no_nested tokens at are bad')
+          first other (misnamed source' text_is' short' is_source' bad') =
+              let here : Misnamed source other = subst (λ s. Misnamed s other) (same_source source' text_is' is_source') bad' in
+              inr (misnamed_phase fault bad.holds ∙ sym (misnamed_phase other here), bad.first other here)
+          first other (mistyped source' text_is' short' is_source' bad') =
+              let here : Mistyped source other = subst (λ s. Mistyped s other) (same_source source' text_is' is_source') bad' in
+              let one = misnamed_phase fault bad.holds in
+              let next = mistyped_phase other here in
+              inl (omega (arith, one, next))
+          first other (unbound source' rule o text_is' short' is_source' there inside is) =
+              let one = misnamed_phase fault bad.holds in
+              let next : phase other.reason ≡ 6 = ap (λ (f : Fault). phase f.reason) is in
+              inl (omega (arith, one, next))
+          first other (not_built source' parts text_is' clean bound are not_ is) = absurd (clean.names fault (subst (λ s. Misnamed s fault) (sym (same_source source' text_is' clean.is_source)) bad.holds))
+
+      pub refused_mistyped : (fault : Fault) → ((other : Fault) → ¬ (Misnamed source other)) → IsFirst (Mistyped source) fault → IsRefusedFor text fault
+      refused_mistyped fault names bad = record { holds = mistyped source text_is short is_source bad.holds; first = first }
+        where
+          first : (other : Fault) → IsWrong text other → IsToldFirst fault other
+          first other (too_long long is) = absurd (omega (arith, long, short))
+          first other (bad_byte at short' bad' is) = absurd (no_fault is_source.tokens (lex.BadByte at) tokens_are bad')
+          first other (name_long at short' bad' is) = absurd (no_fault is_source.tokens (lex.NameLong at) tokens_are bad')
+          first other (unexpected tokens at short' are bad' is) = absurd (no_unexpected tokens at are bad')
+          first other (nested tokens at short' are bad' is) = absurd (no_nested tokens at are bad')
+          first other (misnamed source' text_is' short' is_source' bad') = absurd (names other (subst (λ s. Misnamed s other) (same_source source' text_is' is_source') bad'))
+          first other (mistyped source' text_is' short' is_source' bad') =
+              let here : Mistyped source other = subst (λ s. Mistyped s other) (same_source source' text_is' is_source') bad' in
+              inr (mistyped_phase fault bad.holds ∙ sym (mistyped_phase other here), bad.first other here)
+          first other (unbound source' rule o text_is' short' is_source' there inside is) =
+              let one = mistyped_phase fault bad.holds in
+              let next : phase other.reason ≡ 6 = ap (λ (f : Fault). phase f.reason) is in
+              inl (omega (arith, one, next))
+          first other (not_built source' parts text_is' clean bound are not_ is) = absurd (clean.types fault (subst (λ s. Mistyped s fault) (sym (same_source source' text_is' clean.is_source)) bad.holds))
+
+      -- where each variable is bound, none is unbound
+      none_unbound : (other : Source) (rule : RuleItem) (o : Occurrence) → other ≡ source → IsBound source → Contains (rules_of other) rule → Contains (unbound_of other rule) o → ⊥
+      none_unbound other rule o same bound there inside =
+          let all = all_at (λ (item : RuleItem). unbound_of source item ≡ []) (rules_of source) rule bound (subst (λ s. Contains (rules_of s) rule) same there) in
+          contains_none o (subst (λ os. Contains os o) all (subst (λ s. Contains (unbound_of s rule) o) same inside))
+
+      no_later : (at at' : ℕ) → at ≤ at' → IsNoLater (wrong Unbound at) (wrong Unbound at')
+      no_later at at' less = by (le_cases at at' less)
+        where
+          by : (at < at') ⊎ (at ≡ at') → IsNoLater (wrong Unbound at) (wrong Unbound at')
+          by (inl before) = inl before
+          by (inr same) = inr (same, omega arith)
+
+      pub refused_unbound : (clean : IsClean source) (rule : RuleItem) (o : Occurrence) → Contains (rules_of source) rule → Contains (unbound_of source rule) o
+          → ((rule' : RuleItem) (o' : Occurrence) → Contains (rules_of source) rule' → Contains (unbound_of source rule') o' → o.at.from ≤ o'.at.from)
+          → IsRefusedFor text (wrong Unbound o.at.from)
+      refused_unbound clean rule o there inside least = record { holds = unbound source rule o text_is short is_source there inside refl; first = first }
+        where
+          first : (other : Fault) → IsWrong text other → IsToldFirst (wrong Unbound o.at.from) other
+          first other (too_long long is) = absurd (omega (arith, long, short))
+          first other (bad_byte at short' bad' is) = absurd (no_fault is_source.tokens (lex.BadByte at) tokens_are bad')
+          first other (name_long at short' bad' is) = absurd (no_fault is_source.tokens (lex.NameLong at) tokens_are bad')
+          first other (unexpected tokens at short' are' bad' is) = absurd (no_unexpected tokens at are' bad')
+          first other (nested tokens at short' are' bad' is) = absurd (no_nested tokens at are' bad')
+          first other (misnamed source' text_is' short' is_source' bad') = absurd (clean.names other (subst (λ s. Misnamed s other) (same_source source' text_is' is_source') bad'))
+          first other (mistyped source' text_is' short' is_source' bad') = absurd (clean.types other (subst (λ s. Mistyped s other) (same_source source' text_is' is_source') bad'))
+          first other (unbound source' rule' o' text_is' short' is_source' there' inside' is) =
+              let same = same_source source' text_is' is_source' in
+              let less = least rule' o' (subst (λ s. Contains (rules_of s) rule') same there') (subst (λ s. Contains (unbound_of s rule') o') same inside') in
+              subst (IsToldFirst (wrong Unbound o.at.from)) (sym is) (inr (refl, no_later o.at.from o'.at.from less))
+          first other (not_built source' parts' text_is' clean' bound' are' not_' is) = absurd (none_unbound source rule o refl (subst IsBound (same_source source' text_is' clean'.is_source) bound') there inside)
+
+      pub refused_not_built : (clean : IsClean source) → IsBound source → (parts : Parts) → AreParts source parts → ¬ (IsBuilt parts) → IsRefusedFor text (wrong NotBuilt 0)
+      refused_not_built clean bound parts are not_ = record { holds = not_built source parts text_is clean bound are not_ refl; first = first }
+        where
+          first : (other : Fault) → IsWrong text other → IsToldFirst (wrong NotBuilt 0) other
+          first other (too_long long is) = absurd (omega (arith, long, short))
+          first other (bad_byte at short' bad' is) = absurd (no_fault is_source.tokens (lex.BadByte at) tokens_are bad')
+          first other (name_long at short' bad' is) = absurd (no_fault is_source.tokens (lex.NameLong at) tokens_are bad')
+          first other (unexpected tokens at short' are' bad' is) = absurd (no_unexpected tokens at are' bad')
+          first other (nested tokens at short' are' bad' is) = absurd (no_nested tokens at are' bad')
+          first other (misnamed source' text_is' short' is_source' bad') = absurd (clean.names other (subst (λ s. Misnamed s other) (same_source source' text_is' is_source') bad'))
+          first other (mistyped source' text_is' short' is_source' bad') = absurd (clean.types other (subst (λ s. Mistyped s other) (same_source source' text_is' is_source') bad'))
+          first other (unbound source' rule o text_is' short' is_source' there inside is) = absurd (none_unbound source' rule o (same_source source' text_is' is_source') bound there inside)
+          first other (not_built source' parts' text_is' clean' bound' are' not_' is) = told_itself (wrong NotBuilt 0) other (sym is)
+
+      -- nothing is wrong with a text that spells a program which can be played
+      pub nothing_wrong : (clean : IsClean source) → IsBound source → (parts : Parts) → AreParts source parts → IsBuilt parts → (fault : Fault) → ¬ (IsWrong text fault)
+      nothing_wrong clean bound parts are built fault (too_long long is) = absurd (omega (arith, long, short))
+      nothing_wrong clean bound parts are built fault (bad_byte at short' bad' is) = no_fault is_source.tokens (lex.BadByte at) tokens_are bad'
+      nothing_wrong clean bound parts are built fault (name_long at short' bad' is) = no_fault is_source.tokens (lex.NameLong at) tokens_are bad'
+      nothing_wrong clean bound parts are built fault (unexpected tokens at short' are' bad' is) = no_unexpected tokens at are' bad'
+      nothing_wrong clean bound parts are built fault (nested tokens at short' are' bad' is) = no_nested tokens at are' bad'
+      nothing_wrong clean bound parts are built fault (misnamed source' text_is' short' is_source' bad') = clean.names fault (subst (λ s. Misnamed s fault) (same_source source' text_is' is_source') bad')
+      nothing_wrong clean bound parts are built fault (mistyped source' text_is' short' is_source' bad') = clean.types fault (subst (λ s. Mistyped s fault) (same_source source' text_is' is_source') bad')
+      nothing_wrong clean bound parts are built fault (unbound source' rule o text_is' short' is_source' there inside is) = none_unbound source' rule o (same_source source' text_is' is_source') bound there inside
+      nothing_wrong clean bound parts are built fault (not_built source' parts' text_is' clean' bound' are' not_' is) =
+          not_' (subst IsBuilt (parts_once source parts parts' are (subst (λ s. AreParts s parts') (same_source source' text_is' clean'.is_source) are')) built)

@@ -1,0 +1,297 @@
+-- What the rules of a text keep: types, predicates, limits.
+use Rattle.std.proofs.Common.{◌≡◌, ℕ, suc, ◌+◌, ◌≤◌, Bool, true, false, not, List, [], ◌∷◌, ◌++◌, length, map, filter, refl, sym, ap, subst, ◌∙◌, arith, Contains}
+use Rattle.std.proofs.lemmas.List.{length-map}
+use Rattle.std.proofs.lemmas.Grind.{flat_map-append}
+use Rattle.std.proofs.lemmas.Option.{slice_get-map}
+use Rattle.std.specs.Prelude.{Some, slice_get, unwrap_or, IsSomeAnd, cond}
+use Rattle.std.specs.Option.{option_map}
+use Rattle.std.specs.Str.{bytes_eq}
+use Rattle.std.specs.List.{AllByRecursion}
+use Rattle.cep_parse.specs.declared.raw.RawNode.{RawNode}
+use Rattle.cep_parse.specs.declared.raw.RawAtom.{RawAtom}
+use Rattle.cep_parse.specs.declared.raw.RawElem.{RawElem}
+use Rattle.cep_parse.specs.declared.raw.RawElem.TheVariants as elem
+use Rattle.cep_term.specs.Tree.{AtomTree, nodes_in}
+use Rattle.cep_rule.specs.declared.signature.PredDecl.{PredDecl}
+use Rattle.cep_rule.specs.declared.rule.Rule.{Rule}
+use Rattle.cep_rule.specs.Patterns.{PremiseTree, ClauseTree}
+use Rattle.cep_rule.specs.Typing.{IsTyped, IsLinear, IsBackward}
+use Rattle.cep_rule.specs.Binding.{needed_of}
+use Rattle.cep_rule.specs.Program.{IsTypedRule, IsDividedRule, IsTypedClause, IsDividedClause}
+use Rattle.cep_names.specs.declared.reason.Reason.TheVariants.{BwdInState, LinearInClause}
+use Rattle.cep_names.specs.declared.space.Role.TheVariants as role
+use Rattle.cep_names.specs.declared.space.Space.TheVariants as space
+use Rattle.cep_names.specs.Items.{Source, RuleItem, ClauseItem, PredItem, said, rules_of, clauses_of, preds_of}
+use Rattle.cep_names.specs.Spaces.{named, back_of}
+use Rattle.cep_names.specs.Uses.{placed, placed_of, atoms_of}
+use Rattle.cep_names.specs.Variables.{nodes_of, blanks_behind, variables_of, Occurrence}
+use Rattle.cep_names.specs.Misnamed.{wrong, is_declared}
+use Rattle.cep_names.specs.Misnamed.ComesToState.{made}
+use Rattle.cep_names.specs.Misnamed.Misnamed.{backward_in_state, linear_in_clause}
+use Rattle.cep_infer.specs.Sites.{sites_of, wanted_from, type_of, rule_scope, clause_scope}
+use Rattle.cep_infer.specs.Heads.{number_of, heads_from, blanks_after, IsAtomBy, AreAtomsBy}
+use Rattle.cep_infer.specs.Meaning.{pred_by, signature_of, names_of, kinds_of, is_back, ArePremisesBy, IsRuleBy, IsClauseBy}
+use Rattle.cep_ground.specs.Texts.{IsClean}
+use Rattle.cep_ground.proofs.Members.{contains_first, contains_behind, contains_left, contains_right}
+use Rattle.cep_ground.proofs.Known.{pred_known}
+use Rattle.cep_ground.proofs.Located.{located}
+use Rattle.cep_ground.proofs.Limits.{all_filter, all_map, all_pass}
+use Rattle.cep_ground.proofs.HeadLaws.{terms_nodes}
+use Rattle.cep_ground.proofs.Wanted.{nodes_at, wanted_both}
+use Rattle.cep_ground.proofs.Scopes.{IsHere, scope_nodes, typed_atoms, typed_premises}
+use Rattle.cep_ground.proofs.RuleScopes.{AtomsMade, words, short, nodes_short, left_here, right_at, right_here, clause_at, clause_here, rule_here, back_known}
+
+-- the nodes of an atom are as many as are written
+heads_size : (source : Source) (vars : List (List ℕ)) (blanks : ℕ) (nodes : List RawNode) → length (heads_from source vars blanks nodes) ≡ length nodes
+heads_size source vars blanks [] = refl
+heads_size source vars blanks (first ∷ nodes) = ap suc (heads_size source vars (blanks_behind blanks first.kind) nodes)
+
+pub atom_size : (source : Source) (vars : List (List ℕ)) (blanks : ℕ) (raw : RawAtom) (atom : AtomTree) → IsAtomBy source vars blanks raw atom → nodes_in atom ≡ 1 + length raw.nodes
+atom_size source vars blanks raw atom by =
+    ap (λ n. 1 + n) (terms_nodes atom.args ∙ ap length by.heads ∙ heads_size source vars blanks raw.nodes)
+
+-- two things hold of all
+pub all_both : {X : Type 0} (P Q : X → Type 0) (xs : List X) → AllByRecursion P xs → AllByRecursion Q xs → AllByRecursion (λ x. P x × Q x) xs
+all_both P Q [] one other = tt
+all_both P Q (x ∷ xs) one other = ((one.0, other.0), all_both P Q xs one.1 other.1)
+
+-- what follows from what holds of all holds of all
+pub all_follow : {X : Type 0} (P Q : X → Type 0) (xs : List X) → ((x : X) → P x → Q x) → AllByRecursion P xs → AllByRecursion Q xs
+all_follow P Q [] follows all = tt
+all_follow P Q (x ∷ xs) follows all = (follows x all.0, all_follow P Q xs follows all.1)
+
+-- The predicate of an atom is this one.
+pub record IsOfPred (source : Source) (atom : AtomTree) (back : Bool) : Type 0 where
+  pub pred : PredItem
+  pub found : slice_get (map (pred_by source) (preds_of source)) atom.pred ≡ Some (pred_by source pred)
+  pub back_is : pred.back ≡ back
+  pub judged : is_back source atom ≡ back
+
+not_true : (b : Bool) → not b ≡ true → b ≡ false
+not_true true e = absurd cc
+not_true false e = refl
+
+module _ (source : Source) (clean : IsClean source) (atoms_made : AtomsMade source) where
+  pub pred_at : (vars : List (List ℕ)) (blanks : ℕ) (raw : RawAtom) (atom : AtomTree) (here : IsHere source raw) → IsAtomBy source vars blanks raw atom → IsOfPred source atom (pred_known source (placed here.role raw) clean.names here.there here.plain).pred.back
+  pred_at vars blanks raw atom here by =
+      let known = pred_known source (placed here.role raw) clean.names here.there here.plain in
+      let spot = located (λ (pred : PredItem). named source pred.name) (λ other. bytes_eq other.name (said source raw.name)) (preds_of source) known.pred known.found in
+      let at : slice_get (preds_of source) atom.pred ≡ Some known.pred = ap (slice_get (preds_of source)) by.pred ∙ spot.here in
+      record {
+        pred = known.pred;
+        found = slice_get-map (pred_by source) (preds_of source) atom.pred ∙ ap (option_map (pred_by source)) at;
+        back_is = refl;
+        judged = ap (λ f. unwrap_or (option_map (λ (pred : PredItem). pred.back) f) false) at;
+      }
+
+  -- A premise is judged as its predicate is declared, and it is small.
+  pub record IsJudged (atom : AtomTree) : Type 0 where
+    pub back : Bool
+    pub of_pred : IsOfPred source atom back
+    pub small : nodes_in atom ≤ 1048576
+
+  judged_at : (vars : List (List ℕ)) (blanks : ℕ) (raw : RawAtom) (atom : AtomTree) (here : IsHere source raw) → IsAtomBy source vars blanks raw atom → IsJudged atom
+  judged_at vars blanks raw atom here by = record {
+    back = (pred_known source (placed here.role raw) clean.names here.there here.plain).pred.back;
+    of_pred = pred_at vars blanks raw atom here by;
+    small = let size = atom_size source vars blanks raw atom by in let s = nodes_short source clean atoms_made here.role raw here.there in omega (arith, size, s);
+  }
+
+  pub judged_premises : (vars : List (List ℕ)) (blanks : ℕ) (elems : List RawElem) (list : List PremiseTree) → ((raw : RawAtom) → Contains (atoms_of elems) raw → IsHere source raw) → ArePremisesBy source vars blanks elems list → AllByRecursion (λ p. IsJudged p.atom) list
+  judged_premises vars blanks [] [] here by = tt
+  judged_premises vars blanks [] (p ∷ list) here by = absurd by
+  judged_premises vars blanks (elem.Qui span ∷ elems) list here by = judged_premises vars blanks elems list here by
+  judged_premises vars blanks (elem.Stage span ∷ elems) list here by = judged_premises vars blanks elems list here by
+  judged_premises vars blanks (elem.Atom kept raw ∷ elems) [] here by = absurd by
+  judged_premises vars blanks (elem.Atom kept raw ∷ elems) (p ∷ list) here by = (
+    judged_at vars blanks raw p.atom (here raw (contains_first raw (atoms_of elems))) by.1,
+    judged_premises vars (blanks_after blanks raw.nodes) elems list (λ other there. here other (contains_behind raw (atoms_of elems) other there)) by.2,
+  )
+
+  pub judged_atoms : (vars : List (List ℕ)) (blanks : ℕ) (raws : List RawAtom) (list : List AtomTree) → ((raw : RawAtom) → Contains raws raw → IsHere source raw) → AreAtomsBy source vars blanks raws list → AllByRecursion IsJudged list
+  judged_atoms vars blanks [] [] here by = tt
+  judged_atoms vars blanks [] (atom ∷ list) here by = absurd by
+  judged_atoms vars blanks (raw ∷ raws) [] here by = absurd by
+  judged_atoms vars blanks (raw ∷ raws) (atom ∷ list) here by = (
+    judged_at vars blanks raw atom (here raw (contains_first raw raws)) by.0,
+    judged_atoms vars (blanks_after blanks raw.nodes) raws list (λ other there. here other (contains_behind raw raws other there)) by.1,
+  )
+
+  linear_is : (atom : AtomTree) (j : IsJudged atom) → is_back source atom ≡ false → IsLinear (signature_of source) atom
+  linear_is atom j linear =
+      let is = j.of_pred in
+      let e : is.pred.back ≡ false = is.back_is ∙ sym is.judged ∙ linear in
+      subst (λ f. IsSomeAnd f (λ (pred : PredDecl). pred.back ≡ false)) (sym is.found) e
+
+  backward_is : (atom : AtomTree) (j : IsJudged atom) → is_back source atom ≡ true → IsBackward (signature_of source) atom
+  backward_is atom j yes_ =
+      let is = j.of_pred in
+      let e : is.pred.back ≡ true = is.back_is ∙ sym is.judged ∙ yes_ in
+      subst (λ f. IsSomeAnd f (λ (pred : PredDecl). pred.back ≡ true)) (sym is.found) e
+
+  -- the linear premises of those that are judged
+  pub linear_part : (P : AtomTree → Type 0) (list : List PremiseTree) → AllByRecursion (λ p. P p.atom) list → AllByRecursion P (map (λ p. p.atom) (filter (λ p. not (is_back source p.atom)) list))
+  linear_part P list all = all_map P (λ (p : PremiseTree). p.atom) (filter (λ p. not (is_back source p.atom)) list) (all_filter (λ (p : PremiseTree). P p.atom) (λ p. not (is_back source p.atom)) list all)
+
+  pub back_part : (P : AtomTree → Type 0) (list : List PremiseTree) → AllByRecursion (λ p. P p.atom) list → AllByRecursion P (map (λ p. p.atom) (filter (λ p. is_back source p.atom) list))
+  back_part P list all = all_map P (λ (p : PremiseTree). p.atom) (filter (λ p. is_back source p.atom) list) (all_filter (λ (p : PremiseTree). P p.atom) (λ p. is_back source p.atom) list all)
+
+  pub divided_premises : (list : List PremiseTree) → AllByRecursion (λ p. IsJudged p.atom) list → AllByRecursion (IsLinear (signature_of source)) (map (λ p. p.atom) (filter (λ p. not (is_back source p.atom)) list))
+  divided_premises list all =
+      let some = filter (λ (p : PremiseTree). not (is_back source p.atom)) list in
+      all_map (IsLinear (signature_of source)) (λ (p : PremiseTree). p.atom) some
+      (all_follow (λ (p : PremiseTree). IsJudged p.atom × (not (is_back source p.atom) ≡ true)) (λ p. IsLinear (signature_of source) p.atom) some (λ p h. linear_is p.atom h.0 (not_true (is_back source p.atom) h.1))
+      (all_both (λ (p : PremiseTree). IsJudged p.atom) (λ p. not (is_back source p.atom) ≡ true) some (all_filter (λ (p : PremiseTree). IsJudged p.atom) (λ p. not (is_back source p.atom)) list all) (all_pass (λ p. not (is_back source p.atom)) list)))
+
+  pub divided_backs : (list : List PremiseTree) → AllByRecursion (λ p. IsJudged p.atom) list → AllByRecursion (IsBackward (signature_of source)) (map (λ p. p.atom) (filter (λ p. is_back source p.atom) list))
+  divided_backs list all =
+      let some = filter (λ (p : PremiseTree). is_back source p.atom) list in
+      all_map (IsBackward (signature_of source)) (λ (p : PremiseTree). p.atom) some
+      (all_follow (λ (p : PremiseTree). IsJudged p.atom × (is_back source p.atom ≡ true)) (λ p. IsBackward (signature_of source) p.atom) some (λ p h. backward_is p.atom h.0 h.1)
+      (all_both (λ (p : PremiseTree). IsJudged p.atom) (λ p. is_back source p.atom ≡ true) some (all_filter (λ (p : PremiseTree). IsJudged p.atom) (λ p. is_back source p.atom) list all) (all_pass (λ p. is_back source p.atom) list)))
+
+  -- the premises of a rule are divided as they are counted
+  count_step : (b : Bool) (x : PremiseTree) (y : RawAtom) (xs : List PremiseTree) (ys : List RawAtom) (p : Bool) (q : Bool) → p ≡ q → length xs ≡ length ys → length (cond p (x ∷ xs) xs) ≡ length (cond q (y ∷ ys) ys)
+  count_step b x y xs ys true true same size = ap suc size
+  count_step b x y xs ys true false same size = absurd cc
+  count_step b x y xs ys false true same size = absurd cc
+  count_step b x y xs ys false false same size = size
+
+  linear_declared : (b : Bool) → not b ≡ is_declared false (Some b)
+  linear_declared true = refl
+  linear_declared false = refl
+
+  pub linear_count : (vars : List (List ℕ)) (blanks : ℕ) (elems : List RawElem) (list : List PremiseTree) → ((raw : RawAtom) → Contains (atoms_of elems) raw → IsHere source raw) → ArePremisesBy source vars blanks elems list
+      → length (filter (λ p. not (is_back source p.atom)) list) ≡ length (filter (λ atom. is_declared false (back_of source atom)) (atoms_of elems))
+  linear_count vars blanks [] [] here by = refl
+  linear_count vars blanks [] (p ∷ list) here by = absurd by
+  linear_count vars blanks (elem.Qui span ∷ elems) list here by = linear_count vars blanks elems list here by
+  linear_count vars blanks (elem.Stage span ∷ elems) list here by = linear_count vars blanks elems list here by
+  linear_count vars blanks (elem.Atom kept raw ∷ elems) [] here by = absurd by
+  linear_count vars blanks (elem.Atom kept raw ∷ elems) (p ∷ list) here by =
+      let is = here raw (contains_first raw (atoms_of elems)) in
+      let known = back_known source clean atoms_made raw is in
+      let judged = (pred_at vars blanks raw p.atom is by.1).judged in
+      let b = (pred_known source (placed is.role raw) clean.names is.there is.plain).pred.back in
+      count_step true p raw _ _ (not (is_back source p.atom)) (is_declared false (back_of source raw)) (ap not judged ∙ linear_declared b ∙ ap (is_declared false) (sym known))
+      (linear_count vars (blanks_after blanks raw.nodes) elems list (λ other there. here other (contains_behind raw (atoms_of elems) other there)) by.2)
+
+  pub back_count : (vars : List (List ℕ)) (blanks : ℕ) (elems : List RawElem) (list : List PremiseTree) → ((raw : RawAtom) → Contains (atoms_of elems) raw → IsHere source raw) → ArePremisesBy source vars blanks elems list
+      → length (filter (λ p. is_back source p.atom) list) ≡ length (filter (λ atom. is_declared true (back_of source atom)) (atoms_of elems))
+  back_count vars blanks [] [] here by = refl
+  back_count vars blanks [] (p ∷ list) here by = absurd by
+  back_count vars blanks (elem.Qui span ∷ elems) list here by = back_count vars blanks elems list here by
+  back_count vars blanks (elem.Stage span ∷ elems) list here by = back_count vars blanks elems list here by
+  back_count vars blanks (elem.Atom kept raw ∷ elems) [] here by = absurd by
+  back_count vars blanks (elem.Atom kept raw ∷ elems) (p ∷ list) here by =
+      let is = here raw (contains_first raw (atoms_of elems)) in
+      let known = back_known source clean atoms_made raw is in
+      let judged = (pred_at vars blanks raw p.atom is by.1).judged in
+      count_step true p raw _ _ (is_back source p.atom) (is_declared true (back_of source raw)) (judged ∙ ap (is_declared true) (sym known))
+      (back_count vars (blanks_after blanks raw.nodes) elems list (λ other there. here other (contains_behind raw (atoms_of elems) other there)) by.2)
+
+  -- as many atoms are made as are written
+  pub atoms_count : (vars : List (List ℕ)) (blanks : ℕ) (raws : List RawAtom) (list : List AtomTree) → AreAtomsBy source vars blanks raws list → length list ≡ length raws
+  atoms_count vars blanks [] [] by = refl
+  atoms_count vars blanks [] (atom ∷ list) by = absurd by
+  atoms_count vars blanks (raw ∷ raws) [] by = absurd by
+  atoms_count vars blanks (raw ∷ raws) (atom ∷ list) by = ap suc (atoms_count vars (blanks_after blanks raw.nodes) raws list by.1)
+
+  -- the atoms of a right side are of linear predicates
+  pub right_linear : (vars : List (List ℕ)) (blanks : ℕ) (raws : List RawAtom) (list : List AtomTree) → ((raw : RawAtom) → Contains raws raw → Contains (placed_of source) (placed role.Made raw)) → ((raw : RawAtom) → Contains raws raw → IsHere source raw) → AreAtomsBy source vars blanks raws list → AllByRecursion (IsLinear (signature_of source)) list
+  right_linear vars blanks [] [] at here by = tt
+  right_linear vars blanks [] (atom ∷ list) at here by = absurd by
+  right_linear vars blanks (raw ∷ raws) [] at here by = absurd by
+  right_linear vars blanks (raw ∷ raws) (atom ∷ list) at here by =
+      let is = here raw (contains_first raw raws) in
+      let known = back_known source clean atoms_made raw is in
+      let b = (pred_known source (placed is.role raw) clean.names is.there is.plain).pred.back in
+      let linear = no_back b (λ (e : b ≡ true). clean.names (wrong BwdInState raw.name.from) (backward_in_state (placed role.Made raw) (at raw (contains_first raw raws)) made (known ∙ ap Some e) refl)) in (
+        linear_is atom (judged_at vars blanks raw atom is by.0) ((pred_at vars blanks raw atom is by.0).judged ∙ linear),
+        right_linear vars (blanks_after blanks raw.nodes) raws list (λ other there. at other (contains_behind raw raws other there)) (λ other there. here other (contains_behind raw raws other there)) by.1,
+      )
+    where
+      no_back : (b : Bool) → (b ≡ true → ⊥) → b ≡ false
+      no_back true never = absurd (never refl)
+      no_back false never = refl
+
+  -- those of a clause are of backward ones
+  pub clause_backward : (vars : List (List ℕ)) (blanks : ℕ) (raws : List RawAtom) (list : List AtomTree) → ((raw : RawAtom) → Contains raws raw → Contains (placed_of source) (placed role.Clause raw)) → ((raw : RawAtom) → Contains raws raw → IsHere source raw) → AreAtomsBy source vars blanks raws list → AllByRecursion (IsBackward (signature_of source)) list
+  clause_backward vars blanks [] [] at here by = tt
+  clause_backward vars blanks [] (atom ∷ list) at here by = absurd by
+  clause_backward vars blanks (raw ∷ raws) [] at here by = absurd by
+  clause_backward vars blanks (raw ∷ raws) (atom ∷ list) at here by =
+      let is = here raw (contains_first raw raws) in
+      let known = back_known source clean atoms_made raw is in
+      let b = (pred_known source (placed is.role raw) clean.names is.there is.plain).pred.back in
+      let yes_ = all_back b (λ (e : b ≡ false). clean.names (wrong LinearInClause raw.name.from) (linear_in_clause (placed role.Clause raw) (at raw (contains_first raw raws)) refl (known ∙ ap Some e) refl)) in (
+        backward_is atom (judged_at vars blanks raw atom is by.0) ((pred_at vars blanks raw atom is by.0).judged ∙ yes_),
+        clause_backward vars (blanks_after blanks raw.nodes) raws list (λ other there. at other (contains_behind raw raws other there)) (λ other there. here other (contains_behind raw raws other there)) by.1,
+      )
+    where
+      all_back : (b : Bool) → (b ≡ false → ⊥) → b ≡ true
+      all_back true never = refl
+      all_back false never = absurd (never refl)
+
+  kinds_size : (scope : List RawAtom) → length (kinds_of source scope) ≡ length (names_of source scope)
+  kinds_size scope = length-map (variables_of source scope) (λ (o : Occurrence). number_of source space.Sorts (unwrap_or (type_of source scope o.name) [])) ∙ sym (length-map (variables_of source scope) (λ (o : Occurrence). o.name))
+
+  -- a rule is well typed
+  pub rule_typed : (name : List ℕ) (item : RuleItem) (rule : Rule) → Contains (rules_of source) item → IsRuleBy source name item rule → IsTypedRule (signature_of source) rule
+  rule_typed name item rule there by =
+      let all = rule_here source clean atoms_made item there in
+      let scope = rule_scope item in
+      let left = atoms_of item.raw.left in
+      let right = atoms_of item.raw.right in
+      let w = words source clean atoms_made scope all in
+      let s = short source clean atoms_made scope all in
+      let sites_both : sites_of source scope ≡ sites_of source left ++ sites_of source right = flat_map-append _ left right in
+      let wanted_all : wanted_from source 0 (sites_of source scope) ≡ wanted_from source 0 (sites_of source left) ++ wanted_from source (blanks_after 0 (nodes_at (sites_of source left))) (sites_of source right) =
+      ap (wanted_from source 0) sites_both ∙ wanted_both source 0 (sites_of source left) (sites_of source right) in
+      let after : blanks_after 0 (nodes_at (sites_of source left)) ≡ blanks_after 0 (nodes_of left) = ap (blanks_after 0) (scope_nodes source clean.names clean.types left (left_here source clean atoms_made item there)) in
+      let list_typed = typed_premises source clean.names clean.types scope all.scope all.here w s item.raw.left by.left 0 (left_here source clean atoms_made item there)
+      (λ site inside. subst (λ sites. Contains sites site) (sym sites_both) (contains_left (sites_of source left) (sites_of source right) site inside))
+      (λ wanted inside. subst (λ ws. Contains ws wanted) (sym wanted_all) (contains_left (wanted_from source 0 (sites_of source left)) _ wanted inside))
+      (subst (λ vars. ArePremisesBy source vars 0 item.raw.left by.left) by.vars_are by.left_is) in
+      let right_typed = typed_atoms source clean.names clean.types scope all.scope all.here w s right rule.right (blanks_after 0 (nodes_of left)) (right_here source clean atoms_made item there)
+      (λ site inside. subst (λ sites. Contains sites site) (sym sites_both) (contains_right (sites_of source left) (sites_of source right) site inside))
+      (λ wanted inside. subst (λ ws. Contains ws wanted) (sym wanted_all) (contains_right (wanted_from source 0 (sites_of source left)) _ wanted (subst (λ b. Contains (wanted_from source b (sites_of source right)) wanted) (sym after) inside)))
+      (subst (λ vars. AreAtomsBy source vars (blanks_after 0 (nodes_of left)) right rule.right) by.vars_are by.right_is) in
+      let typed : List AtomTree → Type 0 = λ list. AllByRecursion (IsTyped (signature_of source) (kinds_of source scope)) list in
+      record {
+        kinds = ap length by.kinds_are ∙ kinds_size scope ∙ ap length (sym by.vars_are);
+        premises = subst (λ ks. AllByRecursion (IsTyped (signature_of source) ks) (needed_of rule)) (sym by.kinds_are)
+            (subst (λ (ps : List PremiseTree). AllByRecursion (IsTyped (signature_of source) (kinds_of source scope)) (map (λ p. p.atom) ps)) (sym by.premises_are) (linear_part (IsTyped (signature_of source) (kinds_of source scope)) by.left list_typed));
+        backs = subst (λ ks. AllByRecursion (IsTyped (signature_of source) ks) rule.backs) (sym by.kinds_are)
+            (subst (AllByRecursion (IsTyped (signature_of source) (kinds_of source scope))) (sym by.backs_are) (back_part (IsTyped (signature_of source) (kinds_of source scope)) by.left list_typed));
+        right = subst (λ ks. AllByRecursion (IsTyped (signature_of source) ks) rule.right) (sym by.kinds_are) right_typed;
+      }
+
+  -- its predicates stand where they may
+  pub rule_divided : (name : List ℕ) (item : RuleItem) (rule : Rule) → Contains (rules_of source) item → IsRuleBy source name item rule → IsDividedRule (signature_of source) rule
+  rule_divided name item rule there by =
+      let judged = judged_premises rule.vars 0 item.raw.left by.left (left_here source clean atoms_made item there) by.left_is in
+      record {
+        premises = subst (λ (ps : List PremiseTree). AllByRecursion (IsLinear (signature_of source)) (map (λ p. p.atom) ps)) (sym by.premises_are) (divided_premises by.left judged);
+        backs = subst (AllByRecursion (IsBackward (signature_of source))) (sym by.backs_are) (divided_backs by.left judged);
+        right = right_linear rule.vars _ (atoms_of item.raw.right) rule.right (right_at source clean atoms_made item there) (right_here source clean atoms_made item there) by.right_is;
+      }
+
+  -- a clause is well typed
+  pub clause_typed : (item : ClauseItem) (clause : ClauseTree) → Contains (clauses_of source) item → IsClauseBy source item clause → IsTypedClause (signature_of source) clause
+  clause_typed item clause there by =
+      let all = clause_here source clean atoms_made item there in
+      let scope = clause_scope item in
+      let typed = typed_atoms source clean.names clean.types scope all.scope all.here (words source clean atoms_made scope all) (short source clean atoms_made scope all) scope (clause.head ∷ clause.goals) 0 all.here
+      (λ site inside. inside) (λ wanted inside. inside)
+      (subst (λ vars. AreAtomsBy source vars 0 scope (clause.head ∷ clause.goals)) by.vars_are by.atoms_are) in
+      record {
+        kinds = ap length by.kinds_are ∙ kinds_size scope ∙ ap length (sym by.vars_are);
+        head = subst (λ ks. IsTyped (signature_of source) ks clause.head) (sym by.kinds_are) typed.0;
+        goals = subst (λ ks. AllByRecursion (IsTyped (signature_of source) ks) clause.goals) (sym by.kinds_are) typed.1;
+      }
+
+  pub clause_divided : (item : ClauseItem) (clause : ClauseTree) → Contains (clauses_of source) item → IsClauseBy source item clause → IsDividedClause (signature_of source) clause
+  clause_divided item clause there by =
+      let all = clause_backward clause.vars 0 (clause_scope item) (clause.head ∷ clause.goals) (clause_at source clean atoms_made item there) (clause_here source clean atoms_made item there).here by.atoms_are in
+      record { head = all.0; goals = all.1 }

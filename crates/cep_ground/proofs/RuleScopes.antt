@@ -1,0 +1,146 @@
+-- The atoms of rules and clauses: they stand in the file, and there are not too many.
+use Rattle.std.proofs.Common.{◌≡◌, ◌⊎◌, inl, inr, ⊎_elim, ◌<◌, ◌≤◌, ◌^◌, Bool, true, false, List, ◌∷◌, length, map, refl, sym, ap, subst, ◌∙◌, arith, Contains, length-append}
+use Rattle.std.proofs.lemmas.List.{length-map}
+use Rattle.std.specs.Prelude.{Some}
+use Rattle.std.specs.Option.{option_map}
+use Rattle.std.specs.Char.{is_ascii_uppercase}
+use Rattle.cep_parse.specs.declared.raw.RawKind.{RawKind}
+use Rattle.cep_parse.specs.declared.raw.RawKind.TheVariants as kind
+use Rattle.cep_parse.specs.declared.raw.Span.{Span}
+use Rattle.cep_parse.specs.declared.raw.RawNode.{RawNode}
+use Rattle.cep_parse.specs.declared.raw.RawAtom.{RawAtom}
+use Rattle.cep_parse.specs.Written.{IsAtomOf, IsNodeOf}
+use Rattle.cep_lex.specs.declared.token.Token.{Token}
+use Rattle.cep_lex.specs.declared.token.TokenKind.TheVariants as token
+use Rattle.cep_parse.specs.Written.{IsTokenAt}
+use Rattle.cep_rule.specs.Names.{IsWord}
+use Rattle.cep_names.specs.declared.reason.Reason.TheVariants.{OverLimit}
+use Rattle.cep_names.specs.declared.space.Role.{Role}
+use Rattle.cep_names.specs.declared.space.Role.TheVariants as role
+use Rattle.cep_names.specs.Items.{Source, RuleItem, ClauseItem, PredItem, said, rules_of, clauses_of}
+use Rattle.cep_names.specs.Spaces.{back_of}
+use Rattle.cep_names.specs.Uses.{Placed, placed, placed_of, atoms_of}
+use Rattle.cep_names.specs.Variables.{nodes_of}
+use Rattle.cep_names.specs.Misnamed.{wrong, is_declared, linear_of, backward_of}
+use Rattle.cep_names.specs.Misnamed.Misnamed.{over}
+use Rattle.cep_names.specs.Misnamed.IsOver.{premise, back, right, goal}
+use Rattle.cep_infer.specs.Shapes.{IsSource}
+use Rattle.cep_infer.specs.Sites.{Site, sites_of, IsScope, rule_scope, clause_scope}
+use Rattle.cep_infer.specs.Sites.{IsScope as scopes}
+use Rattle.cep_ground.specs.Texts.{IsClean}
+use Rattle.cep_ground.proofs.Members.{contains_either, contains_left, contains_right, contains_map, flat_cases, all_at}
+use Rattle.cep_ground.proofs.Known.{pred_known, clause_placed}
+use Rattle.cep_ground.proofs.RuleItems.{rule_placed}
+use Rattle.cep_ground.proofs.Limits.{at_most, filters_cover, nodes_few}
+use Rattle.cep_ground.proofs.Spelled.{variable_word, tokens_few}
+use Rattle.cep_ground.proofs.Wanted.{AreWords}
+use Rattle.cep_ground.proofs.Scopes.{IsHere, scope_nodes}
+
+-- what the law of atoms says of a source
+abbrev pub AtomsMade : Source → Type 0
+AtomsMade source = (is : IsSource source) (p : Placed) → Contains (placed_of source) p → IsAtomOf is.tokens p.atom
+
+module _ (source : Source) (clean : IsClean source) (made : AtomsMade source) where
+  pub atom_of_tokens : (role : Role) (raw : RawAtom) → Contains (placed_of source) (placed role raw) → IsAtomOf clean.is_source.tokens raw
+  atom_of_tokens role raw there = made clean.is_source (placed role raw) there
+
+  -- the nodes of an atom are no more than the bytes of a text may be
+  pub nodes_short : (role : Role) (raw : RawAtom) → Contains (placed_of source) (placed role raw) → length raw.nodes < 1048576
+  nodes_short role raw there =
+      let few = (atom_of_tokens role raw there).few in
+      let tokens = tokens_few source clean.is_source in
+      let short = clean.short in
+      omega (arith, few, tokens, short)
+
+  -- Atoms of a rule or a clause.
+  pub record AreHere (atoms : List RawAtom) : Type 0 where
+    pub scope : IsScope source atoms
+    pub here : (raw : RawAtom) → Contains atoms raw → IsHere source raw
+    pub few : length atoms ≤ 4096
+
+  node_word : (tokens : List Token) (is : IsSource source) (shape : RawKind) (at : Span) → tokens ≡ is.tokens → IsNodeOf tokens shape at → shape ≡ kind.Var → IsWord is_ascii_uppercase (said source at)
+  node_word tokens is shape at same node var =
+      variable_word source is at (subst (λ ts. IsTokenAt ts token.Variable at) same (subst (λ k. IsNodeOf tokens k at) var node))
+
+  pub words : (atoms : List RawAtom) → AreHere atoms → AreWords source (sites_of source atoms)
+  words atoms are site there var =
+      let whole = scope_nodes source clean.names clean.types atoms are.here in
+      let node : Contains (nodes_of atoms) site.node = subst (λ ns. Contains ns site.node) whole (contains_map (λ (s : Site). s.node) (sites_of source atoms) site there) in
+      let from = flat_cases (λ (atom : RawAtom). atom.nodes) atoms site.node node in
+      let here = are.here from.from from.there in
+      let is = atom_of_tokens here.role from.from here.there in
+      node_word clean.is_source.tokens clean.is_source site.node.kind site.node.at refl (all_at (λ (n : RawNode). IsNodeOf clean.is_source.tokens n.kind n.at) from.from.nodes site.node is.nodes from.inside) var
+
+  -- the terms are not too many to be numbered
+  pub short : (atoms : List RawAtom) → AreHere atoms → length (sites_of source atoms) < 2 ^ 64
+  short atoms are =
+      let whole = scope_nodes source clean.names clean.types atoms are.here in
+      let size = length-map (sites_of source atoms) (λ (s : Site). s.node) in
+      let same : length (sites_of source atoms) ≡ length (nodes_of atoms) = sym size ∙ ap length whole in
+      let nodes = nodes_few atoms (λ raw there. let here = are.here raw there in let s = nodes_short here.role raw here.there in omega (arith, s)) in
+      let few = are.few in
+      omega (arith, same, nodes, few)
+
+  -- the atoms of a left side stand in the file
+  pub left_here : (rule : RuleItem) → Contains (rules_of source) rule → (raw : RawAtom) → Contains (atoms_of rule.raw.left) raw → IsHere source raw
+  left_here rule there raw inside =
+      let at = rule_placed source rule (placed role.Needed raw) there (contains_left (map (placed role.Needed) (atoms_of rule.raw.left)) _ (placed role.Needed raw) (contains_map (placed role.Needed) (atoms_of rule.raw.left) raw inside)) in
+      record { role = role.Needed; there = at; plain = refl; filled = (atom_of_tokens role.Needed raw at).filled }
+
+  -- and those of a right side
+  pub right_at : (rule : RuleItem) → Contains (rules_of source) rule → (raw : RawAtom) → Contains (atoms_of rule.raw.right) raw → Contains (placed_of source) (placed role.Made raw)
+  right_at rule there raw inside = rule_placed source rule (placed role.Made raw) there (contains_right (map (placed role.Needed) (atoms_of rule.raw.left)) _ (placed role.Made raw) (contains_map (placed role.Made) (atoms_of rule.raw.right) raw inside))
+
+  pub right_here : (rule : RuleItem) → Contains (rules_of source) rule → (raw : RawAtom) → Contains (atoms_of rule.raw.right) raw → IsHere source raw
+  right_here rule there raw inside =
+      let at = right_at rule there raw inside in
+      record { role = role.Made; there = at; plain = refl; filled = (atom_of_tokens role.Made raw at).filled }
+
+  declared_either : (b : Bool) → (is_declared false (Some b) ≡ true) ⊎ (is_declared true (Some b) ≡ true)
+  declared_either true = inr refl
+  declared_either false = inl refl
+
+  -- an atom's predicate is a linear one or a backward one
+  pub back_known : (raw : RawAtom) → (here : IsHere source raw) → back_of source raw ≡ Some (pred_known source (placed here.role raw) clean.names here.there here.plain).pred.back
+  back_known raw here = ap (option_map (λ (pred : PredItem). pred.back)) (pred_known source (placed here.role raw) clean.names here.there here.plain).found
+
+  pub linear_few : (rule : RuleItem) → Contains (rules_of source) rule → length (linear_of source rule.raw) ≤ 16
+  linear_few rule there = at_most (linear_of source rule.raw) 16 (λ atom found. clean.names (wrong OverLimit atom.name.from) (over atom.name.from (premise rule atom there found refl) refl))
+
+  pub back_few : (rule : RuleItem) → Contains (rules_of source) rule → length (backward_of source rule.raw) ≤ 8
+  back_few rule there = at_most (backward_of source rule.raw) 8 (λ atom found. clean.names (wrong OverLimit atom.name.from) (over atom.name.from (back rule atom there found refl) refl))
+
+  pub right_few : (rule : RuleItem) → Contains (rules_of source) rule → length (atoms_of rule.raw.right) ≤ 32
+  right_few rule there = at_most (atoms_of rule.raw.right) 32 (λ atom found. clean.names (wrong OverLimit atom.name.from) (over atom.name.from (right rule atom there found refl) refl))
+
+  pub goals_few : (clause : ClauseItem) → Contains (clauses_of source) clause → length clause.goals ≤ 8
+  goals_few clause there = at_most clause.goals 8 (λ atom found. clean.names (wrong OverLimit atom.name.from) (over atom.name.from (goal clause atom there found refl) refl))
+
+  left_few : (rule : RuleItem) → Contains (rules_of source) rule → length (atoms_of rule.raw.left) ≤ 24
+  left_few rule there =
+      let cover = filters_cover (λ atom. is_declared false (back_of source atom)) (λ atom. is_declared true (back_of source atom)) (atoms_of rule.raw.left)
+      (λ raw inside.
+      let here = left_here rule there raw inside in
+      let known = back_known raw here in
+      subst (λ b. (is_declared false b ≡ true) ⊎ (is_declared true b ≡ true)) (sym known) (declared_either (pred_known source (placed here.role raw) clean.names here.there here.plain).pred.back)) in
+      let one = linear_few rule there in
+      let other = back_few rule there in
+      omega (arith, cover, one, other)
+
+  pub rule_here : (rule : RuleItem) → Contains (rules_of source) rule → AreHere (rule_scope rule)
+  rule_here rule there = record {
+    scope = scopes.rule rule there refl;
+    here = λ raw inside. ⊎_elim (λ left. left_here rule there raw left) (λ right_. right_here rule there raw right_) (contains_either (atoms_of rule.raw.left) (atoms_of rule.raw.right) raw inside);
+    few = let e = length-append (atoms_of rule.raw.left) (atoms_of rule.raw.right) in let l = left_few rule there in let r = right_few rule there in omega (arith, e, l, r);
+  }
+
+  -- the atoms of a clause
+  pub clause_at : (clause : ClauseItem) → Contains (clauses_of source) clause → (raw : RawAtom) → Contains (clause_scope clause) raw → Contains (placed_of source) (placed role.Clause raw)
+  clause_at clause there raw inside = clause_placed source clause (placed role.Clause raw) there (contains_map (placed role.Clause) (clause.head ∷ clause.goals) raw inside)
+
+  pub clause_here : (clause : ClauseItem) → Contains (clauses_of source) clause → AreHere (clause_scope clause)
+  clause_here clause there = record {
+    scope = scopes.clause clause there refl;
+    here = λ raw inside. let at = clause_at clause there raw inside in record { role = role.Clause; there = at; plain = refl; filled = (atom_of_tokens role.Clause raw at).filled };
+    few = let g = goals_few clause there in omega (arith, g);
+  }

@@ -1,0 +1,257 @@
+-- The variables of a scope have the types that are wanted of them, and its atoms are well typed.
+use Rattle.std.proofs.Common.{◌≡◌, ⊎_elim, ℕ, suc, ◌+◌, ◌<◌, ◌^◌, Bool, true, false, List, [], ◌∷◌, ◌++◌, length, map, refl, sym, ap, subst, ◌∙◌, arith, Contains}
+use Rattle.std.proofs.lemmas.List.{append-nil}
+use Rattle.std.proofs.lemmas.Option.{slice_get-map}
+use Rattle.std.specs.Prelude.{Option, Some, slice_get, unwrap_or, codes, decimal, IsSomeAnd}
+use Rattle.std.specs.Option.{option_map}
+use Rattle.std.specs.Str.{bytes_eq}
+use Rattle.std.specs.List.{AllByRecursion, find}
+use Rattle.cep_parse.specs.declared.raw.Span.{Span}
+use Rattle.cep_parse.specs.declared.raw.RawKind.{RawKind}
+use Rattle.cep_parse.specs.declared.raw.RawKind.TheVariants as kind
+use Rattle.cep_parse.specs.declared.raw.RawNode.{RawNode}
+use Rattle.cep_parse.specs.declared.raw.RawAtom.{RawAtom}
+use Rattle.cep_parse.specs.declared.raw.RawElem.{RawElem}
+use Rattle.cep_parse.specs.declared.raw.RawElem.TheVariants as elem
+use Rattle.cep_parse.specs.Written.{Fill}
+use Rattle.cep_term.specs.Tree.{AtomTree}
+use Rattle.cep_rule.specs.declared.signature.PredDecl.{PredDecl}
+use Rattle.cep_rule.specs.Patterns.{PremiseTree}
+use Rattle.cep_rule.specs.Typing.{HaveSorts, IsTyped}
+use Rattle.cep_names.specs.declared.fault.Fault.{Fault}
+use Rattle.cep_names.specs.declared.reason.Reason.TheVariants.{TypeClash}
+use Rattle.cep_names.specs.declared.space.Role.{Role}
+use Rattle.cep_names.specs.declared.space.Space.TheVariants as space
+use Rattle.cep_names.specs.Items.{Source, ConItem, PredItem, said, cons_of, preds_of}
+use Rattle.cep_names.specs.Spaces.{named, pred_named, con_named}
+use Rattle.cep_names.specs.Uses.{atoms_of, placed, placed_of, is_context}
+use Rattle.cep_names.specs.Variables.{Occurrence, occurrence_at, blanks_behind, occurrences_from, nodes_of, variables_of}
+use Rattle.cep_names.specs.Misnamed.{wrong}
+use Rattle.cep_infer.specs.Sites.{Site, Wanted, con_types, pred_types, node_types, sites_from, sites_in, sites_of, wanted_from, type_of, IsScope, Mistyped}
+use Rattle.cep_infer.specs.Sites.Mistyped.{constructor, variable}
+use Rattle.cep_infer.specs.Heads.{number_of, variable_of, heads_among, blanks_after, IsAtomBy, AreAtomsBy}
+use Rattle.cep_infer.specs.Meaning.{ArePremisesBy, sorts_said, con_by, pred_by, signature_of, names_of, kinds_of}
+use Rattle.cep_ground.proofs.Members.{contains_none, contains_first, contains_behind, contains_left, contains_right, contains_map}
+use Rattle.cep_ground.proofs.Finds.{IsFound, any_found, found_in}
+use Rattle.cep_ground.proofs.Known.{AreNamesClean, IsPredKnown, pred_known, IsConKnown, con_known}
+use Rattle.cep_ground.proofs.Located.{located}
+use Rattle.cep_ground.proofs.TypedTerms.{IsGoodCon, IsGood, AreGood, typed_args}
+use Rattle.cep_ground.proofs.Wanted.{nodes_at, sites_whole, wanted_both, wanted_names, same_bytes, bytes_same, is_any, first_there, IsFirstIn, AreWords, first_wanted}
+use Rattle.cep_ground.proofs.Wanted.IsFirstIn.{written, blank}
+
+-- An atom stands in the file, and stands for itself.
+pub record IsHere (source : Source) (raw : RawAtom) : Type 0 where
+  pub role : Role
+  pub there : Contains (placed_of source) (placed role raw)
+  pub plain : is_context source (placed role raw) ≡ false
+  pub filled : Fill raw.args raw.nodes
+
+module _ (source : Source) (names : AreNamesClean source) (types : (fault : Fault) → ¬ (Mistyped source fault)) where
+  -- the predicate of an atom that is here
+  here_pred : (raw : RawAtom) (here : IsHere source raw) → IsPredKnown source (placed here.role raw)
+  here_pred raw here = pred_known source (placed here.role raw) names here.there here.plain
+
+  here_con : (raw : RawAtom) → IsHere source raw → (node : RawNode) → Contains raw.nodes node → node.kind ≡ kind.App → IsConKnown source node.at node.args
+  here_con raw here node inside is =
+      con_known source (placed here.role raw) node.at node.args names here.there (subst (λ k. Contains raw.nodes (record { at = node.at; kind = k; args = node.args })) is inside)
+
+  map_size : (spans : List Span) → length (map (said source) spans) ≡ length spans
+  map_size [] = refl
+  map_size (span ∷ spans) = ap suc (map_size spans)
+
+  -- as many types are wanted as there are arguments
+  here_count : (raw : RawAtom) (here : IsHere source raw) → raw.args ≡ length (pred_types source (pred_named source (said source raw.name)))
+  here_count raw here =
+      let is = here_pred raw here in
+      is.count ∙ sym (map_size is.pred.args) ∙ sym (ap (λ (found : Option PredItem). length (pred_types source found)) is.found)
+
+  -- each node of the atom is a term of it
+  pub here_nodes : (raw : RawAtom) → IsHere source raw → nodes_at (sites_in source raw) ≡ raw.nodes
+  here_nodes raw here =
+      sites_whole source (pred_types source (pred_named source (said source raw.name))) raw.nodes
+      (subst (λ n. Fill n raw.nodes) (here_count raw here) here.filled)
+      (here_con raw here)
+
+  nodes_both : (one other : List Site) → nodes_at (one ++ other) ≡ nodes_at one ++ nodes_at other
+  nodes_both [] other = refl
+  nodes_both (site ∷ one) other = ap (λ ns. site.node ∷ ns) (nodes_both one other)
+
+  pub scope_nodes : (atoms : List RawAtom) → ((raw : RawAtom) → Contains atoms raw → IsHere source raw) → nodes_at (sites_of source atoms) ≡ nodes_of atoms
+  scope_nodes [] here = refl
+  scope_nodes (raw ∷ atoms) here =
+      nodes_both (sites_in source raw) (sites_of source atoms)
+      ∙ ap (λ ns. ns ++ nodes_at (sites_of source atoms)) (here_nodes raw (here raw (contains_first raw atoms)))
+      ∙ ap (λ ns. raw.nodes ++ ns) (scope_nodes atoms (λ other there. here other (contains_behind raw atoms other there)))
+
+  module _ (atoms : List RawAtom) (scope : IsScope source atoms) (here : (raw : RawAtom) → Contains atoms raw → IsHere source raw) (words : AreWords source (sites_of source atoms)) (short : length (sites_of source atoms) < 2 ^ 64) where
+    -- where a name is wanted it is found
+    wanted_found : (w : Wanted) → Contains (wanted_from source 0 (sites_of source atoms)) w → IsFound (find (λ (v : Wanted). bytes_eq v.name w.name) (wanted_from source 0 (sites_of source atoms)))
+    wanted_found w there =
+        any_found (λ (v : Wanted). v.name) (λ name. bytes_eq name w.name) (wanted_from source 0 (sites_of source atoms))
+        (is_any _ w.name (contains_map (λ (v : Wanted). v.name) (wanted_from source 0 (sites_of source atoms)) w there))
+
+    no_clash : (site : Site) (first : List ℕ) → Contains (sites_of source atoms) site → site.node.kind ≡ kind.Var → type_of source atoms (said source site.node.at) ≡ Some first → (same : Bool) → bytes_eq first site.wants ≡ same → first ≡ site.wants
+    no_clash site first there is type_is true same = same_bytes first site.wants same
+    no_clash site first there is type_is false same =
+        absurd (types (wrong TypeClash site.node.at.from) (variable atoms site first scope there is type_is (λ equal. differ equal) refl))
+      where
+        differ : first ≡ site.wants → ⊥
+        differ equal = let yes : bytes_eq first site.wants ≡ true = subst (λ t. bytes_eq first t ≡ true) equal (bytes_same first) in absurd cc
+
+    type_by : (w : Wanted) → Contains (wanted_from source 0 (sites_of source atoms)) w → IsFirstIn source 0 (wanted_from source 0 (sites_of source atoms)) (sites_of source atoms) w → type_of source atoms w.name ≡ Some w.wants
+    type_by w there (blank number above below name found) = ap (option_map (λ (v : Wanted). v.wants)) found
+    type_by w there (written site inside is name wants) =
+        let found = wanted_found w there in
+        let type_is : type_of source atoms w.name ≡ Some found.it.wants = ap (option_map (λ (v : Wanted). v.wants)) found.found_is in
+        let said_is : type_of source atoms (said source site.node.at) ≡ Some found.it.wants = subst (λ n. type_of source atoms n ≡ Some found.it.wants) name type_is in
+        let same = no_clash site found.it.wants inside is said_is (bytes_eq found.it.wants site.wants) refl in
+        type_is ∙ ap Some (same ∙ sym wants)
+
+    -- the type that is wanted of a variable is the same wherever it occurs
+    type_once : (w : Wanted) → Contains (wanted_from source 0 (sites_of source atoms)) w → type_of source atoms w.name ≡ Some w.wants
+    type_once w there = type_by w there (first_wanted source 0 (sites_of source atoms) w words (omega (arith, short)) there)
+
+    -- a variable that is wanted is one of those of the scope
+    variable_found : (w : Wanted) → Contains (wanted_from source 0 (sites_of source atoms)) w → IsFound (find (λ (o : Occurrence). bytes_eq o.name w.name) (variables_of source atoms))
+    variable_found w there =
+        let names_are = wanted_names source 0 (sites_of source atoms) ∙ ap (λ ns. map (λ (o : Occurrence). o.name) (occurrences_from source 0 ns)) (scope_nodes atoms here) in
+        let occurs : Contains (map (λ (o : Occurrence). o.name) (occurrences_from source 0 (nodes_of atoms))) w.name = subst (λ ns. Contains ns w.name) names_are (contains_map (λ (v : Wanted). v.name) _ w there) in
+        any_found (λ (o : Occurrence). o.name) (λ name. bytes_eq name w.name) (variables_of source atoms)
+        (is_any _ w.name (⊎_elim (λ never. absurd (contains_none w.name never)) (λ first. first) (first_there [] (occurrences_from source 0 (nodes_of atoms)) w.name occurs)))
+
+    kind_at : (w : Wanted) → Contains (wanted_from source 0 (sites_of source atoms)) w → slice_get (kinds_of source atoms) (variable_of (names_of source atoms) w.name) ≡ Some (number_of source space.Sorts w.wants)
+    kind_at w there =
+        let found = variable_found w there in
+        let same = same_bytes found.it.name w.name (found_in (λ (o : Occurrence). bytes_eq o.name w.name) (variables_of source atoms) found.it found.found_is).passes in
+        let at = located (λ (o : Occurrence). o.name) (λ other. bytes_eq other w.name) (variables_of source atoms) found.it found.found_is in
+        slice_get-map (λ (o : Occurrence). number_of source space.Sorts (unwrap_or (type_of source atoms o.name) [])) (variables_of source atoms) (variable_of (names_of source atoms) w.name)
+        ∙ ap (option_map (λ (o : Occurrence). number_of source space.Sorts (unwrap_or (type_of source atoms o.name) []))) at.here
+        ∙ ap (λ name. Some (number_of source space.Sorts (unwrap_or (type_of source atoms name) []))) same
+        ∙ ap (λ found. Some (number_of source space.Sorts (unwrap_or found []))) (type_once w there)
+
+    -- no constructor clashes
+    sort_same : (site : Site) (con : ConItem) → Contains (sites_of source atoms) site → site.node.kind ≡ kind.App → con_named source (said source site.node.at) ≡ Some con → (same : Bool) → bytes_eq (said source con.sort) site.wants ≡ same → said source con.sort ≡ site.wants
+    sort_same site con there is found true same = same_bytes (said source con.sort) site.wants same
+    sort_same site con there is found false same =
+        absurd (types (wrong TypeClash site.node.at.from) (constructor atoms site con scope there is found (λ equal. differ equal) refl))
+      where
+        differ : said source con.sort ≡ site.wants → ⊥
+        differ equal = let yes : bytes_eq (said source con.sort) site.wants ≡ true = subst (λ t. bytes_eq (said source con.sort) t ≡ true) equal (bytes_same (said source con.sort)) in absurd cc
+
+    sorts_map : (spans : List Span) → sorts_said source spans ≡ map (number_of source space.Sorts) (map (said source) spans)
+    sorts_map [] = refl
+    sorts_map (span ∷ spans) = ap (λ ns. number_of source space.Sorts (said source span) ∷ ns) (sorts_map spans)
+
+    good_con : (site : Site) (at : Span) (args : ℕ) → site.node.at ≡ at → site.node.kind ≡ kind.App → Contains (sites_of source atoms) site → IsConKnown source at args → IsGoodCon source (names_of source atoms) (kinds_of source atoms) (map (con_by source) (cons_of source)) site.wants at args
+    good_con site at args at_is is there known =
+        let spot = located (λ (con : ConItem). named source con.name) (λ other. bytes_eq other.name (said source at)) (cons_of source) known.con known.found in
+        let found : con_named source (said source site.node.at) ≡ Some known.con = subst (λ a. con_named source (said source a) ≡ Some known.con) (sym at_is) known.found in
+        let types_are : node_types source kind.App at ≡ map (said source) known.con.args = ap (λ (f : Option ConItem). con_types' f) known.found in
+        record {
+          con = con_by source known.con;
+          found = slice_get-map (con_by source) (cons_of source) (number_of source space.Constructors (said source at)) ∙ ap (option_map (con_by source)) spot.here;
+          sort = ap (number_of source space.Sorts) (sort_same site known.con there is found (bytes_eq (said source known.con.sort) site.wants) refl);
+          types = sorts_map known.con.args ∙ ap (map (number_of source space.Sorts)) (sym types_are);
+          count = known.count ∙ sym (map_size known.con.args) ∙ ap length (sym types_are);
+        }
+      where
+        con_types' : Option ConItem → List (List ℕ)
+        con_types' found = con_types source found
+
+    -- what stands at a node is of the type that is wanted
+    good_node : (site : Site) (shape : RawKind) (at : Span) (args blanks : ℕ) → site.node.at ≡ at → site.node.kind ≡ shape → Contains (sites_of source atoms) site
+        → (shape ≡ kind.App → IsConKnown source at args)
+        → ((w : Wanted) → Contains (map (λ occurrence. record { name = occurrence.name; wants = site.wants }) (occurrence_at source blanks at shape)) w → Contains (wanted_from source 0 (sites_of source atoms)) w)
+        → IsGood source (names_of source atoms) (kinds_of source atoms) (map (con_by source) (cons_of source)) blanks site.wants shape at args
+    good_node site kind.App at args blanks at_is is there known among = good_con site at args at_is is there (known refl)
+    good_node site kind.Var at args blanks at_is is there known among = kind_at (record { name = said source at; wants = site.wants }) (among (record { name = said source at; wants = site.wants }) (contains_first (record { name = said source at; wants = site.wants }) []))
+    good_node site kind.Blank at args blanks at_is is there known among = kind_at (record { name = codes "_" ++ decimal (blanks + 1); wants = site.wants }) (among (record { name = codes "_" ++ decimal (blanks + 1); wants = site.wants }) (contains_first (record { name = codes "_" ++ decimal (blanks + 1); wants = site.wants }) []))
+
+    good_nodes : (types_ : List (List ℕ)) (nodes : List RawNode) (blanks : ℕ)
+        → ((node : RawNode) → Contains nodes node → node.kind ≡ kind.App → IsConKnown source node.at node.args)
+        → ((site : Site) → Contains (sites_from source types_ nodes) site → Contains (sites_of source atoms) site)
+        → ((w : Wanted) → Contains (wanted_from source blanks (sites_from source types_ nodes)) w → Contains (wanted_from source 0 (sites_of source atoms)) w)
+        → AreGood source (names_of source atoms) (kinds_of source atoms) (map (con_by source) (cons_of source)) blanks types_ nodes
+    good_nodes [] nodes blanks known sites_there wanted_there = tt
+    good_nodes (wants ∷ next) [] blanks known sites_there wanted_there = tt
+    good_nodes (wants ∷ next) (first ∷ nodes) blanks known sites_there wanted_there =
+        let further = sites_from source (node_types source first.kind first.at ++ next) nodes in
+        let site : Site = record { node = first; wants = wants } in (
+          good_node site first.kind first.at first.args blanks refl refl (sites_there site (contains_first site further)) (known first (contains_first first nodes))
+              (λ w inside. wanted_there w (contains_left (map (λ occurrence. record { name = occurrence.name; wants = wants }) (occurrence_at source blanks first.at first.kind)) (wanted_from source (blanks_behind blanks first.kind) further) w inside)),
+          good_nodes (node_types source first.kind first.at ++ next) nodes (blanks_behind blanks first.kind)
+              (λ node inside. known node (contains_behind first nodes node inside))
+              (λ other inside. sites_there other (contains_behind site further other inside))
+              (λ w inside. wanted_there w (contains_right (map (λ occurrence. record { name = occurrence.name; wants = wants }) (occurrence_at source blanks first.at first.kind)) (wanted_from source (blanks_behind blanks first.kind) further) w inside)),
+        )
+
+    -- an atom is well typed
+    typed_atom : (raw : RawAtom) (atom : AtomTree) (blanks : ℕ) → IsHere source raw
+        → ((site : Site) → Contains (sites_in source raw) site → Contains (sites_of source atoms) site)
+        → ((w : Wanted) → Contains (wanted_from source blanks (sites_in source raw)) w → Contains (wanted_from source 0 (sites_of source atoms)) w)
+        → IsAtomBy source (names_of source atoms) blanks raw atom
+        → IsTyped (signature_of source) (kinds_of source atoms) atom
+    typed_atom raw atom blanks is sites_there wanted_there by =
+        let known = here_pred raw is in
+        let spot = located (λ (pred : PredItem). named source pred.name) (λ other. bytes_eq other.name (said source raw.name)) (preds_of source) known.pred known.found in
+        let types_ = pred_types source (pred_named source (said source raw.name)) in
+        let good = good_nodes types_ raw.nodes blanks (here_con raw is) sites_there wanted_there in
+        let typed = typed_args source (names_of source atoms) (kinds_of source atoms) (map (con_by source) (cons_of source)) atom.args types_ [] [] blanks raw.nodes
+        (by.count ∙ here_count raw is)
+        (append-nil (heads_among atom.args) ∙ by.heads)
+        (subst (λ ts. AreGood source (names_of source atoms) (kinds_of source atoms) (map (con_by source) (cons_of source)) blanks ts raw.nodes) (sym (append-nil types_)) good) in
+        let sorts : map (number_of source space.Sorts) types_ ≡ sorts_said source known.pred.args = ap (λ (f : Option PredItem). map (number_of source space.Sorts) (pred_types source f)) known.found ∙ sym (sorts_map known.pred.args) in
+        let found : slice_get (map (pred_by source) (preds_of source)) atom.pred ≡ Some (pred_by source known.pred) =
+        ap (slice_get (map (pred_by source) (preds_of source))) by.pred
+        ∙ slice_get-map (pred_by source) (preds_of source) (number_of source space.Predicates (said source raw.name))
+        ∙ ap (option_map (pred_by source)) spot.here in
+        subst (λ f. IsSomeAnd f (λ (pred : PredDecl). HaveSorts (map (con_by source) (cons_of source)) (kinds_of source atoms) pred.args atom.args)) (sym found)
+        (subst (λ ts. HaveSorts (map (con_by source) (cons_of source)) (kinds_of source atoms) ts atom.args) sorts typed.0)
+
+    -- atoms one after another are well typed
+    pub typed_atoms : (raws : List RawAtom) (list : List AtomTree) (blanks : ℕ) → ((raw : RawAtom) → Contains raws raw → IsHere source raw)
+        → ((site : Site) → Contains (sites_of source raws) site → Contains (sites_of source atoms) site)
+        → ((w : Wanted) → Contains (wanted_from source blanks (sites_of source raws)) w → Contains (wanted_from source 0 (sites_of source atoms)) w)
+        → AreAtomsBy source (names_of source atoms) blanks raws list
+        → AllByRecursion (IsTyped (signature_of source) (kinds_of source atoms)) list
+    typed_atoms [] [] blanks here' sites_there wanted_there by = tt
+    typed_atoms [] (atom ∷ list) blanks here' sites_there wanted_there by = absurd by
+    typed_atoms (raw ∷ raws) [] blanks here' sites_there wanted_there by = absurd by
+    typed_atoms (raw ∷ raws) (atom ∷ list) blanks here' sites_there wanted_there by =
+        let is = here' raw (contains_first raw raws) in
+        let both = wanted_both source blanks (sites_in source raw) (sites_of source raws) in
+        let after : blanks_after blanks (nodes_at (sites_in source raw)) ≡ blanks_after blanks raw.nodes = ap (blanks_after blanks) (here_nodes raw is) in (
+          typed_atom raw atom blanks is
+              (λ site inside. sites_there site (contains_left (sites_in source raw) (sites_of source raws) site inside))
+              (λ w inside. wanted_there w (subst (λ ws. Contains ws w) (sym both) (contains_left (wanted_from source blanks (sites_in source raw)) _ w inside)))
+              by.0,
+          typed_atoms raws list (blanks_after blanks raw.nodes) (λ other there. here' other (contains_behind raw raws other there))
+              (λ site inside. sites_there site (contains_right (sites_in source raw) (sites_of source raws) site inside))
+              (λ w inside. wanted_there w (subst (λ ws. Contains ws w) (sym both) (contains_right (wanted_from source blanks (sites_in source raw)) _ w (subst (λ b. Contains (wanted_from source b (sites_of source raws)) w) (sym after) inside))))
+              by.1,
+        )
+
+    -- premises one after another are well typed
+    pub typed_premises : (elems : List RawElem) (list : List PremiseTree) (blanks : ℕ) → ((raw : RawAtom) → Contains (atoms_of elems) raw → IsHere source raw)
+        → ((site : Site) → Contains (sites_of source (atoms_of elems)) site → Contains (sites_of source atoms) site)
+        → ((w : Wanted) → Contains (wanted_from source blanks (sites_of source (atoms_of elems))) w → Contains (wanted_from source 0 (sites_of source atoms)) w)
+        → ArePremisesBy source (names_of source atoms) blanks elems list
+        → AllByRecursion (λ p. IsTyped (signature_of source) (kinds_of source atoms) p.atom) list
+    typed_premises [] [] blanks here' sites_there wanted_there by = tt
+    typed_premises [] (p ∷ list) blanks here' sites_there wanted_there by = absurd by
+    typed_premises (elem.Qui span ∷ elems) list blanks here' sites_there wanted_there by = typed_premises elems list blanks here' sites_there wanted_there by
+    typed_premises (elem.Stage span ∷ elems) list blanks here' sites_there wanted_there by = typed_premises elems list blanks here' sites_there wanted_there by
+    typed_premises (elem.Atom kept raw ∷ elems) [] blanks here' sites_there wanted_there by = absurd by
+    typed_premises (elem.Atom kept raw ∷ elems) (p ∷ list) blanks here' sites_there wanted_there by =
+        let is = here' raw (contains_first raw (atoms_of elems)) in
+        let both = wanted_both source blanks (sites_in source raw) (sites_of source (atoms_of elems)) in
+        let after : blanks_after blanks (nodes_at (sites_in source raw)) ≡ blanks_after blanks raw.nodes = ap (blanks_after blanks) (here_nodes raw is) in (
+          typed_atom raw p.atom blanks is
+              (λ site inside. sites_there site (contains_left (sites_in source raw) (sites_of source (atoms_of elems)) site inside))
+              (λ w inside. wanted_there w (subst (λ ws. Contains ws w) (sym both) (contains_left (wanted_from source blanks (sites_in source raw)) _ w inside)))
+              by.1,
+          typed_premises elems list (blanks_after blanks raw.nodes) (λ other there. here' other (contains_behind raw (atoms_of elems) other there))
+              (λ site inside. sites_there site (contains_right (sites_in source raw) (sites_of source (atoms_of elems)) site inside))
+              (λ w inside. wanted_there w (subst (λ ws. Contains ws w) (sym both) (contains_right (wanted_from source blanks (sites_in source raw)) _ w (subst (λ b. Contains (wanted_from source b (sites_of source (atoms_of elems))) w) (sym after) inside))))
+              by.2,
+        )

@@ -1,0 +1,301 @@
+-- The start state of a text is a state that fits.
+use Rattle.std.proofs.Common.{◌≡◌, ◌≢◌, ◌⊎◌, inl, inr, ⊎_elim, ℕ, suc, ◌+◌, ◌*◌, ◌<◌, ◌≤◌, Bool, true, false, List, [], ◌∷◌, length, map, refl, sym, ap, subst, ◌∙◌, arith, Contains}
+use Rattle.std.proofs.Math.Nat.{suc-mul}
+use Rattle.std.proofs.lemmas.List.Sums.{sum_by-cons}
+use Rattle.std.proofs.lemmas.List.{append-nil}
+use Rattle.std.specs.Prelude.{Option, Some, None, sum_by, IsSomeAnd, unwrap_or}
+use Rattle.std.specs.Str.{bytes_eq}
+use Rattle.std.specs.declared.cmp.Ordering.{Ordering}
+use Rattle.std.specs.declared.cmp.Ordering.TheVariants.{Less, Equal, Greater}
+use Rattle.std.specs.Cmp.{IsTotalOrder, tied_itself}
+use Rattle.std.specs.FinMap as finite
+use Rattle.std.specs.List.{AllByRecursion}
+use Rattle.cep_parse.specs.declared.raw.Span.{Span}
+use Rattle.cep_parse.specs.declared.raw.RawKind.{RawKind}
+use Rattle.cep_parse.specs.declared.raw.RawKind.TheVariants as kind
+use Rattle.cep_parse.specs.declared.raw.RawNode.{RawNode}
+use Rattle.cep_parse.specs.declared.raw.RawAtom.{RawAtom}
+use Rattle.cep_parse.specs.declared.raw.RawStart.{RawStart}
+use Rattle.cep_parse.specs.declared.raw.RawStart.TheVariants as start
+use Rattle.cep_parse.specs.declared.raw.RawItem.{RawItem}
+use Rattle.cep_parse.specs.declared.raw.RawItem.TheVariants as item
+use Rattle.cep_term.specs.Tree.{AtomTree, IsGroundAtom, nodes_in, IsFit}
+use Rattle.cep_term.specs.Order.{atom_cmp}
+use Rattle.cep_term.specs.Multiset.{Multiset, count_of, with_count, gathered, copies_in, nodes_in_all, IsBag}
+use Rattle.cep_rule.specs.declared.signature.PredDecl.{PredDecl}
+use Rattle.cep_rule.specs.Typing.{IsTyped, IsLinear}
+use Rattle.cep_rule.specs.State.{IsFact, IsState, Fits}
+use Rattle.cep_names.specs.declared.reason.Reason.TheVariants.{OverLimit, VarInContext, BwdInState}
+use Rattle.cep_names.specs.declared.space.Role.{Role}
+use Rattle.cep_names.specs.declared.space.Role.TheVariants as role
+use Rattle.cep_names.specs.Items.{Source, TraceItem, ContextItem, said, contexts_in, contexts_of, traces_in, traces_of}
+use Rattle.cep_names.specs.Spaces.{context_named}
+use Rattle.cep_names.specs.Uses.{placed, placed_of, own_atoms, start_listed, is_context}
+use Rattle.cep_names.specs.declared.space.Space.TheVariants as space
+use Rattle.cep_names.specs.Variables.{Occurrence, firsts, occurrences_from, nodes_of, blanks_behind}
+use Rattle.cep_names.specs.Starts.{listed_in, listed_or, start_atoms, nodes_written, IsFitWritten}
+use Rattle.cep_names.specs.Misnamed.{wrong, IsOfState}
+use Rattle.cep_names.specs.Misnamed.{IsOfState as of_state}
+use Rattle.cep_names.specs.Misnamed.{ComesToState as comes}
+use Rattle.cep_names.specs.Misnamed.{IsOpen as opens}
+use Rattle.cep_names.specs.Misnamed.Misnamed.{over, variable_in_state, backward_in_state}
+use Rattle.cep_names.specs.Misnamed.IsOver.{unfit, copies, nodes}
+use Rattle.cep_infer.specs.Sites.{type_of}
+use Rattle.cep_infer.specs.Sites.{IsScope as scopes}
+use Rattle.cep_infer.specs.Heads.{number_of, blanks_after, IsAtomBy, AreAtomsBy}
+use Rattle.cep_infer.specs.Meaning.{signature_of, names_of, kinds_of, IsStartBy}
+use Rattle.cep_ground.specs.Texts.{IsClean}
+use Rattle.cep_ground.proofs.Members.{contains_none, contains_first, contains_behind, contains_cases, contains_map, flat_cases, all_of}
+use Rattle.cep_ground.proofs.Finds.{found_in}
+use Rattle.cep_ground.proofs.Known.{own_placed, pred_known}
+use Rattle.cep_ground.proofs.Scopes.{IsHere, typed_atoms}
+use Rattle.cep_ground.proofs.RuleScopes.{AtomsMade, AreHere, atom_of_tokens, words, short, back_known}
+use Rattle.cep_ground.proofs.RuleParts.{atom_size, pred_at}
+use Rattle.cep_ground.proofs.StateAtoms.{AreClosed, atom_ground, atom_alike, atom_depth, not_greater}
+
+-- An atom of the start state: it stands in a context or in the braces of a trace, and stands for itself.
+pub record IsListed (source : Source) (raw : RawAtom) : Type 0 where
+  pub role : Role
+  pub there : Contains (placed_of source) (placed role raw)
+  pub of_state : IsOfState role
+  pub plain : is_context source (placed role raw) ≡ false
+
+context_item : (item_ : RawItem) (context : ContextItem) (raw : RawAtom) → Contains (contexts_in item_) context → Contains context.atoms raw → Contains (own_atoms item_) (placed role.Listed raw)
+context_item (item.Context name atoms) context raw there inside =
+    ⊎_elim
+    (λ (same : record { name = name; atoms = atoms } ≡ context). contains_map (placed role.Listed) atoms raw (subst (λ (c : ContextItem). Contains c.atoms raw) (sym same) inside))
+    (λ later. absurd (contains_none context later))
+    (contains_cases (record { name = name; atoms = atoms }) [] context there)
+context_item (item.Sort name) context raw there inside = absurd (contains_none context there)
+context_item (item.Pred name args back) context raw there inside = absurd (contains_none context there)
+context_item (item.Colon left args right) context raw there inside = absurd (contains_none context there)
+context_item (item.Clause label head goals) context raw there inside = absurd (contains_none context there)
+context_item (item.Outer rule) context raw there inside = absurd (contains_none context there)
+context_item (item.Stage name rules) context raw there inside = absurd (contains_none context there)
+context_item (item.Interactive name) context raw there inside = absurd (contains_none context there)
+context_item (item.Trace at limit stage start_) context raw there inside = absurd (contains_none context there)
+
+trace_item : (item_ : RawItem) (trace : TraceItem) (raw : RawAtom) → Contains (traces_in item_) trace → Contains (start_listed trace.start) raw → Contains (own_atoms item_) (placed role.Start raw)
+trace_item (item.Trace at limit stage start_) trace raw there inside =
+    ⊎_elim
+    (λ (same : record { at = at; limit = limit; stage = stage; start = start_ } ≡ trace). contains_map (placed role.Start) (start_listed start_) raw (subst (λ (t : TraceItem). Contains (start_listed t.start) raw) (sym same) inside))
+    (λ later. absurd (contains_none trace later))
+    (contains_cases (record { at = at; limit = limit; stage = stage; start = start_ }) [] trace there)
+trace_item (item.Sort name) trace raw there inside = absurd (contains_none trace there)
+trace_item (item.Pred name args back) trace raw there inside = absurd (contains_none trace there)
+trace_item (item.Colon left args right) trace raw there inside = absurd (contains_none trace there)
+trace_item (item.Clause label head goals) trace raw there inside = absurd (contains_none trace there)
+trace_item (item.Outer rule) trace raw there inside = absurd (contains_none trace there)
+trace_item (item.Stage name rules) trace raw there inside = absurd (contains_none trace there)
+trace_item (item.Context name atoms) trace raw there inside = absurd (contains_none trace there)
+trace_item (item.Interactive name) trace raw there inside = absurd (contains_none trace there)
+
+module _ (source : Source) where
+  context_listed : (found : Option ContextItem) (name : List ℕ) (raw : RawAtom) → context_named source name ≡ found → Contains (listed_in found) raw → IsListed source raw
+  context_listed None name raw is there = absurd (contains_none raw there)
+  context_listed (Some context) name raw is there =
+      let found = found_in (λ (c : ContextItem). bytes_eq (said source c.name) name) (contexts_of source) context is in
+      let from = flat_cases contexts_in source.file context found.there in
+      record { role = role.Listed; there = own_placed source from.from (placed role.Listed raw) from.there (context_item from.from context raw from.inside there); of_state = of_state.listed; plain = refl }
+
+  atom_listed : (trace : TraceItem) (atoms : List RawAtom) (atom raw : RawAtom) (b : Bool) → Contains (traces_of source) trace → trace.start ≡ start.Listed atoms → Contains atoms atom → is_context source (placed role.Start atom) ≡ b → Contains (listed_or b source atom) raw → IsListed source raw
+  atom_listed trace atoms atom raw true there is inside context listed = context_listed (context_named source (said source atom.name)) (said source atom.name) raw refl listed
+  atom_listed trace atoms atom raw false there is inside context listed =
+      ⊎_elim
+      (λ (same : atom ≡ raw).
+      let from = flat_cases traces_in source.file trace there in
+      let in_ : Contains (start_listed trace.start) atom = subst (λ s. Contains (start_listed s) atom) (sym is) inside in
+      subst (IsListed source) same (record { role = role.Start; there = own_placed source from.from (placed role.Start atom) from.there (trace_item from.from trace atom from.inside in_); of_state = of_state.start; plain = context }))
+      (λ later. absurd (contains_none raw later))
+      (contains_cases atom [] raw listed)
+
+  start_by : (trace : TraceItem) (start_ : RawStart) (raw : RawAtom) → Contains (traces_of source) trace → trace.start ≡ start_ → Contains (start_atoms source start_) raw → IsListed source raw
+  start_by trace (start.Named name) raw there is listed = context_listed (context_named source (said source name)) (said source name) raw refl listed
+  start_by trace (start.Listed atoms) raw there is listed =
+      let from = flat_cases (λ atom. listed_or (is_context source (placed role.Start atom)) source atom) atoms raw listed in
+      atom_listed trace atoms from.from raw (is_context source (placed role.Start from.from)) there is from.there refl from.inside
+
+  pub start_listed_all : (trace : TraceItem) (raw : RawAtom) → Contains (traces_of source) trace → Contains (start_atoms source trace.start) raw → IsListed source raw
+  start_listed_all trace raw there listed = start_by trace trace.start raw there refl listed
+
+-- without open nodes there are no variables
+no_occurrences : (source : Source) (blanks : ℕ) (nodes_ : List RawNode) → AreClosed nodes_ → occurrences_from source blanks nodes_ ≡ []
+no_occurrences source blanks [] all = refl
+no_occurrences source blanks (node ∷ nodes_) all = by_kind node.kind node.at all.0 (no_occurrences source (blanks_behind blanks node.kind) nodes_ all.1)
+  where
+    by_kind : (shape : RawKind) (at : Span) → shape ≡ kind.App → occurrences_from source (blanks_behind blanks shape) nodes_ ≡ [] → occurrences_from source blanks (record { at = at; kind = shape; args = node.args } ∷ nodes_) ≡ []
+    by_kind kind.App at is rest = rest
+    by_kind kind.Var at is rest = absurd cc
+    by_kind kind.Blank at is rest = absurd cc
+
+module _ (source : Source) (clean : IsClean source) (made : AtomsMade source) where
+  closed_by : (raw : RawAtom) (listed : IsListed source raw) (at : Span) (shape : RawKind) (args : ℕ) → Contains raw.nodes (record { at = at; kind = shape; args = args }) → shape ≡ kind.App
+  closed_by raw listed at kind.App args there = refl
+  closed_by raw listed at kind.Var args there = absurd (clean.names (wrong VarInContext at.from) (variable_in_state (placed listed.role raw) (record { at = at; kind = kind.Var; args = args }) listed.there listed.of_state there (opens.variable at args) refl))
+  closed_by raw listed at kind.Blank args there = absurd (clean.names (wrong VarInContext at.from) (variable_in_state (placed listed.role raw) (record { at = at; kind = kind.Blank; args = args }) listed.there listed.of_state there (opens.blank at args) refl))
+
+  pub listed_closed : (raw : RawAtom) → IsListed source raw → AreClosed raw.nodes
+  listed_closed raw listed = all_of (λ (node : RawNode). node.kind ≡ kind.App) raw.nodes (λ node there. closed_by raw listed node.at node.kind node.args there)
+
+  listed_here : (raw : RawAtom) → IsListed source raw → IsHere source raw
+  listed_here raw listed = record { role = listed.role; there = listed.there; plain = listed.plain; filled = (atom_of_tokens source clean made listed.role raw listed.there).filled }
+
+  alone_here : (raw : RawAtom) → IsListed source raw → AreHere source clean made (raw ∷ [])
+  alone_here raw listed = record {
+    scope = scopes.state (placed listed.role raw) listed.there listed.of_state refl;
+    here = λ other there. ⊎_elim (λ (same : raw ≡ other). subst (IsHere source) same (listed_here raw listed)) (λ later. absurd (contains_none other later)) (contains_cases raw [] other there);
+    few = omega arith;
+  }
+
+  no_kinds : (raw : RawAtom) → IsListed source raw → kinds_of source (raw ∷ []) ≡ []
+  no_kinds raw listed =
+      let nodes_are : nodes_of (raw ∷ []) ≡ raw.nodes = append-nil raw.nodes in
+      let none : occurrences_from source 0 (nodes_of (raw ∷ [])) ≡ [] = ap (occurrences_from source 0) nodes_are ∙ no_occurrences source 0 raw.nodes (listed_closed raw listed) in
+      none_by (occurrences_from source 0 (nodes_of (raw ∷ []))) none
+    where
+      none_by : (os : List Occurrence) → os ≡ [] → map (λ (o : Occurrence). number_of source space.Sorts (unwrap_or (type_of source (raw ∷ []) o.name) [])) (firsts os) ≡ []
+      none_by os e = rw e refl
+
+  listed_typed : (raw : RawAtom) (blanks : ℕ) (atom : AtomTree) (listed : IsListed source raw) → IsAtomBy source [] blanks raw atom → IsTyped (signature_of source) [] atom
+  listed_typed raw blanks atom listed by =
+      let all = alone_here raw listed in
+      let scope = raw ∷ [] in
+      let same : IsAtomBy source (names_of source scope) 0 raw atom = atom_alike source [] (names_of source scope) blanks 0 raw atom (listed_closed raw listed) by in
+      let typed = typed_atoms source clean.names clean.types scope all.scope all.here (words source clean made scope all) (short source clean made scope all) scope (atom ∷ []) 0 all.here
+      (λ site inside. inside) (λ wanted inside. inside) (same, tt) in
+      subst (λ ks. IsTyped (signature_of source) ks atom) (no_kinds raw listed) typed.0
+
+  listed_linear : (raw : RawAtom) (blanks : ℕ) (atom : AtomTree) (listed : IsListed source raw) → IsAtomBy source [] blanks raw atom → IsLinear (signature_of source) atom
+  listed_linear raw blanks atom listed by =
+      let here = listed_here raw listed in
+      let known = back_known source clean made raw here in
+      let is = pred_at source clean made [] blanks raw atom here by in
+      let b = (pred_known source (placed here.role raw) clean.names here.there here.plain).pred.back in
+      let linear = no_back b (λ (e : b ≡ true). clean.names (wrong BwdInState raw.name.from) (backward_in_state (placed listed.role raw) listed.there (comes.state listed.role listed.of_state) (known ∙ ap Some e) refl)) in
+      subst (λ f. IsSomeAnd f (λ (pred : PredDecl). pred.back ≡ false)) (sym is.found) (is.back_is ∙ linear)
+    where
+      no_back : (b : Bool) → (b ≡ true → ⊥) → b ≡ false
+      no_back true never = absurd (never refl)
+      no_back false never = refl
+
+  listed_fit : (raw : RawAtom) (blanks : ℕ) (atom : AtomTree) (listed : IsListed source raw) → IsAtomBy source [] blanks raw atom → IsFit atom
+  listed_fit raw blanks atom listed by =
+      let fits : (¬ IsFitWritten raw) → ⊥ = λ not_fit. clean.names (wrong OverLimit raw.name.from) (over raw.name.from (unfit (placed listed.role raw) listed.there listed.of_state not_fit refl) refl) in
+      let size = atom_size source [] blanks raw atom by in
+      let deep = atom_depth source [] blanks raw atom by (listed_closed raw listed) in
+      record {
+        nodes = not_greater _ _ (λ more_. fits (λ fit. let n = fit.nodes in omega (arith, n, size, more_)));
+        depth = not_greater _ _ (λ more_. fits (λ fit. let d = fit.depth in omega (arith, d, deep, more_)));
+      }
+
+  pub listed_fact : (raw : RawAtom) (blanks : ℕ) (atom : AtomTree) → IsListed source raw → IsAtomBy source [] blanks raw atom → IsFact (signature_of source) atom
+  listed_fact raw blanks atom listed by = record {
+    ground = atom_ground source [] blanks raw atom by (listed_closed raw listed);
+    typed = listed_typed raw blanks atom listed by;
+    linear = listed_linear raw blanks atom listed by;
+    fit = listed_fit raw blanks atom listed by;
+  }
+
+  pub listed_facts : (raws : List RawAtom) (blanks : ℕ) (list : List AtomTree) → ((raw : RawAtom) → Contains raws raw → IsListed source raw) → AreAtomsBy source [] blanks raws list → AllByRecursion (IsFact (signature_of source)) list
+  listed_facts [] blanks [] all by = tt
+  listed_facts [] blanks (atom ∷ list) all by = absurd by
+  listed_facts (raw ∷ raws) blanks [] all by = absurd by
+  listed_facts (raw ∷ raws) blanks (atom ∷ list) all by =
+      (listed_fact raw blanks atom (all raw (contains_first raw raws)) by.0, listed_facts raws (blanks_after blanks raw.nodes) list (λ other there. all other (contains_behind raw raws other there)) by.1)
+
+  -- as many copies and nodes as are written
+  list_sizes : (raws : List RawAtom) (blanks : ℕ) (list : List AtomTree) → AreAtomsBy source [] blanks raws list → (length list ≡ length raws) × (sum_by nodes_in list ≡ sum_by nodes_written raws)
+  list_sizes [] blanks [] by = (refl, refl)
+  list_sizes [] blanks (atom ∷ list) by = absurd by
+  list_sizes (raw ∷ raws) blanks [] by = absurd by
+  list_sizes (raw ∷ raws) blanks (atom ∷ list) by =
+      let rest = list_sizes raws (blanks_after blanks raw.nodes) list by.1 in
+      let size = atom_size source [] blanks raw atom by.0 in
+      let one = sum_by-cons nodes_in atom list in
+      let other = sum_by-cons nodes_written raw raws in
+      (ap suc rest.0, let r = rest.1 in omega (arith, size, one, other, r))
+
+-- the laws of multisets that are needed
+pub record CountLaws : Type 0 where
+  pub empty : (a : AtomTree) → count_of finite.empty a ≡ 0
+  pub empty_copies : copies_in finite.empty ≡ 0
+  pub empty_nodes : nodes_in_all finite.empty ≡ 0
+  pub others : (bag : Multiset) (a q : AtomTree) (n : ℕ) → q ≢ a → count_of (with_count bag a n) q ≡ count_of bag q
+  pub copies : (bag : Multiset) (a : AtomTree) (n : ℕ) → copies_in (with_count bag a n) + count_of bag a ≡ copies_in bag + n
+  pub nodes : (bag : Multiset) (a : AtomTree) (n : ℕ) → nodes_in_all (with_count bag a n) + count_of bag a * nodes_in a ≡ nodes_in_all bag + n * nodes_in a
+  pub total : IsTotalOrder atom_cmp
+  pub ties : finite.IsAntisymmetric atom_cmp
+  pub kept : (atoms : List AtomTree) → AllByRecursion IsGroundAtom atoms → IsBag (gathered atoms)
+
+module _ (laws : CountLaws) where
+  -- a list has as many copies and nodes as its multiset
+  pub gathered_copies : (list : List AtomTree) → copies_in (gathered list) ≡ length list
+  gathered_copies [] = laws.empty_copies
+  gathered_copies (atom ∷ list) =
+      let rest = gathered_copies list in
+      let law = laws.copies (gathered list) atom (count_of' list atom + 1) in
+      omega (arith, rest, law)
+    where
+      count_of' : List AtomTree → AtomTree → ℕ
+      count_of' list atom = count_of (gathered list) atom
+
+  pub gathered_nodes : (list : List AtomTree) → nodes_in_all (gathered list) ≡ sum_by nodes_in list
+  gathered_nodes [] = laws.empty_nodes
+  gathered_nodes (atom ∷ list) =
+      let rest = gathered_nodes list in
+      let c = count_of (gathered list) atom in
+      let law = laws.nodes (gathered list) atom (count_of (gathered list) atom + 1) in
+      let one : count_of (gathered list) atom + 1 ≡ suc (count_of (gathered list) atom) = omega arith in
+      let product : (count_of (gathered list) atom + 1) * nodes_in atom ≡ count_of (gathered list) atom * nodes_in atom + nodes_in atom = ap (λ n. n * nodes_in atom) one ∙ suc-mul (count_of (gathered list) atom) (nodes_in atom) in
+      let sum = sum_by-cons nodes_in atom list in
+      omega (arith, rest, law, product, sum)
+
+  equal_or_not : (a b : AtomTree) → (a ≡ b) ⊎ (a ≢ b)
+  equal_or_not a b = by_test (atom_cmp a b) refl
+    where
+      differ : (o : Ordering) → atom_cmp a b ≡ o → (o ≡ Equal → ⊥) → a ≢ b
+      differ o is never same = never (sym is ∙ ap (atom_cmp a) (sym same) ∙ tied_itself laws.total a)
+
+      by_test : (o : Ordering) → atom_cmp a b ≡ o → (a ≡ b) ⊎ (a ≢ b)
+      by_test Equal is = inl (laws.ties a b is)
+      by_test Less is = inr (differ Less is (λ (e : Less ≡ Equal). absurd cc))
+      by_test Greater is = inr (differ Greater is (λ (e : Greater ≡ Equal). absurd cc))
+
+  -- what is there in the multiset is in the list
+  pub gathered_there : (P : AtomTree → Type 0) (list : List AtomTree) → AllByRecursion P list → (a : AtomTree) → 0 < count_of (gathered list) a → P a
+  gathered_there P [] all a some = let none = laws.empty a in absurd (omega (arith, some, none))
+  gathered_there P (atom ∷ list) all a some =
+      ⊎_elim
+      (λ (same : a ≡ atom). subst P (sym same) all.0)
+      (λ (differ : a ≢ atom). gathered_there P list all.1 a (let law = laws.others (gathered list) atom a (count_of (gathered list) atom + 1) differ in omega (arith, some, law)))
+      (equal_or_not a atom)
+
+-- the start state of a text in order
+pub record IsGoodStart (source : Source) (start_ : Multiset) : Type 0 where
+  pub state : IsState (signature_of source) start_
+  pub fits : Fits start_
+
+pub start_good : (source : Source) (clean : IsClean source) (made : AtomsMade source) (laws : CountLaws) (trace : TraceItem) (rest : List TraceItem) (start_ : Multiset) → traces_of source ≡ trace ∷ rest → IsStartBy source trace start_ → IsGoodStart source start_
+start_good source clean made laws trace rest start_ first by =
+    let there : Contains (traces_of source) trace = subst (λ ts. Contains ts trace) (sym first) (contains_first trace rest) in
+    let facts = listed_facts source clean made (start_atoms source trace.start) 0 by.atoms (λ raw listed. start_listed_all source trace raw there listed) by.atoms_are in
+    let sizes = list_sizes source clean made (start_atoms source trace.start) 0 by.atoms by.atoms_are in
+    let copies_are = gathered_copies laws by.atoms in
+    let nodes_are = gathered_nodes laws by.atoms in
+    let few_copies : length (start_atoms source trace.start) ≤ 100000 = not_greater _ _ (λ more_. clean.names (wrong OverLimit trace.at) (over trace.at (copies trace rest first more_ refl) refl)) in
+    let few_nodes : sum_by nodes_written (start_atoms source trace.start) ≤ 4194304 = not_greater _ _ (λ more_. clean.names (wrong OverLimit trace.at) (over trace.at (nodes trace rest first more_ refl) refl)) in
+    subst (IsGoodStart source) (sym by.start_is)
+    (record {
+      state = record {
+        bag = laws.kept by.atoms (ground_all by.atoms facts);
+        facts = gathered_there laws (IsFact (signature_of source)) by.atoms facts;
+      };
+      fits = record {
+        copies = let s = sizes.0 in omega (arith, copies_are, s, few_copies);
+        nodes = let s = sizes.1 in omega (arith, nodes_are, s, few_nodes);
+      };
+    })
+  where
+    ground_all : (list : List AtomTree) → AllByRecursion (IsFact (signature_of source)) list → AllByRecursion IsGroundAtom list
+    ground_all [] all = tt
+    ground_all (atom ∷ list) all = (all.0.ground, ground_all list all.1)

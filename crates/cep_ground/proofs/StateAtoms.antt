@@ -1,0 +1,133 @@
+-- The atoms of states: they are ground, and as deep as they are written.
+use Rattle.std.proofs.Common.{◌≡◌, ◌⊎◌, inl, inr, ⊎_elim, ℕ, ◌+◌, ◌-◌, ◌<◌, ◌≤◌, Bool, true, false, List, [], ◌∷◌, ◌++◌, refl, sym, ap, subst, ◌∙◌, arith, append_assoc, ltb, max}
+use Rattle.std.proofs.Math.Nat.{le-max_left, le-max_right, max-le}
+use Rattle.std.proofs.lemmas.List.{append-nil}
+use Rattle.std.proofs.lemmas.Bool.{ltb-true, ltb-false}
+use Rattle.std.specs.List.{AllByRecursion, repeat}
+use Rattle.cep_parse.specs.declared.raw.Span.{Span}
+use Rattle.cep_parse.specs.declared.raw.RawKind.{RawKind}
+use Rattle.cep_parse.specs.declared.raw.RawKind.TheVariants as kind
+use Rattle.cep_parse.specs.declared.raw.RawNode.{RawNode}
+use Rattle.cep_parse.specs.declared.raw.RawAtom.{RawAtom}
+use Rattle.cep_term.specs.Tree.{Tree, Trees, AtomTree, variable, node, none, more, depth_of, depth_among, depth_in, IsGroundAtom}
+use Rattle.cep_names.specs.Items.{Source}
+use Rattle.cep_names.specs.Variables.{blanks_behind}
+use Rattle.cep_names.specs.Starts.{levels, greatest, depth_written}
+use Rattle.cep_infer.specs.Heads.{Head, var, con, count_of, heads_of, heads_among, head_at, heads_from, IsAtomBy}
+use Rattle.cep_ground.proofs.HeadLaws.{IsClosed, terms_ground}
+
+-- each node is a constructor
+abbrev pub AreClosed : List RawNode → Type 0
+AreClosed nodes = AllByRecursion (λ node. node.kind ≡ kind.App) nodes
+
+head_closed : (source : Source) (vars : List (List ℕ)) (blanks : ℕ) (shape : RawKind) (at : Span) (args : ℕ) → shape ≡ kind.App → IsClosed (head_at source vars blanks shape at args)
+head_closed source vars blanks kind.App at args is = tt
+head_closed source vars blanks kind.Var at args is = absurd cc
+head_closed source vars blanks kind.Blank at args is = absurd cc
+
+heads_closed : (source : Source) (vars : List (List ℕ)) (blanks : ℕ) (nodes : List RawNode) → AreClosed nodes → AllByRecursion IsClosed (heads_from source vars blanks nodes)
+heads_closed source vars blanks [] all = tt
+heads_closed source vars blanks (first ∷ nodes) all = (head_closed source vars blanks first.kind first.at first.args all.0, heads_closed source vars (blanks_behind blanks first.kind) nodes all.1)
+
+pub atom_ground : (source : Source) (vars : List (List ℕ)) (blanks : ℕ) (raw : RawAtom) (atom : AtomTree) → IsAtomBy source vars blanks raw atom → AreClosed raw.nodes → IsGroundAtom atom
+atom_ground source vars blanks raw atom by all = terms_ground atom.args (subst (AllByRecursion IsClosed) (sym by.heads) (heads_closed source vars blanks raw.nodes all))
+
+-- such nodes do not depend on variables
+head_alike : (source : Source) (vars others : List (List ℕ)) (blanks more_ : ℕ) (shape : RawKind) (at : Span) (args : ℕ) → shape ≡ kind.App → head_at source vars blanks shape at args ≡ head_at source others more_ shape at args
+head_alike source vars others blanks more_ kind.App at args is = refl
+head_alike source vars others blanks more_ kind.Var at args is = absurd cc
+head_alike source vars others blanks more_ kind.Blank at args is = absurd cc
+
+pub heads_alike : (source : Source) (vars others : List (List ℕ)) (blanks more_ : ℕ) (nodes : List RawNode) → AreClosed nodes → heads_from source vars blanks nodes ≡ heads_from source others more_ nodes
+heads_alike source vars others blanks more_ [] all = refl
+heads_alike source vars others blanks more_ (first ∷ nodes) all =
+    let here = head_alike source vars others blanks more_ first.kind first.at first.args all.0 in
+    let rest = heads_alike source vars others (blanks_behind blanks first.kind) (blanks_behind more_ first.kind) nodes all.1 in
+    cc
+
+pub atom_alike : (source : Source) (vars others : List (List ℕ)) (blanks more_ : ℕ) (raw : RawAtom) (atom : AtomTree) → AreClosed raw.nodes → IsAtomBy source vars blanks raw atom → IsAtomBy source others more_ raw atom
+atom_alike source vars others blanks more_ raw atom all by = record { pred = by.pred; count = by.count; heads = by.heads ∙ heads_alike source vars others blanks more_ raw.nodes all }
+
+module _ (source : Source) (vars : List (List ℕ)) where
+  -- What stands behind terms, no deeper than so many levels.
+  record IsBehind (next : List ℕ) (heads : List Head) (most : ℕ) : Type 0 where
+    blanks : ℕ
+    nodes : List RawNode
+    heads_are : heads ≡ heads_from source vars blanks nodes
+    closed : AreClosed nodes
+    within : greatest (levels next nodes) ≤ most
+
+  con_args : (blanks c count : ℕ) (shape : RawKind) (at : Span) (args : ℕ) → con c count ≡ head_at source vars blanks shape at args → count ≡ args
+  con_args blanks c count kind.App at args e = cc
+  con_args blanks c count kind.Var at args e = absurd cc
+  con_args blanks c count kind.Blank at args e = absurd cc
+
+  no_var : (blanks v : ℕ) (shape : RawKind) (at : Span) (args : ℕ) → shape ≡ kind.App → var v ≡ head_at source vars blanks shape at args → ⊥
+  no_var blanks v kind.App at args is e = absurd cc
+  no_var blanks v kind.Var at args is e = absurd cc
+  no_var blanks v kind.Blank at args is e = absurd cc
+
+  mutual
+    deep_term : (t : Tree) (level : ℕ) (next : List ℕ) (heads : List Head) (blanks : ℕ) (nodes : List RawNode)
+        → heads_of t ++ heads ≡ heads_from source vars blanks nodes → AreClosed nodes
+        → (level + depth_of t ≤ 1 + greatest (levels (level ∷ next) nodes)) × IsBehind next heads (greatest (levels (level ∷ next) nodes))
+    deep_term (variable v) level next heads blanks [] e all = absurd cc
+    deep_term (variable v) level next heads blanks (first ∷ nodes) e all =
+        let here : var v ≡ head_at source vars blanks first.kind first.at first.args = cc in
+        absurd (no_var blanks v first.kind first.at first.args all.0 here)
+    deep_term (node c args) level next heads blanks [] e all = absurd cc
+    deep_term (node c args) level next heads blanks (first ∷ nodes) e all =
+        let here : con c (count_of args) ≡ head_at source vars blanks first.kind first.at first.args = cc in
+        let count = con_args blanks c (count_of args) first.kind first.at first.args here in
+        let behind : heads_among args ++ heads ≡ heads_from source vars (blanks_behind blanks first.kind) nodes = cc in
+        let rest = deep_args args (level + 1) next heads (blanks_behind blanks first.kind) nodes behind all.1 in
+        let deeper = greatest (levels (repeat (count_of args) ((level + 1) ∷ []) ++ next) nodes) in
+        let same : greatest (levels (repeat first.args ((level + 1) ∷ []) ++ next) nodes) ≡ deeper = ap (λ n. greatest (levels (repeat n ((level + 1) ∷ []) ++ next) nodes)) (sym count) in
+        let left = le-max_left level (greatest (levels (repeat first.args ((level + 1) ∷ []) ++ next) nodes)) in
+        let right = le-max_right level (greatest (levels (repeat first.args ((level + 1) ∷ []) ++ next) nodes)) in
+        let behind_ = rest.1 in
+        let inside = behind_.within in (
+          ⊎_elim
+              (λ (zero_ : depth_among args ≡ 0). omega (arith, zero_, left))
+              (λ deep. omega (arith, deep, right, same))
+              rest.0,
+          record { blanks = behind_.blanks; nodes = behind_.nodes; heads_are = behind_.heads_are; closed = behind_.closed; within = omega (arith, inside, right, same) },
+        )
+
+    deep_args : (ts : Trees) (level : ℕ) (next : List ℕ) (heads : List Head) (blanks : ℕ) (nodes : List RawNode)
+        → heads_among ts ++ heads ≡ heads_from source vars blanks nodes → AreClosed nodes
+        → ((depth_among ts ≡ 0) ⊎ (level + depth_among ts ≤ 1 + greatest (levels (repeat (count_of ts) (level ∷ []) ++ next) nodes))) × IsBehind next heads (greatest (levels (repeat (count_of ts) (level ∷ []) ++ next) nodes))
+    deep_args none level next heads blanks nodes e all = (inl refl, record { blanks = blanks; nodes = nodes; heads_are = e; closed = all; within = omega arith })
+    deep_args (more t rest) level next heads blanks nodes e all =
+        let first = deep_term t level (repeat (count_of rest) (level ∷ []) ++ next) (heads_among rest ++ heads) blanks nodes (sym (append_assoc (heads_of t) (heads_among rest) heads) ∙ e) all in
+        let behind_ = first.1 in
+        let others = deep_args rest level next heads behind_.blanks behind_.nodes behind_.heads_are behind_.closed in
+        let most = greatest (levels (level ∷ (repeat (count_of rest) (level ∷ []) ++ next)) nodes) in
+        let here : level + depth_of t ≤ 1 + most = first.0 in
+        let inside : greatest (levels (repeat (count_of rest) (level ∷ []) ++ next) behind_.nodes) ≤ most = behind_.within in
+        let one : depth_of t ≤ (1 + most) - level = omega (arith, here) in
+        let other : depth_among rest ≤ (1 + most) - level = ⊎_elim (λ (zero_ : depth_among rest ≡ 0). omega (arith, zero_)) (λ deep. omega (arith, deep, inside)) others.0 in
+        let both : max (depth_of t) (depth_among rest) ≤ (1 + most) - level = max-le one other in
+        let last = others.1 in
+        let within : greatest (levels next last.nodes) ≤ most = let w = last.within in omega (arith, w, inside) in (
+          inr (omega (arith, both, here)),
+          record { blanks = last.blanks; nodes = last.nodes; heads_are = last.heads_are; closed = last.closed; within = within },
+        )
+
+-- an atom without variables is no deeper than it is written
+pub atom_depth : (source : Source) (vars : List (List ℕ)) (blanks : ℕ) (raw : RawAtom) (atom : AtomTree) → IsAtomBy source vars blanks raw atom → AreClosed raw.nodes → depth_in atom ≤ depth_written raw
+atom_depth source vars blanks raw atom by all =
+    let deep = deep_args source vars atom.args 2 [] [] blanks raw.nodes (append-nil (heads_among atom.args) ∙ by.heads) all in
+    let same : greatest (levels (repeat (count_of atom.args) (2 ∷ []) ++ []) raw.nodes) ≡ greatest (levels (repeat raw.args (2 ∷ [])) raw.nodes) =
+    ap (λ ls. greatest (levels ls raw.nodes)) (append-nil (repeat (count_of atom.args) (2 ∷ []))) ∙ ap (λ n. greatest (levels (repeat n (2 ∷ [])) raw.nodes)) by.count in
+    let left = le-max_left 1 (greatest (levels (repeat raw.args (2 ∷ [])) raw.nodes)) in
+    let right = le-max_right 1 (greatest (levels (repeat raw.args (2 ∷ [])) raw.nodes)) in
+    ⊎_elim (λ (zero_ : depth_among atom.args ≡ 0). omega (arith, zero_, left)) (λ further. omega (arith, further, same, right)) deep.0
+
+-- what is not too great is small enough
+pub not_greater : (a b : ℕ) → (b < a → ⊥) → a ≤ b
+not_greater a b never = by_test (ltb b a) refl
+  where
+    by_test : (t : Bool) → ltb b a ≡ t → a ≤ b
+    by_test true e = absurd (never (ltb-true b a e))
+    by_test false e = ltb-false b a e

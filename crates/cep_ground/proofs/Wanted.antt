@@ -1,0 +1,244 @@
+-- The variables of atoms and the types that are wanted of them.
+use Rattle.std.proofs.Common.{◌≡◌, ◌⊎◌, inl, inr, ⊎_elim, ℕ, suc, ◌+◌, ◌<◌, ◌≤◌, ◌^◌, Bool, true, false, ◌||◌, if◌then◌else◌, List, [], ◌∷◌, ◌++◌, length, map, refl, sym, ap, subst, ◌∙◌, arith, append_assoc, length-append, Contains}
+use Rattle.std.specs.Prelude.{Option, Some, codes, decimal, cond}
+use Rattle.std.specs.Str.{bytes_eq}
+use Rattle.std.specs.List.{find, list_any}
+use Rattle.std.proofs.lemmas.Slice.Eq.{bytes_eq-Decides}
+use Rattle.std.proofs.lemmas.Fmt.{decimal_injective}
+use Rattle.std.specs.Char.{is_ascii_uppercase}
+use Rattle.cep_parse.specs.declared.raw.Span.{Span}
+use Rattle.cep_parse.specs.declared.raw.RawKind.{RawKind}
+use Rattle.cep_parse.specs.declared.raw.RawKind.TheVariants as kind
+use Rattle.cep_parse.specs.declared.raw.RawNode.{RawNode}
+use Rattle.cep_parse.specs.Written.{Fill, IsCount}
+use Rattle.cep_rule.specs.Names.{IsWord}
+use Rattle.cep_names.specs.Items.{Source, ConItem, said}
+use Rattle.cep_names.specs.Variables.{Occurrence, occurrence_at, blanks_behind, occurrences_from, firsts_beside}
+use Rattle.cep_infer.specs.Sites.{Site, Wanted, con_types, node_types, sites_from, wanted_from}
+use Rattle.cep_infer.specs.Heads.{blanks_after}
+use Rattle.cep_ground.proofs.Members.{contains_none, contains_first, contains_behind, contains_cases}
+use Rattle.cep_ground.proofs.Known.{IsConKnown}
+
+-- the nodes of terms
+abbrev pub nodes_at : List Site → List RawNode
+nodes_at sites = map (λ site. site.node) sites
+
+-- a constructor wants as many types as there are arguments, and a variable none
+pub types_count : (source : Source) (shape : RawKind) (at : Span) (args : ℕ) → IsCount shape args → (shape ≡ kind.App → IsConKnown source at args) → length (node_types source shape at) ≡ args
+types_count source kind.App at args count known =
+    let is = known refl in
+    ap (λ (found : Option ConItem). length (con_types source found)) is.found ∙ size_of source is.con ∙ sym is.count
+  where
+    map_size : (source : Source) (spans : List Span) → length (map (said source) spans) ≡ length spans
+    map_size source [] = refl
+    map_size source (span ∷ spans) = ap suc (map_size source spans)
+
+    size_of : (source : Source) (con : ConItem) → length (map (said source) con.args) ≡ length con.args
+    size_of source con = map_size source con.args
+types_count source kind.Var at args count known = sym count
+types_count source kind.Blank at args count known = sym count
+
+-- each node of terms that are so many stands at a place of its own
+pub sites_whole : (source : Source) (types : List (List ℕ)) (nodes : List RawNode) → Fill (length types) nodes → ((node : RawNode) → Contains nodes node → node.kind ≡ kind.App → IsConKnown source node.at node.args) → nodes_at (sites_from source types nodes) ≡ nodes
+sites_whole source [] [] fill known = refl
+sites_whole source [] (first ∷ nodes) fill known = absurd fill
+sites_whole source (wants ∷ next) [] fill known = absurd fill
+sites_whole source (wants ∷ next) (first ∷ nodes) fill known =
+    let count = types_count source first.kind first.at first.args fill.0 (known first (contains_first first nodes)) in
+    let size : first.args + length next ≡ length (node_types source first.kind first.at ++ next) = omega (arith, count, length-append (node_types source first.kind first.at) next) in
+    let rest = sites_whole source (node_types source first.kind first.at ++ next) nodes (subst (λ n. Fill n nodes) size fill.1) (λ node there. known node (contains_behind first nodes node there)) in
+    ap (λ ns. first ∷ ns) rest
+
+-- the terms of two lists of types, one behind the other
+pub wanted_both : (source : Source) (blanks : ℕ) (sites others : List Site) → wanted_from source blanks (sites ++ others) ≡ wanted_from source blanks sites ++ wanted_from source (blanks_after blanks (nodes_at sites)) others
+wanted_both source blanks [] others = refl
+wanted_both source blanks (site ∷ sites) others =
+    let first = map (λ occurrence. record { name = occurrence.name; wants = site.wants }) (occurrence_at source blanks site.node.at site.node.kind) in
+    ap (λ rest. first ++ rest) (wanted_both source (blanks_behind blanks site.node.kind) sites others)
+    ∙ sym (append_assoc first (wanted_from source (blanks_behind blanks site.node.kind) sites) (wanted_from source (blanks_after (blanks_behind blanks site.node.kind) (nodes_at sites)) others))
+
+-- the variables of terms are those of their nodes
+pub wanted_names : (source : Source) (blanks : ℕ) (sites : List Site) → map (λ (w : Wanted). w.name) (wanted_from source blanks sites) ≡ map (λ (o : Occurrence). o.name) (occurrences_from source blanks (nodes_at sites))
+wanted_names source blanks [] = refl
+wanted_names source blanks (site ∷ sites) = by_kind site.node.kind site.node.at (wanted_names source (blanks_behind blanks site.node.kind) sites)
+  where
+    by_kind : (kind : RawKind) (at : Span) → map (λ (w : Wanted). w.name) (wanted_from source (blanks_behind blanks kind) sites) ≡ map (λ (o : Occurrence). o.name) (occurrences_from source (blanks_behind blanks kind) (nodes_at sites))
+        → map (λ (w : Wanted). w.name) (map (λ occurrence. record { name = occurrence.name; wants = site.wants }) (occurrence_at source blanks at kind) ++ wanted_from source (blanks_behind blanks kind) sites)
+        ≡ map (λ (o : Occurrence). o.name) (occurrence_at source blanks at kind ++ occurrences_from source (blanks_behind blanks kind) (nodes_at sites))
+    by_kind kind.App at rest = rest
+    by_kind kind.Var at rest = ap (λ names. said source at ∷ names) rest
+    by_kind kind.Blank at rest = ap (λ names. (codes "_" ++ decimal (blanks + 1)) ∷ names) rest
+
+-- what equal bytes say
+pub same_bytes : (xs ys : List ℕ) → bytes_eq xs ys ≡ true → xs ≡ ys
+same_bytes xs ys e = (bytes_eq-Decides xs ys).0 e
+
+pub bytes_same : (xs : List ℕ) → bytes_eq xs xs ≡ true
+bytes_same xs = (bytes_eq-Decides xs xs).1 refl
+
+-- a name is among names, by test and by place
+pub any_is : (names : List (List ℕ)) (name : List ℕ) → list_any (λ other. bytes_eq other name) names ≡ true → Contains names name
+any_is [] name any = absurd cc
+any_is (other ∷ names) name any = by_test (bytes_eq other name) refl any (λ later. any_is names name later)
+  where
+    by_test : (b : Bool) → bytes_eq other name ≡ b → (b || list_any (λ other. bytes_eq other name) names) ≡ true → (list_any (λ other. bytes_eq other name) names ≡ true → Contains names name) → Contains (other ∷ names) name
+    by_test true e any rest = subst (λ n. Contains (other ∷ names) n) (same_bytes other name e) (contains_first other names)
+    by_test false e any rest = contains_behind other names name (rest any)
+
+pub is_any : (names : List (List ℕ)) (name : List ℕ) → Contains names name → list_any (λ other. bytes_eq other name) names ≡ true
+is_any [] name there = absurd (contains_none name there)
+is_any (other ∷ names) name there = ⊎_elim (λ (same : other ≡ name). here (bytes_eq other name) (subst (λ n. bytes_eq other n ≡ true) same (bytes_same other))) (λ later. behind (bytes_eq other name) (is_any names name later)) (contains_cases other names name there)
+  where
+    here : (b : Bool) → b ≡ true → (b || list_any (λ other. bytes_eq other name) names) ≡ true
+    here true e = refl
+    here false e = absurd cc
+
+    behind : (b : Bool) → list_any (λ other. bytes_eq other name) names ≡ true → (b || list_any (λ other. bytes_eq other name) names) ≡ true
+    behind true h = refl
+    behind false h = h
+
+-- a name that occurs was seen before, or occurs first somewhere
+first_by : (b : Bool) (seen : List (List ℕ)) (o : Occurrence) (occurrences : List Occurrence) (name : List ℕ)
+    → list_any (λ other. bytes_eq other o.name) seen ≡ b
+    → (o.name ≡ name) ⊎ Contains (map (λ (p : Occurrence). p.name) occurrences) name
+    → (Contains (map (λ (p : Occurrence). p.name) occurrences) name → Contains seen name ⊎ Contains (map (λ (p : Occurrence). p.name) (firsts_beside seen occurrences)) name)
+    → (Contains (map (λ (p : Occurrence). p.name) occurrences) name → Contains (o.name ∷ seen) name ⊎ Contains (map (λ (p : Occurrence). p.name) (firsts_beside (o.name ∷ seen) occurrences)) name)
+    → Contains seen name ⊎ Contains (map (λ (p : Occurrence). p.name) (if b then firsts_beside seen occurrences else o ∷ firsts_beside (o.name ∷ seen) occurrences)) name
+first_by true seen o occurrences name is there old new =
+    ⊎_elim (λ (same : o.name ≡ name). inl (subst (Contains seen) same (any_is seen o.name is))) (λ later. old later) there
+first_by false seen o occurrences name is there old new =
+    let all = map (λ (p : Occurrence). p.name) (firsts_beside (o.name ∷ seen) occurrences) in
+    ⊎_elim
+    (λ (same : o.name ≡ name). inr (subst (Contains (o.name ∷ all)) same (contains_first o.name all)))
+    (λ later. ⊎_elim
+    (λ before. ⊎_elim
+    (λ (same : o.name ≡ name). inr (subst (Contains (o.name ∷ all)) same (contains_first o.name all)))
+    (λ seen_. inl seen_)
+    (contains_cases o.name seen name before))
+    (λ behind. inr (contains_behind o.name all name behind))
+    (new later))
+    there
+
+pub first_there : (seen : List (List ℕ)) (occurrences : List Occurrence) (name : List ℕ) → Contains (map (λ (o : Occurrence). o.name) occurrences) name
+    → Contains seen name ⊎ Contains (map (λ (o : Occurrence). o.name) (firsts_beside seen occurrences)) name
+first_there seen [] name there = absurd (contains_none name there)
+first_there seen (o ∷ occurrences) name there =
+    first_by (list_any (λ other. bytes_eq other o.name) seen) seen o occurrences name refl
+    (contains_cases o.name (map (λ (p : Occurrence). p.name) occurrences) name there)
+    (λ later. first_there seen occurrences name later)
+    (λ later. first_there (o.name ∷ seen) occurrences name later)
+
+-- and each first occurrence is an occurrence
+firsts_by : (b : Bool) (seen : List (List ℕ)) (o : Occurrence) (occurrences : List Occurrence) (x : Occurrence)
+    → Contains (if b then firsts_beside seen occurrences else o ∷ firsts_beside (o.name ∷ seen) occurrences) x
+    → (Contains (firsts_beside seen occurrences) x → Contains occurrences x)
+    → (Contains (firsts_beside (o.name ∷ seen) occurrences) x → Contains occurrences x)
+    → Contains (o ∷ occurrences) x
+firsts_by true seen o occurrences x there old new = contains_behind o occurrences x (old there)
+firsts_by false seen o occurrences x there old new =
+    ⊎_elim
+    (λ (same : o ≡ x). subst (Contains (o ∷ occurrences)) same (contains_first o occurrences))
+    (λ later. contains_behind o occurrences x (new later))
+    (contains_cases o (firsts_beside (o.name ∷ seen) occurrences) x there)
+
+pub firsts_there : (seen : List (List ℕ)) (occurrences : List Occurrence) (x : Occurrence) → Contains (firsts_beside seen occurrences) x → Contains occurrences x
+firsts_there seen [] x there = there
+firsts_there seen (o ∷ occurrences) x there =
+    firsts_by (list_any (λ other. bytes_eq other o.name) seen) seen o occurrences x there
+    (λ old. firsts_there seen occurrences x old) (λ new. firsts_there (o.name ∷ seen) occurrences x new)
+
+-- a name of a blank is that of no other blank
+blank_name : ℕ → List ℕ
+blank_name blanks = codes "_" ++ decimal (blanks + 1)
+
+blanks_differ : (one other : ℕ) → one < other → other + 1 < 2 ^ 64 → codes "_" ++ decimal (one + 1) ≡ codes "_" ++ decimal (other + 1) → ⊥
+blanks_differ one other less short same =
+    let digits : decimal (one + 1) ≡ decimal (other + 1) = cc in
+    let number = decimal_injective (one + 1) (other + 1) (omega arith) short digits in
+    omega (arith, number)
+
+-- nor that of a variable
+word_differs : (word rest : List ℕ) → IsWord is_ascii_uppercase word → word ≡ 95 ∷ rest → ⊥
+word_differs [] rest is same = is
+word_differs (byte ∷ word) rest is same =
+    let first : byte ≡ 95 = cc in
+    let upper : is_ascii_uppercase byte ≡ true = is.0 in
+    let never : is_ascii_uppercase 95 ≡ true = subst (λ b. is_ascii_uppercase b ≡ true) first upper in
+    absurd cc
+
+-- A variable by its name at a place, or a blank, whose name nothing before it has.
+pub data IsFirstIn (source : Source) (blanks : ℕ) (wanted : List Wanted) (sites : List Site) (w : Wanted) : Type 0 where
+  written : (site : Site) → Contains sites site → site.node.kind ≡ kind.Var → w.name ≡ said source site.node.at → w.wants ≡ site.wants → IsFirstIn source blanks wanted sites w
+  blank : (number : ℕ) → blanks ≤ number → number + 1 < 2 ^ 64 → w.name ≡ codes "_" ++ decimal (number + 1) → find (λ (v : Wanted). bytes_eq v.name w.name) wanted ≡ Some w → IsFirstIn source blanks wanted sites w
+
+not_same : (xs ys : List ℕ) → (xs ≡ ys → ⊥) → bytes_eq xs ys ≡ false
+not_same xs ys differ = by_test (bytes_eq xs ys) refl
+  where
+    by_test : (b : Bool) → bytes_eq xs ys ≡ b → b ≡ false
+    by_test true e = absurd (differ (same_bytes xs ys e))
+    by_test false e = refl
+
+find_behind : (v w : Wanted) (rest : List Wanted) → bytes_eq v.name w.name ≡ false → find (λ (x : Wanted). bytes_eq x.name w.name) rest ≡ Some w → find (λ (x : Wanted). bytes_eq x.name w.name) (v ∷ rest) ≡ Some w
+find_behind v w rest differ found = ap (λ b. cond b (Some v) (find (λ (x : Wanted). bytes_eq x.name w.name) rest)) differ ∙ found
+
+find_here : (w : Wanted) (rest : List Wanted) → find (λ (x : Wanted). bytes_eq x.name w.name) (w ∷ rest) ≡ Some w
+find_here w rest = ap (λ b. cond b (Some w) (find (λ (x : Wanted). bytes_eq x.name w.name) rest)) (bytes_same w.name)
+
+-- each written variable of the terms is a word
+abbrev pub AreWords : Source → List Site → Type 0
+AreWords source sites = (site : Site) → Contains sites site → site.node.kind ≡ kind.Var → IsWord is_ascii_uppercase (said source site.node.at)
+
+-- what occurs at one node, and behind it
+abbrev wanted_at : Source → ℕ → Site → RawKind → List Site → List Wanted
+wanted_at source blanks site shape sites = map (λ occurrence. record { name = occurrence.name; wants = site.wants }) (occurrence_at source blanks site.node.at shape) ++ wanted_from source (blanks_behind blanks shape) sites
+
+behind_var : (source : Source) (blanks : ℕ) (site : Site) (sites : List Site) (w : Wanted) → IsWord is_ascii_uppercase (said source site.node.at) → IsFirstIn source blanks (wanted_from source blanks sites) sites w → IsFirstIn source blanks (wanted_at source blanks site kind.Var sites) (site ∷ sites) w
+behind_var source blanks site sites w word (written other there var name wants) = written other (contains_behind site sites other there) var name wants
+behind_var source blanks site sites w word (blank number above short name found) =
+    blank number above short name
+    (find_behind (record { name = said source site.node.at; wants = site.wants }) w (wanted_from source blanks sites)
+    (not_same (said source site.node.at) w.name (λ same. word_differs (said source site.node.at) (decimal (number + 1)) word (same ∙ name))) found)
+
+behind_blank : (source : Source) (blanks : ℕ) (site : Site) (sites : List Site) (w : Wanted) → IsFirstIn source (blanks + 1) (wanted_from source (blanks + 1) sites) sites w → IsFirstIn source blanks (wanted_at source blanks site kind.Blank sites) (site ∷ sites) w
+behind_blank source blanks site sites w (written other there var name wants) = written other (contains_behind site sites other there) var name wants
+behind_blank source blanks site sites w (blank number above short name found) =
+    blank number (omega arith) short name
+    (find_behind (record { name = codes "_" ++ decimal (blanks + 1); wants = site.wants }) w (wanted_from source (blanks + 1) sites)
+    (not_same (codes "_" ++ decimal (blanks + 1)) w.name (λ same. blanks_differ blanks number (omega arith) short (same ∙ name))) found)
+
+behind_con : (source : Source) (blanks : ℕ) (site : Site) (sites : List Site) (w : Wanted) → IsFirstIn source blanks (wanted_from source blanks sites) sites w → IsFirstIn source blanks (wanted_at source blanks site kind.App sites) (site ∷ sites) w
+behind_con source blanks site sites w (written other there var name wants) = written other (contains_behind site sites other there) var name wants
+behind_con source blanks site sites w (blank number above short name found) = blank number above short name found
+
+first_step : (source : Source) (blanks : ℕ) (site : Site) (sites : List Site) (w : Wanted) (shape : RawKind) → site.node.kind ≡ shape → blanks + 1 < 2 ^ 64
+    → (site.node.kind ≡ kind.Var → IsWord is_ascii_uppercase (said source site.node.at))
+    → Contains (wanted_at source blanks site shape sites) w
+    → (Contains (wanted_from source (blanks_behind blanks shape) sites) w → IsFirstIn source (blanks_behind blanks shape) (wanted_from source (blanks_behind blanks shape) sites) sites w)
+    → IsFirstIn source blanks (wanted_at source blanks site shape sites) (site ∷ sites) w
+first_step source blanks site sites w kind.App is short word there later = behind_con source blanks site sites w (later there)
+first_step source blanks site sites w kind.Var is short word there later =
+    ⊎_elim
+    (λ (same : record { name = said source site.node.at; wants = site.wants } ≡ w).
+    written site (contains_first site sites) is (sym (ap (λ (v : Wanted). v.name) same)) (sym (ap (λ (v : Wanted). v.wants) same)))
+    (λ behind. behind_var source blanks site sites w (word is) (later behind))
+    (contains_cases (record { name = said source site.node.at; wants = site.wants }) (wanted_from source blanks sites) w there)
+first_step source blanks site sites w kind.Blank is short word there later =
+    ⊎_elim
+    (λ (same : record { name = codes "_" ++ decimal (blanks + 1); wants = site.wants } ≡ w).
+    blank blanks (omega arith) short (sym (ap (λ (v : Wanted). v.name) same))
+    (subst (λ (v : Wanted). find (λ (x : Wanted). bytes_eq x.name v.name) (wanted_at source blanks site kind.Blank sites) ≡ Some v) same
+    (find_here (record { name = codes "_" ++ decimal (blanks + 1); wants = site.wants }) (wanted_from source (blanks + 1) sites))))
+    (λ behind. behind_blank source blanks site sites w (later behind))
+    (contains_cases (record { name = codes "_" ++ decimal (blanks + 1); wants = site.wants }) (wanted_from source (blanks + 1) sites) w there)
+
+more_short : (blanks : ℕ) (size : ℕ) (shape : RawKind) → blanks + suc size < 2 ^ 64 → blanks_behind blanks shape + size < 2 ^ 64
+more_short blanks size kind.App short = omega arith
+more_short blanks size kind.Var short = omega arith
+more_short blanks size kind.Blank short = omega arith
+
+-- each variable of the terms is written somewhere, or a blank with a name of its own
+pub first_wanted : (source : Source) (blanks : ℕ) (sites : List Site) (w : Wanted) → AreWords source sites → blanks + length sites < 2 ^ 64 → Contains (wanted_from source blanks sites) w → IsFirstIn source blanks (wanted_from source blanks sites) sites w
+first_wanted source blanks [] w words short there = absurd (contains_none w there)
+first_wanted source blanks (site ∷ sites) w words short there =
+    first_step source blanks site sites w site.node.kind refl (omega arith) (words site (contains_first site sites)) there
+    (λ later. first_wanted source (blanks_behind blanks site.node.kind) sites w (λ other in_. words other (contains_behind site sites other in_)) (more_short blanks (length sites) site.node.kind short) later)

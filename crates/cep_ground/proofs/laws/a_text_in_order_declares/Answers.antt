@@ -1,0 +1,5 @@
+use Rattle.cep_ground.proofs.Declared.{declared}
+use Rattle.cep_ground.proofs.laws.a_text_in_order_declares.Goals as goal
+
+pub returns : goal.returns
+returns c source clean = declared source clean (c.atoms_are_made_of_tokens.ensures.made source)

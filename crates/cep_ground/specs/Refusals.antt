@@ -1,0 +1,93 @@
+-- What is wrong with a text, case by case, and what of it is told.
+use Rattle.std.specs.Prelude.{◌≡◌, ◌⊎◌, ℕ, ◌<◌, ◌≤◌, true, List, [], length, take, None, IsSomeAnd, slice_get, Contains, Result, Ok, Err}
+use Rattle.std.specs.List.{AllByRecursion}
+use Rattle.cep_base.specs.declared.place.Pos.{Pos}
+use Rattle.cep_lex.specs.declared.token.Token.{Token}
+use Rattle.cep_lex.specs.declared.token.TheConstants.{MOST_BYTES}
+use Rattle.cep_lex.specs.Cuts.{AreTokens, IsBadByte, IsNameLong}
+use Rattle.cep_lex.specs.Places.{IsPlaceBehind}
+use Rattle.cep_parse.specs.Symbols.{symbols_of}
+use Rattle.cep_parse.specs.Files.{IsUnexpected, IsNested}
+use Rattle.cep_rule.specs.declared.rule.Rule.{Rule}
+use Rattle.cep_rule.specs.declared.parts.Parts.{Parts}
+use Rattle.cep_names.specs.declared.fault.Fault.{Fault}
+use Rattle.cep_names.specs.declared.reason.Reason.{Reason}
+use Rattle.cep_names.specs.declared.reason.Reason.TheVariants.{BadByte, NameLong, Unexpected, Nested, TypeClash, Unbound, Ungrounded, TooLong, NotBuilt}
+use Rattle.cep_names.specs.Items.{Source, RuleItem, rules_of}
+use Rattle.cep_names.specs.Variables.{Occurrence}
+use Rattle.cep_names.specs.First.{IsNoLater}
+use Rattle.cep_names.specs.Misnamed.{wrong, Misnamed}
+use Rattle.cep_infer.specs.declared.draft.Refusal.{Refusal}
+use Rattle.cep_infer.specs.Shapes.{IsSource}
+use Rattle.cep_infer.specs.Sites.{Mistyped}
+use Rattle.cep_infer.specs.Meaning.{AreParts}
+use Rattle.cep_infer.specs.Places.{unbound_of}
+use Rattle.cep_ground.specs.Texts.{IsClean, IsBound, Spells}
+
+-- A rule that can be played today: it has no backward premises, and leaves no stage.
+pub record IsPlainRule (rule : Rule) : Type 0 where
+  pub backs : rule.backs ≡ []
+  pub next : rule.next ≡ None
+
+-- In the start stage the player chooses.
+abbrev pub IsInteractive : Parts → Type 0
+IsInteractive parts = IsSomeAnd (slice_get parts.stages parts.start_stage) (λ stage. stage.interactive ≡ true)
+
+-- A program that can be played today: all its rules can, and its start stage is interactive.
+pub record IsBuilt (parts : Parts) : Type 0 where
+  pub rules : AllByRecursion IsPlainRule parts.rules
+  pub interactive : IsInteractive parts
+
+-- the phase in which a reason is judged
+abbrev pub phase : Reason → ℕ
+phase TooLong = 1
+phase BadByte = 2
+phase NameLong = 2
+phase Unexpected = 3
+phase Nested = 3
+phase TypeClash = 5
+phase Unbound = 6
+phase Ungrounded = 7
+phase NotBuilt = 8
+phase _ = 4
+
+-- What is wrong with a text.
+pub data IsWrong (text : List ℕ) (fault : Fault) : Type 0 where
+  -- it is longer than a text may be
+  too_long : MOST_BYTES < length text → fault ≡ wrong TooLong 0 → IsWrong text fault
+  -- a byte begins no token, or a name is too long
+  bad_byte : (at : ℕ) → length text ≤ MOST_BYTES → IsBadByte text at → fault ≡ wrong BadByte at → IsWrong text fault
+  name_long : (at : ℕ) → length text ≤ MOST_BYTES → IsNameLong text at → fault ≡ wrong NameLong at → IsWrong text fault
+  -- no file goes on with a token, or a parenthesis is one too many
+  unexpected : (tokens : List Token) (at : ℕ) → length text ≤ MOST_BYTES → AreTokens text tokens → IsUnexpected (symbols_of text tokens) (length text) at → fault ≡ wrong Unexpected at → IsWrong text fault
+  nested : (tokens : List Token) (at : ℕ) → length text ≤ MOST_BYTES → AreTokens text tokens → IsNested (symbols_of text tokens) at → fault ≡ wrong Nested at → IsWrong text fault
+  -- something is wrong with its names, or a term is of another type than is wanted of it
+  misnamed : (source : Source) → source.text ≡ text → length text ≤ MOST_BYTES → IsSource source → Misnamed source fault → IsWrong text fault
+  mistyped : (source : Source) → source.text ≡ text → length text ≤ MOST_BYTES → IsSource source → Mistyped source fault → IsWrong text fault
+  -- a variable of a right side is not on the left, or a blank stands there
+  unbound : (source : Source) (rule : RuleItem) (occurrence : Occurrence) → source.text ≡ text → length text ≤ MOST_BYTES → IsSource source → Contains (rules_of source) rule → Contains (unbound_of source rule) occurrence → fault ≡ wrong Unbound occurrence.at.from → IsWrong text fault
+  -- nothing of that is wrong, but what it declares cannot be played yet
+  not_built : (source : Source) (parts : Parts) → source.text ≡ text → IsClean source → IsBound source → AreParts source parts → ¬ (IsBuilt parts) → fault ≡ wrong NotBuilt 0 → IsWrong text fault
+
+-- The fault is told no later than the other: it is of an earlier phase, or of the same one and stands no later.
+abbrev pub IsToldFirst : Fault → Fault → Type 0
+IsToldFirst fault other = (phase fault.reason < phase other.reason) ⊎ ((phase fault.reason ≡ phase other.reason) × IsNoLater fault other)
+
+-- The text is refused for this fault: it is wrong, and told no later than all else that is wrong.
+pub record IsRefusedFor (text : List ℕ) (fault : Fault) : Type 0 where
+  pub holds : IsWrong text fault
+  pub first : (other : Fault) → IsWrong text other → IsToldFirst fault other
+
+-- A line and a column stand before others: the line is less, or it is the same and the column is less.
+abbrev pub StandsBefore : Pos → Pos → Type 0
+StandsBefore one other = (one.line < other.line) ⊎ ((one.line ≡ other.line) × (one.col < other.col))
+
+-- The refusal tells of the fault, at the line and the column of its place.
+pub record Tells (text : List ℕ) (fault : Fault) (refusal : Refusal) : Type 0 where
+  pub reason : refusal.reason ≡ fault.reason
+  pub pos : IsPlaceBehind (take fault.at text) refusal.pos
+
+-- What is answered of a text: the program that it spells, if it can be played today, or the refusal that tells of the fault for which it is refused.
+abbrev pub IsAccepted : List ℕ → Result Parts Refusal → Type 0
+IsAccepted text (Ok program) = Spells text program × IsBuilt program
+IsAccepted text (Err refusal) = (fault : Fault) × IsRefusedFor text fault × Tells text fault refusal

@@ -1,0 +1,65 @@
+//! Laws of texts and programs. Each function computes nothing, and its contract is the law.
+ghost use Rattle.std.specs.Prelude.{◌≡◌, ℕ, List, []};
+ghost use Rattle.std.specs.List.{AllByRecursion};
+ghost use Rattle.cep_rule.specs.declared.parts.Parts.{Parts};
+ghost use Rattle.cep_rule.specs.Groundness.{IsGrounded};
+ghost use Rattle.cep_rule.specs.Program.{IsProgram};
+ghost use Rattle.cep_names.specs.declared.fault.Fault.{Fault};
+ghost use Rattle.cep_names.specs.Items.{Source};
+ghost use Rattle.cep_infer.specs.Meaning.{AreParts};
+ghost use Rattle.cep_ground.specs.Texts.{IsClean, IsBound, Spells};
+ghost use Rattle.cep_ground.specs.Refusals.{IsBuilt, IsWrong};
+
+use cep_infer::laws::atoms_are_made_of_tokens;
+use cep_lex::lexed_once;
+use cep_parse::{items_are_made_of_tokens, one_raw_file, parsed_once};
+use cep_term::laws::{atoms_are_gathered, counts_are_set, order_is_total};
+
+/// What a text declares is a program, where nothing is wrong with its names and types, each variable
+/// of a right side is on the left, and no rule has a backward premise yet.
+pub fn clean_parts_are_a_program()
+    ensures { (source : Source) (parts : Parts)
+        → IsClean source
+        → IsBound source
+        → AreParts source parts
+        → AllByRecursion (λ rule. rule.backs ≡ []) parts.rules
+        → IsProgram parts }
+{
+    items_are_made_of_tokens();
+    atoms_are_made_of_tokens();
+    atoms_are_gathered();
+    counts_are_set();
+    order_is_total();
+}
+
+/// A text spells one program at most.
+pub fn one_program()
+    ensures { (text : List ℕ) (one other : Parts)
+        → Spells text one
+        → Spells text other
+        → one ≡ other }
+{
+    lexed_once();
+    one_raw_file();
+}
+
+/// A text in order declares a program's parts, and no other ones: so a text has what it declares
+/// exactly where nothing is wrong with its names and types.
+pub fn a_text_in_order_declares()
+    ensures { (source : Source) → IsClean source → (parts : Parts) × AreParts source parts }
+{
+    atoms_are_made_of_tokens();
+}
+
+/// Nothing is wrong with a text that spells a program which can be played today, so a text is a
+/// program or is refused, and never both.
+pub fn no_program_is_refused()
+    ensures { (text : List ℕ) (parts : Parts) (fault : Fault)
+        → Spells text parts
+        → IsBuilt parts
+        → ¬ (IsWrong text fault) }
+{
+    lexed_once();
+    one_raw_file();
+    parsed_once();
+}

@@ -1,0 +1,7 @@
+//! Which text is which program, and what is wrong with the others.
+#![tactic(auto)]
+
+pub mod laws;
+mod places;
+mod refusals;
+mod sealing;

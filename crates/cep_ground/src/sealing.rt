@@ -1,0 +1,82 @@
+ghost use Rattle.std.specs.Prelude.{◌↔◌, ◌≤◌, ◌<◌, length, take, map, IsTrue};
+ghost use Rattle.std.specs.List.{AllByRecursion};
+ghost use Rattle.cep_infer.specs.Meaning.{AreParts};
+ghost use Rattle.cep_infer.specs.Places.{IsDraft};
+ghost use Rattle.cep_ground.specs.Texts.{IsClean, IsBound};
+ghost use Rattle.cep_ground.specs.Refusals.{IsPlainRule, IsInteractive, IsAccepted};
+
+use crate::laws::clean_parts_are_a_program;
+use crate::places::earliest_of_all;
+use crate::refusals::tell;
+use cep_infer::{Draft, Refusal};
+use cep_lex::lexed_once;
+use cep_names::Reason;
+use cep_parse::{RawFile, one_raw_file, parsed_once};
+use cep_rule::{Parts, Program, Rule, Rules};
+
+// Whether the rule can be played today.
+fn is_plain(rule: &Rule) -> bool
+    ensures { IsTrue result ↔ IsPlainRule rule.now }
+{
+    rule.backs.len() == 0 && rule.next.is_none()
+}
+
+// Whether all rules can be played today.
+fn are_plain(rules: &Rules) -> bool
+    ensures { IsTrue result ↔ AllByRecursion IsPlainRule rules.now }
+{
+    for i in 0..rules.len() {
+        if !is_plain(rules.get(i)) {
+            return false;
+        }
+    }
+    true
+}
+
+// The program of a text's draft, where nothing is wrong with its names and types.
+pub(crate) fn judged(text: &[u8], file: &RawFile, draft: Draft) -> Result<Program, Refusal>
+    requires clean { IsClean (record { text = text.now; file = file.now }) }
+    requires declared { IsDraft (record { text = text.now; file = file.now }) draft }
+    ensures { IsAccepted text.now result }
+{
+    lexed_once();
+    one_raw_file();
+    parsed_once();
+    match earliest_of_all(&draft.right_places) {
+        Some(pos) => Err(Refusal {
+            pos,
+            reason: Reason::Unbound,
+        }),
+        None => sealed(text, file, draft.parts),
+    }
+}
+
+// The program of the parts that a text in order declares, if it can be played today.
+fn sealed(text: &[u8], file: &RawFile, parts: Parts) -> Result<Program, Refusal>
+    requires clean { IsClean (record { text = text.now; file = file.now }) }
+    requires bound { IsBound (record { text = text.now; file = file.now }) }
+    requires declared { AreParts (record { text = text.now; file = file.now }) parts }
+    ensures { IsAccepted text.now result }
+{
+    clean_parts_are_a_program();
+    lexed_once();
+    one_raw_file();
+    parsed_once();
+    if !are_plain(&parts.rules) {
+        return Err(tell(text, Reason::NotBuilt, 0));
+    }
+    let program = Program::seal(parts);
+    if is_asked(&program) {
+        Ok(program)
+    } else {
+        Err(tell(text, Reason::NotBuilt, 0))
+    }
+}
+
+// Whether the player is asked in the start stage.
+fn is_asked(program: &Program) -> bool
+    ensures { IsTrue result ↔ IsInteractive program.now }
+{
+    let parts = program.parts();
+    parts.stages.get(parts.start_stage as usize).interactive
+}

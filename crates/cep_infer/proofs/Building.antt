@@ -1,0 +1,167 @@
+-- Atoms and premises are built one after another.
+use Rattle.std.proofs.Common.{◌≡◌, ℕ, ◌+◌, ◌<◌, Bool, true, false, not, if◌then◌else◌, List, [], ◌∷◌, ◌++◌, map, filter, length, take, get_or, refl, ap, sym, subst, ◌∙◌, append_assoc, arith}
+use Rattle.std.specs.Prelude.{Result, Ok, Err, OnOk}
+use Rattle.std.specs.List.{flat_map}
+use Rattle.std.proofs.lemmas.List.{map-append, append-nil, take_more}
+use Rattle.std.proofs.lemmas.Grind.{flat_map-append}
+use Rattle.cep_parse.specs.declared.raw.RawAtom.{RawAtom}
+use Rattle.cep_parse.specs.declared.raw.RawElem.{RawElem}
+use Rattle.cep_parse.specs.declared.raw.RawElem.TheVariants as elem
+use Rattle.cep_parse.specs.declared.raw.RawItem.{RawItem}
+use Rattle.cep_rule.specs.declared.rule.Rule.{Rule}
+use Rattle.cep_term.specs.Tree.{AtomTree}
+use Rattle.cep_rule.specs.Patterns.{PremiseTree, ClauseTree}
+use Rattle.cep_names.specs.Items.{Source, ClauseItem, RuleItem}
+use Rattle.cep_names.specs.Uses.{atoms_in, atoms_of}
+use Rattle.cep_names.specs.Variables.{nodes_of}
+use Rattle.cep_infer.specs.declared.left.LeftSide.{LeftSide}
+use Rattle.cep_infer.specs.declared.variables.Variables.{Variables}
+use Rattle.cep_infer.specs.Heads.{IsAtomBy, AreAtomsBy, blanks_after}
+use Rattle.cep_infer.specs.Meaning.{ArePremisesBy, is_back, IsClauseBy, AreClausesBy, IsRuleBy, AreRulesBy}
+use Rattle.cep_infer.specs.Met.{AreMet, none_met, names_in, kinds_met}
+use Rattle.cep_infer.specs.Built.{AreBuilt, IsLeftBuilt}
+use Rattle.cep_infer.proofs.Meeting.{blanks_both}
+use Rattle.cep_infer.proofs.FirstOccurrences.{names_met, kinds_are_met}
+
+module _ (source : Source) (vars : List (List ℕ)) where
+  pub atoms_both : (blanks : ℕ) (one two : List RawAtom) (ts us : List AtomTree) → AreAtomsBy source vars blanks one ts → AreAtomsBy source vars (blanks_after blanks (nodes_of one)) two us → AreAtomsBy source vars blanks (one ++ two) (ts ++ us)
+  atoms_both blanks [] two [] us first second = second
+  atoms_both blanks [] two (t ∷ ts) us first second = absurd first
+  atoms_both blanks (x ∷ one) two [] us first second = absurd first
+  atoms_both blanks (x ∷ one) two (t ∷ ts) us first second =
+      (first.0, atoms_both (blanks_after blanks x.nodes) one two ts us first.1 (subst (λ n. AreAtomsBy source vars n two us) (blanks_both blanks x.nodes (nodes_of one)) second))
+
+  pub none_built : (blanks : ℕ) (old : List AtomTree) → AreBuilt source vars [] blanks blanks old old
+  none_built blanks old = record { more = []; new_is = sym (append-nil old); are = tt; behind_is = refl }
+
+  pub one_built : (raw : RawAtom) (before behind : ℕ) (old new : List AtomTree) (atom : AtomTree) → IsAtomBy source vars before raw atom → behind ≡ blanks_after before raw.nodes → new ≡ old ++ atom ∷ [] → AreBuilt source vars (raw ∷ []) before behind old new
+  one_built raw before behind old new atom is blanks_are new_is = record { more = atom ∷ []; new_is = new_is; are = (is, tt); behind_is = blanks_are ∙ ap (blanks_after before) (sym (append-nil raw.nodes)) }
+
+  pub both_built : (one two : List RawAtom) (before middle behind : ℕ) (old between new : List AtomTree) → AreBuilt source vars one before middle old between → AreBuilt source vars two middle behind between new → AreBuilt source vars (one ++ two) before behind old new
+  both_built one two before middle behind old between new first second = record {
+    more = first.more ++ second.more;
+    new_is = second.new_is ∙ ap (λ ts. ts ++ second.more) first.new_is ∙ append_assoc old first.more second.more;
+    are = atoms_both before one two first.more second.more first.are (subst (λ n. AreAtomsBy source vars n two second.more) first.behind_is second.are);
+    behind_is = second.behind_is ∙ ap (λ n. blanks_after n (nodes_of two)) first.behind_is ∙ sym (ap (blanks_after before) (flat_map-append (λ (atom : RawAtom). atom.nodes) one two) ∙ blanks_both before (nodes_of one) (nodes_of two));
+  }
+
+  pub part_built : {X : Type 0} (g : X → List RawAtom) (xs : List X) (i : ℕ) (x : X) (before middle behind : ℕ) (old between new : List AtomTree) → i < length xs → x ≡ get_or xs i x
+      → AreBuilt source vars (flat_map g (take i xs)) before middle old between → AreBuilt source vars (g x) middle behind between new → AreBuilt source vars (flat_map g (take (i + 1) xs)) before behind old new
+  part_built g xs i x before middle behind old between new h at was is =
+      let atoms : flat_map g (take (i + 1) xs) ≡ flat_map g (take i xs) ++ g x =
+      ap (flat_map g) (take_more xs i x h) ∙ flat_map-append g (take i xs) (get_or xs i x ∷ []) ∙ ap (λ ys. flat_map g (take i xs) ++ ys) (append-nil (g (get_or xs i x)) ∙ ap g (sym at)) in
+      subst (λ (ys : List RawAtom). AreBuilt source vars ys before behind old new) (sym atoms) (both_built (flat_map g (take i xs)) (g x) before middle behind old between new was is)
+
+  pub atom_built : (xs : List RawAtom) (i : ℕ) (x : RawAtom) (before middle behind : ℕ) (old between new : List AtomTree) → i < length xs → x ≡ get_or xs i x
+      → AreBuilt source vars (take i xs) before middle old between → AreBuilt source vars (x ∷ []) middle behind between new → AreBuilt source vars (take (i + 1) xs) before behind old new
+  atom_built xs i x before middle behind old between new h at was is =
+      let atoms : take (i + 1) xs ≡ take i xs ++ x ∷ [] = take_more xs i x h ∙ ap (λ y. take i xs ++ y ∷ []) (sym at) in
+      subst (λ (ys : List RawAtom). AreBuilt source vars ys before behind old new) (sym atoms) (both_built (take i xs) (x ∷ []) before middle behind old between new was is)
+
+  -- ---- premises
+
+  pub premises_both : (blanks : ℕ) (one two : List RawElem) (ps qs : List PremiseTree) → ArePremisesBy source vars blanks one ps → ArePremisesBy source vars (blanks_after blanks (nodes_of (atoms_of one))) two qs → ArePremisesBy source vars blanks (one ++ two) (ps ++ qs)
+  premises_both blanks [] two [] qs first second = second
+  premises_both blanks [] two (p ∷ ps) qs first second = absurd first
+  premises_both blanks (elem.Qui span ∷ one) two ps qs first second = premises_both blanks one two ps qs first second
+  premises_both blanks (elem.Stage span ∷ one) two ps qs first second = premises_both blanks one two ps qs first second
+  premises_both blanks (elem.Atom kept raw ∷ one) two [] qs first second = absurd first
+  premises_both blanks (elem.Atom kept raw ∷ one) two (p ∷ ps) qs first second =
+      (first.0, first.1, premises_both (blanks_after blanks raw.nodes) one two ps qs first.2 (subst (λ n. ArePremisesBy source vars n two qs) (blanks_both blanks raw.nodes (nodes_of (atoms_of one))) second))
+
+  pub no_premise : (blanks : ℕ) (left : LeftSide) → IsLeftBuilt source vars [] blanks blanks left left
+  no_premise blanks left = record { more = []; are = tt; premises_are = sym (append-nil left.premises); backs_are = sym (append-nil left.backs); behind_is = refl }
+
+  filter_both : (p : PremiseTree → Bool) (one two : List PremiseTree) → filter p (one ++ two) ≡ filter p one ++ filter p two
+  filter_both p [] two = refl
+  filter_both p (x ∷ one) two = cases (p x) (filter_both p one two) where
+    cases : (b : Bool) → filter p (one ++ two) ≡ filter p one ++ filter p two → (if b then x ∷ filter p (one ++ two) else filter p (one ++ two)) ≡ (if b then x ∷ filter p one else filter p one) ++ filter p two
+    cases true e = ap (λ xs. x ∷ xs) e
+    cases false e = e
+
+  pub left_both : (one two : List RawElem) (before middle behind : ℕ) (old between new : LeftSide) → IsLeftBuilt source vars one before middle old between → IsLeftBuilt source vars two middle behind between new → IsLeftBuilt source vars (one ++ two) before behind old new
+  left_both one two before middle behind old between new first second =
+      let linear = λ (premise : PremiseTree). not (is_back source premise.atom) in
+      let backward = λ (premise : PremiseTree). is_back source premise.atom in
+      let atom_in = λ (premise : PremiseTree). premise.atom in
+      record {
+        more = first.more ++ second.more;
+        are = premises_both before one two first.more second.more first.are (subst (λ n. ArePremisesBy source vars n two second.more) first.behind_is second.are);
+        premises_are = second.premises_are ∙ ap (λ ps. ps ++ filter linear second.more) first.premises_are ∙ append_assoc old.premises (filter linear first.more) (filter linear second.more)
+            ∙ ap (λ ps. old.premises ++ ps) (sym (filter_both linear first.more second.more));
+        backs_are = second.backs_are ∙ ap (λ ps. ps ++ map atom_in (filter backward second.more)) first.backs_are ∙ append_assoc old.backs (map atom_in (filter backward first.more)) (map atom_in (filter backward second.more))
+            ∙ ap (λ ps. old.backs ++ ps) (sym (ap (map atom_in) (filter_both backward first.more second.more) ∙ map-append atom_in (filter backward first.more) (filter backward second.more)));
+        behind_is = second.behind_is ∙ ap (λ n. blanks_after n (nodes_of (atoms_of two))) first.behind_is
+            ∙ sym (ap (blanks_after before) (ap nodes_of (flat_map-append atoms_in one two) ∙ flat_map-append (λ (atom : RawAtom). atom.nodes) (atoms_of one) (atoms_of two)) ∙ blanks_both before (nodes_of (atoms_of one)) (nodes_of (atoms_of two)));
+      }
+
+  pub elem_built : (xs : List RawElem) (i : ℕ) (x : RawElem) (before middle behind : ℕ) (old between new : LeftSide) → i < length xs → x ≡ get_or xs i x
+      → IsLeftBuilt source vars (take i xs) before middle old between → IsLeftBuilt source vars (x ∷ []) middle behind between new → IsLeftBuilt source vars (take (i + 1) xs) before behind old new
+  elem_built xs i x before middle behind old between new h at was is =
+      let side : take (i + 1) xs ≡ take i xs ++ x ∷ [] = take_more xs i x h ∙ ap (λ y. take i xs ++ y ∷ []) (sym at) in
+      subst (λ (ys : List RawElem). IsLeftBuilt source vars ys before behind old new) (sym side) (left_both (take i xs) (x ∷ []) before middle behind old between new was is)
+
+  pub premise_built : (kept : Bool) (raw : RawAtom) (before behind : ℕ) (old new : LeftSide) (atom : AtomTree) (back : Bool) → IsAtomBy source vars before raw atom → behind ≡ blanks_after before raw.nodes → back ≡ is_back source atom
+      → new.premises ≡ (if back then old.premises else old.premises ++ record { atom = atom; kept = kept } ∷ []) → new.backs ≡ (if back then old.backs ++ atom ∷ [] else old.backs)
+      → IsLeftBuilt source vars (elem.Atom kept raw ∷ []) before behind old new
+  premise_built kept raw before behind old new atom back is blanks_are back_is premises_are backs_are = record {
+    more = record { atom = atom; kept = kept } ∷ [];
+    are = (refl, is, tt);
+    premises_are = premises_are ∙ linear back back_is;
+    backs_are = backs_are ∙ backward back back_is;
+    behind_is = blanks_are ∙ ap (blanks_after before) (sym (append-nil raw.nodes));
+  } where
+    linear : (b : Bool) → b ≡ is_back source atom → (if b then old.premises else old.premises ++ record { atom = atom; kept = kept } ∷ []) ≡ old.premises ++ filter (λ (premise : PremiseTree). not (is_back source premise.atom)) (record { atom = atom; kept = kept } ∷ [])
+    linear true e = rw (← e) (sym (append-nil old.premises))
+    linear false e = rw (← e) refl
+
+    backward : (b : Bool) → b ≡ is_back source atom → (if b then old.backs ++ atom ∷ [] else old.backs) ≡ old.backs ++ map (λ (premise : PremiseTree). premise.atom) (filter (λ (premise : PremiseTree). is_back source premise.atom) (record { atom = atom; kept = kept } ∷ []))
+    backward true e = rw (← e) refl
+    backward false e = rw (← e) (sym (append-nil old.backs))
+
+-- a clause is built
+pub clause_built : (source : Source) (head : RawAtom) (goals : List RawAtom) (variables : Variables) (names : List (List ℕ)) (kinds : List ℕ) (middle behind : ℕ) (tree : AtomTree) (none atoms : List AtomTree)
+    → AreMet source (head ∷ goals) none_met variables → names ≡ names_in variables.firsts → kinds ≡ kinds_met source variables.firsts
+    → IsAtomBy source (names_in variables.firsts) 0 head tree → middle ≡ blanks_after 0 head.nodes → none ≡ [] → AreBuilt source (names_in variables.firsts) goals middle behind none atoms
+    → IsClauseBy source (record { head = head; goals = goals }) (record { vars = names; kinds = kinds; head = tree; goals = atoms })
+clause_built source head goals variables names kinds middle behind tree none atoms met names_are kinds_are first blanks_are none_is built = record {
+  vars_are = names_are ∙ names_met source (head ∷ goals) variables met;
+  kinds_are = kinds_are ∙ kinds_are_met source (head ∷ goals) variables met;
+  atoms_are = (
+    subst (λ (vs : List (List ℕ)). IsAtomBy source vs 0 head tree) (sym names_are) first,
+    subst (λ (vs : List (List ℕ)). AreAtomsBy source vs (blanks_after 0 head.nodes) goals atoms) (sym names_are)
+        (subst (λ n. AreAtomsBy source (names_in variables.firsts) n goals atoms) blanks_are (subst (λ (ts : List AtomTree). AreAtomsBy source (names_in variables.firsts) middle goals ts) more_is built.are)),
+  );
+} where
+  more_is : built.more ≡ atoms
+  more_is = sym (built.new_is ∙ ap (λ ts. ts ++ built.more) none_is)
+
+-- both of what a call leaves
+pub on_ok_both : {T E P Q R : Type 0} (r : Result T E) → (P → Q → R) → OnOk r P → OnOk r Q → OnOk r R
+on_ok_both (Ok x) f p q = f p q
+on_ok_both (Err e) f p q = tt
+
+-- ---- clauses and rules, one after another
+
+pub clauses_both : (source : Source) (one two : List ClauseItem) (cs ds : List ClauseTree) → AreClausesBy source one cs → AreClausesBy source two ds → AreClausesBy source (one ++ two) (cs ++ ds)
+clauses_both source [] two [] ds first second = second
+clauses_both source [] two (c ∷ cs) ds first second = absurd first
+clauses_both source (x ∷ one) two [] ds first second = absurd first
+clauses_both source (x ∷ one) two (c ∷ cs) ds first second = (first.0, clauses_both source one two cs ds first.1 second)
+
+pub clauses_more : (source : Source) (g : RawItem → List ClauseItem) (xs : List RawItem) (i : ℕ) (x : RawItem) (old more new : List ClauseTree) → i < length xs → x ≡ get_or xs i x
+    → AreClausesBy source (flat_map g (take i xs)) old → AreClausesBy source (g x) more → new ≡ old ++ more → AreClausesBy source (flat_map g (take (i + 1) xs)) new
+clauses_more source g xs i x old more new h at was is new_is =
+    let items : flat_map g (take (i + 1) xs) ≡ flat_map g (take i xs) ++ g x =
+    ap (flat_map g) (take_more xs i x h) ∙ flat_map-append g (take i xs) (get_or xs i x ∷ []) ∙ ap (λ ys. flat_map g (take i xs) ++ ys) (append-nil (g (get_or xs i x)) ∙ ap g (sym at)) in
+    subst (λ (ys : List ClauseItem). AreClausesBy source ys new) (sym items)
+    (subst (λ (cs : List ClauseTree). AreClausesBy source (flat_map g (take i xs) ++ g x) cs) (sym new_is) (clauses_both source (flat_map g (take i xs)) (g x) old more was is))
+
+pub rules_more : (source : Source) (names : List (List ℕ)) (items : List RuleItem) (rules : List Rule) (name : List ℕ) (item : RuleItem) (rule : Rule) → AreRulesBy source names items rules → length names ≡ length items → IsRuleBy source name item rule
+    → AreRulesBy source (names ++ name ∷ []) (items ++ item ∷ []) (rules ++ rule ∷ [])
+rules_more source [] [] [] name item rule are same is = (is, tt)
+rules_more source [] [] (r ∷ rules) name item rule are same is = absurd are
+rules_more source names (i ∷ items) [] name item rule are same is = absurd are
+rules_more source [] (i ∷ items) (r ∷ rules) name item rule are same is = absurd are
+rules_more source (n ∷ names) [] rules name item rule are same is = absurd (omega (arith, same))
+rules_more source (n ∷ names) (i ∷ items) (r ∷ rules) name item rule are same is = (are.0, rules_more source names items rules name item rule are.1 (omega (arith, same)) is)

@@ -1,0 +1,12 @@
+pub mod Members
+pub mod Filled
+pub mod Entries
+pub mod Lookups
+pub mod Meeting
+pub mod FirstOccurrences
+pub mod Building
+pub mod RulesInTurn
+pub mod FirstFaults
+pub mod FirstLoops
+pub mod Clashing
+pub mod Interactive

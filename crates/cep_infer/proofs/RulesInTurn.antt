@@ -1,0 +1,110 @@
+-- Rules are built one after another.
+use Rattle.std.proofs.Common.{◌≡◌, ℕ, suc, ◌+◌, ◌<◌, List, [], ◌∷◌, ◌++◌, map, filter, not, length, take, drop, get_or, refl, ap, sym, subst, ◌∙◌}
+use Rattle.std.specs.Prelude.{Result, Ok, Err, IfOk}
+use Rattle.std.specs.declared.alloc.AllocError.{AllocError}
+use Rattle.std.specs.List.{flat_map}
+use Rattle.std.proofs.lemmas.List.{map-append, take_more, drop_more}
+use Rattle.cep_term.specs.Tree.{AtomTree}
+use Rattle.cep_parse.specs.declared.raw.Span.{Span}
+use Rattle.cep_parse.specs.declared.raw.RawElem.{RawElem}
+use Rattle.cep_rule.specs.declared.rule.Rule.{Rule}
+use Rattle.cep_rule.specs.Patterns.{PremiseTree}
+use Rattle.cep_names.specs.declared.space.Space.TheVariants as space
+use Rattle.cep_names.specs.Items.{Source, RuleItem, said}
+use Rattle.cep_names.specs.Spaces.{Named, rule_name, unlabelled_behind, rule_names_from}
+use Rattle.cep_names.specs.Uses.{atoms_of}
+use Rattle.cep_names.specs.Variables.{nodes_of}
+use Rattle.cep_infer.specs.declared.left.LeftSide.{LeftSide}
+use Rattle.cep_infer.specs.declared.listing.RuleRef.{RuleRef}
+use Rattle.cep_infer.specs.declared.variables.Variables.{Variables}
+use Rattle.cep_infer.specs.Sites.{rule_scope}
+use Rattle.cep_infer.specs.Heads.{AreAtomsBy, blanks_after, number_of}
+use Rattle.cep_infer.specs.Meaning.{IsRuleBy, AreRulesBy, ArePremisesBy, group_of, next_of, is_back, stages_in_elem, first_stage}
+use Rattle.cep_infer.specs.Met.{AreMet, none_met, names_in, kinds_met}
+use Rattle.cep_infer.specs.Built.{AreBuilt, IsLeftBuilt}
+use Rattle.cep_infer.specs.Listed.{rule_item}
+use Rattle.cep_infer.proofs.FirstOccurrences.{names_met, kinds_are_met}
+use Rattle.cep_infer.proofs.Building.{rules_more}
+
+-- how many rules without a label there are behind some
+abbrev pub unlabelled_over : ℕ → List RuleItem → ℕ
+unlabelled_over unlabelled [] = unlabelled
+unlabelled_over unlabelled (rule ∷ rules) = unlabelled_over (unlabelled_behind unlabelled rule.raw.label) rules
+
+over_more : (unlabelled : ℕ) (items : List RuleItem) (item : RuleItem) → unlabelled_over unlabelled (items ++ item ∷ []) ≡ unlabelled_behind (unlabelled_over unlabelled items) item.raw.label
+over_more unlabelled [] item = refl
+over_more unlabelled (x ∷ items) item = over_more (unlabelled_behind unlabelled x.raw.label) items item
+
+names_more : (source : Source) (unlabelled : ℕ) (items : List RuleItem) (item : RuleItem)
+    → map (λ (n : Named). n.name) (rule_names_from source unlabelled (items ++ item ∷ [])) ≡ map (λ (n : Named). n.name) (rule_names_from source unlabelled items) ++ rule_name source (unlabelled_over unlabelled items) item.raw.label ∷ []
+names_more source unlabelled [] item = refl
+names_more source unlabelled (x ∷ items) item = ap (λ (ns : List (List ℕ)). rule_name source unlabelled x.raw.label ∷ ns) (names_more source (unlabelled_behind unlabelled x.raw.label) items item)
+
+names_count : (source : Source) (unlabelled : ℕ) (items : List RuleItem) → length (map (λ (n : Named). n.name) (rule_names_from source unlabelled items)) ≡ length items
+names_count source unlabelled [] = refl
+names_count source unlabelled (x ∷ items) = ap suc (names_count source (unlabelled_behind unlabelled x.raw.label) items)
+
+module _ (source : Source) (refs : List RuleRef) (i : ℕ) (d : RuleRef) (h : i < length refs) where
+  abbrev before : List RuleItem
+  before = map rule_item (take i refs)
+
+  items_are : map rule_item (take (i + 1) refs) ≡ before ++ rule_item (get_or refs i d) ∷ []
+  items_are = ap (map rule_item) (take_more refs i d h) ∙ map-append rule_item (take i refs) (get_or refs i d ∷ [])
+
+  pub unlabelled_more : (old new : ℕ) → old ≡ unlabelled_over 0 before → new ≡ unlabelled_behind old (get_or refs i d).raw.now.label → new ≡ unlabelled_over 0 (map rule_item (take (i + 1) refs))
+  unlabelled_more old new was is = is ∙ ap (λ n. unlabelled_behind n (get_or refs i d).raw.now.label) was ∙ sym (ap (unlabelled_over 0) items_are ∙ over_more 0 before (rule_item (get_or refs i d)))
+
+  pub rule_more : (old : ℕ) (rules new : List Rule) (rule : Rule) → old ≡ unlabelled_over 0 before → AreRulesBy source (map (λ (n : Named). n.name) (rule_names_from source 0 before)) before rules
+      → IsRuleBy source (rule_name source old (get_or refs i d).raw.now.label) (rule_item (get_or refs i d)) rule → new ≡ rules ++ rule ∷ []
+      → AreRulesBy source (map (λ (n : Named). n.name) (rule_names_from source 0 (map rule_item (take (i + 1) refs)))) (map rule_item (take (i + 1) refs)) new
+  rule_more old rules new rule was are is new_is =
+      subst (λ (items : List RuleItem). AreRulesBy source (map (λ (n : Named). n.name) (rule_names_from source 0 items)) items new) (sym items_are)
+      (subst (λ (names : List (List ℕ)). AreRulesBy source names (before ++ rule_item (get_or refs i d) ∷ []) new) (sym (names_more source 0 before (rule_item (get_or refs i d))))
+      (subst (λ (rs : List Rule). AreRulesBy source (map (λ (n : Named). n.name) (rule_names_from source 0 before) ++ rule_name source (unlabelled_over 0 before) (get_or refs i d).raw.now.label ∷ []) (before ++ rule_item (get_or refs i d) ∷ []) rs) (sym new_is)
+      (rules_more source (map (λ (n : Named). n.name) (rule_names_from source 0 before)) before rules (rule_name source (unlabelled_over 0 before) (get_or refs i d).raw.now.label) (rule_item (get_or refs i d)) rule are (names_count source 0 before)
+      (subst (λ n. IsRuleBy source (rule_name source n (get_or refs i d).raw.now.label) (rule_item (get_or refs i d)) rule) was is))))
+
+-- a rule is built
+pub rule_built : (source : Source) (name : List ℕ) (item : RuleItem) (variables : Variables) (rule : Rule) (middle behind : ℕ) (start left : LeftSide) (none : List AtomTree)
+    → AreMet source (rule_scope item) none_met variables → rule.vars ≡ names_in variables.firsts → rule.kinds ≡ kinds_met source variables.firsts
+    → rule.name ≡ name → rule.group ≡ group_of source item.home item.raw.left → rule.next ≡ next_of source item.home item.raw.right
+    → start.premises ≡ [] → start.backs ≡ [] → IsLeftBuilt source (names_in variables.firsts) item.raw.left 0 middle start left → rule.premises ≡ left.premises → rule.backs ≡ left.backs
+    → none ≡ [] → AreBuilt source (names_in variables.firsts) (atoms_of item.raw.right) middle behind none rule.right
+    → IsRuleBy source name item rule
+rule_built source name item variables rule middle behind start left none met vars_are kinds_are name_is group_is next_is no_premises no_backs left_is premises_are backs_are none_is right_is = record {
+  name_is = name_is;
+  group_is = group_is;
+  next_is = next_is;
+  vars_are = vars_are ∙ names_met source (rule_scope item) variables met;
+  kinds_are = kinds_are ∙ kinds_are_met source (rule_scope item) variables met;
+  left = left_is.more;
+  left_is = subst (λ (vs : List (List ℕ)). ArePremisesBy source vs 0 item.raw.left left_is.more) (sym vars_are) left_is.are;
+  premises_are = premises_are ∙ left_is.premises_are ∙ ap (λ (ps : List PremiseTree). ps ++ filter (λ (premise : PremiseTree). not (is_back source premise.atom)) left_is.more) no_premises;
+  backs_are = backs_are ∙ left_is.backs_are ∙ ap (λ (ts : List AtomTree). ts ++ map (λ (premise : PremiseTree). premise.atom) (filter (λ (premise : PremiseTree). is_back source premise.atom) left_is.more)) no_backs;
+  right_is = subst (λ (vs : List (List ℕ)). AreAtomsBy source vs (blanks_after 0 (nodes_of (atoms_of item.raw.left))) (atoms_of item.raw.right) rule.right) (sym vars_are)
+      (subst (λ n. AreAtomsBy source (names_in variables.firsts) n (atoms_of item.raw.right) rule.right) left_is.behind_is
+      (subst (λ (ts : List AtomTree). AreAtomsBy source (names_in variables.firsts) middle (atoms_of item.raw.right) ts) (sym (right_is.new_is ∙ ap (λ (ts : List AtomTree). ts ++ right_is.more) none_is)) right_is.are));
+}
+
+-- the first stage of a side
+pub no_stage_yet : (side : List RawElem) (i : ℕ) (x : RawElem) → i < length side → x ≡ get_or side i x → flat_map stages_in_elem side ≡ flat_map stages_in_elem (drop i side) → stages_in_elem x ≡ []
+    → flat_map stages_in_elem side ≡ flat_map stages_in_elem (drop (i + 1) side)
+no_stage_yet side i x h at was none =
+    was ∙ ap (flat_map stages_in_elem) (drop_more side i x h) ∙ ap (λ ss. ss ++ flat_map stages_in_elem (drop (i + 1) side)) (ap stages_in_elem (sym at) ∙ none)
+
+pub stage_here : (source : Source) (side : List RawElem) (i : ℕ) (x : RawElem) (name : Span) → i < length side → x ≡ get_or side i x → flat_map stages_in_elem side ≡ flat_map stages_in_elem (drop i side) → stages_in_elem x ≡ name ∷ []
+    → first_stage source (flat_map stages_in_elem side) ≡ number_of source space.Stages (said source name)
+stage_here source side i x name h at was one =
+    ap (first_stage source) (was ∙ ap (flat_map stages_in_elem) (drop_more side i x h) ∙ ap (λ ss. ss ++ flat_map stages_in_elem (drop (i + 1) side)) (ap stages_in_elem (sym at) ∙ one))
+
+-- the same of the answer of a call
+pub rule_answered : (source : Source) (name : List ℕ) (item : RuleItem) (variables : Variables) (r : Result Rule AllocError) (middle behind : ℕ) (start left : LeftSide) (none right : List AtomTree)
+    → AreMet source (rule_scope item) none_met variables → IfOk r (λ rule. rule.vars ≡ names_in variables.firsts) → IfOk r (λ rule. rule.kinds ≡ kinds_met source variables.firsts)
+    → IfOk r (λ rule. rule.name ≡ name) → IfOk r (λ rule. rule.group ≡ group_of source item.home item.raw.left) → IfOk r (λ rule. rule.next ≡ next_of source item.home item.raw.right)
+    → start.premises ≡ [] → start.backs ≡ [] → IsLeftBuilt source (names_in variables.firsts) item.raw.left 0 middle start left → IfOk r (λ rule. rule.premises ≡ left.premises) → IfOk r (λ rule. rule.backs ≡ left.backs)
+    → none ≡ [] → AreBuilt source (names_in variables.firsts) (atoms_of item.raw.right) middle behind none right → IfOk r (λ rule. rule.right ≡ right)
+    → IfOk r (λ rule. IsRuleBy source name item rule)
+rule_answered source name item variables (Ok rule) middle behind start left none right met vars_are kinds_are name_is group_is next_is no_premises no_backs left_is premises_are backs_are none_is right_is is_right =
+    rule_built source name item variables rule middle behind start left none met vars_are kinds_are name_is group_is next_is no_premises no_backs left_is premises_are backs_are none_is
+    (subst (λ (ts : List AtomTree). AreBuilt source (names_in variables.firsts) (atoms_of item.raw.right) middle behind none ts) (sym is_right) right_is)
+rule_answered source name item variables (Err e) middle behind start left none right met vars_are kinds_are name_is group_is next_is no_premises no_backs left_is premises_are backs_are none_is right_is is_right = tt

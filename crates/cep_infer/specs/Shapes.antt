@@ -1,0 +1,21 @@
+-- What a source is: a text, and the raw file that its tokens are.
+use Rattle.std.specs.Prelude.{List, Contains}
+use Rattle.cep_lex.specs.declared.token.Token.{Token}
+use Rattle.cep_lex.specs.Cuts.{AreTokens}
+use Rattle.cep_parse.specs.Symbols.{symbols_of}
+use Rattle.cep_parse.specs.Grammar.{File}
+use Rattle.cep_parse.specs.Files.{IsShallow}
+use Rattle.cep_parse.specs.Written.{Fill}
+use Rattle.cep_names.specs.Items.{Source}
+use Rattle.cep_names.specs.Uses.{Placed, placed_of}
+
+-- The file is the raw file of the text's tokens, with never too many parentheses open.
+pub record IsSource (source : Source) : Type 0 where
+  pub tokens : List Token
+  pub lexed : AreTokens source.text tokens
+  pub parsed : File (symbols_of source.text tokens) source.file
+  pub shallow : IsShallow (symbols_of source.text tokens)
+
+-- The nodes of each atom are its arguments.
+abbrev pub AreFilled : Source → Type 0
+AreFilled source = (p : Placed) → Contains (placed_of source) p → Fill p.atom.args p.atom.nodes

@@ -1,0 +1,93 @@
+// The left sides of rules.
+ghost use Rattle.std.specs.Prelude.{◌≡◌, ◌∷◌, ◌++◌, [], if◌then◌else◌, OnOk};
+ghost use Rattle.cep_term.specs.Tree.{atom_of};
+ghost use Rattle.cep_infer.specs.Meaning.{is_back};
+ghost use Rattle.cep_infer.specs.Met.{names_in};
+ghost use Rattle.cep_infer.specs.Built.{IsLeftBuilt};
+
+use crate::declarations::{Declarations, item_at};
+use crate::terms::read_atom;
+use crate::variables::Variables;
+use cep_parse::RawElem;
+use cep_rule::{AtomList, Premise, Premises};
+use cep_term::Atom;
+use std::alloc::{AllocError, Global};
+
+/// The premises of a left side, the linear ones and the backward ones.
+#[derive(Drop)]
+pub(crate) struct LeftSide {
+    pub premises: Premises,
+    pub backs: AtomList,
+}
+
+impl LeftSide {
+    // No premises. It takes no memory.
+    pub(crate) fn new(alloc: Global) -> LeftSide
+        ensures none { result.premises ≡ [] }
+        ensures none_back { result.backs ≡ [] }
+    {
+        LeftSide {
+            premises: Premises::new(alloc),
+            backs: AtomList::new(alloc),
+        }
+    }
+
+    // One premise more.
+    fn push(&mut self, back: bool, kept: bool, atom: Atom) -> Result<(), AllocError>
+        ensures premises { OnOk result (self.new.premises ≡ (if back then self.old.premises else self.old.premises ++ record { atom = atom_of atom; kept = kept } ∷ [])) }
+        ensures backs { OnOk result (self.new.backs ≡ (if back then self.old.backs ++ atom_of atom ∷ [] else self.old.backs)) }
+    {
+        if back {
+            self.backs.push(atom)
+        } else {
+            self.premises.push(Premise { atom, kept })
+        }
+    }
+}
+
+impl<'a> Declarations<'a> {
+    // Whether clauses define the predicate of an atom.
+    fn is_back(&self, atom: &Atom) -> bool
+        ensures { result ≡ is_back self.now (atom_of atom.now) }
+    {
+        match item_at(&self.preds, atom.pred as usize) {
+            Some(pred) => pred.back,
+            None => false,
+        }
+    }
+
+    fn push_premise(
+        &self,
+        variables: &Variables,
+        elem: &RawElem,
+        blanks: &mut u64,
+        left: &mut LeftSide,
+    ) -> Result<(), AllocError>
+        ensures { OnOk result (IsLeftBuilt self.now (names_in variables.now.firsts) (elem.now ∷ []) blanks.old blanks.new left.old left.new) }
+    {
+        match elem {
+            RawElem::Atom { kept, atom } => {
+                let atom = read_atom(self, variables, blanks, atom)?;
+                let back = self.is_back(&atom);
+                left.push(back, *kept, atom)
+            }
+            RawElem::Qui(_) | RawElem::Stage(_) => Ok(()),
+        }
+    }
+
+    // Adds the premises of a left side, before which so many blanks stand.
+    pub(crate) fn push_left(
+        &self,
+        variables: &Variables,
+        side: &[RawElem],
+        blanks: &mut u64,
+        left: &mut LeftSide,
+    ) -> Result<(), AllocError>
+        ensures { OnOk result (IsLeftBuilt self.now (names_in variables.now.firsts) side.now blanks.old blanks.new left.old left.new) }
+    {
+        for elem in side {
+            self.push_premise(variables, elem, blanks, left)?;
+        }
+        Ok(())
+    }
+}

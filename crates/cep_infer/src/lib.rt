@@ -1,0 +1,23 @@
+//! From a program's raw file to its parts: each name is replaced by the number of its declaration,
+//! each term is of the type that is wanted of it, and what is wrong is told at its place.
+#![tactic(auto)]
+
+mod atoms;
+mod clashes;
+mod clauses;
+mod declarations;
+mod draft;
+mod firsts;
+pub mod laws;
+mod left;
+mod listing;
+mod pending;
+mod rules;
+mod signature;
+mod sites;
+mod start;
+mod terms;
+mod variables;
+
+pub use cep_names::Reason;
+pub use draft::{Draft, PlaceLists, Places, Refusal};

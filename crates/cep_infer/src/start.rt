@@ -1,0 +1,102 @@
+// The start state of a text.
+ghost use Rattle.std.specs.Prelude.{◌≡◌, [], IfOk, OnOk};
+ghost use Rattle.cep_parse.specs.declared.raw.RawStart.TheVariants as start;
+ghost use Rattle.cep_term.specs.Multiset.{gathered};
+ghost use Rattle.cep_term.specs.Tree.{IsGroundAtom};
+ghost use Rattle.std.specs.List.{AllByRecursion};
+ghost use Rattle.cep_names.specs.declared.space.Role.TheVariants as role;
+ghost use Rattle.cep_names.specs.Starts.{listed_or, start_atoms};
+ghost use Rattle.cep_names.specs.Uses.{placed, is_context};
+ghost use Rattle.cep_infer.specs.Heads.{AreAtomsBy};
+ghost use Rattle.cep_infer.specs.Meaning.{IsStartBy};
+ghost use Rattle.cep_infer.specs.Met.{names_in};
+ghost use Rattle.cep_infer.specs.Built.{AreBuilt};
+ghost use Rattle.cep_infer.specs.Listed.{trace_item};
+
+use crate::declarations::Declarations;
+use crate::listing::TraceRef;
+use crate::variables::Variables;
+use cep_names::Space;
+use cep_parse::{RawAtom, RawStart};
+use cep_rule::AtomList;
+use cep_term::Bag;
+use std::alloc::{AllocError, Global};
+
+impl<'a> Declarations<'a> {
+    // Whether an atom in braces stands for the atoms of a context.
+    fn is_context(&self, atom: &RawAtom) -> bool
+        ensures { result ≡ is_context self.now (placed role.Start atom.now) }
+    {
+        atom.args == 0
+            && !self.has(Space::Predicates, atom.name)
+            && self.has(Space::Contexts, atom.name)
+    }
+
+    // Adds an atom in braces, or the atoms of the context for which it stands.
+    fn push_listed(
+        &self,
+        none: &Variables,
+        raw: &RawAtom,
+        blanks: &mut u64,
+        atoms: &mut AtomList,
+    ) -> Result<(), AllocError>
+        ensures { OnOk result (AreBuilt self.now (names_in none.now.firsts) (listed_or (is_context self.now (placed role.Start raw.now)) self.now raw.now) blanks.old blanks.new atoms.old atoms.new) }
+    {
+        if self.is_context(raw) {
+            return self.push_atoms(none, self.context(raw.name), blanks, atoms);
+        }
+        self.push_atom(none, raw, blanks, atoms)
+    }
+
+    fn push_all_listed(
+        &self,
+        none: &Variables,
+        raws: &[RawAtom],
+        blanks: &mut u64,
+        atoms: &mut AtomList,
+    ) -> Result<(), AllocError>
+        ensures { OnOk result (AreBuilt self.now (names_in none.now.firsts) (start_atoms self.now (start.Listed raws.now)) blanks.old blanks.new atoms.old atoms.new) }
+    {
+        for raw in raws {
+            self.push_listed(none, raw, blanks, atoms)?;
+        }
+        Ok(())
+    }
+
+    // The atoms of a start state, each a copy. They have no variables.
+    fn start_atoms(&self, start: &RawStart) -> Result<AtomList, AllocError>
+        ensures { IfOk result (λ atoms. AreAtomsBy self.now [] 0 (start_atoms self.now start.now) atoms) }
+    {
+        let none = Variables::new(self.alloc);
+        let mut blanks = 0;
+        let mut atoms = AtomList::new(self.alloc);
+        match start {
+            RawStart::Named(name) => {
+                self.push_atoms(&none, self.context(*name), &mut blanks, &mut atoms)?;
+            }
+            RawStart::Listed(raws) => {
+                self.push_all_listed(&none, raws.as_slice(), &mut blanks, &mut atoms)?;
+            }
+        }
+        Ok(atoms)
+    }
+}
+
+// The multiset of ground atoms.
+fn gather(alloc: Global, atoms: &AtomList) -> Result<Bag, AllocError>
+    requires { AllByRecursion IsGroundAtom atoms.now }
+    ensures { IfOk result (λ bag. bag ≡ gathered atoms.now) }
+{
+    let mut bag = Bag::new(alloc);
+    let mut left = atoms.len();
+    while left > 0 {
+        left -= 1;
+        let atom = atoms.get(left);
+        if bag.count(atom) == u32::MAX || bag.copies() == u64::MAX {
+            // No memory holds so many atoms.
+            return Err(AllocError);
+        }
+        bag.add(atom)?;
+    }
+    Ok(bag)
+}

@@ -1,0 +1,106 @@
+// From the nodes of an atom, which stand in prefix order, to its tree.
+ghost use Rattle.std.specs.Prelude.{◌≡◌, ◌++◌, ◌≤◌, ◌<◌, length, drop, IfOk, OnOk};
+ghost use Rattle.cep_term.specs.Tree.{atom_of, tree_of, trees_of};
+ghost use Rattle.cep_names.specs.Variables.{blanks_behind};
+ghost use Rattle.cep_infer.specs.Heads.{IsAtomBy, heads_of, heads_among, heads_from, count_of, blanks_after};
+ghost use Rattle.cep_infer.specs.Met.{names_in};
+
+use crate::declarations::Declarations;
+use crate::variables::{Variables, next_blank};
+use cep_names::Space;
+use cep_parse::{RawAtom, RawKind, RawNode};
+use cep_term::{Args, Atom, Term};
+use std::alloc::AllocError;
+
+/// Where the nodes of an atom are read: the place of the next node, and how many blanks stand
+/// before it in its rule or clause.
+#[derive(Clone, Copy, Debug, Drop)]
+pub(crate) struct Cursor {
+    pub at: usize,
+    pub blanks: u64,
+}
+
+// How many blanks there are behind a node.
+pub(crate) fn blanks_behind(blanks: u64, kind: RawKind) -> Result<u64, AllocError>
+    ensures { IfOk result (λ behind. behind ≡ blanks_behind blanks kind) }
+{
+    match kind {
+        RawKind::Blank => next_blank(blanks),
+        RawKind::App | RawKind::Var => Ok(blanks),
+    }
+}
+
+// The next term.
+#[cycle(terms)]
+fn read_term(
+    declared: &Declarations,
+    variables: &Variables,
+    nodes: &[RawNode],
+    cursor: &mut Cursor,
+) -> Result<Term, AllocError>
+    ensures heads { IfOk result (λ term. heads_from declared.now (names_in variables.now.firsts) cursor.old.blanks (drop cursor.old.at nodes.now) ≡ heads_of (tree_of term) ++ heads_from declared.now (names_in variables.now.firsts) cursor.new.blanks (drop cursor.new.at nodes.now)) }
+    ensures blanks { OnOk result (blanks_after cursor.old.blanks (drop cursor.old.at nodes.now) ≡ blanks_after cursor.new.blanks (drop cursor.new.at nodes.now)) }
+    ensures further { OnOk result (cursor.old.at < cursor.new.at) }
+    ensures within { OnOk result (cursor.new.at ≤ length nodes.now) }
+{
+    // In a text without wrong names the nodes do not run out.
+    let node = nodes.get(cursor.at).ok_or(AllocError)?;
+    let number = variables.head(declared, cursor.blanks, node)?;
+    cursor.blanks = blanks_behind(cursor.blanks, node.kind)?;
+    cursor.at += 1;
+    match node.kind {
+        RawKind::App => {
+            let args = read_args(declared, variables, nodes, cursor, node.args)?;
+            Ok(Term::App(number, Box::new(declared.alloc, args)?))
+        }
+        RawKind::Var | RawKind::Blank => Ok(Term::Var(number)),
+    }
+}
+
+// So many terms.
+#[cycle(terms)]
+fn read_args(
+    declared: &Declarations,
+    variables: &Variables,
+    nodes: &[RawNode],
+    cursor: &mut Cursor,
+    count: u32,
+) -> Result<Args, AllocError>
+    ensures heads { IfOk result (λ args. heads_from declared.now (names_in variables.now.firsts) cursor.old.blanks (drop cursor.old.at nodes.now) ≡ heads_among (trees_of args) ++ heads_from declared.now (names_in variables.now.firsts) cursor.new.blanks (drop cursor.new.at nodes.now)) }
+    ensures count { IfOk result (λ args. count_of (trees_of args) ≡ count) }
+    ensures blanks { OnOk result (blanks_after cursor.old.blanks (drop cursor.old.at nodes.now) ≡ blanks_after cursor.new.blanks (drop cursor.new.at nodes.now)) }
+    ensures further { OnOk result (cursor.old.at ≤ cursor.new.at) }
+    ensures within { cursor.old.at ≤ length nodes.now → OnOk result (cursor.new.at ≤ length nodes.now) }
+{
+    if count == 0 {
+        return Ok(Args::Nil);
+    }
+    let term = read_term(declared, variables, nodes, cursor)?;
+    let rest = read_args(declared, variables, nodes, cursor, count - 1)?;
+    Ok(Args::Cons(term, Box::new(declared.alloc, rest)?))
+}
+
+// The atom that is written, where so many blanks stand before it.
+pub(crate) fn read_atom(
+    declared: &Declarations,
+    variables: &Variables,
+    blanks: &mut u64,
+    raw: &RawAtom,
+) -> Result<Atom, AllocError>
+    ensures atom { IfOk result (λ atom. IsAtomBy declared.now (names_in variables.now.firsts) blanks.old raw.now (atom_of atom)) }
+    ensures blanks { OnOk result (blanks.new ≡ blanks_after blanks.old raw.now.nodes) }
+{
+    let pred = declared.number(Space::Predicates, raw.name)?;
+    let nodes = raw.nodes.as_slice();
+    let mut cursor = Cursor {
+        at: 0,
+        blanks: *blanks,
+    };
+    let args = read_args(declared, variables, nodes, &mut cursor, raw.args)?;
+    if cursor.at < nodes.len() {
+        // In a text without wrong names no node is left.
+        return Err(AllocError);
+    }
+    *blanks = cursor.blanks;
+    Ok(Atom { pred, args })
+}
