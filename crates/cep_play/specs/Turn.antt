@@ -76,7 +76,7 @@ pub record Fails (program : Parts) (offers : List Offer) (place : ℕ) (word : E
 -- What the choice of a place comes to, in a configuration: the step is done, or it would pass a limit and the run ends here.
 abbrev pub IsActed : {C M : Type 0} → (C → Option (List Event)) → (C → Option (List ℕ)) → C → C → Parts → List Offer → ℕ → Configuration M → Turned M → Type 0
 IsActed talk left old new program offers place config (Done next) =
-    Did talk left old new (Acts program offers place (position_of config) (position_of next))
+    Did talk left old new (Acts program offers place (position_of config) (position_of next)) × (next.turns ≡ config.turns + 1)
 IsActed talk left old new program offers place config (Over last) =
     Did talk left old new (Fails program offers place last.word (position_of config)) × (last.config ≡ config)
 
