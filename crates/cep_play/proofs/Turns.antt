@@ -1,6 +1,7 @@
 -- Each way through a turn is a case of a talk.
-use Rattle.std.proofs.Common.{◌≡◌, ℕ, zero, suc, ◌+◌, ◌-◌, ◌<◌, ◌≤◌, List, [], ◌∷◌, ◌++◌, length, get_or, inl, inr, refl, sym, ap, ◌∙◌, subst, arith, append_assoc, Option, None, Some, unwrap_or}
-use Rattle.std.specs.Prelude.{slice_get, Contains, All, IsSomeAnd}
+use Rattle.std.proofs.Common.{◌≡◌, ℕ, zero, suc, ◌+◌, ◌-◌, ◌<◌, ◌≤◌, List, [], ◌∷◌, ◌++◌, length, get_or, inl, inr, refl, sym, ap, ◌∙◌, subst, arith, append_assoc, Option, None, Some, unwrap_or, ◌*◌, Bool, true, false}
+use Rattle.std.specs.Prelude.{slice_get, Contains, All, IsSomeAnd, IsTrue, ◌↔◌, nat_lt}
+use borrow.Author.Tests.{ltb-true, ltb-false}
 use Rattle.std.specs.List.{AllByRecursion}
 use Rattle.std.proofs.lemmas.List.{append-nil, get_or_default}
 use Rattle.std.proofs.lemmas.Option.{slice_get_within, get_or_from_slice_get}
@@ -23,7 +24,7 @@ use Rattle.cep_ground.specs.Refusals.{IsPlainRule, IsBuilt}
 use Rattle.cep_machine.specs.declared.stepped.Which.{Which}
 use Rattle.cep_machine.specs.declared.stepped.Which.TheVariants as which
 use Rattle.cep_machine.specs.Configuration.{Configuration}
-use Rattle.cep_machine.specs.Asking.{asked_offers}
+use Rattle.cep_machine.specs.Asking.{asked_offers, IsAskedIn}
 use Rattle.cep_machine.specs.Passing.{IsTooLarge, IsFirstTooLarge, IsTooFull}
 use Rattle.cep_machine.specs.Stepping as machine
 use Rattle.cep_machine.specs.Stepping.{IsNext, Passes}
@@ -79,6 +80,21 @@ are_asked program group height held lists config high same are listed asked = re
   offered = subst (λ h. AreOffers program h config.state group (offers_of lists group)) high
       (subst (λ s. AreOffers program height s group (offers_of lists group)) same (are.each group listed));
 }
+
+-- the group that is asked has a list
+pub group_listed : (lists : List (List Offer)) (stage group : ℕ) → IsAskedIn lists stage group → 2 * stage + 1 < length lists → group < length lists
+group_listed lists stage group (inl own) low = let same = own.0 in omega arith
+group_listed lists stage group (inr leaving) low = let same = leaving.0 in omega arith
+
+true_false : {A : Type 0} → false ≡ true → A
+true_false e = cc
+
+-- there are too many, or there are not
+pub too_many : (ok : Bool) (n most : ℕ) → (IsTrue ok ↔ (n ≤ most)) → ok ≡ false → most < n
+too_many ok n most iff not = elim (nat_lt most n) as (λ t. nat_lt most n ≡ t → most < n) [
+  | true ↦ λ e. ltb-true most n e
+  | false ↦ λ e. true_false (sym not ∙ iff.1 (ltb-false most n e))
+] refl
 
 -- Steps
 
