@@ -6,3 +6,4 @@ pub mod LineRead
 pub mod OneReading
 pub mod States
 pub mod Turns
+pub mod Runs

@@ -81,8 +81,8 @@ pub data Talk (program : Parts) (height limit : ℕ) : Position → List ℕ →
       → Ends program Quiet at events ending
       → Talk program height limit at come taken events ending
   -- all turns are done
-  turns : {at : Position} {come : List ℕ} {taken : ℕ} {events : List Event} {ending : Ending} (offers : List Offer)
-      → AreAsked program height at offers → at.turns ≡ limit
+  turns : {at : Position} {come : List ℕ} {taken : ℕ} {events : List Event} {ending : Ending} (group : ℕ)
+      → IsAsked program height at.state at.stage group → at.turns ≡ limit
       → Ends program Turns at events ending
       → Talk program height limit at come taken events ending
   -- the offers are too many

@@ -86,11 +86,16 @@ fn all_turns<C: Console, M: Matcher, L: Ledger>(
             Turned::Over(end) => return Ok(end),
         };
     }
-    let word = match config.asked() {
-        Some(_) => EndWord::Turns,
-        None => EndWord::Quiet,
-    };
-    Ok(Ended { config, word })
+    match config.asked() {
+        Some(_) => Ok(Ended {
+            config,
+            word: EndWord::Turns,
+        }),
+        None => Ok(Ended {
+            config,
+            word: EndWord::Quiet,
+        }),
+    }
 }
 
 /// Writes the header of a transcript.
