@@ -7,3 +7,5 @@ pub mod OneReading
 pub mod States
 pub mod Turns
 pub mod Runs
+pub mod OneTalk
+pub mod Commands
