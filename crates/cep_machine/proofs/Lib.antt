@@ -1,0 +1,9 @@
+pub mod Lists
+pub mod SizesOf
+pub mod Bags
+pub mod Asked
+pub mod Premises
+pub mod Weights
+pub mod Ranges
+pub mod Ready
+pub mod Entries

@@ -1,0 +1,256 @@
+-- What is known of a rule with values that apply to a state.
+use Rattle.std.proofs.Common.{◌≡◌, ◌⊎◌, inl, inr, ℕ, zero, suc, ◌+◌, ◌-◌, ◌*◌, ◌<◌, ◌≤◌, ◌^◌, true, false, cond, List, [], ◌∷◌, ◌++◌, length, map, Option, Some, None, unwrap_or, refl, sym, ap, subst, ◌∙◌, arith}
+use Rattle.std.specs.Prelude.{slice_get, slice_index_or, filter, IfSome, Contains}
+use Rattle.std.specs.List.{AllByRecursion}
+use Rattle.std.proofs.lemmas.List.{map-append, length-map}
+use Rattle.std.proofs.lemmas.Option.{slice_get_within}
+use Rattle.cep_term.specs.declared.term.TheConstants.{MAX_NODES}
+use Rattle.cep_term.specs.Tree.{Tree, AtomTree, nodes_in, nodes_of, IsGroundAtom, IsFit, IsAtomInRange}
+use Rattle.cep_term.specs.Multiset.{Multiset, count_of, gathered, sum_of, difference_of, nodes_in_all, IsContained, IsBag}
+use Rattle.cep_rule.specs.declared.signature.Signature.{Signature}
+use Rattle.cep_rule.specs.declared.rule.Rule.{Rule}
+use Rattle.cep_rule.specs.declared.parts.Parts.{Parts}
+use Rattle.cep_rule.specs.declared.offer.Offer.{Offer}
+use Rattle.cep_rule.specs.declared.limits.TheConstants.{MOST_PATTERN_NODES}
+use Rattle.cep_rule.specs.Typing.{IsTyped, IsLinear, AreValues}
+use Rattle.cep_rule.specs.Limits.{IsSmallRule, IsSmallPattern}
+use Rattle.cep_rule.specs.Binding.{needed_of, IsBoundRule, OccursInSome}
+use Rattle.cep_rule.specs.State.{IsFact, IsState, Fits}
+use Rattle.cep_rule.specs.Instances.{instance_by, instances_by, kept_of, left_of}
+use Rattle.cep_rule.specs.Patterns.{PremiseTree}
+use Rattle.cep_rule.specs.Program.{IsTypedRule, IsDividedRule, IsProgram}
+use Rattle.cep_rule.specs.Offers.{Applies, AreOffers}
+use Rattle.cep_rule.specs.Matching.{offers_of, AreListed, state_after}
+use Rattle.cep_rule.specs.Step.{Step}
+use Rattle.cep_machine.specs.declared.stepped.Which.{Which}
+use Rattle.cep_machine.specs.declared.stepped.Which.TheVariants.{Atom, State}
+use Rattle.cep_machine.specs.declared.weighing.Weighed.TheVariants.{TooMuch, Within}
+use Rattle.cep_machine.specs.Configuration.{Configuration}
+use Rattle.cep_machine.specs.Changing.{CanChange}
+use Rattle.cep_machine.specs.Asking.{asked_offers}
+use Rattle.cep_machine.specs.Stepping.{added_by, IsChosen, Passes, IsNext}
+use Rattle.cep_machine.specs.Sizes.{IsSmallValue, IsMeasurable}
+use Rattle.cep_machine.specs.Weighing.{atoms_of, next_state, CanWeigh, IsWeighed}
+use Rattle.cep_machine.specs.StepLaws.{StepLaws}
+use Rattle.cep_machine.proofs.Lists.{none_some, some_same, all_at, all_weaker, all_mapped, all_joined}
+use Rattle.cep_machine.proofs.Bags.{of_gathered, all_contained}
+use Rattle.cep_machine.proofs.SizesOf.{IsBelow, instance_bounded}
+use Rattle.cep_machine.proofs.Premises.{kept_in, nothing_more}
+use Rattle.cep_machine.proofs.Ranges.{atom_in_range, as_many_values, small_values}
+
+-- A rule with values that apply to a state.
+pub record IsReady (program : Parts) (state : Multiset) (rule : Rule) (values : List Tree) : Type 0 where
+  pub typed : IsTypedRule program.signature rule
+  pub divided : IsDividedRule program.signature rule
+  pub small : IsSmallRule rule
+  pub bound : IsBoundRule rule
+  pub alone : rule.backs ≡ []
+  pub next : IfSome rule.next (λ stage. stage < length program.stages)
+  pub are : AreValues program.signature.cons rule.kinds values
+  pub contained : IsContained (left_of rule values) state
+
+same_some : {A : Type 0} (o : Option A) (x y : A) → o ≡ Some x → o ≡ Some y → x ≡ y
+same_some o x y e f = cc
+
+at_place : {A : Type 0} (xs : List A) (n : ℕ) (x : A) → slice_get xs n ≡ Some x → slice_index_or xs n x ≡ x
+at_place [] n x is = none_some x is
+at_place (y ∷ xs) zero x is = some_same y x is
+at_place (y ∷ xs) (suc n) x is = at_place xs n x is
+
+-- a group that has an offer is listed
+pub group_listed : (lists : List (List Offer)) (group place : ℕ) (offer : Offer) → slice_get (offers_of lists group) place ≡ Some offer → group < length lists
+group_listed [] group place offer is = none_some offer is
+group_listed (offers ∷ lists) zero place offer is = omega arith
+group_listed (offers ∷ lists) (suc group) place offer is = let rest = group_listed lists group place offer is in omega arith
+
+-- an offer that is listed applies
+pub offer_applies : (program : Parts) (height : ℕ) (held state : Multiset) (lists : List (List Offer)) (group place : ℕ) (offer : Offer) → AreListed program height held lists → held ≡ state → slice_get (offers_of lists group) place ≡ Some offer → Applies program height state offer
+offer_applies program height held state lists group place offer are same is =
+    subst (λ s. Applies program height s offer) same
+    ((are.each group (group_listed lists group place offer is)).no_other offer (place, (slice_get_within (offers_of lists group) place offer is), (at_place (offers_of lists group) place offer is))).applies
+
+pub ready : (program : Parts) (height : ℕ) (state : Multiset) (offer : Offer) (rule : Rule) → IsProgram program → Applies program height state offer → slice_get program.rules offer.rule ≡ Some rule → IsReady program state rule offer.values
+ready program height state offer rule kept applies numbered =
+    let n = offer.rule in
+    let same : applies.rule ≡ rule = same_some (slice_get program.rules n) applies.rule rule applies.numbered numbered in
+    record {
+      typed = all_at (IsTypedRule program.signature) program.rules n rule kept.typed_rules numbered;
+      divided = all_at (IsDividedRule program.signature) program.rules n rule kept.divided_rules numbered;
+      small = all_at IsSmallRule program.rules n rule kept.small.each_rule numbered;
+      bound = all_at IsBoundRule program.rules n rule kept.bound_rules numbered;
+      alone = all_at (λ (r : Rule). r.backs ≡ []) program.rules n rule kept.no_backs numbered;
+      next = all_at (λ (r : Rule). IfSome r.next (λ stage. stage < length program.stages)) program.rules n rule kept.in_range.next_stages numbered;
+      are = subst (λ (r : Rule). AreValues program.signature.cons r.kinds offer.values) same applies.values;
+      contained = subst (λ (r : Rule). IsContained (left_of r offer.values) state) same applies.contained;
+    }
+
+-- the stage after a step is one of the program's
+pub stage_in_range : (stages stage : ℕ) (next : Option ℕ) → stage < stages → IfSome next (λ other. other < stages) → unwrap_or next stage < stages
+stage_in_range stages stage None within next = within
+stage_in_range stages stage (Some other) within next = next
+
+-- what holds of the instances of all premises holds of those that are kept
+all_kept : (P : AtomTree → Type 0) (values : List Tree) (premises : List PremiseTree) → AllByRecursion P (instances_by values (atoms_of premises)) → AllByRecursion P (instances_by values (kept_in premises))
+all_kept P values [] all = tt
+all_kept P values (premise ∷ premises) all =
+    let rest = all_kept P values premises all.1 in
+    let others = filter (λ (other : PremiseTree). other.kept) premises in
+    elim premise.kept as (λ t. AllByRecursion P (instances_by values (atoms_of (cond t (premise ∷ others) others)))) [ true ↦ (all.0, rest) | false ↦ rest ]
+
+small_atoms : (premises : List PremiseTree) → AllByRecursion (λ premise. IsSmallPattern premise.atom) premises → AllByRecursion IsSmallPattern (atoms_of premises)
+small_atoms [] small = tt
+small_atoms (premise ∷ premises) small = (small.0, (small_atoms premises small.1))
+
+measurable_all : (signature : Signature) (kinds : List ℕ) (values : List Tree) → length values ≡ length kinds → AllByRecursion IsSmallValue values → (atoms : List AtomTree) → AllByRecursion (IsTyped signature kinds) atoms → AllByRecursion IsSmallPattern atoms → AllByRecursion (IsMeasurable values) atoms
+measurable_all signature kinds values many all [] typed small = tt
+measurable_all signature kinds values many all (a ∷ atoms) typed small = (
+  (record {
+    in_range = subst (λ n. IsAtomInRange n a) (sym many) (atom_in_range signature kinds a typed.0);
+    nodes =
+        let most = instance_bounded MAX_NODES values (omega arith) (all_weaker IsSmallValue (IsBelow MAX_NODES) values (λ t (h : IsSmallValue t). h.nodes) all) a in
+        let few = small.0 in
+        omega arith;
+  }),
+  (measurable_all signature kinds values many all atoms typed.1 small.1),
+)
+
+right_facts_of : (laws : StepLaws) (signature : Signature) (kinds : List ℕ) (values : List Tree) → AreValues signature.cons kinds values → (atoms : List AtomTree) → AllByRecursion (IsTyped signature kinds) atoms → AllByRecursion (IsLinear signature) atoms → AllByRecursion IsFit (instances_by values atoms) → AllByRecursion (IsFact signature) (instances_by values atoms)
+right_facts_of laws signature kinds values are [] typed linear fit = tt
+right_facts_of laws signature kinds values are (a ∷ atoms) typed linear fit = (
+  (record {
+    ground = laws.ground signature kinds values a are typed.0;
+    typed = laws.typed signature kinds values a are typed.0;
+    linear = linear.0;
+    fit = fit.0;
+  }),
+  (right_facts_of laws signature kinds values are atoms typed.1 linear.1 fit.1),
+)
+
+module _ (laws : StepLaws) (program : Parts) (state : Multiset) (rule : Rule) (values : List Tree) (is : IsReady program state rule values) (facts : IsState program.signature state) (fits : Fits state) where
+  needed_facts : AllByRecursion (IsFact program.signature) (instances_by values (needed_of rule))
+  needed_facts = all_contained laws.bags (IsFact program.signature) (instances_by values (needed_of rule)) state is.contained facts.facts
+
+  needed_fit : AllByRecursion IsFit (instances_by values (needed_of rule))
+  needed_fit = all_weaker (IsFact program.signature) IsFit (instances_by values (needed_of rule)) (λ a (fact : IsFact program.signature a). fact.fit) needed_facts
+
+  many_values : length values ≡ length rule.kinds
+  many_values = as_many_values program.signature.cons rule.kinds values is.are
+
+  all_small : AllByRecursion IsSmallValue values
+  all_small = small_values program.signature.cons rule.kinds values (needed_of rule) is.are
+      (λ v within.
+      let many = many_values in
+      let vars = is.typed.kinds in
+      subst (OccursInSome v) (ap (λ (backs : List AtomTree). needed_of rule ++ backs) is.alone ∙ nothing_more (needed_of rule)) (is.bound v (omega arith)))
+      needed_fit
+
+  pub needed_in_range : AllByRecursion (IsAtomInRange (length values)) (needed_of rule)
+  needed_in_range = all_weaker (IsTyped program.signature rule.kinds) (IsAtomInRange (length values)) (needed_of rule)
+      (λ a typed. subst (λ n. IsAtomInRange n a) (sym many_values) (atom_in_range program.signature rule.kinds a typed)) is.typed.premises
+
+  pub right_in_range : AllByRecursion (IsAtomInRange (length values)) rule.right
+  right_in_range = all_weaker (IsTyped program.signature rule.kinds) (IsAtomInRange (length values)) rule.right
+      (λ a typed. subst (λ n. IsAtomInRange n a) (sym many_values) (atom_in_range program.signature rule.kinds a typed)) is.typed.right
+
+  pub can_weigh : CanWeigh rule values state
+  can_weigh = record {
+    small_values = all_small;
+    premises = measurable_all program.signature rule.kinds values many_values all_small (needed_of rule) is.typed.premises (small_atoms rule.premises is.small.premise_nodes);
+    right = measurable_all program.signature rule.kinds values many_values all_small rule.right is.typed.right is.small.right_nodes;
+    needed_fit = needed_fit;
+    few_premises = is.small.premises;
+    few_right = is.small.right;
+    bag = facts.bag;
+    left_bag = laws.left_bag program.signature rule values is.typed is.are;
+    fits = fits;
+    contained = is.contained;
+  }
+
+  right_facts : AllByRecursion IsFit (instances_by values rule.right) → AllByRecursion (IsFact program.signature) (instances_by values rule.right)
+  right_facts fit = right_facts_of laws program.signature rule.kinds values is.are rule.right is.typed.right is.divided.right fit
+
+  added_facts : AllByRecursion IsFit (instances_by values rule.right) → AllByRecursion (IsFact program.signature) (added_by rule values)
+  added_facts fit =
+      subst (AllByRecursion (IsFact program.signature)) (sym (map-append (instance_by values) rule.right (kept_of rule)))
+      (all_joined (IsFact program.signature) (instances_by values rule.right) (instances_by values (kept_of rule)) (right_facts fit) (all_kept (IsFact program.signature) values rule.premises needed_facts))
+
+  pub left_ground : AllByRecursion IsGroundAtom (instances_by values (needed_of rule))
+  left_ground = all_weaker (IsFact program.signature) IsGroundAtom (instances_by values (needed_of rule)) (λ a (fact : IsFact program.signature a). fact.ground) needed_facts
+
+  pub added_ground : AllByRecursion IsFit (instances_by values rule.right) → AllByRecursion IsGroundAtom (added_by rule values)
+  added_ground fit = all_weaker (IsFact program.signature) IsGroundAtom (added_by rule values) (λ a (fact : IsFact program.signature a). fact.ground) (added_facts fit)
+
+  pub few_left : length (instances_by values (needed_of rule)) ≡ length rule.premises
+  few_left = length-map (needed_of rule) (instance_by values) ∙ length-map rule.premises (λ premise. premise.atom)
+
+  pub next_facts : AllByRecursion IsFit (instances_by values rule.right) → IsState program.signature (next_state rule values state)
+  next_facts fit = record {
+    bag = laws.bags.sum_kept (difference_of state (left_of rule values)) (gathered (added_by rule values))
+        (laws.bags.difference_kept state (left_of rule values) facts.bag (laws.left_bag program.signature rule values is.typed is.are))
+        (laws.bags.gathered_kept (added_by rule values) (added_ground fit));
+    facts = λ a some. by a some (count_of state a) refl;
+  }
+    where
+      by : (a : AtomTree) → 0 < count_of (next_state rule values state) a → (n : ℕ) → count_of state a ≡ n → IsFact program.signature a
+      by a some zero none =
+          let sum = laws.bags.sum (difference_of state (left_of rule values)) (gathered (added_by rule values)) a in
+          let less = laws.bags.difference state (left_of rule values) a in
+          of_gathered laws.bags (IsFact program.signature) (added_by rule values) (added_facts fit) a (omega arith)
+      by a some (suc n) is_there = facts.facts a (omega arith)
+
+-- the rule and the values that are chosen are those of the offer at the place
+pub chosen_once : (program : Parts) (lists : List (List Offer)) (stage place : ℕ) (offers : List Offer) (offer : Offer) (rule : Rule) → offers ≡ asked_offers lists stage → slice_get offers place ≡ Some offer → slice_get program.rules offer.rule ≡ Some rule → (P : Rule → List Tree → Type 0) → P rule offer.values → (other : Rule) (values : List Tree) → IsChosen program lists stage place other values → P other values
+chosen_once program lists stage place offers offer rule same is numbered P holds other values chosen =
+    let one : offer ≡ record { rule = chosen.number; values = values } = same_some (slice_get offers place) offer (record { rule = chosen.number; values = values }) is (ap (λ (os : List Offer). slice_get os place) same ∙ chosen.offered) in
+    let rules : rule ≡ other = same_some (slice_get program.rules offer.rule) rule other numbered (ap (λ (o : Offer). slice_get program.rules o.rule) one ∙ chosen.numbered) in
+    subst (λ (r : Rule). P r values) rules (subst (P rule) (ap (λ (o : Offer). o.values) one) holds)
+
+-- a limit that is told from sizes is passed by a step
+pub passes : (rule : Rule) (values : List Tree) (state : Multiset) (which : Which) (number : ℕ) → Step rule values state (next_state rule values state) → IsWeighed rule values state (TooMuch which number) → Passes rule values state which number
+passes rule values state Atom number step weighed = weighed
+passes rule values state State number step weighed = (weighed.0, (next_state rule values state, step, weighed.1))
+
+-- what holds of the group that is asked
+pub of_asked : (Q : ℕ → Type 0) (o : Option ℕ) (group : ℕ) → IfSome o Q → o ≡ Some group → Q group
+of_asked Q None group all is = none_some group is
+of_asked Q (Some other) group all is = subst Q (some_same other group is) all
+
+pub ready_offer : (program parts : Parts) (height : ℕ) (held state : Multiset) (lists : List (List Offer)) (group place : ℕ) (offer : Offer) (rule : Rule) → IsProgram program → parts ≡ program → AreListed program height held lists → held ≡ state → slice_get (offers_of lists group) place ≡ Some offer → slice_get parts.rules offer.rule ≡ Some rule → IsReady program state rule offer.values
+ready_offer program parts height held state lists group place offer rule kept whole are same is numbered =
+    ready program height state offer rule kept (offer_applies program height held state lists group place offer are same is) (ap (λ (p : Parts). slice_get p.rules offer.rule) (sym whole) ∙ numbered)
+
+module _ (laws : StepLaws) (program : Parts) (state : Multiset) (rule : Rule) (values : List Tree) (is : IsReady program state rule values) (facts : IsState program.signature state) (fits : Fits state) (nodes : ℕ) (weighed : IsWeighed rule values state (Within nodes)) where
+  -- the change of a step that is within the limits can be made
+  pub can_change : IsProgram program → (stage : ℕ) → stage < length program.stages → (left added : List AtomTree) → left ≡ instances_by values (needed_of rule) → added ≡ added_by rule values → CanChange program state (record { stage = stage; nodes = nodes; left = left; added = added })
+  can_change kept stage within left added same_left same_added =
+      subst (λ (atoms : List AtomTree). CanChange program state (record { stage = stage; nodes = nodes; left = atoms; added = added })) (sym same_left)
+      (subst (λ (atoms : List AtomTree). CanChange program state (record { stage = stage; nodes = nodes; left = instances_by values (needed_of rule); added = atoms })) (sym same_added)
+      (record {
+        stage = within;
+        low = let most = kept.small.stages in omega arith;
+        left = left_ground laws program state rule values is facts fits;
+        added = added_ground laws program state rule values is facts fits weighed.0;
+        few = let many = few_left laws program state rule values is facts fits in let most = is.small.premises in omega arith;
+        contained = is.contained;
+        facts = next_facts laws program state rule values is facts fits weighed.0;
+        fits = weighed.1;
+        nodes = weighed.2;
+      }))
+
+  -- what the change leads to is the configuration after the step
+  pub is_next : {M : Type 0} (old new : Configuration M) (left added : List AtomTree) → old.state ≡ state → left ≡ instances_by values (needed_of rule) → added ≡ added_by rule values → new.state ≡ state_after old.state (gathered left) added → new.stage ≡ unwrap_or rule.next old.stage → new.turns ≡ old.turns + 1 → IsNext rule values old new
+  is_next old new left added same same_left same_added after stage turns =
+      let state' : new.state ≡ next_state rule values state =
+          after
+          ∙ ap (λ (bag : Multiset). state_after bag (gathered left) added) same
+          ∙ ap (λ (atoms : List AtomTree). state_after state (gathered atoms) added) same_left
+          ∙ ap (λ (atoms : List AtomTree). state_after state (left_of rule values) atoms) same_added in
+      record {
+        fit = weighed.0;
+        step =
+            subst (λ (bag : Multiset). Step rule values bag new.state) (sym same)
+            (subst (λ (bag : Multiset). Step rule values state bag) (sym state') (laws.edit program.signature rule values state is.typed is.are facts.bag is.contained));
+        fits = subst Fits (sym state') weighed.1;
+        stage = stage;
+        turns = turns;
+      }

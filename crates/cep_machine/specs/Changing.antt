@@ -1,0 +1,22 @@
+-- Changes of a configuration.
+use Rattle.std.specs.Prelude.{◌≡◌, ◌<◌, ◌≤◌, length}
+use Rattle.std.specs.List.{AllByRecursion}
+use Rattle.cep_term.specs.Tree.{IsGroundAtom}
+use Rattle.cep_term.specs.Multiset.{Multiset, gathered, nodes_in_all, IsContained}
+use Rattle.cep_rule.specs.declared.parts.Parts.{Parts}
+use Rattle.cep_rule.specs.declared.limits.TheConstants.{MOST_PREMISES, MOST_STAGES}
+use Rattle.cep_rule.specs.State.{IsState, Fits}
+use Rattle.cep_rule.specs.Matching.{state_after}
+use Rattle.cep_machine.specs.declared.changing.Change.{Change}
+
+-- A change that can be made: the atoms that it takes are there, and it leads to a stage of the program and to a state of it that fits, whose nodes it says.
+pub record CanChange (program : Parts) (state : Multiset) (change : Change) : Type 0 where
+  pub stage : change.stage < length program.stages
+  pub low : change.stage < MOST_STAGES
+  pub left : AllByRecursion IsGroundAtom change.left
+  pub added : AllByRecursion IsGroundAtom change.added
+  pub few : length change.left ≤ MOST_PREMISES
+  pub contained : IsContained (gathered change.left) state
+  pub facts : IsState program.signature (state_after state (gathered change.left) change.added)
+  pub fits : Fits (state_after state (gathered change.left) change.added)
+  pub nodes : change.nodes ≡ nodes_in_all (state_after state (gathered change.left) change.added)

@@ -1,0 +1,57 @@
+-- What a step of a configuration comes to.
+use Rattle.std.specs.Prelude.{◌≡◌, ℕ, ◌+◌, List, ◌++◌, Some, slice_get, unwrap_or}
+use Rattle.std.specs.List.{AllByRecursion}
+use Rattle.cep_term.specs.Tree.{Tree, AtomTree, IsFit}
+use Rattle.cep_term.specs.Multiset.{Multiset}
+use Rattle.cep_rule.specs.declared.rule.Rule.{Rule}
+use Rattle.cep_rule.specs.declared.parts.Parts.{Parts}
+use Rattle.cep_rule.specs.declared.offer.Offer.{Offer}
+use Rattle.cep_rule.specs.State.{Fits}
+use Rattle.cep_rule.specs.Instances.{instances_by, kept_of}
+use Rattle.cep_rule.specs.Step.{Step}
+use Rattle.cep_rule.specs.Matching.{Rose}
+use Rattle.cep_machine.specs.declared.stepped.Which.{Which}
+use Rattle.cep_machine.specs.declared.stepped.Which.TheVariants.{Atom, State}
+use Rattle.cep_machine.specs.declared.stepped.Stepped.{Stepped}
+use Rattle.cep_machine.specs.declared.stepped.Stepped.TheVariants.{Done, Limit}
+use Rattle.cep_machine.specs.Configuration.{Configuration}
+use Rattle.cep_machine.specs.Asking.{asked_offers}
+use Rattle.cep_machine.specs.Passing.{IsFirstTooLarge, IsTooFull}
+
+-- The offer at this place among those that a stage asks is of this rule, with these values for its variables.
+pub record IsChosen (program : Parts) (lists : List (List Offer)) (stage place : ℕ) (rule : Rule) (values : List Tree) : Type 0 where
+  pub number : ℕ
+  pub offered : slice_get (asked_offers lists stage) place ≡ Some (record { rule = number; values = values })
+  pub numbered : slice_get program.rules number ≡ Some rule
+
+-- the atoms that a step adds: the right ones in written order, and then those of the premises that are kept
+abbrev pub added_by : Rule → List Tree → List AtomTree
+added_by rule values = instances_by values (rule.right ++ kept_of rule)
+
+-- The configuration after a step: all right atoms are fit, the state is the one after the step and fits, the stage is the one that the rule names where it names one, and one more turn is done.
+pub record IsNext {M : Type 0} (rule : Rule) (values : List Tree) (old new : Configuration M) : Type 0 where
+  pub fit : AllByRecursion IsFit (instances_by values rule.right)
+  pub step : Step rule values old.state new.state
+  pub fits : Fits new.state
+  pub stage : new.stage ≡ unwrap_or rule.next old.stage
+  pub turns : new.turns ≡ old.turns + 1
+
+-- A step passes a limit by a number: that of an atom, by its first right atom that is not fit; or that of a state, where all are fit and the state after it does not fit.
+abbrev pub Passes : Rule → List Tree → Multiset → Which → ℕ → Type 0
+Passes rule values state Atom number = IsFirstTooLarge (instances_by values rule.right) number
+Passes rule values state State number = AllByRecursion IsFit (instances_by values rule.right) × ((new : Multiset) × Step rule values state new × IsTooFull new number)
+
+-- What a step comes to: the configuration after it, or the old one with the limit that the step would pass.
+abbrev pub IsStepped : {M : Type 0} → Rule → List Tree → Configuration M → Stepped M → Type 0
+IsStepped rule values old (Done new) = IsNext rule values old new
+IsStepped rule values old (Limit config which number) = (config ≡ old) × Passes rule values old.state which number
+
+-- the configuration that is there after a step, whatever it came to
+abbrev pub config_after : {M : Type 0} → Stepped M → Configuration M
+config_after (Done config) = config
+config_after (Limit config which number) = config
+
+-- How the counter rises: as is allowed where the step is done, and else not.
+abbrev pub RoseIfDone : {M : Type 0} → (ℕ → Type 0) → Stepped M → ℕ → ℕ → Type 0
+RoseIfDone allowed (Done config) old new = Rose allowed old new
+RoseIfDone allowed (Limit config which number) old new = new ≡ old

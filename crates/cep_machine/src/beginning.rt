@@ -1,0 +1,58 @@
+ghost use Rattle.std.specs.Prelude.{◌≡◌, ◌≤◌, IfOk};
+ghost use Rattle.cep_term.specs.Multiset.{nodes_in_all};
+ghost use Rattle.cep_rule.specs.State.{Fits};
+ghost use Rattle.cep_rule.specs.Matching.{Rose};
+ghost use Rattle.cep_machine.specs.Configuration.{IsConfigurationOf};
+
+use crate::config::Config;
+use cep_base::Steps;
+use cep_rule::{Matcher, Program};
+use cep_term::{Bag, nodes};
+use std::alloc::{AllocError, Global};
+use std::sync::ledger::Ledger;
+
+impl<M: Matcher> Config<M> {
+    /// The configuration in which a run of the program begins: its start stage and its start state, no
+    /// turn done, and a matcher within this height, from 1 to 512. Only want of memory is refused.
+    pub fn begin<L: Ledger>(
+        alloc: Global,
+        program: &Program,
+        height: u32,
+        steps: &mut Steps<L>,
+    ) -> Result<Config<M>, AllocError>
+        requires some_height { 1 ≤ height }
+        requires low { height ≤ 512 }
+        ensures of_program { IfOk result (IsConfigurationOf M.is_of program.now) }
+        ensures stage { IfOk result (λ config. config.stage ≡ program.now.start_stage) }
+        ensures state { IfOk result (λ config. config.state ≡ program.now.start) }
+        ensures turns { IfOk result (λ config. config.turns ≡ 0) }
+        ensures height { IfOk result (λ config. M.height_held config.matcher ≡ height) }
+        ensures ticked { IfOk result (λ _. Rose (M.may_begin program.now program.now.start height) steps.old steps.new) }
+        ensures never_falls { steps.old ≤ steps.new }
+    {
+        let parts = program.parts();
+        let state = parts.start.copy(alloc)?;
+        let nodes = nodes_in_state(&state);
+        let matcher = M::begin(alloc, program, &state, height, steps)?;
+        Ok(Config {
+            stage: parts.start_stage,
+            state,
+            turns: 0,
+            nodes,
+            matcher,
+        })
+    }
+}
+
+// How many nodes the state has, each copy counted.
+fn nodes_in_state(state: &Bag) -> u64
+    requires { Fits state.now }
+    ensures { result ≡ nodes_in_all state.now }
+{
+    let mut sum = 0;
+    for i in 0..state.len() {
+        let (atom, copies) = state.entry(i);
+        sum += copies as u64 * nodes(atom);
+    }
+    sum
+}

@@ -1,0 +1,55 @@
+ghost use Rattle.std.specs.Prelude.{◌≡◌, map, IfOk};
+ghost use Rattle.std.specs.List.{AllByRecursion};
+ghost use Rattle.cep_term.specs.Tree.{atom_of, nodes_in, depth_in};
+ghost use Rattle.cep_rule.specs.Instances.{instance_by};
+ghost use Rattle.cep_machine.specs.Sizes.{size_of, IsSmallValue, IsMeasurable};
+
+use crate::size::{Size, args_size, term_size};
+use cep_rule::Terms;
+use cep_term::Atom;
+use std::alloc::{AllocError, Global};
+
+// The values of a rule's variables with their sizes, so that a value is measured once, however often
+// its variable occurs.
+#[derive(Drop)]
+pub(crate) struct Measured<'a> {
+    pub(crate) values: &'a Terms,
+    pub(crate) sizes: Vec<Size>,
+    ghost same: { sizes.items ≡ map size_of values.now },
+}
+
+impl<'a> Measured<'a> {
+    // Measures these values.
+    pub(crate) fn new(alloc: Global, values: &'a Terms) -> Result<Measured<'a>, AllocError>
+        requires { AllByRecursion IsSmallValue values.now }
+        ensures { IfOk result (λ measured. measured.values.now ≡ values.now) }
+    {
+        let sizes = sizes_of(alloc, values)?;
+        Ok(Measured { values, sizes })
+    }
+
+    // The size of the atom's instance by these values.
+    pub(crate) fn size(&self, atom: &Atom) -> Size
+        requires { IsMeasurable self.now.values.now (atom_of atom.now) }
+        ensures nodes { result.nodes ≡ nodes_in (instance_by self.now.values.now (atom_of atom.now)) }
+        ensures depth { result.depth ≡ depth_in (instance_by self.now.values.now (atom_of atom.now)) }
+    {
+        let size = args_size(&atom.args, &self.sizes);
+        Size {
+            nodes: 1 + size.nodes,
+            depth: 1 + size.depth,
+        }
+    }
+}
+
+// The sizes of these values.
+fn sizes_of(alloc: Global, values: &Terms) -> Result<Vec<Size>, AllocError>
+    requires { AllByRecursion IsSmallValue values.now }
+    ensures { IfOk result (λ sizes. sizes.items ≡ map size_of values.now) }
+{
+    let mut sizes = Vec::new(alloc);
+    for v in 0..values.len() {
+        sizes.push(term_size(values.get(v), &[]))?;
+    }
+    Ok(sizes)
+}
