@@ -209,9 +209,9 @@ module _ (program : Parts) (at : Position) (taken : ℕ) where
       done_turn new acts limit others ending remain talk =
           dialogue.turn offers place acts.offer acts.rule new.state between taken' asks.heard others (asked offers limit are few remain) asks.hears acts.chosen acts.fit acts.step acts.fits
           (subst (λ bytes. Talk program HEIGHT limit (position_after at acts.rule new.state) bytes taken' others ending) acts.untaken
-              (subst (λ next. Talk program HEIGHT limit next rest taken' others ending) acts.after talk))
+          (subst (λ next. Talk program HEIGHT limit next rest taken' others ending) acts.after talk))
           (regrouped first second (outs (question program offers)) asks.heard others asks.whole
-              ∙ ap (λ step. outs (question program offers) ++ (asks.heard ++ (step ++ others))) acts.written)
+          ∙ ap (λ step. outs (question program offers) ++ (asks.heard ++ (step ++ others))) acts.written)
 
       unwritten : (last : List Event) → second ≡ [] → (first ++ second) ++ last ≡ outs (question program offers) ++ (asks.heard ++ last)
       unwritten last none =

@@ -62,11 +62,8 @@ fn status_of(word: EndWord) -> Status
 {
     match word {
         EndWord::Quiet | EndWord::Input => Status::Ended,
-        EndWord::Turns
-        | EndWord::Offers
-        | EndWord::Typed
-        | EndWord::Atom
-        | EndWord::State => Status::Limited,
+        EndWord::Turns | EndWord::Offers | EndWord::Typed | EndWord::Atom | EndWord::State =>
+            Status::Limited,
     }
 }
 

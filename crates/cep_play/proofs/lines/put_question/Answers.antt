@@ -12,5 +12,5 @@ pub returns : goal.returns
 returns g c =
     on_ok_weaker c.append.result
     (λ e. question_done c.args.program.now (offers_of (g.M.Matcher.offers_held c.args.matcher.now) c.args.group) c.loop-i.out c.append.new.self c.args.out.now c.loop-i.i _
-        (subst (λ n. n ≤ c.loop-i.i) c.count-i-end.ensures c.loop-i-test.false) c.loop-i.invariant e)
+    (subst (λ n. n ≤ c.loop-i.i) c.count-i-end.ensures c.loop-i-test.false) c.loop-i.invariant e)
     c.append.ensures.ok

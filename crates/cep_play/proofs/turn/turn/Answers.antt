@@ -23,11 +23,10 @@ returns-in_default-clause-turned g c =
     let config = c.args.config in
     let console = c.args.console.now in
     let quiet = (c.asked.ensures.quiet program c.requires.played.of_program).0 (subst (λ o. IsNone o) (sym c.in_default.is) refl) in
-    subst (λ t. IsTurned talk left console console program config c.args.taken.now c.args.taken.now t) (sym c.over.ensures)
-    (
+    subst (λ t. IsTurned talk left console console program config c.args.taken.now c.args.taken.now t) (sym c.over.ensures) (
       did_map talk left console console _ _ (λ come events rest same. quiet_turn program (position_of config) c.args.taken.now come events
           (subst (λ h. IsQuiet program h config.state config.stage) c.requires.played.height quiet) same.0)
-      (did_same talk left console console refl refl),
+          (did_same talk left console console refl refl),
       refl,
     )
 
@@ -43,13 +42,12 @@ returns-then-not-len_ok-clause-turned g c =
     let group = c.in-Some.group in
     let listed = group_listed lists config.stage group c.in-Some.ensures.listed c.matcher.ensures.listed in
     let are : AreAsked program HEIGHT (position_of config) (offers_of lists group) = are_asked program group (g.M.Matcher.height_held matcher) (g.M.Matcher.state_held matcher) lists config c.requires.played.height c.matcher.ensures.same_state
-        (g.met.M.Matcher.exact program matcher c.requires.played.of_program.matcher) listed (c.in-Some.ensures.asked program c.requires.played.of_program) in
+    (g.met.M.Matcher.exact program matcher c.requires.played.of_program.matcher) listed (c.in-Some.ensures.asked program c.requires.played.of_program) in
     let many : MOST_OFFERS < length (offers_of lists group) = subst (λ m. MOST_OFFERS < length (offers_of (g.M.Matcher.offers_held m) group)) c.matcher.ensures.matcher
-        (too_many c.len_ok.result _ MOST_OFFERS c.len_ok.ensures c.if-not-len_ok.true) in
-    subst (λ t. IsTurned talk left console console program config c.args.taken.now c.args.taken.now t) (sym c.over-then-not-len_ok.ensures)
-    (
+    (too_many c.len_ok.result _ MOST_OFFERS c.len_ok.ensures c.if-not-len_ok.true) in
+    subst (λ t. IsTurned talk left console console program config c.args.taken.now c.args.taken.now t) (sym c.over-then-not-len_ok.ensures) (
       did_map talk left console console _ _ (λ come events rest same. crowded_turn program (position_of config) c.args.taken.now (offers_of lists group) come events are many same.0)
-      (did_same talk left console console refl refl),
+          (did_same talk left console console refl refl),
       refl,
     )
 
@@ -60,7 +58,7 @@ ask-requires-clause-offers g c =
     let listed = group_listed (g.M.Matcher.offers_held matcher) c.args.config.stage c.in-Some.group c.in-Some.ensures.listed c.matcher.ensures.listed in
     rw c.matcher-2.ensures.matcher
     (offers_have_texts program (g.M.Matcher.height_held matcher) (g.M.Matcher.state_held matcher) c.in-Some.group (offers_of (g.M.Matcher.offers_held matcher) c.in-Some.group)
-        ((g.met.M.Matcher.exact program matcher c.requires.played.of_program.matcher).each c.in-Some.group listed))
+    ((g.met.M.Matcher.exact program matcher c.requires.played.of_program.matcher).each c.in-Some.group listed))
 
 pub returns-in-Place-clause-turned : goal.returns-in-Place-clause-turned
 returns-in-Place-clause-turned g c =
@@ -75,12 +73,12 @@ returns-in-Place-clause-turned g c =
     let offers = offers_of lists group in
     let listed = group_listed lists config.stage group c.in-Some.ensures.listed c.matcher.ensures.listed in
     let are : AreAsked program HEIGHT (position_of config) (offers_of lists group) = are_asked program group (g.M.Matcher.height_held matcher) (g.M.Matcher.state_held matcher) lists config c.requires.played.height c.matcher.ensures.same_state
-        (g.met.M.Matcher.exact program matcher c.requires.played.of_program.matcher) listed (c.in-Some.ensures.asked program c.requires.played.of_program) in
+    (g.met.M.Matcher.exact program matcher c.requires.played.of_program.matcher) listed (c.in-Some.ensures.asked program c.requires.played.of_program) in
     let few : length (offers_of lists group) ≤ MOST_OFFERS = subst (λ m. length (offers_of (g.M.Matcher.offers_held m) group) ≤ MOST_OFFERS) c.matcher.ensures.matcher (c.len_ok.ensures.0 c.if-not-len_ok.false) in
     let heard : Did talk left console c.ask.new.console (λ come events rest. Asks program (offers_of lists group) come c.args.taken.now events c.in_ok-place.field-0 rest c.ask.new.taken) =
-        subst (λ m. Did talk left console c.ask.new.console (λ come events rest. Asks program (offers_of (g.M.Matcher.offers_held m) group) come c.args.taken.now events c.in_ok-place.field-0 rest c.ask.new.taken)) c.matcher-2.ensures.matcher c.in_ok-place.ensures.heard in
+    subst (λ m. Did talk left console c.ask.new.console (λ come events rest. Asks program (offers_of (g.M.Matcher.offers_held m) group) come c.args.taken.now events c.in_ok-place.field-0 rest c.ask.new.taken)) c.matcher-2.ensures.matcher c.in_ok-place.ensures.heard in
     IfOk-weaker c.act.result _ _ (λ turned acted. chosen_turn talk left console c.ask.new.console c.act.new.console program config c.args.taken.now c.ask.new.taken c.in-Place.place offers turned are few
-        (subst (λ choice. Did talk left console c.ask.new.console (λ come events rest. Asks program (offers_of lists group) come c.args.taken.now events choice rest c.ask.new.taken)) c.in-Place.is heard) acted) c.act.ensures.acted
+    (subst (λ choice. Did talk left console c.ask.new.console (λ come events rest. Asks program (offers_of lists group) come c.args.taken.now events choice rest c.ask.new.taken)) c.in-Place.is heard) acted) c.act.ensures.acted
 
 pub returns-in-NoMore-clause-turned : goal.returns-in-NoMore-clause-turned
 returns-in-NoMore-clause-turned g c =
@@ -95,12 +93,11 @@ returns-in-NoMore-clause-turned g c =
     let offers = offers_of lists group in
     let listed = group_listed lists config.stage group c.in-Some.ensures.listed c.matcher.ensures.listed in
     let are : AreAsked program HEIGHT (position_of config) (offers_of lists group) = are_asked program group (g.M.Matcher.height_held matcher) (g.M.Matcher.state_held matcher) lists config c.requires.played.height c.matcher.ensures.same_state
-        (g.met.M.Matcher.exact program matcher c.requires.played.of_program.matcher) listed (c.in-Some.ensures.asked program c.requires.played.of_program) in
+    (g.met.M.Matcher.exact program matcher c.requires.played.of_program.matcher) listed (c.in-Some.ensures.asked program c.requires.played.of_program) in
     let few : length (offers_of lists group) ≤ MOST_OFFERS = subst (λ m. length (offers_of (g.M.Matcher.offers_held m) group) ≤ MOST_OFFERS) c.matcher.ensures.matcher (c.len_ok.ensures.0 c.if-not-len_ok.false) in
     let heard : Did talk left console c.ask.new.console (λ come events rest. Asks program (offers_of lists group) come c.args.taken.now events c.in_ok-place.field-0 rest c.ask.new.taken) =
-        subst (λ m. Did talk left console c.ask.new.console (λ come events rest. Asks program (offers_of (g.M.Matcher.offers_held m) group) come c.args.taken.now events c.in_ok-place.field-0 rest c.ask.new.taken)) c.matcher-2.ensures.matcher c.in_ok-place.ensures.heard in
-    subst (λ t. IsTurned talk left console c.ask.new.console program config c.args.taken.now c.ask.new.taken t) (sym c.over-in-NoMore.ensures)
-    (
+    subst (λ m. Did talk left console c.ask.new.console (λ come events rest. Asks program (offers_of (g.M.Matcher.offers_held m) group) come c.args.taken.now events c.in_ok-place.field-0 rest c.ask.new.taken)) c.matcher-2.ensures.matcher c.in_ok-place.ensures.heard in
+    subst (λ t. IsTurned talk left console c.ask.new.console program config c.args.taken.now c.ask.new.taken t) (sym c.over-in-NoMore.ensures) (
       did_map talk left console c.ask.new.console _ _ (λ come events rest asks. unchosen_turn program (position_of config) c.args.taken.now offers are few c.ask.new.taken come rest events c.in_ok-place.field-0 Input
           asks (subst (λ choice. IsStop choice Input) (sym c.in-NoMore.is) refl)) heard,
       refl,
@@ -119,12 +116,11 @@ returns-in-NoRoom-clause-turned g c =
     let offers = offers_of lists group in
     let listed = group_listed lists config.stage group c.in-Some.ensures.listed c.matcher.ensures.listed in
     let are : AreAsked program HEIGHT (position_of config) (offers_of lists group) = are_asked program group (g.M.Matcher.height_held matcher) (g.M.Matcher.state_held matcher) lists config c.requires.played.height c.matcher.ensures.same_state
-        (g.met.M.Matcher.exact program matcher c.requires.played.of_program.matcher) listed (c.in-Some.ensures.asked program c.requires.played.of_program) in
+    (g.met.M.Matcher.exact program matcher c.requires.played.of_program.matcher) listed (c.in-Some.ensures.asked program c.requires.played.of_program) in
     let few : length (offers_of lists group) ≤ MOST_OFFERS = subst (λ m. length (offers_of (g.M.Matcher.offers_held m) group) ≤ MOST_OFFERS) c.matcher.ensures.matcher (c.len_ok.ensures.0 c.if-not-len_ok.false) in
     let heard : Did talk left console c.ask.new.console (λ come events rest. Asks program (offers_of lists group) come c.args.taken.now events c.in_ok-place.field-0 rest c.ask.new.taken) =
-        subst (λ m. Did talk left console c.ask.new.console (λ come events rest. Asks program (offers_of (g.M.Matcher.offers_held m) group) come c.args.taken.now events c.in_ok-place.field-0 rest c.ask.new.taken)) c.matcher-2.ensures.matcher c.in_ok-place.ensures.heard in
-    subst (λ t. IsTurned talk left console c.ask.new.console program config c.args.taken.now c.ask.new.taken t) (sym c.over-in-NoRoom.ensures)
-    (
+    subst (λ m. Did talk left console c.ask.new.console (λ come events rest. Asks program (offers_of (g.M.Matcher.offers_held m) group) come c.args.taken.now events c.in_ok-place.field-0 rest c.ask.new.taken)) c.matcher-2.ensures.matcher c.in_ok-place.ensures.heard in
+    subst (λ t. IsTurned talk left console c.ask.new.console program config c.args.taken.now c.ask.new.taken t) (sym c.over-in-NoRoom.ensures) (
       did_map talk left console c.ask.new.console _ _ (λ come events rest asks. unchosen_turn program (position_of config) c.args.taken.now offers are few c.ask.new.taken come rest events c.in_ok-place.field-0 Typed
           asks (subst (λ choice. IsStop choice Typed) (sym c.in-NoRoom.is) refl)) heard,
       refl,
