@@ -15,7 +15,7 @@ use Rattle.cep_play.specs.declared.choice.Choice.{Choice}
 use Rattle.cep_play.specs.declared.choice.Choice.TheVariants.{Place, NoMore, NoRoom}
 use Rattle.cep_play.specs.declared.dialogue.EndWord.{EndWord}
 use Rattle.cep_play.specs.Choice.{Hears}
-use Rattle.cep_play.specs.Dialogue.{Position, position_after, start_of, Ending, AreAsked, IsQuestion, IsChosen, MakesFit, IsStop, Talk, quiet, turns, crowded, unchosen, unfit, overfull, turn, Dialogue}
+use Rattle.cep_play.specs.Dialogue.{Position, position_after, Ending, AreAsked, IsQuestion, IsChosen, MakesFit, IsStop, Talk, quiet, turns, crowded, unchosen, unfit, overfull, turn, Dialogue}
 use Rattle.cep_play.proofs.OneReading.{SameHearing, one_hearing}
 
 -- a stage asks one group

@@ -1,6 +1,6 @@
 -- Each way through a turn is a case of a talk.
-use Rattle.std.proofs.Common.{◌≡◌, ℕ, zero, suc, ◌+◌, ◌-◌, ◌<◌, ◌≤◌, List, [], ◌∷◌, ◌++◌, length, get_or, inl, inr, refl, sym, ap, ◌∙◌, subst, arith, append_assoc, Option, None, Some, unwrap_or, ◌*◌, Bool, true, false}
-use Rattle.std.specs.Prelude.{slice_get, Contains, All, IsSomeAnd, IsTrue, ◌↔◌, nat_lt}
+use Rattle.std.proofs.Common.{◌≡◌, ℕ, zero, suc, ◌+◌, ◌-◌, ◌<◌, ◌≤◌, List, [], ◌∷◌, ◌++◌, length, get_or, inl, inr, refl, sym, ap, ◌∙◌, subst, arith, append_assoc, Option, None, Some, ◌*◌, Bool, true, false}
+use Rattle.std.specs.Prelude.{slice_get, All, IsSomeAnd, IsTrue, ◌↔◌, nat_lt}
 use borrow.Author.Tests.{ltb-true, ltb-false}
 use Rattle.std.specs.List.{AllByRecursion}
 use Rattle.std.proofs.lemmas.List.{append-nil, get_or_default}
@@ -40,7 +40,7 @@ use Rattle.cep_play.specs.Lines.{question, step_line, step_lines, next_line}
 use Rattle.cep_play.specs.Dialogue as dialogue
 use Rattle.cep_play.specs.Dialogue.{Position, position_after, Ending, Ends, AreAsked, IsQuestion, IsChosen, MakesFit, IsStop, Talk}
 use Rattle.cep_play.specs.Turn.{position_of, Asks, Acts, Fails, IsTooMuch, limit_word, IsActed, IsTurn, IsLastTurn, IsTurned}
-use Rattle.cep_play.proofs.Did.{did_map, did_then}
+use Rattle.cep_play.proofs.Did.{did_then}
 
 none_some : {A B : Type 0} (x : A) → ◌≡◌ {A = Option A} None (Some x) → B
 none_some x e = cc

@@ -15,7 +15,6 @@ use Rattle.cep_play.specs.declared.choice.Choice.{Choice}
 use Rattle.cep_play.specs.declared.dialogue.EndWord.{EndWord}
 use Rattle.cep_play.specs.declared.dialogue.EndWord.TheVariants.{Quiet, Input, Turns, Offers, Typed, Atom, State}
 use Rattle.cep_play.specs.declared.dialogue.TheConstants.{HEIGHT}
-use Rattle.cep_play.specs.declared.turn.Ended.{Ended}
 use Rattle.cep_play.specs.declared.turn.Turned.{Turned}
 use Rattle.cep_play.specs.declared.turn.Turned.TheVariants.{Done, Over}
 use Rattle.cep_play.specs.Choice.{Hears}

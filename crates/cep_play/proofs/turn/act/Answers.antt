@@ -1,4 +1,4 @@
-use Rattle.std.proofs.Common.{refl, sym, subst, ap, ◌++◌, ◌-◌, ◌∙◌, arith}
+use Rattle.std.proofs.Common.{refl, sym, subst, ap, ◌++◌, ◌-◌, ◌∙◌}
 use Rattle.cep_rule.specs.Matching.{offers_of}
 use Rattle.cep_machine.specs.Stepping.{IsStepped}
 use Rattle.cep_play.specs.declared.turn.Turned.TheVariants.{Over}

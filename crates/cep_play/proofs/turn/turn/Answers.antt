@@ -1,12 +1,10 @@
-use Rattle.std.proofs.Common.{◌≡◌, ◌<◌, ◌≤◌, length, refl, sym, subst, true, false}
+use Rattle.std.proofs.Common.{◌<◌, ◌≤◌, length, refl, sym, subst}
 use Rattle.std.specs.Prelude.{IsNone}
 use Rattle.std.proofs.lemmas.Result.{IfOk-weaker}
 use Rattle.cep_base.specs.Talk.{Did}
 use Rattle.cep_rule.specs.declared.limits.TheConstants.{MOST_OFFERS}
 use Rattle.cep_rule.specs.Stages.{IsQuiet}
 use Rattle.cep_rule.specs.Matching.{offers_of}
-use Rattle.cep_text.specs.Texts.{IsOfferOf}
-use Rattle.cep_play.specs.declared.choice.Choice.TheVariants.{Place, NoMore, NoRoom}
 use Rattle.cep_play.specs.declared.dialogue.EndWord.TheVariants.{Input, Typed}
 use Rattle.cep_play.specs.declared.dialogue.TheConstants.{HEIGHT}
 use Rattle.cep_play.specs.Dialogue.{AreAsked, IsStop}
