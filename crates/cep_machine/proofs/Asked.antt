@@ -1,5 +1,5 @@
 -- Which group a stage asks, by the lists of a matcher.
-use Rattle.std.proofs.Common.{◌≡◌, ◌⊎◌, inl, inr, ℕ, ◌+◌, ◌*◌, ◌<◌, true, false, List, [], ◌∷◌, length, Some, None, refl, sym, subst, arith}
+use Rattle.std.proofs.Common.{◌≡◌, inl, inr, ℕ, ◌<◌, true, false, List, [], ◌∷◌, length, Some, None, refl, subst, arith}
 use Rattle.std.specs.Prelude.{◌↔◌, IsNone}
 use Rattle.cep_term.specs.Multiset.{Multiset}
 use Rattle.cep_rule.specs.declared.parts.Parts.{Parts}
@@ -7,7 +7,6 @@ use Rattle.cep_rule.specs.declared.offer.Offer.{Offer}
 use Rattle.cep_rule.specs.Offers.{AreOffers}
 use Rattle.cep_rule.specs.Stages.{own_group, leaving_group, HasOffer, IsAsked, IsQuiet}
 use Rattle.cep_rule.specs.Matching.{offers_of, AreListed}
-use Rattle.cep_machine.specs.Asking.{unless_none, asked_offers}
 
 true_false : {A : Type 0} → true ≡ false → A
 true_false e = cc

@@ -1,5 +1,5 @@
 -- Atoms that are added to a bag and taken from it one by one.
-use Rattle.std.proofs.Common.{◌≡◌, ℕ, zero, suc, ◌+◌, ◌-◌, ◌*◌, ◌<◌, ◌≤◌, List, [], ◌∷◌, ◌++◌, length, take, Option, Some, None, Result, Ok, Err, refl, sym, ap, subst, ◌∙◌, arith, Less, Equal, Greater}
+use Rattle.std.proofs.Common.{◌≡◌, ℕ, zero, suc, ◌+◌, ◌-◌, ◌<◌, List, [], ◌∷◌, ◌++◌, length, take, Some, Result, Ok, Err, refl, sym, ap, subst, ◌∙◌, arith, Less, Equal, Greater}
 use Rattle.std.specs.Prelude.{slice_get, sum_by, OnOk, OnErr, IsErr, ◌↔◌, ◌≢◌}
 use Rattle.std.specs.List.{AllByRecursion}
 use Rattle.std.specs.declared.cmp.Ordering.{Ordering}
@@ -9,9 +9,9 @@ use Rattle.std.proofs.Math.Nat.{add-mul}
 use Rattle.std.proofs.lemmas.List.Sums.{sum_by-cons}
 use Rattle.cep_term.specs.Tree.{AtomTree, IsGroundAtom, nodes_in}
 use Rattle.cep_term.specs.Order.{atom_cmp}
-use Rattle.cep_term.specs.Multiset.{Multiset, count_of, with_count, with_one, without_one, gathered, sum_of, difference_of, copies_in, nodes_in_all, IsContained, IsBag}
+use Rattle.cep_term.specs.Multiset.{Multiset, count_of, with_one, without_one, gathered, sum_of, difference_of, copies_in, nodes_in_all, IsContained, IsBag}
 use Rattle.cep_machine.specs.BagLaws.{BagLaws}
-use Rattle.cep_machine.proofs.Lists.{none_some, some_same, all_joined, all_taken, all_at, take_next, all_from_places}
+use Rattle.cep_machine.proofs.Lists.{none_some, some_same, all_taken, all_at, take_next, all_from_places}
 
 -- how many copies of an atom one is, by how the two compare
 abbrev pub mark_of : Ordering → ℕ

@@ -6,4 +6,5 @@ pub mod Premises
 pub mod Weights
 pub mod Ranges
 pub mod Ready
+pub mod Sample
 pub mod Entries

@@ -1,17 +1,16 @@
 -- What is known of a rule with values that apply to a state.
-use Rattle.std.proofs.Common.{◌≡◌, ◌⊎◌, inl, inr, ℕ, zero, suc, ◌+◌, ◌-◌, ◌*◌, ◌<◌, ◌≤◌, ◌^◌, true, false, cond, List, [], ◌∷◌, ◌++◌, length, map, Option, Some, None, unwrap_or, refl, sym, ap, subst, ◌∙◌, arith}
-use Rattle.std.specs.Prelude.{slice_get, slice_index_or, filter, IfSome, Contains}
+use Rattle.std.proofs.Common.{◌≡◌, ℕ, zero, suc, ◌+◌, ◌<◌, true, false, cond, List, [], ◌∷◌, ◌++◌, length, Option, Some, None, unwrap_or, refl, sym, ap, subst, ◌∙◌, arith}
+use Rattle.std.specs.Prelude.{slice_get, slice_index_or, filter, IfSome}
 use Rattle.std.specs.List.{AllByRecursion}
 use Rattle.std.proofs.lemmas.List.{map-append, length-map}
 use Rattle.std.proofs.lemmas.Option.{slice_get_within}
 use Rattle.cep_term.specs.declared.term.TheConstants.{MAX_NODES}
-use Rattle.cep_term.specs.Tree.{Tree, AtomTree, nodes_in, nodes_of, IsGroundAtom, IsFit, IsAtomInRange}
-use Rattle.cep_term.specs.Multiset.{Multiset, count_of, gathered, sum_of, difference_of, nodes_in_all, IsContained, IsBag}
+use Rattle.cep_term.specs.Tree.{Tree, AtomTree, IsGroundAtom, IsFit, IsAtomInRange}
+use Rattle.cep_term.specs.Multiset.{Multiset, count_of, gathered, difference_of, IsContained}
 use Rattle.cep_rule.specs.declared.signature.Signature.{Signature}
 use Rattle.cep_rule.specs.declared.rule.Rule.{Rule}
 use Rattle.cep_rule.specs.declared.parts.Parts.{Parts}
 use Rattle.cep_rule.specs.declared.offer.Offer.{Offer}
-use Rattle.cep_rule.specs.declared.limits.TheConstants.{MOST_PATTERN_NODES}
 use Rattle.cep_rule.specs.Typing.{IsTyped, IsLinear, AreValues}
 use Rattle.cep_rule.specs.Limits.{IsSmallRule, IsSmallPattern}
 use Rattle.cep_rule.specs.Binding.{needed_of, IsBoundRule, OccursInSome}
@@ -19,7 +18,7 @@ use Rattle.cep_rule.specs.State.{IsFact, IsState, Fits}
 use Rattle.cep_rule.specs.Instances.{instance_by, instances_by, kept_of, left_of}
 use Rattle.cep_rule.specs.Patterns.{PremiseTree}
 use Rattle.cep_rule.specs.Program.{IsTypedRule, IsDividedRule, IsProgram}
-use Rattle.cep_rule.specs.Offers.{Applies, AreOffers}
+use Rattle.cep_rule.specs.Offers.{Applies}
 use Rattle.cep_rule.specs.Matching.{offers_of, AreListed, state_after}
 use Rattle.cep_rule.specs.Step.{Step}
 use Rattle.cep_machine.specs.declared.stepped.Which.{Which}
@@ -32,7 +31,7 @@ use Rattle.cep_machine.specs.Stepping.{added_by, IsChosen, Passes, IsNext}
 use Rattle.cep_machine.specs.Sizes.{IsSmallValue, IsMeasurable}
 use Rattle.cep_machine.specs.Weighing.{atoms_of, next_state, CanWeigh, IsWeighed}
 use Rattle.cep_machine.specs.StepLaws.{StepLaws}
-use Rattle.cep_machine.proofs.Lists.{none_some, some_same, all_at, all_weaker, all_mapped, all_joined}
+use Rattle.cep_machine.proofs.Lists.{none_some, some_same, all_at, all_weaker, all_joined}
 use Rattle.cep_machine.proofs.Bags.{of_gathered, all_contained}
 use Rattle.cep_machine.proofs.SizesOf.{IsBelow, instance_bounded}
 use Rattle.cep_machine.proofs.Premises.{kept_in, nothing_more}
@@ -241,10 +240,10 @@ module _ (laws : StepLaws) (program : Parts) (state : Multiset) (rule : Rule) (v
   pub is_next : {M : Type 0} (old new : Configuration M) (left added : List AtomTree) → old.state ≡ state → left ≡ instances_by values (needed_of rule) → added ≡ added_by rule values → new.state ≡ state_after old.state (gathered left) added → new.stage ≡ unwrap_or rule.next old.stage → new.turns ≡ old.turns + 1 → IsNext rule values old new
   is_next old new left added same same_left same_added after stage turns =
       let state' : new.state ≡ next_state rule values state =
-          after
-          ∙ ap (λ (bag : Multiset). state_after bag (gathered left) added) same
-          ∙ ap (λ (atoms : List AtomTree). state_after state (gathered atoms) added) same_left
-          ∙ ap (λ (atoms : List AtomTree). state_after state (left_of rule values) atoms) same_added in
+      after
+      ∙ ap (λ (bag : Multiset). state_after bag (gathered left) added) same
+      ∙ ap (λ (atoms : List AtomTree). state_after state (gathered atoms) added) same_left
+      ∙ ap (λ (atoms : List AtomTree). state_after state (left_of rule values) atoms) same_added in
       record {
         fit = weighed.0;
         step =

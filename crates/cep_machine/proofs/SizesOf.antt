@@ -1,10 +1,9 @@
 -- The sizes of instances are those that are told from the sizes of the values, and they are bounded.
-use Rattle.std.proofs.Common.{◌≡◌, ◌⊎◌, ⊎_elim, ℕ, zero, suc, ◌+◌, ◌*◌, ◌≤◌, ◌<◌, ◌^◌, List, [], ◌∷◌, ◌++◌, length, map, take, max, Option, Some, None, unwrap_or, refl, sym, ap, subst, ◌∙◌, arith}
+use Rattle.std.proofs.Common.{◌≡◌, ⊎_elim, ℕ, zero, suc, ◌+◌, ◌*◌, ◌≤◌, ◌<◌, ◌^◌, List, [], ◌∷◌, ◌++◌, map, take, max, Some, None, unwrap_or, refl, sym, ap, ◌∙◌, arith}
 use Rattle.std.specs.Prelude.{slice_index_or, slice_get}
 use Rattle.std.specs.List.{AllByRecursion}
 use Rattle.std.proofs.Math.Nat.{add-mul}
-use Rattle.cep_term.specs.declared.term.TheConstants.{MAX_NODES}
-use Rattle.cep_term.specs.Tree.{Tree, Trees, AtomTree, variable, node, none, more, nodes_of, nodes_among, nodes_in, depth_of, depth_among, depth_in, IsGround, AreGround, IsInRange, AreInRange, Occurs, OccursAmong, OccursIn}
+use Rattle.cep_term.specs.Tree.{Tree, Trees, AtomTree, variable, node, none, more, nodes_of, nodes_among, nodes_in, depth_of, depth_among, IsGround, AreGround, IsInRange, AreInRange, Occurs, OccursAmong, OccursIn}
 use Rattle.cep_term.specs.Values.{value_of, instance_of, instances_of}
 use Rattle.cep_rule.specs.Instances.{given, instance_by}
 use Rattle.cep_machine.specs.declared.size.Size.{Size}

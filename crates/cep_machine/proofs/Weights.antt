@@ -1,13 +1,12 @@
 -- The copies and the nodes of the state after a step, from what comes and what goes.
-use Rattle.std.proofs.Common.{◌≡◌, ◌⊎◌, inl, inr, ℕ, zero, suc, ◌+◌, ◌*◌, ◌-◌, ◌<◌, ◌≤◌, true, false, List, [], ◌∷◌, ◌++◌, length, take, map, Some, refl, sym, ap, subst, ◌∙◌, arith}
+use Rattle.std.proofs.Common.{◌≡◌, ◌⊎◌, inl, inr, ℕ, zero, suc, ◌+◌, ◌<◌, ◌≤◌, true, false, List, [], ◌∷◌, ◌++◌, length, take, Some, sym, ap, subst, ◌∙◌, arith}
 use Rattle.std.specs.Prelude.{slice_get, sum_by}
 use Rattle.std.specs.List.{AllByRecursion}
-use Rattle.std.specs.FinMap as finite
 use Rattle.std.proofs.lemmas.List.{map-append, length-map, length-append}
-use Rattle.std.proofs.lemmas.List.Sums.{sum_by-append, sum_by-cons, sum_by_push}
+use Rattle.std.proofs.lemmas.List.Sums.{sum_by-append}
 use Rattle.cep_term.specs.declared.term.TheConstants.{MAX_NODES, MAX_DEPTH}
 use Rattle.cep_term.specs.Tree.{Tree, AtomTree, nodes_in, depth_in, IsFit}
-use Rattle.cep_term.specs.Multiset.{Multiset, gathered, sum_of, difference_of, copies_in, nodes_in_all}
+use Rattle.cep_term.specs.Multiset.{Multiset, gathered, difference_of, copies_in, nodes_in_all}
 use Rattle.cep_rule.specs.declared.rule.Rule.{Rule}
 use Rattle.cep_rule.specs.Binding.{needed_of}
 use Rattle.cep_rule.specs.Instances.{instance_by, instances_by, kept_of, left_of}
@@ -15,7 +14,7 @@ use Rattle.cep_rule.specs.Patterns.{PremiseTree}
 use Rattle.cep_machine.specs.declared.size.Size.{Size}
 use Rattle.cep_machine.specs.Passing.{IsTooLarge, IsFirstTooLarge}
 use Rattle.cep_machine.specs.Stepping.{added_by}
-use Rattle.cep_machine.specs.Weighing.{atoms_of, used_of, next_state, CanWeigh}
+use Rattle.cep_machine.specs.Weighing.{used_of, next_state, CanWeigh}
 use Rattle.cep_machine.specs.BagLaws.{BagLaws}
 use Rattle.cep_machine.proofs.Lists.{none_some, some_same, all_joined}
 use Rattle.cep_machine.proofs.Bags.{gathered_copies, gathered_nodes}

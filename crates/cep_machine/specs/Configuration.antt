@@ -1,5 +1,5 @@
 -- Configurations of a program.
-use Rattle.std.specs.Prelude.{◌≡◌, ℕ, ◌<◌, List, length, refl}
+use Rattle.std.specs.Prelude.{◌≡◌, ℕ, ◌<◌, length, refl}
 use Rattle.std.specs.Coded.{Coded, code_by, coded×, coded_ℕ}
 use Rattle.std.specs.FinMap as finite
 use Rattle.cep_term.specs.Codes.{atom_code}

@@ -7,3 +7,4 @@ pub mod Weighing
 pub mod Changing
 pub mod BagLaws
 pub mod StepLaws
+pub mod Sample

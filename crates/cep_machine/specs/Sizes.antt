@@ -1,5 +1,5 @@
 -- Sizes of instances, by the sizes of the values.
-use Rattle.std.specs.Prelude.{ℕ, ◌+◌, ◌<◌, ◌≤◌, ◌^◌, List, length, max, slice_index_or}
+use Rattle.std.specs.Prelude.{◌+◌, ◌<◌, ◌≤◌, ◌^◌, List, length, max, slice_index_or}
 use Rattle.cep_term.specs.declared.term.TheConstants.{MAX_NODES}
 use Rattle.cep_term.specs.Tree.{Tree, Trees, AtomTree, variable, node, none, more, nodes_of, depth_of, nodes_in, IsGround, IsAtomInRange}
 use Rattle.cep_rule.specs.Instances.{instance_by}

@@ -1,5 +1,5 @@
 -- The laws of rules that the proofs of this crate rest on.
-use Rattle.std.specs.Prelude.{ℕ, List, [], ◌++◌}
+use Rattle.std.specs.Prelude.{ℕ, List, []}
 use Rattle.cep_term.specs.Tree.{Tree, AtomTree, IsGroundAtom}
 use Rattle.cep_term.specs.Multiset.{Multiset, IsContained, IsBag}
 use Rattle.cep_rule.specs.declared.signature.Signature.{Signature}

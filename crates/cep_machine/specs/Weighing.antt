@@ -1,5 +1,5 @@
 -- What a step would pass, told from sizes.
-use Rattle.std.specs.Prelude.{◌≡◌, ℕ, ◌≤◌, not, List, length, map, filter}
+use Rattle.std.specs.Prelude.{◌≡◌, ◌≤◌, not, List, length, map, filter}
 use Rattle.std.specs.List.{AllByRecursion}
 use Rattle.cep_term.specs.Tree.{Tree, AtomTree, IsFit}
 use Rattle.cep_term.specs.Multiset.{Multiset, nodes_in_all, IsContained, IsBag}

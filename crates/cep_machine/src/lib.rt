@@ -16,6 +16,8 @@ mod sides;
 mod size;
 mod stepped;
 mod stepping;
+#[cfg(test)]
+mod tests;
 mod weighing;
 
 pub use config::Config;

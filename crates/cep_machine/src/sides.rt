@@ -23,7 +23,11 @@ pub(crate) fn left_atoms(alloc: Global, rule: &Rule, values: &Terms) -> Result<A
 }
 
 // The instances of the right atoms in written order, and then those of the premises that are kept.
-pub(crate) fn added_atoms(alloc: Global, rule: &Rule, values: &Terms) -> Result<AtomList, AllocError>
+pub(crate) fn added_atoms(
+    alloc: Global,
+    rule: &Rule,
+    values: &Terms,
+) -> Result<AtomList, AllocError>
     requires right { AllByRecursion (IsAtomInRange (length values.now)) rule.now.right }
     requires needed { AllByRecursion (IsAtomInRange (length values.now)) (needed_of rule.now) }
     ensures { IfOk result (λ atoms. atoms ≡ added_by rule.now values.now) }

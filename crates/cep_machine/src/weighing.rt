@@ -64,7 +64,7 @@ fn weigh_state(rule: &Rule, measured: &Measured, state: &Bag, nodes: u64) -> Wei
 }
 
 // The number by which the first of these atoms whose instance is not fit is too large.
-fn first_too_large(right: &AtomList, measured: &Measured) -> Option<u64>
+pub(crate) fn first_too_large(right: &AtomList, measured: &Measured) -> Option<u64>
     requires { AllByRecursion (IsMeasurable measured.now.values.now) right.now }
     ensures { MatchOption result (AllByRecursion IsFit (instances_by measured.now.values.now right.now)) (IsFirstTooLarge (instances_by measured.now.values.now right.now)) }
 {

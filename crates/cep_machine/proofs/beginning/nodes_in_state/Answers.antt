@@ -1,5 +1,5 @@
-use Rattle.std.proofs.Common.{◌≡◌, ◌+◌, ◌*◌, sym, ap, ◌∙◌, arith}
-use Rattle.cep_term.specs.Tree.{atom_of, nodes_in}
+use Rattle.std.proofs.Common.{◌+◌, ◌*◌, ap, ◌∙◌, arith}
+use Rattle.cep_term.specs.Tree.{atom_of}
 use Rattle.cep_machine.proofs.Entries.{next_entry, first_entries, atom_within, all_entries}
 use Rattle.cep_machine.proofs.beginning.nodes_in_state.Goals as goal
 

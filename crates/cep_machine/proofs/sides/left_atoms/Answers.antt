@@ -1,6 +1,6 @@
 use Rattle.std.proofs.Common.{List, [], ◌∷◌, ◌++◌, length, sym, ap, ◌∙◌, arith}
 use Rattle.std.proofs.lemmas.List.{take_all}
-use Rattle.cep_term.specs.Tree.{AtomTree, IsAtomInRange, atom_of}
+use Rattle.cep_term.specs.Tree.{AtomTree, IsAtomInRange}
 use Rattle.cep_rule.specs.Patterns.{PremiseTree, premise_of}
 use Rattle.cep_rule.specs.Instances.{instance_by, instances_by}
 use Rattle.cep_machine.specs.Weighing.{atoms_of}

@@ -1,8 +1,8 @@
-use Rattle.std.proofs.Common.{List, [], ◌∷◌, ◌++◌, length, sym, ap, ◌∙◌, arith}
+use Rattle.std.proofs.Common.{List, ◌++◌, length, sym, ap, ◌∙◌, arith}
 use Rattle.std.proofs.lemmas.List.{take_all}
-use Rattle.cep_term.specs.Tree.{AtomTree, IsAtomInRange, atom_of}
+use Rattle.cep_term.specs.Tree.{IsAtomInRange}
 use Rattle.cep_rule.specs.Patterns.{PremiseTree, premise_of}
-use Rattle.cep_rule.specs.Instances.{instance_by, instances_by}
+use Rattle.cep_rule.specs.Instances.{instances_by}
 use Rattle.cep_machine.proofs.Lists.{all_mapped_at}
 use Rattle.cep_machine.proofs.Premises.{kept_in, nothing_more, push_kept_next, push_kept_same}
 use Rattle.cep_machine.proofs.sides.push_kept.Goals.{then-premise+in_ok-push_instance, else-premise}

@@ -1,8 +1,6 @@
-use Rattle.std.proofs.Common.{◌≤◌, List, sym, ap, ◌∙◌, arith}
+use Rattle.std.proofs.Common.{List, ap, ◌∙◌, arith}
 use Rattle.std.proofs.lemmas.List.{take_all}
-use Rattle.cep_term.specs.Tree.{AtomTree, IsFit, nodes_in}
 use Rattle.cep_rule.specs.Patterns.{PremiseTree, premise_of}
-use Rattle.cep_rule.specs.Instances.{instance_by}
 use Rattle.cep_machine.specs.Sizes.{IsMeasurable}
 use Rattle.cep_machine.specs.Weighing.{used_of}
 use Rattle.cep_machine.proofs.Lists.{all_mapped_at}
@@ -31,17 +29,17 @@ loop-i-preserved c =
     let few = c.loop-i.invariant.few in
     elim c.if-not-premise.branch [
       | then-not-premise w ↦ record {
-          used = w.nodes-is ∙ used_more values premises c.loop-i.i premise c.get-premise.ensures c.loop-i.nodes w.size-nodes.result.nodes c.loop-i.invariant.used w.if-not-premise.true w.size-nodes.ensures.nodes;
-          few =
-              let fit = (fit_premise values premises c.loop-i.i premise c.requires.fit c.get-premise.ensures).nodes in
-              let same = w.size-nodes.ensures.nodes in
-              let is = w.nodes-is in
-              omega arith;
-        }
+        used = w.nodes-is ∙ used_more values premises c.loop-i.i premise c.get-premise.ensures c.loop-i.nodes w.size-nodes.result.nodes c.loop-i.invariant.used w.if-not-premise.true w.size-nodes.ensures.nodes;
+        few =
+            let fit = (fit_premise values premises c.loop-i.i premise c.requires.fit c.get-premise.ensures).nodes in
+            let same = w.size-nodes.ensures.nodes in
+            let is = w.nodes-is in
+            omega arith;
+      }
       | else-not-premise w ↦ record {
-          used = w.nodes-is ∙ used_same values premises c.loop-i.i premise c.get-premise.ensures c.loop-i.nodes c.loop-i.invariant.used w.if-not-premise.false;
-          few = let is = w.nodes-is in omega arith;
-        }
+        used = w.nodes-is ∙ used_same values premises c.loop-i.i premise c.get-premise.ensures c.loop-i.nodes c.loop-i.invariant.used w.if-not-premise.false;
+        few = let is = w.nodes-is in omega arith;
+      }
     ]
 
 pub returns : goal.returns

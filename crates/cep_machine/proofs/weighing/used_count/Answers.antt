@@ -12,13 +12,13 @@ loop-i-preserved c =
     let premise = premise_of c.get.result.now in
     elim c.if-not-get.branch [
       | then-not-get w ↦ record {
-          used = w.count-is ∙ count_more [] premises c.loop-i.i premise c.get.ensures c.loop-i.count c.loop-i.invariant.used w.if-not-get.true;
-          few = let few = c.loop-i.invariant.few in let is = w.count-is in omega arith;
-        }
+        used = w.count-is ∙ count_more [] premises c.loop-i.i premise c.get.ensures c.loop-i.count c.loop-i.invariant.used w.if-not-get.true;
+        few = let few = c.loop-i.invariant.few in let is = w.count-is in omega arith;
+      }
       | else-not-get w ↦ record {
-          used = w.count-is ∙ count_same [] premises c.loop-i.i premise c.get.ensures c.loop-i.count c.loop-i.invariant.used w.if-not-get.false;
-          few = let few = c.loop-i.invariant.few in let is = w.count-is in omega arith;
-        }
+        used = w.count-is ∙ count_same [] premises c.loop-i.i premise c.get.ensures c.loop-i.count c.loop-i.invariant.used w.if-not-get.false;
+        few = let few = c.loop-i.invariant.few in let is = w.count-is in omega arith;
+      }
     ]
 
 pub returns : goal.returns

@@ -1,6 +1,4 @@
-use Rattle.std.proofs.Common.{◌≡◌, ◌≤◌, ◌<◌, ◌+◌, ◌-◌, inl, inr, arith}
-use Rattle.cep_term.specs.Multiset.{copies_in, nodes_in_all}
-use Rattle.cep_machine.specs.Weighing.{next_state}
+use Rattle.std.proofs.Common.{inl, inr, arith}
 use Rattle.cep_machine.proofs.Weights.{next_copies, next_nodes}
 use Rattle.cep_machine.proofs.weighing.weigh_state.Goals as goal
 

@@ -1,4 +1,4 @@
-use Rattle.std.proofs.Common.{◌≡◌, ◌<◌, List, length, Some, unwrap_or, refl, sym, ap, subst, ◌∙◌, arith}
+use Rattle.std.proofs.Common.{◌≡◌, ◌<◌, List, length, Some, unwrap_or, refl, sym, ap, subst, ◌∙◌}
 use Rattle.std.specs.Prelude.{slice_get}
 use Rattle.std.proofs.lemmas.Option.{slice_get_within}
 use Rattle.cep_term.specs.Tree.{Tree}
@@ -9,7 +9,7 @@ use Rattle.cep_rule.specs.Matching.{offers_of}
 use Rattle.cep_machine.specs.declared.weighing.Weighed.{Weighed}
 use Rattle.cep_machine.specs.Configuration.{Configuration, IsConfigurationOf}
 use Rattle.cep_machine.specs.Asking.{asked_offers}
-use Rattle.cep_machine.specs.Stepping.{IsChosen, Passes, IsNext}
+use Rattle.cep_machine.specs.Stepping.{Passes, IsNext}
 use Rattle.cep_machine.specs.Changing.{CanChange}
 use Rattle.cep_machine.specs.Weighing.{IsWeighed}
 use Rattle.cep_machine.proofs.Ready.{offer_applies, ready_offer, can_weigh, needed_in_range, right_in_range, can_change, is_next, passes, stage_in_range, chosen_once, of_asked}
@@ -68,9 +68,9 @@ returns-in-TooMuch-clause-stepped g c =
     let numbered : slice_get c.args.program.now.rules c.offer-offer.result.now.rule ≡ Some c.get-rule.result.now = ap (λ (parts : Parts). slice_get parts.rules c.offer-offer.result.now.rule) (sym c.parts.ensures.parts) ∙ c.get-rule.ensures in
     let values = c.offer-offer.result.now.values in
     let passed : Passes c.get-rule.result.now values c.args.self.state c.in-TooMuch.which c.in-TooMuch.number =
-        subst (λ (state : Multiset). Passes c.get-rule.result.now values state c.in-TooMuch.which c.in-TooMuch.number) same
-        (passes c.get-rule.result.now values c.self.inside.state c.in-TooMuch.which c.in-TooMuch.number
-        (c.steps_are_lawful.ensures.edit c.args.program.now.signature c.get-rule.result.now values c.self.inside.state is.typed is.are own.facts.bag is.contained) weighed) in
+    subst (λ (state : Multiset). Passes c.get-rule.result.now values state c.in-TooMuch.which c.in-TooMuch.number) same
+    (passes c.get-rule.result.now values c.self.inside.state c.in-TooMuch.which c.in-TooMuch.number
+    (c.steps_are_lawful.ensures.edit c.args.program.now.signature c.get-rule.result.now values c.self.inside.state is.typed is.are own.facts.bag is.contained) weighed) in
     chosen_once c.args.program.now (g.M.Matcher.offers_held c.args.self.matcher) c.args.self.stage c.args.i (offers_of (g.M.Matcher.offers_held c.args.self.matcher) c.unwrap-group.result) c.offer-offer.result.now c.get-rule.result.now offers placed numbered
     (λ (rule : Rule) (values : List Tree). (c.args.self ≡ c.args.self) × Passes rule values c.args.self.state c.in-TooMuch.which c.in-TooMuch.number)
     (refl, passed)
@@ -86,8 +86,8 @@ returns-in_ok-changed-in-Within-clause-stepped g c =
     let numbered : slice_get c.args.program.now.rules c.offer-offer.result.now.rule ≡ Some c.get-rule.result.now = ap (λ (parts : Parts). slice_get parts.rules c.offer-offer.result.now.rule) (sym c.parts.ensures.parts) ∙ c.get-rule.ensures in
     let new = c.in_ok-changed-in-Within.field-0 in
     let stage : new.stage ≡ unwrap_or c.get-rule.result.now.next c.args.self.stage =
-        c.in_ok-changed-in-Within.ensures.stage ∙ c.unwrap_or.ensures
-        ∙ ap (λ (config : Configuration g.row.M.Denot). unwrap_or c.get-rule.result.now.next config.stage) c.self.view_is in
+    c.in_ok-changed-in-Within.ensures.stage ∙ c.unwrap_or.ensures
+    ∙ ap (λ (config : Configuration g.row.M.Denot). unwrap_or c.get-rule.result.now.next config.stage) c.self.view_is in
     chosen_once c.args.program.now (g.M.Matcher.offers_held c.args.self.matcher) c.args.self.stage c.args.i (offers_of (g.M.Matcher.offers_held c.args.self.matcher) c.unwrap-group.result) c.offer-offer.result.now c.get-rule.result.now offers placed numbered
     (λ (rule : Rule) (values : List Tree). IsNext rule values c.args.self new)
     (is_next c.steps_are_lawful.ensures c.args.program.now c.self.inside.state c.get-rule.result.now c.offer-offer.result.now.values is own.facts own.fits c.in-Within.nodes weighed c.args.self new c.in_ok-left_atoms-in-Within.field-0 c.in_ok-added_atoms-in-Within.field-0

@@ -1,4 +1,4 @@
-use Rattle.std.proofs.Common.{◌≡◌, ◌+◌, sym, ap, ◌∙◌, arith}
+use Rattle.std.proofs.Common.{◌+◌, ap, ◌∙◌, arith}
 use Rattle.cep_term.specs.Tree.{atom_of}
 use Rattle.cep_machine.specs.declared.size.Size.{Size}
 use Rattle.cep_machine.proofs.SizesOf.{args_nodes, args_levels, few_nodes, few_levels}
