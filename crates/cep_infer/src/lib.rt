@@ -12,6 +12,8 @@ pub mod laws;
 mod left;
 mod listing;
 mod pending;
+mod places;
+mod resolving;
 mod rules;
 mod signature;
 mod sites;
@@ -21,3 +23,7 @@ mod variables;
 
 pub use cep_names::Reason;
 pub use draft::{Draft, PlaceLists, Places, Refusal};
+pub use resolving::resolve;
+
+#[cfg(test)]
+mod tests;

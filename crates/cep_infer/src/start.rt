@@ -80,6 +80,14 @@ impl<'a> Declarations<'a> {
         }
         Ok(atoms)
     }
+
+    // The start state of a trace.
+    pub(crate) fn start(&self, trace: &TraceRef) -> Result<Bag, AllocError>
+        ensures { IfOk result (λ start. IsStartBy self.now (trace_item trace.now) start) }
+    {
+        let atoms = self.start_atoms(trace.start)?;
+        gather(self.alloc, &atoms)
+    }
 }
 
 // The multiset of ground atoms.

@@ -1,0 +1,132 @@
+ghost use Rattle.std.specs.Prelude.{◌≡◌, ◌≤◌, ◌∷◌, List, length, take, IfOk, IfSome};
+ghost use Rattle.std.specs.Option.{option_map};
+ghost use Rattle.std.specs.Char.{digit_value};
+ghost use Rattle.std.specs.Str.Parse.{digits_value};
+ghost use Rattle.cep_lex.specs.declared.token.TheConstants.{MOST_BYTES};
+ghost use Rattle.cep_lex.specs.Places.{IsPlaceBehind};
+ghost use Rattle.cep_names.specs.Items.{TraceItem, traces_of};
+ghost use Rattle.cep_names.specs.Misnamed.{number_said};
+ghost use Rattle.cep_names.specs.Named.{AreNames};
+ghost use Rattle.cep_infer.specs.Shapes.{IsSource};
+ghost use Rattle.cep_infer.specs.Places.{IsDraft};
+ghost use Rattle.cep_infer.specs.Listed.{trace_item};
+ghost use Rattle.cep_infer.specs.Resolved.{IsResolved, IsTyped};
+
+use crate::declarations::Declarations;
+use crate::draft::{Draft, Refusal};
+use crate::listing::TraceRef;
+use cep_lex::place;
+use cep_names::{Fault, Names, Space, named};
+use cep_parse::{RawFile, Span};
+use cep_rule::Parts;
+use std::alloc::{AllocError, Global};
+
+// The refusal of a text for a fault. A place behind the end is the end.
+fn refusal(text: &[u8], fault: Fault) -> Refusal
+    requires { length text.now ≤ MOST_BYTES }
+    ensures reason { result.reason ≡ fault.reason }
+    ensures pos { IsPlaceBehind (take fault.at text.now) result.pos }
+{
+    let end = text.len() as u32;
+    Refusal {
+        pos: place(text, fault.at.min(end)),
+        reason: fault.reason,
+    }
+}
+
+// The value of a digit.
+fn digit_value(byte: u8) -> u32
+    ensures { result ≡ digit_value byte }
+{
+    match byte {
+        b'0'..=b'9' => (byte - b'0') as u32,
+        b'A'..=b'Z' => (byte - b'A') as u32 + 10,
+        b'a'..=b'z' => (byte - b'a') as u32 + 10,
+        _ => 36,
+    }
+}
+
+// The number that digits say, where it fits.
+fn number_said(digits: &[u8]) -> Option<u32>
+    ensures { IfSome result (λ number. number ≡ digits_value 10 digits.now) }
+{
+    let mut number: u32 = 0;
+    for digit in digits {
+        number = number.checked_mul(10)?.checked_add(digit_value(*digit))?;
+    }
+    Some(number)
+}
+
+impl<'a> Declarations<'a> {
+    // The number of turns.
+    fn turns(&self, limit: Option<Span>) -> Result<Option<u32>, AllocError>
+        ensures { IfOk result (λ turns. turns ≡ option_map (number_said self.now) limit) }
+    {
+        match limit {
+            None => Ok(None),
+            Some(digits) => {
+                // In a text without wrong names the number of turns fits.
+                Ok(Some(number_said(self.said(digits)).ok_or(AllocError)?))
+            }
+        }
+    }
+
+    fn draft_from(&self, trace: &TraceRef) -> Result<Draft, AllocError>
+        ensures { (rest : List TraceItem) → traces_of self.now ≡ trace_item trace.now ∷ rest → IfOk result (λ draft. IsDraft self.now draft) }
+    {
+        let rules = self.rule_refs()?;
+        let parts = Parts {
+            signature: self.signature()?,
+            stages: self.stages()?,
+            rules: self.rules(&rules)?,
+            clauses: self.clauses()?,
+            start_stage: self.number(Space::Stages, trace.stage)?,
+            start: self.start(trace)?,
+            turns: self.turns(trace.limit)?,
+        };
+        Ok(Draft {
+            parts,
+            back_places: self.back_places(&rules)?,
+            right_places: self.right_places(&rules)?,
+        })
+    }
+}
+
+// The draft of a text without wrong names, or the first fault of its types.
+fn typed(
+    alloc: Global,
+    text: &[u8],
+    file: &RawFile,
+    names: &Names,
+) -> Result<Result<Draft, Fault>, AllocError>
+    requires { AreNames (record { text = text.now; file = file.now }) names.now }
+    ensures { IfOk result (λ answer. IsTyped (record { text = text.now; file = file.now }) answer) }
+{
+    let declared = Declarations::of(alloc, text, file, names)?;
+    if let Some(fault) = declared.first_clash()? {
+        return Ok(Err(fault));
+    }
+    // In a text without wrong names there is a trace.
+    let trace = declared.first_trace().ok_or(AllocError)?;
+    Ok(Ok(declared.draft_from(&trace)?))
+}
+
+/// What a text declares, or the first fault of its names, or else of its types.
+pub fn resolve(
+    alloc: Global,
+    text: &[u8],
+    file: &RawFile,
+) -> Result<Result<Draft, Refusal>, AllocError>
+    requires short { length text.now ≤ MOST_BYTES }
+    requires source { IsSource (record { text = text.now; file = file.now }) }
+    ensures { IfOk result (IsResolved (record { text = text.now; file = file.now })) }
+{
+    let names = match named(alloc, text, file)? {
+        Ok(names) => names,
+        Err(fault) => return Ok(Err(refusal(text, fault))),
+    };
+    match typed(alloc, text, file, &names)? {
+        Ok(draft) => Ok(Ok(draft)),
+        Err(fault) => Ok(Err(refusal(text, fault))),
+    }
+}
