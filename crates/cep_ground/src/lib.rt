@@ -1,7 +1,13 @@
 //! Which text is which program, and what is wrong with the others.
 #![tactic(auto)]
 
+mod accepting;
 pub mod laws;
 mod places;
 mod refusals;
 mod sealing;
+
+pub use accepting::accept;
+
+#[cfg(test)]
+mod acceptance_tests;

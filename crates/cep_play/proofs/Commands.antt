@@ -7,11 +7,10 @@ use Rattle.cep_base.specs.Files.{Files, HasFile}
 use Rattle.cep_play.specs.declared.command.Status.{Status}
 use Rattle.cep_play.specs.declared.command.Status.TheVariants.{Ended, Usage, Refused, Limited, Console, Unread, Memory}
 use Rattle.cep_play.specs.declared.dialogue.EndWord.{EndWord}
-use Rattle.cep_play.specs.declared.dialogue.EndWord.TheVariants.{Quiet, Input, Turns, Offers, Typed, State}
-use Rattle.cep_play.specs.declared.thin.TheConstants.{MOST_TEXT}
-use Rattle.cep_play.specs.Program.{Program}
-use Rattle.cep_play.specs.Turn.{EndsRun}
-use Rattle.cep_play.specs.Thin.{Spells}
+use Rattle.cep_play.specs.declared.dialogue.EndWord.TheVariants.{Quiet, Input, Turns, Offers, Typed, Atom, State}
+use Rattle.cep_rule.specs.declared.parts.Parts.{Parts}
+use Rattle.cep_ground.specs.Texts.{Spells}
+use Rattle.cep_play.specs.declared.command.TheConstants.{MOST_TEXT}
 use Rattle.cep_play.specs.Command.{Says, OfFile, OfText, OfRun, OfWords, IsNoForm, Writes, usage, code_of, status_of}
 use Rattle.cep_play.proofs.Did.{did_map}
 
@@ -27,25 +26,20 @@ pub of_file : (files : Option Files) (name bytes : List ℕ) (P : List ℕ → T
 of_file None name bytes P has holds = tt
 of_file (Some file) name bytes P has holds = subst (λ o. IsSomeAnd o P) (sym has) holds
 
-other_word : (word : EndWord) → (word ≡ Turns → ⊥) → (word ≡ Quiet → ⊥) → (word ≡ Input → ⊥) → (word ≡ Typed → ⊥) → EndsRun word → ⊥
-other_word word a b d e (inl turns) = a turns
-other_word word a b d e (inr (inl quiet)) = b quiet
-other_word word a b d e (inr (inr (inl input))) = d input
-other_word word a b d e (inr (inr (inr typed))) = e typed
-
 module _ {C : Type 0} (talk : C → Option (List Event)) (left : C → Option (List ℕ)) (old new : C) where
-  says_word : (program : Program) (word : EndWord) (P : EndWord → Type 0) → P word → Says talk left old new program (λ end. end ≡ word) → Says talk left old new program P
+  says_word : (program : Parts) (word : EndWord) (P : EndWord → Type 0) → P word → Says talk left old new program (λ end. end ≡ word) → Says talk left old new program P
   says_word program word P holds says =
       did_map talk left old new _ _ (λ come events rest d. (d.0, d.1, subst P (sym d.2) holds)) says
 
   -- a played text
-  pub text_played : (text : List ℕ) (program : Program) (word : EndWord) → EndsRun word → Spells text program → Says talk left old new program (λ end. end ≡ word) → OfText talk left old new text (status_of word)
-  text_played text program Quiet ends spells says = (program, spells, says_word program Quiet _ (inl refl) says)
-  text_played text program Input ends spells says = (program, spells, says_word program Input _ (inr refl) says)
-  text_played text program Turns ends spells says = (program, spells, says_word program Turns _ (inl refl) says)
-  text_played text program Typed ends spells says = (program, spells, says_word program Typed _ (inr refl) says)
-  text_played text program Offers ends spells says = absurd (other_word Offers (λ e. cc) (λ e. cc) (λ e. cc) (λ e. cc) ends)
-  text_played text program State ends spells says = absurd (other_word State (λ e. cc) (λ e. cc) (λ e. cc) (λ e. cc) ends)
+  pub text_played : (text : List ℕ) (program : Parts) (word : EndWord) → Spells text program → Says talk left old new program (λ end. end ≡ word) → OfText talk left old new text (status_of word)
+  text_played text program Quiet spells says = (program, spells, says_word program Quiet _ (inl refl) says)
+  text_played text program Input spells says = (program, spells, says_word program Input _ (inr refl) says)
+  text_played text program Turns spells says = (program, spells, says_word program Turns _ (inl refl) says)
+  text_played text program Offers spells says = (program, spells, says_word program Offers _ (inr (inl refl)) says)
+  text_played text program Typed spells says = (program, spells, says_word program Typed _ (inr (inr (inl refl))) says)
+  text_played text program Atom spells says = (program, spells, says_word program Atom _ (inr (inr (inr (inl refl)))) says)
+  text_played text program State spells says = (program, spells, says_word program State _ (inr (inr (inr (inr refl)))) says)
 
   -- a file's text
   pub file_read : (files : Option Files) (name text : List ℕ) (status : Status) → HasFile files name text → length text ≤ MOST_TEXT → OfText talk left old new text status → OfRun talk left old new files name status

@@ -1,22 +1,26 @@
 -- What the command does with its words, a shelf and a console.
-use Rattle.std.specs.Prelude.{◌≡◌, ◌⊎◌, ℕ, ◌<◌, ◌≤◌, List, [], ◌∷◌, ◌++◌, length, codes, Option, IfSome, IsSomeAnd, Result, Ok, Err}
+use Rattle.std.specs.Prelude.{◌≡◌, ◌⊎◌, ℕ, ◌<◌, ◌≤◌, List, [], ◌∷◌, ◌++◌, length, codes, decimal, Option, IfSome, IsSomeAnd, unwrap_or, Result, Ok, Err}
 use Rattle.std.specs.Option.{option_map}
 use Rattle.cep_base.specs.declared.console.Event.{Event}
 use Rattle.cep_base.specs.Talk.{outs, Did}
 use Rattle.cep_base.specs.Files.{Files}
 use Rattle.cep_base.specs.Faults.{Rose}
 use Rattle.cep_base.specs.declared.console.ConsoleFault.{ConsoleFault}
-use Rattle.cep_base.specs.declared.console.ConsoleFault.TheVariants as fault
+use Rattle.cep_base.specs.declared.console.ConsoleFault.TheVariants as faults
+use Rattle.cep_rule.specs.declared.parts.Parts.{Parts}
+use Rattle.cep_names.specs.declared.fault.Fault.{Fault}
+use Rattle.cep_names.specs.First.{number, reason_name}
+use Rattle.cep_infer.specs.declared.draft.Refusal.{Refusal}
+use Rattle.cep_ground.specs.Texts.{Spells}
+use Rattle.cep_ground.specs.Refusals.{IsRefusedFor, Tells}
 use Rattle.cep_play.specs.declared.command.Status.{Status}
 use Rattle.cep_play.specs.declared.command.Status.TheVariants.{Ended, Usage, Refused, Limited, Console, Unread, Memory}
 use Rattle.cep_play.specs.declared.dialogue.EndWord.{EndWord}
-use Rattle.cep_play.specs.declared.dialogue.EndWord.TheVariants.{Quiet, Input, Turns, Offers, Typed, State}
+use Rattle.cep_play.specs.declared.dialogue.EndWord.TheVariants.{Quiet, Input, Turns, Offers, Typed, Atom, State}
 use Rattle.cep_play.specs.declared.dialogue.TheConstants.{HEIGHT, TURNS}
-use Rattle.cep_play.specs.declared.thin.TheConstants.{MOST_TEXT}
-use Rattle.cep_play.specs.Program.{Program}
+use Rattle.cep_play.specs.declared.command.TheConstants.{MOST_TEXT}
 use Rattle.cep_play.specs.Lines.{line}
 use Rattle.cep_play.specs.Dialogue.{Ending, Dialogue}
-use Rattle.cep_play.specs.Thin.{Spells}
 
 -- the words are `play` and the name of a file
 abbrev pub IsPlay : List (List ℕ) → List ℕ → Type 0
@@ -32,8 +36,10 @@ usage = codes "usage: play FILE [seed=N] [height=N] [turns=N] | check FILE LOG |
 abbrev pub too_long : List ℕ
 too_long = codes "refused 1:1 19 TooLong"
 
-abbrev pub not_built : List ℕ
-not_built = codes "refused 1:1 20 NotBuilt"
+-- `refused LINE:COL NUMBER NAME`
+unfoldable pub refusal_text : Refusal → List ℕ
+refusal_text refusal =
+    codes "refused " ++ decimal refusal.pos.line ++ codes ":" ++ decimal refusal.pos.col ++ codes " " ++ decimal (number refusal.reason) ++ codes " " ++ reason_name refusal.reason
 
 abbrev pub no_program : List ℕ
 no_program = codes "cannot read program"
@@ -42,18 +48,23 @@ no_program = codes "cannot read program"
 abbrev pub Writes : {C : Type 0} → (C → Option (List Event)) → (C → Option (List ℕ)) → C → C → List ℕ → Type 0
 Writes talk left old new text = Did talk left old new (λ come events rest. (events ≡ outs (line text)) × (rest ≡ come))
 
+-- how many turns a run of the program has at most
+abbrev pub turn_limit : Parts → ℕ
+turn_limit program = unwrap_or program.turns TURNS
+
 -- what is said from old to new is a dialogue of the program, and its end word has P
-abbrev pub Says : {C : Type 0} → (C → Option (List Event)) → (C → Option (List ℕ)) → C → C → Program → (EndWord → Type 0) → Type 0
+abbrev pub Says : {C : Type 0} → (C → Option (List Event)) → (C → Option (List ℕ)) → C → C → Parts → (EndWord → Type 0) → Type 0
 Says talk left old new program P =
-    Did talk left old new (λ come events rest. (ending : Ending) × Dialogue program HEIGHT TURNS come events ending × P ending.word)
+    Did talk left old new (λ come events rest. (ending : Ending) × Dialogue program HEIGHT (turn_limit program) come events ending × P ending.word)
 
 -- the text spells a program, and what is said is a dialogue of it, whose end word has P
 abbrev pub Plays : {C : Type 0} → (C → Option (List Event)) → (C → Option (List ℕ)) → C → C → List ℕ → (EndWord → Type 0) → Type 0
-Plays talk left old new text P = (program : Program) × Spells text program × Says talk left old new program P
+Plays talk left old new text P = (program : Parts) × Spells text program × Says talk left old new program P
 
--- the text spells no program, and the line that says so is written
+-- the text is refused for the fault that is told first of all that is wrong with it, and the line that tells it is written
 abbrev pub Refuses : {C : Type 0} → (C → Option (List Event)) → (C → Option (List ℕ)) → C → C → List ℕ → Type 0
-Refuses talk left old new text = ((program : Program) → Spells text program → ⊥) × Writes talk left old new not_built
+Refuses talk left old new text =
+    (fault : Fault) × (refusal : Refusal) × IsRefusedFor text fault × Tells text fault refusal × Writes talk left old new (refusal_text refusal)
 
 -- the run ended in quiet or at the end of the input
 abbrev pub IsOver : EndWord → Type 0
@@ -61,7 +72,7 @@ IsOver word = (word ≡ Quiet) ⊎ (word ≡ Input)
 
 -- the run ended by a limit
 abbrev pub IsLimited : EndWord → Type 0
-IsLimited word = (word ≡ Turns) ⊎ (word ≡ Typed)
+IsLimited word = (word ≡ Turns) ⊎ ((word ≡ Offers) ⊎ ((word ≡ Typed) ⊎ ((word ≡ Atom) ⊎ (word ≡ State))))
 
 -- the status of a run that ended with this word
 abbrev pub status_of : EndWord → Status
@@ -70,6 +81,7 @@ status_of Input = Ended
 status_of Turns = Limited
 status_of Offers = Limited
 status_of Typed = Limited
+status_of Atom = Limited
 status_of State = Limited
 
 -- what a status says of a text within the limit
@@ -82,7 +94,7 @@ OfText talk left old new text Console = ⊥
 OfText talk left old new text Unread = ⊥
 OfText talk left old new text Memory = ⊥
 
--- the file's text is too long, or it spells no program, and the line that says so is written
+-- the file's text is too long, or it is refused, and the line that says so is written
 abbrev pub RefusesFile : {C : Type 0} → (C → Option (List Event)) → (C → Option (List ℕ)) → C → C → Option Files → List ℕ → Type 0
 RefusesFile talk left old new files name =
     (OfFile files name (λ text. MOST_TEXT < length text) × Writes talk left old new too_long)
@@ -137,14 +149,14 @@ AsksFor words P = OfPlay words (λ name. P (name ∷ [])) ⊎ (IsNoForm words ×
 -- the file was asked for, but for want of memory perhaps
 abbrev pub AsksFile : Option (List (List ℕ)) → List ℕ → Option (List (List ℕ)) → Result Status ConsoleFault → Type 0
 AsksFile before name after (Ok status) = Adds before after (name ∷ [])
-AsksFile before name after (Err fault.Failed) = Adds before after (name ∷ [])
-AsksFile before name after (Err (fault.Memory error)) = Adds before after (name ∷ []) ⊎ (after ≡ before)
+AsksFile before name after (Err faults.Failed) = Adds before after (name ∷ [])
+AsksFile before name after (Err (faults.Memory error)) = Adds before after (name ∷ []) ⊎ (after ≡ before)
 
 -- what the words ask for was asked for, but for want of memory perhaps
 abbrev pub Asks : Option (List (List ℕ)) → List (List ℕ) → Option (List (List ℕ)) → Result Status ConsoleFault → Type 0
 Asks before words after (Ok status) = AsksFor words (Adds before after)
-Asks before words after (Err fault.Failed) = AsksFor words (Adds before after)
-Asks before words after (Err (fault.Memory error)) = AsksFor words (Adds before after) ⊎ (after ≡ before)
+Asks before words after (Err faults.Failed) = AsksFor words (Adds before after)
+Asks before words after (Err (faults.Memory error)) = AsksFor words (Adds before after) ⊎ (after ≡ before)
 
 -- the status of the process
 abbrev pub code_of : Status → ℕ

@@ -1,40 +1,71 @@
--- The dialogues of a program: every turn offers what applies, a player chooses, and the run ends for a named reason.
-use Rattle.std.specs.Prelude.{◌≡◌, ℕ, ◌+◌, ◌-◌, ◌<◌, ◌≤◌, List, [], ◌++◌, length, slice_get, Some}
+-- The dialogues of a program: every turn offers what applies, a player chooses, and the run ends for a named reason. In the programs that can be played today the player makes every choice.
+use Rattle.std.specs.Prelude.{◌≡◌, ℕ, ◌+◌, ◌-◌, ◌<◌, ◌≤◌, List, ◌++◌, length, slice_get, Some, unwrap_or}
+use Rattle.std.specs.List.{AllByRecursion}
 use Rattle.cep_base.specs.declared.console.Event.{Event}
 use Rattle.cep_base.specs.Talk.{outs}
+use Rattle.cep_term.specs.Tree.{IsFit}
+use Rattle.cep_term.specs.Multiset.{Multiset}
+use Rattle.cep_rule.specs.declared.limits.TheConstants.{MOST_OFFERS}
+use Rattle.cep_rule.specs.declared.rule.Rule.{Rule}
+use Rattle.cep_rule.specs.declared.parts.Parts.{Parts}
+use Rattle.cep_rule.specs.declared.offer.Offer.{Offer}
+use Rattle.cep_rule.specs.State.{Fits}
+use Rattle.cep_rule.specs.Instances.{instances_by}
+use Rattle.cep_rule.specs.Offers.{AreOffers}
+use Rattle.cep_rule.specs.Stages.{IsAsked, IsQuiet}
+use Rattle.cep_rule.specs.Step.{Step}
 use Rattle.cep_play.specs.declared.choice.Choice.{Choice}
 use Rattle.cep_play.specs.declared.choice.Choice.TheVariants.{Place, NoMore, NoRoom}
 use Rattle.cep_play.specs.declared.dialogue.EndWord.{EndWord}
-use Rattle.cep_play.specs.declared.dialogue.EndWord.TheVariants.{Quiet, Input, Turns, Offers, Typed, State}
-use Rattle.cep_play.specs.declared.dialogue.TheConstants.{MOST_OFFERS}
-use Rattle.cep_play.specs.Bag.{Bag, bag_of}
-use Rattle.cep_play.specs.Program.{Rule, Program, AreOffers, Step, Fits}
+use Rattle.cep_play.specs.declared.dialogue.EndWord.TheVariants.{Quiet, Input, Turns, Offers, Typed, Atom, State}
 use Rattle.cep_play.specs.Choice.{Hears}
-use Rattle.cep_play.specs.Lines.{question, step_line, end_lines, header}
+use Rattle.cep_play.specs.Lines.{question, step_lines, end_lines, header}
+
+-- where a run stands: the stage, the state, and how many turns are done
+pub record Position : Type 0 where
+  pub stage : ℕ
+  pub state : Multiset
+  pub turns : ℕ
+
+-- where a run of the program begins
+abbrev pub start_of : Parts → Position
+start_of program = record { stage = program.start_stage; state = program.start; turns = 0 }
+
+-- where a run stands after a step to a state: in the stage that the rule leads to, or in the old one where it leads to none, with one more turn done
+abbrev pub position_after : Position → Rule → Multiset → Position
+position_after at rule next = record { stage = unwrap_or rule.next at.stage; state = next; turns = at.turns + 1 }
 
 -- how a run ended: the word, the last state, and the turns that were done
 pub record Ending : Type 0 where
   pub word : EndWord
-  pub state : Bag
+  pub state : Multiset
   pub turns : ℕ
 
--- the run ends here, with this word
-pub record Ends (program : Program) (word : EndWord) (state : Bag) (turns : ℕ) (events : List Event) (ending : Ending) : Type 0 where
-  pub written : events ≡ outs (end_lines program.atoms word state)
-  pub ended : ending ≡ record { word = word; state = state; turns = turns }
+-- The run ends here, with this word.
+pub record Ends (program : Parts) (word : EndWord) (at : Position) (events : List Event) (ending : Ending) : Type 0 where
+  pub written : events ≡ outs (end_lines program.signature word at.state)
+  pub ended : ending ≡ record { word = word; state = at.state; turns = at.turns }
 
--- the player is asked to choose among these offers: there are some, not too many, and turns remain
-pub record IsAsked (program : Program) (limit : ℕ) (state : Bag) (turns : ℕ) (offers : List ℕ) : Type 0 where
-  pub offered : AreOffers program.rules state offers
-  pub some : 0 < length offers
+-- These are the offers of the group that the stage asks.
+pub record AreAsked (program : Parts) (height : ℕ) (at : Position) (offers : List Offer) : Type 0 where
+  pub group : ℕ
+  pub asked : IsAsked program height at.state at.stage group
+  pub offered : AreOffers program height at.state group offers
+
+-- The player is asked to choose among these offers: the stage asks them, they are not too many, and turns remain.
+pub record IsQuestion (program : Parts) (height limit : ℕ) (at : Position) (offers : List Offer) : Type 0 where
+  pub are : AreAsked program height at offers
   pub few : length offers ≤ MOST_OFFERS
-  pub remain : turns < limit
+  pub remain : at.turns < limit
 
--- the choice is this rule: the offer at its place, counted from 1
-pub record IsChosen (rules : List Rule) (offers : List ℕ) (place : ℕ) (rule : Rule) : Type 0 where
-  pub offer : ℕ
+-- The choice is this offer, at its place counted from 1, and this is its rule.
+pub record IsChosen (program : Parts) (offers : List Offer) (place : ℕ) (offer : Offer) (rule : Rule) : Type 0 where
   pub at_place : slice_get offers (place - 1) ≡ Some offer
-  pub of_rule : slice_get rules offer ≡ Some rule
+  pub of_rule : slice_get program.rules offer.rule ≡ Some rule
+
+-- All atoms that the offer's rule makes are fit.
+abbrev pub MakesFit : Offer → Rule → Type 0
+MakesFit offer rule = AllByRecursion IsFit (instances_by offer.values rule.right)
 
 -- what ends a run when a choice is wanted: no more is typed, or no more may be
 abbrev pub IsStop : Choice → EndWord → Type 0
@@ -42,52 +73,61 @@ IsStop NoMore word = word ≡ Input
 IsStop NoRoom word = word ≡ Typed
 IsStop (Place place) word = ⊥
 
--- From a state and the turns done, with these bytes to come and so many taken: what is said until the end. The first case that fits holds.
-pub data Talk (program : Program) (limit : ℕ) : Bag → ℕ → List ℕ → ℕ → List Event → Ending → Type 0 where
+-- From a position, with these bytes to come and so many taken: what is said until the end. The first case that fits holds.
+pub data Talk (program : Parts) (height limit : ℕ) : Position → List ℕ → ℕ → List Event → Ending → Type 0 where
   -- no rule applies
-  quiet : {state : Bag} {turns : ℕ} {come : List ℕ} {taken : ℕ} {events : List Event} {ending : Ending}
-      → AreOffers program.rules state []
-      → Ends program Quiet state turns events ending
-      → Talk program limit state turns come taken events ending
+  quiet : {at : Position} {come : List ℕ} {taken : ℕ} {events : List Event} {ending : Ending}
+      → IsQuiet program height at.state at.stage
+      → Ends program Quiet at events ending
+      → Talk program height limit at come taken events ending
   -- all turns are done
-  turns : {state : Bag} {turns : ℕ} {come : List ℕ} {taken : ℕ} {events : List Event} {ending : Ending} (offers : List ℕ)
-      → AreOffers program.rules state offers → 0 < length offers → turns ≡ limit
-      → Ends program Turns state turns events ending
-      → Talk program limit state turns come taken events ending
+  turns : {at : Position} {come : List ℕ} {taken : ℕ} {events : List Event} {ending : Ending} (group : ℕ)
+      → IsAsked program height at.state at.stage group → at.turns ≡ limit
+      → Ends program Turns at events ending
+      → Talk program height limit at come taken events ending
   -- the offers are too many
-  crowded : {state : Bag} {turns : ℕ} {come : List ℕ} {taken : ℕ} {events : List Event} {ending : Ending} (offers : List ℕ)
-      → AreOffers program.rules state offers → MOST_OFFERS < length offers → turns < limit
-      → Ends program Offers state turns events ending
-      → Talk program limit state turns come taken events ending
+  crowded : {at : Position} {come : List ℕ} {taken : ℕ} {events : List Event} {ending : Ending} (offers : List Offer)
+      → AreAsked program height at offers → MOST_OFFERS < length offers → at.turns < limit
+      → Ends program Offers at events ending
+      → Talk program height limit at come taken events ending
   -- the choice is not made
-  unchosen : {state : Bag} {turns : ℕ} {come : List ℕ} {taken : ℕ} {events : List Event} {ending : Ending}
-      (offers : List ℕ) (choice : Choice) (word : EndWord) (rest : List ℕ) (taken' : ℕ) (heard last : List Event)
-      → IsAsked program limit state turns offers
+  unchosen : {at : Position} {come : List ℕ} {taken : ℕ} {events : List Event} {ending : Ending}
+      (offers : List Offer) (choice : Choice) (word : EndWord) (rest : List ℕ) (taken' : ℕ) (heard last : List Event)
+      → IsQuestion program height limit at offers
       → Hears (length offers) come taken heard choice rest taken' → IsStop choice word
-      → Ends program word state turns last ending
-      → events ≡ outs (question program.rules offers) ++ (heard ++ last)
-      → Talk program limit state turns come taken events ending
-  -- the new state would have too many copies
-  overfull : {state : Bag} {turns : ℕ} {come : List ℕ} {taken : ℕ} {events : List Event} {ending : Ending}
-      (offers : List ℕ) (place : ℕ) (rule : Rule) (next : Bag) (rest : List ℕ) (taken' : ℕ) (heard last : List Event)
-      → IsAsked program limit state turns offers
-      → Hears (length offers) come taken heard (Place place) rest taken' → IsChosen program.rules offers place rule
-      → Step rule state next → (Fits program.atoms next → ⊥)
-      → Ends program State state turns last ending
-      → events ≡ outs (question program.rules offers) ++ (heard ++ last)
-      → Talk program limit state turns come taken events ending
+      → Ends program word at last ending
+      → events ≡ outs (question program offers) ++ (heard ++ last)
+      → Talk program height limit at come taken events ending
+  -- an atom that the step would make is not fit
+  unfit : {at : Position} {come : List ℕ} {taken : ℕ} {events : List Event} {ending : Ending}
+      (offers : List Offer) (place : ℕ) (offer : Offer) (rule : Rule) (rest : List ℕ) (taken' : ℕ) (heard last : List Event)
+      → IsQuestion program height limit at offers
+      → Hears (length offers) come taken heard (Place place) rest taken' → IsChosen program offers place offer rule
+      → ¬ (MakesFit offer rule)
+      → Ends program Atom at last ending
+      → events ≡ outs (question program offers) ++ (heard ++ last)
+      → Talk program height limit at come taken events ending
+  -- the state after the step would not fit
+  overfull : {at : Position} {come : List ℕ} {taken : ℕ} {events : List Event} {ending : Ending}
+      (offers : List Offer) (place : ℕ) (offer : Offer) (rule : Rule) (next : Multiset) (rest : List ℕ) (taken' : ℕ) (heard last : List Event)
+      → IsQuestion program height limit at offers
+      → Hears (length offers) come taken heard (Place place) rest taken' → IsChosen program offers place offer rule
+      → MakesFit offer rule → Step rule offer.values at.state next → ¬ (Fits next)
+      → Ends program State at last ending
+      → events ≡ outs (question program offers) ++ (heard ++ last)
+      → Talk program height limit at come taken events ending
   -- one turn is done
-  turn : {state : Bag} {turns : ℕ} {come : List ℕ} {taken : ℕ} {events : List Event} {ending : Ending}
-      (offers : List ℕ) (place : ℕ) (rule : Rule) (next : Bag) (rest : List ℕ) (taken' : ℕ) (heard others : List Event)
-      → IsAsked program limit state turns offers
-      → Hears (length offers) come taken heard (Place place) rest taken' → IsChosen program.rules offers place rule
-      → Step rule state next → Fits program.atoms next
-      → Talk program limit next (turns + 1) rest taken' others ending
-      → events ≡ outs (question program.rules offers) ++ (heard ++ (outs (step_line rule) ++ others))
-      → Talk program limit state turns come taken events ending
+  turn : {at : Position} {come : List ℕ} {taken : ℕ} {events : List Event} {ending : Ending}
+      (offers : List Offer) (place : ℕ) (offer : Offer) (rule : Rule) (next : Multiset) (rest : List ℕ) (taken' : ℕ) (heard others : List Event)
+      → IsQuestion program height limit at offers
+      → Hears (length offers) come taken heard (Place place) rest taken' → IsChosen program offers place offer rule
+      → MakesFit offer rule → Step rule offer.values at.state next → Fits next
+      → Talk program height limit (position_after at rule next) rest taken' others ending
+      → events ≡ outs (question program offers) ++ (heard ++ (outs (step_lines program offer rule) ++ others))
+      → Talk program height limit at come taken events ending
 
--- A whole dialogue: the header, and the talk from the start state.
-pub record Dialogue (program : Program) (height limit : ℕ) (come : List ℕ) (events : List Event) (ending : Ending) : Type 0 where
+-- A whole dialogue: the header, and the talk from the start.
+pub record Dialogue (program : Parts) (height limit : ℕ) (come : List ℕ) (events : List Event) (ending : Ending) : Type 0 where
   pub others : List Event
-  pub talk : Talk program limit (bag_of program.start) 0 come 0 others ending
-  pub whole : events ≡ outs (header program height (bag_of program.start)) ++ others
+  pub talk : Talk program height limit (start_of program) come 0 others ending
+  pub whole : events ≡ outs (header program height) ++ others

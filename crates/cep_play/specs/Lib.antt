@@ -1,10 +1,6 @@
-pub mod Bag
-pub mod Program
 pub mod Choice
 pub mod Typed
 pub mod Lines
 pub mod Dialogue
 pub mod Turn
-pub mod Thin
-pub mod Reading
 pub mod Command

@@ -1,43 +1,63 @@
 -- The lines of a transcript.
-use Rattle.std.specs.Prelude.{ℕ, ◌+◌, List, [], ◌∷◌, ◌++◌, length, codes, decimal, slice_index_or, if◌then◌else◌, ◌==◌, Option, Some, None, slice_get}
-use Rattle.std.specs.List.{flat_map, range_with_len}
+use Rattle.std.specs.Prelude.{ℕ, ◌+◌, List, [], ◌∷◌, ◌++◌, codes, decimal, Option, Some, None, slice_get}
+use Rattle.std.specs.List.{flat_map}
+use Rattle.std.specs.FinMap as finite
+use Rattle.cep_term.specs.Tree.{AtomTree}
+use Rattle.cep_term.specs.Multiset.{Multiset}
+use Rattle.cep_rule.specs.declared.signature.Signature.{Signature}
+use Rattle.cep_rule.specs.declared.rule.Rule.{Rule}
+use Rattle.cep_rule.specs.declared.parts.Stage.{Stage}
+use Rattle.cep_rule.specs.declared.parts.Parts.{Parts}
+use Rattle.cep_rule.specs.declared.offer.Offer.{Offer}
+use Rattle.cep_text.specs.Texts.{atom_text, offer_text}
 use Rattle.cep_play.specs.declared.dialogue.EndWord.{EndWord}
-use Rattle.cep_play.specs.declared.dialogue.EndWord.TheVariants.{Quiet, Input, Turns, Offers, Typed, State}
-use Rattle.cep_play.specs.Bag.{Bag}
-use Rattle.cep_play.specs.Program.{Rule, Program}
+use Rattle.cep_play.specs.declared.dialogue.EndWord.TheVariants.{Quiet, Input, Turns, Offers, Typed, Atom, State}
 
 -- a text and the LF that ends its line
 abbrev pub line : List ℕ → List ℕ
 line text = text ++ 10 ∷ []
 
--- `have N ATOM`, where there is a copy
-unfoldable pub have_line : ℕ → List ℕ → List ℕ
-have_line count atom = if count == 0 then [] else line (codes "have " ++ decimal count ++ codes " " ++ atom)
+-- `have N ATOM`
+unfoldable pub have_line : Signature → AtomTree × ℕ → List ℕ
+have_line signature entry = line (codes "have " ++ decimal entry.1 ++ codes " " ++ atom_text signature entry.0)
 
--- the copies of each atom, in order
-unfoldable pub listing : List (List ℕ) → Bag → List ℕ
-listing atoms state = flat_map (λ number. have_line (state number) (slice_index_or atoms number [])) (range_with_len 0 (length atoms))
-
-abbrev pub name_of : Option Rule → List ℕ
-name_of None = []
-name_of (Some rule) = rule.name
+-- the copies of each atom of a state, in the order of atoms
+unfoldable pub listing : Signature → Multiset → List ℕ
+listing signature state = flat_map (have_line signature) (finite.entries state)
 
 -- `? I OFFER`
-unfoldable pub offer_line : ℕ → List ℕ → List ℕ
-offer_line place name = line (codes "? " ++ decimal place ++ codes " " ++ name)
+unfoldable pub offer_line : Parts → ℕ → Offer → List ℕ
+offer_line program place offer = line (codes "? " ++ decimal place ++ codes " " ++ offer_text program offer)
 
 -- the offers, numbered from a place on
-unfoldable pub offer_lines : List Rule → ℕ → List ℕ → List ℕ
-offer_lines rules place [] = []
-offer_lines rules place (offer ∷ offers) = offer_line place (name_of (slice_get rules offer)) ++ offer_lines rules (place + 1) offers
+unfoldable pub offer_lines : Parts → ℕ → List Offer → List ℕ
+offer_lines program place [] = []
+offer_lines program place (offer ∷ offers) = offer_line program place offer ++ offer_lines program (place + 1) offers
 
 -- what is written before a choice
-unfoldable pub question : List Rule → List ℕ → List ℕ
-question rules offers = offer_lines rules 1 offers ++ line (codes "? choose")
+unfoldable pub question : Parts → List Offer → List ℕ
+question program offers = offer_lines program 1 offers ++ line (codes "? choose")
+
+abbrev pub stage_name : Option Stage → List ℕ
+stage_name None = []
+stage_name (Some stage) = stage.name
+
+-- `stage NAME`
+unfoldable pub stage_line : Parts → ℕ → List ℕ
+stage_line program stage = line (codes "stage " ++ stage_name (slice_get program.stages stage))
+
+-- the line of the stage that a rule leads to, where it leads to one
+abbrev pub next_line : Parts → Option ℕ → List ℕ
+next_line program None = []
+next_line program (Some stage) = stage_line program stage
 
 -- `step OFFER`
-unfoldable pub step_line : Rule → List ℕ
-step_line rule = line (codes "step " ++ rule.name)
+unfoldable pub step_line : Parts → Offer → List ℕ
+step_line program offer = line (codes "step " ++ offer_text program offer)
+
+-- what is written of a step by an offer of a rule: its line, and that of the next stage where the rule leads to one
+unfoldable pub step_lines : Parts → Offer → Rule → List ℕ
+step_lines program offer rule = step_line program offer ++ next_line program rule.next
 
 abbrev pub word_of : EndWord → List ℕ
 word_of Quiet = codes "quiet"
@@ -45,12 +65,14 @@ word_of Input = codes "input"
 word_of Turns = codes "turns"
 word_of Offers = codes "offers"
 word_of Typed = codes "typed"
+word_of Atom = codes "atom"
 word_of State = codes "state"
 
 -- `end WORD`, and the listing of the state
-unfoldable pub end_lines : List (List ℕ) → EndWord → Bag → List ℕ
-end_lines atoms word state = line (codes "end " ++ word_of word) ++ listing atoms state
+unfoldable pub end_lines : Signature → EndWord → Multiset → List ℕ
+end_lines signature word state = line (codes "end " ++ word_of word) ++ listing signature state
 
 -- the first three lines, and the listing of the start state
-unfoldable pub header : Program → ℕ → Bag → List ℕ
-header program height start = line (codes "ceptre 1") ++ (line (codes "height " ++ decimal height) ++ (line (codes "stage " ++ program.stage) ++ listing program.atoms start))
+unfoldable pub header : Parts → ℕ → List ℕ
+header program height =
+    line (codes "ceptre 1") ++ (line (codes "height " ++ decimal height) ++ (stage_line program program.start_stage ++ listing program.signature program.start))

@@ -2,13 +2,20 @@
 ghost use Rattle.std.specs.Prelude.{◌≡◌, ◌≢◌, ◌⊎◌, ◌<◌, ◌≤◌, [], ◌∷◌, length, map, string_bytes, IfOk, Contains, MatchOption};
 ghost use Rattle.cep_base.specs.Talk.{Did, ConsoleCause};
 ghost use Rattle.cep_base.specs.Faults.{Rose};
-ghost use Rattle.cep_play.specs.Command.{IsPlay, OfFile, Plays, RefusesFile, Writes, IsOver, IsLimited, OfText, OfRun, OfWords, CountsFaults, Adds, AsksFile, Asks, AsksFor, OfPlay, IsNoForm, usage, no_program, code_of, status_of};
+ghost use Rattle.std.specs.Prelude.{OnOk, ◌++◌};
+ghost use Rattle.cep_play.specs.Lines.{line};
+ghost use Rattle.cep_play.specs.Command.{IsPlay, OfFile, Plays, RefusesFile, Writes, IsOver, IsLimited, OfText, OfRun, OfWords, CountsFaults, Adds, AsksFile, Asks, AsksFor, OfPlay, IsNoForm, usage, no_program, refusal_text, code_of, status_of};
 
 use crate::dialogue::{EndWord, play};
-use crate::thin::{MOST_TEXT, read};
-use cep_base::{Console, ConsoleFault, Shelf, ShelfFault, Steps};
-use std::alloc::Global;
+use cep_base::{Console, ConsoleFault, Shelf, ShelfFault, Steps, Text};
+use cep_ground::accept;
+use cep_infer::Refusal;
+use cep_scratch::Scratch;
+use std::alloc::{AllocError, Global};
 use std::sync::ledger::Ledger;
+
+/// The most bytes of a program's text that are read.
+pub const MOST_TEXT: usize = 1_048_576;
 
 const USAGE: &[u8] =
     b"usage: play FILE [seed=N] [height=N] [turns=N] | check FILE LOG | world N [seed=N] [height=N] [turns=N]\n";
@@ -55,42 +62,77 @@ fn status_of(word: EndWord) -> Status
 {
     match word {
         EndWord::Quiet | EndWord::Input => Status::Ended,
-        EndWord::Turns | EndWord::Offers | EndWord::Typed | EndWord::State => Status::Limited,
+        EndWord::Turns | EndWord::Offers | EndWord::Typed | EndWord::Atom | EndWord::State =>
+            Status::Limited,
     }
 }
 
+// The line of a refusal.
+#[tactic(auto, using(std::proofs::Common::append_assoc), unfolding(crate::specs::Command::refusal_text))]
+fn put_refusal(out: &mut Text, refusal: Refusal) -> Result<(), AllocError>
+    ensures { OnOk result (out.new ≡ out.old ++ line (refusal_text refusal)) }
+{
+    out.append(b"refused ")?;
+    out.number(u64::from(refusal.pos.line))?;
+    out.append(b":")?;
+    out.number(u64::from(refusal.pos.col))?;
+    out.append(b" ")?;
+    out.number(u64::from(refusal.reason.number()))?;
+    out.append(b" ")?;
+    out.append(refusal.reason.name().as_bytes())?;
+    out.append(b"\n")
+}
+
+/// Writes why a text is refused.
+fn refuse<C: Console>(alloc: Global, refusal: Refusal, console: &mut C) -> Result<(), ConsoleFault>
+    ensures told { OnOk result (Writes C.talk C.left console.old console.new (refusal_text refusal)) }
+    ensures cause { ConsoleCause (C.faults console.old) (C.faults console.new) result }
+{
+    let mut line = Text::new(alloc);
+    put_refusal(&mut line, refusal)?;
+    console.put(line.bytes())
+}
+
 /// Plays the program that a text spells, or refuses the text.
-fn play_text<C: Console>(
+fn play_text<C: Console, L: Ledger>(
     alloc: Global,
     text: &[u8],
     console: &mut C,
+    steps: &mut Steps<L>,
 ) -> Result<Status, ConsoleFault>
-    requires { length text.now ≤ MOST_TEXT }
     ensures outcome { IfOk result (OfText C.talk C.left console.old console.new text.now) }
+    ensures counted { steps.old ≤ steps.new }
     ensures cause { ConsoleCause (C.faults console.old) (C.faults console.new) result }
 {
-    let Some(program) = read(alloc, text)? else {
-        console.put(b"refused 1:1 20 NotBuilt\n")?;
-        return Ok(Status::Refused);
-    };
-    Ok(status_of(play(alloc, &program, console)?))
+    match accept(alloc, text)? {
+        Ok(program) => {
+            let word = play::<Scratch, C, L>(alloc, &program, console, steps)?;
+            Ok(status_of(word))
+        }
+        Err(refusal) => {
+            refuse(alloc, refusal, console)?;
+            Ok(Status::Refused)
+        }
+    }
 }
 
 /// Plays the program in a file of the shelf.
-fn play_file<C: Console, H: Shelf>(
+fn play_file<C: Console, H: Shelf, L: Ledger>(
     alloc: Global,
     file: &str,
     console: &mut C,
     shelf: &mut H,
+    steps: &mut Steps<L>,
 ) -> Result<Status, ConsoleFault>
     ensures outcome { IfOk result (OfRun C.talk C.left console.old console.new (H.files shelf.old) file.now) }
     ensures cause { ConsoleCause (C.faults console.old) (C.faults console.new) result }
     ensures faults { IfOk result (CountsFaults (H.faults shelf.old) (H.faults shelf.new)) }
     ensures asked { AsksFile (H.asked shelf.old) file.now (H.asked shelf.new) result }
     ensures files { H.files shelf.new ≡ H.files shelf.old }
+    ensures counted { steps.old ≤ steps.new }
 {
     match shelf.load(alloc, file, MOST_TEXT) {
-        Ok(text) => play_text(alloc, &text, console),
+        Ok(text) => play_text(alloc, &text, console, steps),
         Err(ShelfFault::TooLong) => {
             console.put(b"refused 1:1 19 TooLong\n")?;
             Ok(Status::Refused)
@@ -114,20 +156,22 @@ fn file_of(words: &[String]) -> Option<&String>
 }
 
 /// Does what the words ask for.
-fn command<C: Console, H: Shelf>(
+fn command<C: Console, H: Shelf, L: Ledger>(
     alloc: Global,
     words: &[String],
     console: &mut C,
     shelf: &mut H,
+    steps: &mut Steps<L>,
 ) -> Result<Status, ConsoleFault>
     ensures outcome { IfOk result (OfWords C.talk C.left console.old console.new (H.files shelf.old) (map string_bytes words.now)) }
     ensures cause { ConsoleCause (C.faults console.old) (C.faults console.new) result }
     ensures faults { IfOk result (CountsFaults (H.faults shelf.old) (H.faults shelf.new)) }
     ensures asked { Asks (H.asked shelf.old) (map string_bytes words.now) (H.asked shelf.new) result }
     ensures files { H.files shelf.new ≡ H.files shelf.old }
+    ensures counted { steps.old ≤ steps.new }
 {
     match file_of(words) {
-        Some(file) => play_file(alloc, file.as_str(), console, shelf),
+        Some(file) => play_file(alloc, file.as_str(), console, shelf, steps),
         None => {
             console.put(USAGE)?;
             Ok(Status::Usage)
@@ -148,8 +192,7 @@ fn command<C: Console, H: Shelf>(
 /// | 7 | the program's file could not be read; the line that says so was written |
 /// | 9 | memory ran out |
 ///
-/// After 6 and 9 some of what was due may be missing at the end. `steps` counts the matching steps of
-/// programs with variables: the programs that are played today need none.
+/// After 6 and 9 some of what was due may be missing at the end. `steps` counts matching steps.
 pub fn ceptre<C: Console, H: Shelf, L: Ledger>(
     alloc: Global,
     words: &[String],
@@ -181,10 +224,11 @@ pub fn ceptre<C: Console, H: Shelf, L: Ledger>(
     ensures asked { result ≢ 9 → AsksFor (map string_bytes words.now) (Adds (H.asked shelf.old) (H.asked shelf.new)) }
     ensures asked_at_most { result ≡ 9 → AsksFor (map string_bytes words.now) (Adds (H.asked shelf.old) (H.asked shelf.new)) ⊎ (H.asked shelf.new ≡ H.asked shelf.old) }
     ensures files { H.files shelf.new ≡ H.files shelf.old }
-    ensures uncounted { steps.new ≡ steps.old }
+
+    // The counter of matching steps never falls.
+    ensures counted { steps.old ≤ steps.new }
 {
-    let _uncounted = steps;
-    match command(alloc, words, console, shelf) {
+    match command(alloc, words, console, shelf, steps) {
         Ok(status) => status.code(),
         Err(ConsoleFault::Failed) => Status::Console.code(),
         Err(ConsoleFault::Memory(_)) => Status::Memory.code(),

@@ -7,13 +7,10 @@ mod command;
 mod dialogue;
 mod laws;
 mod lines;
-mod names;
-mod program;
-mod state;
 #[cfg(test)]
 mod tests;
-mod thin;
+mod turn;
 mod typed;
 
 pub use command::ceptre;
-pub use laws::{one_dialogue, one_program};
+pub use laws::one_dialogue;

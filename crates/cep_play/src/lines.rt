@@ -1,67 +1,85 @@
 // Writes the lines of a transcript at the end of a text.
 ghost use Rattle.std.specs.Prelude.{◌≡◌, ◌<◌, ◌++◌, length, All, OnOk};
-ghost use Rattle.cep_play.specs.Bag.{counted};
-ghost use Rattle.cep_play.specs.Lines.{have_line, listing, offer_line, question, step_line, end_lines, header};
+ghost use Rattle.cep_term.specs.Tree.{atom_of};
+ghost use Rattle.cep_rule.specs.State.{IsState};
+ghost use Rattle.cep_rule.specs.Matching.{offers_of};
+ghost use Rattle.cep_text.specs.Texts.{IsTypedFact, IsOfferOf};
+ghost use Rattle.cep_play.specs.Lines.{have_line, listing, offer_line, question, stage_line, step_line, end_lines, header};
 
 use crate::dialogue::EndWord;
-use crate::names::Names;
-use crate::program::{Program, Rule};
-use cep_base::{Name, Text};
+use cep_base::Text;
+use cep_rule::{Matcher, Offer, Program};
+use cep_term::laws::order_is_total;
+use cep_term::{Atom, Bag};
+use cep_text::{put_atom, put_offer};
 use std::alloc::AllocError;
 
 #[tactic(auto, using(std::proofs::Common::append_assoc), unfolding(crate::specs::Lines::have_line))]
-fn put_have(out: &mut Text, count: u32, atom: &[u8]) -> Result<(), AllocError>
-    ensures { OnOk result (out.new ≡ out.old ++ have_line count atom.now) }
+fn put_have(out: &mut Text, program: &Program, atom: &Atom, copies: u32) -> Result<(), AllocError>
+    requires { IsTypedFact program.now.signature (atom_of atom.now) }
+    ensures { OnOk result (out.new ≡ out.old ++ have_line program.now.signature (atom_of atom.now, copies)) }
 {
-    if count == 0 {
-        return Ok(());
-    }
     out.append(b"have ")?;
-    out.number(u64::from(count))?;
+    out.number(u64::from(copies))?;
     out.append(b" ")?;
-    out.append(atom)?;
+    put_atom(program, atom, out)?;
     out.append(b"\n")
 }
 
-fn put_listing(out: &mut Text, atoms: &Names, counts: &[u32]) -> Result<(), AllocError>
-    requires { length counts.now ≡ length atoms.now }
-    ensures { OnOk result (out.new ≡ out.old ++ listing atoms.now (counted counts.now)) }
+fn put_listing(out: &mut Text, program: &Program, state: &Bag) -> Result<(), AllocError>
+    requires { IsState program.now.signature state.now }
+    ensures { OnOk result (out.new ≡ out.old ++ listing program.now.signature state.now) }
 {
-    for (number, count) in counts.iter().enumerate() {
-        put_have(out, *count, atoms.get(number))?;
+    order_is_total();
+    for i in 0..state.len() {
+        let (atom, copies) = state.entry(i);
+        put_have(out, program, atom, copies)?;
     }
     Ok(())
 }
 
 #[tactic(auto, using(std::proofs::Common::append_assoc), unfolding(crate::specs::Lines::offer_line))]
-fn put_offer(out: &mut Text, place: usize, name: &Name) -> Result<(), AllocError>
-    ensures { OnOk result (out.new ≡ out.old ++ offer_line place name.now) }
+fn put_offer_line(
+    out: &mut Text,
+    program: &Program,
+    place: usize,
+    offer: &Offer,
+) -> Result<(), AllocError>
+    requires { IsOfferOf program.now offer.now }
+    ensures { OnOk result (out.new ≡ out.old ++ offer_line program.now place offer.now) }
 {
     out.append(b"? ")?;
     out.number(place as u64)?;
     out.append(b" ")?;
-    out.append(name.bytes())?;
+    put_offer(program, offer, out)?;
     out.append(b"\n")
 }
 
-/// The lines of a turn's offers, and the one that asks for a choice.
-pub fn put_question(out: &mut Text, rules: &[Rule], offers: &[u32]) -> Result<(), AllocError>
-    requires { All (λ number. number < length rules.now) offers.now }
-    ensures { OnOk result (out.new ≡ out.old ++ question rules.now offers.now) }
+/// The lines of a group's offers, and the one that asks for a choice.
+pub fn put_question<M: Matcher>(
+    out: &mut Text,
+    program: &Program,
+    matcher: &M,
+    group: u32,
+) -> Result<(), AllocError>
+    requires listed { group < length (M.offers_held matcher.now) }
+    requires offers { All (IsOfferOf program.now) (offers_of (M.offers_held matcher.now) group) }
+    ensures { OnOk result (out.new ≡ out.old ++ question program.now (offers_of (M.offers_held matcher.now) group)) }
 {
-    for (i, offer) in offers.iter().enumerate() {
-        put_offer(out, i + 1, rules[*offer as usize].name())?;
+    for i in 0..matcher.count(group) {
+        put_offer_line(out, program, i + 1, matcher.offer(group, i))?;
     }
     out.append(b"? choose\n")
 }
 
 /// The line of a step.
 #[tactic(auto, using(std::proofs::Common::append_assoc), unfolding(crate::specs::Lines::step_line))]
-pub fn put_step(out: &mut Text, rule: &Rule) -> Result<(), AllocError>
-    ensures { OnOk result (out.new ≡ out.old ++ step_line rule.now) }
+pub fn put_step(out: &mut Text, program: &Program, offer: &Offer) -> Result<(), AllocError>
+    requires { IsOfferOf program.now offer.now }
+    ensures { OnOk result (out.new ≡ out.old ++ step_line program.now offer.now) }
 {
     out.append(b"step ")?;
-    out.append(rule.name().bytes())?;
+    put_offer(program, offer, out)?;
     out.append(b"\n")
 }
 
@@ -69,34 +87,38 @@ pub fn put_step(out: &mut Text, rule: &Rule) -> Result<(), AllocError>
 #[tactic(auto, using(std::proofs::Common::append_assoc), unfolding(crate::specs::Lines::end_lines))]
 pub fn put_end(
     out: &mut Text,
-    atoms: &Names,
+    program: &Program,
     word: EndWord,
-    counts: &[u32],
+    state: &Bag,
 ) -> Result<(), AllocError>
-    requires { length counts.now ≡ length atoms.now }
-    ensures { OnOk result (out.new ≡ out.old ++ end_lines atoms.now word (counted counts.now)) }
+    requires { IsState program.now.signature state.now }
+    ensures { OnOk result (out.new ≡ out.old ++ end_lines program.now.signature word state.now) }
 {
     out.append(b"end ")?;
     out.append(word.text())?;
     out.append(b"\n")?;
-    put_listing(out, atoms, counts)
+    put_listing(out, program, state)
+}
+
+#[tactic(auto, using(std::proofs::Common::append_assoc), unfolding(crate::specs::Lines::stage_line))]
+fn put_stage(out: &mut Text, program: &Program, stage: u32) -> Result<(), AllocError>
+    requires { stage < length program.now.stages }
+    ensures { OnOk result (out.new ≡ out.old ++ stage_line program.now stage) }
+{
+    let stages = &program.parts().stages;
+    out.append(b"stage ")?;
+    out.append(stages.get(stage as usize).name.bytes())?;
+    out.append(b"\n")
 }
 
 /// The first lines, and the listing of the start state.
-#[tactic(auto, using(std::proofs::Common::append_assoc), unfolding(crate::specs::Lines::header))]
-pub fn put_header(
-    out: &mut Text,
-    program: &Program,
-    height: u32,
-    counts: &[u32],
-) -> Result<(), AllocError>
-    requires { length counts.now ≡ length program.now.atoms }
-    ensures { OnOk result (out.new ≡ out.old ++ header program.now height (counted counts.now)) }
+pub fn put_header(out: &mut Text, program: &Program, height: u32) -> Result<(), AllocError>
+    ensures { OnOk result (out.new ≡ out.old ++ header program.now height) }
 {
     out.append(b"ceptre 1\nheight ")?;
     out.number(u64::from(height))?;
-    out.append(b"\nstage ")?;
-    out.append(program.stage().bytes())?;
     out.append(b"\n")?;
-    put_listing(out, program.atoms(), counts)
+    let parts = program.parts();
+    put_stage(out, program, parts.start_stage)?;
+    put_listing(out, program, &parts.start)
 }

@@ -4,7 +4,7 @@ ghost use Rattle.std.specs.Prelude.{◌≡◌, ◌<◌};
 
 use crate::ceptre;
 use crate::choice::MOST_TYPED;
-use crate::thin::MOST_TEXT;
+use crate::command::MOST_TEXT;
 use cep_base::{CalmConsole, Console, Event, MemConsole, MemShelf, Shelf, Steps};
 use std::alloc::{AllocError, Global};
 use std::marker::Brand;
@@ -26,6 +26,19 @@ fn program(alloc: Global, rules: &str, context: &str) -> Result<String, AllocErr
     text.push_str(TAIL)?;
     Ok(text)
 }
+
+// Three walkers, of whom two stand in one place.
+const WALK: &str = "character : type.
+location : type.
+alice : character.  bob : character.  carol : character.
+park : location.  tower : location.
+at character location : pred.
+met character character : pred.
+stage walk = { meet/two : $at C L * $at D L -o met C D. }
+#interactive walk.
+context init = { at alice park, at bob park, at carol tower }.
+#trace 1 walk init.
+";
 
 fn words_of(alloc: Global, words: &[&str]) -> Result<Vec<String>, AllocError> {
     let mut all = Vec::new(alloc);
@@ -136,7 +149,7 @@ const DIALOGUES: [Dialogue; 6] = [
 ];
 
 #[test]
-fn a_thin_text_is_played_by_what_is_typed(rt: HostRuntime) -> Result<(), Fail> {
+fn a_text_is_played_by_what_is_typed(rt: HostRuntime) -> Result<(), Fail> {
     let alloc = rt.alloc();
     for case in &DIALOGUES {
         let text = program(alloc, case.rules, case.context)?;
@@ -168,38 +181,115 @@ fn a_run_ends_where_no_more_may_be_typed(rt: HostRuntime) -> Result<(), Fail> {
 }
 
 #[test]
-fn other_texts_are_refused(rt: HostRuntime) -> Result<(), Fail> {
+fn each_instance_of_a_rule_is_offered(rt: HostRuntime) -> Result<(), Fail> {
     let alloc = rt.alloc();
-    let outcome = play(alloc, b"a : pred.\n", b"")?;
-    assert_eq!(rt; outcome.status, 3);
-    assert_eq!(rt;
-        outcome.written.as_slice(),
-        b"refused 1:1 20 NotBuilt\n".as_slice()
-    );
+    let outcome = play(alloc, WALK.as_bytes(), b"2\n")?;
+    let said = b"ceptre 1
+height 128
+stage walk
+have 1 at alice park
+have 1 at bob park
+have 1 at carol tower
+? 1 meet/two C=alice L=park D=bob
+? 2 meet/two C=bob L=park D=alice
+? choose
+step meet/two C=bob L=park D=alice
+end turns
+have 1 at alice park
+have 1 at bob park
+have 1 at carol tower
+have 1 met bob alice
+";
+    assert_eq!(rt; outcome.written.as_slice(), said.as_slice());
+    assert_eq!(rt; outcome.status, 4);
+    Ok(())
+}
+
+struct Refused {
+    pred: &'static str,
+    term: &'static str,
+    context: &'static str,
+    trace: &'static str,
+    line: &'static str,
+}
+
+const REFUSED: [Refused; 6] = [
+    Refused {
+        pred: "p t : pred.",
+        term: "d : u.",
+        context: "p d",
+        trace: "#trace _ main init.\n",
+        line: "refused 6:20 9 TypeClash\n",
+    },
+    Refused {
+        pred: "p t : pred.",
+        term: "d : u.",
+        context: "p d, q c",
+        trace: "#trace _ main init.\n",
+        line: "refused 6:23 6 Unknown\n",
+    },
+    Refused {
+        pred: "p t : bwd.",
+        term: "d : u.",
+        context: "p d",
+        trace: "#trace _ main init.\n",
+        line: "refused 6:18 11 BwdInState\n",
+    },
+    Refused {
+        pred: "p t : pred.",
+        term: "d ; u.",
+        context: "p d",
+        trace: "#trace _ main init.\n",
+        line: "refused 4:3 1 BadByte\n",
+    },
+    Refused {
+        pred: "p t : pred",
+        term: "d : u.",
+        context: "p d",
+        trace: "#trace _ main init.\n",
+        line: "refused 6:1 3 Unexpected\n",
+    },
+    Refused {
+        pred: "p t : pred.",
+        term: "d : u.",
+        context: "p d",
+        trace: "",
+        line: "refused 8:1 14 NoTrace\n",
+    },
+];
+
+fn refused_text(alloc: Global, case: &Refused) -> Result<String, AllocError> {
+    let mut text = String::from_str(alloc, "t : type.\nu : type.\nc : t.\n")?;
+    text.push_str(case.term)?;
+    text.push_str("\n")?;
+    text.push_str(case.pred)?;
+    text.push_str("\ncontext init = { ")?;
+    text.push_str(case.context)?;
+    text.push_str(" }.\nstage main = { }\n")?;
+    text.push_str(case.trace)?;
+    Ok(text)
+}
+
+#[test]
+fn a_text_is_refused_for_its_first_fault(rt: HostRuntime) -> Result<(), Fail> {
+    let alloc = rt.alloc();
+    for case in &REFUSED {
+        let text = refused_text(alloc, case)?;
+        let outcome = play(alloc, text.as_bytes(), b"")?;
+        assert_eq!(rt; outcome.status, 3, "at {}", case.line);
+        assert_eq!(rt;
+            outcome.written.as_slice(),
+            case.line.as_bytes(),
+            "at {}",
+            case.line
+        );
+    }
     let long = vec![in alloc; b'x'; MOST_TEXT + 1]?;
     let outcome = play(alloc, &long, b"")?;
     assert_eq!(rt; outcome.status, 3);
     assert_eq!(rt;
         outcome.written.as_slice(),
         b"refused 1:1 19 TooLong\n".as_slice()
-    );
-    Ok(())
-}
-
-#[test]
-fn a_run_ends_after_its_turns(rt: HostRuntime) -> Result<(), Fail> {
-    let alloc = rt.alloc();
-    let text = program(alloc, "r : () -o a.", "{}")?;
-    let mut typed = Vec::new(alloc);
-    for _ in 0..10_001 {
-        typed.extend_from_slice(b"1\n")?;
-    }
-    let outcome = play(alloc, text.as_bytes(), &typed)?;
-    assert_eq!(rt; outcome.status, 4);
-    assert!(rt;
-        outcome
-            .written
-            .ends_with(b"step r\nend turns\nhave 10000 a\n")
     );
     Ok(())
 }

@@ -1,56 +1,81 @@
-use Rattle.std.proofs.Common.{refl, arith, subst, sym, ap, ◌∙◌, ◌++◌, eqb}
-use Rattle.cep_play.specs.declared.dialogue.TheConstants.{TURNS}
-use Rattle.cep_play.specs.Bag.{counted}
-use Rattle.cep_play.specs.Turn.{AreTurns}
+use Rattle.std.proofs.Common.{◌≡◌, ◌+◌, ◌<◌, ◌++◌, refl, sym, subst, ap, ◌∙◌, arith}
+use Rattle.std.specs.Prelude.{IsNone}
+use Rattle.cep_rule.specs.Stages.{IsAsked, IsQuiet}
+use Rattle.cep_play.specs.declared.dialogue.TheConstants.{HEIGHT}
+use Rattle.cep_play.specs.Turn.{position_of, IsPlayed, IsTurned, config_after, AreTurns}
 use Rattle.cep_play.proofs.Did.{did_same, did_map, did_then}
-use Rattle.cep_play.proofs.Turns.{none_offered, some_offered}
 use Rattle.cep_play.proofs.Runs.{run_begins, run_goes_on, run_stops, run_quiets, run_is_over}
 use Rattle.cep_play.proofs.dialogue.all_turns.Goals as goal
 
 pub loop-done-init : goal.loop-done-init
 loop-done-init g c =
+    let console = c.args.console.now in
     record {
-      each = refl;
-      copies = omega (arith, c.requires.copies);
+      played = c.requires.played;
+      turns = c.requires.begins;
       within = omega arith;
+      counted = omega arith;
       cause = refl;
-      so_far = did_map g.C.Console.talk g.C.Console.left c.args.console.now c.args.console.now _ _ (λ come events rest same. run_begins c.args.program.now TURNS (counted c.args.state.now) come rest events same) (did_same g.C.Console.talk g.C.Console.left c.args.console.now c.args.console.now refl refl);
+      so_far = did_map g.C.Console.talk g.C.Console.left console console _ _ (run_begins c.args.program.now HEIGHT c.args.limit (position_of c.args.start)) (did_same g.C.Console.talk g.C.Console.left console console refl refl);
     }
 
 pub loop-done-preserved : goal.loop-done-preserved
 loop-done-preserved g c =
+    let talk = g.C.Console.talk in
+    let left = g.C.Console.left in
+    let program = c.args.program.now in
     let before = c.loop-done.invariant in
-    let done = rw c.in_default.is at c.in_ok-word.ensures.done in
-    let over = rw c.in_default.is at c.in_ok-word.ensures.over in
+    let config = c.loop-done.config in
+    let turned = subst (λ t. IsTurned talk left c.loop-done.console c.turn.new.console program config c.loop-done.taken c.turn.new.taken t) c.in-Done.is c.in_ok-next.ensures.turned in
+    let same = before.turns in
+    let remain : config.turns < c.args.limit = omega (arith, c.loop-done-test.true) in
     record {
-      each = c.turn.ensures.each ∙ before.each;
-      copies = omega (arith, before.copies, over);
+      played = subst (λ t. IsPlayed g.M.Matcher.is_of g.M.Matcher.height_held program (config_after t)) c.in-Done.is c.in_ok-next.ensures.played;
+      turns = turned.1 ∙ ap (λ n. n + 1) same;
       within = c.turn.ensures.within;
-      cause = c.in_ok-word.ensures.cause ∙ before.cause;
-      so_far = did_then g.C.Console.talk g.C.Console.left c.args.console.now c.loop-done.console c.turn.new.console _ _ _ (λ come first between second rest so turn.
-          run_goes_on c.args.program.now TURNS c.loop-done._done c.loop-done.taken c.turn.new.taken (counted c.args.state.now) (counted c.loop-done.state) (counted c.turn.new.state) come between rest first second c.loop-done-test.true so turn)
-          before.so_far done;
+      counted = omega (arith, before.counted, c.turn.ensures.counted);
+      cause = c.in_ok-next.ensures.cause ∙ before.cause;
+      so_far = did_then talk left c.args.console.now c.loop-done.console c.turn.new.console _ _ _ (λ come first between second rest so turn.
+          run_goes_on program HEIGHT c.args.limit (position_of c.args.start) (position_of config) c.loop-done.taken (position_of c.in-Done.next) c.turn.new.taken come first between second rest remain so turn)
+          before.so_far turned.0;
     }
+
+pub returns-in-Over-clause-said : goal.returns-in-Over-clause-said
+returns-in-Over-clause-said g c =
+    let talk = g.C.Console.talk in
+    let left = g.C.Console.left in
+    let program = c.args.program.now in
+    let before = c.loop-done.invariant in
+    let config = c.loop-done.config in
+    let end = c.in-Over.end in
+    let turned = subst (λ t. IsTurned talk left c.loop-done.console c.turn.new.console program config c.loop-done.taken c.turn.new.taken t) c.in-Over.is c.in_ok-next.ensures.turned in
+    let same = before.turns in
+    let remain : config.turns < c.args.limit = omega (arith, c.loop-done-test.true) in
+    did_then talk left c.args.console.now c.loop-done.console c.turn.new.console _ _ _ (λ come first between second rest so stop.
+    subst (λ last. AreTurns program HEIGHT c.args.limit end.word (position_of c.args.start) (position_of last) come (first ++ second)) (sym turned.1)
+    (run_stops program HEIGHT c.args.limit (position_of c.args.start) (position_of config) c.loop-done.taken end.word come first between second remain so stop))
+    before.so_far turned.0
 
 pub returns-in-Some-clause-said : goal.returns-in-Some-clause-said
 returns-in-Some-clause-said g c =
-    let done = rw c.in-Some.is at c.in_ok-word.ensures.done in
-    let over = rw c.in-Some.is at c.in_ok-word.ensures.over in
-    did_then g.C.Console.talk g.C.Console.left c.args.console.now c.loop-done.console c.turn.new.console _ _ _ (λ come first between second rest so stop.
-    subst (λ counts. AreTurns c.args.program.now TURNS c.in-Some.word (counted c.args.state.now) (counted counts) come (first ++ second)) (sym over.1)
-    (run_stops c.args.program.now TURNS c.loop-done._done c.loop-done.taken c.in-Some.word (counted c.args.state.now) (counted c.loop-done.state) come between first second c.loop-done-test.true so stop))
-    c.loop-done.invariant.so_far done
-
-pub returns-then-is_empty-clause-said : goal.returns-then-is_empty-clause-said
-returns-then-is_empty-clause-said g c =
+    let program = c.args.program.now in
+    let before = c.loop-done.invariant in
+    let config = c.loop-done.config in
+    let group = c.in-Some.field-0 in
+    let asked = subst (λ h. IsAsked program h config.state config.stage group) before.played.height (c.in-Some.ensures.asked program before.played.of_program) in
+    let same = before.turns in
+    let all : config.turns ≡ c.args.limit = omega (arith, c.loop-done-test.false, c.loop-done.auto._done-end) in
     did_map g.C.Console.talk g.C.Console.left c.args.console.now c.loop-done.console _ _ (λ come events rest so.
-    run_quiets c.args.program.now TURNS c.loop-done._done c.loop-done.taken c.rules.result.now (counted c.args.state.now) (counted c.loop-done.state) c.in_ok-offers.offers.items come rest events
-    c.rules.ensures c.in_ok-offers.ensures.offered (none_offered _ _ c.is_empty.result refl (c.is_empty.ensures ∙ ap (λ n. eqb n 0) c.in_ok-offers.offers.ok.0) c.if-is_empty.true) so)
-    c.loop-done.invariant.so_far
+    run_is_over program HEIGHT c.args.limit (position_of c.args.start) (position_of config) c.loop-done.taken group come events rest asked all so)
+    before.so_far
 
-pub returns-clause-said : goal.returns-clause-said
-returns-clause-said g c =
+pub returns-in-None-clause-said : goal.returns-in-None-clause-said
+returns-in-None-clause-said g c =
+    let program = c.args.program.now in
+    let before = c.loop-done.invariant in
+    let config = c.loop-done.config in
+    let quiet = (c.asked.ensures.quiet program before.played.of_program).0 (subst (λ o. IsNone o) (sym c.in-None.is) refl) in
+    let is = subst (λ h. IsQuiet program h config.state config.stage) before.played.height quiet in
     did_map g.C.Console.talk g.C.Console.left c.args.console.now c.loop-done.console _ _ (λ come events rest so.
-    run_is_over c.args.program.now TURNS c.loop-done._done c.loop-done.taken c.rules.result.now (counted c.args.state.now) (counted c.loop-done.state) c.in_ok-offers.offers.items come rest events
-    c.rules.ensures c.in_ok-offers.ensures.offered (some_offered _ _ c.is_empty.result refl (c.is_empty.ensures ∙ ap (λ n. eqb n 0) c.in_ok-offers.offers.ok.0) c.if-is_empty.false) (omega (arith, c.loop-done-test.false, c.loop-done.auto._done-end)) so)
-    c.loop-done.invariant.so_far
+    run_quiets program HEIGHT c.args.limit (position_of c.args.start) (position_of config) c.loop-done.taken come events rest is so)
+    before.so_far

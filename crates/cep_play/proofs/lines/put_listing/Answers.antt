@@ -1,13 +1,23 @@
-use Rattle.std.proofs.Common.{[], slice_index_or, slice_index, length, arith}
+use Rattle.std.proofs.Common.{◌≤◌, ◌∙◌, subst}
+use Rattle.std.specs.FinMap as finite
+use Rattle.std.specs.FinMap.{len-entries}
+use Rattle.cep_term.specs.Tree.{atom_of}
 use Rattle.cep_play.specs.Lines.{have_line, listing}
 use Rattle.cep_play.proofs.LineLemmas.{listing_next, listing_done}
+use Rattle.cep_play.proofs.States.{fact_at}
 use Rattle.cep_play.proofs.lines.put_listing.Goals as goal
 
-pub loop-number-preserved : goal.loop-number-preserved
-loop-number-preserved c =
-    listing_next c.args.atoms.now c.args.counts.now c.loop-number.out c.put_have.new.out _ c.get.result.now c.loop-number.number (length c.args.counts.now) (omega arith) c.loop-number.invariant c.in_ok-put_have.ensures c.get.ensures
+pub put_have-requires : goal.put_have-requires
+put_have-requires c =
+    fact_at c.order_is_total.ensures.atoms c.args.program.now.signature c.args.state.now c.loop-i.i _ _ c.requires c.entry-copies.ensures
+
+pub loop-i-preserved : goal.loop-i-preserved
+loop-i-preserved c =
+    listing_next (have_line c.args.program.now.signature) (finite.entries c.args.state.now) c.loop-i.out c.put_have.new.out _ c.loop-i.i
+    (atom_of c.entry-copies.result.0.now, c.entry-copies.result.1) c.entry-copies.ensures c.loop-i.invariant c.in_ok-put_have.ensures
 
 pub returns : goal.returns
 unfolding listing
 returns c =
-    rw (← c.requires) (listing_done (λ number. have_line (slice_index c.args.counts.now number) (slice_index_or c.args.atoms.now number [])) c.loop-number.out _ c.loop-number.number (length c.args.counts.now) c.loop-number-test.false c.loop-number.invariant)
+    listing_done (have_line c.args.program.now.signature) (finite.entries c.args.state.now) c.loop-i.out _ c.loop-i.i
+    (subst (λ n. n ≤ c.loop-i.i) (c.len-i-end.ensures.value ∙ len-entries c.args.state.now) c.loop-i-test.false) c.loop-i.invariant

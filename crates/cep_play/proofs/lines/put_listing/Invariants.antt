@@ -1,10 +1,9 @@
-use Rattle.std.proofs.Common.{◌≡◌, ℕ, ◌-◌, ◌++◌, length, [], slice_index_or}
-use Rattle.std.specs.List.{flat_map, range_with_len}
-use Rattle.cep_play.specs.Bag.{counted}
+use Rattle.std.proofs.Common.{◌≡◌, ◌++◌, drop}
+use Rattle.std.specs.List.{flat_map}
+use Rattle.std.specs.FinMap as finite
 use Rattle.cep_play.specs.Lines.{have_line}
 use Rattle.cep_play.proofs.lines.put_listing.Given as goal
 
-abbrev pub invariant-loop-number : goal.invariant-loop-number
-invariant-loop-number l =
-    let lines = λ (number : ℕ). have_line (counted l.counts number) (slice_index_or l.atoms number []) in
-    l.out ++ flat_map lines (range_with_len l.number (length l.counts - l.number)) ≡ l.fn.out ++ flat_map lines (range_with_len 0 (length l.counts))
+abbrev pub invariant-loop-i : goal.invariant-loop-i
+invariant-loop-i l =
+    l.out ++ flat_map (have_line l.program.signature) (drop l.i (finite.entries l.state)) ≡ l.fn.out ++ flat_map (have_line l.program.signature) (finite.entries l.state)

@@ -1,0 +1,36 @@
+ghost use Rattle.std.specs.Prelude.{IfOk};
+ghost use Rattle.cep_ground.specs.Refusals.{IsAccepted};
+
+use crate::refusals::{of_grammar, of_tokens, tell_at_front};
+use crate::sealing::judged;
+use cep_infer::{Refusal, resolve};
+use cep_lex::{MOST_BYTES, lex};
+use cep_names::Reason;
+use cep_parse::parse;
+use cep_rule::Program;
+use std::alloc::{AllocError, Global};
+
+/// The program that a text spells, or why it is refused: of all that is wrong with it what is told
+/// first, by the phase in which it is judged, its place and its number. A text without fault whose
+/// program cannot be played yet is refused as `NotBuilt`. The syntax, the limits and the refusals
+/// are this profile's; that atoms are well typed, that linear and backward predicates do not mix,
+/// and that each variable of a right side occurs on the left, is Ceptre's.
+pub fn accept(alloc: Global, text: &[u8]) -> Result<Result<Program, Refusal>, AllocError>
+    ensures { IfOk result (λ answer. IsAccepted text.now answer) }
+{
+    if text.len() > MOST_BYTES {
+        return Ok(Err(tell_at_front(text, Reason::TooLong)));
+    }
+    let tokens = match lex(alloc, text)? {
+        Ok(tokens) => tokens,
+        Err(fault) => return Ok(Err(of_tokens(text, fault))),
+    };
+    let file = match parse(alloc, text, &tokens)? {
+        Ok(file) => file,
+        Err(fault) => return Ok(Err(of_grammar(text, &tokens, fault))),
+    };
+    match resolve(alloc, text, &file)? {
+        Ok(draft) => Ok(judged(text, &file, draft)),
+        Err(refusal) => Ok(Err(refusal)),
+    }
+}

@@ -1,5 +1,0 @@
-use Rattle.cep_play.proofs.ReadTexts.{spelled_once}
-use Rattle.cep_play.proofs.laws.one_program.Goals as goal
-
-pub returns : goal.returns
-returns c = spelled_once

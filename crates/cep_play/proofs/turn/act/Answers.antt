@@ -1,0 +1,64 @@
+use Rattle.std.proofs.Common.{refl, sym, subst, ap, ◌++◌, ◌-◌, ◌∙◌}
+use Rattle.cep_rule.specs.Matching.{offers_of}
+use Rattle.cep_machine.specs.Stepping.{IsStepped}
+use Rattle.cep_play.specs.declared.turn.Turned.TheVariants.{Over}
+use Rattle.cep_play.specs.Lines.{step_line}
+use Rattle.cep_play.specs.Turn.{IsActed}
+use Rattle.cep_play.proofs.Did.{did_same, did_put, did_map}
+use Rattle.cep_play.proofs.Turns.{offer_has_text, step_acts, step_fails, one_turn_more, left_alone}
+use Rattle.cep_play.proofs.turn.act.Goals as goal
+
+pub put_step-requires : goal.put_step-requires
+put_step-requires g c =
+    let matcher = c.args.config.matcher in
+    let lists = g.M.Matcher.offers_held matcher in
+    let listed = g.met.M.Matcher.exact c.args.program.now matcher c.requires.played.of_program.matcher in
+    offer_has_text c.args.program.now (g.M.Matcher.height_held matcher) (g.M.Matcher.state_held matcher) c.args.group (offers_of lists c.args.group) (listed.each c.args.group c.requires.listed)
+    (c.args.place - 1) c.offer.result.now (rw c.matcher.ensures.matcher at c.offer.ensures)
+
+pub returns-in-Done-clause-acted : goal.returns-in-Done-clause-acted
+returns-in-Done-clause-acted g c =
+    let talk = g.C.Console.talk in
+    let left = g.C.Console.left in
+    let program = c.args.program.now in
+    let old = c.args.config in
+    let matcher = old.matcher in
+    let lists = g.M.Matcher.offers_held matcher in
+    let offers = offers_of lists c.args.group in
+    let are = (g.met.M.Matcher.exact program matcher c.requires.played.of_program.matcher).each c.args.group c.requires.listed in
+    let offer = c.offer.result.now in (
+      did_map talk left c.args.console.now c.put.new.self _ _
+          (step_acts program (g.M.Matcher.height_held matcher) (g.M.Matcher.state_held matcher) c.args.group lists offers c.args.place (c.args.place - 1) offer old
+          c.requires.built are (rw c.matcher.ensures.matcher at c.offer.ensures) refl c.requires.asked c.in-Done.config c.bytes.result.now
+          (λ rule values h. subst (λ s. IsStepped rule values old s) c.in-Done.is (c.in_ok-config.ensures.stepped rule values h))
+          (c.bytes.ensures ∙ (c.in_ok-put_step.ensures ∙ ap (λ xs. xs ++ step_line program offer) c.new-line.ensures)))
+          (did_put talk left c.args.console.now c.put.new.self c.bytes.result.now c.in_ok-put-in-Done.ensures.written c.in_ok-put-in-Done.ensures.left),
+      one_turn_more program (g.M.Matcher.height_held matcher) (g.M.Matcher.state_held matcher) c.args.group lists offers c.args.place (c.args.place - 1) offer old
+          c.requires.built are (rw c.matcher.ensures.matcher at c.offer.ensures) refl c.requires.asked c.in-Done.config
+          (λ rule values h. subst (λ s. IsStepped rule values old s) c.in-Done.is (c.in_ok-config.ensures.stepped rule values h)),
+    )
+
+pub returns-clause-acted : goal.returns-clause-acted
+returns-clause-acted g c =
+    let talk = g.C.Console.talk in
+    let left = g.C.Console.left in
+    let program = c.args.program.now in
+    let old = c.args.config in
+    let matcher = old.matcher in
+    let lists = g.M.Matcher.offers_held matcher in
+    let offers = offers_of lists c.args.group in
+    let are = (g.met.M.Matcher.exact program matcher c.requires.played.of_program.matcher).each c.args.group c.requires.listed in
+    let offer = c.offer.result.now in
+    let console = c.args.console.now in
+    let last = c.in-Limit.config in
+    subst (λ t. IsActed talk left console console program offers c.args.place old t) (sym c.over.ensures)
+    (subst (λ w. IsActed talk left console console program offers c.args.place old (Over (record { config = last; word = w }))) (sym c.word_of.ensures) (
+      did_map talk left console console _ _
+          (step_fails program (g.M.Matcher.height_held matcher) (g.M.Matcher.state_held matcher) c.args.group lists offers c.args.place (c.args.place - 1) offer old
+          c.requires.built are (rw c.matcher.ensures.matcher at c.offer.ensures) refl c.requires.asked last c.in-Limit.which c.in-Limit.number
+          (λ rule values h. subst (λ s. IsStepped rule values old s) c.in-Limit.is (c.in_ok-config.ensures.stepped rule values h)))
+          (did_same talk left console console refl refl),
+      left_alone program (g.M.Matcher.height_held matcher) (g.M.Matcher.state_held matcher) c.args.group lists offers c.args.place (c.args.place - 1) offer old
+          c.requires.built are (rw c.matcher.ensures.matcher at c.offer.ensures) refl c.requires.asked last c.in-Limit.which c.in-Limit.number
+          (λ rule values h. subst (λ s. IsStepped rule values old s) c.in-Limit.is (c.in_ok-config.ensures.stepped rule values h)),
+    ))
