@@ -7,10 +7,13 @@ mod command;
 mod dialogue;
 mod laws;
 mod lines;
-#[cfg(test)]
-mod tests;
 mod turn;
 mod typed;
 
 pub use command::ceptre;
 pub use laws::one_dialogue;
+
+#[cfg(test)]
+mod limit_tests;
+#[cfg(test)]
+mod tests;
