@@ -10,6 +10,7 @@ use Rattle.cep_play.specs.declared.dialogue.EndWord.{EndWord}
 use Rattle.cep_play.specs.declared.dialogue.EndWord.TheVariants.{Quiet, Input, Turns, Offers, Typed, Atom, State}
 use Rattle.cep_rule.specs.declared.parts.Parts.{Parts}
 use Rattle.cep_ground.specs.Texts.{Spells}
+use Rattle.cep_ground.specs.Refusals.{IsBuilt}
 use Rattle.cep_play.specs.declared.command.TheConstants.{MOST_TEXT}
 use Rattle.cep_play.specs.Command.{Says, OfFile, OfText, OfRun, OfWords, IsNoForm, Writes, usage, code_of, status_of}
 use Rattle.cep_play.proofs.Did.{did_map}
@@ -32,14 +33,14 @@ module _ {C : Type 0} (talk : C → Option (List Event)) (left : C → Option (L
       did_map talk left old new _ _ (λ come events rest d. (d.0, d.1, subst P (sym d.2) holds)) says
 
   -- a played text
-  pub text_played : (text : List ℕ) (program : Parts) (word : EndWord) → Spells text program → Says talk left old new program (λ end. end ≡ word) → OfText talk left old new text (status_of word)
-  text_played text program Quiet spells says = (program, spells, says_word program Quiet _ (inl refl) says)
-  text_played text program Input spells says = (program, spells, says_word program Input _ (inr refl) says)
-  text_played text program Turns spells says = (program, spells, says_word program Turns _ (inl refl) says)
-  text_played text program Offers spells says = (program, spells, says_word program Offers _ (inr (inl refl)) says)
-  text_played text program Typed spells says = (program, spells, says_word program Typed _ (inr (inr (inl refl))) says)
-  text_played text program Atom spells says = (program, spells, says_word program Atom _ (inr (inr (inr (inl refl)))) says)
-  text_played text program State spells says = (program, spells, says_word program State _ (inr (inr (inr (inr refl)))) says)
+  pub text_played : (text : List ℕ) (program : Parts) (word : EndWord) → Spells text program → IsBuilt program → Says talk left old new program (λ end. end ≡ word) → OfText talk left old new text (status_of word)
+  text_played text program Quiet spells built says = (program, spells, built, says_word program Quiet _ (inl refl) says)
+  text_played text program Input spells built says = (program, spells, built, says_word program Input _ (inr refl) says)
+  text_played text program Turns spells built says = (program, spells, built, says_word program Turns _ (inl refl) says)
+  text_played text program Offers spells built says = (program, spells, built, says_word program Offers _ (inr (inl refl)) says)
+  text_played text program Typed spells built says = (program, spells, built, says_word program Typed _ (inr (inr (inl refl))) says)
+  text_played text program Atom spells built says = (program, spells, built, says_word program Atom _ (inr (inr (inr (inl refl)))) says)
+  text_played text program State spells built says = (program, spells, built, says_word program State _ (inr (inr (inr (inr refl)))) says)
 
   -- a file's text
   pub file_read : (files : Option Files) (name text : List ℕ) (status : Status) → HasFile files name text → length text ≤ MOST_TEXT → OfText talk left old new text status → OfRun talk left old new files name status

@@ -12,7 +12,7 @@ use Rattle.cep_names.specs.declared.fault.Fault.{Fault}
 use Rattle.cep_names.specs.First.{number, reason_name}
 use Rattle.cep_infer.specs.declared.draft.Refusal.{Refusal}
 use Rattle.cep_ground.specs.Texts.{Spells}
-use Rattle.cep_ground.specs.Refusals.{IsRefusedFor, Tells}
+use Rattle.cep_ground.specs.Refusals.{IsBuilt, IsRefusedFor, Tells}
 use Rattle.cep_play.specs.declared.command.Status.{Status}
 use Rattle.cep_play.specs.declared.command.Status.TheVariants.{Ended, Usage, Refused, Limited, Console, Unread, Memory}
 use Rattle.cep_play.specs.declared.dialogue.EndWord.{EndWord}
@@ -57,9 +57,9 @@ abbrev pub Says : {C : Type 0} → (C → Option (List Event)) → (C → Option
 Says talk left old new program P =
     Did talk left old new (λ come events rest. (ending : Ending) × Dialogue program HEIGHT (turn_limit program) come events ending × P ending.word)
 
--- the text spells a program, and what is said is a dialogue of it, whose end word has P
+-- the text spells a program that can be played today, and what is said is a dialogue of it, whose end word has P
 abbrev pub Plays : {C : Type 0} → (C → Option (List Event)) → (C → Option (List ℕ)) → C → C → List ℕ → (EndWord → Type 0) → Type 0
-Plays talk left old new text P = (program : Parts) × Spells text program × Says talk left old new program P
+Plays talk left old new text P = (program : Parts) × Spells text program × IsBuilt program × Says talk left old new program P
 
 -- the text is refused for the fault that is told first of all that is wrong with it, and the line that tells it is written
 abbrev pub Refuses : {C : Type 0} → (C → Option (List Event)) → (C → Option (List ℕ)) → C → C → List ℕ → Type 0

@@ -9,4 +9,4 @@ returns-in_ok-word-in-Ok-clause-outcome g c =
     let text = c.args.text.now in
     let accepted = subst (λ answer. IsAccepted text answer) c.in-Ok.is c.in_ok-program.ensures in
     subst (λ status. OfText g.C.Console.talk g.C.Console.left c.args.console.now c.play.new.console text status) (sym c.status_of.ensures)
-    (text_played g.C.Console.talk g.C.Console.left c.args.console.now c.play.new.console text c.in-Ok.program c.in_ok-word-in-Ok.word accepted.0 c.in_ok-word-in-Ok.ensures.said)
+    (text_played g.C.Console.talk g.C.Console.left c.args.console.now c.play.new.console text c.in-Ok.program c.in_ok-word-in-Ok.word accepted.0 accepted.1 c.in_ok-word-in-Ok.ensures.said)
