@@ -28,3 +28,4 @@ pub mod HeadLaws
 pub mod TypedTerms
 pub mod Spelled
 pub mod Located
+pub mod RefusedDrafts

@@ -4,9 +4,9 @@ ghost use Rattle.cep_ground.specs.Refusals.{IsAccepted};
 use crate::refusals::{of_grammar, of_tokens, tell_at_front};
 use crate::sealing::judged;
 use cep_infer::{Refusal, resolve};
-use cep_lex::{MOST_BYTES, lex};
+use cep_lex::{MOST_BYTES, lex, lexed_once};
 use cep_names::Reason;
-use cep_parse::parse;
+use cep_parse::{one_raw_file, parse, parsed_once};
 use cep_rule::Program;
 use std::alloc::{AllocError, Global};
 
@@ -18,6 +18,9 @@ use std::alloc::{AllocError, Global};
 pub fn accept(alloc: Global, text: &[u8]) -> Result<Result<Program, Refusal>, AllocError>
     ensures { IfOk result (λ answer. IsAccepted text.now answer) }
 {
+    lexed_once();
+    one_raw_file();
+    parsed_once();
     if text.len() > MOST_BYTES {
         return Ok(Err(tell_at_front(text, Reason::TooLong)));
     }

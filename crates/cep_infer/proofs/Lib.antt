@@ -10,3 +10,10 @@ pub mod FirstFaults
 pub mod FirstLoops
 pub mod Clashing
 pub mod Interactive
+pub mod Placing
+pub mod Unbound
+pub mod GroundStates
+pub mod Drafting
+pub mod Within
+pub mod ScopesInItems
+pub mod Mistaken

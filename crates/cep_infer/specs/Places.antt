@@ -1,5 +1,5 @@
 -- The places that a draft keeps for what is judged later.
-use Rattle.std.specs.Prelude.{ℕ, not, List, [], ◌∷◌, map, filter, take}
+use Rattle.std.specs.Prelude.{ℕ, ◌≤◌, not, List, [], ◌∷◌, map, filter, take, length}
 use Rattle.std.specs.Str.{bytes_eq}
 use Rattle.std.specs.List.{list_any}
 use Rattle.cep_base.specs.declared.place.Pos.{Pos}
@@ -9,6 +9,7 @@ use Rattle.cep_names.specs.Uses.{atoms_of}
 use Rattle.cep_names.specs.Variables.{Occurrence, occurrences_from, nodes_of}
 use Rattle.cep_names.specs.Misnamed.{backward_of}
 use Rattle.cep_infer.specs.declared.draft.Draft.{Draft}
+use Rattle.cep_infer.specs.declared.places.Reached.{Reached}
 use Rattle.cep_infer.specs.Heads.{blanks_after}
 use Rattle.cep_infer.specs.Meaning.{AreParts, names_of}
 
@@ -25,6 +26,11 @@ unbound_of source item =
 -- their places
 abbrev pub unbound_at : Source → RuleItem → List ℕ
 unbound_at source item = map (λ occurrence. occurrence.at.from) (unbound_of source item)
+
+-- The place lies within the text, and its line and column are those of what stands before it.
+pub record IsReached (text : List ℕ) (reached : Reached) : Type 0 where
+  pub within : reached.at ≤ length text
+  pub place : IsPlaceBehind (take reached.at text) reached.pos
 
 -- The lines and columns are those of these places, one after another.
 abbrev pub ArePlaces : List ℕ → List ℕ → List Pos → Type 0

@@ -1,11 +1,12 @@
 // The lines and columns of many places.
-ghost use Rattle.std.specs.Prelude.{◌≡◌, ◌++◌, ◌∷◌, [], true, not, if◌then◌else◌, map, filter, IfOk, OnOk};
+ghost use Rattle.std.specs.Prelude.{◌≡◌, ◌≤◌, ◌+◌, ◌++◌, ◌∷◌, [], ℕ, List, length, take, true, not, if◌then◌else◌, map, filter, option_to_list, IfOk, OnOk};
+ghost use Rattle.cep_lex.specs.Places.{IsPlaceBehind};
 ghost use Rattle.cep_names.specs.Misnamed.{is_declared};
 ghost use Rattle.cep_names.specs.Spaces.{back_of};
 ghost use Rattle.cep_names.specs.Uses.{atoms_in, atoms_of};
 ghost use Rattle.cep_names.specs.Variables.{nodes_of, occurrence_at, occurrences_from};
 ghost use Rattle.cep_infer.specs.Heads.{blanks_after};
-ghost use Rattle.cep_infer.specs.Places.{ArePlaces, ArePlaceLists, backs_at, unbound_at};
+ghost use Rattle.cep_infer.specs.Places.{IsReached, ArePlaces, ArePlaceLists, backs_at, unbound_at};
 ghost use Rattle.cep_infer.specs.Listed.{rule_item};
 ghost use Rattle.cep_infer.specs.Met.{has_name};
 
@@ -15,7 +16,7 @@ use crate::listing::RuleRef;
 use crate::terms::blanks_behind;
 use crate::variables::{Variables, blank_name, next_blank};
 use cep_base::Pos;
-use cep_parse::{RawElem, RawKind, RawNode};
+use cep_parse::{RawAtom, RawElem, RawKind, RawNode};
 use std::alloc::{AllocError, Global};
 
 /// A place in a text, in bytes from the front, and its line and column.
@@ -30,29 +31,59 @@ const FRONT: Reached = Reached {
     pos: Pos { line: 1, col: 1 },
 };
 
-// One byte further.
-fn passed(pos: Pos, byte: u8) -> Result<Pos, AllocError> {
+// One more line or column.
+fn one_more(count: u32) -> Result<u32, AllocError>
+    ensures { IfOk result (λ more. more ≡ count + 1) }
+{
     // No text within the limit has so many lines or bytes.
+    count.checked_add(1).ok_or(AllocError)
+}
+
+// One byte further.
+fn passed(pos: Pos, byte: u8) -> Result<Pos, AllocError>
+    ensures { IfOk result (λ next. (before : List ℕ) → IsPlaceBehind before pos → IsPlaceBehind (before ++ byte ∷ []) next) }
+{
     if byte == b'\n' {
-        let line = pos.line.checked_add(1).ok_or(AllocError)?;
+        let line = one_more(pos.line)?;
         return Ok(Pos { line, col: 1 });
     }
-    let col = pos.col.checked_add(1).ok_or(AllocError)?;
+    let col = one_more(pos.col)?;
     Ok(Pos {
         line: pos.line,
         col,
     })
 }
 
-// The line and column of a place, from one that was reached: from the front where it lies before.
-fn reach(text: &[u8], from: Reached, at: u32) -> Result<Reached, AllocError> {
-    let to = text.len().min(at as usize);
-    let mut reached = if from.at <= to { from } else { FRONT };
-    for byte in &text[reached.at..to] {
-        reached.pos = passed(reached.pos, *byte)?;
+// Some bytes further.
+fn passed_all(pos: Pos, bytes: &[u8]) -> Result<Pos, AllocError>
+    ensures { IfOk result (λ next. (before : List ℕ) → IsPlaceBehind before pos → IsPlaceBehind (before ++ bytes.now) next) }
+{
+    let mut behind = pos;
+    for byte in bytes {
+        behind = passed(behind, *byte)?;
     }
-    reached.at = to;
-    Ok(reached)
+    Ok(behind)
+}
+
+// From where a place is looked for: from one that was reached, or from the front where it lies
+// before.
+fn start_before(from: Reached, to: usize) -> Reached
+    ensures before { result.at ≤ to }
+    ensures reached { (text : List ℕ) → IsReached text from → IsReached text result }
+{
+    if from.at <= to { from } else { FRONT }
+}
+
+// The line and column of a place, from one that was reached.
+fn reach(text: &[u8], from: Reached, at: u32) -> Result<Reached, AllocError>
+    requires { IsReached text.now from }
+    ensures reached { IfOk result (λ reached. IsReached text.now reached) }
+    ensures there { IfOk result (λ reached. IsPlaceBehind (take at text.now) reached.pos) }
+{
+    let to = (at as usize).min(text.len());
+    let start = start_before(from, to);
+    let pos = passed_all(start.pos, &text[start.at..to])?;
+    Ok(Reached { at: to, pos })
 }
 
 // The lines and columns of places.
@@ -62,7 +93,9 @@ fn place_all(
     reached: &mut Reached,
     ats: &[u32],
 ) -> Result<Places, AllocError>
-    ensures { IfOk result (λ places. ArePlaces text.now ats.now places) }
+    requires { IsReached text.now reached.old }
+    ensures places { IfOk result (λ places. ArePlaces text.now ats.now places) }
+    ensures reached { OnOk result (IsReached text.now reached.new) }
 {
     let mut places = Places::new(alloc);
     for at in ats {
@@ -73,16 +106,31 @@ fn place_all(
 }
 
 impl<'a> Declarations<'a> {
+    // Whether the predicate of an atom is a backward one.
+    fn is_backward(&self, atom: &RawAtom) -> bool
+        ensures { result ≡ is_declared true (back_of self.now atom.now) }
+    {
+        self.names.back(self.said(atom.name)).unwrap_or(false)
+    }
+
+    // The place of an element that is a backward premise.
+    fn back_at(&self, elem: &RawElem) -> Option<u32>
+        ensures { option_to_list result ≡ map (λ atom. atom.name.from) (filter (λ atom. is_declared true (back_of self.now atom)) (atoms_in elem.now)) }
+    {
+        match elem {
+            RawElem::Atom { atom, .. } if self.is_backward(atom) => Some(atom.name.from),
+            _ => None,
+        }
+    }
+
     // The places of the backward premises of a left side.
     fn backs_at(&self, side: &[RawElem]) -> Result<Vec<u32>, AllocError>
         ensures { IfOk result (λ ats. ats.items ≡ map (λ atom. atom.name.from) (filter (λ atom. is_declared true (back_of self.now atom)) (atoms_of side.now))) }
     {
         let mut ats = Vec::new(self.alloc);
         for elem in side {
-            if let RawElem::Atom { atom, .. } = elem
-                && self.names.back(self.said(atom.name)) == Some(true)
-            {
-                ats.push(atom.name.from)?;
+            if let Some(at) = self.back_at(elem) {
+                ats.push(at)?;
             }
         }
         Ok(ats)
@@ -136,18 +184,25 @@ impl<'a> Declarations<'a> {
         Ok(())
     }
 
+    // The places of the unbound ones of a side.
+    fn unbound_in(&self, left: &Variables, side: &[RawElem]) -> Result<Vec<u32>, AllocError>
+        ensures { IfOk result (λ ats. ats.items ≡ map (λ occurrence. occurrence.at.from) (filter (λ occurrence. not (has_name left.now.firsts occurrence.name)) (occurrences_from self.now left.now.blanks (nodes_of (atoms_of side.now))))) }
+    {
+        let mut blanks = left.blanks;
+        let mut ats = Vec::new(self.alloc);
+        for elem in side {
+            self.push_unbound(left, &mut blanks, nodes_in(elem), &mut ats)?;
+        }
+        Ok(ats)
+    }
+
     // The places of the unbound ones of a rule.
     fn unbound_at(&self, item: &RuleRef) -> Result<Vec<u32>, AllocError>
         ensures { IfOk result (λ ats. ats.items ≡ unbound_at self.now (rule_item item.now)) }
     {
         let mut left = Variables::new(self.alloc);
         left.meet_side(self, item.raw.left.as_slice())?;
-        let mut blanks = left.blanks;
-        let mut ats = Vec::new(self.alloc);
-        for elem in item.raw.right.as_slice() {
-            self.push_unbound(&left, &mut blanks, nodes_in(elem), &mut ats)?;
-        }
-        Ok(ats)
+        self.unbound_in(&left, item.raw.right.as_slice())
     }
 
     // For each rule the places of its backward premises.

@@ -1,20 +1,22 @@
-ghost use Rattle.std.specs.Prelude.{◌≡◌, ◌≤◌, ◌∷◌, List, length, take, IfOk, IfSome};
-ghost use Rattle.std.specs.Option.{option_map};
+ghost use Rattle.std.specs.Prelude.{◌≡◌, ◌<◌, ◌≤◌, ◌^◌, Some, length, map, take, IfOk};
+ghost use Rattle.std.specs.Option.{ForSome, option_map};
 ghost use Rattle.std.specs.Char.{digit_value};
 ghost use Rattle.std.specs.Str.Parse.{digits_value};
 ghost use Rattle.cep_lex.specs.declared.token.TheConstants.{MOST_BYTES};
 ghost use Rattle.cep_lex.specs.Places.{IsPlaceBehind};
-ghost use Rattle.cep_names.specs.Items.{TraceItem, traces_of};
+ghost use Rattle.cep_rule.specs.Limits.{IsTurnLimit};
+ghost use Rattle.cep_names.specs.Items.{rules_of, traces_of};
 ghost use Rattle.cep_names.specs.Misnamed.{number_said};
 ghost use Rattle.cep_names.specs.Named.{AreNames};
 ghost use Rattle.cep_infer.specs.Shapes.{IsSource};
+ghost use Rattle.cep_infer.specs.Meaning.{AreParts};
 ghost use Rattle.cep_infer.specs.Places.{IsDraft};
-ghost use Rattle.cep_infer.specs.Listed.{trace_item};
-ghost use Rattle.cep_infer.specs.Resolved.{IsResolved, IsTyped};
+ghost use Rattle.cep_infer.specs.Listed.{rule_item, IsFirstTrace};
+ghost use Rattle.cep_infer.specs.Resolved.{IsWellNamed, IsResolved, IsTyped};
 
 use crate::declarations::Declarations;
 use crate::draft::{Draft, Refusal};
-use crate::listing::TraceRef;
+use crate::listing::{RuleRef, TraceRef};
 use cep_lex::place;
 use cep_names::{Fault, Names, Space, named};
 use cep_parse::{RawFile, Span};
@@ -46,46 +48,57 @@ fn digit_value(byte: u8) -> u32
     }
 }
 
-// The number that digits say, where it fits.
-fn number_said(digits: &[u8]) -> Option<u32>
-    ensures { IfSome result (λ number. number ≡ digits_value 10 digits.now) }
+// The number that digits say.
+fn number_said(digits: &[u8]) -> u32
+    requires { digits_value 10 digits.now < 2 ^ 32 }
+    ensures { result ≡ digits_value 10 digits.now }
 {
-    let mut number: u32 = 0;
+    let mut number = 0;
     for digit in digits {
-        number = number.checked_mul(10)?.checked_add(digit_value(*digit))?;
+        number = number * 10 + digit_value(*digit);
     }
-    Some(number)
+    number
 }
 
 impl<'a> Declarations<'a> {
     // The number of turns.
-    fn turns(&self, limit: Option<Span>) -> Result<Option<u32>, AllocError>
-        ensures { IfOk result (λ turns. turns ≡ option_map (number_said self.now) limit) }
+    fn turns(&self, limit: Option<Span>) -> Option<u32>
+        requires { ForSome limit (λ digits. IsTurnLimit (number_said self.now digits)) }
+        ensures { result ≡ option_map (number_said self.now) limit }
     {
         match limit {
-            None => Ok(None),
-            Some(digits) => {
-                // In a text without wrong names the number of turns fits.
-                Ok(Some(number_said(self.said(digits)).ok_or(AllocError)?))
-            }
+            None => None,
+            Some(digits) => Some(number_said(self.said(digits))),
         }
     }
 
-    fn draft_from(&self, trace: &TraceRef) -> Result<Draft, AllocError>
-        ensures { (rest : List TraceItem) → traces_of self.now ≡ trace_item trace.now ∷ rest → IfOk result (λ draft. IsDraft self.now draft) }
+    // The parts of a program, where these are its rules, and it starts as the first trace says.
+    fn parts_from(&self, rules: &[RuleRef], trace: &TraceRef) -> Result<Parts, AllocError>
+        requires named { IsWellNamed self.now }
+        requires all { map rule_item rules.now ≡ rules_of self.now }
+        requires first { IsFirstTrace (traces_of self.now) (Some trace.now) }
+        ensures { IfOk result (λ parts. AreParts self.now parts) }
     {
-        let rules = self.rule_refs()?;
-        let parts = Parts {
+        Ok(Parts {
             signature: self.signature()?,
             stages: self.stages()?,
-            rules: self.rules(&rules)?,
+            rules: self.rules(rules)?,
             clauses: self.clauses()?,
             start_stage: self.number(Space::Stages, trace.stage)?,
             start: self.start(trace)?,
-            turns: self.turns(trace.limit)?,
-        };
+            turns: self.turns(trace.limit),
+        })
+    }
+
+    // The draft of a text without wrong names that starts as the first trace says.
+    fn draft_from(&self, trace: &TraceRef) -> Result<Draft, AllocError>
+        requires named { IsWellNamed self.now }
+        requires first { IsFirstTrace (traces_of self.now) (Some trace.now) }
+        ensures { IfOk result (λ draft. IsDraft self.now draft) }
+    {
+        let rules = self.rule_refs()?;
         Ok(Draft {
-            parts,
+            parts: self.parts_from(&rules, trace)?,
             back_places: self.back_places(&rules)?,
             right_places: self.right_places(&rules)?,
         })
@@ -107,7 +120,7 @@ fn typed(
         return Ok(Err(fault));
     }
     // In a text without wrong names there is a trace.
-    let trace = declared.first_trace().ok_or(AllocError)?;
+    let trace = declared.first_trace().unwrap();
     Ok(Ok(declared.draft_from(&trace)?))
 }
 

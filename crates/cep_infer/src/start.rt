@@ -1,10 +1,11 @@
 // The start state of a text.
-ghost use Rattle.std.specs.Prelude.{◌≡◌, [], IfOk, OnOk};
+ghost use Rattle.std.specs.Prelude.{◌≡◌, [], Contains, IfOk, OnOk};
 ghost use Rattle.cep_parse.specs.declared.raw.RawStart.TheVariants as start;
 ghost use Rattle.cep_term.specs.Multiset.{gathered};
 ghost use Rattle.cep_term.specs.Tree.{IsGroundAtom};
 ghost use Rattle.std.specs.List.{AllByRecursion};
 ghost use Rattle.cep_names.specs.declared.space.Role.TheVariants as role;
+ghost use Rattle.cep_names.specs.Items.{traces_of};
 ghost use Rattle.cep_names.specs.Starts.{listed_or, start_atoms};
 ghost use Rattle.cep_names.specs.Uses.{placed, is_context};
 ghost use Rattle.cep_infer.specs.Heads.{AreAtomsBy};
@@ -12,6 +13,7 @@ ghost use Rattle.cep_infer.specs.Meaning.{IsStartBy};
 ghost use Rattle.cep_infer.specs.Met.{names_in};
 ghost use Rattle.cep_infer.specs.Built.{AreBuilt};
 ghost use Rattle.cep_infer.specs.Listed.{trace_item};
+ghost use Rattle.cep_infer.specs.Resolved.{IsWellNamed};
 
 use crate::declarations::Declarations;
 use crate::listing::TraceRef;
@@ -83,6 +85,8 @@ impl<'a> Declarations<'a> {
 
     // The start state of a trace.
     pub(crate) fn start(&self, trace: &TraceRef) -> Result<Bag, AllocError>
+        requires named { IsWellNamed self.now }
+        requires there { Contains (traces_of self.now) (trace_item trace.now) }
         ensures { IfOk result (λ start. IsStartBy self.now (trace_item trace.now) start) }
     {
         let atoms = self.start_atoms(trace.start)?;

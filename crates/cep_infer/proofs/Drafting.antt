@@ -1,0 +1,58 @@
+-- A draft's rules and its trace, as they are kept at hand.
+use Rattle.std.proofs.Common.{◌≡◌, ℕ, ◌<◌, ◌≤◌, Bool, true, false, ltb, List, length, map, ap, sym, refl, ◌∙◌, subst, Contains, arith}
+use Rattle.std.proofs.lemmas.Bool.{ltb-true, ltb-false}
+use Rattle.std.proofs.lemmas.Simd.{map-map}
+use Rattle.std.specs.Prelude.{Option, Some, None}
+use Rattle.std.specs.Option.{IsSome, ForSome}
+use Rattle.cep_base.specs.declared.place.Pos.{Pos}
+use Rattle.cep_rule.specs.declared.rule.Rule.{Rule}
+use Rattle.cep_rule.specs.Limits.{IsTurnLimit}
+use Rattle.cep_names.specs.declared.reason.Reason.TheVariants.{NoTrace, OverLimit}
+use Rattle.cep_names.specs.declared.space.Space.TheVariants as space
+use Rattle.cep_names.specs.Items.{Source, RuleItem, TraceItem, rules_of, traces_of}
+use Rattle.cep_names.specs.Spaces.{names_in, rule_names_from}
+use Rattle.cep_names.specs.Misnamed.{wrong, number_said}
+use Rattle.cep_names.specs.Misnamed.Misnamed as misnamed
+use Rattle.cep_names.specs.Misnamed.IsOver as overs
+use Rattle.cep_infer.specs.declared.listing.RuleRef.{RuleRef}
+use Rattle.cep_infer.specs.declared.listing.TraceRef.{TraceRef}
+use Rattle.cep_infer.specs.Meaning.{AreRulesBy}
+use Rattle.cep_infer.specs.Places.{ArePlaceLists}
+use Rattle.cep_infer.specs.Listed.{rule_item, trace_item, IsFirstTrace}
+use Rattle.cep_infer.specs.Resolved.{IsWellNamed}
+use Rattle.cep_infer.proofs.Members.{contains_first}
+
+-- the rules of all items
+pub all_rules : (source : Source) (items : List RuleItem) (rules : List Rule) → items ≡ rules_of source → AreRulesBy source (map (λ named. named.name) (rule_names_from source 0 items)) items rules
+    → AreRulesBy source (map (λ named. named.name) (names_in source space.Rules)) (rules_of source) rules
+all_rules source items rules all are = subst (λ (them : List RuleItem). AreRulesBy source (map (λ named. named.name) (rule_names_from source 0 them)) them rules) all are
+
+-- the first trace is one of all
+pub first_there : (traces : List TraceItem) (trace : TraceRef) → IsFirstTrace traces (Some trace) → Contains traces (trace_item trace)
+first_there traces trace first = subst (λ (them : List TraceItem). Contains them (trace_item trace)) (sym first.1) (contains_first (trace_item trace) first.0)
+
+-- the places in all rules
+pub all_places : (source : Source) (f : RuleItem → List ℕ) (refs : List RuleRef) (lists : List (List Pos)) → map rule_item refs ≡ rules_of source → ArePlaceLists source.text (map (λ rule. f (rule_item rule)) refs) lists
+    → ArePlaceLists source.text (map f (rules_of source)) lists
+all_places source f refs lists all are = subst (λ (ats : List (List ℕ)). ArePlaceLists source.text ats lists) (sym (map-map f rule_item refs) ∙ ap (map f) all) are
+
+-- a text without wrong names has a trace
+pub some_trace : (source : Source) → IsWellNamed source → (found : Option TraceRef) → IsFirstTrace (traces_of source) found → IsSome found
+some_trace source named None none = absurd (named (wrong NoTrace (length source.text)) (misnamed.no_trace none refl))
+some_trace source named (Some trace) first = refl
+
+not_greater : (a b : ℕ) → (b < a → ⊥) → a ≤ b
+not_greater a b never = by (ltb b a) refl
+  where
+    by : (t : Bool) → ltb b a ≡ t → a ≤ b
+    by true e = absurd (never (ltb-true b a e))
+    by false e = let most = ltb-false b a e in omega (arith, most)
+
+-- in a text without wrong names each number of turns is one that a program may ask for
+pub limit_is : (source : Source) → IsWellNamed source → (trace : TraceItem) → Contains (traces_of source) trace → ForSome trace.limit (λ digits. IsTurnLimit (number_said source digits))
+limit_is source named trace there digits is =
+    let never : (IsTurnLimit (number_said source digits) → ⊥) → ⊥ = λ not_limit. named (wrong OverLimit digits.from) (misnamed.over digits.from (overs.turns trace digits there is not_limit refl) refl) in
+    record {
+      some = not_greater 1 (number_said source digits) (λ none. never (λ limit. let some = limit.some in omega (arith, some, none)));
+      few = not_greater (number_said source digits) 1000000 (λ more. never (λ limit. let few = limit.few in omega (arith, few, more)));
+    }

@@ -1,0 +1,168 @@
+-- The atoms of a start state are ground, in a text without wrong names.
+use Rattle.std.proofs.Common.{◌≡◌, ⊎_elim, ℕ, Bool, true, false, List, [], ◌∷◌, ◌++◌, refl, sym, subst, Contains}
+use Rattle.std.specs.Prelude.{Option, Some, None, cond}
+use Rattle.std.specs.Str.{bytes_eq}
+use Rattle.std.specs.List.{AllByRecursion, find}
+use Rattle.std.proofs.lemmas.List.Elements.{Contains-append_left}
+use Rattle.cep_parse.specs.declared.raw.Span.{Span}
+use Rattle.cep_parse.specs.declared.raw.RawKind.{RawKind}
+use Rattle.cep_parse.specs.declared.raw.RawKind.TheVariants as kind
+use Rattle.cep_parse.specs.declared.raw.RawNode.{RawNode}
+use Rattle.cep_parse.specs.declared.raw.RawAtom.{RawAtom}
+use Rattle.cep_parse.specs.declared.raw.RawStart.{RawStart}
+use Rattle.cep_parse.specs.declared.raw.RawStart.TheVariants as start
+use Rattle.cep_parse.specs.declared.raw.RawItem.{RawItem}
+use Rattle.cep_parse.specs.declared.raw.RawItem.TheVariants as item
+use Rattle.cep_term.specs.Tree.{Tree, Trees, AtomTree, variable, node, none, more, AreGround, IsGround, IsGroundAtom}
+use Rattle.cep_names.specs.declared.reason.Reason.TheVariants.{VarInContext}
+use Rattle.cep_names.specs.declared.space.Role.{Role}
+use Rattle.cep_names.specs.declared.space.Role.TheVariants as role
+use Rattle.cep_names.specs.Items.{Source, TraceItem, ContextItem, said, contexts_in, contexts_of, traces_in, traces_of}
+use Rattle.cep_names.specs.Spaces.{context_named}
+use Rattle.cep_names.specs.Uses.{Placed, placed, placed_of, own_atoms, item_atoms, start_listed, is_context}
+use Rattle.cep_names.specs.Variables.{blanks_behind}
+use Rattle.cep_names.specs.Starts.{listed_in, listed_or, start_atoms}
+use Rattle.cep_names.specs.Misnamed.{wrong, IsOfState}
+use Rattle.cep_names.specs.Misnamed.{IsOfState as of_state}
+use Rattle.cep_names.specs.Misnamed.{IsOpen as opens}
+use Rattle.cep_names.specs.Misnamed.Misnamed.{variable_in_state}
+use Rattle.cep_infer.specs.Heads.{Head, var, con, heads_of, heads_among, head_at, heads_from, blanks_after, IsAtomBy, AreAtomsBy}
+use Rattle.cep_infer.specs.Resolved.{IsWellNamed}
+use Rattle.cep_infer.proofs.Members.{contains_none, contains_first, contains_behind, contains_cases, contains_map, contains_flat, flat_cases, all_of}
+
+-- a constructor is no variable
+abbrev pub IsClosed : Head → Type 0
+IsClosed (var v) = ⊥
+IsClosed (con c args) = Unit {0}
+
+left_all : (xs ys : List Head) → AllByRecursion IsClosed (xs ++ ys) → AllByRecursion IsClosed xs
+left_all [] ys all = tt
+left_all (x ∷ xs) ys all = (all.0, left_all xs ys all.1)
+
+right_all : (xs ys : List Head) → AllByRecursion IsClosed (xs ++ ys) → AllByRecursion IsClosed ys
+right_all [] ys all = all
+right_all (x ∷ xs) ys all = right_all xs ys all.1
+
+-- where no node is a variable, the terms are ground
+mutual
+  term_ground : (t : Tree) → AllByRecursion IsClosed (heads_of t) → IsGround t
+  term_ground (variable v) all = absurd all.0
+  term_ground (node c args) all = terms_ground args all.1
+
+  terms_ground : (ts : Trees) → AllByRecursion IsClosed (heads_among ts) → AreGround ts
+  terms_ground none all = tt
+  terms_ground (more t rest) all = (term_ground t (left_all (heads_of t) (heads_among rest) all), terms_ground rest (right_all (heads_of t) (heads_among rest) all))
+
+-- each node is a constructor
+abbrev pub AreClosed : List RawNode → Type 0
+AreClosed nodes = AllByRecursion (λ node. node.kind ≡ kind.App) nodes
+
+head_closed : (source : Source) (vars : List (List ℕ)) (blanks : ℕ) (shape : RawKind) (at : Span) (args : ℕ) → shape ≡ kind.App → IsClosed (head_at source vars blanks shape at args)
+head_closed source vars blanks kind.App at args is = tt
+head_closed source vars blanks kind.Var at args is = absurd cc
+head_closed source vars blanks kind.Blank at args is = absurd cc
+
+heads_closed : (source : Source) (vars : List (List ℕ)) (blanks : ℕ) (nodes : List RawNode) → AreClosed nodes → AllByRecursion IsClosed (heads_from source vars blanks nodes)
+heads_closed source vars blanks [] all = tt
+heads_closed source vars blanks (first ∷ nodes) all = (head_closed source vars blanks first.kind first.at first.args all.0, heads_closed source vars (blanks_behind blanks first.kind) nodes all.1)
+
+atom_ground : (source : Source) (vars : List (List ℕ)) (blanks : ℕ) (raw : RawAtom) (atom : AtomTree) → IsAtomBy source vars blanks raw atom → AreClosed raw.nodes → IsGroundAtom atom
+atom_ground source vars blanks raw atom by all = terms_ground atom.args (subst (AllByRecursion IsClosed) (sym by.heads) (heads_closed source vars blanks raw.nodes all))
+
+atoms_ground : (source : Source) (vars : List (List ℕ)) (blanks : ℕ) (raws : List RawAtom) (atoms : List AtomTree) → ((raw : RawAtom) → Contains raws raw → AreClosed raw.nodes) → AreAtomsBy source vars blanks raws atoms
+    → AllByRecursion IsGroundAtom atoms
+atoms_ground source vars blanks [] [] closed by = tt
+atoms_ground source vars blanks [] (atom ∷ atoms) closed by = absurd by
+atoms_ground source vars blanks (raw ∷ raws) [] closed by = absurd by
+atoms_ground source vars blanks (raw ∷ raws) (atom ∷ atoms) closed by = (
+  atom_ground source vars blanks raw atom by.0 (closed raw (contains_first raw raws)),
+  atoms_ground source vars (blanks_after blanks raw.nodes) raws atoms (λ other there. closed other (contains_behind raw raws other there)) by.1,
+)
+
+-- what is found stands in the list
+found_first : {Y : Type 0} (p : Y → Bool) (b : Bool) (z y : Y) (ys : List Y) (further : Option Y) → cond b (Some z) further ≡ Some y → (further ≡ Some y → Contains ys y) → Contains (z ∷ ys) y
+found_first p true z y ys further found later =
+    let same : z ≡ y = cc in
+    subst (λ w. Contains (z ∷ ys) w) same (contains_first z ys)
+found_first p false z y ys further found later = contains_behind z ys y (later found)
+
+found_there : {Y : Type 0} (p : Y → Bool) (ys : List Y) (y : Y) → find p ys ≡ Some y → Contains ys y
+found_there p [] y found = absurd cc
+found_there p (z ∷ ys) y found = found_first p (p z) z y ys (find p ys) found (λ later. found_there p ys y later)
+
+-- An atom of a start state stands in a context or in the braces of a trace.
+record IsListed (source : Source) (raw : RawAtom) : Type 0 where
+  role : Role
+  there : Contains (placed_of source) (placed role raw)
+  of_state : IsOfState role
+
+own_placed : (source : Source) (item_ : RawItem) (p : Placed) → Contains source.file item_ → Contains (own_atoms item_) p → Contains (placed_of source) p
+own_placed source item_ p there inside = contains_flat (item_atoms source) source.file item_ p there (Contains-append_left (own_atoms item_) _ p inside)
+
+context_item : (item_ : RawItem) (context : ContextItem) (raw : RawAtom) → Contains (contexts_in item_) context → Contains context.atoms raw → Contains (own_atoms item_) (placed role.Listed raw)
+context_item (item.Context name atoms) context raw there inside =
+    ⊎_elim
+    (λ (same : record { name = name; atoms = atoms } ≡ context). contains_map (placed role.Listed) atoms raw (subst (λ (c : ContextItem). Contains c.atoms raw) (sym same) inside))
+    (λ later. absurd (contains_none context later))
+    (contains_cases (record { name = name; atoms = atoms }) [] context there)
+context_item (item.Sort name) context raw there inside = absurd (contains_none context there)
+context_item (item.Pred name args back) context raw there inside = absurd (contains_none context there)
+context_item (item.Colon left args right) context raw there inside = absurd (contains_none context there)
+context_item (item.Clause label head goals) context raw there inside = absurd (contains_none context there)
+context_item (item.Outer rule) context raw there inside = absurd (contains_none context there)
+context_item (item.Stage name rules) context raw there inside = absurd (contains_none context there)
+context_item (item.Interactive name) context raw there inside = absurd (contains_none context there)
+context_item (item.Trace at limit stage start_) context raw there inside = absurd (contains_none context there)
+
+trace_item : (item_ : RawItem) (trace : TraceItem) (raw : RawAtom) → Contains (traces_in item_) trace → Contains (start_listed trace.start) raw → Contains (own_atoms item_) (placed role.Start raw)
+trace_item (item.Trace at limit stage start_) trace raw there inside =
+    ⊎_elim
+    (λ (same : record { at = at; limit = limit; stage = stage; start = start_ } ≡ trace). contains_map (placed role.Start) (start_listed start_) raw (subst (λ (t : TraceItem). Contains (start_listed t.start) raw) (sym same) inside))
+    (λ later. absurd (contains_none trace later))
+    (contains_cases (record { at = at; limit = limit; stage = stage; start = start_ }) [] trace there)
+trace_item (item.Sort name) trace raw there inside = absurd (contains_none trace there)
+trace_item (item.Pred name args back) trace raw there inside = absurd (contains_none trace there)
+trace_item (item.Colon left args right) trace raw there inside = absurd (contains_none trace there)
+trace_item (item.Clause label head goals) trace raw there inside = absurd (contains_none trace there)
+trace_item (item.Outer rule) trace raw there inside = absurd (contains_none trace there)
+trace_item (item.Stage name rules) trace raw there inside = absurd (contains_none trace there)
+trace_item (item.Context name atoms) trace raw there inside = absurd (contains_none trace there)
+trace_item (item.Interactive name) trace raw there inside = absurd (contains_none trace there)
+
+module _ (source : Source) where
+  context_listed : (found : Option ContextItem) (name : List ℕ) (raw : RawAtom) → context_named source name ≡ found → Contains (listed_in found) raw → IsListed source raw
+  context_listed None name raw is there = absurd (contains_none raw there)
+  context_listed (Some context) name raw is there =
+      let found = found_there (λ (c : ContextItem). bytes_eq (said source c.name) name) (contexts_of source) context is in
+      let from = flat_cases contexts_in source.file context found in
+      record { role = role.Listed; there = own_placed source from.from (placed role.Listed raw) from.there (context_item from.from context raw from.inside there); of_state = of_state.listed }
+
+  atom_listed : (trace : TraceItem) (atoms : List RawAtom) (atom raw : RawAtom) (b : Bool) → Contains (traces_of source) trace → trace.start ≡ start.Listed atoms → Contains atoms atom → Contains (listed_or b source atom) raw → IsListed source raw
+  atom_listed trace atoms atom raw true there is inside listed = context_listed (context_named source (said source atom.name)) (said source atom.name) raw refl listed
+  atom_listed trace atoms atom raw false there is inside listed =
+      ⊎_elim
+      (λ (same : atom ≡ raw).
+      let from = flat_cases traces_in source.file trace there in
+      let in_ : Contains (start_listed trace.start) atom = subst (λ s. Contains (start_listed s) atom) (sym is) inside in
+      subst (IsListed source) same (record { role = role.Start; there = own_placed source from.from (placed role.Start atom) from.there (trace_item from.from trace atom from.inside in_); of_state = of_state.start }))
+      (λ later. absurd (contains_none raw later))
+      (contains_cases atom [] raw listed)
+
+  start_by : (trace : TraceItem) (start_ : RawStart) (raw : RawAtom) → Contains (traces_of source) trace → trace.start ≡ start_ → Contains (start_atoms source start_) raw → IsListed source raw
+  start_by trace (start.Named name) raw there is listed = context_listed (context_named source (said source name)) (said source name) raw refl listed
+  start_by trace (start.Listed atoms) raw there is listed =
+      let from = flat_cases (λ atom. listed_or (is_context source (placed role.Start atom)) source atom) atoms raw listed in
+      atom_listed trace atoms from.from raw (is_context source (placed role.Start from.from)) there is from.there from.inside
+
+  -- so none of its nodes is a variable or a blank
+  closed_by : (named : IsWellNamed source) (raw : RawAtom) (listed : IsListed source raw) (at : Span) (shape : RawKind) (args : ℕ) → Contains raw.nodes (record { at = at; kind = shape; args = args }) → shape ≡ kind.App
+  closed_by named raw listed at kind.App args there = refl
+  closed_by named raw listed at kind.Var args there = absurd (named (wrong VarInContext at.from) (variable_in_state (placed listed.role raw) (record { at = at; kind = kind.Var; args = args }) listed.there listed.of_state there (opens.variable at args) refl))
+  closed_by named raw listed at kind.Blank args there = absurd (named (wrong VarInContext at.from) (variable_in_state (placed listed.role raw) (record { at = at; kind = kind.Blank; args = args }) listed.there listed.of_state there (opens.blank at args) refl))
+
+  listed_closed : IsWellNamed source → (raw : RawAtom) → IsListed source raw → AreClosed raw.nodes
+  listed_closed named raw listed = all_of (λ (node : RawNode). node.kind ≡ kind.App) raw.nodes (λ node there. closed_by named raw listed node.at node.kind node.args there)
+
+  pub start_ground : (trace : TraceItem) (atoms : List AtomTree) → IsWellNamed source → Contains (traces_of source) trace → AreAtomsBy source [] 0 (start_atoms source trace.start) atoms → AllByRecursion IsGroundAtom atoms
+  start_ground trace atoms named there by =
+      atoms_ground source [] 0 (start_atoms source trace.start) atoms (λ raw listed. listed_closed named raw (start_by trace trace.start raw there refl listed)) by

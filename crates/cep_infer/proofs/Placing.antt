@@ -1,0 +1,113 @@
+-- The places of a text, from one to the next.
+use Rattle.std.proofs.Common.{◌≡◌, ◌≢◌, ℕ, ◌+◌, ◌<◌, ◌≤◌, ◌==◌, cond, min, map, length, take, drop, get_or, List, [], ◌∷◌, ◌++◌, refl, sym, ap, subst, ◌∙◌, inl, inr, arith, append_assoc, length-append, append-nil}
+use Rattle.std.specs.List.{count_by, slice_range}
+use Rattle.std.proofs.Math.Nat.{min-le_right}
+use Rattle.std.proofs.lemmas.Bool.{eq-eqb, ne_eqb}
+use Rattle.std.proofs.lemmas.List.{take_more, take-take, take_min, take-append-drop, map-append}
+use Rattle.std.proofs.lemmas.List.Sums.{sum_by_push}
+use Rattle.std.proofs.lemmas.Slice.{between_is}
+use Rattle.cep_base.specs.declared.place.Pos.{Pos}
+use Rattle.cep_lex.specs.Cuts.{IsUnbroken}
+use Rattle.cep_lex.specs.Places.{IsPlaceBehind}
+use Rattle.cep_infer.specs.declared.places.Reached.{Reached}
+use Rattle.cep_infer.specs.Places.{IsReached, ArePlaces, ArePlaceLists}
+
+-- ---- one byte further
+
+unbroken_push : (bytes : List ℕ) (byte : ℕ) → IsUnbroken bytes → byte ≢ 10 → IsUnbroken (bytes ++ byte ∷ [])
+unbroken_push [] byte unbroken no_break = (no_break, tt)
+unbroken_push (b ∷ bytes) byte unbroken no_break = (unbroken.0, unbroken_push bytes byte unbroken.1 no_break)
+
+abbrev breaks : List ℕ → ℕ
+breaks bytes = count_by (λ byte. byte == 10) bytes
+
+counted_break : (before : List ℕ) (byte : ℕ) → byte ≡ 10 → breaks (before ++ byte ∷ []) ≡ breaks before + 1
+counted_break before byte is = sum_by_push (λ b. cond (b == 10) 1 0) before byte ∙ ap (λ b. breaks before + cond b 1 0) (eq-eqb byte 10 is)
+
+counted_more : (before : List ℕ) (byte : ℕ) → byte ≢ 10 → breaks (before ++ byte ∷ []) ≡ breaks before + 0
+counted_more before byte is = sum_by_push (λ b. cond (b == 10) 1 0) before byte ∙ ap (λ b. breaks before + cond b 1 0) (ne_eqb byte 10 is)
+
+-- behind an LF
+pub place_break : (before : List ℕ) (byte line : ℕ) (pos : Pos) → byte ≡ 10 → line ≡ pos.line + 1 → IsPlaceBehind before pos → IsPlaceBehind (before ++ byte ∷ []) (record { line = line; col = 1 })
+place_break before byte line pos is line_is place = record {
+  lines = before ++ 10 ∷ [];
+  bytes = [];
+  cut = ap (λ b. before ++ b ∷ []) is ∙ sym (append-nil (before ++ 10 ∷ []));
+  ended = inr (before, refl);
+  unbroken = tt;
+  line = let more = counted_break before byte is in omega (arith, place.line);
+  col = refl;
+}
+
+-- behind another byte
+pub place_more : (before : List ℕ) (byte col : ℕ) (pos : Pos) → byte ≢ 10 → col ≡ pos.col + 1 → IsPlaceBehind before pos → IsPlaceBehind (before ++ byte ∷ []) (record { line = pos.line; col = col })
+place_more before byte col pos is col_is place = record {
+  lines = place.lines;
+  bytes = place.bytes ++ byte ∷ [];
+  cut = ap (λ b. b ++ byte ∷ []) place.cut ∙ append_assoc place.lines place.bytes (byte ∷ []);
+  ended = place.ended;
+  unbroken = unbroken_push place.bytes byte place.unbroken is;
+  line = let more = counted_more before byte is in omega (arith, place.line);
+  col = let s = length-append place.bytes (byte ∷ []) in omega (arith, place.col);
+}
+
+-- ---- some bytes further
+
+pub no_bytes : (before : List ℕ) (pos : Pos) → IsPlaceBehind before pos → IsPlaceBehind (before ++ []) pos
+no_bytes before pos place = subst (λ (bytes : List ℕ). IsPlaceBehind bytes pos) (sym (append-nil before)) place
+
+pub bytes_more : (before bytes : List ℕ) (i d : ℕ) (pos : Pos) → i < length bytes → IsPlaceBehind ((before ++ take i bytes) ++ get_or bytes i d ∷ []) pos → IsPlaceBehind (before ++ take (i + 1) bytes) pos
+bytes_more before bytes i d pos h place =
+    subst (λ (bytes_ : List ℕ). IsPlaceBehind bytes_ pos) (append_assoc before (take i bytes) (get_or bytes i d ∷ []) ∙ ap (λ b. before ++ b) (sym (take_more bytes i d h))) place
+
+-- ---- places in a text
+
+pub front_is_reached : (text : List ℕ) → IsReached text (record { at = 0; pos = record { line = 1; col = 1 } })
+front_is_reached text = record {
+  within = omega arith;
+  place = record { lines = []; bytes = []; cut = refl; ended = inl refl; unbroken = tt; line = refl; col = refl };
+}
+
+joined : (text : List ℕ) (i j : ℕ) → i ≤ j → take i text ++ slice_range text i j ≡ take j text
+joined text i j h =
+    ap (λ b. take i text ++ b) (between_is text i j) ∙ ap (λ b. b ++ drop i (take j text)) (sym (take-take i j text h)) ∙ take-append-drop i (take j text)
+
+-- a place further on, which is said by a number that may lie behind the text
+pub reached_is : (text : List ℕ) (start : Reached) (at to : ℕ) (pos : Pos) → to ≡ min at (length text) → start.at ≤ to → IsReached text start
+    → ((before : List ℕ) → IsPlaceBehind before start.pos → IsPlaceBehind (before ++ slice_range text start.at to) pos) → IsReached text (record { at = to; pos = pos })
+reached_is text start at to pos is h from further = record {
+  within = let below = min-le_right at (length text) in omega arith;
+  place = subst (λ (bytes : List ℕ). IsPlaceBehind bytes pos) (joined text start.at to h) (further (take start.at text) from.place);
+}
+
+pub place_there : (text : List ℕ) (at to : ℕ) (pos : Pos) → to ≡ min at (length text) → IsReached text (record { at = to; pos = pos }) → IsPlaceBehind (take at text) pos
+place_there text at to pos is reached = subst (λ (bytes : List ℕ). IsPlaceBehind bytes pos) (ap (λ n. take n text) is ∙ take_min at text) reached.place
+
+-- ---- one place more
+
+places_push : (text ats : List ℕ) (places : List Pos) (at : ℕ) (pos : Pos) → ArePlaces text ats places → IsPlaceBehind (take at text) pos → ArePlaces text (ats ++ at ∷ []) (places ++ pos ∷ [])
+places_push text [] [] at pos are is = (is, tt)
+places_push text [] (p ∷ places) at pos are is = absurd are
+places_push text (a ∷ ats) [] at pos are is = absurd are
+places_push text (a ∷ ats) (p ∷ places) at pos are is = (are.0, places_push text ats places at pos are.1 is)
+
+pub places_more : (text ats : List ℕ) (i d : ℕ) (old new : List Pos) (pos : Pos) → i < length ats → ArePlaces text (take i ats) old → IsPlaceBehind (take (get_or ats i d) text) pos → new ≡ old ++ pos ∷ [] → ArePlaces text (take (i + 1) ats) new
+places_more text ats i d old new pos h are is new_is =
+    subst (λ (ps : List Pos). ArePlaces text (take (i + 1) ats) ps) (sym new_is)
+    (subst (λ (as_ : List ℕ). ArePlaces text as_ (old ++ pos ∷ [])) (sym (take_more ats i d h)) (places_push text (take i ats) old (get_or ats i d) pos are is))
+
+lists_push : (text : List ℕ) (ats : List (List ℕ)) (lists : List (List Pos)) (some : List ℕ) (places : List Pos) → ArePlaceLists text ats lists → ArePlaces text some places → ArePlaceLists text (ats ++ some ∷ []) (lists ++ places ∷ [])
+lists_push text [] [] some places are is = (is, tt)
+lists_push text [] (p ∷ lists) some places are is = absurd are
+lists_push text (a ∷ ats) [] some places are is = absurd are
+lists_push text (a ∷ ats) (p ∷ lists) some places are is = (are.0, lists_push text ats lists some places are.1 is)
+
+pub lists_more : {X : Type 0} (text : List ℕ) (f : X → List ℕ) (xs : List X) (i : ℕ) (x : X) (old new : List (List Pos)) (some : List ℕ) (places : List Pos) → i < length xs → x ≡ get_or xs i x
+    → ArePlaceLists text (map f (take i xs)) old → ArePlaces text some places → some ≡ f x → new ≡ old ++ places ∷ [] → ArePlaceLists text (map f (take (i + 1) xs)) new
+lists_more text f xs i x old new some places h at are is some_is new_is =
+    subst (λ (ls : List (List Pos)). ArePlaceLists text (map f (take (i + 1) xs)) ls) (sym new_is)
+    (subst (λ (as_ : List (List ℕ)). ArePlaceLists text as_ (old ++ places ∷ [])) (sym items)
+    (lists_push text (map f (take i xs)) old some places are is))
+  where
+    items : map f (take (i + 1) xs) ≡ map f (take i xs) ++ some ∷ []
+    items = ap (map f) (take_more xs i x h) ∙ map-append f (take i xs) (get_or xs i x ∷ []) ∙ ap (λ y. map f (take i xs) ++ y ∷ []) (sym (some_is ∙ ap f at))

@@ -1,0 +1,120 @@
+-- The backward premises of a side, and what is unbound, one after another.
+use Rattle.std.proofs.Common.{◌≡◌, ℕ, ◌+◌, ◌<◌, Bool, true, false, ◌||◌, not, Option, Some, None, unwrap_or, map, filter, length, take, drop, get_or, List, [], ◌∷◌, ◌++◌, refl, sym, ap, subst, ◌∙◌, append_assoc, append-nil}
+use Rattle.std.specs.Str.{bytes_eq}
+use Rattle.std.specs.List.{list_any, flat_map}
+use Rattle.std.proofs.lemmas.List.{take_more, drop_more, map-append}
+use Rattle.std.proofs.lemmas.List.Elements.{filter-append, filter_agree}
+use Rattle.std.proofs.lemmas.Grind.{flat_map-append}
+use Rattle.cep_parse.specs.declared.raw.Span.{Span}
+use Rattle.cep_parse.specs.declared.raw.RawNode.{RawNode}
+use Rattle.cep_parse.specs.declared.raw.RawAtom.{RawAtom}
+use Rattle.cep_parse.specs.declared.raw.RawElem.{RawElem}
+use Rattle.cep_names.specs.Items.{Source, RuleItem}
+use Rattle.cep_names.specs.Misnamed.{is_declared}
+use Rattle.cep_names.specs.Uses.{atoms_in, atoms_of}
+use Rattle.cep_names.specs.Variables.{Occurrence, occurrence_at, occurrences_from, blanks_behind, nodes_of}
+use Rattle.cep_infer.specs.declared.variables.Variables.{Variables}
+use Rattle.cep_infer.specs.Heads.{blanks_after}
+use Rattle.cep_infer.specs.Meaning.{names_of}
+use Rattle.cep_infer.specs.Met.{has_name, names_in, none_met, AreMet}
+use Rattle.cep_infer.specs.Places.{unbound_at}
+use Rattle.cep_infer.proofs.Lookups.{bytes_eq_sym}
+use Rattle.cep_infer.proofs.FirstOccurrences.{names_met}
+
+-- a predicate that is not declared is no backward one
+pub backward_is : (back : Option Bool) → unwrap_or back false ≡ is_declared true back
+backward_is None = refl
+backward_is (Some back) = refl
+
+-- what is made of those that pass, of two parts
+kept_both : {X Y : Type 0} (f : X → Y) (p : X → Bool) (xs ys : List X) → map f (filter p (xs ++ ys)) ≡ map f (filter p xs) ++ map f (filter p ys)
+kept_both f p xs ys = ap (map f) (filter-append p xs ys) ∙ map-append f (filter p xs) (filter p ys)
+
+-- one element of a loop more
+pub kept_more : {X Y Z : Type 0} (f : Y → Z) (p : Y → Bool) (g : X → List Y) (xs : List X) (i : ℕ) (x : X) (old new more : List Z) → i < length xs → x ≡ get_or xs i x
+    → old ≡ map f (filter p (flat_map g (take i xs))) → more ≡ map f (filter p (g x)) → new ≡ old ++ more → new ≡ map f (filter p (flat_map g (take (i + 1) xs)))
+kept_more f p g xs i x old new more h at was is new_is =
+    new_is ∙ ap (λ zs. zs ++ more) was ∙ ap (λ zs. map f (filter p (flat_map g (take i xs))) ++ zs) is
+    ∙ sym (ap (λ ys. map f (filter p ys)) items ∙ kept_both f p (flat_map g (take i xs)) (g x))
+  where
+    items : flat_map g (take (i + 1) xs) ≡ flat_map g (take i xs) ++ g x
+    items = ap (flat_map g) (take_more xs i x h) ∙ flat_map-append g (take i xs) (get_or xs i x ∷ []) ∙ ap (λ ys. flat_map g (take i xs) ++ ys) (append-nil (g (get_or xs i x)) ∙ ap g (sym at))
+
+-- what was pushed, and what is still to come
+pushed : {Z : Type 0} (old new front rest whole all : List Z) → new ≡ old ++ front → whole ≡ front ++ rest → old ++ whole ≡ all → new ++ rest ≡ all
+pushed old new front rest whole all new_is whole_is was = ap (λ zs. zs ++ rest) new_is ∙ append_assoc old front rest ∙ ap (λ zs. old ++ zs) (sym whole_is) ∙ was
+
+-- the places of the occurrences that pass
+abbrev pub places_of : (Occurrence → Bool) → List Occurrence → List ℕ
+places_of p occurrences = map (λ (occurrence : Occurrence). occurrence.at.from) (filter p occurrences)
+
+module _ (source : Source) where
+  occurrences_both : (blanks : ℕ) (nodes others : List RawNode) → occurrences_from source blanks (nodes ++ others) ≡ occurrences_from source blanks nodes ++ occurrences_from source (blanks_after blanks nodes) others
+  occurrences_both blanks [] others = refl
+  occurrences_both blanks (node ∷ nodes) others =
+      let first = occurrence_at source blanks node.at node.kind in
+      ap (λ rest. first ++ rest) (occurrences_both (blanks_behind blanks node.kind) nodes others)
+      ∙ sym (append_assoc first (occurrences_from source (blanks_behind blanks node.kind) nodes) (occurrences_from source (blanks_after (blanks_behind blanks node.kind) nodes) others))
+
+  -- one node more
+  pub node_pushed : (p : Occurrence → Bool) (nodes : List RawNode) (i blanks behind : ℕ) (d : RawNode) (old new all : List ℕ) → i < length nodes
+      → new ≡ old ++ places_of p (occurrence_at source blanks (get_or nodes i d).at (get_or nodes i d).kind) → behind ≡ blanks_behind blanks (get_or nodes i d).kind
+      → old ++ places_of p (occurrences_from source blanks (drop i nodes)) ≡ all → new ++ places_of p (occurrences_from source behind (drop (i + 1) nodes)) ≡ all
+  node_pushed p nodes i blanks behind d old new all h new_is behind_is was =
+      let node = get_or nodes i d in
+      let rest = drop (i + 1) nodes in
+      pushed old new (places_of p (occurrence_at source blanks node.at node.kind)) (places_of p (occurrences_from source behind rest)) (places_of p (occurrences_from source blanks (drop i nodes))) all new_is
+      (ap (λ (ns : List RawNode). places_of p (occurrences_from source blanks ns)) (drop_more nodes i d h)
+      ∙ kept_both (λ (occurrence : Occurrence). occurrence.at.from) p (occurrence_at source blanks node.at node.kind) (occurrences_from source (blanks_behind blanks node.kind) rest)
+      ∙ ap (λ n. places_of p (occurrence_at source blanks node.at node.kind) ++ places_of p (occurrences_from source n rest)) (sym behind_is))
+      was
+
+  pub node_counted : (nodes : List RawNode) (i blanks behind : ℕ) (d : RawNode) (all : ℕ) → i < length nodes → behind ≡ blanks_behind blanks (get_or nodes i d).kind
+      → blanks_after blanks (drop i nodes) ≡ all → blanks_after behind (drop (i + 1) nodes) ≡ all
+  node_counted nodes i blanks behind d all h behind_is was =
+      ap (λ n. blanks_after n (drop (i + 1) nodes)) behind_is ∙ sym (ap (blanks_after blanks) (drop_more nodes i d h)) ∙ was
+
+  -- one element more
+  elem_nodes : (side : List RawElem) (i : ℕ) (elem : RawElem) → i < length side → elem ≡ get_or side i elem → nodes_of (atoms_of (drop i side)) ≡ nodes_of (atoms_in elem) ++ nodes_of (atoms_of (drop (i + 1) side))
+  elem_nodes side i elem h at =
+      ap (λ (es : List RawElem). nodes_of (atoms_of es)) (drop_more side i elem h ∙ ap (λ (e : RawElem). e ∷ drop (i + 1) side) (sym at))
+      ∙ flat_map-append (λ (atom : RawAtom). atom.nodes) (atoms_in elem) (atoms_of (drop (i + 1) side))
+
+  pub elem_pushed : (p : Occurrence → Bool) (side : List RawElem) (i blanks behind : ℕ) (elem : RawElem) (nodes : List RawNode) (old new all : List ℕ) → i < length side → elem ≡ get_or side i elem → nodes ≡ nodes_of (atoms_in elem)
+      → new ≡ old ++ places_of p (occurrences_from source blanks nodes) → behind ≡ blanks_after blanks nodes
+      → old ++ places_of p (occurrences_from source blanks (nodes_of (atoms_of (drop i side)))) ≡ all → new ++ places_of p (occurrences_from source behind (nodes_of (atoms_of (drop (i + 1) side)))) ≡ all
+  elem_pushed p side i blanks behind elem nodes old new all h at nodes_are new_is behind_is was =
+      let rest = nodes_of (atoms_of (drop (i + 1) side)) in
+      pushed old new (places_of p (occurrences_from source blanks nodes)) (places_of p (occurrences_from source behind rest)) (places_of p (occurrences_from source blanks (nodes_of (atoms_of (drop i side))))) all new_is
+      (ap (λ (ns : List RawNode). places_of p (occurrences_from source blanks ns)) (elem_nodes side i elem h at ∙ ap (λ (ns : List RawNode). ns ++ rest) (sym nodes_are))
+      ∙ ap (places_of p) (occurrences_both blanks nodes rest)
+      ∙ kept_both (λ (occurrence : Occurrence). occurrence.at.from) p (occurrences_from source blanks nodes) (occurrences_from source (blanks_after blanks nodes) rest)
+      ∙ ap (λ n. places_of p (occurrences_from source blanks nodes) ++ places_of p (occurrences_from source n rest)) (sym behind_is))
+      was
+
+  -- ---- what was met on the left
+
+  abbrev fresh : List (List ℕ × Span) → Occurrence → Bool
+  fresh firsts occurrence = not (has_name firsts occurrence.name)
+
+  abbrev unnamed : List RawAtom → Occurrence → Bool
+  unnamed atoms occurrence = not (list_any (λ name. bytes_eq name occurrence.name) (names_of source atoms))
+
+  has_names : (firsts : List (List ℕ × Span)) (name : List ℕ) → has_name firsts name ≡ list_any (λ other. bytes_eq other name) (names_in firsts)
+  has_names [] name = refl
+  has_names (entry ∷ firsts) name = ap (λ b. b || has_name firsts name) (bytes_eq_sym name entry.0) ∙ ap (λ b. bytes_eq entry.0 name || b) (has_names firsts name)
+
+  fresh_is : (atoms : List RawAtom) (left : Variables) → AreMet source atoms none_met left → (occurrence : Occurrence) → fresh left.firsts occurrence ≡ unnamed atoms occurrence
+  fresh_is atoms left met occurrence = ap not (has_names left.firsts occurrence.name ∙ ap (λ (names : List (List ℕ)). list_any (λ name. bytes_eq name occurrence.name) names) (names_met source atoms left met))
+
+  unbound_met : (atoms : List RawAtom) (right : List RawNode) (left : Variables) → AreMet source atoms none_met left → places_of (fresh left.firsts) (occurrences_from source left.blanks right) ≡ places_of (unnamed atoms) (occurrences_from source (blanks_after 0 (nodes_of atoms)) right)
+  unbound_met atoms right left met =
+      ap (λ n. places_of (fresh left.firsts) (occurrences_from source n right)) met.blanks
+      ∙ ap (map (λ (occurrence : Occurrence). occurrence.at.from)) (filter_agree (fresh left.firsts) (unnamed atoms) (fresh_is atoms left met) (occurrences_from source (blanks_after 0 (nodes_of atoms)) right))
+
+  pub unbound_is : (item : RuleItem) (left_side right_side : List RawElem) (start left : Variables) → left_side ≡ item.raw.left → right_side ≡ item.raw.right → start ≡ none_met → AreMet source (atoms_of left_side) start left
+      → places_of (λ (occurrence : Occurrence). not (has_name left.firsts occurrence.name)) (occurrences_from source left.blanks (nodes_of (atoms_of right_side))) ≡ unbound_at source item
+  unbound_is item left_side right_side start left left_is right_is none met =
+      ap (λ (side : List RawElem). places_of (fresh left.firsts) (occurrences_from source left.blanks (nodes_of (atoms_of side)))) right_is
+      ∙ unbound_met (atoms_of item.raw.left) (nodes_of (atoms_of item.raw.right)) left
+      (subst (λ (v : Variables). AreMet source (atoms_of item.raw.left) v left) none (subst (λ (side : List RawElem). AreMet source (atoms_of side) start left) left_is met))
