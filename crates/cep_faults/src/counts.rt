@@ -1,35 +1,22 @@
 // How many there are of what a file declares.
 ghost use Rattle.std.specs.Prelude.{◌≡◌, ◌≢◌, ◌++◌, length, slice_get, option_to_list};
 ghost use Rattle.std.specs.List.{flat_map};
-ghost use Rattle.cep_names.specs.Filling.{item_rules};
 ghost use Rattle.cep_names.specs.First.{first_in};
 ghost use Rattle.cep_faults.specs.Looks.{looks_in};
 ghost use Rattle.cep_faults.specs.Totals.{places_in, count_faults, all_count_faults};
 
 use crate::rules::past;
-use cep_names::{Fault, Names};
-use cep_parse::{RawItem, RawRule};
+use cep_names::{Fault, Names, item_rules};
+use cep_parse::RawItem;
 use cep_rule::{MOST_CLAUSES, MOST_CONS, MOST_PREDS, MOST_RULES};
-use std::slice;
 
 /// What there may not be too many of.
-#[derive(Clone, Copy, Debug, PartialEq, Eq)]
+#[derive(Clone, Copy)]
 pub(crate) enum Counted {
     Predicates,
     Constructors,
     Rules,
     Clauses,
-}
-
-// The rules of an item.
-pub(crate) fn rules_in(item: &RawItem) -> &[RawRule]
-    ensures { result.now ≡ item_rules item.now }
-{
-    match item {
-        RawItem::Outer(rule) => slice::from_ref(rule),
-        RawItem::Stage { rules, .. } => rules.as_slice(),
-        _ => &[],
-    }
 }
 
 // The place of the predicate, the constructor or the clause of an item.
@@ -60,7 +47,7 @@ fn nth_place(names: &Names, text: &[u8], counted: Counted, item: &RawItem, n: us
 {
     match counted {
         Counted::Rules => {
-            let rule = rules_in(item).get(n)?;
+            let rule = item_rules(item).get(n)?;
             Some(rule.at)
         }
         _ if n == 0 => place(names, text, counted, item),
@@ -73,7 +60,7 @@ fn places(names: &Names, text: &[u8], counted: Counted, item: &RawItem) -> usize
     ensures { result ≡ length (places_in (looks_in text.now names.now) counted item.now) }
 {
     match counted {
-        Counted::Rules => rules_in(item).len(),
+        Counted::Rules => item_rules(item).len(),
         _ => match place(names, text, counted, item) {
             Some(_) => 1,
             None => 0,

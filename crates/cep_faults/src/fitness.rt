@@ -15,7 +15,7 @@ use cep_term::{MAX_DEPTH, MAX_NODES};
 use std::alloc::{AllocError, Global};
 
 /// Terms of one level that are still to come: one, and so many more.
-#[derive(Clone, Copy, Debug, PartialEq, Eq)]
+#[derive(Clone, Copy)]
 pub(crate) struct Run {
     pub level: u64,
     pub more: u32,
@@ -105,7 +105,7 @@ fn atoms_fault(alloc: Global, atoms: &[RawAtom]) -> Result<Option<Fault>, AllocE
 }
 
 // The atoms that a start state lists.
-fn start_listed(start: &RawStart) -> &[RawAtom]
+pub(crate) fn start_listed(start: &RawStart) -> &[RawAtom]
     ensures { result.now ≡ start_listed start.now }
 {
     match start {

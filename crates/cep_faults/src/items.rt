@@ -9,6 +9,7 @@ ghost use Rattle.cep_names.specs.Uses.{start_uses, start_listed, placed};
 ghost use Rattle.cep_faults.specs.Faults.{use_faults, placed_faults, argument_faults, con_faults, turns_faults, item_faults, is_turn_limit};
 
 use crate::atoms::atoms_fault;
+use crate::fitness::start_listed;
 use crate::rules::{
     bare_fault, clause_fault, past, qui_fault, rule_fault, rules_fault, stages_fault,
 };
@@ -80,16 +81,6 @@ fn start_fault(names: &Names, text: &[u8], start: &RawStart) -> Option<Fault>
     }
 }
 
-// The first fault of the atoms that a start state lists.
-fn listed_fault(names: &Names, text: &[u8], start: &RawStart) -> Option<Fault>
-    ensures { result ≡ first_in (flat_map (placed_faults (looks_in text.now names.now)) (map (placed Role.Start) (start_listed start.now))) }
-{
-    match start {
-        RawStart::Named(_) => None,
-        RawStart::Listed(atoms) => atoms_fault(names, text, Role::Start, atoms.as_slice()),
-    }
-}
-
 // The value of a digit.
 fn digit_value(byte: u8) -> u64
     ensures value { result ≡ digit_value byte }
@@ -142,7 +133,8 @@ fn trace_fault(
         use_fault(names, text, Space::Stages, stage, 0),
         start_fault(names, text, start),
     );
-    let rest = Fault::first_of(listed_fault(names, text, start), turns_fault(text, limit));
+    let listed = atoms_fault(names, text, Role::Start, start_listed(start));
+    let rest = Fault::first_of(listed, turns_fault(text, limit));
     Fault::first_of(uses, rest)
 }
 

@@ -10,10 +10,9 @@ ghost use Rattle.cep_names.specs.Uses.{atoms_in, atoms_of};
 ghost use Rattle.cep_names.specs.Variables.{nodes_of};
 ghost use Rattle.cep_faults.specs.Seen.{unseen, met, new_at, blank_name, met_kind, new_kind, met_all, new_in};
 
-use crate::counts::rules_in;
 use crate::rules::past;
 use cep_base::Text;
-use cep_names::{Fault, Names, Shape, Table, said};
+use cep_names::{Fault, Names, Shape, Table, item_rules, said};
 use cep_parse::{RawAtom, RawElem, RawItem, RawKind, RawNode, RawRule};
 use cep_rule::MOST_VARIABLES;
 use std::alloc::{AllocError, Global};
@@ -197,7 +196,7 @@ fn item_fault(
 {
     match item {
         RawItem::Clause { head, goals, .. } => clause_fault(alloc, text, head, goals.as_slice()),
-        _ => rules_fault(alloc, text, rules_in(item)),
+        _ => rules_fault(alloc, text, item_rules(item)),
     }
 }
 
