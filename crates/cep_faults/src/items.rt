@@ -1,12 +1,12 @@
 // The items of a file.
-ghost use Rattle.std.specs.Prelude.{◌≡◌, ◌≤◌, ◌++◌, Some, map, slice_get};
+ghost use Rattle.std.specs.Prelude.{◌≡◌, ◌≤◌};
 ghost use Rattle.std.specs.List.{flat_map};
 ghost use Rattle.std.specs.Char.{digit_value};
 ghost use Rattle.std.specs.Str.Parse.{digits_value};
 ghost use Rattle.cep_names.specs.First.{first_in};
 ghost use Rattle.cep_faults.specs.Looks.{looks_in};
-ghost use Rattle.cep_names.specs.Uses.{start_uses, start_listed, placed};
-ghost use Rattle.cep_faults.specs.Faults.{use_faults, placed_faults, argument_faults, con_faults, turns_faults, item_faults, is_turn_limit};
+ghost use Rattle.cep_names.specs.Uses.{start_uses};
+ghost use Rattle.cep_faults.specs.Faults.{use_faults, argument_faults, con_faults, turns_faults, item_faults, is_turn_limit};
 
 use crate::atoms::atoms_fault;
 use crate::fitness::start_listed;
