@@ -7,9 +7,4 @@ pub mod First
 pub mod Tables
 pub mod Misnamed
 pub mod Filling
-pub mod Looks
-pub mod Faults
-pub mod Seen
-pub mod Levels
-pub mod Totals
 pub mod Named

@@ -195,8 +195,9 @@ impl Names {
     }
 }
 
-// The rules of an item.
-fn item_rules(item: &RawItem) -> &[RawRule]
+/// The rules of an item, for what passes over the rules of a file: one outside of stages, or those
+/// of a stage.
+pub fn item_rules(item: &RawItem) -> &[RawRule]
     ensures { result.now ≡ item_rules item.now }
 {
     match item {

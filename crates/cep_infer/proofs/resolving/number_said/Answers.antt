@@ -9,10 +9,21 @@ loop-digit-preserved c =
 
 pub overflow_mul-number : goal.overflow_mul-number
 overflow_mul-number c =
-    omega (arith, digits_value_more 10 c.args.digits.now c.loop-digit.digit-index c.loop-digit-test.true, digits_value-take-le 10 c.args.digits.now (c.loop-digit.digit-index + 1) (lit≤ tt),
-    c.loop-digit.invariant, c.requires)
+    omega (
+      arith,
+      digits_value_more 10 c.args.digits.now c.loop-digit.digit-index c.loop-digit-test.true,
+      digits_value-take-le 10 c.args.digits.now (c.loop-digit.digit-index + 1) (lit≤ tt),
+      c.loop-digit.invariant,
+      c.requires,
+    )
 
 pub overflow_add-number : goal.overflow_add-number
 overflow_add-number c =
-    omega (arith, digits_value_more 10 c.args.digits.now c.loop-digit.digit-index c.loop-digit-test.true, digits_value-take-le 10 c.args.digits.now (c.loop-digit.digit-index + 1) (lit≤ tt),
-    c.loop-digit.invariant, c.digit_value.ensures, c.requires)
+    omega (
+      arith,
+      digits_value_more 10 c.args.digits.now c.loop-digit.digit-index c.loop-digit-test.true,
+      digits_value-take-le 10 c.args.digits.now (c.loop-digit.digit-index + 1) (lit≤ tt),
+      c.loop-digit.invariant,
+      c.digit_value.ensures,
+      c.requires,
+    )

@@ -1,0 +1,16 @@
+pub mod TableEntries
+pub mod Firsts
+pub mod FirstLoops
+pub mod Nths
+pub mod SizeTables
+pub mod TraceSteps
+pub mod SeenLaws
+pub mod Pending
+pub mod Members
+pub mod SourceLooks
+pub mod Parts
+pub mod Same
+pub mod Sound
+pub mod SoundItems
+pub mod Complete
+pub mod Joined

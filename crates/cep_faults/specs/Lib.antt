@@ -1,0 +1,5 @@
+pub mod Looks
+pub mod Faults
+pub mod Seen
+pub mod Levels
+pub mod Totals

@@ -1,0 +1,179 @@
+// The atoms of a file, by where they stand.
+ghost use Rattle.std.specs.Prelude.{◌≡◌, ◌++◌, map};
+ghost use Rattle.std.specs.List.{flat_map};
+ghost use Rattle.cep_names.specs.First.{first_in};
+ghost use Rattle.cep_faults.specs.Looks.{looks_in, names_context};
+ghost use Rattle.cep_names.specs.Uses.{placed, atoms_in, atoms_of};
+ghost use Rattle.cep_faults.specs.Faults.{pred_faults, open_faults, back_faults, linear_faults, state_faults, role_faults, placed_faults};
+
+use crate::uses::{nodes_fault, use_fault};
+use cep_names::{Fault, Names, Reason, Role, Space, said};
+use cep_parse::{RawAtom, RawElem, RawKind, RawNode, Span};
+
+// Whether an atom stands for the atoms of a context.
+pub(crate) fn names_context(names: &Names, text: &[u8], role: Role, name: Span, args: u32) -> bool
+    ensures { result ≡ names_context (looks_in text.now names.now) role name args }
+{
+    let name = said(text, name);
+    matches!(role, Role::Start)
+        && args == 0
+        && !names.has(Space::Predicates, name)
+        && names.has(Space::Contexts, name)
+}
+
+// The first fault of the predicate of an atom.
+fn pred_fault(names: &Names, text: &[u8], role: Role, name: Span, args: u32) -> Option<Fault>
+    ensures { result ≡ first_in (pred_faults (looks_in text.now names.now) role name args) }
+{
+    if names_context(names, text, role, name, args) {
+        None
+    } else {
+        use_fault(names, text, Space::Predicates, name, args)
+    }
+}
+
+// A variable or a blank in a state.
+fn open_fault(node: &RawNode) -> Option<Fault>
+    ensures { result ≡ first_in (open_faults node.now) }
+{
+    match node.kind {
+        RawKind::App => None,
+        RawKind::Var | RawKind::Blank => Some(Fault {
+            reason: Reason::VarInContext,
+            at: node.at.from,
+        }),
+    }
+}
+
+fn first_open(nodes: &[RawNode]) -> Option<Fault>
+    ensures { result ≡ first_in (flat_map open_faults nodes.now) }
+{
+    let mut first = None;
+    for node in nodes {
+        first = Fault::first_of(first, open_fault(node));
+    }
+    first
+}
+
+// A backward predicate where an atom becomes part of a state.
+fn back_fault(back: Option<bool>, at: u32) -> Option<Fault>
+    ensures { result ≡ first_in (back_faults back at) }
+{
+    match back {
+        Some(true) => Some(Fault {
+            reason: Reason::BwdInState,
+            at,
+        }),
+        _ => None,
+    }
+}
+
+// A linear predicate in a clause.
+fn linear_fault(back: Option<bool>, at: u32) -> Option<Fault>
+    ensures { result ≡ first_in (linear_faults back at) }
+{
+    match back {
+        Some(false) => Some(Fault {
+            reason: Reason::LinearInClause,
+            at,
+        }),
+        _ => None,
+    }
+}
+
+// The first fault of an atom of a state, apart from the names that it uses.
+#[tactic(auto, using(crate::proofs::FirstLoops::first_in_append))]
+fn state_fault(names: &Names, text: &[u8], name: Span, nodes: &[RawNode]) -> Option<Fault>
+    ensures { result ≡ first_in (state_faults (looks_in text.now names.now) name nodes.now) }
+{
+    Fault::first_of(
+        first_open(nodes),
+        back_fault(names.back(said(text, name)), name.from),
+    )
+}
+
+fn role_fault(
+    names: &Names,
+    text: &[u8],
+    role: Role,
+    name: Span,
+    nodes: &[RawNode],
+) -> Option<Fault>
+    ensures { result ≡ first_in (role_faults (looks_in text.now names.now) role name nodes.now) }
+{
+    match role {
+        Role::Needed => None,
+        Role::Made => back_fault(names.back(said(text, name)), name.from),
+        Role::Clause => linear_fault(names.back(said(text, name)), name.from),
+        Role::Listed => state_fault(names, text, name, nodes),
+        Role::Start => state_fault(names, text, name, nodes),
+    }
+}
+
+// The first fault of an atom: of the names that it uses, and of its role.
+#[tactic(auto, using(crate::proofs::FirstLoops::first_in_append))]
+pub(crate) fn placed_fault(
+    names: &Names,
+    text: &[u8],
+    role: Role,
+    name: Span,
+    args: u32,
+    nodes: &[RawNode],
+) -> Option<Fault>
+    ensures { result ≡ first_in (placed_faults (looks_in text.now names.now) (placed role (record { name = name; args = args; nodes = nodes.now }))) }
+{
+    let rest = Fault::first_of(
+        nodes_fault(names, text, nodes),
+        role_fault(names, text, role, name, nodes),
+    );
+    Fault::first_of(pred_fault(names, text, role, name, args), rest)
+}
+
+pub(crate) fn atom_fault(names: &Names, text: &[u8], role: Role, atom: &RawAtom) -> Option<Fault>
+    ensures { result ≡ first_in (placed_faults (looks_in text.now names.now) (placed role atom.now)) }
+{
+    placed_fault(
+        names,
+        text,
+        role,
+        atom.name,
+        atom.args,
+        atom.nodes.as_slice(),
+    )
+}
+
+// The first fault of atoms of one role.
+pub(crate) fn atoms_fault(
+    names: &Names,
+    text: &[u8],
+    role: Role,
+    atoms: &[RawAtom],
+) -> Option<Fault>
+    ensures { result ≡ first_in (flat_map (placed_faults (looks_in text.now names.now)) (map (placed role) atoms.now)) }
+{
+    let mut first = None;
+    for atom in atoms {
+        first = Fault::first_of(first, atom_fault(names, text, role, atom));
+    }
+    first
+}
+
+fn elem_fault(names: &Names, text: &[u8], role: Role, elem: &RawElem) -> Option<Fault>
+    ensures { result ≡ first_in (flat_map (placed_faults (looks_in text.now names.now)) (map (placed role) (atoms_in elem.now))) }
+{
+    match elem {
+        RawElem::Atom { atom, .. } => atom_fault(names, text, role, atom),
+        RawElem::Qui(_) | RawElem::Stage(_) => None,
+    }
+}
+
+// The first fault of the atoms of a rule's side.
+pub(crate) fn side_fault(names: &Names, text: &[u8], role: Role, side: &[RawElem]) -> Option<Fault>
+    ensures { result ≡ first_in (flat_map (placed_faults (looks_in text.now names.now)) (map (placed role) (atoms_of side.now))) }
+{
+    let mut first = None;
+    for elem in side {
+        first = Fault::first_of(first, elem_fault(names, text, role, elem));
+    }
+    first
+}

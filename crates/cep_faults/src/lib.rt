@@ -1,0 +1,20 @@
+//! What is wrong with the names of a text: the first of all faults.
+#![tactic(auto)]
+
+mod atoms;
+mod checking;
+mod counts;
+mod fitness;
+mod items;
+mod rules;
+mod sizes;
+mod traces;
+mod uses;
+mod variables;
+
+pub use checking::named;
+
+#[cfg(test)]
+mod refusals;
+#[cfg(test)]
+mod tests;

@@ -1,0 +1,217 @@
+// The variables of rules and clauses.
+ghost use Rattle.std.specs.Prelude.{◌≡◌, ◌≤◌, ◌+◌, [], ◌∷◌, ◌++◌, Some, None, not, ◌-◌, if◌then◌else◌, Ok, slice_get, codes, decimal, IfOk, OnOk};
+ghost use Rattle.std.specs.List.{flat_map};
+ghost use Rattle.cep_names.specs.First.{first_in};
+ghost use Rattle.cep_faults.specs.Faults.{past};
+ghost use Rattle.cep_faults.specs.Looks.{looks_in};
+ghost use Rattle.cep_names.specs.Tables.{has_name};
+ghost use Rattle.cep_faults.specs.Totals.{variable_faults, item_variable_faults};
+ghost use Rattle.cep_names.specs.Uses.{atoms_in, atoms_of};
+ghost use Rattle.cep_names.specs.Variables.{nodes_of};
+ghost use Rattle.cep_faults.specs.Seen.{unseen, met, new_at, blank_name, met_kind, new_kind, met_all, new_in};
+
+use crate::rules::past;
+use cep_base::Text;
+use cep_names::{Fault, Names, Shape, Table, item_rules, said};
+use cep_parse::{RawAtom, RawElem, RawItem, RawKind, RawNode, RawRule};
+use cep_rule::MOST_VARIABLES;
+use std::alloc::{AllocError, Global};
+
+/// The names of the variables that were met so far, their number, and the number of blanks. Each
+/// blank is a variable of its own.
+#[derive(Drop)]
+pub(crate) struct Seen {
+    pub table: Table,
+    pub count: usize,
+    pub blanks: u64,
+}
+
+// The name of a blank, by its number from 1.
+fn blank_name(alloc: Global, number: u64) -> Result<Text, AllocError>
+    ensures { IfOk result (λ name. name ≡ blank_name number) }
+{
+    let mut name = Text::new(alloc);
+    name.append(b"_")?;
+    name.number(number)?;
+    Ok(name)
+}
+
+impl Seen {
+    fn new(alloc: Global) -> Seen
+        ensures { result ≡ unseen }
+    {
+        Seen {
+            table: Table::new(alloc),
+            count: 0,
+            blanks: 0,
+        }
+    }
+
+    // Meets a name, and answers whether it is new.
+    fn meet(&mut self, name: &[u8]) -> Result<bool, AllocError>
+        requires { self.old.count ≤ MOST_VARIABLES }
+        ensures new { IfOk result (λ new. new ≡ not (has_name self.old.table name.now)) }
+        ensures met { OnOk result (self.new ≡ met self.old name.now) }
+    {
+        let plain = Shape {
+            args: 0,
+            back: false,
+        };
+        if self.table.declare(name, plain)? {
+            self.count += 1;
+            return Ok(true);
+        }
+        Ok(false)
+    }
+
+    // Meets a node, and answers whether it is a new variable.
+    fn meet_node(&mut self, alloc: Global, text: &[u8], node: &RawNode) -> Result<bool, AllocError>
+        requires { self.old.count ≤ MOST_VARIABLES }
+        ensures new { IfOk result (λ new. (if new then node.now.at.from ∷ [] else []) ≡ new_kind text.now self.old node.now.at node.now.kind) }
+        ensures met { OnOk result (self.new ≡ met_kind text.now self.old node.now.at node.now.kind) }
+    {
+        match node.kind {
+            RawKind::App => Ok(false),
+            RawKind::Var => self.meet(said(text, node.at)),
+            RawKind::Blank => {
+                // No memory holds so many nodes that the count ends.
+                let number = self.blanks.checked_add(1).ok_or(AllocError)?;
+                let name = blank_name(alloc, number)?;
+                self.blanks = number;
+                self.meet(name.bytes())
+            }
+        }
+    }
+
+    // Meets nodes up to the first new variable that is one too many, and answers its place.
+    fn meet_nodes(
+        &mut self,
+        alloc: Global,
+        text: &[u8],
+        nodes: &[RawNode],
+    ) -> Result<Option<u32>, AllocError>
+        requires { self.old.count ≤ MOST_VARIABLES }
+        ensures past { IfOk result (λ past. past ≡ slice_get (new_in text.now self.old nodes.now) (MOST_VARIABLES - self.old.count)) }
+        ensures few { result ≡ Ok None → self.new.count ≤ MOST_VARIABLES }
+        ensures met { result ≡ Ok None → self.new ≡ met_all text.now self.old nodes.now }
+    {
+        for node in nodes {
+            if !self.meet_node(alloc, text, node)? {
+                continue;
+            }
+            if self.count > MOST_VARIABLES {
+                return Ok(Some(node.at.from));
+            }
+        }
+        Ok(None)
+    }
+
+    // The same of the nodes of atoms.
+    fn meet_atoms(
+        &mut self,
+        alloc: Global,
+        text: &[u8],
+        atoms: &[RawAtom],
+    ) -> Result<Option<u32>, AllocError>
+        requires { self.old.count ≤ MOST_VARIABLES }
+        ensures past { IfOk result (λ past. past ≡ slice_get (new_in text.now self.old (nodes_of atoms.now)) (MOST_VARIABLES - self.old.count)) }
+        ensures few { result ≡ Ok None → self.new.count ≤ MOST_VARIABLES }
+        ensures met { result ≡ Ok None → self.new ≡ met_all text.now self.old (nodes_of atoms.now) }
+    {
+        for atom in atoms {
+            if let Some(at) = self.meet_nodes(alloc, text, atom.nodes.as_slice())? {
+                return Ok(Some(at));
+            }
+        }
+        Ok(None)
+    }
+}
+
+// The nodes of an element that is an atom.
+fn nodes_in(elem: &RawElem) -> &[RawNode]
+    ensures { result.now ≡ nodes_of (atoms_in elem.now) }
+{
+    match elem {
+        RawElem::Atom { atom, .. } => atom.nodes.as_slice(),
+        RawElem::Qui(_) | RawElem::Stage(_) => &[],
+    }
+}
+
+// The place of the first variable of a side that is one too many.
+fn side_past(alloc: Global, text: &[u8], side: &[RawElem]) -> Result<Option<u32>, AllocError>
+    ensures { IfOk result (λ past. past ≡ slice_get (new_in text.now unseen (flat_map (λ elem. nodes_of (atoms_in elem)) side.now)) MOST_VARIABLES) }
+{
+    let mut seen = Seen::new(alloc);
+    for elem in side {
+        if let Some(at) = seen.meet_nodes(alloc, text, nodes_in(elem))? {
+            return Ok(Some(at));
+        }
+    }
+    Ok(None)
+}
+
+// The first variable of a rule's left side that is one too many.
+fn rule_fault(alloc: Global, text: &[u8], rule: &RawRule) -> Result<Option<Fault>, AllocError>
+    ensures { IfOk result (λ first. first ≡ first_in (variable_faults text.now (atoms_of rule.now.left))) }
+{
+    let at = side_past(alloc, text, rule.left.as_slice())?;
+    Ok(past(at))
+}
+
+fn rules_fault(alloc: Global, text: &[u8], rules: &[RawRule]) -> Result<Option<Fault>, AllocError>
+    ensures { IfOk result (λ first. first ≡ first_in (flat_map (λ rule. variable_faults text.now (atoms_of rule.left)) rules.now)) }
+{
+    let mut first = None;
+    for rule in rules {
+        first = Fault::first_of(first, rule_fault(alloc, text, rule)?);
+    }
+    Ok(first)
+}
+
+// The first variable of a clause that is one too many.
+fn clause_fault(
+    alloc: Global,
+    text: &[u8],
+    head: &RawAtom,
+    goals: &[RawAtom],
+) -> Result<Option<Fault>, AllocError>
+    ensures { IfOk result (λ first. first ≡ first_in (variable_faults text.now (head.now ∷ goals.now))) }
+{
+    let mut seen = Seen::new(alloc);
+    if let Some(at) = seen.meet_nodes(alloc, text, head.nodes.as_slice())? {
+        return Ok(past(Some(at)));
+    }
+    let at = seen.meet_atoms(alloc, text, goals)?;
+    Ok(past(at))
+}
+
+// The first variable of an item that is one too many.
+fn item_fault(
+    alloc: Global,
+    names: &Names,
+    text: &[u8],
+    item: &RawItem,
+) -> Result<Option<Fault>, AllocError>
+    ensures { IfOk result (λ first. first ≡ first_in (item_variable_faults (looks_in text.now names.now) item.now)) }
+{
+    match item {
+        RawItem::Clause { head, goals, .. } => clause_fault(alloc, text, head, goals.as_slice()),
+        _ => rules_fault(alloc, text, item_rules(item)),
+    }
+}
+
+// The first variable that is one too many in a rule's left side or a clause.
+pub(crate) fn variables_fault(
+    alloc: Global,
+    names: &Names,
+    text: &[u8],
+    items: &[RawItem],
+) -> Result<Option<Fault>, AllocError>
+    ensures { IfOk result (λ first. first ≡ first_in (flat_map (item_variable_faults (looks_in text.now names.now)) items.now)) }
+{
+    let mut first = None;
+    for item in items {
+        first = Fault::first_of(first, item_fault(alloc, names, text, item)?);
+    }
+    Ok(first)
+}

@@ -1,8 +1,0 @@
-use Rattle.cep_names.specs.Looks.{looks_in}
-use Rattle.cep_names.specs.Faults.{rule_faults}
-use Rattle.cep_names.proofs.FirstLoops.{first_more}
-use Rattle.cep_names.proofs.rules.rules_fault.Goals as goal
-
-pub loop-rule-preserved : goal.loop-rule-preserved
-loop-rule-preserved c =
-    first_more (rule_faults (looks_in c.args.text.now c.args.names.now)) c.args.rules.now c.loop-rule.rule-index _ _ _ _ c.loop-rule-test.true c.rule-item.is c.loop-rule.invariant c.rule_fault.ensures c.first_of-first.ensures

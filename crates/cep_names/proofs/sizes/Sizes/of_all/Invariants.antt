@@ -1,7 +1,0 @@
-use Rattle.std.proofs.Common.{◌≡◌, take, map}
-use Rattle.cep_names.specs.Looks.{looks_in}
-use Rattle.cep_names.specs.Totals.{cut, sum_of, size_under, listed_size}
-use Rattle.cep_names.proofs.sizes.Sizes.of_all.Given as goal
-
-abbrev pub invariant-loop-atom : goal.invariant-loop-atom
-invariant-loop-atom l = l.size ≡ cut (sum_of (map (listed_size (looks_in l.text l.names) (size_under l.self)) (take l.atom-index l.atoms)))
