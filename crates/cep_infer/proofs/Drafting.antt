@@ -12,8 +12,8 @@ use Rattle.cep_names.specs.declared.space.Space.TheVariants as space
 use Rattle.cep_names.specs.Items.{Source, RuleItem, TraceItem, rules_of, traces_of}
 use Rattle.cep_names.specs.Spaces.{names_in, rule_names_from}
 use Rattle.cep_names.specs.Misnamed.{wrong, number_said}
-use Rattle.cep_names.specs.Misnamed.Misnamed as misnamed
-use Rattle.cep_names.specs.Misnamed.IsOver as overs
+use Rattle.cep_names.specs.Misnamed.{Misnamed as misnamed}
+use Rattle.cep_names.specs.Misnamed.{IsOver as overs}
 use Rattle.cep_infer.specs.declared.listing.RuleRef.{RuleRef}
 use Rattle.cep_infer.specs.declared.listing.TraceRef.{TraceRef}
 use Rattle.cep_infer.specs.Meaning.{AreRulesBy}

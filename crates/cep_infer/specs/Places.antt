@@ -10,7 +10,7 @@ use Rattle.cep_names.specs.Variables.{Occurrence, occurrences_from, nodes_of}
 use Rattle.cep_names.specs.Misnamed.{backward_of}
 use Rattle.cep_infer.specs.declared.draft.Draft.{Draft}
 use Rattle.cep_infer.specs.declared.places.Reached.{Reached}
-use Rattle.cep_infer.specs.Heads.{blanks_after}
+use Rattle.cep_types.specs.Heads.{blanks_after}
 use Rattle.cep_infer.specs.Meaning.{AreParts, names_of}
 
 -- the places of the backward premises of a rule, in bytes from the front

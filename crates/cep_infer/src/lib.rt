@@ -3,23 +3,17 @@
 #![tactic(auto)]
 
 mod atoms;
-mod clashes;
 mod clauses;
-mod declarations;
 mod draft;
-mod firsts;
 pub mod laws;
 mod left;
 mod listing;
-mod pending;
 mod places;
 mod resolving;
 mod rules;
 mod signature;
-mod sites;
 mod start;
 mod terms;
-mod variables;
 
 pub use cep_names::Reason;
 pub use draft::{Draft, PlaceLists, Places, Refusal};

@@ -1,7 +1,7 @@
 use Rattle.std.proofs.Common.{sym, subst}
 use Rattle.cep_names.specs.First.{IsFirstOrNone}
 use Rattle.cep_names.specs.Items.{Source}
-use Rattle.cep_infer.specs.Sites.{Mistyped}
+use Rattle.cep_types.specs.Sites.{Mistyped}
 use Rattle.cep_infer.specs.Places.{IsDraft}
 use Rattle.cep_infer.specs.Resolved.{IsWellNamed}
 use Rattle.cep_infer.proofs.Drafting.{some_trace}
@@ -13,8 +13,8 @@ returns-in-Some c =
     subst (IsFirstOrNone (Mistyped (record { text = c.args.text.now; file = c.args.file.now }))) c.in-Some.is
     (mistyped_first (record { text = c.args.text.now; file = c.args.file.now }) c.in_ok-declared.declared c.in_ok-fault.field-0 c.in_ok-declared.ensures c.in_ok-fault.ensures)
 
-pub unwrap-requires : goal.unwrap-requires
-unwrap-requires c = some_trace c.in_ok-declared.declared (subst IsWellNamed (sym c.in_ok-declared.ensures) c.requires.sound) c.first_trace.result c.first_trace.ensures
+pub unwrap-trace-requires : goal.unwrap-trace-requires
+unwrap-trace-requires c = some_trace c.in_ok-declared.declared (subst IsWellNamed (sym c.in_ok-declared.ensures) c.requires.sound) c.first_trace.result c.first_trace.ensures
 
 pub draft_from-requires-clause-named : goal.draft_from-requires-clause-named
 draft_from-requires-clause-named c = subst IsWellNamed (sym c.in_ok-declared.ensures) c.requires.sound
