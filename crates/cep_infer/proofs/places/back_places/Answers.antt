@@ -1,7 +1,6 @@
-use Rattle.std.proofs.Common.{List, true, map, filter, ap, subst, ◌∙◌}
+use Rattle.std.proofs.Common.{List, ℕ, true, map, filter, ap, subst, ◌∙◌}
 use Rattle.cep_parse.specs.declared.raw.RawAtom.{RawAtom}
 use Rattle.cep_parse.specs.declared.raw.RawElem.{RawElem}
-use Rattle.cep_names.specs.Items.{Source}
 use Rattle.cep_names.specs.Misnamed.{is_declared}
 use Rattle.cep_names.specs.Spaces.{back_of}
 use Rattle.cep_names.specs.Uses.{atoms_of}
@@ -15,10 +14,10 @@ pub loop-rule-preserved : goal.loop-rule-preserved
 loop-rule-preserved c =
     let source = c.args.declared.now in
     record {
-      reached = subst (λ (s : Source). IsReached s.text c.place_all.new.reached) c.declared.view_is c.in_ok-place_all.ensures.reached;
+      reached = subst (λ (text : List ℕ). IsReached text c.place_all.new.reached) c.text.ensures c.in_ok-place_all.ensures.reached;
       lists = lists_more source.text (λ (rule : RuleRef). backs_at source (rule_item rule)) c.args.rules.now c.loop-rule.rule-index c.rule-item.result c.loop-rule.lists c.push.new.self c.deref.result.now c.in_ok-place_all.field-0
           c.loop-rule-test.true c.rule-item.is c.loop-rule.invariant.lists
-          (subst (λ (s : Source). ArePlaces s.text c.deref.result.now c.in_ok-place_all.field-0) c.declared.view_is c.in_ok-place_all.ensures.places)
+          (subst (λ (text : List ℕ). ArePlaces text c.deref.result.now c.in_ok-place_all.field-0) c.text.ensures c.in_ok-place_all.ensures.places)
           (c.deref.ensures.value ∙ c.in_ok-ats.ensures
           ∙ ap (λ (side : List RawElem). map (λ (atom : RawAtom). atom.name.from) (filter (λ (atom : RawAtom). is_declared true (back_of source atom)) (atoms_of side))) c.as_slice.ensures)
           c.in_ok-push.ensures.ok;
