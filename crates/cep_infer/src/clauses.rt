@@ -37,21 +37,25 @@ fn clause_in(declared: &Declarations, item: &RawItem) -> Result<Option<Clause>, 
 {
     match item {
         RawItem::Clause { head, goals, .. } => Ok(Some(clause(declared, head, goals.as_slice())?)),
-        RawItem::Colon { args, right, .. } if declared.names().is_labelled(declared.text(), args, *right) =>
-            {
-                let head = RawAtom {
-                    name: *right,
-                    args: 0,
-                    nodes: RawNodes::new(declared.alloc()),
-                };
-                Ok(Some(clause(declared, &head, &[])?))
-            }
+        RawItem::Colon { args, right, .. }
+            if declared.names().is_labelled(declared.text(), args, *right) => {
+            let head = RawAtom {
+                name: *right,
+                args: 0,
+                nodes: RawNodes::new(declared.alloc()),
+            };
+            Ok(Some(clause(declared, &head, &[])?))
+        }
         _ => Ok(None),
     }
 }
 
 // Adds the clause of an item.
-fn push_clause(declared: &Declarations, item: &RawItem, clauses: &mut Clauses) -> Result<(), AllocError>
+fn push_clause(
+    declared: &Declarations,
+    item: &RawItem,
+    clauses: &mut Clauses,
+) -> Result<(), AllocError>
     ensures { OnOk result ((more : List ClauseTree) × (clauses.new ≡ clauses.old ++ more) × AreClausesBy declared.now (clauses_in declared.now item.now) more) }
 {
     match clause_in(declared, item)? {

@@ -8,14 +8,14 @@ use cep_types::Declarations;
 use std::alloc::AllocError;
 
 /// A rule, and the number of its stage where it stands in one.
-#[derive(Clone, Copy, Debug, Drop)]
+#[derive(Clone, Copy, Drop)]
 pub(crate) struct RuleRef<'a> {
     pub home: Option<u32>,
     pub raw: &'a RawRule,
 }
 
 /// A trace: the number of turns if it has one, its stage and its start state.
-#[derive(Clone, Copy, Debug, Drop)]
+#[derive(Clone, Copy, Drop)]
 pub(crate) struct TraceRef<'a> {
     pub at: u32,
     pub limit: Option<Span>,

@@ -19,7 +19,7 @@ use cep_types::{Declarations, Variables, blank_name, next_blank};
 use std::alloc::{AllocError, Global};
 
 /// A place in a text, in bytes from the front, and its line and column.
-#[derive(Clone, Copy, Debug, Drop)]
+#[derive(Clone, Copy, Drop)]
 pub(crate) struct Reached {
     pub at: usize,
     pub pos: Pos,
@@ -108,7 +108,10 @@ fn place_all(
 fn is_backward(declared: &Declarations, atom: &RawAtom) -> bool
     ensures { result ≡ is_declared true (back_of declared.now atom.now) }
 {
-    declared.names().back(declared.said(atom.name)).unwrap_or(false)
+    declared
+        .names()
+        .back(declared.said(atom.name))
+        .unwrap_or(false)
 }
 
 // The place of an element that is a backward premise.
@@ -135,7 +138,12 @@ fn backs_at(declared: &Declarations, side: &[RawElem]) -> Result<Vec<u32>, Alloc
 }
 
 // Whether a node is a variable that is not on the left, or a blank.
-fn is_unbound(declared: &Declarations, left: &Variables, blanks: u64, node: &RawNode) -> Result<bool, AllocError>
+fn is_unbound(
+    declared: &Declarations,
+    left: &Variables,
+    blanks: u64,
+    node: &RawNode,
+) -> Result<bool, AllocError>
     ensures { IfOk result (λ unbound. (if unbound then node.now.at.from ∷ [] else []) ≡ map (λ occurrence. occurrence.at.from) (filter (λ occurrence. not (has_name left.now.firsts occurrence.name)) (occurrence_at declared.now blanks node.now.at node.now.kind))) }
 {
     match node.kind {
@@ -183,7 +191,11 @@ fn push_unbound(
 }
 
 // The places of the unbound ones of a side.
-fn unbound_in(declared: &Declarations, left: &Variables, side: &[RawElem]) -> Result<Vec<u32>, AllocError>
+fn unbound_in(
+    declared: &Declarations,
+    left: &Variables,
+    side: &[RawElem],
+) -> Result<Vec<u32>, AllocError>
     ensures { IfOk result (λ ats. ats.items ≡ map (λ occurrence. occurrence.at.from) (filter (λ occurrence. not (has_name left.now.firsts occurrence.name)) (occurrences_from declared.now left.now.blanks (nodes_of (atoms_of side.now))))) }
 {
     let mut blanks = left.blanks;
@@ -204,7 +216,10 @@ fn unbound_at(declared: &Declarations, item: &RuleRef) -> Result<Vec<u32>, Alloc
 }
 
 // For each rule the places of its backward premises.
-pub(crate) fn back_places(declared: &Declarations, rules: &[RuleRef]) -> Result<PlaceLists, AllocError>
+pub(crate) fn back_places(
+    declared: &Declarations,
+    rules: &[RuleRef],
+) -> Result<PlaceLists, AllocError>
     ensures { IfOk result (λ lists. ArePlaceLists declared.now.text (map (λ rule. backs_at declared.now (rule_item rule)) rules.now) lists) }
 {
     let mut reached = FRONT;
@@ -217,7 +232,10 @@ pub(crate) fn back_places(declared: &Declarations, rules: &[RuleRef]) -> Result<
 }
 
 // For each rule the places of what is unbound on its right side.
-pub(crate) fn right_places(declared: &Declarations, rules: &[RuleRef]) -> Result<PlaceLists, AllocError>
+pub(crate) fn right_places(
+    declared: &Declarations,
+    rules: &[RuleRef],
+) -> Result<PlaceLists, AllocError>
     ensures { IfOk result (λ lists. ArePlaceLists declared.now.text (map (λ rule. unbound_at declared.now (rule_item rule)) rules.now) lists) }
 {
     let mut reached = FRONT;
@@ -228,6 +246,7 @@ pub(crate) fn right_places(declared: &Declarations, rules: &[RuleRef]) -> Result
     }
     Ok(lists)
 }
+
 // The nodes of an element that is an atom.
 fn nodes_in(elem: &RawElem) -> &[RawNode]
     ensures { result.now ≡ nodes_of (atoms_in elem.now) }

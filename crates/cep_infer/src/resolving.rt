@@ -78,7 +78,11 @@ fn turns(declared: &Declarations, limit: Option<Span>) -> Option<u32>
 }
 
 // The parts of a program, where these are its rules, and it starts as the first trace says.
-fn parts_from(declared: &Declarations, rules: &[RuleRef], trace: &TraceRef) -> Result<Parts, AllocError>
+fn parts_from(
+    declared: &Declarations,
+    rules: &[RuleRef],
+    trace: &TraceRef,
+) -> Result<Parts, AllocError>
     requires named { IsWellNamed declared.now }
     requires all { map rule_item rules.now ≡ rules_of declared.now }
     requires first { IsFirstTrace (traces_of declared.now) (Some trace.now) }
@@ -108,6 +112,7 @@ fn draft_from(declared: &Declarations, trace: &TraceRef) -> Result<Draft, AllocE
         right_places: right_places(declared, &rules)?,
     })
 }
+
 // The draft of a text without wrong names, or the first fault of its types.
 fn typed(
     alloc: Global,

@@ -61,14 +61,20 @@ fn group(declared: &Declarations, home: Option<u32>, left: &[RawElem]) -> Result
     match home {
         Some(stage) => stage.checked_mul(2).ok_or(AllocError),
         None => {
-            let even = stage_named(declared, left)?.checked_mul(2).ok_or(AllocError)?;
+            let even = stage_named(declared, left)?
+                .checked_mul(2)
+                .ok_or(AllocError)?;
             even.checked_add(1).ok_or(AllocError)
         }
     }
 }
 
 // The next stage of a rule that leaves one.
-fn next(declared: &Declarations, home: Option<u32>, right: &[RawElem]) -> Result<Option<u32>, AllocError>
+fn next(
+    declared: &Declarations,
+    home: Option<u32>,
+    right: &[RawElem],
+) -> Result<Option<u32>, AllocError>
     ensures { IfOk result (λ next. next ≡ next_of declared.now home right.now) }
 {
     match home {
@@ -78,7 +84,11 @@ fn next(declared: &Declarations, home: Option<u32>, right: &[RawElem]) -> Result
 }
 
 // The name of a rule: its label, or `qui/` with its number among those without.
-fn rule_name(declared: &Declarations, unlabelled: u64, label: Option<Span>) -> Result<Name, AllocError>
+fn rule_name(
+    declared: &Declarations,
+    unlabelled: u64,
+    label: Option<Span>,
+) -> Result<Name, AllocError>
     ensures { IfOk result (λ name. name ≡ rule_name declared.now unlabelled label) }
 {
     if let Some(label) = label {
@@ -145,9 +155,21 @@ fn rule_of(
     let raw = item.raw;
     let mut blanks = 0;
     let mut left = LeftSide::new(declared.alloc());
-    push_left(declared, variables, raw.left.as_slice(), &mut blanks, &mut left)?;
+    push_left(
+        declared,
+        variables,
+        raw.left.as_slice(),
+        &mut blanks,
+        &mut left,
+    )?;
     let mut right = AtomList::new(declared.alloc());
-    push_side(declared, variables, raw.right.as_slice(), &mut blanks, &mut right)?;
+    push_side(
+        declared,
+        variables,
+        raw.right.as_slice(),
+        &mut blanks,
+        &mut right,
+    )?;
     rule_from(declared, variables, unlabelled, item, left, right)
 }
 

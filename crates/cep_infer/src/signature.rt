@@ -112,7 +112,11 @@ pub(crate) fn read_signature(declared: &Declarations) -> Result<Signature, Alloc
 }
 
 // Adds the name of a stage that an item says to be interactive.
-fn push_interactive(declared: &Declarations, item: &RawItem, names: &mut Firsts) -> Result<(), AllocError>
+fn push_interactive(
+    declared: &Declarations,
+    item: &RawItem,
+    names: &mut Firsts,
+) -> Result<(), AllocError>
     ensures { (name : List ℕ) → OnOk result (has_name names.new name ≡ (has_name names.old name || is_said declared.now (interactives_in item.now) name)) }
 {
     match interactive_in(item) {

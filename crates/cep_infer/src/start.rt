@@ -73,7 +73,13 @@ fn start_atoms(declared: &Declarations, start: &RawStart) -> Result<AtomList, Al
     let mut atoms = AtomList::new(declared.alloc());
     match start {
         RawStart::Named(name) => {
-            push_atoms(declared, &none, declared.context(*name), &mut blanks, &mut atoms)?;
+            push_atoms(
+                declared,
+                &none,
+                declared.context(*name),
+                &mut blanks,
+                &mut atoms,
+            )?;
         }
         RawStart::Listed(raws) => {
             push_all_listed(declared, &none, raws.as_slice(), &mut blanks, &mut atoms)?;
@@ -91,6 +97,7 @@ pub(crate) fn read_start(declared: &Declarations, trace: &TraceRef) -> Result<Ba
     let atoms = start_atoms(declared, trace.start)?;
     gather(declared.alloc(), &atoms)
 }
+
 // The multiset of ground atoms.
 fn gather(alloc: Global, atoms: &AtomList) -> Result<Bag, AllocError>
     requires { AllByRecursion IsGroundAtom atoms.now }

@@ -13,7 +13,7 @@ use std::alloc::AllocError;
 
 /// Where the nodes of an atom are read: the place of the next node, and how many blanks stand
 /// before it in its rule or clause.
-#[derive(Clone, Copy, Debug, Drop)]
+#[derive(Clone, Copy, Drop)]
 pub(crate) struct Cursor {
     pub at: usize,
     pub blanks: u64,

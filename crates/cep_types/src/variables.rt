@@ -72,11 +72,7 @@ impl Variables {
     }
 
     /// Meets the nodes of an atom.
-    pub fn meet_atom(
-        &mut self,
-        declared: &Declarations,
-        atom: &RawAtom,
-    ) -> Result<(), AllocError>
+    pub fn meet_atom(&mut self, declared: &Declarations, atom: &RawAtom) -> Result<(), AllocError>
         ensures { OnOk result (AreMet declared.now (atom.now ∷ []) self.old self.new) }
     {
         let mut pending = declared.pending(atom.name)?;
@@ -111,11 +107,7 @@ impl Variables {
     }
 
     /// Meets the nodes of a side.
-    pub fn meet_side(
-        &mut self,
-        declared: &Declarations,
-        side: &[RawElem],
-    ) -> Result<(), AllocError>
+    pub fn meet_side(&mut self, declared: &Declarations, side: &[RawElem]) -> Result<(), AllocError>
         ensures { OnOk result (AreMet declared.now (atoms_of side.now) self.old self.new) }
     {
         for elem in side {

@@ -16,4 +16,4 @@ returns c =
     let parsed = subst (IsParsed text c.in-Ok.tokens) c.in-Ok-2.is c.in_ok-file.ensures in
     let is_source : IsSource source = record { tokens = c.in-Ok.tokens; lexed = lexed; parsed = parsed.0; shallow = parsed.1 } in
     refused_draft c.lexed_once.ensures c.parsed_once.ensures (λ text tokens one other. c.one_raw_file.ensures (symbols_of text tokens) one other)
-        source (omega arith) is_source c.in-Err-3.refusal (subst (IsResolved source) c.in-Err-3.is c.in_ok-draft.ensures)
+    source (omega arith) is_source c.in-Err-3.refusal (subst (IsResolved source) c.in-Err-3.is c.in_ok-draft.ensures)
