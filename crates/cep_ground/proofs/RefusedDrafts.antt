@@ -1,5 +1,5 @@
 -- What is told of a text whose names or types are wrong.
-use Rattle.std.proofs.Common.{◌≡◌, ◌⊎◌, inl, inr, ℕ, ◌≤◌, List, length, refl}
+use Rattle.std.proofs.Common.{inl, inr, ◌≤◌, length, refl}
 use Rattle.cep_lex.specs.declared.token.TheConstants.{MOST_BYTES}
 use Rattle.cep_names.specs.declared.fault.Fault.{Fault}
 use Rattle.cep_names.specs.Items.{Source}

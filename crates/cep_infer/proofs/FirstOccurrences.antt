@@ -17,8 +17,8 @@ use Rattle.cep_names.specs.Variables.{Occurrence, occurrence_at, blanks_behind, 
 use Rattle.cep_types.specs.declared.variables.Variables.{Variables}
 use Rattle.cep_types.specs.Sites.{Site, Wanted, sites_of, wanted_from, type_of}
 use Rattle.cep_types.specs.Heads.{number_of}
-use Rattle.cep_infer.specs.Meaning.{names_of, kinds_of}
 use Rattle.cep_types.specs.Met.{names_in, kinds_met, none_met, further, AreMet}
+use Rattle.cep_infer.specs.Meaning.{names_of, kinds_of}
 use Rattle.cep_infer.proofs.Lookups.{bytes_eq_sym}
 use Rattle.cep_infer.proofs.Meeting.{nodes_at}
 

@@ -1,8 +1,8 @@
 // The left sides of rules.
 ghost use Rattle.std.specs.Prelude.{◌≡◌, ◌∷◌, ◌++◌, [], if◌then◌else◌, OnOk};
 ghost use Rattle.cep_term.specs.Tree.{atom_of};
-ghost use Rattle.cep_infer.specs.Meaning.{is_back};
 ghost use Rattle.cep_types.specs.Met.{names_in};
+ghost use Rattle.cep_infer.specs.Meaning.{is_back};
 ghost use Rattle.cep_infer.specs.Built.{IsLeftBuilt};
 
 use crate::terms::read_atom;

@@ -6,9 +6,9 @@ ghost use Rattle.cep_names.specs.Spaces.{back_of};
 ghost use Rattle.cep_names.specs.Uses.{atoms_in, atoms_of};
 ghost use Rattle.cep_names.specs.Variables.{nodes_of, occurrence_at, occurrences_from};
 ghost use Rattle.cep_types.specs.Heads.{blanks_after};
+ghost use Rattle.cep_types.specs.Met.{has_name};
 ghost use Rattle.cep_infer.specs.Places.{IsReached, ArePlaces, ArePlaceLists, backs_at, unbound_at};
 ghost use Rattle.cep_infer.specs.Listed.{rule_item};
-ghost use Rattle.cep_types.specs.Met.{has_name};
 
 use crate::draft::{PlaceLists, Places};
 use crate::listing::RuleRef;

@@ -4,9 +4,9 @@ ghost use Rattle.cep_names.specs.Spaces.{rule_name, rule_names_from, unlabelled_
 ghost use Rattle.cep_names.specs.Uses.{atoms_of};
 ghost use Rattle.cep_names.specs.Variables.{nodes_of};
 ghost use Rattle.cep_types.specs.Heads.{AreAtomsBy, blanks_after};
-ghost use Rattle.cep_infer.specs.Meaning.{AreRulesBy, IsRuleBy, stages_in_elem, stage_named, group_of, next_of};
 ghost use Rattle.cep_types.specs.Met.{none_met, AreMet, names_in, kinds_met};
 ghost use Rattle.cep_types.specs.Sites.{rule_scope};
+ghost use Rattle.cep_infer.specs.Meaning.{AreRulesBy, IsRuleBy, stages_in_elem, stage_named, group_of, next_of};
 ghost use Rattle.cep_infer.specs.Listed.{rule_item};
 
 use crate::atoms::push_side;

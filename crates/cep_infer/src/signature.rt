@@ -1,9 +1,9 @@
 // What a text declares of terms, atoms and stages.
 ghost use Rattle.std.specs.Prelude.{◌≡◌, ◌++◌, ◌||◌, List, ℕ, map, option_to_list, IfOk, OnOk};
 ghost use Rattle.cep_names.specs.Items.{said, sorts_in, sorts_of, stages_in, stages_of, interactives_in, is_said, cons_of, preds_of};
-ghost use Rattle.cep_infer.specs.Meaning.{con_by, pred_by, signature_of, stage_by};
 ghost use Rattle.cep_types.specs.Kept.{con_item, pred_item};
 ghost use Rattle.cep_types.specs.Met.{has_name, AreInteractive};
+ghost use Rattle.cep_infer.specs.Meaning.{con_by, pred_by, signature_of, stage_by};
 
 use cep_base::Name;
 use cep_names::Space;
@@ -42,6 +42,7 @@ fn interactive_in(item: &RawItem) -> Option<Span>
     }
 }
 
+// The name that the text says at a span.
 pub(crate) fn name(declared: &Declarations, span: Span) -> Result<Name, AllocError>
     ensures { IfOk result (λ name. name ≡ said declared.now span) }
 {

@@ -1,6 +1,6 @@
 use Rattle.std.proofs.Common.{◌≡◌, map, take}
-use Rattle.cep_infer.specs.Meaning.{con_by}
 use Rattle.cep_types.specs.Kept.{con_item}
+use Rattle.cep_infer.specs.Meaning.{con_by}
 use Rattle.cep_infer.proofs.signature.con_decls.Given as goal
 
 abbrev pub invariant-loop-con : goal.invariant-loop-con

@@ -2,8 +2,8 @@ use Rattle.std.proofs.Common.{◌∙◌, ap, sym, map}
 use Rattle.std.proofs.lemmas.List.{take_all}
 use Rattle.std.proofs.lemmas.Simd.{map-map}
 use Rattle.cep_types.specs.declared.declarations.RawPred.{RawPred}
-use Rattle.cep_infer.specs.Meaning.{pred_by}
 use Rattle.cep_types.specs.Kept.{pred_item}
+use Rattle.cep_infer.specs.Meaning.{pred_by}
 use Rattle.cep_infer.proofs.signature.pred_decls.Goals as goal
 
 pub returns : goal.returns

@@ -1,6 +1,6 @@
 use Rattle.std.proofs.Common.{◌≡◌, map, take}
-use Rattle.cep_infer.specs.Meaning.{pred_by}
 use Rattle.cep_types.specs.Kept.{pred_item}
+use Rattle.cep_infer.specs.Meaning.{pred_by}
 use Rattle.cep_infer.proofs.signature.pred_decls.Given as goal
 
 abbrev pub invariant-loop-pred : goal.invariant-loop-pred
