@@ -25,8 +25,8 @@ use Rattle.cep_names.specs.Variables.{blanks_behind, nodes_of}
 use Rattle.cep_names.specs.Starts.{start_atoms}
 use Rattle.cep_names.specs.Misnamed.{wrong, number_said}
 use Rattle.cep_names.specs.Misnamed.Misnamed.{no_trace}
-use Rattle.cep_infer.specs.Sites.{rule_scope, clause_scope}
-use Rattle.cep_infer.specs.Heads.{Head, var, con, count_of, heads_of, heads_among, number_of, variable_of, head_at, heads_from, blanks_after, IsAtomBy, AreAtomsBy}
+use Rattle.cep_types.specs.Sites.{rule_scope, clause_scope}
+use Rattle.cep_types.specs.Heads.{Head, var, con, count_of, heads_of, heads_among, number_of, variable_of, head_at, heads_from, blanks_after, IsAtomBy, AreAtomsBy}
 use Rattle.cep_infer.specs.Meaning.{signature_of, stage_by, names_of, kinds_of, is_back, ArePremisesBy, group_of, next_of, IsRuleBy, AreRulesBy, IsClauseBy, AreClausesBy, AreParts}
 use Rattle.cep_ground.specs.Texts.{IsClean}
 use Rattle.cep_ground.proofs.Members.{contains_first, contains_behind}

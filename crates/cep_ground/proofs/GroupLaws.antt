@@ -17,7 +17,7 @@ use Rattle.cep_names.specs.Spaces.{named, names_in, is_in}
 use Rattle.cep_names.specs.Uses.{Use, use_in, elem_uses, uses_of}
 use Rattle.cep_names.specs.Misnamed.{wrong, is_stage, IsQuiRule}
 use Rattle.cep_names.specs.Misnamed.Misnamed.{bad_qui}
-use Rattle.cep_infer.specs.Heads.{number_of}
+use Rattle.cep_types.specs.Heads.{number_of}
 use Rattle.cep_infer.specs.Meaning.{stages_in_elem, first_stage, stage_named, group_of, next_of}
 use Rattle.cep_rule.specs.declared.rule.Rule.{Rule}
 use Rattle.cep_rule.specs.Program.{IsGroupedRule}

@@ -2,7 +2,7 @@
 use Rattle.std.proofs.Common.{◌≡◌, inl, inr, ⊎_elim, ℕ, List, [], ◌∷◌, ◌++◌, length, refl, sym, ◌∙◌, arith, append_assoc, length-append, Contains}
 use Rattle.std.specs.List.{AllByRecursion}
 use Rattle.cep_term.specs.Tree.{Tree, Trees, variable, node, none, more, AreGround, IsGround, nodes_of, nodes_among, Occurs, OccursAmong}
-use Rattle.cep_infer.specs.Heads.{Head, var, con, count_of, heads_of, heads_among}
+use Rattle.cep_types.specs.Heads.{Head, var, con, count_of, heads_of, heads_among}
 use Rattle.cep_ground.proofs.Members.{contains_cases, contains_none, contains_either}
 
 -- two lists of terms that are as many and have the same nodes in front of others are the same

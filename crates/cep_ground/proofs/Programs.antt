@@ -33,9 +33,9 @@ use Rattle.cep_names.specs.Variables.{Occurrence, nodes_of, variables_of}
 use Rattle.cep_names.specs.Misnamed.{wrong, number_said}
 use Rattle.cep_names.specs.Misnamed.Misnamed.{over}
 use Rattle.cep_names.specs.Misnamed.{IsOver as overs}
-use Rattle.cep_infer.specs.Sites.{rule_scope, clause_scope}
-use Rattle.cep_infer.specs.Heads.{number_of}
-use Rattle.cep_infer.specs.Meaning.{sorts_said, con_by, pred_by, signature_of, stage_by, names_of, is_back, IsRuleBy, AreRulesBy, IsClauseBy, AreClausesBy, AreParts}
+use Rattle.cep_types.specs.Sites.{rule_scope, clause_scope}
+use Rattle.cep_types.specs.Heads.{number_of, sorts_said}
+use Rattle.cep_infer.specs.Meaning.{con_by, pred_by, signature_of, stage_by, names_of, is_back, IsRuleBy, AreRulesBy, IsClauseBy, AreClausesBy, AreParts}
 use Rattle.cep_infer.specs.Places.{unbound_of}
 use Rattle.cep_ground.specs.Texts.{IsClean, IsBound}
 use Rattle.cep_ground.proofs.Members.{contains_none, contains_first, contains_behind, contains_cases, contains_left, contains_right, contains_map, flat_cases, all_at, all_of}

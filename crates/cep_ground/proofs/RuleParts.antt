@@ -28,8 +28,8 @@ use Rattle.cep_names.specs.Variables.{nodes_of, blanks_behind, variables_of, Occ
 use Rattle.cep_names.specs.Misnamed.{wrong, is_declared}
 use Rattle.cep_names.specs.Misnamed.ComesToState.{made}
 use Rattle.cep_names.specs.Misnamed.Misnamed.{backward_in_state, linear_in_clause}
-use Rattle.cep_infer.specs.Sites.{sites_of, wanted_from, type_of, rule_scope, clause_scope}
-use Rattle.cep_infer.specs.Heads.{number_of, heads_from, blanks_after, IsAtomBy, AreAtomsBy}
+use Rattle.cep_types.specs.Sites.{sites_of, wanted_from, type_of, rule_scope, clause_scope}
+use Rattle.cep_types.specs.Heads.{number_of, heads_from, blanks_after, IsAtomBy, AreAtomsBy}
 use Rattle.cep_infer.specs.Meaning.{pred_by, signature_of, names_of, kinds_of, is_back, ArePremisesBy, IsRuleBy, IsClauseBy}
 use Rattle.cep_ground.specs.Texts.{IsClean}
 use Rattle.cep_ground.proofs.Members.{contains_first, contains_behind, contains_left, contains_right}

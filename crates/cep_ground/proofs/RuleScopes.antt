@@ -24,9 +24,9 @@ use Rattle.cep_names.specs.Variables.{nodes_of}
 use Rattle.cep_names.specs.Misnamed.{wrong, is_declared, linear_of, backward_of}
 use Rattle.cep_names.specs.Misnamed.Misnamed.{over}
 use Rattle.cep_names.specs.Misnamed.IsOver.{premise, back, right, goal}
+use Rattle.cep_types.specs.Sites.{Site, sites_of, IsScope, rule_scope, clause_scope}
+use Rattle.cep_types.specs.Sites.{IsScope as scopes}
 use Rattle.cep_infer.specs.Shapes.{IsSource}
-use Rattle.cep_infer.specs.Sites.{Site, sites_of, IsScope, rule_scope, clause_scope}
-use Rattle.cep_infer.specs.Sites.{IsScope as scopes}
 use Rattle.cep_ground.specs.Texts.{IsClean}
 use Rattle.cep_ground.proofs.Members.{contains_either, contains_left, contains_right, contains_map, flat_cases, all_at}
 use Rattle.cep_ground.proofs.Known.{pred_known, clause_placed}

@@ -27,10 +27,10 @@ use Rattle.cep_names.specs.Spaces.{named, pred_named, con_named}
 use Rattle.cep_names.specs.Uses.{atoms_of, placed, placed_of, is_context}
 use Rattle.cep_names.specs.Variables.{Occurrence, occurrence_at, blanks_behind, occurrences_from, nodes_of, variables_of}
 use Rattle.cep_names.specs.Misnamed.{wrong}
-use Rattle.cep_infer.specs.Sites.{Site, Wanted, con_types, pred_types, node_types, sites_from, sites_in, sites_of, wanted_from, type_of, IsScope, Mistyped}
-use Rattle.cep_infer.specs.Sites.Mistyped.{constructor, variable}
-use Rattle.cep_infer.specs.Heads.{number_of, variable_of, heads_among, blanks_after, IsAtomBy, AreAtomsBy}
-use Rattle.cep_infer.specs.Meaning.{ArePremisesBy, sorts_said, con_by, pred_by, signature_of, names_of, kinds_of}
+use Rattle.cep_types.specs.Sites.{Site, Wanted, con_types, pred_types, node_types, sites_from, sites_in, sites_of, wanted_from, type_of, IsScope, Mistyped}
+use Rattle.cep_types.specs.Sites.Mistyped.{constructor, variable}
+use Rattle.cep_types.specs.Heads.{number_of, variable_of, heads_among, blanks_after, IsAtomBy, AreAtomsBy, sorts_said}
+use Rattle.cep_infer.specs.Meaning.{ArePremisesBy, con_by, pred_by, signature_of, names_of, kinds_of}
 use Rattle.cep_ground.proofs.Members.{contains_none, contains_first, contains_behind, contains_left, contains_right, contains_map}
 use Rattle.cep_ground.proofs.Finds.{IsFound, any_found, found_in}
 use Rattle.cep_ground.proofs.Known.{AreNamesClean, IsPredKnown, pred_known, IsConKnown, con_known}

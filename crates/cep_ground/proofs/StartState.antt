@@ -40,9 +40,9 @@ use Rattle.cep_names.specs.Misnamed.{ComesToState as comes}
 use Rattle.cep_names.specs.Misnamed.{IsOpen as opens}
 use Rattle.cep_names.specs.Misnamed.Misnamed.{over, variable_in_state, backward_in_state}
 use Rattle.cep_names.specs.Misnamed.IsOver.{unfit, copies, nodes}
-use Rattle.cep_infer.specs.Sites.{type_of}
-use Rattle.cep_infer.specs.Sites.{IsScope as scopes}
-use Rattle.cep_infer.specs.Heads.{number_of, blanks_after, IsAtomBy, AreAtomsBy}
+use Rattle.cep_types.specs.Sites.{type_of}
+use Rattle.cep_types.specs.Sites.{IsScope as scopes}
+use Rattle.cep_types.specs.Heads.{number_of, blanks_after, IsAtomBy, AreAtomsBy}
 use Rattle.cep_infer.specs.Meaning.{signature_of, names_of, kinds_of, IsStartBy}
 use Rattle.cep_ground.specs.Texts.{IsClean}
 use Rattle.cep_ground.proofs.Members.{contains_none, contains_first, contains_behind, contains_cases, contains_map, flat_cases, all_of}

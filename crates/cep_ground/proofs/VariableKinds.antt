@@ -18,8 +18,8 @@ use Rattle.cep_names.specs.Items.{Source, ConItem, PredItem, said, sorts_of, con
 use Rattle.cep_names.specs.Spaces.{named, names_in, is_in, con_named, pred_named}
 use Rattle.cep_names.specs.Uses.{use_in}
 use Rattle.cep_names.specs.Variables.{Occurrence, occurrence_at, blanks_behind, occurrences_from, occurrences_of, nodes_of, variables_of}
-use Rattle.cep_infer.specs.Sites.{Site, Wanted, con_types, pred_types, node_types, sites_from, sites_in, sites_of, wanted_from, type_of}
-use Rattle.cep_infer.specs.Heads.{number_of}
+use Rattle.cep_types.specs.Sites.{Site, Wanted, con_types, pred_types, node_types, sites_from, sites_in, sites_of, wanted_from, type_of}
+use Rattle.cep_types.specs.Heads.{number_of}
 use Rattle.cep_infer.specs.Meaning.{names_of, kinds_of}
 use Rattle.cep_ground.specs.Texts.{IsClean}
 use Rattle.cep_ground.proofs.Members.{contains_none, contains_first, contains_behind, contains_cases, contains_either, contains_left, contains_right, contains_map, map_cases, flat_cases, all_at, all_of}

@@ -17,9 +17,9 @@ use Rattle.cep_names.specs.Items.{Source, RuleItem, rules_of}
 use Rattle.cep_names.specs.Variables.{Occurrence}
 use Rattle.cep_names.specs.First.{IsNoLater}
 use Rattle.cep_names.specs.Misnamed.{wrong, Misnamed}
+use Rattle.cep_types.specs.Sites.{Mistyped}
 use Rattle.cep_infer.specs.declared.draft.Refusal.{Refusal}
 use Rattle.cep_infer.specs.Shapes.{IsSource}
-use Rattle.cep_infer.specs.Sites.{Mistyped}
 use Rattle.cep_infer.specs.Meaning.{AreParts}
 use Rattle.cep_infer.specs.Places.{unbound_of}
 use Rattle.cep_ground.specs.Texts.{IsClean, IsBound, Spells}

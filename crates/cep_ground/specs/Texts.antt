@@ -7,8 +7,8 @@ use Rattle.cep_rule.specs.Groundness.{IsGrounded}
 use Rattle.cep_names.specs.declared.fault.Fault.{Fault}
 use Rattle.cep_names.specs.Items.{Source, rules_of}
 use Rattle.cep_names.specs.Misnamed.{Misnamed}
+use Rattle.cep_types.specs.Sites.{Mistyped}
 use Rattle.cep_infer.specs.Shapes.{IsSource}
-use Rattle.cep_infer.specs.Sites.{Mistyped}
 use Rattle.cep_infer.specs.Meaning.{AreParts}
 use Rattle.cep_infer.specs.Places.{unbound_of}
 

@@ -14,11 +14,11 @@ use Rattle.cep_rule.specs.Patterns.{PremiseTree, ClauseTree}
 use Rattle.cep_names.specs.Items.{Source, ClauseItem, RuleItem}
 use Rattle.cep_names.specs.Uses.{atoms_in, atoms_of}
 use Rattle.cep_names.specs.Variables.{nodes_of}
+use Rattle.cep_types.specs.declared.variables.Variables.{Variables}
+use Rattle.cep_types.specs.Heads.{IsAtomBy, AreAtomsBy, blanks_after}
+use Rattle.cep_types.specs.Met.{AreMet, none_met, names_in, kinds_met}
 use Rattle.cep_infer.specs.declared.left.LeftSide.{LeftSide}
-use Rattle.cep_infer.specs.declared.variables.Variables.{Variables}
-use Rattle.cep_infer.specs.Heads.{IsAtomBy, AreAtomsBy, blanks_after}
 use Rattle.cep_infer.specs.Meaning.{ArePremisesBy, is_back, IsClauseBy, AreClausesBy, IsRuleBy, AreRulesBy}
-use Rattle.cep_infer.specs.Met.{AreMet, none_met, names_in, kinds_met}
 use Rattle.cep_infer.specs.Built.{AreBuilt, IsLeftBuilt}
 use Rattle.cep_infer.proofs.Meeting.{blanks_both}
 use Rattle.cep_infer.proofs.FirstOccurrences.{names_met, kinds_are_met}

@@ -14,11 +14,11 @@ use Rattle.cep_parse.specs.declared.raw.RawAtom.{RawAtom}
 use Rattle.cep_names.specs.declared.space.Space.TheVariants as space
 use Rattle.cep_names.specs.Items.{Source, said}
 use Rattle.cep_names.specs.Variables.{Occurrence, occurrence_at, blanks_behind, nodes_of, occurrences_from, firsts_beside, variables_of}
-use Rattle.cep_infer.specs.declared.variables.Variables.{Variables}
-use Rattle.cep_infer.specs.Sites.{Site, Wanted, sites_of, wanted_from, type_of}
-use Rattle.cep_infer.specs.Heads.{number_of}
+use Rattle.cep_types.specs.declared.variables.Variables.{Variables}
+use Rattle.cep_types.specs.Sites.{Site, Wanted, sites_of, wanted_from, type_of}
+use Rattle.cep_types.specs.Heads.{number_of}
+use Rattle.cep_types.specs.Met.{names_in, kinds_met, none_met, further, AreMet}
 use Rattle.cep_infer.specs.Meaning.{names_of, kinds_of}
-use Rattle.cep_infer.specs.Met.{under, names_in, type_met, kinds_met, none_met, wanted_in, further, AreMet}
 use Rattle.cep_infer.proofs.Lookups.{bytes_eq_sym}
 use Rattle.cep_infer.proofs.Meeting.{nodes_at}
 
@@ -178,19 +178,6 @@ module _ (source : Source) (atoms : List RawAtom) (variables : Variables) (met :
       ∙ ap wanted_names_of met.firsts ∙ met_names [] [] all (λ name. refl)
       ∙ ap (new_names []) (wanted_names source 0 (sites_of source atoms) ∙ ap (λ nodes. occurring (occurrences_from source 0 nodes)) met.covered)
       ∙ sym (firsts_names [] (occurrences_from source 0 (nodes_of atoms)))
-
-  under_found : (firsts_ : List (List ℕ × Span)) (name : List ℕ) → option_map (said source) (under firsts_ name) ≡ option_map (λ (w : Wanted). w.wants) (found (wanted_in source firsts_) name)
-  under_found [] name = refl
-  under_found (e ∷ firsts_) name = rw (bytes_eq_sym name e.0) (cases (bytes_eq e.0 name) (under_found firsts_ name)) where
-    cases : (b : Bool) → option_map (said source) (under firsts_ name) ≡ option_map (λ (w : Wanted). w.wants) (found (wanted_in source firsts_) name)
-        → option_map (said source) (if b then Some e.1 else under firsts_ name) ≡ option_map (λ (w : Wanted). w.wants) (cond b (Some (record { name = e.0; wants = said source e.1 })) (found (wanted_in source firsts_) name))
-    cases true rest = refl
-    cases false rest = rest
-
-  pub types_met : (name : List ℕ) → type_met source variables.firsts name ≡ type_of source atoms name
-  types_met name =
-      under_found variables.firsts name
-      ∙ ap (option_map (λ (w : Wanted). w.wants)) (ap (λ ws. found ws name) met.firsts ∙ found_met [] all name)
 
   abbrev kind_of : Option (List ℕ) → ℕ
   kind_of type = number_of source space.Sorts (unwrap_or type [])

@@ -8,7 +8,7 @@ use Rattle.std.proofs.lemmas.Slice.Eq.{bytes_eq-Decides}
 use Rattle.cep_parse.specs.declared.raw.Span.{Span}
 use Rattle.cep_parse.specs.declared.raw.RawItem.{RawItem}
 use Rattle.cep_names.specs.Items.{Source, said, is_said, interactives_in}
-use Rattle.cep_infer.specs.Met.{has_name, added}
+use Rattle.cep_types.specs.Met.{has_name, added}
 use Rattle.cep_infer.proofs.Lookups.{bytes_eq_sym}
 
 any_both : {X : Type 0} (p : X → Bool) (one two : List X) → list_any p (one ++ two) ≡ (list_any p one || list_any p two)

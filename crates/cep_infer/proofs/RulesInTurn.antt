@@ -14,13 +14,13 @@ use Rattle.cep_names.specs.Items.{Source, RuleItem, said}
 use Rattle.cep_names.specs.Spaces.{Named, rule_name, unlabelled_behind, rule_names_from}
 use Rattle.cep_names.specs.Uses.{atoms_of}
 use Rattle.cep_names.specs.Variables.{nodes_of}
+use Rattle.cep_types.specs.declared.variables.Variables.{Variables}
+use Rattle.cep_types.specs.Sites.{rule_scope}
+use Rattle.cep_types.specs.Heads.{AreAtomsBy, blanks_after, number_of}
+use Rattle.cep_types.specs.Met.{AreMet, none_met, names_in, kinds_met}
 use Rattle.cep_infer.specs.declared.left.LeftSide.{LeftSide}
 use Rattle.cep_infer.specs.declared.listing.RuleRef.{RuleRef}
-use Rattle.cep_infer.specs.declared.variables.Variables.{Variables}
-use Rattle.cep_infer.specs.Sites.{rule_scope}
-use Rattle.cep_infer.specs.Heads.{AreAtomsBy, blanks_after, number_of}
 use Rattle.cep_infer.specs.Meaning.{IsRuleBy, AreRulesBy, ArePremisesBy, group_of, next_of, is_back, stages_in_elem, first_stage}
-use Rattle.cep_infer.specs.Met.{AreMet, none_met, names_in, kinds_met}
 use Rattle.cep_infer.specs.Built.{AreBuilt, IsLeftBuilt}
 use Rattle.cep_infer.specs.Listed.{rule_item}
 use Rattle.cep_infer.proofs.FirstOccurrences.{names_met, kinds_are_met}

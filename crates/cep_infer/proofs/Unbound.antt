@@ -13,10 +13,10 @@ use Rattle.cep_names.specs.Items.{Source, RuleItem}
 use Rattle.cep_names.specs.Misnamed.{is_declared}
 use Rattle.cep_names.specs.Uses.{atoms_in, atoms_of}
 use Rattle.cep_names.specs.Variables.{Occurrence, occurrence_at, occurrences_from, blanks_behind, nodes_of}
-use Rattle.cep_infer.specs.declared.variables.Variables.{Variables}
-use Rattle.cep_infer.specs.Heads.{blanks_after}
+use Rattle.cep_types.specs.declared.variables.Variables.{Variables}
+use Rattle.cep_types.specs.Heads.{blanks_after}
+use Rattle.cep_types.specs.Met.{has_name, names_in, none_met, AreMet}
 use Rattle.cep_infer.specs.Meaning.{names_of}
-use Rattle.cep_infer.specs.Met.{has_name, names_in, none_met, AreMet}
 use Rattle.cep_infer.specs.Places.{unbound_at}
 use Rattle.cep_infer.proofs.Lookups.{bytes_eq_sym}
 use Rattle.cep_infer.proofs.FirstOccurrences.{names_met}

@@ -1,12 +1,6 @@
 pub mod Shapes
-pub mod Sites
-pub mod Heads
 pub mod Meaning
 pub mod Places
-pub mod Codes
-pub mod Kept
-pub mod Met
-pub mod Clashes
 pub mod Listed
 pub mod Resolved
 pub mod Built

@@ -22,12 +22,8 @@ use Rattle.cep_names.specs.Uses.{atoms_of}
 use Rattle.cep_names.specs.Variables.{nodes_of, variables_of}
 use Rattle.cep_names.specs.Starts.{start_atoms}
 use Rattle.cep_names.specs.Misnamed.{number_said}
-use Rattle.cep_infer.specs.Sites.{type_of, rule_scope, clause_scope}
-use Rattle.cep_infer.specs.Heads.{number_of, IsAtomBy, AreAtomsBy, blanks_after}
-
--- the numbers of types by their names
-abbrev pub sorts_said : Source → List Span → List ℕ
-sorts_said source spans = map (λ span. number_of source space.Sorts (said source span)) spans
+use Rattle.cep_types.specs.Sites.{type_of, rule_scope, clause_scope}
+use Rattle.cep_types.specs.Heads.{number_of, sorts_said, IsAtomBy, AreAtomsBy, blanks_after}
 
 -- a constructor and a predicate
 abbrev pub con_by : Source → ConItem → Con

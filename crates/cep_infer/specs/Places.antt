@@ -8,9 +8,9 @@ use Rattle.cep_names.specs.Items.{Source, RuleItem, rules_of}
 use Rattle.cep_names.specs.Uses.{atoms_of}
 use Rattle.cep_names.specs.Variables.{Occurrence, occurrences_from, nodes_of}
 use Rattle.cep_names.specs.Misnamed.{backward_of}
+use Rattle.cep_types.specs.Heads.{blanks_after}
 use Rattle.cep_infer.specs.declared.draft.Draft.{Draft}
 use Rattle.cep_infer.specs.declared.places.Reached.{Reached}
-use Rattle.cep_infer.specs.Heads.{blanks_after}
 use Rattle.cep_infer.specs.Meaning.{AreParts, names_of}
 
 -- the places of the backward premises of a rule, in bytes from the front

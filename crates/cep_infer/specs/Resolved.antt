@@ -5,9 +5,9 @@ use Rattle.cep_names.specs.declared.fault.Fault.{Fault}
 use Rattle.cep_names.specs.Items.{Source}
 use Rattle.cep_names.specs.First.{IsFirst}
 use Rattle.cep_names.specs.Misnamed.{Misnamed}
+use Rattle.cep_types.specs.Sites.{Mistyped}
 use Rattle.cep_infer.specs.declared.draft.Draft.{Draft}
 use Rattle.cep_infer.specs.declared.draft.Refusal.{Refusal}
-use Rattle.cep_infer.specs.Sites.{Mistyped}
 use Rattle.cep_infer.specs.Places.{IsDraft}
 
 -- Nothing is wrong with the names of a text.

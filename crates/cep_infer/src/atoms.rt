@@ -1,75 +1,72 @@
 // Atoms of one side, one clause or one state, one after another.
 ghost use Rattle.std.specs.Prelude.{◌≡◌, ◌∷◌, [], OnOk};
 ghost use Rattle.cep_names.specs.Uses.{atoms_in, atoms_of};
-ghost use Rattle.cep_infer.specs.Met.{names_in};
+ghost use Rattle.cep_types.specs.Met.{names_in};
 ghost use Rattle.cep_infer.specs.Built.{AreBuilt};
 
-use crate::declarations::Declarations;
 use crate::terms::read_atom;
-use crate::variables::Variables;
 use cep_parse::{RawAtom, RawElem};
 use cep_rule::AtomList;
+use cep_types::{Declarations, Variables};
 use std::alloc::AllocError;
 
-impl<'a> Declarations<'a> {
-    // Adds the atom that is written, before which so many blanks stand.
-    pub(crate) fn push_atom(
-        &self,
-        variables: &Variables,
-        raw: &RawAtom,
-        blanks: &mut u64,
-        atoms: &mut AtomList,
-    ) -> Result<(), AllocError>
-        ensures { OnOk result (AreBuilt self.now (names_in variables.now.firsts) (raw.now ∷ []) blanks.old blanks.new atoms.old atoms.new) }
-    {
-        let atom = read_atom(self, variables, blanks, raw)?;
-        atoms.push(atom)
-    }
+// Adds the atom that is written, before which so many blanks stand.
+pub(crate) fn push_atom(
+    declared: &Declarations,
+    variables: &Variables,
+    raw: &RawAtom,
+    blanks: &mut u64,
+    atoms: &mut AtomList,
+) -> Result<(), AllocError>
+    ensures { OnOk result (AreBuilt declared.now (names_in variables.now.firsts) (raw.now ∷ []) blanks.old blanks.new atoms.old atoms.new) }
+{
+    let atom = read_atom(declared, variables, blanks, raw)?;
+    atoms.push(atom)
+}
 
-    // Adds the atoms that are written.
-    pub(crate) fn push_atoms(
-        &self,
-        variables: &Variables,
-        raws: &[RawAtom],
-        blanks: &mut u64,
-        atoms: &mut AtomList,
-    ) -> Result<(), AllocError>
-        ensures { OnOk result (AreBuilt self.now (names_in variables.now.firsts) raws.now blanks.old blanks.new atoms.old atoms.new) }
-    {
-        for raw in raws {
-            self.push_atom(variables, raw, blanks, atoms)?;
-        }
-        Ok(())
+// Adds the atoms that are written.
+pub(crate) fn push_atoms(
+    declared: &Declarations,
+    variables: &Variables,
+    raws: &[RawAtom],
+    blanks: &mut u64,
+    atoms: &mut AtomList,
+) -> Result<(), AllocError>
+    ensures { OnOk result (AreBuilt declared.now (names_in variables.now.firsts) raws.now blanks.old blanks.new atoms.old atoms.new) }
+{
+    for raw in raws {
+        push_atom(declared, variables, raw, blanks, atoms)?;
     }
+    Ok(())
+}
 
-    fn push_elem(
-        &self,
-        variables: &Variables,
-        elem: &RawElem,
-        blanks: &mut u64,
-        atoms: &mut AtomList,
-    ) -> Result<(), AllocError>
-        ensures { OnOk result (AreBuilt self.now (names_in variables.now.firsts) (atoms_in elem.now) blanks.old blanks.new atoms.old atoms.new) }
-    {
-        match elem {
-            RawElem::Atom { atom, .. } => self.push_atom(variables, atom, blanks, atoms),
-            RawElem::Qui(_) | RawElem::Stage(_) => Ok(()),
-        }
+fn push_elem(
+    declared: &Declarations,
+    variables: &Variables,
+    elem: &RawElem,
+    blanks: &mut u64,
+    atoms: &mut AtomList,
+) -> Result<(), AllocError>
+    ensures { OnOk result (AreBuilt declared.now (names_in variables.now.firsts) (atoms_in elem.now) blanks.old blanks.new atoms.old atoms.new) }
+{
+    match elem {
+        RawElem::Atom { atom, .. } => push_atom(declared, variables, atom, blanks, atoms),
+        RawElem::Qui(_) | RawElem::Stage(_) => Ok(()),
     }
+}
 
-    // Adds the atoms of a side.
-    pub(crate) fn push_side(
-        &self,
-        variables: &Variables,
-        side: &[RawElem],
-        blanks: &mut u64,
-        atoms: &mut AtomList,
-    ) -> Result<(), AllocError>
-        ensures { OnOk result (AreBuilt self.now (names_in variables.now.firsts) (atoms_of side.now) blanks.old blanks.new atoms.old atoms.new) }
-    {
-        for elem in side {
-            self.push_elem(variables, elem, blanks, atoms)?;
-        }
-        Ok(())
+// Adds the atoms of a side.
+pub(crate) fn push_side(
+    declared: &Declarations,
+    variables: &Variables,
+    side: &[RawElem],
+    blanks: &mut u64,
+    atoms: &mut AtomList,
+) -> Result<(), AllocError>
+    ensures { OnOk result (AreBuilt declared.now (names_in variables.now.firsts) (atoms_of side.now) blanks.old blanks.new atoms.old atoms.new) }
+{
+    for elem in side {
+        push_elem(declared, variables, elem, blanks, atoms)?;
     }
+    Ok(())
 }

@@ -1,16 +1,15 @@
 // The left sides of rules.
 ghost use Rattle.std.specs.Prelude.{◌≡◌, ◌∷◌, ◌++◌, [], if◌then◌else◌, OnOk};
 ghost use Rattle.cep_term.specs.Tree.{atom_of};
+ghost use Rattle.cep_types.specs.Met.{names_in};
 ghost use Rattle.cep_infer.specs.Meaning.{is_back};
-ghost use Rattle.cep_infer.specs.Met.{names_in};
 ghost use Rattle.cep_infer.specs.Built.{IsLeftBuilt};
 
-use crate::declarations::{Declarations, item_at};
 use crate::terms::read_atom;
-use crate::variables::Variables;
 use cep_parse::RawElem;
 use cep_rule::{AtomList, Premise, Premises};
 use cep_term::Atom;
+use cep_types::{Declarations, Variables, item_at};
 use std::alloc::{AllocError, Global};
 
 /// The premises of a left side, the linear ones and the backward ones.
@@ -45,49 +44,47 @@ impl LeftSide {
     }
 }
 
-impl<'a> Declarations<'a> {
-    // Whether clauses define the predicate of an atom.
-    fn is_back(&self, atom: &Atom) -> bool
-        ensures { result ≡ is_back self.now (atom_of atom.now) }
-    {
-        match item_at(&self.preds, atom.pred as usize) {
-            Some(pred) => pred.back,
-            None => false,
-        }
+// Whether clauses define the predicate of an atom.
+fn is_back(declared: &Declarations, atom: &Atom) -> bool
+    ensures { result ≡ is_back declared.now (atom_of atom.now) }
+{
+    match item_at(declared.preds(), atom.pred as usize) {
+        Some(pred) => pred.back,
+        None => false,
     }
+}
 
-    fn push_premise(
-        &self,
-        variables: &Variables,
-        elem: &RawElem,
-        blanks: &mut u64,
-        left: &mut LeftSide,
-    ) -> Result<(), AllocError>
-        ensures { OnOk result (IsLeftBuilt self.now (names_in variables.now.firsts) (elem.now ∷ []) blanks.old blanks.new left.old left.new) }
-    {
-        match elem {
-            RawElem::Atom { kept, atom } => {
-                let atom = read_atom(self, variables, blanks, atom)?;
-                let back = self.is_back(&atom);
-                left.push(back, *kept, atom)
-            }
-            RawElem::Qui(_) | RawElem::Stage(_) => Ok(()),
+fn push_premise(
+    declared: &Declarations,
+    variables: &Variables,
+    elem: &RawElem,
+    blanks: &mut u64,
+    left: &mut LeftSide,
+) -> Result<(), AllocError>
+    ensures { OnOk result (IsLeftBuilt declared.now (names_in variables.now.firsts) (elem.now ∷ []) blanks.old blanks.new left.old left.new) }
+{
+    match elem {
+        RawElem::Atom { kept, atom } => {
+            let atom = read_atom(declared, variables, blanks, atom)?;
+            let back = is_back(declared, &atom);
+            left.push(back, *kept, atom)
         }
+        RawElem::Qui(_) | RawElem::Stage(_) => Ok(()),
     }
+}
 
-    // Adds the premises of a left side, before which so many blanks stand.
-    pub(crate) fn push_left(
-        &self,
-        variables: &Variables,
-        side: &[RawElem],
-        blanks: &mut u64,
-        left: &mut LeftSide,
-    ) -> Result<(), AllocError>
-        ensures { OnOk result (IsLeftBuilt self.now (names_in variables.now.firsts) side.now blanks.old blanks.new left.old left.new) }
-    {
-        for elem in side {
-            self.push_premise(variables, elem, blanks, left)?;
-        }
-        Ok(())
+// Adds the premises of a left side, before which so many blanks stand.
+pub(crate) fn push_left(
+    declared: &Declarations,
+    variables: &Variables,
+    side: &[RawElem],
+    blanks: &mut u64,
+    left: &mut LeftSide,
+) -> Result<(), AllocError>
+    ensures { OnOk result (IsLeftBuilt declared.now (names_in variables.now.firsts) side.now blanks.old blanks.new left.old left.new) }
+{
+    for elem in side {
+        push_premise(declared, variables, elem, blanks, left)?;
     }
+    Ok(())
 }

@@ -1,25 +1,19 @@
-//! From a program's raw file to its parts: each name is replaced by the number of its declaration,
-//! each term is of the type that is wanted of it, and what is wrong is told at its place.
+//! From a program's raw file to its draft: each name is replaced by the number of its declaration,
+//! and each atom is read as a tree; or what is wrong first is told at its place.
 #![tactic(auto)]
 
 mod atoms;
-mod clashes;
 mod clauses;
-mod declarations;
 mod draft;
-mod firsts;
 pub mod laws;
 mod left;
 mod listing;
-mod pending;
 mod places;
 mod resolving;
 mod rules;
 mod signature;
-mod sites;
 mod start;
 mod terms;
-mod variables;
 
 pub use cep_names::Reason;
 pub use draft::{Draft, PlaceLists, Places, Refusal};

@@ -3,19 +3,19 @@ ghost use Rattle.std.specs.Prelude.{◌≡◌, ◌++◌, map, option_to_list, If
 ghost use Rattle.cep_names.specs.Items.{rules_of, rules_in, stages_behind, traces_in, traces_of};
 ghost use Rattle.cep_infer.specs.Listed.{rule_item, in_stage, trace_item, IsFirstTrace};
 
-use crate::declarations::Declarations;
 use cep_parse::{RawItem, RawRule, RawStart, Span};
+use cep_types::Declarations;
 use std::alloc::AllocError;
 
 /// A rule, and the number of its stage where it stands in one.
-#[derive(Clone, Copy, Debug, Drop)]
+#[derive(Clone, Copy, Drop)]
 pub(crate) struct RuleRef<'a> {
     pub home: Option<u32>,
     pub raw: &'a RawRule,
 }
 
 /// A trace: the number of turns if it has one, its stage and its start state.
-#[derive(Clone, Copy, Debug, Drop)]
+#[derive(Clone, Copy, Drop)]
 pub(crate) struct TraceRef<'a> {
     pub at: u32,
     pub limit: Option<Span>,
@@ -89,29 +89,27 @@ fn trace_in(item: &RawItem) -> Option<TraceRef<'_>>
     }
 }
 
-impl<'a> Declarations<'a> {
-    // The rules in written order, those of stages and those outside.
-    pub(crate) fn rule_refs(&self) -> Result<Vec<RuleRef<'a>>, AllocError>
-        ensures { IfOk result (λ rules. map rule_item rules.items ≡ rules_of self.now) }
-    {
-        let mut rules = Vec::new(self.alloc);
-        let mut stages = 0;
-        for item in self.file.as_slice() {
-            push_item(stages, item, &mut rules)?;
-            stages = stages_behind(stages, item)?;
-        }
-        Ok(rules)
+// The rules in written order, those of stages and those outside.
+pub(crate) fn rule_refs<'a>(declared: &Declarations<'a>) -> Result<Vec<RuleRef<'a>>, AllocError>
+    ensures { IfOk result (λ rules. map rule_item rules.items ≡ rules_of declared.now) }
+{
+    let mut rules = Vec::new(declared.alloc());
+    let mut stages = 0;
+    for item in declared.items() {
+        push_item(stages, item, &mut rules)?;
+        stages = stages_behind(stages, item)?;
     }
+    Ok(rules)
+}
 
-    // The first trace, where there is one.
-    pub(crate) fn first_trace(&self) -> Option<TraceRef<'a>>
-        ensures { IsFirstTrace (traces_of self.now) result }
-    {
-        for item in self.file.as_slice() {
-            if let Some(trace) = trace_in(item) {
-                return Some(trace);
-            }
+// The first trace, where there is one.
+pub(crate) fn first_trace<'a>(declared: &Declarations<'a>) -> Option<TraceRef<'a>>
+    ensures { IsFirstTrace (traces_of declared.now) result }
+{
+    for item in declared.items() {
+        if let Some(trace) = trace_in(item) {
+            return Some(trace);
         }
-        None
     }
+    None
 }

@@ -5,22 +5,21 @@ ghost use Rattle.cep_names.specs.Misnamed.{is_declared};
 ghost use Rattle.cep_names.specs.Spaces.{back_of};
 ghost use Rattle.cep_names.specs.Uses.{atoms_in, atoms_of};
 ghost use Rattle.cep_names.specs.Variables.{nodes_of, occurrence_at, occurrences_from};
-ghost use Rattle.cep_infer.specs.Heads.{blanks_after};
+ghost use Rattle.cep_types.specs.Heads.{blanks_after};
+ghost use Rattle.cep_types.specs.Met.{has_name};
 ghost use Rattle.cep_infer.specs.Places.{IsReached, ArePlaces, ArePlaceLists, backs_at, unbound_at};
 ghost use Rattle.cep_infer.specs.Listed.{rule_item};
-ghost use Rattle.cep_infer.specs.Met.{has_name};
 
-use crate::declarations::Declarations;
 use crate::draft::{PlaceLists, Places};
 use crate::listing::RuleRef;
 use crate::terms::blanks_behind;
-use crate::variables::{Variables, blank_name, next_blank};
 use cep_base::Pos;
 use cep_parse::{RawAtom, RawElem, RawKind, RawNode};
+use cep_types::{Declarations, Variables, blank_name, next_blank};
 use std::alloc::{AllocError, Global};
 
 /// A place in a text, in bytes from the front, and its line and column.
-#[derive(Clone, Copy, Debug, Drop)]
+#[derive(Clone, Copy, Drop)]
 pub(crate) struct Reached {
     pub at: usize,
     pub pos: Pos,
@@ -105,131 +104,147 @@ fn place_all(
     Ok(places)
 }
 
-impl<'a> Declarations<'a> {
-    // Whether the predicate of an atom is a backward one.
-    fn is_backward(&self, atom: &RawAtom) -> bool
-        ensures { result ≡ is_declared true (back_of self.now atom.now) }
-    {
-        self.names.back(self.said(atom.name)).unwrap_or(false)
-    }
+// Whether the predicate of an atom is a backward one.
+fn is_backward(declared: &Declarations, atom: &RawAtom) -> bool
+    ensures { result ≡ is_declared true (back_of declared.now atom.now) }
+{
+    declared
+        .names()
+        .back(declared.said(atom.name))
+        .unwrap_or(false)
+}
 
-    // The place of an element that is a backward premise.
-    fn back_at(&self, elem: &RawElem) -> Option<u32>
-        ensures { option_to_list result ≡ map (λ atom. atom.name.from) (filter (λ atom. is_declared true (back_of self.now atom)) (atoms_in elem.now)) }
-    {
-        match elem {
-            RawElem::Atom { atom, .. } if self.is_backward(atom) => Some(atom.name.from),
-            _ => None,
+// The place of an element that is a backward premise.
+fn back_at(declared: &Declarations, elem: &RawElem) -> Option<u32>
+    ensures { option_to_list result ≡ map (λ atom. atom.name.from) (filter (λ atom. is_declared true (back_of declared.now atom)) (atoms_in elem.now)) }
+{
+    match elem {
+        RawElem::Atom { atom, .. } if is_backward(declared, atom) => Some(atom.name.from),
+        _ => None,
+    }
+}
+
+// The places of the backward premises of a left side.
+fn backs_at(declared: &Declarations, side: &[RawElem]) -> Result<Vec<u32>, AllocError>
+    ensures { IfOk result (λ ats. ats.items ≡ map (λ atom. atom.name.from) (filter (λ atom. is_declared true (back_of declared.now atom)) (atoms_of side.now))) }
+{
+    let mut ats = Vec::new(declared.alloc());
+    for elem in side {
+        if let Some(at) = back_at(declared, elem) {
+            ats.push(at)?;
         }
     }
+    Ok(ats)
+}
 
-    // The places of the backward premises of a left side.
-    fn backs_at(&self, side: &[RawElem]) -> Result<Vec<u32>, AllocError>
-        ensures { IfOk result (λ ats. ats.items ≡ map (λ atom. atom.name.from) (filter (λ atom. is_declared true (back_of self.now atom)) (atoms_of side.now))) }
-    {
-        let mut ats = Vec::new(self.alloc);
-        for elem in side {
-            if let Some(at) = self.back_at(elem) {
-                ats.push(at)?;
-            }
-        }
-        Ok(ats)
-    }
-
-    // Whether a node is a variable that is not on the left, or a blank.
-    fn is_unbound(&self, left: &Variables, blanks: u64, node: &RawNode) -> Result<bool, AllocError>
-        ensures { IfOk result (λ unbound. (if unbound then node.now.at.from ∷ [] else []) ≡ map (λ occurrence. occurrence.at.from) (filter (λ occurrence. not (has_name left.now.firsts occurrence.name)) (occurrence_at self.now blanks node.now.at node.now.kind))) }
-    {
-        match node.kind {
-            RawKind::App => Ok(false),
-            RawKind::Var => Ok(!left.firsts.has(self.said(node.at))),
-            RawKind::Blank => {
-                let name = blank_name(self.alloc, next_blank(blanks)?)?;
-                Ok(!left.firsts.has(name.bytes()))
-            }
+// Whether a node is a variable that is not on the left, or a blank.
+fn is_unbound(
+    declared: &Declarations,
+    left: &Variables,
+    blanks: u64,
+    node: &RawNode,
+) -> Result<bool, AllocError>
+    ensures { IfOk result (λ unbound. (if unbound then node.now.at.from ∷ [] else []) ≡ map (λ occurrence. occurrence.at.from) (filter (λ occurrence. not (has_name left.now.firsts occurrence.name)) (occurrence_at declared.now blanks node.now.at node.now.kind))) }
+{
+    match node.kind {
+        RawKind::App => Ok(false),
+        RawKind::Var => Ok(!left.firsts.has(declared.said(node.at))),
+        RawKind::Blank => {
+            let name = blank_name(declared.alloc(), next_blank(blanks)?)?;
+            Ok(!left.firsts.has(name.bytes()))
         }
     }
+}
 
-    // Adds the place of a node that is unbound.
-    fn push_node(
-        &self,
-        left: &Variables,
-        blanks: u64,
-        node: &RawNode,
-        ats: &mut Vec<u32>,
-    ) -> Result<(), AllocError>
-        ensures { OnOk result (ats.new.items ≡ ats.old.items ++ map (λ occurrence. occurrence.at.from) (filter (λ occurrence. not (has_name left.now.firsts occurrence.name)) (occurrence_at self.now blanks node.now.at node.now.kind))) }
-    {
-        if self.is_unbound(left, blanks, node)? {
-            ats.push(node.at.from)?;
-        }
-        Ok(())
+// Adds the place of a node that is unbound.
+fn push_node(
+    declared: &Declarations,
+    left: &Variables,
+    blanks: u64,
+    node: &RawNode,
+    ats: &mut Vec<u32>,
+) -> Result<(), AllocError>
+    ensures { OnOk result (ats.new.items ≡ ats.old.items ++ map (λ occurrence. occurrence.at.from) (filter (λ occurrence. not (has_name left.now.firsts occurrence.name)) (occurrence_at declared.now blanks node.now.at node.now.kind))) }
+{
+    if is_unbound(declared, left, blanks, node)? {
+        ats.push(node.at.from)?;
     }
+    Ok(())
+}
 
-    // The places of the unbound ones among nodes.
-    fn push_unbound(
-        &self,
-        left: &Variables,
-        blanks: &mut u64,
-        nodes: &[RawNode],
-        ats: &mut Vec<u32>,
-    ) -> Result<(), AllocError>
-        ensures ats { OnOk result (ats.new.items ≡ ats.old.items ++ map (λ occurrence. occurrence.at.from) (filter (λ occurrence. not (has_name left.now.firsts occurrence.name)) (occurrences_from self.now blanks.old nodes.now))) }
-        ensures blanks { OnOk result (blanks.new ≡ blanks_after blanks.old nodes.now) }
-    {
-        for node in nodes {
-            self.push_node(left, *blanks, node, ats)?;
-            *blanks = blanks_behind(*blanks, node.kind)?;
-        }
-        Ok(())
+// The places of the unbound ones among nodes.
+fn push_unbound(
+    declared: &Declarations,
+    left: &Variables,
+    blanks: &mut u64,
+    nodes: &[RawNode],
+    ats: &mut Vec<u32>,
+) -> Result<(), AllocError>
+    ensures ats { OnOk result (ats.new.items ≡ ats.old.items ++ map (λ occurrence. occurrence.at.from) (filter (λ occurrence. not (has_name left.now.firsts occurrence.name)) (occurrences_from declared.now blanks.old nodes.now))) }
+    ensures blanks { OnOk result (blanks.new ≡ blanks_after blanks.old nodes.now) }
+{
+    for node in nodes {
+        push_node(declared, left, *blanks, node, ats)?;
+        *blanks = blanks_behind(*blanks, node.kind)?;
     }
+    Ok(())
+}
 
-    // The places of the unbound ones of a side.
-    fn unbound_in(&self, left: &Variables, side: &[RawElem]) -> Result<Vec<u32>, AllocError>
-        ensures { IfOk result (λ ats. ats.items ≡ map (λ occurrence. occurrence.at.from) (filter (λ occurrence. not (has_name left.now.firsts occurrence.name)) (occurrences_from self.now left.now.blanks (nodes_of (atoms_of side.now))))) }
-    {
-        let mut blanks = left.blanks;
-        let mut ats = Vec::new(self.alloc);
-        for elem in side {
-            self.push_unbound(left, &mut blanks, nodes_in(elem), &mut ats)?;
-        }
-        Ok(ats)
+// The places of the unbound ones of a side.
+fn unbound_in(
+    declared: &Declarations,
+    left: &Variables,
+    side: &[RawElem],
+) -> Result<Vec<u32>, AllocError>
+    ensures { IfOk result (λ ats. ats.items ≡ map (λ occurrence. occurrence.at.from) (filter (λ occurrence. not (has_name left.now.firsts occurrence.name)) (occurrences_from declared.now left.now.blanks (nodes_of (atoms_of side.now))))) }
+{
+    let mut blanks = left.blanks;
+    let mut ats = Vec::new(declared.alloc());
+    for elem in side {
+        push_unbound(declared, left, &mut blanks, nodes_in(elem), &mut ats)?;
     }
+    Ok(ats)
+}
 
-    // The places of the unbound ones of a rule.
-    fn unbound_at(&self, item: &RuleRef) -> Result<Vec<u32>, AllocError>
-        ensures { IfOk result (λ ats. ats.items ≡ unbound_at self.now (rule_item item.now)) }
-    {
-        let mut left = Variables::new(self.alloc);
-        left.meet_side(self, item.raw.left.as_slice())?;
-        self.unbound_in(&left, item.raw.right.as_slice())
-    }
+// The places of the unbound ones of a rule.
+fn unbound_at(declared: &Declarations, item: &RuleRef) -> Result<Vec<u32>, AllocError>
+    ensures { IfOk result (λ ats. ats.items ≡ unbound_at declared.now (rule_item item.now)) }
+{
+    let mut left = Variables::new(declared.alloc());
+    left.meet_side(declared, item.raw.left.as_slice())?;
+    unbound_in(declared, &left, item.raw.right.as_slice())
+}
 
-    // For each rule the places of its backward premises.
-    pub(crate) fn back_places(&self, rules: &[RuleRef]) -> Result<PlaceLists, AllocError>
-        ensures { IfOk result (λ lists. ArePlaceLists self.now.text (map (λ rule. backs_at self.now (rule_item rule)) rules.now) lists) }
-    {
-        let mut reached = FRONT;
-        let mut lists = PlaceLists::new(self.alloc);
-        for rule in rules {
-            let ats = self.backs_at(rule.raw.left.as_slice())?;
-            lists.push(place_all(self.alloc, self.text, &mut reached, &ats)?)?;
-        }
-        Ok(lists)
+// For each rule the places of its backward premises.
+pub(crate) fn back_places(
+    declared: &Declarations,
+    rules: &[RuleRef],
+) -> Result<PlaceLists, AllocError>
+    ensures { IfOk result (λ lists. ArePlaceLists declared.now.text (map (λ rule. backs_at declared.now (rule_item rule)) rules.now) lists) }
+{
+    let mut reached = FRONT;
+    let mut lists = PlaceLists::new(declared.alloc());
+    for rule in rules {
+        let ats = backs_at(declared, rule.raw.left.as_slice())?;
+        lists.push(place_all(declared.alloc(), declared.text(), &mut reached, &ats)?)?;
     }
+    Ok(lists)
+}
 
-    // For each rule the places of what is unbound on its right side.
-    pub(crate) fn right_places(&self, rules: &[RuleRef]) -> Result<PlaceLists, AllocError>
-        ensures { IfOk result (λ lists. ArePlaceLists self.now.text (map (λ rule. unbound_at self.now (rule_item rule)) rules.now) lists) }
-    {
-        let mut reached = FRONT;
-        let mut lists = PlaceLists::new(self.alloc);
-        for rule in rules {
-            let ats = self.unbound_at(rule)?;
-            lists.push(place_all(self.alloc, self.text, &mut reached, &ats)?)?;
-        }
-        Ok(lists)
+// For each rule the places of what is unbound on its right side.
+pub(crate) fn right_places(
+    declared: &Declarations,
+    rules: &[RuleRef],
+) -> Result<PlaceLists, AllocError>
+    ensures { IfOk result (λ lists. ArePlaceLists declared.now.text (map (λ rule. unbound_at declared.now (rule_item rule)) rules.now) lists) }
+{
+    let mut reached = FRONT;
+    let mut lists = PlaceLists::new(declared.alloc());
+    for rule in rules {
+        let ats = unbound_at(declared, rule)?;
+        lists.push(place_all(declared.alloc(), declared.text(), &mut reached, &ats)?)?;
     }
+    Ok(lists)
 }
 
 // The nodes of an element that is an atom.

@@ -14,14 +14,19 @@ ghost use Rattle.cep_infer.specs.Places.{IsDraft};
 ghost use Rattle.cep_infer.specs.Listed.{rule_item, IsFirstTrace};
 ghost use Rattle.cep_infer.specs.Resolved.{IsWellNamed, IsResolved, IsTyped};
 
-use crate::declarations::Declarations;
+use crate::clauses::read_clauses;
 use crate::draft::{Draft, Refusal};
-use crate::listing::{RuleRef, TraceRef};
+use crate::listing::{RuleRef, TraceRef, first_trace, rule_refs};
+use crate::places::{back_places, right_places};
+use crate::rules::read_rules;
+use crate::signature::{read_signature, read_stages};
+use crate::start::read_start;
 use cep_faults::named;
 use cep_lex::place;
 use cep_names::{Fault, Names, Space};
 use cep_parse::{RawFile, Span};
 use cep_rule::Parts;
+use cep_types::Declarations;
 use std::alloc::{AllocError, Global};
 
 // The refusal of a text for a fault. A place behind the end is the end.
@@ -61,49 +66,51 @@ fn number_said(digits: &[u8]) -> u32
     number
 }
 
-impl<'a> Declarations<'a> {
-    // The number of turns.
-    fn turns(&self, limit: Option<Span>) -> Option<u32>
-        requires { ForSome limit (λ digits. IsTurnLimit (number_said self.now digits)) }
-        ensures { result ≡ option_map (number_said self.now) limit }
-    {
-        match limit {
-            None => None,
-            Some(digits) => Some(number_said(self.said(digits))),
-        }
+// The number of turns.
+fn turns(declared: &Declarations, limit: Option<Span>) -> Option<u32>
+    requires { ForSome limit (λ digits. IsTurnLimit (number_said declared.now digits)) }
+    ensures { result ≡ option_map (number_said declared.now) limit }
+{
+    match limit {
+        None => None,
+        Some(digits) => Some(number_said(declared.said(digits))),
     }
+}
 
-    // The parts of a program, where these are its rules, and it starts as the first trace says.
-    fn parts_from(&self, rules: &[RuleRef], trace: &TraceRef) -> Result<Parts, AllocError>
-        requires named { IsWellNamed self.now }
-        requires all { map rule_item rules.now ≡ rules_of self.now }
-        requires first { IsFirstTrace (traces_of self.now) (Some trace.now) }
-        ensures { IfOk result (λ parts. AreParts self.now parts) }
-    {
-        Ok(Parts {
-            signature: self.signature()?,
-            stages: self.stages()?,
-            rules: self.rules(rules)?,
-            clauses: self.clauses()?,
-            start_stage: self.number(Space::Stages, trace.stage)?,
-            start: self.start(trace)?,
-            turns: self.turns(trace.limit),
-        })
-    }
+// The parts of a program, where these are its rules, and it starts as the first trace says.
+fn parts_from(
+    declared: &Declarations,
+    rules: &[RuleRef],
+    trace: &TraceRef,
+) -> Result<Parts, AllocError>
+    requires named { IsWellNamed declared.now }
+    requires all { map rule_item rules.now ≡ rules_of declared.now }
+    requires first { IsFirstTrace (traces_of declared.now) (Some trace.now) }
+    ensures { IfOk result (λ parts. AreParts declared.now parts) }
+{
+    Ok(Parts {
+        signature: read_signature(declared)?,
+        stages: read_stages(declared)?,
+        rules: read_rules(declared, rules)?,
+        clauses: read_clauses(declared)?,
+        start_stage: declared.number(Space::Stages, trace.stage)?,
+        start: read_start(declared, trace)?,
+        turns: turns(declared, trace.limit),
+    })
+}
 
-    // The draft of a text without wrong names that starts as the first trace says.
-    fn draft_from(&self, trace: &TraceRef) -> Result<Draft, AllocError>
-        requires named { IsWellNamed self.now }
-        requires first { IsFirstTrace (traces_of self.now) (Some trace.now) }
-        ensures { IfOk result (λ draft. IsDraft self.now draft) }
-    {
-        let rules = self.rule_refs()?;
-        Ok(Draft {
-            parts: self.parts_from(&rules, trace)?,
-            back_places: self.back_places(&rules)?,
-            right_places: self.right_places(&rules)?,
-        })
-    }
+// The draft of a text without wrong names that starts as the first trace says.
+fn draft_from(declared: &Declarations, trace: &TraceRef) -> Result<Draft, AllocError>
+    requires named { IsWellNamed declared.now }
+    requires first { IsFirstTrace (traces_of declared.now) (Some trace.now) }
+    ensures { IfOk result (λ draft. IsDraft declared.now draft) }
+{
+    let rules = rule_refs(declared)?;
+    Ok(Draft {
+        parts: parts_from(declared, &rules, trace)?,
+        back_places: back_places(declared, &rules)?,
+        right_places: right_places(declared, &rules)?,
+    })
 }
 
 // The draft of a text without wrong names, or the first fault of its types.
@@ -121,8 +128,8 @@ fn typed(
         return Ok(Err(fault));
     }
     // In a text without wrong names there is a trace.
-    let trace = declared.first_trace().unwrap();
-    Ok(Ok(declared.draft_from(&trace)?))
+    let trace = first_trace(&declared).unwrap();
+    Ok(Ok(draft_from(&declared, &trace)?))
 }
 
 /// What a text declares, or the first fault of its names, or else of its types.

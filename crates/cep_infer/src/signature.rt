@@ -1,16 +1,15 @@
 // What a text declares of terms, atoms and stages.
 ghost use Rattle.std.specs.Prelude.{◌≡◌, ◌++◌, ◌||◌, List, ℕ, map, option_to_list, IfOk, OnOk};
 ghost use Rattle.cep_names.specs.Items.{said, sorts_in, sorts_of, stages_in, stages_of, interactives_in, is_said, cons_of, preds_of};
+ghost use Rattle.cep_types.specs.Kept.{con_item, pred_item};
+ghost use Rattle.cep_types.specs.Met.{has_name, AreInteractive};
 ghost use Rattle.cep_infer.specs.Meaning.{con_by, pred_by, signature_of, stage_by};
-ghost use Rattle.cep_infer.specs.Kept.{con_item, pred_item};
-ghost use Rattle.cep_infer.specs.Met.{has_name, AreInteractive};
 
-use crate::declarations::{Declarations, RawCon, RawPred};
-use crate::firsts::Firsts;
 use cep_base::Name;
 use cep_names::Space;
 use cep_parse::{RawItem, Span};
 use cep_rule::{Con, Cons, Names, PredDecl, Preds, Signature, Stage, Stages};
+use cep_types::{Declarations, Firsts, RawCon, RawPred};
 use std::alloc::AllocError;
 
 // The type that an item declares.
@@ -43,125 +42,128 @@ fn interactive_in(item: &RawItem) -> Option<Span>
     }
 }
 
-impl<'a> Declarations<'a> {
-    pub(crate) fn name(&self, span: Span) -> Result<Name, AllocError>
-        ensures { IfOk result (λ name. name ≡ said self.now span) }
-    {
-        Name::new(self.alloc, self.said(span))
-    }
+// The name that the text says at a span.
+pub(crate) fn name(declared: &Declarations, span: Span) -> Result<Name, AllocError>
+    ensures { IfOk result (λ name. name ≡ said declared.now span) }
+{
+    Name::new(declared.alloc(), declared.said(span))
+}
 
-    fn sorts(&self) -> Result<Names, AllocError>
-        ensures { IfOk result (λ names. names ≡ map (said self.now) (sorts_of self.now)) }
-    {
-        let mut names = Names::new(self.alloc);
-        for item in self.file.as_slice() {
-            if let Some(span) = sort_in(item) {
-                names.push(self.name(span)?)?;
-            }
-        }
-        Ok(names)
-    }
-
-    fn con_decl(&self, con: &RawCon) -> Result<Con, AllocError>
-        ensures { IfOk result (λ decl. decl ≡ con_by self.now (con_item con.now)) }
-    {
-        Ok(Con {
-            name: self.name(con.name)?,
-            sort: self.number(Space::Sorts, con.sort)?,
-            args: self.kinds(con.args)?,
-        })
-    }
-
-    fn con_decls(&self) -> Result<Cons, AllocError>
-        ensures { IfOk result (λ cons. cons ≡ map (con_by self.now) (cons_of self.now)) }
-    {
-        let mut cons = Cons::new(self.alloc);
-        for con in &self.cons {
-            cons.push(self.con_decl(con)?)?;
-        }
-        Ok(cons)
-    }
-
-    fn pred_decl(&self, pred: &RawPred) -> Result<PredDecl, AllocError>
-        ensures { IfOk result (λ decl. decl ≡ pred_by self.now (pred_item pred.now)) }
-    {
-        Ok(PredDecl {
-            name: self.name(pred.name)?,
-            back: pred.back,
-            args: self.kinds(pred.args)?,
-        })
-    }
-
-    fn pred_decls(&self) -> Result<Preds, AllocError>
-        ensures { IfOk result (λ preds. preds ≡ map (pred_by self.now) (preds_of self.now)) }
-    {
-        let mut preds = Preds::new(self.alloc);
-        for pred in &self.preds {
-            preds.push(self.pred_decl(pred)?)?;
-        }
-        Ok(preds)
-    }
-
-    // The types, the constructors and the predicates.
-    pub(crate) fn signature(&self) -> Result<Signature, AllocError>
-        ensures { IfOk result (λ signature. signature ≡ signature_of self.now) }
-    {
-        Ok(Signature {
-            sorts: self.sorts()?,
-            cons: self.con_decls()?,
-            preds: self.pred_decls()?,
-        })
-    }
-
-    // Adds the name of a stage that an item says to be interactive.
-    fn push_interactive(&self, item: &RawItem, names: &mut Firsts) -> Result<(), AllocError>
-        ensures { (name : List ℕ) → OnOk result (has_name names.new name ≡ (has_name names.old name || is_said self.now (interactives_in item.now) name)) }
-    {
-        match interactive_in(item) {
-            Some(span) => names.add(self.said(span), span),
-            None => Ok(()),
+fn sorts(declared: &Declarations) -> Result<Names, AllocError>
+    ensures { IfOk result (λ names. names ≡ map (said declared.now) (sorts_of declared.now)) }
+{
+    let mut names = Names::new(declared.alloc());
+    for item in declared.items() {
+        if let Some(span) = sort_in(item) {
+            names.push(name(declared, span)?)?;
         }
     }
+    Ok(names)
+}
 
-    // The names of the interactive stages.
-    fn interactives(&self) -> Result<Firsts, AllocError>
-        ensures { IfOk result (AreInteractive self.now) }
-    {
-        let mut names = Firsts::new(self.alloc);
-        for item in self.file.as_slice() {
-            self.push_interactive(item, &mut names)?;
-        }
-        Ok(names)
-    }
+fn con_decl(declared: &Declarations, con: &RawCon) -> Result<Con, AllocError>
+    ensures { IfOk result (λ decl. decl ≡ con_by declared.now (con_item con.now)) }
+{
+    Ok(Con {
+        name: name(declared, con.name)?,
+        sort: declared.number(Space::Sorts, con.sort)?,
+        args: declared.kinds(con.args)?,
+    })
+}
 
-    // Adds the stage of an item.
-    fn push_stage(
-        &self,
-        interactives: &Firsts,
-        item: &RawItem,
-        stages: &mut Stages,
-    ) -> Result<(), AllocError>
-        requires { AreInteractive self.now interactives.now }
-        ensures { OnOk result (stages.new ≡ stages.old ++ map (stage_by self.now) (stages_in item.now)) }
-    {
-        match stage_in(item) {
-            Some(span) => stages.push(Stage {
-                name: self.name(span)?,
-                interactive: interactives.has(self.said(span)),
-            }),
-            None => Ok(()),
-        }
+fn con_decls(declared: &Declarations) -> Result<Cons, AllocError>
+    ensures { IfOk result (λ cons. cons ≡ map (con_by declared.now) (cons_of declared.now)) }
+{
+    let mut cons = Cons::new(declared.alloc());
+    for con in declared.cons() {
+        cons.push(con_decl(declared, con)?)?;
     }
+    Ok(cons)
+}
 
-    // The stages.
-    pub(crate) fn stages(&self) -> Result<Stages, AllocError>
-        ensures { IfOk result (λ stages. stages ≡ map (stage_by self.now) (stages_of self.now)) }
-    {
-        let interactives = self.interactives()?;
-        let mut stages = Stages::new(self.alloc);
-        for item in self.file.as_slice() {
-            self.push_stage(&interactives, item, &mut stages)?;
-        }
-        Ok(stages)
+fn pred_decl(declared: &Declarations, pred: &RawPred) -> Result<PredDecl, AllocError>
+    ensures { IfOk result (λ decl. decl ≡ pred_by declared.now (pred_item pred.now)) }
+{
+    Ok(PredDecl {
+        name: name(declared, pred.name)?,
+        back: pred.back,
+        args: declared.kinds(pred.args)?,
+    })
+}
+
+fn pred_decls(declared: &Declarations) -> Result<Preds, AllocError>
+    ensures { IfOk result (λ preds. preds ≡ map (pred_by declared.now) (preds_of declared.now)) }
+{
+    let mut preds = Preds::new(declared.alloc());
+    for pred in declared.preds() {
+        preds.push(pred_decl(declared, pred)?)?;
     }
+    Ok(preds)
+}
+
+// The types, the constructors and the predicates.
+pub(crate) fn read_signature(declared: &Declarations) -> Result<Signature, AllocError>
+    ensures { IfOk result (λ signature. signature ≡ signature_of declared.now) }
+{
+    Ok(Signature {
+        sorts: sorts(declared)?,
+        cons: con_decls(declared)?,
+        preds: pred_decls(declared)?,
+    })
+}
+
+// Adds the name of a stage that an item says to be interactive.
+fn push_interactive(
+    declared: &Declarations,
+    item: &RawItem,
+    names: &mut Firsts,
+) -> Result<(), AllocError>
+    ensures { (name : List ℕ) → OnOk result (has_name names.new name ≡ (has_name names.old name || is_said declared.now (interactives_in item.now) name)) }
+{
+    match interactive_in(item) {
+        Some(span) => names.add(declared.said(span), span),
+        None => Ok(()),
+    }
+}
+
+// The names of the interactive stages.
+fn interactives(declared: &Declarations) -> Result<Firsts, AllocError>
+    ensures { IfOk result (AreInteractive declared.now) }
+{
+    let mut names = Firsts::new(declared.alloc());
+    for item in declared.items() {
+        push_interactive(declared, item, &mut names)?;
+    }
+    Ok(names)
+}
+
+// Adds the stage of an item.
+fn push_stage(
+    declared: &Declarations,
+    interactives: &Firsts,
+    item: &RawItem,
+    stages: &mut Stages,
+) -> Result<(), AllocError>
+    requires { AreInteractive declared.now interactives.now }
+    ensures { OnOk result (stages.new ≡ stages.old ++ map (stage_by declared.now) (stages_in item.now)) }
+{
+    match stage_in(item) {
+        Some(span) => stages.push(Stage {
+            name: name(declared, span)?,
+            interactive: interactives.has(declared.said(span)),
+        }),
+        None => Ok(()),
+    }
+}
+
+// The stages.
+pub(crate) fn read_stages(declared: &Declarations) -> Result<Stages, AllocError>
+    ensures { IfOk result (λ stages. stages ≡ map (stage_by declared.now) (stages_of declared.now)) }
+{
+    let interactives = interactives(declared)?;
+    let mut stages = Stages::new(declared.alloc());
+    for item in declared.items() {
+        push_stage(declared, &interactives, item, &mut stages)?;
+    }
+    Ok(stages)
 }

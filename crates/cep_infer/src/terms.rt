@@ -2,19 +2,18 @@
 ghost use Rattle.std.specs.Prelude.{◌≡◌, ◌++◌, ◌≤◌, ◌<◌, length, drop, IfOk, OnOk};
 ghost use Rattle.cep_term.specs.Tree.{atom_of, tree_of, trees_of};
 ghost use Rattle.cep_names.specs.Variables.{blanks_behind};
-ghost use Rattle.cep_infer.specs.Heads.{IsAtomBy, heads_of, heads_among, heads_from, count_of, blanks_after};
-ghost use Rattle.cep_infer.specs.Met.{names_in};
+ghost use Rattle.cep_types.specs.Heads.{IsAtomBy, heads_of, heads_among, heads_from, count_of, blanks_after};
+ghost use Rattle.cep_types.specs.Met.{names_in};
 
-use crate::declarations::Declarations;
-use crate::variables::{Variables, next_blank};
 use cep_names::Space;
 use cep_parse::{RawAtom, RawKind, RawNode};
 use cep_term::{Args, Atom, Term};
+use cep_types::{Declarations, Variables, next_blank};
 use std::alloc::AllocError;
 
 /// Where the nodes of an atom are read: the place of the next node, and how many blanks stand
 /// before it in its rule or clause.
-#[derive(Clone, Copy, Debug, Drop)]
+#[derive(Clone, Copy, Drop)]
 pub(crate) struct Cursor {
     pub at: usize,
     pub blanks: u64,
@@ -51,7 +50,7 @@ fn read_term(
     match node.kind {
         RawKind::App => {
             let args = read_args(declared, variables, nodes, cursor, node.args)?;
-            Ok(Term::App(number, Box::new(declared.alloc, args)?))
+            Ok(Term::App(number, Box::new(declared.alloc(), args)?))
         }
         RawKind::Var | RawKind::Blank => Ok(Term::Var(number)),
     }
@@ -77,7 +76,7 @@ fn read_args(
     }
     let term = read_term(declared, variables, nodes, cursor)?;
     let rest = read_args(declared, variables, nodes, cursor, count - 1)?;
-    Ok(Args::Cons(term, Box::new(declared.alloc, rest)?))
+    Ok(Args::Cons(term, Box::new(declared.alloc(), rest)?))
 }
 
 // The atom that is written, where so many blanks stand before it.

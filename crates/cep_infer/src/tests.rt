@@ -51,6 +51,7 @@ fn a_text_declares_its_parts(rt: HostRuntime) -> Result<(), Fail> {
     let stay = parts.rules.get(1);
     assert_eq!(rt; stay.vars.len(), 3);
     assert_eq!(rt; stay.vars.get(1).bytes(), b"_1".as_slice());
+    assert_eq!(rt; stay.kinds.len(), 3);
     assert_eq!(rt; *stay.kinds.get(2), 0);
     assert_eq!(rt; stay.premises.len(), 1);
     assert!(rt; stay.premises.get(0).kept);

@@ -1,17 +1,16 @@
 use Rattle.std.proofs.Common.{sym, subst}
 use Rattle.cep_names.specs.First.{IsFirstOrNone}
 use Rattle.cep_names.specs.Items.{Source}
-use Rattle.cep_infer.specs.Sites.{Mistyped}
+use Rattle.cep_types.specs.Sites.{Mistyped}
 use Rattle.cep_infer.specs.Places.{IsDraft}
 use Rattle.cep_infer.specs.Resolved.{IsWellNamed}
 use Rattle.cep_infer.proofs.Drafting.{some_trace}
-use Rattle.cep_infer.proofs.Mistaken.{mistyped_first}
 use Rattle.cep_infer.proofs.resolving.typed.Goals as goal
 
 pub returns-in-Some : goal.returns-in-Some
 returns-in-Some c =
     subst (IsFirstOrNone (Mistyped (record { text = c.args.text.now; file = c.args.file.now }))) c.in-Some.is
-    (mistyped_first (record { text = c.args.text.now; file = c.args.file.now }) c.in_ok-declared.declared c.in_ok-fault.field-0 c.in_ok-declared.ensures c.in_ok-fault.ensures)
+    (subst (λ (s : Source). IsFirstOrNone (Mistyped s) c.in_ok-fault.field-0) c.in_ok-declared.ensures c.in_ok-fault.ensures)
 
 pub unwrap-trace-requires : goal.unwrap-trace-requires
 unwrap-trace-requires c = some_trace c.in_ok-declared.declared (subst IsWellNamed (sym c.in_ok-declared.ensures) c.requires.sound) c.first_trace.result c.first_trace.ensures
@@ -22,6 +21,6 @@ draft_from-requires-clause-named c = subst IsWellNamed (sym c.in_ok-declared.ens
 pub returns : goal.returns
 returns c =
     let source : Source = record { text = c.args.text.now; file = c.args.file.now } in (
-      subst (IsFirstOrNone (Mistyped source)) c.in_default.is (mistyped_first source c.in_ok-declared.declared c.in_ok-fault.field-0 c.in_ok-declared.ensures c.in_ok-fault.ensures),
+      subst (IsFirstOrNone (Mistyped source)) c.in_default.is (subst (λ (s : Source). IsFirstOrNone (Mistyped s) c.in_ok-fault.field-0) c.in_ok-declared.ensures c.in_ok-fault.ensures),
       subst (λ (s : Source). IsDraft s c.in_ok-draft_from.field-0) c.in_ok-declared.ensures c.in_ok-draft_from.ensures,
     )

@@ -1,8 +1,0 @@
-use Rattle.cep_names.specs.Items.{clauses_in}
-use Rattle.cep_infer.proofs.Building.{clauses_more}
-use Rattle.cep_infer.proofs.declarations.Declarations.clauses.Goals as goal
-
-pub loop-item-preserved : goal.loop-item-preserved
-loop-item-preserved c =
-    clauses_more c.args.self.now (clauses_in c.args.self.now) c.as_slice-item-items.result.now c.loop-item.item-index c.item-item.result c.loop-item.clauses c.in_ok-push_clause.ensures.0 c.push_clause.new.clauses
-    c.loop-item-test.true c.item-item.is c.loop-item.invariant c.in_ok-push_clause.ensures.2 c.in_ok-push_clause.ensures.1

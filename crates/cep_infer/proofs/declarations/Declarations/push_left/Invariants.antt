@@ -1,7 +1,0 @@
-use Rattle.std.proofs.Common.{take}
-use Rattle.cep_infer.specs.Met.{names_in}
-use Rattle.cep_infer.specs.Built.{IsLeftBuilt}
-use Rattle.cep_infer.proofs.declarations.Declarations.push_left.Given as goal
-
-abbrev pub invariant-loop-elem : goal.invariant-loop-elem
-invariant-loop-elem l = IsLeftBuilt l.self (names_in l.variables.firsts) (take l.elem-index l.side) l.fn.blanks l.blanks l.fn.left l.left

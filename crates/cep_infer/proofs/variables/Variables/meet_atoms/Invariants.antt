@@ -1,6 +1,0 @@
-use Rattle.std.proofs.Common.{take}
-use Rattle.cep_infer.specs.Met.{AreMet}
-use Rattle.cep_infer.proofs.variables.Variables.meet_atoms.Given as goal
-
-abbrev pub invariant-loop-atom : goal.invariant-loop-atom
-invariant-loop-atom l = AreMet l.declared (take l.atom-index l.atoms) l.fn.self l.self

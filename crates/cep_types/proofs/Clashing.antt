@@ -1,0 +1,78 @@
+-- The first term of another type is found node by node, atom by atom.
+use Rattle.std.proofs.Common.{◌≡◌, ℕ, ◌+◌, ◌<◌, ◌≤◌, List, [], ◌∷◌, ◌++◌, Option, Some, None, length, drop, get_or, refl, ap, sym, subst, ◌∙◌, append-nil}
+use Rattle.std.specs.List.{flat_map}
+use Rattle.std.proofs.lemmas.List.{drop_more, drop_all}
+use Rattle.cep_parse.specs.declared.raw.Span.{Span}
+use Rattle.cep_parse.specs.declared.raw.RawKind.{RawKind}
+use Rattle.cep_parse.specs.declared.raw.RawKind.TheVariants as kind
+use Rattle.cep_parse.specs.declared.raw.RawNode.{RawNode}
+use Rattle.cep_parse.specs.declared.raw.RawAtom.{RawAtom}
+use Rattle.cep_names.specs.declared.fault.Fault.{Fault}
+use Rattle.cep_names.specs.Items.{Source, said}
+use Rattle.cep_names.specs.First.{first_of, first_in}
+use Rattle.cep_types.specs.declared.variables.Variables.{Variables}
+use Rattle.cep_types.specs.Sites.{Site, sites_from, sites_in, type_of}
+use Rattle.cep_types.specs.Clashes.{type_at, clash_if, clash_of, atom_clashes, scope_clashes}
+use Rattle.cep_types.specs.Met.{type_met, none_met, AreMet}
+use Rattle.cep_types.proofs.FirstFaults.{first_of_three}
+use Rattle.cep_types.proofs.FirstLoops.{first_in_append, first_in_parts}
+use Rattle.cep_types.proofs.Meeting.{no_sites, both_are_met}
+use Rattle.cep_types.proofs.FirstOccurrences.{types_met}
+
+pub first_none : (first : Option Fault) → first_of first None ≡ first
+first_none None = refl
+first_none (Some fault) = refl
+
+-- one node more
+pub clash_more : (source : Source) (f : Site → List Fault) (all : Option Fault) (nodes : List RawNode) (i : ℕ) (d : RawNode) (next later : List (List ℕ)) (wants : List ℕ) (old item new : Option Fault) → i < length nodes
+    → sites_from source next (get_or nodes i d ∷ drop (i + 1) nodes) ≡ record { node = get_or nodes i d; wants = wants } ∷ sites_from source later (drop (i + 1) nodes)
+    → all ≡ first_of old (first_in (flat_map f (sites_from source next (drop i nodes)))) → item ≡ first_in (f (record { node = get_or nodes i d; wants = wants })) → new ≡ first_of old item
+    → all ≡ first_of new (first_in (flat_map f (sites_from source later (drop (i + 1) nodes))))
+clash_more source f all nodes i d next later wants old item new h site was is_item is_new =
+    let rest = first_in (flat_map f (sites_from source later (drop (i + 1) nodes))) in
+    let sites : sites_from source next (drop i nodes) ≡ record { node = get_or nodes i d; wants = wants } ∷ sites_from source later (drop (i + 1) nodes) = ap (sites_from source next) (drop_more nodes i d h) ∙ site in
+    was ∙ ap (λ ss. first_of old (first_in (flat_map f ss))) sites
+    ∙ ap (first_of old) (first_in_append (f (record { node = get_or nodes i d; wants = wants })) (flat_map f (sites_from source later (drop (i + 1) nodes))))
+    ∙ first_of_three old (first_in (f (record { node = get_or nodes i d; wants = wants }))) rest
+    ∙ ap (λ o. first_of (first_of old o) rest) (sym is_item) ∙ ap (λ o. first_of o rest) (sym is_new)
+
+pub clash_over : (source : Source) (f : Site → List Fault) (all : Option Fault) (nodes : List RawNode) (i : ℕ) (next : List (List ℕ)) (old : Option Fault) → length nodes ≤ i
+    → all ≡ first_of old (first_in (flat_map f (sites_from source next (drop i nodes)))) → old ≡ all
+clash_over source f all nodes i next old h was =
+    sym (was ∙ ap (λ ns. first_of old (first_in (flat_map f (sites_from source next ns)))) (drop_all i nodes h) ∙ ap (λ ss. first_of old (first_in (flat_map f ss))) (no_sites source next) ∙ first_none old)
+
+-- the types may be told otherwise
+module _ (source : Source) (f g : List ℕ → Option (List ℕ)) (same : (name : List ℕ) → f name ≡ g name) where
+  type_same : (kind : RawKind) (at : Span) → type_at source f kind at ≡ type_at source g kind at
+  type_same kind.App at = refl
+  type_same kind.Var at = same (said source at)
+  type_same kind.Blank at = refl
+
+  sites_same : (sites : List Site) → flat_map (clash_of source f) sites ≡ flat_map (clash_of source g) sites
+  sites_same [] = refl
+  sites_same (site ∷ sites) =
+      ap (λ o. clash_if o site.wants site.node.at.from ++ flat_map (clash_of source f) sites) (type_same site.node.kind site.node.at)
+      ∙ ap (λ fs. clash_of source g site ++ fs) (sites_same sites)
+
+  pub clashes_same : (atoms : List RawAtom) → flat_map (atom_clashes source f) atoms ≡ flat_map (atom_clashes source g) atoms
+  clashes_same [] = refl
+  clashes_same (atom ∷ atoms) = ap (λ fs. fs ++ flat_map (atom_clashes source f) atoms) (sites_same (sites_in source atom)) ∙ ap (λ fs. atom_clashes source g atom ++ fs) (clashes_same atoms)
+
+-- what is found of a scope with the types that were met
+pub scope_found : (source : Source) (atoms : List RawAtom) (variables : Variables) → AreMet source atoms none_met variables → flat_map (atom_clashes source (type_met source variables.firsts)) atoms ≡ scope_clashes source atoms
+scope_found source atoms variables met = clashes_same source (type_met source variables.firsts) (type_of source atoms) (types_met source atoms variables met) atoms
+
+-- the same, of one part and of two
+pub found_from : (source : Source) (atoms : List RawAtom) (start variables : Variables) → start ≡ none_met → AreMet source atoms start variables → flat_map (atom_clashes source (type_met source variables.firsts)) atoms ≡ scope_clashes source atoms
+found_from source atoms start variables is met = scope_found source atoms variables (subst (λ (v : Variables). AreMet source atoms v variables) is met)
+
+pub one_found : (source : Source) (atom : RawAtom) (start variables : Variables) → start ≡ none_met → AreMet source (atom ∷ []) start variables → atom_clashes source (type_met source variables.firsts) atom ≡ scope_clashes source (atom ∷ [])
+one_found source atom start variables is met = sym (append-nil (atom_clashes source (type_met source variables.firsts) atom)) ∙ found_from source (atom ∷ []) start variables is met
+
+pub two_found : (source : Source) (one two : List RawAtom) (start middle variables : Variables) (first other both : Option Fault) → start ≡ none_met → AreMet source one start middle → AreMet source two middle variables
+    → first ≡ first_in (flat_map (atom_clashes source (type_met source variables.firsts)) one) → other ≡ first_in (flat_map (atom_clashes source (type_met source variables.firsts)) two) → both ≡ first_of first other
+    → both ≡ first_in (scope_clashes source (one ++ two))
+two_found source one two start middle variables first other both is before behind first_is other_is both_is =
+    let clashes = atom_clashes source (type_met source variables.firsts) in
+    both_is ∙ ap (λ o. first_of o other) first_is ∙ ap (first_of (first_in (flat_map clashes one))) other_is
+    ∙ sym (first_in_parts clashes one two) ∙ ap first_in (found_from source (one ++ two) start variables is (both_are_met source one two start middle variables before behind))

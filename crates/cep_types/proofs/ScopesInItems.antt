@@ -1,0 +1,170 @@
+-- The atoms that share their variables, and the items in which they stand.
+use Rattle.std.proofs.Common.{◌≡◌, ℕ, ◌⊎◌, inl, inr, ⊎_elim, Bool, true, false, List, [], ◌∷◌, ◌++◌, map, Option, Some, None, refl, ap, sym, ◌∙◌, subst}
+use Rattle.std.specs.List.{flat_map}
+use Rattle.cep_parse.specs.declared.raw.RawAtom.{RawAtom}
+use Rattle.cep_parse.specs.declared.raw.RawRule.{RawRule}
+use Rattle.cep_parse.specs.declared.raw.RawItem.{RawItem}
+use Rattle.cep_parse.specs.declared.raw.RawItem.TheVariants as item
+use Rattle.cep_names.specs.declared.space.Role.{Role}
+use Rattle.cep_names.specs.declared.space.Role.TheVariants as role
+use Rattle.cep_names.specs.Items.{Source, ClauseItem, RuleItem, bare, clause_or_none, clauses_in, clauses_of, is_labelled, rules_in, rules_from, rules_of, stages_behind}
+use Rattle.cep_names.specs.Filling.{item_rules}
+use Rattle.cep_names.specs.Misnamed.{IsOfState}
+use Rattle.cep_names.specs.Misnamed.IsOfState.{listed, start}
+use Rattle.cep_names.specs.Uses.{Placed, placed, own_atoms, item_atoms, placed_of, rule_atoms, clause_atoms, atoms_of, start_listed}
+use Rattle.cep_types.specs.Sites.{IsScope, clause_scope}
+use Rattle.cep_types.specs.Sites.IsScope.{rule, clause, state}
+use Rattle.cep_types.specs.Clashes.{item_scopes}
+use Rattle.cep_types.proofs.Within.{In, here, there, in_nil, in_one, in_left, in_right, in_parts, through, via, image, mapped, to_contains, from_contains}
+
+-- the atoms of a rule
+abbrev raw_scope : RawRule → List RawAtom
+raw_scope raw = atoms_of raw.left ++ atoms_of raw.right
+
+-- an atom by itself
+abbrev alone : RawAtom → List RawAtom
+alone atom = atom ∷ []
+
+-- ---- what an item has is a scope
+
+-- a rule, with the number of its stage
+record Numbered (stages : ℕ) (items : List RawItem) (raw : RawRule) : Type 0 where
+  home : Option ℕ
+  member : In (rules_from stages items) (record { home = home; raw = raw })
+
+first_numbered : (stages : ℕ) (next : RawItem) (items : List RawItem) (raw : RawRule) → In (item_rules next) raw → Numbered stages (next ∷ items) raw
+first_numbered stages (item.Outer other) items raw h =
+    record { home = None; member = in_left (record { home = None; raw = other } ∷ []) _ (record { home = None; raw = raw }) (subst (λ (r : RawRule). In {X = RuleItem} (record { home = None; raw = other } ∷ []) (record { home = None; raw = r })) (sym (in_one other raw h)) (here _ [])) }
+first_numbered stages (item.Stage name raws) items raw h =
+    record { home = Some stages; member = in_left (map (λ raw. record { home = Some stages; raw = raw }) raws) _ (record { home = Some stages; raw = raw }) (mapped (λ raw. record { home = Some stages; raw = raw }) raws raw h) }
+first_numbered stages _ items raw h = absurd (in_nil raw h)
+
+numbered : (stages : ℕ) (items : List RawItem) (next : RawItem) (raw : RawRule) → In items next → In (item_rules next) raw → Numbered stages items raw
+numbered stages [] next raw m h = absurd (in_nil next m)
+numbered stages (next ∷ items) other raw (here a b) h = first_numbered stages next items raw h
+numbered stages (next ∷ items) other raw (there a b c m) h =
+    let rest = numbered (stages_behind stages next) items other raw m h in
+    record { home = rest.home; member = in_right (rules_in stages next) _ (record { home = rest.home; raw = raw }) rest.member }
+
+-- of a rule, a clause and an atom of a state
+rule_is : (source : Source) (next : RawItem) (raw : RawRule) (atoms : List RawAtom) → In source.file next → In (item_rules next) raw → atoms ≡ raw_scope raw → IsScope source atoms
+rule_is source next raw atoms m h is =
+    let n = numbered 0 source.file next raw m h in
+    rule (record { home = n.home; raw = raw }) (to_contains (rules_of source) (record { home = n.home; raw = raw }) n.member) is
+
+state_is : (source : Source) (next : RawItem) (p : Placed) (atoms : List RawAtom) → In source.file next → In (own_atoms next) p → IsOfState p.role → atoms ≡ p.atom ∷ [] → IsScope source atoms
+state_is source next p atoms m h of_state is =
+    state p (to_contains (placed_of source) p (via (item_atoms source) source.file next p m (in_left (own_atoms next) _ p h))) of_state is
+
+pub scope_is : (source : Source) (next : RawItem) (atoms : List RawAtom) → In source.file next → In (item_scopes next) atoms → IsScope source atoms
+scope_is source (item.Outer raw) atoms m h = rule_is source (item.Outer raw) raw atoms m (here raw []) (in_one (raw_scope raw) atoms h)
+scope_is source (item.Stage name raws) atoms m h = let i = image raw_scope raws atoms h in rule_is source (item.Stage name raws) i.from atoms m i.member i.is
+scope_is source (item.Clause label head goals) atoms m h =
+    clause (record { head = head; goals = goals })
+    (to_contains (clauses_of source) (record { head = head; goals = goals }) (via (clauses_in source) source.file (item.Clause label head goals) (record { head = head; goals = goals }) m (here _ [])))
+    (in_one (head ∷ goals) atoms h)
+scope_is source (item.Context name listed_) atoms m h =
+    let i = image alone listed_ atoms h in
+    state_is source (item.Context name listed_) (placed role.Listed i.from) atoms m (mapped (placed role.Listed) listed_ i.from i.member) listed i.is
+scope_is source (item.Trace at limit stage start_) atoms m h =
+    let i = image alone (start_listed start_) atoms h in
+    state_is source (item.Trace at limit stage start_) (placed role.Start i.from) atoms m (mapped (placed role.Start) (start_listed start_) i.from i.member) start i.is
+scope_is source _ atoms m h = absurd (in_nil atoms h)
+
+-- ---- and a scope is what an item has
+
+-- The atoms are a scope of an item, or one without terms.
+pub data IsFound (source : Source) (atoms : List RawAtom) : Type 0 where
+  found : (next : RawItem) → In source.file next → In (item_scopes next) atoms → IsFound source atoms
+  empty : (head : RawAtom) → head.nodes ≡ [] → atoms ≡ head ∷ [] → IsFound source atoms
+
+-- the item of a rule
+record Housed (items : List RawItem) (raw : RawRule) : Type 0 where
+  next : RawItem
+  member : In items next
+  inside : In (item_scopes next) (raw_scope raw)
+
+first_housed : (stages : ℕ) (next : RawItem) (items : List RawItem) (one : RuleItem) → In (rules_in stages next) one → Housed (next ∷ items) one.raw
+first_housed stages (item.Outer raw) items one h =
+    let same : raw ≡ one.raw = ap (λ (r : RuleItem). r.raw) (sym (in_one _ one h)) in
+    record { next = item.Outer raw; member = here _ items; inside = subst (λ r. In (raw_scope raw ∷ []) (raw_scope r)) same (here (raw_scope raw) []) }
+first_housed stages (item.Stage name raws) items one h =
+    let i = image (λ raw. record { home = Some stages; raw = raw }) raws one h in
+    let same : i.from ≡ one.raw = ap (λ (r : RuleItem). r.raw) (sym i.is) in
+    record { next = item.Stage name raws; member = here _ items; inside = subst (λ r. In (map raw_scope raws) (raw_scope r)) same (mapped raw_scope raws i.from i.member) }
+first_housed stages _ items one h = absurd (in_nil one h)
+
+housed : (stages : ℕ) (items : List RawItem) (one : RuleItem) → In (rules_from stages items) one → Housed items one.raw
+housed stages [] one h = absurd (in_nil one h)
+housed stages (next ∷ items) one h =
+    ⊎_elim (first_housed stages next items one)
+    (λ k. let rest = housed (stages_behind stages next) items one k in record { next = rest.next; member = there next rest.next items rest.member; inside = rest.inside })
+    (in_parts (rules_in stages next) (rules_from (stages_behind stages next) items) one h)
+
+-- a clause stands as one, or is a label and a name
+labelled : (source : Source) (right : RawAtom) (is : Bool) (one : ClauseItem) (atoms : List RawAtom) → right.nodes ≡ [] → In (clause_or_none is (record { head = right; goals = [] })) one → atoms ≡ clause_scope one → IsFound source atoms
+labelled source right true one atoms none h is = empty right none (is ∙ ap clause_scope (in_one _ one h))
+labelled source right false one atoms none h is = absurd (in_nil one h)
+
+clause_found : (source : Source) (next : RawItem) (one : ClauseItem) (atoms : List RawAtom) → In source.file next → In (clauses_in source next) one → atoms ≡ clause_scope one → IsFound source atoms
+clause_found source (item.Clause label head goals) one atoms m h is =
+    found (item.Clause label head goals) m (subst (In ((head ∷ goals) ∷ [])) (sym (is ∙ ap clause_scope (in_one _ one h))) (here (head ∷ goals) []))
+clause_found source (item.Colon left args right) one atoms m h is = labelled source (bare right) (is_labelled source args right) one atoms refl h is
+clause_found source _ one atoms m h is = absurd (in_nil one h)
+
+-- atoms of states have one of two roles
+state_role : (r : Role) → IsOfState r → (r ≡ role.Listed) ⊎ (r ≡ role.Start)
+state_role r listed = inl refl
+state_role r start = inr refl
+
+no_state : (r other : Role) → IsOfState r → r ≡ other → (other ≡ role.Listed → ⊥) → (other ≡ role.Start → ⊥) → ⊥
+no_state r other of_state is one two = ⊎_elim (λ e. one (sym is ∙ e)) (λ e. two (sym is ∙ e)) (state_role r of_state)
+
+no_needed : (p : Placed) (raws : List RawAtom) → IsOfState p.role → In (map (placed role.Needed) raws) p → ⊥
+no_needed p raws of_state h =
+    let i = image (placed role.Needed) raws p h in
+    no_state p.role role.Needed of_state (ap (λ (q : Placed). q.role) i.is) (λ (e : role.Needed ≡ role.Listed). cc) (λ (e : role.Needed ≡ role.Start). cc)
+
+no_made : (p : Placed) (raws : List RawAtom) → IsOfState p.role → In (map (placed role.Made) raws) p → ⊥
+no_made p raws of_state h =
+    let i = image (placed role.Made) raws p h in
+    no_state p.role role.Made of_state (ap (λ (q : Placed). q.role) i.is) (λ (e : role.Made ≡ role.Listed). cc) (λ (e : role.Made ≡ role.Start). cc)
+
+no_clause : (p : Placed) (raws : List RawAtom) → IsOfState p.role → In (map (placed role.Clause) raws) p → ⊥
+no_clause p raws of_state h =
+    let i = image (placed role.Clause) raws p h in
+    no_state p.role role.Clause of_state (ap (λ (q : Placed). q.role) i.is) (λ (e : role.Clause ≡ role.Listed). cc) (λ (e : role.Clause ≡ role.Start). cc)
+
+no_rule : (p : Placed) (raw : RawRule) → IsOfState p.role → In (rule_atoms raw) p → ⊥
+no_rule p raw of_state h =
+    ⊎_elim (no_needed p (atoms_of raw.left) of_state) (no_made p (atoms_of raw.right) of_state)
+    (in_parts (map (placed role.Needed) (atoms_of raw.left)) (map (placed role.Made) (atoms_of raw.right)) p h)
+
+listed_there : (r : Role) (raws : List RawAtom) (p : Placed) (atoms : List RawAtom) → In (map (placed r) raws) p → atoms ≡ p.atom ∷ [] → In (map alone raws) atoms
+listed_there r raws p atoms h is =
+    let i = image (placed r) raws p h in
+    subst (In (map alone raws)) (sym (is ∙ ap (λ (q : Placed). alone q.atom) i.is)) (mapped alone raws i.from i.member)
+
+own_found : (source : Source) (next : RawItem) (p : Placed) (atoms : List RawAtom) → In source.file next → In (own_atoms next) p → IsOfState p.role → atoms ≡ p.atom ∷ [] → IsFound source atoms
+own_found source (item.Outer raw) p atoms m h of_state is = absurd (no_rule p raw of_state h)
+own_found source (item.Stage name raws) p atoms m h of_state is = let t = through rule_atoms raws p h in absurd (no_rule p t.from of_state t.given)
+own_found source (item.Context name listed_) p atoms m h of_state is = found (item.Context name listed_) m (listed_there role.Listed listed_ p atoms h is)
+own_found source (item.Trace at limit stage start_) p atoms m h of_state is = found (item.Trace at limit stage start_) m (listed_there role.Start (start_listed start_) p atoms h is)
+own_found source _ p atoms m h of_state is = absurd (in_nil p h)
+
+state_found : (source : Source) (next : RawItem) (p : Placed) (atoms : List RawAtom) → In source.file next → In (item_atoms source next) p → IsOfState p.role → atoms ≡ p.atom ∷ [] → IsFound source atoms
+state_found source next p atoms m h of_state is =
+    ⊎_elim (λ own. own_found source next p atoms m own of_state is)
+    (λ k. let t = through clause_atoms (clauses_in source next) p k in absurd (no_clause p (t.from.head ∷ t.from.goals) of_state t.given))
+    (in_parts (own_atoms next) (flat_map clause_atoms (clauses_in source next)) p h)
+
+pub scope_found_in : (source : Source) (atoms : List RawAtom) → IsScope source atoms → IsFound source atoms
+scope_found_in source atoms (rule one within is) =
+    let h = housed 0 source.file one (from_contains (rules_of source) one within) in
+    found h.next h.member (subst (In (item_scopes h.next)) (sym is) h.inside)
+scope_found_in source atoms (clause one within is) =
+    let t = through (clauses_in source) source.file one (from_contains (clauses_of source) one within) in
+    clause_found source t.from one atoms t.member t.given is
+scope_found_in source atoms (state p within of_state is) =
+    let t = through (item_atoms source) source.file p (from_contains (placed_of source) p within) in
+    state_found source t.from p atoms t.member t.given of_state is

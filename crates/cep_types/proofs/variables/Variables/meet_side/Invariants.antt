@@ -1,0 +1,7 @@
+use Rattle.std.proofs.Common.{take}
+use Rattle.cep_names.specs.Uses.{atoms_of}
+use Rattle.cep_types.specs.Met.{AreMet}
+use Rattle.cep_types.proofs.variables.Variables.meet_side.Given as goal
+
+abbrev pub invariant-loop-elem : goal.invariant-loop-elem
+invariant-loop-elem l = AreMet l.declared (atoms_of (take l.elem-index l.side)) l.fn.self l.self

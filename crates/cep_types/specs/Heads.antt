@@ -1,0 +1,76 @@
+-- Which terms and atoms are written: their trees, told by their nodes in prefix order.
+use Rattle.std.specs.Prelude.{◌≡◌, ℕ, suc, ◌+◌, List, [], ◌∷◌, ◌++◌, map, unwrap_or, codes, decimal}
+use Rattle.std.specs.Str.{bytes_eq}
+use Rattle.std.specs.List.{position}
+use Rattle.cep_parse.specs.declared.raw.Span.{Span}
+use Rattle.cep_parse.specs.declared.raw.RawKind.{RawKind}
+use Rattle.cep_parse.specs.declared.raw.RawKind.TheVariants as kind
+use Rattle.cep_parse.specs.declared.raw.RawNode.{RawNode}
+use Rattle.cep_parse.specs.declared.raw.RawAtom.{RawAtom}
+use Rattle.cep_term.specs.Tree.{Tree, Trees, AtomTree, variable, node, none, more}
+use Rattle.cep_names.specs.declared.space.Space.{Space}
+use Rattle.cep_names.specs.declared.space.Space.TheVariants as space
+use Rattle.cep_names.specs.Items.{Source, said}
+use Rattle.cep_names.specs.Spaces.{names_in}
+use Rattle.cep_names.specs.Variables.{blanks_behind}
+
+-- what stands at a node of a term: a variable, or a constructor with so many arguments
+pub data Head : Type 0 where
+  var : ℕ → Head
+  con : ℕ → ℕ → Head
+
+-- how many arguments there are
+abbrev pub count_of : Trees → ℕ
+count_of none = 0
+count_of (more t rest) = suc (count_of rest)
+
+-- the nodes of a term, and of arguments, in prefix order: each term's own, and then those of its arguments
+abbrev mutual
+  pub heads_of : Tree → List Head
+  heads_of (variable v) = var v ∷ []
+  heads_of (node c args) = con c (count_of args) ∷ heads_among args
+
+  pub heads_among : Trees → List Head
+  heads_among none = []
+  heads_among (more t rest) = heads_of t ++ heads_among rest
+
+-- the number of a name in its space, from 0
+abbrev pub number_of : Source → Space → List ℕ → ℕ
+number_of source space name = unwrap_or (position (λ other. bytes_eq other.name name) (names_in source space)) 0
+
+-- the numbers of types by their names
+abbrev pub sorts_said : Source → List Span → List ℕ
+sorts_said source spans = map (λ span. number_of source space.Sorts (said source span)) spans
+
+-- the number of a variable, from 0
+abbrev pub variable_of : List (List ℕ) → List ℕ → ℕ
+variable_of vars name = unwrap_or (position (λ other. bytes_eq other name) vars) 0
+
+-- what is written at a node, where so many blanks stand before it
+abbrev pub head_at : Source → List (List ℕ) → ℕ → RawKind → Span → ℕ → Head
+head_at source vars blanks kind.App span args = con (number_of source space.Constructors (said source span)) args
+head_at source vars blanks kind.Var span args = var (variable_of vars (said source span))
+head_at source vars blanks kind.Blank span args = var (variable_of vars (codes "_" ++ decimal (blanks + 1)))
+
+abbrev pub heads_from : Source → List (List ℕ) → ℕ → List RawNode → List Head
+heads_from source vars blanks [] = []
+heads_from source vars blanks (first ∷ nodes) =
+    head_at source vars blanks first.kind first.at first.args ∷ heads_from source vars (blanks_behind blanks first.kind) nodes
+
+-- how many blanks there are behind nodes
+abbrev pub blanks_after : ℕ → List RawNode → ℕ
+blanks_after blanks [] = blanks
+blanks_after blanks (first ∷ nodes) = blanks_after (blanks_behind blanks first.kind) nodes
+
+-- The atom is the one that is written, where the variables are these and so many blanks stand before it.
+pub record IsAtomBy (source : Source) (vars : List (List ℕ)) (blanks : ℕ) (raw : RawAtom) (atom : AtomTree) : Type 0 where
+  pub pred : atom.pred ≡ number_of source space.Predicates (said source raw.name)
+  pub count : count_of atom.args ≡ raw.args
+  pub heads : heads_among atom.args ≡ heads_from source vars blanks raw.nodes
+
+-- The atoms are those that are written, one after another.
+abbrev pub AreAtomsBy : Source → List (List ℕ) → ℕ → List RawAtom → List AtomTree → Type 0
+AreAtomsBy source vars blanks [] [] = Unit {0}
+AreAtomsBy source vars blanks [] (atom ∷ atoms) = ⊥
+AreAtomsBy source vars blanks (raw ∷ raws) [] = ⊥
+AreAtomsBy source vars blanks (raw ∷ raws) (atom ∷ atoms) = IsAtomBy source vars blanks raw atom × AreAtomsBy source vars (blanks_after blanks raw.nodes) raws atoms

@@ -1,0 +1,158 @@
+// The variables of atoms that share them: those of a rule, of a clause, or of an atom of a state.
+ghost use Rattle.std.specs.Prelude.{◌≡◌, ◌∷◌, ◌++◌, [], map, IfOk, OnOk, ◌+◌, codes, decimal};
+ghost use Rattle.cep_names.specs.Items.{said};
+ghost use Rattle.cep_names.specs.Uses.{atoms_in, atoms_of};
+ghost use Rattle.cep_types.specs.Heads.{variable_of, head_at};
+ghost use Rattle.cep_types.specs.Met.{none_met, met_site, AreMet, names_in, kinds_met, head_by};
+
+use crate::declarations::Declarations;
+use crate::firsts::Firsts;
+use cep_base::Text;
+use cep_names::Space;
+use cep_parse::{RawAtom, RawElem, RawKind, RawNode, Span};
+use cep_rule::Kinds;
+use std::alloc::{AllocError, Global};
+
+/// The variables that were met so far, each with the type that is wanted where it occurs first,
+/// and the number of blanks. Each blank is a variable of its own.
+#[derive(Drop)]
+pub struct Variables {
+    pub firsts: Firsts,
+    pub blanks: u64,
+}
+
+/// The name of a blank, by its number from 1.
+pub fn blank_name(alloc: Global, number: u64) -> Result<Text, AllocError>
+    ensures { IfOk result (λ name. name ≡ codes "_" ++ decimal number) }
+{
+    let mut name = Text::new(alloc);
+    name.append(b"_")?;
+    name.number(number)?;
+    Ok(name)
+}
+
+/// The number of the next blank, where so many were met.
+pub fn next_blank(blanks: u64) -> Result<u64, AllocError>
+    ensures { IfOk result (λ number. number ≡ blanks + 1) }
+{
+    // No memory holds so many nodes that the count ends.
+    blanks.checked_add(1).ok_or(AllocError)
+}
+
+impl Variables {
+    /// None were met. It takes no memory.
+    pub fn new(alloc: Global) -> Variables
+        ensures { result ≡ none_met }
+    {
+        Variables {
+            firsts: Firsts::new(alloc),
+            blanks: 0,
+        }
+    }
+
+    // Meets a node of which this type is wanted.
+    fn meet_node(
+        &mut self,
+        declared: &Declarations,
+        node: &RawNode,
+        wants: Span,
+    ) -> Result<(), AllocError>
+        ensures { OnOk result (self.new ≡ met_site declared.now self.old node.now.kind node.now.at wants) }
+    {
+        match node.kind {
+            RawKind::App => Ok(()),
+            RawKind::Var => self.firsts.add(declared.said(node.at), wants),
+            RawKind::Blank => {
+                let number = next_blank(self.blanks)?;
+                let name = blank_name(declared.alloc(), number)?;
+                self.blanks = number;
+                self.firsts.add(name.bytes(), wants)
+            }
+        }
+    }
+
+    /// Meets the nodes of an atom.
+    pub fn meet_atom(&mut self, declared: &Declarations, atom: &RawAtom) -> Result<(), AllocError>
+        ensures { OnOk result (AreMet declared.now (atom.now ∷ []) self.old self.new) }
+    {
+        let mut pending = declared.pending(atom.name)?;
+        for node in atom.nodes.as_slice() {
+            let wants = declared.site(&mut pending, node)?;
+            self.meet_node(declared, node, wants)?;
+        }
+        Ok(())
+    }
+
+    /// Meets the nodes of atoms.
+    pub fn meet_atoms(
+        &mut self,
+        declared: &Declarations,
+        atoms: &[RawAtom],
+    ) -> Result<(), AllocError>
+        ensures { OnOk result (AreMet declared.now atoms.now self.old self.new) }
+    {
+        for atom in atoms {
+            self.meet_atom(declared, atom)?;
+        }
+        Ok(())
+    }
+
+    fn meet_elem(&mut self, declared: &Declarations, elem: &RawElem) -> Result<(), AllocError>
+        ensures { OnOk result (AreMet declared.now (atoms_in elem.now) self.old self.new) }
+    {
+        match elem {
+            RawElem::Atom { atom, .. } => self.meet_atom(declared, atom),
+            RawElem::Qui(_) | RawElem::Stage(_) => Ok(()),
+        }
+    }
+
+    /// Meets the nodes of a side.
+    pub fn meet_side(&mut self, declared: &Declarations, side: &[RawElem]) -> Result<(), AllocError>
+        ensures { OnOk result (AreMet declared.now (atoms_of side.now) self.old self.new) }
+    {
+        for elem in side {
+            self.meet_elem(declared, elem)?;
+        }
+        Ok(())
+    }
+
+    // The number of a variable, from 0.
+    fn number(&self, name: &[u8]) -> Result<u32, AllocError>
+        ensures { IfOk result (λ number. number ≡ variable_of (names_in self.now.firsts) name.now) }
+    {
+        let number = self.firsts.number(name).unwrap_or(0);
+        // No memory holds so many names that a number does not fit.
+        match u32::try_from(number) {
+            Ok(number) => Ok(number),
+            Err(_) => Err(AllocError),
+        }
+    }
+
+    /// The number of what stands at a node, a constructor or a variable, where so many blanks stand
+    /// before it.
+    pub fn head(
+        &self,
+        declared: &Declarations,
+        blanks: u64,
+        node: &RawNode,
+    ) -> Result<u32, AllocError>
+        ensures { IfOk result (λ number. head_by node.now.kind number node.now.args ≡ head_at declared.now (names_in self.now.firsts) blanks node.now.kind node.now.at node.now.args) }
+    {
+        match node.kind {
+            RawKind::App => declared.number(Space::Constructors, node.at),
+            RawKind::Var => self.number(declared.said(node.at)),
+            RawKind::Blank => {
+                let name = blank_name(declared.alloc(), next_blank(blanks)?)?;
+                self.number(name.bytes())
+            }
+        }
+    }
+
+    /// The types of the variables, by their numbers.
+    pub fn kinds(&self, declared: &Declarations) -> Result<Kinds, AllocError>
+        ensures { IfOk result (λ kinds. kinds ≡ kinds_met declared.now self.now.firsts) }
+    {
+        let types = self.firsts.types(declared.alloc())?;
+        declared.kinds(&types)
+    }
+}
