@@ -10,3 +10,4 @@ pub mod Placing
 pub mod Unbound
 pub mod GroundStates
 pub mod Drafting
+pub mod Reordered

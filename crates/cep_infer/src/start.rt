@@ -1,8 +1,9 @@
 // The start state of a text.
-ghost use Rattle.std.specs.Prelude.{◌≡◌, [], Contains, IfOk, OnOk};
+ghost use Rattle.std.specs.Prelude.{◌≡◌, [], map, Contains, IfOk, OnOk};
+ghost use Rattle.std.specs.List.Sorted.{IsPermutation};
 ghost use Rattle.cep_parse.specs.declared.raw.RawStart.TheVariants as start;
 ghost use Rattle.cep_term.specs.Multiset.{gathered};
-ghost use Rattle.cep_term.specs.Tree.{IsGroundAtom};
+ghost use Rattle.cep_term.specs.Tree.{IsGroundAtom, atom_of};
 ghost use Rattle.std.specs.List.{AllByRecursion};
 ghost use Rattle.cep_names.specs.declared.space.Role.TheVariants as role;
 ghost use Rattle.cep_names.specs.Items.{traces_of};
@@ -20,7 +21,8 @@ use crate::listing::TraceRef;
 use cep_names::Space;
 use cep_parse::{RawAtom, RawStart};
 use cep_rule::AtomList;
-use cep_term::Bag;
+use cep_term::laws::{atoms_are_gathered, counts_are_set, counts_decide, order_is_total};
+use cep_term::{Atom, Bag, order};
 use cep_types::{Declarations, Variables};
 use std::alloc::{AllocError, Global};
 
@@ -98,16 +100,50 @@ pub(crate) fn read_start(declared: &Declarations, trace: &TraceRef) -> Result<Ba
     gather(declared.alloc(), &atoms)
 }
 
-// The multiset of ground atoms.
+// The multiset of ground atoms. The least is added first, so that each comes behind those that are
+// there.
 fn gather(alloc: Global, atoms: &AtomList) -> Result<Bag, AllocError>
     requires { AllByRecursion IsGroundAtom atoms.now }
     ensures { IfOk result (λ bag. bag ≡ gathered atoms.now) }
+{
+    order_is_total();
+    counts_are_set();
+    counts_decide();
+    atoms_are_gathered();
+    let falling = in_falling_order(alloc, atoms)?;
+    add_all(alloc, &falling)
+}
+
+// The atoms, the greatest first.
+fn in_falling_order<'a>(alloc: Global, atoms: &'a AtomList) -> Result<Vec<&'a Atom>, AllocError>
+    ensures { IfOk result (λ falling. IsPermutation atoms.now (map (λ atom. atom_of atom.now) falling.items)) }
+{
+    let mut falling = each_of(alloc, atoms)?;
+    falling.sort_by(|one, other| order(other, one))?;
+    Ok(falling)
+}
+
+// All atoms, as they stand.
+fn each_of<'a>(alloc: Global, atoms: &'a AtomList) -> Result<Vec<&'a Atom>, AllocError>
+    ensures { IfOk result (λ each. map (λ atom. atom_of atom.now) each.items ≡ atoms.now) }
+{
+    let mut each = Vec::new(alloc);
+    for i in 0..atoms.len() {
+        each.push(atoms.get(i))?;
+    }
+    Ok(each)
+}
+
+// The multiset of ground atoms, from the last to the first.
+fn add_all(alloc: Global, atoms: &[&Atom]) -> Result<Bag, AllocError>
+    requires { AllByRecursion IsGroundAtom (map (λ atom. atom_of atom.now) atoms.now) }
+    ensures { IfOk result (λ bag. bag ≡ gathered (map (λ atom. atom_of atom.now) atoms.now)) }
 {
     let mut bag = Bag::new(alloc);
     let mut left = atoms.len();
     while left > 0 {
         left -= 1;
-        let atom = atoms.get(left);
+        let atom = atoms[left];
         if bag.count(atom) == u32::MAX || bag.copies() == u64::MAX {
             // No memory holds so many atoms.
             return Err(AllocError);

@@ -1,20 +1,20 @@
-use Rattle.std.proofs.Common.{◌≡◌, ℕ, ◌+◌, ◌-◌, ◌<◌, List, Some, length, drop, arith, ap, sym, ◌∙◌}
-use Rattle.std.specs.List.{slice_get}
-use Rattle.std.proofs.lemmas.List.{drop_more}
-use Rattle.std.proofs.lemmas.Option.{get_or_from_slice_get}
-use Rattle.cep_term.specs.Tree.{AtomTree, atom_of}
-use Rattle.cep_term.specs.Multiset.{Multiset, gathered, with_one}
+use Rattle.std.proofs.Common.{map, subst, sym, ◌∙◌}
+use Rattle.std.specs.List.Sorted.{IsPermutation}
+use Rattle.std.proofs.lemmas.Result.{IfOk-weaker}
+use Rattle.cep_term.specs.Tree.{IsGroundAtom, atom_of}
+use Rattle.cep_infer.proofs.Reordered.{all_reordered, same_gathered}
 use Rattle.cep_infer.proofs.start.gather.Goals as goal
 
-gathered_more : (atoms : List AtomTree) (k : ℕ) (a : AtomTree) (old new : Multiset) → k < length atoms → slice_get atoms k ≡ Some a → old ≡ gathered (drop (k + 1) atoms) → new ≡ with_one old a → new ≡ gathered (drop k atoms)
-gathered_more atoms k a old new h at was is =
-    is ∙ ap (λ bag. with_one bag a) was ∙ ap (with_one (gathered (drop (k + 1) atoms))) (sym (get_or_from_slice_get atoms k a a at)) ∙ ap gathered (sym (drop_more atoms k a h))
+pub add_all-requires : goal.add_all-requires
+add_all-requires c =
+    let trees = map (λ atom. atom_of atom.now) c.deref.result.now in
+    all_reordered IsGroundAtom c.args.atoms.now trees (subst (λ items. IsPermutation c.args.atoms.now (map (λ atom. atom_of atom.now) items)) (sym c.deref.ensures.value) c.in_ok-falling.ensures) c.requires
 
-pub loop-left-preserved : goal.loop-left-preserved
-loop-left-preserved c =
-    let same : c.loop-left.left ≡ c.loop-left.left - 1 + 1 = omega arith in
-    record {
-      within = omega arith;
-      gathered = gathered_more c.args.atoms.now (c.loop-left.left - 1) (atom_of c.get-atom.result.now) c.loop-left.bag c.add.new.self (omega arith) c.get-atom.ensures
-          (c.loop-left.invariant.gathered ∙ ap (λ n. gathered (drop n c.args.atoms.now)) same) c.in_ok-add.ensures.ok;
-    }
+pub returns : goal.returns
+returns c =
+    let trees = map (λ atom. atom_of atom.now) c.deref.result.now in
+    let same : IsPermutation c.args.atoms.now trees = subst (λ items. IsPermutation c.args.atoms.now (map (λ atom. atom_of atom.now) items)) (sym c.deref.ensures.value) c.in_ok-falling.ensures in
+    IfOk-weaker c.add_all.result _ _
+    (λ bag is. is ∙ same_gathered c.order_is_total.ensures.atoms c.order_is_total.ensures.equal_atoms c.counts_are_set.ensures.empty c.counts_are_set.ensures.own c.counts_are_set.ensures.others
+    c.atoms_are_gathered.ensures.kept c.counts_decide.ensures.equal c.args.atoms.now trees same c.requires)
+    c.add_all.ensures

@@ -1,0 +1,78 @@
+-- A multiset does not depend on the order in which its atoms are gathered.
+use Rattle.std.proofs.Common.{◌≡◌, ◌≢◌, ℕ, ◌+◌, ◌<◌, List, [], ◌∷◌, ◌++◌, Some, length, get_or, take, drop, map, sum_by, refl, sym, ap, subst, ◌∙◌, arith}
+use Rattle.std.specs.declared.cmp.Ordering.{Ordering}
+use Rattle.std.specs.declared.cmp.Ordering.TheVariants.{Less, Equal, Greater}
+use Rattle.std.specs.Cmp.{IsTotalOrder}
+use Rattle.std.specs.FinMap as finite
+use Rattle.std.specs.List.{AllByRecursion}
+use Rattle.std.specs.List.Sorted.{IsPermutation}
+use Rattle.std.specs.List.{slice_get}
+use Rattle.std.proofs.lemmas.List.{get_or-map, drop_more, take_more, map-append}
+use Rattle.std.proofs.lemmas.Option.{get_or_from_slice_get}
+use Rattle.std.proofs.lemmas.List.Sums.{sum_by-cons}
+use Rattle.std.proofs.lemmas.List.Sorted.{Contains-permutation, IsPermutation-sym, sum_by-IsPermutation}
+use Rattle.cep_term.specs.Tree.{AtomTree, IsGroundAtom}
+use Rattle.cep_term.specs.Order.{atom_cmp}
+use Rattle.cep_term.specs.Multiset.{Multiset, count_of, with_count, with_one, gathered, IsBag}
+use Rattle.cep_infer.proofs.Members.{all_at, all_of}
+
+-- what holds of all holds of all in another order
+pub all_reordered : {X : Type 0} (P : X → Type 0) (xs ys : List X) → IsPermutation xs ys → AllByRecursion P xs → AllByRecursion P ys
+all_reordered P xs ys same all = all_of P ys (λ y there. all_at P xs y all (Contains-permutation ys xs y (IsPermutation-sym xs ys same) there))
+
+-- one where two atoms tie
+abbrev tally_by : Ordering → ℕ
+tally_by Less = 0
+tally_by Equal = 1
+tally_by Greater = 0
+
+abbrev tally : AtomTree → AtomTree → ℕ
+tally a x = tally_by (atom_cmp a x)
+
+module _ (order : IsTotalOrder atom_cmp) (antisymmetric : finite.IsAntisymmetric atom_cmp)
+    (empty : (a : AtomTree) → count_of finite.empty a ≡ 0)
+    (own : (bag : Multiset) (a : AtomTree) (n : ℕ) → count_of (with_count bag a n) a ≡ n)
+    (others : (bag : Multiset) (a q : AtomTree) (n : ℕ) → q ≢ a → count_of (with_count bag a n) q ≡ count_of bag q) where
+  -- an atom ties with itself
+  itself : (x : AtomTree) → atom_cmp x x ≡ Equal
+  itself x = by (atom_cmp x x) refl
+    where
+      by : (o : Ordering) → atom_cmp x x ≡ o → atom_cmp x x ≡ Equal
+      by Less e = let turned = order.antisymm x x in absurd cc
+      by Equal e = e
+      by Greater e = let turned = order.antisymm x x in absurd cc
+
+  differs : (a x : AtomTree) (o : Ordering) → atom_cmp a x ≡ o → o ≢ Equal → a ≢ x
+  differs a x o is unequal same = unequal (sym is ∙ subst (λ y. atom_cmp a y ≡ Equal) same (itself a))
+
+  counted_more : (a x : AtomTree) (bag : Multiset) (rest : ℕ) (o : Ordering) → atom_cmp a x ≡ o → count_of bag a ≡ rest → count_of (with_one bag x) a ≡ tally_by o + rest
+  counted_more a x bag rest Less is was = let more = others bag x a (count_of bag x + 1) (differs a x Less is (λ e. cc)) in omega (arith, more, was)
+  counted_more a x bag rest Equal is was =
+      subst (λ y. count_of (with_one bag y) a ≡ 1 + rest) (antisymmetric a x is) (let more = own bag a (count_of bag a + 1) in omega (arith, more, was))
+  counted_more a x bag rest Greater is was = let more = others bag x a (count_of bag x + 1) (differs a x Greater is (λ e. cc)) in omega (arith, more, was)
+
+  -- the copies of an atom are the times that it stands in the list
+  counted : (a : AtomTree) (atoms : List AtomTree) → count_of (gathered atoms) a ≡ sum_by (tally a) atoms
+  counted a [] = empty a
+  counted a (x ∷ atoms) = counted_more a x (gathered atoms) (sum_by (tally a) atoms) (atom_cmp a x) refl (counted a atoms) ∙ sym (sum_by-cons (tally a) x atoms)
+
+  pub same_gathered : ((atoms : List AtomTree) → AllByRecursion IsGroundAtom atoms → IsBag (gathered atoms))
+      → ((bag other : Multiset) → IsBag bag → IsBag other → ((a : AtomTree) → count_of bag a ≡ count_of other a) → bag ≡ other)
+      → (xs ys : List AtomTree) → IsPermutation xs ys → AllByRecursion IsGroundAtom xs → gathered ys ≡ gathered xs
+  same_gathered kept equal xs ys same all =
+      equal (gathered ys) (gathered xs) (kept ys (all_reordered IsGroundAtom xs ys same all)) (kept xs all)
+      (λ a. counted a ys ∙ sum_by-IsPermutation (tally a) xs ys same ∙ sym (counted a xs))
+
+-- the atom at a place of a list that is mapped
+pub atom_at : {X : Type 0} (f : X → AtomTree) (xs : List X) (k : ℕ) (x : X) → k < length xs → x ≡ get_or xs k x → get_or (map f xs) k (f x) ≡ f x
+atom_at f xs k x within is = get_or-map f xs k x (f x) within ∙ ap f (sym is)
+
+-- one more atom is gathered, the one before
+pub gathered_more : (atoms : List AtomTree) (k : ℕ) (a : AtomTree) (old new : Multiset) → k < length atoms → get_or atoms k a ≡ a → old ≡ gathered (drop (k + 1) atoms) → new ≡ with_one old a → new ≡ gathered (drop k atoms)
+gathered_more atoms k a old new within at was is =
+    is ∙ ap (λ bag. with_one bag a) was ∙ ap (with_one (gathered (drop (k + 1) atoms))) (sym at) ∙ ap gathered (sym (drop_more atoms k a within))
+
+-- one more atom is listed, the next one
+pub listed_more : {X : Type 0} (f : X → AtomTree) (atoms : List AtomTree) (k : ℕ) (x : X) (old new : List X) → k < length atoms → slice_get atoms k ≡ Some (f x) → map f old ≡ take k atoms → new ≡ old ++ x ∷ [] → map f new ≡ take (k + 1) atoms
+listed_more f atoms k x old new within at was is =
+    ap (map f) is ∙ map-append f old (x ∷ []) ∙ ap (λ front. front ++ f x ∷ []) was ∙ ap (λ a. take k atoms ++ a ∷ []) (sym (get_or_from_slice_get atoms k (f x) (f x) at)) ∙ sym (take_more atoms k (f x) within)
