@@ -16,9 +16,9 @@ pub struct CalmConsole {
 
 impl Model for CalmConsole {
     ghost use Rattle.std.specs.Prelude.{drop};
-    ghost use Rattle.cep_base.specs.CalmConsole.{Dialogue};
+    ghost use Rattle.cep_base.specs.CalmConsole.{Conversation};
 
-    ghost Value = { Dialogue };
+    ghost Value = { Conversation };
 
     ghost view = { λ console. record { talk = console.events.items; left = drop console.taken console.input.items } };
 }

@@ -1,16 +1,20 @@
-//! What every other crate stands on: places in a text, byte text, a counter of steps, and the
-//! outside of the program as two traits, a console and a shelf of files, with fakes in memory.
+//! What every other crate stands on: lists and stacks, the limits, places in a text, byte text, a
+//! counter of steps, and the outside of the program as two traits, a console and a shelf of files,
+//! with fakes in memory.
 #![tactic(auto)]
 
 mod calls;
 mod calm_console;
 mod console;
 mod faults;
+pub mod limits;
+mod list;
 mod memory_console;
 mod memory_shelf;
 mod name;
 mod place;
 mod shelf;
+mod stack;
 mod steps;
 #[cfg(test)]
 mod tests;
@@ -19,10 +23,12 @@ mod text;
 pub use calm_console::CalmConsole;
 pub use console::{Console, ConsoleFault, Event};
 pub use faults::FaultCount;
+pub use list::List;
 pub use memory_console::MemConsole;
 pub use memory_shelf::MemShelf;
 pub use name::Name;
 pub use place::Pos;
 pub use shelf::{Shelf, ShelfFault};
+pub use stack::Stack;
 pub use steps::Steps;
 pub use text::Text;

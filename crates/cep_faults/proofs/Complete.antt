@@ -9,8 +9,7 @@ use Rattle.cep_parse.specs.declared.raw.RawAtom.{RawAtom}
 use Rattle.cep_parse.specs.declared.raw.RawRule.{RawRule}
 use Rattle.cep_parse.specs.declared.raw.RawItem.{RawItem}
 use Rattle.cep_rule.specs.Limits.{IsTurnLimit}
-use Rattle.cep_rule.specs.declared.limits.TheConstants.{MOST_ARGUMENTS, MOST_PREMISES, MOST_BACKS, MOST_RIGHT, MOST_GOALS, MOST_TURNS, MOST_VARIABLES, MOST_PREDS, MOST_CONS, MOST_RULES, MOST_CLAUSES, MOST_COPIES, MOST_STATE_NODES}
-use Rattle.cep_term.specs.declared.term.TheConstants.{MAX_NODES, MAX_DEPTH}
+use Rattle.cep_base.specs.declared.limits.TheConstants.{MOST_ARGUMENTS, MOST_BACKS, MOST_CLAUSES, MOST_CONS, MOST_COPIES, MOST_DEPTH, MOST_GOALS, MOST_NODES, MOST_PREDS, MOST_PREMISES, MOST_RIGHT, MOST_RULES, MOST_STATE_NODES, MOST_TURNS, MOST_VARIABLES}
 use Rattle.cep_names.specs.declared.fault.Fault.{Fault}
 use Rattle.cep_names.specs.declared.reason.Reason.TheVariants.{WrongArity, VarInContext, BwdInState, LinearInClause, BadQui, TwoTraces, OverLimit}
 use Rattle.cep_names.specs.declared.space.Space.{Space}
@@ -28,11 +27,11 @@ use Rattle.cep_names.specs.Misnamed.ComesToState.{made}
 use Rattle.cep_names.specs.Spaces.{names_in, is_in, arity_of, back_of}
 use Rattle.cep_names.specs.Starts.{IsFitWritten, nodes_written, depth_written, start_atoms}
 use Rattle.cep_names.specs.Uses.{Placed, Use, placed, is_context, own_uses, con_uses, pred_uses, node_uses, atom_uses, item_uses, uses_of, own_atoms, item_atoms, placed_of, rule_atoms, clause_atoms, atoms_of}
-use Rattle.cep_names.specs.Variables.{variables_of, nodes_of}
+use Rattle.cep_names.specs.Variables.{variables_of, raw_nodes}
 use Rattle.cep_faults.specs.Seen.{unseen, new_in}
 use Rattle.cep_faults.specs.Looks.{looks_of, cons_by, clauses_by}
 use Rattle.cep_faults.specs.Faults.{lack_faults, arity_faults, use_faults, pred_faults, node_faults, open_faults, back_faults, linear_faults, state_faults, role_faults, placed_faults, past, places, argument_faults, con_faults, size_faults, rule_faults, clause_faults, premise_places, is_qui_rule, qui_faults, is_turn_limit, turns_faults, trace_faults, outers_in, listed_atoms, state_role, state_atoms, item_faults}
-use Rattle.cep_faults.specs.Totals.{variable_faults, item_variable_faults, is_fit, unfit_faults, item_unfit_faults, count_faults, all_count_faults, size_of, is_large, start_size, start_faults, traces_faults, all_faults}
+use Rattle.cep_faults.specs.Totals.{variable_faults, item_variable_faults, is_fit, unfit_faults, item_unfit_faults, count_faults, all_count_faults, written_size, is_large, start_size, start_faults, traces_faults, all_faults}
 use Rattle.cep_faults.proofs.Members.{In, here, in_nil, in_one, in_same, in_left, in_right, in_parts, through, via, image, mapped, from_contains, give}
 use Rattle.cep_faults.proofs.Parts.{own_parts, housed}
 use Rattle.cep_faults.proofs.Same.{atom_at, entry_at, head_at, occurrence_from, premise_list, atom_list, preds_at, cons_at, clauses_at, rules_at, size_same, large_same}
@@ -237,8 +236,8 @@ is_turns_by n e = let both = both_parts (nat_le 1 n) (nat_le n MOST_TURNS) e in 
 
 is_fit_by : (atom : RawAtom) → is_fit atom ≡ true → IsFitWritten atom
 is_fit_by atom e =
-    let both = both_parts (nat_le (nodes_written atom) MAX_NODES) (nat_le (depth_written atom) MAX_DEPTH) e in
-    record { nodes = leb-true (nodes_written atom) MAX_NODES both.0; depth = leb-true (depth_written atom) MAX_DEPTH both.1 }
+    let both = both_parts (nat_le (nodes_written atom) MOST_NODES) (nat_le (depth_written atom) MOST_DEPTH) e in
+    record { nodes = leb-true (nodes_written atom) MOST_NODES both.0; depth = leb-true (depth_written atom) MOST_DEPTH both.1 }
 
 -- atoms of rules and of clauses are none of states
 not_needed : (r : Role) → r ≡ role.Needed → IsOfState r → ⊥
@@ -301,10 +300,10 @@ module _ (source : Source) (fault : Fault) where
   traced : (traces : List TraceItem) → traces_of source ≡ traces → In (traces_faults (looks_of source) (context_sizes source) traces) fault → In (all_faults (looks_of source) source.file) fault
   traced traces e h = in_traces (in_same _ (traces_faults (looks_of source) (context_sizes source) traces) fault (ap (traces_faults (looks_of source) (context_sizes source)) e) h)
 
-  large_trace : (trace : TraceItem) (rest : List TraceItem) → traces_of source ≡ trace ∷ rest → is_large (size_of (start_atoms source trace.start)) ≡ true → fault ≡ wrong OverLimit trace.at → In (all_faults (looks_of source) source.file) fault
+  large_trace : (trace : TraceItem) (rest : List TraceItem) → traces_of source ≡ trace ∷ rest → is_large (written_size (start_atoms source trace.start)) ≡ true → fault ≡ wrong OverLimit trace.at → In (all_faults (looks_of source) source.file) fault
   large_trace trace rest e large is =
       traced (trace ∷ rest) e (in_left (start_faults (looks_of source) (context_sizes source) trace.at trace.start) _ fault
-      (when (is_large (start_size (looks_of source) (context_sizes source) trace.start)) (wrong OverLimit trace.at) fault (ap is_large (size_same source trace.start) ∙ large_same (size_of (start_atoms source trace.start)) ∙ large) is))
+      (when (is_large (start_size (looks_of source) (context_sizes source) trace.start)) (wrong OverLimit trace.at) fault (ap is_large (size_same source trace.start) ∙ large_same (written_size (start_atoms source trace.start)) ∙ large) is))
 
   argument_all : (args : List Span) (name : Span) → In (arguments_of source) args → slice_get args MOST_ARGUMENTS ≡ Some name → fault ≡ wrong OverLimit name.from → In (all_faults (looks_of source) source.file) fault
   argument_all args name m g is =
@@ -354,13 +353,13 @@ module _ (source : Source) (fault : Fault) where
       let t = housed 0 source.file rule (from_contains (rules_of source) rule m) in
       in_variables t.item t.member (in_left (flat_map (λ (other : RawRule). variable_faults source.text (atoms_of other.left)) (item_rules t.item)) _ fault
       (via (λ (other : RawRule). variable_faults source.text (atoms_of other.left)) (item_rules t.item) rule.raw fault t.raw
-      (past_in (slice_get (new_in source.text unseen (nodes_of (atoms_of rule.raw.left))) MOST_VARIABLES) occurrence.at.from fault
+      (past_in (slice_get (new_in source.text unseen (raw_nodes (atoms_of rule.raw.left))) MOST_VARIABLES) occurrence.at.from fault
       (variable_list source (atoms_of rule.raw.left) ∙ give occurrence_from (variables_of source (atoms_of rule.raw.left)) MOST_VARIABLES occurrence g) (is ∙ ap (wrong OverLimit) e))))
   over_all at (IsOver.clause_variable clause occurrence m g e) is =
       let t = through (clauses_in source) source.file clause (from_contains (clauses_of source) clause m) in
       in_variables t.from t.member (in_right (flat_map (λ (other : RawRule). variable_faults source.text (atoms_of other.left)) (item_rules t.from)) _ fault
       (via (λ (other : ClauseItem). variable_faults source.text (other.head ∷ other.goals)) (clauses_by (looks_of source) t.from) clause fault (in_same (clauses_by (looks_of source) t.from) (clauses_in source t.from) clause (clauses_by_is source t.from) t.given)
-      (past_in (slice_get (new_in source.text unseen (nodes_of (clause.head ∷ clause.goals))) MOST_VARIABLES) occurrence.at.from fault
+      (past_in (slice_get (new_in source.text unseen (raw_nodes (clause.head ∷ clause.goals))) MOST_VARIABLES) occurrence.at.from fault
       (variable_list source (clause.head ∷ clause.goals) ∙ give occurrence_from (variables_of source (clause.head ∷ clause.goals)) MOST_VARIABLES occurrence g) (is ∙ ap (wrong OverLimit) e))))
   over_all at (IsOver.predicate entry g e) is =
       in_counts (in_left (count_faults (looks_of source) counted.Predicates MOST_PREDS source.file) _ fault

@@ -4,7 +4,7 @@ use Rattle.std.specs.List.{repeat}
 use Rattle.std.proofs.lemmas.Bool.Decides.{nat_tests}
 use Rattle.std.proofs.lemmas.List.{take_more, take_more_set}
 use Rattle.cep_parse.specs.declared.raw.RawNode.{RawNode}
-use Rattle.cep_term.specs.declared.term.TheConstants.{MAX_DEPTH}
+use Rattle.cep_base.specs.declared.limits.TheConstants.{MOST_DEPTH}
 use Rattle.cep_faults.specs.declared.fitness.Run.{Run}
 use Rattle.cep_faults.specs.Levels.{pending, is_shallow}
 use Rattle.cep_names.specs.Starts.{levels, greatest}
@@ -52,7 +52,7 @@ le_lost : (level g : ℕ) → 512 < level → nat_le (max level g) 512 ≡ false
 le_lost level g h = grind (arith, nat_tests)
 
 -- a node at a level that is too deep
-pub too_deep : (before next : List ℕ) (nodes : List RawNode) (i : ℕ) (d : RawNode) (level : ℕ) → i < length nodes → before ≡ level ∷ next → MAX_DEPTH < level → is_shallow before (drop i nodes) ≡ false
+pub too_deep : (before next : List ℕ) (nodes : List RawNode) (i : ℕ) (d : RawNode) (level : ℕ) → i < length nodes → before ≡ level ∷ next → MOST_DEPTH < level → is_shallow before (drop i nodes) ≡ false
 too_deep before next nodes i d level h was deep =
     ap (λ b. is_shallow b (drop i nodes)) was ∙ ap (is_shallow (level ∷ next)) (drop-cons nodes i d h)
     ∙ le_lost level (greatest (levels (repeat (get_or nodes i d).args ((level + 1) ∷ []) ++ next) (drop (suc i) nodes))) deep

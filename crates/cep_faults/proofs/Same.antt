@@ -35,7 +35,7 @@ use Rattle.cep_names.specs.Uses.{placed, is_context, atoms_of}
 use Rattle.cep_names.specs.Variables.{Occurrence, occurrence_at, blanks_behind, occurrences_from, firsts_beside}
 use Rattle.cep_faults.specs.Looks.{Looks, looks_of, says}
 use Rattle.cep_faults.specs.Faults.{place_if, premise_places, atom_places}
-use Rattle.cep_faults.specs.Totals.{places_in, cut, most_counted, size_of, size_or_none, first_size, listed_size, start_size, is_large}
+use Rattle.cep_faults.specs.Totals.{places_in, cut, most_counted, written_size, size_or_none, first_size, listed_size, start_size, is_large}
 use Rattle.cep_faults.proofs.Members.{map-flat_map}
 use Rattle.cep_faults.proofs.SizeTables.{bytes_eq_sym}
 use Rattle.cep_faults.proofs.SourceLooks.{cons_by_is, clauses_by_is}
@@ -169,11 +169,11 @@ module _ (source : Source) where
   abbrev contexts_size : List ℕ → Option Size
   contexts_size name = first_size source.text (contexts_of source) name
 
-  named_size : (found : Option ContextItem) → size_or_none (option_map (λ context. cut (size_of context.atoms)) found) ≡ cut (size_of (listed_in found))
+  named_size : (found : Option ContextItem) → size_or_none (option_map (λ context. cut (written_size context.atoms)) found) ≡ cut (written_size (listed_in found))
   named_size None = refl
   named_size (Some context) = refl
 
-  listed_case : (b : Bool) (atom : RawAtom) → (if b then size_or_none (contexts_size (said source atom.name)) else cut (size_of (atom ∷ []))) ≡ cut (size_of (listed_or b source atom))
+  listed_case : (b : Bool) (atom : RawAtom) → (if b then size_or_none (contexts_size (said source atom.name)) else cut (written_size (atom ∷ []))) ≡ cut (written_size (listed_or b source atom))
   listed_case true atom = named_size (context_named source (said source atom.name))
   listed_case false atom = refl
 
@@ -201,7 +201,7 @@ module _ (source : Source) where
       ∙ cut_step (sum_by nodes_written (lists atom)) (sum_by (λ (size : Size). size.nodes) (map (listed_size (looks_of source) contexts_size) atoms)) (sum_by nodes_written (flat_map lists atoms)) most_counted (nodes_all atoms)
       ∙ sym (ap (λ n. min n most_counted) (sum_by-append nodes_written (lists atom) (flat_map lists atoms)))
 
-  pub size_same : (from : RawStart) → start_size (looks_of source) contexts_size from ≡ cut (size_of (start_atoms source from))
+  pub size_same : (from : RawStart) → start_size (looks_of source) contexts_size from ≡ cut (written_size (start_atoms source from))
   size_same (start.Named name) = named_size (context_named source (said source name))
   size_same (start.Listed atoms) = λ i. record { copies = copies_all atoms i; nodes = nodes_all atoms i }
 

@@ -9,7 +9,7 @@ use Rattle.cep_parse.specs.declared.raw.RawKind.TheVariants as kind
 use Rattle.cep_parse.specs.declared.raw.RawNode.{RawNode}
 use Rattle.cep_parse.specs.Symbols.{slice_of}
 use Rattle.cep_faults.specs.declared.variables.Seen.{Seen}
-use Rattle.cep_rule.specs.declared.limits.TheConstants.{MOST_VARIABLES}
+use Rattle.cep_base.specs.declared.limits.TheConstants.{MOST_VARIABLES}
 use Rattle.cep_names.specs.declared.fault.Fault.{Fault}
 use Rattle.cep_names.specs.First.{first_in}
 use Rattle.cep_faults.specs.Faults.{past}

@@ -10,7 +10,7 @@ use Rattle.cep_parse.specs.declared.raw.RawItem.{RawItem}
 use Rattle.cep_parse.specs.Symbols.{slice_of}
 use Rattle.cep_faults.specs.declared.sizes.Size.{Size}
 use Rattle.cep_names.specs.Items.{contexts_in}
-use Rattle.cep_faults.specs.Totals.{cut, size_of, size_under, or_else, first_size}
+use Rattle.cep_faults.specs.Totals.{cut, written_size, size_under, or_else, first_size}
 use Rattle.cep_faults.proofs.Nths.{given_more}
 
 -- a size under a name
@@ -77,4 +77,4 @@ pub sizes_more : (text : List ℕ) (items : List RawItem) (i : ℕ) (item : RawI
 sizes_more text items i item old new h at was is name =
     is name ∙ ap (λ o. or_else o (first_size text (contexts_in item) name)) (was name)
     ∙ sym (ap (λ contexts. first_size text contexts name) (given_more contexts_in items i item h at)
-    ∙ find_append (λ context. bytes_eq (slice_of text context.name.from context.name.to) name) (λ context. cut (size_of context.atoms)) (flat_map contexts_in (take i items)) (contexts_in item))
+    ∙ find_append (λ context. bytes_eq (slice_of text context.name.from context.name.to) name) (λ context. cut (written_size context.atoms)) (flat_map contexts_in (take i items)) (contexts_in item))

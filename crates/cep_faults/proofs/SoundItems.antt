@@ -10,8 +10,7 @@ use Rattle.cep_parse.specs.declared.raw.RawItem.{RawItem}
 use Rattle.cep_parse.specs.declared.raw.RawItem.TheVariants as item
 use Rattle.cep_faults.specs.declared.sizes.Size.{Size}
 use Rattle.cep_rule.specs.Limits.{IsTurnLimit}
-use Rattle.cep_rule.specs.declared.limits.TheConstants.{MOST_ARGUMENTS, MOST_PREMISES, MOST_BACKS, MOST_RIGHT, MOST_GOALS, MOST_TURNS, MOST_VARIABLES, MOST_PREDS, MOST_CONS, MOST_RULES, MOST_CLAUSES, MOST_COPIES, MOST_STATE_NODES}
-use Rattle.cep_term.specs.declared.term.TheConstants.{MAX_NODES, MAX_DEPTH}
+use Rattle.cep_base.specs.declared.limits.TheConstants.{MOST_ARGUMENTS, MOST_BACKS, MOST_CLAUSES, MOST_CONS, MOST_COPIES, MOST_DEPTH, MOST_GOALS, MOST_NODES, MOST_PREDS, MOST_PREMISES, MOST_RIGHT, MOST_RULES, MOST_STATE_NODES, MOST_TURNS, MOST_VARIABLES}
 use Rattle.cep_names.specs.declared.fault.Fault.{Fault}
 use Rattle.cep_names.specs.declared.reason.Reason.TheVariants.{OverLimit, BadQui, TwoTraces}
 use Rattle.cep_names.specs.declared.space.Space.TheVariants as space
@@ -24,11 +23,11 @@ use Rattle.cep_names.specs.Misnamed.IsOfState.{listed, start}
 use Rattle.cep_names.specs.Spaces.{names_in}
 use Rattle.cep_names.specs.Starts.{IsFitWritten, nodes_written, depth_written, start_atoms}
 use Rattle.cep_names.specs.Uses.{Placed, placed, own_uses, con_uses, placed_of, rule_atoms, clause_atoms, atoms_of}
-use Rattle.cep_names.specs.Variables.{variables_of, nodes_of}
+use Rattle.cep_names.specs.Variables.{variables_of, raw_nodes}
 use Rattle.cep_faults.specs.Seen.{unseen, new_in}
 use Rattle.cep_faults.specs.Looks.{looks_of, cons_by, clauses_by}
 use Rattle.cep_faults.specs.Faults.{use_faults, placed_faults, past, places, argument_faults, con_faults, size_faults, rule_faults, clause_faults, premise_places, atom_places, is_qui_rule, qui_faults, is_turn_limit, turns_faults, trace_faults, outers_in, listed_atoms, state_role, state_atoms, item_faults}
-use Rattle.cep_faults.specs.Totals.{variable_faults, item_variable_faults, is_fit, unfit_faults, item_unfit_faults, count_faults, all_count_faults, places_in, first_size, size_of, is_large, start_size, start_faults, traces_faults, all_faults}
+use Rattle.cep_faults.specs.Totals.{variable_faults, item_variable_faults, is_fit, unfit_faults, item_unfit_faults, count_faults, all_count_faults, places_in, first_size, written_size, is_large, start_size, start_faults, traces_faults, all_faults}
 use Rattle.cep_faults.proofs.Members.{In, in_nil, in_one, in_same, in_left, in_right, in_parts, through, via, image, mapped, to_contains, got}
 use Rattle.cep_faults.proofs.Parts.{own_use, con_use, own_placed, clause_placed, state_own, rule_own, numbered, outer}
 use Rattle.cep_faults.proofs.Same.{atom_at, entry_at, occurrence_from, premise_list, atom_list, preds_at, cons_at, head_at, clauses_at, rules_at, variables_same, size_same, large_same}
@@ -154,7 +153,7 @@ of_state (item.Trace at limit stage start_) = start
 of_state _ = listed
 
 not_fit : (atom : RawAtom) → is_fit atom ≡ false → ¬ IsFitWritten atom
-not_fit atom e is = false≢true (sym e ∙ both_true (nat_le (nodes_written atom) MAX_NODES) (nat_le (depth_written atom) MAX_DEPTH) (le-leb (nodes_written atom) MAX_NODES is.nodes) (le-leb (depth_written atom) MAX_DEPTH is.depth))
+not_fit atom e is = false≢true (sym e ∙ both_true (nat_le (nodes_written atom) MOST_NODES) (nat_le (depth_written atom) MOST_DEPTH) (le-leb (nodes_written atom) MOST_NODES is.nodes) (le-leb (depth_written atom) MOST_DEPTH is.depth))
 
 unfit_by : (source : Source) (p : Placed) (fault : Fault) (b : Bool) → In (placed_of source) p → IsOfState p.role → is_fit p.atom ≡ b
     → In (let found : List Fault = if b then [] else wrong OverLimit p.atom.name.from ∷ [] in found) fault → Misnamed source fault
@@ -167,8 +166,8 @@ unfit_sound source item fault member found =
     unfit_by source (placed (state_role item) t.from) fault (is_fit t.from) (own_placed source item (placed (state_role item) t.from) member (state_own item _ (mapped (placed (state_role item)) (listed_atoms item) t.from t.member))) (of_state item) refl t.given
 
 -- variables
-pub variable_list : (source : Source) (atoms : List RawAtom) → slice_get (new_in source.text unseen (nodes_of atoms)) MOST_VARIABLES ≡ slice_get (map occurrence_from (variables_of source atoms)) MOST_VARIABLES
-variable_list source atoms = ap (λ (ys : List ℕ). slice_get ys MOST_VARIABLES) (variables_same source unseen [] (nodes_of atoms) (λ name. refl))
+pub variable_list : (source : Source) (atoms : List RawAtom) → slice_get (new_in source.text unseen (raw_nodes atoms)) MOST_VARIABLES ≡ slice_get (map occurrence_from (variables_of source atoms)) MOST_VARIABLES
+variable_list source atoms = ap (λ (ys : List ℕ). slice_get ys MOST_VARIABLES) (variables_same source unseen [] (raw_nodes atoms) (λ name. refl))
 
 variables_sound : (source : Source) (item : RawItem) (fault : Fault) → In source.file item → In (item_variable_faults (looks_of source) item) fault → Misnamed source fault
 variables_sound source item fault member found =
@@ -176,12 +175,12 @@ variables_sound source item fault member found =
     (λ k.
     let t = through (λ (rule : RawRule). variable_faults source.text (atoms_of rule.left)) (item_rules item) fault k in
     let n = numbered source item t.from member t.member in
-    let p = past_at (slice_get (new_in source.text unseen (nodes_of (atoms_of t.from.left))) MOST_VARIABLES) fault t.given in
+    let p = past_at (slice_get (new_in source.text unseen (raw_nodes (atoms_of t.from.left))) MOST_VARIABLES) fault t.given in
     let g = got occurrence_from (variables_of source (atoms_of t.from.left)) MOST_VARIABLES p.at (sym (variable_list source (atoms_of t.from.left)) ∙ p.is) in
     over p.at (IsOver.rule_variable (record { home = n.home; raw = t.from }) g.from (to_contains (rules_of source) _ n.member) g.got g.is) p.fault_is)
     (λ k.
     let t = through (λ (clause : ClauseItem). variable_faults source.text (clause.head ∷ clause.goals)) (clauses_by (looks_of source) item) fault k in
-    let p = past_at (slice_get (new_in source.text unseen (nodes_of (t.from.head ∷ t.from.goals))) MOST_VARIABLES) fault t.given in
+    let p = past_at (slice_get (new_in source.text unseen (raw_nodes (t.from.head ∷ t.from.goals))) MOST_VARIABLES) fault t.given in
     let g = got occurrence_from (variables_of source (t.from.head ∷ t.from.goals)) MOST_VARIABLES p.at (sym (variable_list source (t.from.head ∷ t.from.goals)) ∙ p.is) in
     over p.at (IsOver.clause_variable t.from g.from (to_contains (clauses_of source) t.from (via (clauses_in source) source.file item t.from member (in_same (clauses_in source item) (clauses_by (looks_of source) item) t.from (sym (clauses_by_is source item)) t.member))) g.got g.is) p.fault_is)
     (in_parts (flat_map (λ (rule : RawRule). variable_faults source.text (atoms_of rule.left)) (item_rules item)) _ fault found)
@@ -220,7 +219,7 @@ start_by : (source : Source) (trace : TraceItem) (rest : List TraceItem) (fault 
     → In (let found : List Fault = if b then wrong OverLimit trace.at ∷ [] else [] in found) fault → Misnamed source fault
 start_by source trace rest fault false traces e found = absurd (in_nil fault found)
 start_by source trace rest fault true traces e found =
-    let large : is_large (size_of (start_atoms source trace.start)) ≡ true = sym (ap is_large (size_same source trace.start) ∙ large_same (size_of (start_atoms source trace.start))) ∙ e in
+    let large : is_large (written_size (start_atoms source trace.start)) ≡ true = sym (ap is_large (size_same source trace.start) ∙ large_same (written_size (start_atoms source trace.start))) ∙ e in
     over trace.at
     (⊎_elim (λ k. IsOver.copies trace rest traces (ltb-true MOST_COPIES (length (start_atoms source trace.start)) k) refl)
     (λ k. IsOver.nodes trace rest traces (ltb-true MOST_STATE_NODES (sum_by nodes_written (start_atoms source trace.start)) k) refl)

@@ -13,7 +13,7 @@ use Rattle.cep_parse.specs.declared.raw.RawRule.{RawRule}
 use Rattle.cep_parse.specs.declared.raw.RawItem.{RawItem}
 use Rattle.cep_parse.specs.declared.raw.RawItem.TheVariants as item
 use Rattle.cep_parse.specs.Symbols.{slice_of}
-use Rattle.cep_rule.specs.declared.limits.TheConstants.{MOST_ARGUMENTS, MOST_PREMISES, MOST_BACKS, MOST_RIGHT, MOST_GOALS, MOST_TURNS}
+use Rattle.cep_base.specs.declared.limits.TheConstants.{MOST_ARGUMENTS, MOST_BACKS, MOST_GOALS, MOST_PREMISES, MOST_RIGHT, MOST_TURNS}
 use Rattle.cep_names.specs.declared.fault.Fault.{Fault}
 use Rattle.cep_names.specs.declared.reason.Reason.TheVariants.{Unknown, WrongKind, WrongArity, VarInContext, BwdInState, LinearInClause, BadQui, OverLimit}
 use Rattle.cep_names.specs.declared.space.Space.TheVariants as space

@@ -2,7 +2,7 @@
 use Rattle.std.specs.Prelude.{ℕ, Bool, List, [], ◌∷◌, ◌++◌, nat_le}
 use Rattle.std.specs.List.{repeat}
 use Rattle.cep_parse.specs.declared.raw.RawNode.{RawNode}
-use Rattle.cep_term.specs.declared.term.TheConstants.{MAX_DEPTH}
+use Rattle.cep_base.specs.declared.limits.TheConstants.{MOST_DEPTH}
 use Rattle.cep_faults.specs.declared.fitness.Run.{Run}
 use Rattle.cep_names.specs.Starts.{levels, greatest}
 
@@ -13,4 +13,4 @@ pending (run ∷ above) = pending above ++ run.level ∷ repeat run.more (run.le
 
 -- whether no node stands too deep, where the next ones stand on these levels
 abbrev pub is_shallow : List ℕ → List RawNode → Bool
-is_shallow next nodes = nat_le (greatest (levels next nodes)) MAX_DEPTH
+is_shallow next nodes = nat_le (greatest (levels next nodes)) MOST_DEPTH

@@ -9,8 +9,7 @@ use Rattle.cep_parse.specs.declared.raw.RawStart.{RawStart}
 use Rattle.cep_parse.specs.declared.raw.RawStart.TheVariants as start
 use Rattle.cep_parse.specs.declared.raw.RawItem.{RawItem}
 use Rattle.cep_parse.specs.Symbols.{slice_of}
-use Rattle.cep_rule.specs.declared.limits.TheConstants.{MOST_PREDS, MOST_CONS, MOST_RULES, MOST_CLAUSES, MOST_VARIABLES, MOST_COPIES, MOST_STATE_NODES}
-use Rattle.cep_term.specs.declared.term.TheConstants.{MAX_NODES, MAX_DEPTH}
+use Rattle.cep_base.specs.declared.limits.TheConstants.{MOST_CLAUSES, MOST_CONS, MOST_COPIES, MOST_DEPTH, MOST_NODES, MOST_PREDS, MOST_RULES, MOST_STATE_NODES, MOST_VARIABLES}
 use Rattle.cep_names.specs.declared.fault.Fault.{Fault}
 use Rattle.cep_names.specs.declared.reason.Reason.TheVariants.{NoTrace, TwoTraces, OverLimit}
 use Rattle.cep_names.specs.declared.space.Role.TheVariants as role
@@ -20,7 +19,7 @@ use Rattle.cep_faults.specs.declared.sizes.Size.{Size}
 use Rattle.cep_names.specs.Items.{ContextItem, TraceItem, preds_in, contexts_in, traces_in}
 use Rattle.cep_names.specs.Filling.{item_rules}
 use Rattle.cep_names.specs.Misnamed.{wrong}
-use Rattle.cep_names.specs.Variables.{nodes_of}
+use Rattle.cep_names.specs.Variables.{raw_nodes}
 use Rattle.cep_faults.specs.Seen.{unseen, new_in}
 use Rattle.cep_names.specs.Starts.{nodes_written, depth_written}
 use Rattle.cep_faults.specs.Looks.{Looks, says, names_context, cons_by, clauses_by}
@@ -47,7 +46,7 @@ all_count_faults looks file =
 
 -- the first variable that is one too many
 abbrev pub variable_faults : List ℕ → List RawAtom → List Fault
-variable_faults text atoms = past (slice_get (new_in text unseen (nodes_of atoms)) MOST_VARIABLES)
+variable_faults text atoms = past (slice_get (new_in text unseen (raw_nodes atoms)) MOST_VARIABLES)
 
 abbrev pub item_variable_faults : Looks → RawItem → List Fault
 item_variable_faults looks item =
@@ -56,7 +55,7 @@ item_variable_faults looks item =
 
 -- whether an atom may be kept in a state
 abbrev pub is_fit : RawAtom → Bool
-is_fit atom = nat_le (nodes_written atom) MAX_NODES && nat_le (depth_written atom) MAX_DEPTH
+is_fit atom = nat_le (nodes_written atom) MOST_NODES && nat_le (depth_written atom) MOST_DEPTH
 
 abbrev pub unfit_faults : RawAtom → List Fault
 unfit_faults atom = if is_fit atom then [] else wrong OverLimit atom.name.from ∷ []
@@ -65,8 +64,8 @@ abbrev pub item_unfit_faults : RawItem → List Fault
 item_unfit_faults item = flat_map unfit_faults (listed_atoms item)
 
 -- how many atoms there are, and how many nodes they have
-abbrev pub size_of : List RawAtom → Size
-size_of atoms = record { copies = length atoms; nodes = sum_by nodes_written atoms }
+abbrev pub written_size : List RawAtom → Size
+written_size atoms = record { copies = length atoms; nodes = sum_by nodes_written atoms }
 
 -- the most that is counted
 abbrev pub most_counted : ℕ
@@ -76,8 +75,8 @@ abbrev pub cut : Size → Size
 cut size = record { copies = min size.copies most_counted; nodes = min size.nodes most_counted }
 
 -- the sum of sizes
-abbrev pub sum_of : List Size → Size
-sum_of sizes = record { copies = sum_by (λ size. size.copies) sizes; nodes = sum_by (λ size. size.nodes) sizes }
+abbrev pub total_size : List Size → Size
+total_size sizes = record { copies = sum_by (λ size. size.copies) sizes; nodes = sum_by (λ size. size.nodes) sizes }
 
 -- the size that a table has under a name
 abbrev pub size_under : List (List ℕ × Size) → List ℕ → Option Size
@@ -89,7 +88,7 @@ or_else (Some size) other = Some size
 
 -- the size of the first of some contexts that has the name
 abbrev pub first_size : List ℕ → List ContextItem → List ℕ → Option Size
-first_size text contexts name = option_map (λ context. cut (size_of context.atoms)) (find (λ context. bytes_eq (slice_of text context.name.from context.name.to) name) contexts)
+first_size text contexts name = option_map (λ context. cut (written_size context.atoms)) (find (λ context. bytes_eq (slice_of text context.name.from context.name.to) name) contexts)
 
 -- the size of a context, and of no atoms where there is no such context
 abbrev pub size_or_none : Option Size → Size
@@ -100,12 +99,12 @@ size_or_none (Some size) = size
 abbrev pub listed_size : Looks → (List ℕ → Option Size) → RawAtom → Size
 listed_size looks sizes atom =
     if names_context looks role.Start atom.name atom.args then size_or_none (sizes (says looks atom.name))
-    else cut (size_of (atom ∷ []))
+    else cut (written_size (atom ∷ []))
 
 -- the size of a start state
 abbrev pub start_size : Looks → (List ℕ → Option Size) → RawStart → Size
 start_size looks sizes (start.Named name) = size_or_none (sizes (says looks name))
-start_size looks sizes (start.Listed atoms) = cut (sum_of (map (listed_size looks sizes) atoms))
+start_size looks sizes (start.Listed atoms) = cut (total_size (map (listed_size looks sizes) atoms))
 
 -- a start state that is too large
 abbrev pub is_large : Size → Bool

@@ -1,6 +1,6 @@
 // The public call that joins the tables and the faults.
 ghost use Rattle.std.specs.Prelude.{◌≡◌, ◌≤◌, length, MatchResult, IfOk};
-ghost use Rattle.cep_lex.specs.declared.token.TheConstants.{MOST_BYTES};
+ghost use Rattle.cep_base.specs.declared.limits.TheConstants.{MOST_TEXT};
 ghost use Rattle.cep_names.specs.declared.fault.Fault.{Fault};
 ghost use Rattle.cep_names.specs.First.{IsFirst, first_in};
 ghost use Rattle.cep_names.specs.Misnamed.{Misnamed};
@@ -26,7 +26,7 @@ fn other_fault(
     text: &[u8],
     items: &[RawItem],
 ) -> Result<Option<Fault>, AllocError>
-    requires { length text.now ≤ MOST_BYTES }
+    requires { length text.now ≤ MOST_TEXT }
     ensures { IfOk result (λ first. first ≡ first_in (all_faults (looks_in text.now names.now) items.now)) }
 {
     let sizes = Sizes::of(alloc, text, items)?;
@@ -44,7 +44,7 @@ fn other_fault(
 /// atom that may not stand where it does, a missing or a second `#trace`, or more of something
 /// than may be. The rules are Ceptre's, and the limits and the order of faults this profile's.
 pub fn named(alloc: Global, text: &[u8], file: &RawFile) -> Result<Result<Names, Fault>, AllocError>
-    requires { length text.now ≤ MOST_BYTES }
+    requires { length text.now ≤ MOST_TEXT }
     ensures { IfOk result (λ answer. IsNamed (record { text = text.now; file = file.now }) answer) }
 {
     let tabled = Names::of(alloc, text, file)?;

@@ -5,10 +5,10 @@ ghost use Rattle.cep_names.specs.First.{first_in};
 ghost use Rattle.cep_faults.specs.Looks.{looks_in};
 ghost use Rattle.cep_faults.specs.Totals.{places_in, count_faults, all_count_faults};
 
+use cep_base::limits::{MOST_CLAUSES, MOST_CONS, MOST_PREDS, MOST_RULES};
 use crate::rules::past;
 use cep_names::{Fault, Names, item_rules};
 use cep_parse::RawItem;
-use cep_rule::{MOST_CLAUSES, MOST_CONS, MOST_PREDS, MOST_RULES};
 
 /// What there may not be too many of.
 #[derive(Clone, Copy)]

@@ -1,7 +1,7 @@
 // Whether atoms are small enough to be kept in a state.
 ghost use Rattle.std.specs.Prelude.{◌≡◌, ◌≤◌, ◌<◌, ◌+◌, ◌^◌, [], ◌∷◌, ◌++◌, Some, None, map, nat_le, max, IfOk, OnOk, IfSome, IfNone};
+ghost use Rattle.cep_base.specs.declared.limits.TheConstants.{MOST_DEPTH};
 ghost use Rattle.std.specs.List.{flat_map, repeat};
-ghost use Rattle.cep_term.specs.declared.term.TheConstants.{MAX_DEPTH};
 ghost use Rattle.cep_names.specs.First.{first_in};
 ghost use Rattle.cep_faults.specs.Faults.{listed_atoms};
 ghost use Rattle.cep_faults.specs.Levels.{pending, is_shallow};
@@ -9,9 +9,9 @@ ghost use Rattle.cep_names.specs.Starts.{levels, greatest};
 ghost use Rattle.cep_faults.specs.Totals.{is_fit, unfit_faults, item_unfit_faults};
 ghost use Rattle.cep_names.specs.Uses.{start_listed};
 
+use cep_base::limits::{MOST_DEPTH, MOST_NODES};
 use cep_names::{Fault, Reason};
 use cep_parse::{RawAtom, RawItem, RawNode, RawStart};
-use cep_term::{MAX_DEPTH, MAX_NODES};
 use std::alloc::{AllocError, Global};
 
 /// Terms of one level that are still to come: one, and so many more.
@@ -62,7 +62,7 @@ fn is_shallow(alloc: Global, args: u32, nodes: &[RawNode]) -> Result<bool, Alloc
         let Some(level) = next_level(&mut runs) else {
             return Ok(true);
         };
-        if level > MAX_DEPTH {
+        if level > MOST_DEPTH {
             return Ok(false);
         }
         open(&mut runs, level + 1, node.args)?;
@@ -75,7 +75,7 @@ fn is_fit(alloc: Global, atom: &RawAtom) -> Result<bool, AllocError>
     ensures { IfOk result (λ fit. fit ≡ is_fit atom.now) }
 {
     let nodes = atom.nodes.as_slice();
-    if nodes.len() as u64 >= MAX_NODES {
+    if nodes.len() as u64 >= MOST_NODES {
         return Ok(false);
     }
     is_shallow(alloc, atom.args, nodes)

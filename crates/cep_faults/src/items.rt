@@ -8,6 +8,7 @@ ghost use Rattle.cep_faults.specs.Looks.{looks_in};
 ghost use Rattle.cep_names.specs.Uses.{start_uses};
 ghost use Rattle.cep_faults.specs.Faults.{use_faults, argument_faults, con_faults, turns_faults, item_faults, is_turn_limit};
 
+use cep_base::limits::{MOST_ARGUMENTS, MOST_TURNS};
 use crate::atoms::atoms_fault;
 use crate::fitness::start_listed;
 use crate::rules::{
@@ -16,7 +17,6 @@ use crate::rules::{
 use crate::uses::{sorts_fault, use_fault};
 use cep_names::{Fault, Names, Reason, Role, Space, said};
 use cep_parse::{RawItem, RawRule, RawStart, Span, Spans};
-use cep_rule::{MOST_ARGUMENTS, MOST_TURNS};
 
 // The first argument of a declaration that is one too many.
 fn argument_past(args: &[Span]) -> Option<Fault>

@@ -1,5 +1,6 @@
+use cep_base::limits::MOST_TEXT;
 use crate::named;
-use cep_lex::{MOST_BYTES, lex};
+use cep_lex::lex;
 use cep_names::{Fault, Reason};
 use cep_parse::parse;
 use std::alloc::Global;
@@ -9,7 +10,7 @@ use std::test::Fail;
 fn told(alloc: Global, front: &[u8], back: &[u8]) -> Result<Option<Fault>, Fail> {
     let mut text = Vec::from_slice(alloc, front)?;
     text.extend_from_slice(back)?;
-    if text.len() > MOST_BYTES {
+    if text.len() > MOST_TEXT {
         return Err(Fail::from("long"));
     }
     let tokens = lex(alloc, &text)?.map_err(|_| "token")?;

@@ -4,7 +4,7 @@ ghost use Rattle.std.specs.Str.{bytes_eq};
 ghost use Rattle.cep_names.specs.Items.{contexts_in};
 ghost use Rattle.std.specs.List.{flat_map};
 ghost use Rattle.cep_faults.specs.Looks.{looks_in};
-ghost use Rattle.cep_faults.specs.Totals.{cut, size_of, sum_of, size_under, or_else, first_size, size_or_none, listed_size, start_size};
+ghost use Rattle.cep_faults.specs.Totals.{cut, written_size, total_size, size_under, or_else, first_size, size_or_none, listed_size, start_size};
 
 use crate::atoms::names_context;
 use cep_names::{Names, Role, said};
@@ -28,7 +28,7 @@ impl Size {
 
     // The size of two parts.
     fn and(self, other: Size) -> Size
-        ensures { result ≡ cut (sum_of (self ∷ other ∷ [])) }
+        ensures { result ≡ cut (total_size (self ∷ other ∷ [])) }
     {
         Size {
             copies: self.copies.saturating_add(other.copies),
@@ -38,7 +38,7 @@ impl Size {
 
     // The size of an atom.
     fn of_atom(atom: &RawAtom) -> Size
-        ensures { result ≡ cut (size_of (atom.now ∷ [])) }
+        ensures { result ≡ cut (written_size (atom.now ∷ [])) }
     {
         Size {
             copies: 1,
@@ -48,7 +48,7 @@ impl Size {
 
     // The size of atoms.
     fn of_atoms(atoms: &[RawAtom]) -> Size
-        ensures { result ≡ cut (size_of atoms.now) }
+        ensures { result ≡ cut (written_size atoms.now) }
     {
         let mut size = Size::NONE;
         for atom in atoms {
@@ -146,7 +146,7 @@ impl Sizes {
     }
 
     fn of_all(&self, names: &Names, text: &[u8], atoms: &[RawAtom]) -> Size
-        ensures { result ≡ cut (sum_of (map (listed_size (looks_in text.now names.now) (size_under self.now)) atoms.now)) }
+        ensures { result ≡ cut (total_size (map (listed_size (looks_in text.now names.now) (size_under self.now)) atoms.now)) }
     {
         let mut size = Size::NONE;
         for atom in atoms {

@@ -1,4 +1,5 @@
-use cep_lex::{MOST_BYTES, lex};
+use cep_base::limits::MOST_TEXT;
+use cep_lex::lex;
 use cep_names::{Fault, Names, Reason, Space, Tabled};
 use cep_parse::{RawFile, parse};
 use std::alloc::Global;
@@ -6,7 +7,7 @@ use std::test::Fail;
 
 // The raw file of a text.
 fn file_of(alloc: Global, text: &[u8]) -> Result<RawFile, Fail> {
-    if text.len() > MOST_BYTES {
+    if text.len() > MOST_TEXT {
         return Err(Fail::from("long"));
     }
     let tokens = lex(alloc, text)?.map_err(|_| "token")?;

@@ -1,16 +1,16 @@
 // The traces of a file.
 ghost use Rattle.std.specs.Prelude.{◌≡◌, ◌≤◌, ◌++◌, List, ℕ, Option, Bool, length};
+ghost use Rattle.cep_base.specs.declared.limits.TheConstants.{MOST_TEXT};
 ghost use Rattle.std.specs.List.{flat_map};
-ghost use Rattle.cep_lex.specs.declared.token.TheConstants.{MOST_BYTES};
 ghost use Rattle.cep_names.specs.First.{first_in};
 ghost use Rattle.cep_names.specs.Items.{traces_in};
 ghost use Rattle.cep_faults.specs.Looks.{looks_in};
 ghost use Rattle.cep_faults.specs.Totals.{is_large, size_under, start_faults, traces_faults, trace_step, after_trace};
 
+use cep_base::limits::{MOST_COPIES, MOST_STATE_NODES};
 use crate::sizes::{Size, Sizes};
 use cep_names::{Fault, Names, Reason};
 use cep_parse::{RawItem, RawStart};
-use cep_rule::{MOST_COPIES, MOST_STATE_NODES};
 
 // The fault of a start state that is too large.
 fn start_fault(
@@ -72,7 +72,7 @@ pub(crate) fn traces_fault(
     sizes: &Sizes,
     items: &[RawItem],
 ) -> Option<Fault>
-    requires { length text.now ≤ MOST_BYTES }
+    requires { length text.now ≤ MOST_TEXT }
     ensures { result ≡ first_in (traces_faults (looks_in text.now names.now) (size_under sizes.now) (flat_map traces_in items.now)) }
 {
     let mut first = None;

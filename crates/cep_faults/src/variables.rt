@@ -7,14 +7,14 @@ ghost use Rattle.cep_faults.specs.Looks.{looks_in};
 ghost use Rattle.cep_names.specs.Tables.{has_name};
 ghost use Rattle.cep_faults.specs.Totals.{variable_faults, item_variable_faults};
 ghost use Rattle.cep_names.specs.Uses.{atoms_in, atoms_of};
-ghost use Rattle.cep_names.specs.Variables.{nodes_of};
+ghost use Rattle.cep_names.specs.Variables.{raw_nodes};
 ghost use Rattle.cep_faults.specs.Seen.{unseen, met, new_at, blank_name, met_kind, new_kind, met_all, new_in};
 
+use cep_base::limits::MOST_VARIABLES;
 use crate::rules::past;
 use cep_base::Text;
 use cep_names::{Fault, Names, Shape, Table, item_rules, said};
 use cep_parse::{RawAtom, RawElem, RawItem, RawKind, RawNode, RawRule};
-use cep_rule::MOST_VARIABLES;
 use std::alloc::{AllocError, Global};
 
 /// The names of the variables that were met so far, their number, and the number of blanks. Each
@@ -114,9 +114,9 @@ impl Seen {
         atoms: &[RawAtom],
     ) -> Result<Option<u32>, AllocError>
         requires { self.old.count ≤ MOST_VARIABLES }
-        ensures past { IfOk result (λ past. past ≡ slice_get (new_in text.now self.old (nodes_of atoms.now)) (MOST_VARIABLES - self.old.count)) }
+        ensures past { IfOk result (λ past. past ≡ slice_get (new_in text.now self.old (raw_nodes atoms.now)) (MOST_VARIABLES - self.old.count)) }
         ensures few { result ≡ Ok None → self.new.count ≤ MOST_VARIABLES }
-        ensures met { result ≡ Ok None → self.new ≡ met_all text.now self.old (nodes_of atoms.now) }
+        ensures met { result ≡ Ok None → self.new ≡ met_all text.now self.old (raw_nodes atoms.now) }
     {
         for atom in atoms {
             if let Some(at) = self.meet_nodes(alloc, text, atom.nodes.as_slice())? {
@@ -129,7 +129,7 @@ impl Seen {
 
 // The nodes of an element that is an atom.
 fn nodes_in(elem: &RawElem) -> &[RawNode]
-    ensures { result.now ≡ nodes_of (atoms_in elem.now) }
+    ensures { result.now ≡ raw_nodes (atoms_in elem.now) }
 {
     match elem {
         RawElem::Atom { atom, .. } => atom.nodes.as_slice(),
@@ -139,7 +139,7 @@ fn nodes_in(elem: &RawElem) -> &[RawNode]
 
 // The place of the first variable of a side that is one too many.
 fn side_past(alloc: Global, text: &[u8], side: &[RawElem]) -> Result<Option<u32>, AllocError>
-    ensures { IfOk result (λ past. past ≡ slice_get (new_in text.now unseen (flat_map (λ elem. nodes_of (atoms_in elem)) side.now)) MOST_VARIABLES) }
+    ensures { IfOk result (λ past. past ≡ slice_get (new_in text.now unseen (flat_map (λ elem. raw_nodes (atoms_in elem)) side.now)) MOST_VARIABLES) }
 {
     let mut seen = Seen::new(alloc);
     for elem in side {

@@ -18,7 +18,7 @@ use Rattle.cep_rule.specs.Patterns.{PremiseTree, ClauseTree}
 use Rattle.cep_rule.specs.Binding.{OccursInSome, IsBoundRule, IsBoundClause}
 use Rattle.cep_names.specs.Items.{Source, RuleItem, ClauseItem, said}
 use Rattle.cep_names.specs.Uses.{atoms_of}
-use Rattle.cep_names.specs.Variables.{Occurrence, occurrence_at, blanks_behind, occurrences_from, occurrences_of, firsts_beside, nodes_of, variables_of}
+use Rattle.cep_names.specs.Variables.{Occurrence, occurrence_at, blanks_behind, occurrences_from, occurrences_of, firsts_beside, raw_nodes, variables_of}
 use Rattle.cep_types.specs.Sites.{rule_scope, clause_scope}
 use Rattle.cep_types.specs.Heads.{var, variable_of, head_at, heads_from, blanks_after, IsAtomBy, AreAtomsBy}
 use Rattle.cep_infer.specs.Meaning.{names_of, is_back, ArePremisesBy, IsRuleBy, IsClauseBy}
@@ -58,7 +58,7 @@ occurs_in_atom source vars blanks raw atom o by there =
     terms_occur atom.args (variable_of vars o.name) (subst (λ hs. Contains hs (var (variable_of vars o.name))) (sym by.heads) (occurs_in_nodes source vars blanks raw.nodes o there))
 
 -- an occurrence among the atoms of a list is in one of them
-in_atoms : (source : Source) (vars : List (List ℕ)) (blanks : ℕ) (raws : List RawAtom) (list : List AtomTree) (o : Occurrence) → AreAtomsBy source vars blanks raws list → Contains (occurrences_from source blanks (nodes_of raws)) o → OccursInSome (variable_of vars o.name) list
+in_atoms : (source : Source) (vars : List (List ℕ)) (blanks : ℕ) (raws : List RawAtom) (list : List AtomTree) (o : Occurrence) → AreAtomsBy source vars blanks raws list → Contains (occurrences_from source blanks (raw_nodes raws)) o → OccursInSome (variable_of vars o.name) list
 in_atoms source vars blanks [] [] o by there = absurd (contains_none o there)
 in_atoms source vars blanks [] (atom ∷ list) o by there = absurd by
 in_atoms source vars blanks (raw ∷ raws) [] o by there = absurd by
@@ -66,7 +66,7 @@ in_atoms source vars blanks (raw ∷ raws) (atom ∷ list) o by there =
     ⊎_elim
     (λ here. inl (occurs_in_atom source vars blanks raw atom o by.0 here))
     (λ later. inr (in_atoms source vars (blanks_after blanks raw.nodes) raws list o by.1 later))
-    (contains_either (occurrences_from source blanks raw.nodes) _ o (subst (λ os. Contains os o) (occurrences_both source blanks raw.nodes (nodes_of raws)) there))
+    (contains_either (occurrences_from source blanks raw.nodes) _ o (subst (λ os. Contains os o) (occurrences_both source blanks raw.nodes (raw_nodes raws)) there))
 
 -- the premise in which it occurs
 pub record OccursInPremise (v : ℕ) (list : List PremiseTree) : Type 0 where
@@ -74,7 +74,7 @@ pub record OccursInPremise (v : ℕ) (list : List PremiseTree) : Type 0 where
   pub there : Contains list premise
   pub occurs : OccursIn v premise.atom
 
-in_premises : (source : Source) (vars : List (List ℕ)) (blanks : ℕ) (elems : List RawElem) (list : List PremiseTree) (o : Occurrence) → ArePremisesBy source vars blanks elems list → Contains (occurrences_from source blanks (nodes_of (atoms_of elems))) o → OccursInPremise (variable_of vars o.name) list
+in_premises : (source : Source) (vars : List (List ℕ)) (blanks : ℕ) (elems : List RawElem) (list : List PremiseTree) (o : Occurrence) → ArePremisesBy source vars blanks elems list → Contains (occurrences_from source blanks (raw_nodes (atoms_of elems))) o → OccursInPremise (variable_of vars o.name) list
 in_premises source vars blanks [] [] o by there = absurd (contains_none o there)
 in_premises source vars blanks [] (p ∷ list) o by there = absurd by
 in_premises source vars blanks (elem.Qui span ∷ elems) list o by there = in_premises source vars blanks elems list o by there
@@ -84,7 +84,7 @@ in_premises source vars blanks (elem.Atom kept raw ∷ elems) (p ∷ list) o by 
     ⊎_elim
     (λ here. record { premise = p; there = contains_first p list; occurs = occurs_in_atom source vars blanks raw p.atom o by.1 here })
     (λ later. let is = in_premises source vars (blanks_after blanks raw.nodes) elems list o by.2 later in record { premise = is.premise; there = contains_behind p list is.premise is.there; occurs = is.occurs })
-    (contains_either (occurrences_from source blanks raw.nodes) _ o (subst (λ os. Contains os o) (occurrences_both source blanks raw.nodes (nodes_of (atoms_of elems))) there))
+    (contains_either (occurrences_from source blanks raw.nodes) _ o (subst (λ os. Contains os o) (occurrences_both source blanks raw.nodes (raw_nodes (atoms_of elems))) there))
 
 -- an atom of a list
 occurs_in_list : (v : ℕ) (list : List AtomTree) (atom : AtomTree) → Contains list atom → OccursIn v atom → OccursInSome v list
@@ -119,10 +119,10 @@ module _ (source : Source) where
   bound_vars item bound =
       let left = atoms_of item.raw.left in
       let right = atoms_of item.raw.right in
-      let left_occurrences = occurrences_from source 0 (nodes_of left) in
-      let right_occurrences = occurrences_from source (blanks_after 0 (nodes_of left)) (nodes_of right) in
+      let left_occurrences = occurrences_from source 0 (raw_nodes left) in
+      let right_occurrences = occurrences_from source (blanks_after 0 (raw_nodes left)) (raw_nodes right) in
       ap (λ ns. firsts_beside [] (occurrences_from source 0 ns)) (flat_map-append (λ (atom : RawAtom). atom.nodes) left right)
-      ∙ ap (firsts_beside []) (occurrences_both source 0 (nodes_of left) (nodes_of right))
+      ∙ ap (firsts_beside []) (occurrences_both source 0 (raw_nodes left) (raw_nodes right))
       ∙ firsts_append [] left_occurrences right_occurrences
       (λ o there.
       let left_out = none_pass (λ (o : Occurrence). not (list_any (λ name. bytes_eq name o.name) (names_of source left))) right_occurrences o bound there in

@@ -21,12 +21,12 @@ use Rattle.cep_names.specs.declared.space.Space.TheVariants as space
 use Rattle.cep_names.specs.Items.{Source, ClauseItem, RuleItem, TraceItem, said, stages_of, clauses_of, rules_of, traces_of}
 use Rattle.cep_names.specs.Spaces.{Named, names_in, rule_names_from, unlabelled_behind}
 use Rattle.cep_names.specs.Uses.{atoms_of}
-use Rattle.cep_names.specs.Variables.{blanks_behind, nodes_of}
+use Rattle.cep_names.specs.Variables.{blanks_behind, raw_nodes}
 use Rattle.cep_names.specs.Starts.{start_atoms}
 use Rattle.cep_names.specs.Misnamed.{wrong, number_said}
 use Rattle.cep_names.specs.Misnamed.Misnamed.{no_trace}
 use Rattle.cep_types.specs.Sites.{rule_scope, clause_scope}
-use Rattle.cep_types.specs.Heads.{Head, var, con, count_of, heads_of, heads_among, number_of, variable_of, head_at, heads_from, blanks_after, IsAtomBy, AreAtomsBy}
+use Rattle.cep_types.specs.Heads.{Head, var, con, argument_count, heads_of, heads_among, number_of, variable_of, head_at, heads_from, blanks_after, IsAtomBy, AreAtomsBy}
 use Rattle.cep_infer.specs.Meaning.{signature_of, stage_by, names_of, kinds_of, is_back, ArePremisesBy, group_of, next_of, IsRuleBy, AreRulesBy, IsClauseBy, AreClausesBy, AreParts}
 use Rattle.cep_ground.specs.Texts.{IsClean}
 use Rattle.cep_ground.proofs.Members.{contains_first, contains_behind}
@@ -37,11 +37,11 @@ use Rattle.cep_ground.proofs.StartState.{start_listed_all}
 record AreSplit (front back : ℕ) (ts : Trees) : Type 0 where
   first : Trees
   rest : Trees
-  first_count : count_of first ≡ front
-  rest_count : count_of rest ≡ back
+  first_count : argument_count first ≡ front
+  rest_count : argument_count rest ≡ back
   heads : heads_among ts ≡ heads_among first ++ heads_among rest
 
-split : (front back : ℕ) (ts : Trees) → count_of ts ≡ front + back → AreSplit front back ts
+split : (front back : ℕ) (ts : Trees) → argument_count ts ≡ front + back → AreSplit front back ts
 split zero back ts count = record { first = none; rest = ts; first_count = refl; rest_count = omega (arith, count); heads = refl }
 split (suc front) back none count = absurd (omega (arith, count))
 split (suc front) back (more t ts) count =
@@ -57,14 +57,14 @@ split (suc front) back (more t ts) count =
 -- terms with these nodes
 record AreBuilt (terms : ℕ) (heads : List Head) : Type 0 where
   trees : Trees
-  count : count_of trees ≡ terms
+  count : argument_count trees ≡ terms
   heads_are : heads_among trees ≡ heads
 
 module _ (source : Source) (vars : List (List ℕ)) where
   build_node : (shape : RawKind) (at : Span) (args terms blanks : ℕ) (heads : List Head) → IsCount shape args → AreBuilt (args + terms) heads → AreBuilt (suc terms) (head_at source vars blanks shape at args ∷ heads)
   build_node kind.App at args terms blanks heads is built =
       let parts = split args terms built.trees built.count in
-      let head : con (number_of source space.Constructors (said source at)) (count_of parts.first) ≡ con (number_of source space.Constructors (said source at)) args = ap (con (number_of source space.Constructors (said source at))) parts.first_count in
+      let head : con (number_of source space.Constructors (said source at)) (argument_count parts.first) ≡ con (number_of source space.Constructors (said source at)) args = ap (con (number_of source space.Constructors (said source at))) parts.first_count in
       let rest = sym parts.heads ∙ built.heads_are in
       record {
         trees = more (node (number_of source space.Constructors (said source at)) parts.first) parts.rest;
@@ -138,7 +138,7 @@ module _ (source : Source) (clean : IsClean source) (made : AtomsMade source) wh
   has_rule name item there =
       let vars = names_of source (rule_scope item) in
       let left = has_premises source vars 0 item.raw.left (λ raw inside. (left_here source clean made item there raw inside).filled) in
-      let right = has_atoms source vars (blanks_after 0 (nodes_of (atoms_of item.raw.left))) (atoms_of item.raw.right) (λ raw inside. (right_here source clean made item there raw inside).filled) in
+      let right = has_atoms source vars (blanks_after 0 (raw_nodes (atoms_of item.raw.left))) (atoms_of item.raw.right) (λ raw inside. (right_here source clean made item there raw inside).filled) in
       record {
         rule = record {
           name = name;

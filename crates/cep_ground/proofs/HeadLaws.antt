@@ -1,8 +1,8 @@
 -- What the nodes of terms in prefix order say of them.
 use Rattle.std.proofs.Common.{◌≡◌, inl, inr, ⊎_elim, ℕ, List, [], ◌∷◌, ◌++◌, length, refl, sym, ◌∙◌, arith, append_assoc, length-append, Contains}
 use Rattle.std.specs.List.{AllByRecursion}
-use Rattle.cep_term.specs.Tree.{Tree, Trees, variable, node, none, more, AreGround, IsGround, nodes_of, nodes_among, Occurs, OccursAmong}
-use Rattle.cep_types.specs.Heads.{Head, var, con, count_of, heads_of, heads_among}
+use Rattle.cep_term.specs.Tree.{Tree, Trees, variable, node, none, more, AreGround, IsGround, term_nodes, argument_nodes, Occurs, OccursAmong}
+use Rattle.cep_types.specs.Heads.{Head, var, con, argument_count, heads_of, heads_among}
 use Rattle.cep_ground.proofs.Members.{contains_cases, contains_none, contains_either}
 
 -- two lists of terms that are as many and have the same nodes in front of others are the same
@@ -16,19 +16,19 @@ mutual
   term_once (variable v) (node d us) heads heads' e = absurd cc
   term_once (node c ts) (variable w) heads heads' e = absurd cc
   term_once (node c ts) (node d us) heads heads' e =
-      let count : count_of ts ≡ count_of us = cc in
+      let count : argument_count ts ≡ argument_count us = cc in
       let head : c ≡ d = cc in
       let both = terms_once ts us heads heads' count cc in
       let same = both.same in
       record { same = cc; behind = both.behind }
 
-  pub terms_once : (ts us : Trees) (heads heads' : List Head) → count_of ts ≡ count_of us → heads_among ts ++ heads ≡ heads_among us ++ heads' → AreSame ts us heads heads'
+  pub terms_once : (ts us : Trees) (heads heads' : List Head) → argument_count ts ≡ argument_count us → heads_among ts ++ heads ≡ heads_among us ++ heads' → AreSame ts us heads heads'
   terms_once none none heads heads' count e = record { same = refl; behind = e }
   terms_once none (more u us) heads heads' count e = absurd (omega (arith, count))
   terms_once (more t ts) none heads heads' count e = absurd (omega (arith, count))
   terms_once (more t ts) (more u us) heads heads' count e =
       let first = term_once t u (heads_among ts ++ heads) (heads_among us ++ heads') (sym (append_assoc (heads_of t) (heads_among ts) heads) ∙ e ∙ append_assoc (heads_of u) (heads_among us) heads') in
-      let fewer : count_of ts ≡ count_of us = omega (arith, count) in
+      let fewer : argument_count ts ≡ argument_count us = omega (arith, count) in
       let rest = terms_once ts us heads heads' fewer first.behind in
       let same = first.same in
       let others = rest.same in
@@ -36,14 +36,14 @@ mutual
 
 -- there are as many nodes as in the terms
 mutual
-  pub term_nodes : (t : Tree) → nodes_of t ≡ length (heads_of t)
-  term_nodes (variable v) = refl
-  term_nodes (node c args) = let e = terms_nodes args in omega (arith, e)
+  pub term_heads : (t : Tree) → term_nodes t ≡ length (heads_of t)
+  term_heads (variable v) = refl
+  term_heads (node c args) = let e = terms_nodes args in omega (arith, e)
 
-  pub terms_nodes : (ts : Trees) → nodes_among ts ≡ length (heads_among ts)
+  pub terms_nodes : (ts : Trees) → argument_nodes ts ≡ length (heads_among ts)
   terms_nodes none = refl
   terms_nodes (more t rest) =
-      let e = term_nodes t in
+      let e = term_heads t in
       let f = terms_nodes rest in
       let g = length-append (heads_of t) (heads_among rest) in
       omega (arith, e, f, g)
@@ -75,7 +75,7 @@ mutual
 mutual
   pub term_occurs : (t : Tree) (v : ℕ) → Contains (heads_of t) (var v) → Occurs v t
   term_occurs (variable w) v there = ⊎_elim (λ (here : var w ≡ var v). cc) (λ later. absurd (contains_none (var v) later)) (contains_cases (var w) [] (var v) there)
-  term_occurs (node c args) v there = ⊎_elim (λ (here : con c (count_of args) ≡ var v). absurd cc) (λ later. terms_occur args v later) (contains_cases (con c (count_of args)) (heads_among args) (var v) there)
+  term_occurs (node c args) v there = ⊎_elim (λ (here : con c (argument_count args) ≡ var v). absurd cc) (λ later. terms_occur args v later) (contains_cases (con c (argument_count args)) (heads_among args) (var v) there)
 
   pub terms_occur : (ts : Trees) (v : ℕ) → Contains (heads_among ts) (var v) → OccursAmong v ts
   terms_occur none v there = absurd (contains_none (var v) there)

@@ -3,7 +3,7 @@ use Rattle.std.proofs.Common.{◌≡◌, ◌⊎◌, inl, inr, ⊎_elim, ℕ, zer
 use Rattle.std.specs.Prelude.{Some, slice_get, cond}
 use Rattle.std.specs.List.{AllByRecursion}
 use Rattle.cep_parse.specs.declared.raw.RawAtom.{RawAtom}
-use Rattle.cep_names.specs.Variables.{nodes_of}
+use Rattle.cep_names.specs.Variables.{raw_nodes}
 use Rattle.cep_ground.proofs.Members.{contains_first, contains_behind, contains_cases}
 
 -- where nothing stands at a place, there are not more
@@ -36,12 +36,12 @@ filters_cover p q (x ∷ xs) some =
     omega (arith, all, e, f)
 
 -- the nodes of some atoms, each of which has not too many
-pub nodes_few : (atoms : List RawAtom) → ((raw : RawAtom) → Contains atoms raw → length raw.nodes ≤ 1048576) → length (nodes_of atoms) ≤ length atoms * 1048576
+pub nodes_few : (atoms : List RawAtom) → ((raw : RawAtom) → Contains atoms raw → length raw.nodes ≤ 1048576) → length (raw_nodes atoms) ≤ length atoms * 1048576
 nodes_few [] few = omega arith
 nodes_few (raw ∷ atoms) few =
     let here = few raw (contains_first raw atoms) in
     let rest = nodes_few atoms (λ other there. few other (contains_behind raw atoms other there)) in
-    let e = length-append raw.nodes (nodes_of atoms) in
+    let e = length-append raw.nodes (raw_nodes atoms) in
     omega (arith, here, rest, e)
 
 all_cond : {X : Type 0} (P : X → Type 0) (b : Bool) (x : X) (xs : List X) → P x → AllByRecursion P xs → AllByRecursion P (cond b (x ∷ xs) xs)

@@ -7,11 +7,12 @@ use Rattle.std.specs.Prelude.{Option, Some, None, codes, decimal, ◌==◌}
 use Rattle.std.specs.Int.{is_in_range, IsInRange}
 use Rattle.std.specs.Str.Parse.{AllDigits}
 use Rattle.std.specs.List.{AllByRecursion}
+use Rattle.cep_base.specs.Spelling.{is_name_byte}
 use Rattle.cep_parse.specs.declared.raw.Span.{Span}
 use Rattle.cep_parse.specs.declared.raw.RawItem.{RawItem}
 use Rattle.cep_parse.specs.declared.raw.RawItem.TheVariants as item
 use Rattle.cep_parse.specs.Written.{IsNameAt, IsLabelOf, IsRuleOf, IsItemOf}
-use Rattle.cep_rule.specs.Names.{IsName, AreNames, AllDiffer, is_name_byte}
+use Rattle.cep_rule.specs.Names.{IsName, AreNames, AllDiffer}
 use Rattle.cep_names.specs.declared.reason.Reason.TheVariants.{OverLimit}
 use Rattle.cep_names.specs.declared.space.Space.{Space}
 use Rattle.cep_names.specs.declared.space.Space.TheVariants as space

@@ -14,7 +14,7 @@ use Rattle.cep_rule.specs.declared.parts.Parts.{Parts}
 use Rattle.cep_rule.specs.Patterns.{PremiseTree, ClauseTree}
 use Rattle.cep_names.specs.Items.{Source, ClauseItem, RuleItem, TraceItem, said}
 use Rattle.cep_names.specs.Uses.{atoms_of}
-use Rattle.cep_names.specs.Variables.{nodes_of}
+use Rattle.cep_names.specs.Variables.{raw_nodes}
 use Rattle.cep_types.specs.Sites.{clause_scope}
 use Rattle.cep_types.specs.Heads.{number_of, blanks_after, heads_among, IsAtomBy, AreAtomsBy}
 use Rattle.cep_infer.specs.Meaning.{is_back, ArePremisesBy, IsRuleBy, AreRulesBy, IsClauseBy, AreClausesBy, IsStartBy, AreParts}
@@ -65,7 +65,7 @@ rule_once source name item r s one other =
     same_rule r s (one.name_is ∙ sym other.name_is) (one.group_is ∙ sym other.group_is) vars (one.kinds_are ∙ sym other.kinds_are)
     (one.premises_are ∙ ap (filter (λ (p : PremiseTree). not (is_back source p.atom))) left ∙ sym other.premises_are)
     (one.backs_are ∙ ap (λ ps. map (λ (p : PremiseTree). p.atom) (filter (λ (p : PremiseTree). is_back source p.atom) ps)) left ∙ sym other.backs_are)
-    (atoms_once source s.vars (blanks_after 0 (nodes_of (atoms_of item.raw.left))) (atoms_of item.raw.right) r.right s.right (subst (λ vs. AreAtomsBy source vs (blanks_after 0 (nodes_of (atoms_of item.raw.left))) (atoms_of item.raw.right) r.right) vars one.right_is) other.right_is)
+    (atoms_once source s.vars (blanks_after 0 (raw_nodes (atoms_of item.raw.left))) (atoms_of item.raw.right) r.right s.right (subst (λ vs. AreAtomsBy source vs (blanks_after 0 (raw_nodes (atoms_of item.raw.left))) (atoms_of item.raw.right) r.right) vars one.right_is) other.right_is)
     (one.next_is ∙ sym other.next_is)
 
 rules_once : (source : Source) (names : List (List ℕ)) (items : List RuleItem) (xs ys : List Rule) → AreRulesBy source names items xs → AreRulesBy source names items ys → xs ≡ ys

@@ -4,7 +4,7 @@ use Rattle.std.proofs.lemmas.List.Sums.{sum_by-append, sum_by-cons}
 use Rattle.std.proofs.lemmas.Bool.{eqb-false}
 use Rattle.std.specs.Prelude.{◌==◌, sum_by, cond}
 use Rattle.cep_base.specs.declared.place.Pos.{Pos}
-use Rattle.cep_lex.specs.Cuts.{IsUnbroken}
+use Rattle.cep_base.specs.Spelling.{IsUnbroken}
 use Rattle.cep_lex.specs.Places.{IsPlaceBehind, IsEnded}
 use Rattle.cep_ground.specs.Refusals.{StandsBefore}
 

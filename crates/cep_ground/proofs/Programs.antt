@@ -23,13 +23,13 @@ use Rattle.cep_rule.specs.Limits.{IsSmallPattern, IsSmallSignature, IsSmallRule,
 use Rattle.cep_rule.specs.Groundness.{Calls, IsBad, IsGrounded, nothing, known_after_all}
 use Rattle.cep_rule.specs.Binding.{needed_of}
 use Rattle.cep_rule.specs.State.{IsState}
-use Rattle.cep_rule.specs.Program.{AreSorts, AreInRange, IsTypedRule, IsTypedClause, IsDividedRule, IsDividedClause, IsGroupedRule, IsProgram}
+use Rattle.cep_rule.specs.Program.{AreSorts, AreNumbersDeclared, IsTypedRule, IsTypedClause, IsDividedRule, IsDividedClause, IsGroupedRule, IsProgram}
 use Rattle.cep_names.specs.declared.reason.Reason.TheVariants.{OverLimit}
 use Rattle.cep_names.specs.declared.space.Space.TheVariants as space
 use Rattle.cep_names.specs.Items.{Source, PredItem, ConItem, ClauseItem, RuleItem, TraceItem, said, sorts_in, sorts_of, preds_of, cons_of, stages_in, stages_of, clauses_of, rules_of, traces_in, traces_of}
 use Rattle.cep_names.specs.Spaces.{Named, named, names_in}
 use Rattle.cep_names.specs.Uses.{atoms_of, use_in, own_uses, start_uses}
-use Rattle.cep_names.specs.Variables.{Occurrence, nodes_of, variables_of}
+use Rattle.cep_names.specs.Variables.{Occurrence, raw_nodes, variables_of}
 use Rattle.cep_names.specs.Misnamed.{wrong, number_said}
 use Rattle.cep_names.specs.Misnamed.Misnamed.{over}
 use Rattle.cep_names.specs.Misnamed.{IsOver as overs}
@@ -152,7 +152,7 @@ module _ (source : Source) (clean : IsClean source) (made : AtomsMade source) (i
   clauses_size (item_ ∷ written) [] by = absurd by
   clauses_size (item_ ∷ written) (clause ∷ clauses) by = ap suc (clauses_size written clauses by.1)
 
-  nodes_of_scope : (atoms : List RawAtom) → AreHere source clean made atoms → length (nodes_of atoms) < 2 ^ 63
+  nodes_of_scope : (atoms : List RawAtom) → AreHere source clean made atoms → length (raw_nodes atoms) < 2 ^ 63
   nodes_of_scope atoms are =
       let nodes = nodes_few atoms (λ raw there. let here = are.here raw there in let s = nodes_short source clean made here.role raw here.there in omega (arith, s)) in
       let count = are.few in
@@ -287,7 +287,7 @@ module _ (source : Source) (clean : IsClean source) (made : AtomsMade source) (i
       in_range_parts : (parts : Parts) (are : AreParts source parts)
           → ((P : Rule → Type 0) → ((name : List ℕ) (item_ : RuleItem) (rule : Rule) → Contains (rules_of source) item_ → IsRuleBy source name item_ rule → P rule) → AllByRecursion P parts.rules)
           → ((P : ClauseTree → Type 0) → ((item_ : ClauseItem) (clause : ClauseTree) → Contains (clauses_of source) item_ → IsClauseBy source item_ clause → P clause) → AllByRecursion P parts.clauses)
-          → length parts.signature.sorts ≡ length (sorts_of source) → length parts.stages ≡ length (stages_of source) → Contains (traces_of source) are.trace → AreInRange parts
+          → length parts.signature.sorts ≡ length (sorts_of source) → length parts.stages ≡ length (stages_of source) → Contains (traces_of source) are.trace → AreNumbersDeclared parts
       in_range_parts parts are each_rule each_clause sort_size stage_size trace_there = record {
         con_sorts = subst (λ n. AllByRecursion (λ (con : Con). con.sort < n) parts.signature.cons) (sym sort_size)
             (subst (λ (s : Signature). AllByRecursion (λ (con : Con). con.sort < length (sorts_of source)) s.cons) (sym are.signature_is)

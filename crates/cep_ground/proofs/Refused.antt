@@ -3,7 +3,7 @@ use Rattle.std.proofs.Common.{◌≡◌, ◌⊎◌, inl, inr, ℕ, ◌<◌, ◌�
 use Rattle.std.proofs.lemmas.Bool.{ltb-true, ltb-false}
 use Rattle.std.specs.Prelude.{Result, Ok, Err}
 use Rattle.cep_lex.specs.declared.token.Token.{Token}
-use Rattle.cep_lex.specs.declared.token.TheConstants.{MOST_BYTES}
+use Rattle.cep_base.specs.declared.limits.TheConstants.{MOST_TEXT}
 use Rattle.cep_lex.specs.declared.fault.LexFault.{LexFault}
 use Rattle.cep_lex.specs.declared.fault.LexFault.TheVariants as lex
 use Rattle.cep_lex.specs.Cuts.{AreTokens, IsBadByte, IsNameLong, IsLexed}
@@ -52,7 +52,7 @@ told_itself fault other same = subst (IsToldFirst fault) same (inr (refl, inr (r
 same_wrong : (reason : Reason) (one other : ℕ) (fault : Fault) → one ≡ other → fault ≡ wrong reason other → wrong reason one ≡ fault
 same_wrong reason one other fault same is = ap (wrong reason) same ∙ sym is
 
-pub refused_too_long : (text : List ℕ) → MOST_BYTES < length text → IsRefusedFor text (wrong TooLong 0)
+pub refused_too_long : (text : List ℕ) → MOST_TEXT < length text → IsRefusedFor text (wrong TooLong 0)
 refused_too_long text long = record { holds = too_long long refl; first = first }
   where
     first : (other : Fault) → IsWrong text other → IsToldFirst (wrong TooLong 0) other
@@ -86,7 +86,7 @@ module _ (lexed : LexedOnce) (text : List ℕ) where
   not_both : (at at' : ℕ) → IsBadByte text at → IsNameLong text at' → ⊥
   not_both at at' is is' = let e = lexed text (Err (lex.BadByte at)) (Err (lex.NameLong at')) is is' in absurd cc
 
-  pub refused_bad_byte : (at : ℕ) → length text ≤ MOST_BYTES → IsBadByte text at → IsRefusedFor text (wrong BadByte at)
+  pub refused_bad_byte : (at : ℕ) → length text ≤ MOST_TEXT → IsBadByte text at → IsRefusedFor text (wrong BadByte at)
   refused_bad_byte at short bad = record { holds = bad_byte at short bad refl; first = first }
     where
       first : (other : Fault) → IsWrong text other → IsToldFirst (wrong BadByte at) other
@@ -100,7 +100,7 @@ module _ (lexed : LexedOnce) (text : List ℕ) where
       first other (unbound source rule o text_is short' is_source there inside is) = absurd (no_source (lex.BadByte at) source bad text_is is_source)
       first other (not_built source parts text_is clean bound are not_ is) = absurd (no_source (lex.BadByte at) source bad text_is clean.is_source)
 
-  pub refused_name_long : (at : ℕ) → length text ≤ MOST_BYTES → IsNameLong text at → IsRefusedFor text (wrong NameLong at)
+  pub refused_name_long : (at : ℕ) → length text ≤ MOST_TEXT → IsNameLong text at → IsRefusedFor text (wrong NameLong at)
   refused_name_long at short bad = record { holds = name_long at short bad refl; first = first }
     where
       first : (other : Fault) → IsWrong text other → IsToldFirst (wrong NameLong at) other
@@ -139,7 +139,7 @@ module _ (lexed : LexedOnce) (text : List ℕ) where
     not_both_parse tokens tokens' at at' are are' is is' =
         let e = parsed text tokens (Err (parse.Unexpected at)) (Err (parse.Nested at')) is (subst (λ ts. IsNested (symbols_of text ts) at') (tokens_same tokens' tokens are' are) is') in absurd cc
 
-    pub refused_unexpected : (tokens : List Token) (at : ℕ) → length text ≤ MOST_BYTES → AreTokens text tokens → IsUnexpected (symbols_of text tokens) (length text) at → IsRefusedFor text (wrong Unexpected at)
+    pub refused_unexpected : (tokens : List Token) (at : ℕ) → length text ≤ MOST_TEXT → AreTokens text tokens → IsUnexpected (symbols_of text tokens) (length text) at → IsRefusedFor text (wrong Unexpected at)
     refused_unexpected tokens at short are bad = record { holds = unexpected tokens at short are bad refl; first = first }
       where
         first : (other : Fault) → IsWrong text other → IsToldFirst (wrong Unexpected at) other
@@ -153,7 +153,7 @@ module _ (lexed : LexedOnce) (text : List ℕ) where
         first other (unbound source rule o text_is short' is_source there inside is) = absurd (no_parse_fault tokens (parse.Unexpected at) source are bad text_is is_source)
         first other (not_built source parts text_is clean bound are' not_ is) = absurd (no_parse_fault tokens (parse.Unexpected at) source are bad text_is clean.is_source)
 
-    pub refused_nested : (tokens : List Token) (at : ℕ) → length text ≤ MOST_BYTES → AreTokens text tokens → IsNested (symbols_of text tokens) at → IsRefusedFor text (wrong Nested at)
+    pub refused_nested : (tokens : List Token) (at : ℕ) → length text ≤ MOST_TEXT → AreTokens text tokens → IsNested (symbols_of text tokens) at → IsRefusedFor text (wrong Nested at)
     refused_nested tokens at short are bad = record { holds = nested tokens at short are bad refl; first = first }
       where
         first : (other : Fault) → IsWrong text other → IsToldFirst (wrong Nested at) other
@@ -167,7 +167,7 @@ module _ (lexed : LexedOnce) (text : List ℕ) where
         first other (unbound source rule o text_is short' is_source there inside is) = absurd (no_parse_fault tokens (parse.Nested at) source are bad text_is is_source)
         first other (not_built source parts text_is clean bound are' not_ is) = absurd (no_parse_fault tokens (parse.Nested at) source are bad text_is clean.is_source)
 
-    module _ (file_once : FileOnce) (source : Source) (text_is : source.text ≡ text) (short : length text ≤ MOST_BYTES) (is_source : IsSource source) where
+    module _ (file_once : FileOnce) (source : Source) (text_is : source.text ≡ text) (short : length text ≤ MOST_TEXT) (is_source : IsSource source) where
       tokens_are : AreTokens text is_source.tokens
       tokens_are = subst (λ t. AreTokens t is_source.tokens) text_is is_source.lexed
 

@@ -1,6 +1,6 @@
 -- What is told of a text whose names or types are wrong.
 use Rattle.std.proofs.Common.{inl, inr, ◌≤◌, length, refl}
-use Rattle.cep_lex.specs.declared.token.TheConstants.{MOST_BYTES}
+use Rattle.cep_base.specs.declared.limits.TheConstants.{MOST_TEXT}
 use Rattle.cep_names.specs.declared.fault.Fault.{Fault}
 use Rattle.cep_names.specs.Items.{Source}
 use Rattle.cep_infer.specs.declared.draft.Refusal.{Refusal}
@@ -10,7 +10,7 @@ use Rattle.cep_ground.specs.Refusals.{IsRefusedFor, Tells}
 use Rattle.cep_ground.proofs.OneProgram.{LexedOnce, FileOnce}
 use Rattle.cep_ground.proofs.Refused.{ParsedOnce, refused_misnamed, refused_mistyped}
 
-module _ (lexed : LexedOnce) (parsed : ParsedOnce) (file_once : FileOnce) (source : Source) (short : length source.text ≤ MOST_BYTES) (is_source : IsSource source) where
+module _ (lexed : LexedOnce) (parsed : ParsedOnce) (file_once : FileOnce) (source : Source) (short : length source.text ≤ MOST_TEXT) (is_source : IsSource source) where
   -- the first fault of names, or else of types, is the one for which a text is refused
   refused_first : (fault : Fault) → IsFirstFault source fault → IsRefusedFor source.text fault
   refused_first fault (inl names) = refused_misnamed lexed source.text parsed file_once source refl short is_source fault names

@@ -11,7 +11,7 @@ use Rattle.cep_parse.specs.declared.raw.RawNode.{RawNode}
 use Rattle.cep_parse.specs.declared.raw.RawAtom.{RawAtom}
 use Rattle.cep_parse.specs.declared.raw.RawElem.{RawElem}
 use Rattle.cep_parse.specs.declared.raw.RawElem.TheVariants as elem
-use Rattle.cep_term.specs.Tree.{AtomTree, nodes_in}
+use Rattle.cep_term.specs.Tree.{AtomTree, atom_nodes}
 use Rattle.cep_rule.specs.declared.signature.PredDecl.{PredDecl}
 use Rattle.cep_rule.specs.declared.rule.Rule.{Rule}
 use Rattle.cep_rule.specs.Patterns.{PremiseTree, ClauseTree}
@@ -24,7 +24,7 @@ use Rattle.cep_names.specs.declared.space.Space.TheVariants as space
 use Rattle.cep_names.specs.Items.{Source, RuleItem, ClauseItem, PredItem, said, rules_of, clauses_of, preds_of}
 use Rattle.cep_names.specs.Spaces.{named, back_of}
 use Rattle.cep_names.specs.Uses.{placed, placed_of, atoms_of}
-use Rattle.cep_names.specs.Variables.{nodes_of, blanks_behind, variables_of, Occurrence}
+use Rattle.cep_names.specs.Variables.{raw_nodes, blanks_behind, variables_of, Occurrence}
 use Rattle.cep_names.specs.Misnamed.{wrong, is_declared}
 use Rattle.cep_names.specs.Misnamed.ComesToState.{made}
 use Rattle.cep_names.specs.Misnamed.Misnamed.{backward_in_state, linear_in_clause}
@@ -46,7 +46,7 @@ heads_size : (source : Source) (vars : List (List ℕ)) (blanks : ℕ) (nodes : 
 heads_size source vars blanks [] = refl
 heads_size source vars blanks (first ∷ nodes) = ap suc (heads_size source vars (blanks_behind blanks first.kind) nodes)
 
-pub atom_size : (source : Source) (vars : List (List ℕ)) (blanks : ℕ) (raw : RawAtom) (atom : AtomTree) → IsAtomBy source vars blanks raw atom → nodes_in atom ≡ 1 + length raw.nodes
+pub atom_size : (source : Source) (vars : List (List ℕ)) (blanks : ℕ) (raw : RawAtom) (atom : AtomTree) → IsAtomBy source vars blanks raw atom → atom_nodes atom ≡ 1 + length raw.nodes
 atom_size source vars blanks raw atom by =
     ap (λ n. 1 + n) (terms_nodes atom.args ∙ ap length by.heads ∙ heads_size source vars blanks raw.nodes)
 
@@ -88,7 +88,7 @@ module _ (source : Source) (clean : IsClean source) (atoms_made : AtomsMade sour
   pub record IsJudged (atom : AtomTree) : Type 0 where
     pub back : Bool
     pub of_pred : IsOfPred source atom back
-    pub small : nodes_in atom ≤ 1048576
+    pub small : atom_nodes atom ≤ 1048576
 
   judged_at : (vars : List (List ℕ)) (blanks : ℕ) (raw : RawAtom) (atom : AtomTree) (here : IsHere source raw) → IsAtomBy source vars blanks raw atom → IsJudged atom
   judged_at vars blanks raw atom here by = record {
@@ -248,15 +248,15 @@ module _ (source : Source) (clean : IsClean source) (atoms_made : AtomsMade sour
       let sites_both : sites_of source scope ≡ sites_of source left ++ sites_of source right = flat_map-append _ left right in
       let wanted_all : wanted_from source 0 (sites_of source scope) ≡ wanted_from source 0 (sites_of source left) ++ wanted_from source (blanks_after 0 (nodes_at (sites_of source left))) (sites_of source right) =
       ap (wanted_from source 0) sites_both ∙ wanted_both source 0 (sites_of source left) (sites_of source right) in
-      let after : blanks_after 0 (nodes_at (sites_of source left)) ≡ blanks_after 0 (nodes_of left) = ap (blanks_after 0) (scope_nodes source clean.names clean.types left (left_here source clean atoms_made item there)) in
+      let after : blanks_after 0 (nodes_at (sites_of source left)) ≡ blanks_after 0 (raw_nodes left) = ap (blanks_after 0) (scope_nodes source clean.names clean.types left (left_here source clean atoms_made item there)) in
       let list_typed = typed_premises source clean.names clean.types scope all.scope all.here w s item.raw.left by.left 0 (left_here source clean atoms_made item there)
       (λ site inside. subst (λ sites. Contains sites site) (sym sites_both) (contains_left (sites_of source left) (sites_of source right) site inside))
       (λ wanted inside. subst (λ ws. Contains ws wanted) (sym wanted_all) (contains_left (wanted_from source 0 (sites_of source left)) _ wanted inside))
       (subst (λ vars. ArePremisesBy source vars 0 item.raw.left by.left) by.vars_are by.left_is) in
-      let right_typed = typed_atoms source clean.names clean.types scope all.scope all.here w s right rule.right (blanks_after 0 (nodes_of left)) (right_here source clean atoms_made item there)
+      let right_typed = typed_atoms source clean.names clean.types scope all.scope all.here w s right rule.right (blanks_after 0 (raw_nodes left)) (right_here source clean atoms_made item there)
       (λ site inside. subst (λ sites. Contains sites site) (sym sites_both) (contains_right (sites_of source left) (sites_of source right) site inside))
       (λ wanted inside. subst (λ ws. Contains ws wanted) (sym wanted_all) (contains_right (wanted_from source 0 (sites_of source left)) _ wanted (subst (λ b. Contains (wanted_from source b (sites_of source right)) wanted) (sym after) inside)))
-      (subst (λ vars. AreAtomsBy source vars (blanks_after 0 (nodes_of left)) right rule.right) by.vars_are by.right_is) in
+      (subst (λ vars. AreAtomsBy source vars (blanks_after 0 (raw_nodes left)) right rule.right) by.vars_are by.right_is) in
       let typed : List AtomTree → Type 0 = λ list. AllByRecursion (IsTyped (signature_of source) (kinds_of source scope)) list in
       record {
         kinds = ap length by.kinds_are ∙ kinds_size scope ∙ ap length (sym by.vars_are);

@@ -9,7 +9,7 @@ use Rattle.cep_parse.specs.declared.raw.RawKind.TheVariants as kind
 use Rattle.cep_parse.specs.declared.raw.Span.{Span}
 use Rattle.cep_parse.specs.declared.raw.RawNode.{RawNode}
 use Rattle.cep_parse.specs.declared.raw.RawAtom.{RawAtom}
-use Rattle.cep_parse.specs.Written.{IsAtomOf, IsNodeOf}
+use Rattle.cep_parse.specs.Written.{IsAtomOf, IsWrittenAt}
 use Rattle.cep_lex.specs.declared.token.Token.{Token}
 use Rattle.cep_lex.specs.declared.token.TokenKind.TheVariants as token
 use Rattle.cep_parse.specs.Written.{IsTokenAt}
@@ -20,7 +20,7 @@ use Rattle.cep_names.specs.declared.space.Role.TheVariants as role
 use Rattle.cep_names.specs.Items.{Source, RuleItem, ClauseItem, PredItem, said, rules_of, clauses_of}
 use Rattle.cep_names.specs.Spaces.{back_of}
 use Rattle.cep_names.specs.Uses.{Placed, placed, placed_of, atoms_of}
-use Rattle.cep_names.specs.Variables.{nodes_of}
+use Rattle.cep_names.specs.Variables.{raw_nodes}
 use Rattle.cep_names.specs.Misnamed.{wrong, is_declared, linear_of, backward_of}
 use Rattle.cep_names.specs.Misnamed.Misnamed.{over}
 use Rattle.cep_names.specs.Misnamed.IsOver.{premise, back, right, goal}
@@ -58,25 +58,25 @@ module _ (source : Source) (clean : IsClean source) (made : AtomsMade source) wh
     pub here : (raw : RawAtom) → Contains atoms raw → IsHere source raw
     pub few : length atoms ≤ 4096
 
-  node_word : (tokens : List Token) (is : IsSource source) (shape : RawKind) (at : Span) → tokens ≡ is.tokens → IsNodeOf tokens shape at → shape ≡ kind.Var → IsWord is_ascii_uppercase (said source at)
+  node_word : (tokens : List Token) (is : IsSource source) (shape : RawKind) (at : Span) → tokens ≡ is.tokens → IsWrittenAt tokens shape at → shape ≡ kind.Var → IsWord is_ascii_uppercase (said source at)
   node_word tokens is shape at same node var =
-      variable_word source is at (subst (λ ts. IsTokenAt ts token.Variable at) same (subst (λ k. IsNodeOf tokens k at) var node))
+      variable_word source is at (subst (λ ts. IsTokenAt ts token.Variable at) same (subst (λ k. IsWrittenAt tokens k at) var node))
 
   pub words : (atoms : List RawAtom) → AreHere atoms → AreWords source (sites_of source atoms)
   words atoms are site there var =
       let whole = scope_nodes source clean.names clean.types atoms are.here in
-      let node : Contains (nodes_of atoms) site.node = subst (λ ns. Contains ns site.node) whole (contains_map (λ (s : Site). s.node) (sites_of source atoms) site there) in
+      let node : Contains (raw_nodes atoms) site.node = subst (λ ns. Contains ns site.node) whole (contains_map (λ (s : Site). s.node) (sites_of source atoms) site there) in
       let from = flat_cases (λ (atom : RawAtom). atom.nodes) atoms site.node node in
       let here = are.here from.from from.there in
       let is = atom_of_tokens here.role from.from here.there in
-      node_word clean.is_source.tokens clean.is_source site.node.kind site.node.at refl (all_at (λ (n : RawNode). IsNodeOf clean.is_source.tokens n.kind n.at) from.from.nodes site.node is.nodes from.inside) var
+      node_word clean.is_source.tokens clean.is_source site.node.kind site.node.at refl (all_at (λ (n : RawNode). IsWrittenAt clean.is_source.tokens n.kind n.at) from.from.nodes site.node is.nodes from.inside) var
 
   -- the terms are not too many to be numbered
   pub short : (atoms : List RawAtom) → AreHere atoms → length (sites_of source atoms) < 2 ^ 64
   short atoms are =
       let whole = scope_nodes source clean.names clean.types atoms are.here in
       let size = length-map (sites_of source atoms) (λ (s : Site). s.node) in
-      let same : length (sites_of source atoms) ≡ length (nodes_of atoms) = sym size ∙ ap length whole in
+      let same : length (sites_of source atoms) ≡ length (raw_nodes atoms) = sym size ∙ ap length whole in
       let nodes = nodes_few atoms (λ raw there. let here = are.here raw there in let s = nodes_short here.role raw here.there in omega (arith, s)) in
       let few = are.few in
       omega (arith, same, nodes, few)

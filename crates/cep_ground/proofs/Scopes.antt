@@ -25,7 +25,7 @@ use Rattle.cep_names.specs.declared.space.Space.TheVariants as space
 use Rattle.cep_names.specs.Items.{Source, ConItem, PredItem, said, cons_of, preds_of}
 use Rattle.cep_names.specs.Spaces.{named, pred_named, con_named}
 use Rattle.cep_names.specs.Uses.{atoms_of, placed, placed_of, is_context}
-use Rattle.cep_names.specs.Variables.{Occurrence, occurrence_at, blanks_behind, occurrences_from, nodes_of, variables_of}
+use Rattle.cep_names.specs.Variables.{Occurrence, occurrence_at, blanks_behind, occurrences_from, raw_nodes, variables_of}
 use Rattle.cep_names.specs.Misnamed.{wrong}
 use Rattle.cep_types.specs.Sites.{Site, Wanted, con_types, pred_types, node_types, sites_from, sites_in, sites_of, wanted_from, type_of, IsScope, Mistyped}
 use Rattle.cep_types.specs.Sites.Mistyped.{constructor, variable}
@@ -76,7 +76,7 @@ module _ (source : Source) (names : AreNamesClean source) (types : (fault : Faul
   nodes_both [] other = refl
   nodes_both (site ∷ one) other = ap (λ ns. site.node ∷ ns) (nodes_both one other)
 
-  pub scope_nodes : (atoms : List RawAtom) → ((raw : RawAtom) → Contains atoms raw → IsHere source raw) → nodes_at (sites_of source atoms) ≡ nodes_of atoms
+  pub scope_nodes : (atoms : List RawAtom) → ((raw : RawAtom) → Contains atoms raw → IsHere source raw) → nodes_at (sites_of source atoms) ≡ raw_nodes atoms
   scope_nodes [] here = refl
   scope_nodes (raw ∷ atoms) here =
       nodes_both (sites_in source raw) (sites_of source atoms)
@@ -115,9 +115,9 @@ module _ (source : Source) (names : AreNamesClean source) (types : (fault : Faul
     variable_found : (w : Wanted) → Contains (wanted_from source 0 (sites_of source atoms)) w → IsFound (find (λ (o : Occurrence). bytes_eq o.name w.name) (variables_of source atoms))
     variable_found w there =
         let names_are = wanted_names source 0 (sites_of source atoms) ∙ ap (λ ns. map (λ (o : Occurrence). o.name) (occurrences_from source 0 ns)) (scope_nodes atoms here) in
-        let occurs : Contains (map (λ (o : Occurrence). o.name) (occurrences_from source 0 (nodes_of atoms))) w.name = subst (λ ns. Contains ns w.name) names_are (contains_map (λ (v : Wanted). v.name) _ w there) in
+        let occurs : Contains (map (λ (o : Occurrence). o.name) (occurrences_from source 0 (raw_nodes atoms))) w.name = subst (λ ns. Contains ns w.name) names_are (contains_map (λ (v : Wanted). v.name) _ w there) in
         any_found (λ (o : Occurrence). o.name) (λ name. bytes_eq name w.name) (variables_of source atoms)
-        (is_any _ w.name (⊎_elim (λ never. absurd (contains_none w.name never)) (λ first. first) (first_there [] (occurrences_from source 0 (nodes_of atoms)) w.name occurs)))
+        (is_any _ w.name (⊎_elim (λ never. absurd (contains_none w.name never)) (λ first. first) (first_there [] (occurrences_from source 0 (raw_nodes atoms)) w.name occurs)))
 
     kind_at : (w : Wanted) → Contains (wanted_from source 0 (sites_of source atoms)) w → slice_get (kinds_of source atoms) (variable_of (names_of source atoms) w.name) ≡ Some (number_of source space.Sorts w.wants)
     kind_at w there =

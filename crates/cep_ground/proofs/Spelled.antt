@@ -3,10 +3,11 @@ use Rattle.std.proofs.Common.{◌≡◌, inl, ⊎_elim, ℕ, ◌+◌, ◌-◌, �
 use Rattle.std.proofs.Math.Seq.{drop-append_seam, take-append_seam}
 use Rattle.std.specs.List.{AllByRecursion}
 use Rattle.std.specs.Char.{is_ascii_lowercase, is_ascii_uppercase}
+use Rattle.cep_base.specs.Spelling.{is_name_byte}
 use Rattle.cep_lex.specs.declared.token.Token.{Token}
 use Rattle.cep_lex.specs.declared.token.TokenKind.{TokenKind}
 use Rattle.cep_lex.specs.declared.token.TokenKind.TheVariants as token
-use Rattle.cep_lex.specs.Words.{Spells, IsShort, Runs, is_name_byte}
+use Rattle.cep_lex.specs.Words.{SpellsToken, IsShort, Runs}
 use Rattle.cep_lex.specs.Cuts.{Cuts, StartsWith}
 use Rattle.cep_parse.specs.Symbols.{slice_of}
 use Rattle.cep_parse.specs.declared.raw.Span.{Span}
@@ -18,7 +19,7 @@ use Rattle.cep_ground.proofs.Members.{all_at}
 
 -- a token's bytes are its word, which is not too long
 pub record IsSpelled (text : List ℕ) (token : Token) : Type 0 where
-  pub spells : Spells token.kind (slice_of text token.from token.to)
+  pub spells : SpellsToken token.kind (slice_of text token.from token.to)
   pub short : IsShort token.kind (slice_of text token.from token.to)
 
 -- a word between what stands before and behind it
@@ -45,7 +46,7 @@ all_spelled text before bytes at (one ∷ tokens) rest whole place cut =
     omega (arith, from, start.to, length-append before (start.gap ++ start.word), length-append start.gap start.word) in
     let rest_is : text ≡ (before ++ (start.gap ++ start.word)) ++ cut.0 =
     here ∙ ap (λ b. before ++ b) (sym (append_assoc start.gap start.word cut.0)) ∙ sym (append_assoc before (start.gap ++ start.word) cut.0) in (
-      record { spells = subst (Spells one.kind) (sym word) split.spelled; short = subst (IsShort one.kind) (sym word) start.short },
+      record { spells = subst (SpellsToken one.kind) (sym word) split.spelled; short = subst (IsShort one.kind) (sym word) start.short },
       all_spelled text (before ++ (start.gap ++ start.word)) cut.0 one.to tokens rest rest_is next cut.2,
     )
 
@@ -53,12 +54,12 @@ pub tokens_spelled : (source : Source) (is : IsSource source) → AllByRecursion
 tokens_spelled source is = all_spelled source.text [] source.text 0 is.tokens is.lexed.rest refl refl is.lexed.cut
 
 -- the word of a span that is a token
-pub span_spelled : (source : Source) (is : IsSource source) (kind : TokenKind) (span : Span) → IsTokenAt is.tokens kind span → Spells kind (said source span) × IsShort kind (said source span)
+pub span_spelled : (source : Source) (is : IsSource source) (kind : TokenKind) (span : Span) → IsTokenAt is.tokens kind span → SpellsToken kind (said source span) × IsShort kind (said source span)
 span_spelled source is kind span at =
     let one = all_at (IsSpelled source.text) is.tokens at.token (tokens_spelled source is) at.there in
     let word : slice_of source.text at.token.from at.token.to ≡ said source span =
     ap (λ n. slice_of source.text n at.token.to) (sym at.from_is) ∙ ap (λ n. slice_of source.text span.from n) (sym at.to_is) in (
-      subst (λ k. Spells k (said source span)) at.kind_is (subst (Spells at.token.kind) word one.spells),
+      subst (λ k. SpellsToken k (said source span)) at.kind_is (subst (SpellsToken at.token.kind) word one.spells),
       subst (λ k. IsShort k (said source span)) at.kind_is (subst (IsShort at.token.kind) word one.short),
     )
 
@@ -97,7 +98,7 @@ one_byte : (word codes_ : List ℕ) → word ≡ codes_ → 1 ≤ length codes_ 
 one_byte word codes_ same some = subst (λ w. 1 ≤ length w) (sym same) some
 
 -- a token has a byte
-token_some : (kind : TokenKind) (word : List ℕ) → Spells kind word → 1 ≤ length word
+token_some : (kind : TokenKind) (word : List ℕ) → SpellsToken kind word → 1 ≤ length word
 token_some token.Name word spells = some_run is_ascii_lowercase is_name_byte word spells.0
 token_some token.Variable word spells = some_run is_ascii_uppercase is_name_byte word spells
 token_some token.Blank word spells = one_byte word _ spells (omega arith)

@@ -19,12 +19,12 @@ use Rattle.cep_parse.specs.declared.raw.RawStart.{RawStart}
 use Rattle.cep_parse.specs.declared.raw.RawStart.TheVariants as start
 use Rattle.cep_parse.specs.declared.raw.RawItem.{RawItem}
 use Rattle.cep_parse.specs.declared.raw.RawItem.TheVariants as item
-use Rattle.cep_term.specs.Tree.{AtomTree, IsGroundAtom, nodes_in, IsFit}
+use Rattle.cep_term.specs.Tree.{AtomTree, IsGroundAtom, atom_nodes, IsFit}
 use Rattle.cep_term.specs.Order.{atom_cmp}
 use Rattle.cep_term.specs.Multiset.{Multiset, count_of, with_count, gathered, copies_in, nodes_in_all, IsBag}
 use Rattle.cep_rule.specs.declared.signature.PredDecl.{PredDecl}
 use Rattle.cep_rule.specs.Typing.{IsTyped, IsLinear}
-use Rattle.cep_rule.specs.State.{IsFact, IsState, Fits}
+use Rattle.cep_rule.specs.State.{IsStateAtom, IsState, Fits}
 use Rattle.cep_names.specs.declared.reason.Reason.TheVariants.{OverLimit, VarInContext, BwdInState}
 use Rattle.cep_names.specs.declared.space.Role.{Role}
 use Rattle.cep_names.specs.declared.space.Role.TheVariants as role
@@ -32,7 +32,7 @@ use Rattle.cep_names.specs.Items.{Source, TraceItem, ContextItem, said, contexts
 use Rattle.cep_names.specs.Spaces.{context_named}
 use Rattle.cep_names.specs.Uses.{placed, placed_of, own_atoms, start_listed, is_context}
 use Rattle.cep_names.specs.declared.space.Space.TheVariants as space
-use Rattle.cep_names.specs.Variables.{Occurrence, firsts, occurrences_from, nodes_of, blanks_behind}
+use Rattle.cep_names.specs.Variables.{Occurrence, firsts, occurrences_from, raw_nodes, blanks_behind}
 use Rattle.cep_names.specs.Starts.{listed_in, listed_or, start_atoms, nodes_written, IsFitWritten}
 use Rattle.cep_names.specs.Misnamed.{wrong, IsOfState}
 use Rattle.cep_names.specs.Misnamed.{IsOfState as of_state}
@@ -51,7 +51,7 @@ use Rattle.cep_ground.proofs.Known.{own_placed, pred_known}
 use Rattle.cep_ground.proofs.Scopes.{IsHere, typed_atoms}
 use Rattle.cep_ground.proofs.RuleScopes.{AtomsMade, AreHere, atom_of_tokens, words, short, back_known}
 use Rattle.cep_ground.proofs.RuleParts.{atom_size, pred_at}
-use Rattle.cep_ground.proofs.StateAtoms.{AreClosed, atom_ground, atom_alike, atom_depth, not_greater}
+use Rattle.cep_ground.proofs.StateAtoms.{AreClosed, atom_ground, atom_alike, raw_depth, not_greater}
 
 -- An atom of the start state: it stands in a context or in the braces of a trace, and stands for itself.
 pub record IsListed (source : Source) (raw : RawAtom) : Type 0 where
@@ -149,9 +149,9 @@ module _ (source : Source) (clean : IsClean source) (made : AtomsMade source) wh
 
   no_kinds : (raw : RawAtom) → IsListed source raw → kinds_of source (raw ∷ []) ≡ []
   no_kinds raw listed =
-      let nodes_are : nodes_of (raw ∷ []) ≡ raw.nodes = append-nil raw.nodes in
-      let none : occurrences_from source 0 (nodes_of (raw ∷ [])) ≡ [] = ap (occurrences_from source 0) nodes_are ∙ no_occurrences source 0 raw.nodes (listed_closed raw listed) in
-      none_by (occurrences_from source 0 (nodes_of (raw ∷ []))) none
+      let nodes_are : raw_nodes (raw ∷ []) ≡ raw.nodes = append-nil raw.nodes in
+      let none : occurrences_from source 0 (raw_nodes (raw ∷ [])) ≡ [] = ap (occurrences_from source 0) nodes_are ∙ no_occurrences source 0 raw.nodes (listed_closed raw listed) in
+      none_by (occurrences_from source 0 (raw_nodes (raw ∷ []))) none
     where
       none_by : (os : List Occurrence) → os ≡ [] → map (λ (o : Occurrence). number_of source space.Sorts (unwrap_or (type_of source (raw ∷ []) o.name) [])) (firsts os) ≡ []
       none_by os e = rw e refl
@@ -182,36 +182,36 @@ module _ (source : Source) (clean : IsClean source) (made : AtomsMade source) wh
   listed_fit raw blanks atom listed by =
       let fits : (¬ IsFitWritten raw) → ⊥ = λ not_fit. clean.names (wrong OverLimit raw.name.from) (over raw.name.from (unfit (placed listed.role raw) listed.there listed.of_state not_fit refl) refl) in
       let size = atom_size source [] blanks raw atom by in
-      let deep = atom_depth source [] blanks raw atom by (listed_closed raw listed) in
+      let deep = raw_depth source [] blanks raw atom by (listed_closed raw listed) in
       record {
         nodes = not_greater _ _ (λ more_. fits (λ fit. let n = fit.nodes in omega (arith, n, size, more_)));
         depth = not_greater _ _ (λ more_. fits (λ fit. let d = fit.depth in omega (arith, d, deep, more_)));
       }
 
-  pub listed_fact : (raw : RawAtom) (blanks : ℕ) (atom : AtomTree) → IsListed source raw → IsAtomBy source [] blanks raw atom → IsFact (signature_of source) atom
-  listed_fact raw blanks atom listed by = record {
+  pub listed_state_atom : (raw : RawAtom) (blanks : ℕ) (atom : AtomTree) → IsListed source raw → IsAtomBy source [] blanks raw atom → IsStateAtom (signature_of source) atom
+  listed_state_atom raw blanks atom listed by = record {
     ground = atom_ground source [] blanks raw atom by (listed_closed raw listed);
     typed = listed_typed raw blanks atom listed by;
     linear = listed_linear raw blanks atom listed by;
     fit = listed_fit raw blanks atom listed by;
   }
 
-  pub listed_facts : (raws : List RawAtom) (blanks : ℕ) (list : List AtomTree) → ((raw : RawAtom) → Contains raws raw → IsListed source raw) → AreAtomsBy source [] blanks raws list → AllByRecursion (IsFact (signature_of source)) list
-  listed_facts [] blanks [] all by = tt
-  listed_facts [] blanks (atom ∷ list) all by = absurd by
-  listed_facts (raw ∷ raws) blanks [] all by = absurd by
-  listed_facts (raw ∷ raws) blanks (atom ∷ list) all by =
-      (listed_fact raw blanks atom (all raw (contains_first raw raws)) by.0, listed_facts raws (blanks_after blanks raw.nodes) list (λ other there. all other (contains_behind raw raws other there)) by.1)
+  pub listed_state_atoms : (raws : List RawAtom) (blanks : ℕ) (list : List AtomTree) → ((raw : RawAtom) → Contains raws raw → IsListed source raw) → AreAtomsBy source [] blanks raws list → AllByRecursion (IsStateAtom (signature_of source)) list
+  listed_state_atoms [] blanks [] all by = tt
+  listed_state_atoms [] blanks (atom ∷ list) all by = absurd by
+  listed_state_atoms (raw ∷ raws) blanks [] all by = absurd by
+  listed_state_atoms (raw ∷ raws) blanks (atom ∷ list) all by =
+      (listed_state_atom raw blanks atom (all raw (contains_first raw raws)) by.0, listed_state_atoms raws (blanks_after blanks raw.nodes) list (λ other there. all other (contains_behind raw raws other there)) by.1)
 
   -- as many copies and nodes as are written
-  list_sizes : (raws : List RawAtom) (blanks : ℕ) (list : List AtomTree) → AreAtomsBy source [] blanks raws list → (length list ≡ length raws) × (sum_by nodes_in list ≡ sum_by nodes_written raws)
+  list_sizes : (raws : List RawAtom) (blanks : ℕ) (list : List AtomTree) → AreAtomsBy source [] blanks raws list → (length list ≡ length raws) × (sum_by atom_nodes list ≡ sum_by nodes_written raws)
   list_sizes [] blanks [] by = (refl, refl)
   list_sizes [] blanks (atom ∷ list) by = absurd by
   list_sizes (raw ∷ raws) blanks [] by = absurd by
   list_sizes (raw ∷ raws) blanks (atom ∷ list) by =
       let rest = list_sizes raws (blanks_after blanks raw.nodes) list by.1 in
       let size = atom_size source [] blanks raw atom by.0 in
-      let one = sum_by-cons nodes_in atom list in
+      let one = sum_by-cons atom_nodes atom list in
       let other = sum_by-cons nodes_written raw raws in
       (ap suc rest.0, let r = rest.1 in omega (arith, size, one, other, r))
 
@@ -222,7 +222,7 @@ pub record CountLaws : Type 0 where
   pub empty_nodes : nodes_in_all finite.empty ≡ 0
   pub others : (bag : Multiset) (a q : AtomTree) (n : ℕ) → q ≢ a → count_of (with_count bag a n) q ≡ count_of bag q
   pub copies : (bag : Multiset) (a : AtomTree) (n : ℕ) → copies_in (with_count bag a n) + count_of bag a ≡ copies_in bag + n
-  pub nodes : (bag : Multiset) (a : AtomTree) (n : ℕ) → nodes_in_all (with_count bag a n) + count_of bag a * nodes_in a ≡ nodes_in_all bag + n * nodes_in a
+  pub nodes : (bag : Multiset) (a : AtomTree) (n : ℕ) → nodes_in_all (with_count bag a n) + count_of bag a * atom_nodes a ≡ nodes_in_all bag + n * atom_nodes a
   pub total : IsTotalOrder atom_cmp
   pub ties : finite.IsAntisymmetric atom_cmp
   pub kept : (atoms : List AtomTree) → AllByRecursion IsGroundAtom atoms → IsBag (gathered atoms)
@@ -239,15 +239,15 @@ module _ (laws : CountLaws) where
       count_of' : List AtomTree → AtomTree → ℕ
       count_of' list atom = count_of (gathered list) atom
 
-  pub gathered_nodes : (list : List AtomTree) → nodes_in_all (gathered list) ≡ sum_by nodes_in list
+  pub gathered_nodes : (list : List AtomTree) → nodes_in_all (gathered list) ≡ sum_by atom_nodes list
   gathered_nodes [] = laws.empty_nodes
   gathered_nodes (atom ∷ list) =
       let rest = gathered_nodes list in
       let c = count_of (gathered list) atom in
       let law = laws.nodes (gathered list) atom (count_of (gathered list) atom + 1) in
       let one : count_of (gathered list) atom + 1 ≡ suc (count_of (gathered list) atom) = omega arith in
-      let product : (count_of (gathered list) atom + 1) * nodes_in atom ≡ count_of (gathered list) atom * nodes_in atom + nodes_in atom = ap (λ n. n * nodes_in atom) one ∙ suc-mul (count_of (gathered list) atom) (nodes_in atom) in
-      let sum = sum_by-cons nodes_in atom list in
+      let product : (count_of (gathered list) atom + 1) * atom_nodes atom ≡ count_of (gathered list) atom * atom_nodes atom + atom_nodes atom = ap (λ n. n * atom_nodes atom) one ∙ suc-mul (count_of (gathered list) atom) (atom_nodes atom) in
+      let sum = sum_by-cons atom_nodes atom list in
       omega (arith, rest, law, product, sum)
 
   equal_or_not : (a b : AtomTree) → (a ≡ b) ⊎ (a ≢ b)
@@ -278,7 +278,7 @@ pub record IsGoodStart (source : Source) (start_ : Multiset) : Type 0 where
 pub start_good : (source : Source) (clean : IsClean source) (made : AtomsMade source) (laws : CountLaws) (trace : TraceItem) (rest : List TraceItem) (start_ : Multiset) → traces_of source ≡ trace ∷ rest → IsStartBy source trace start_ → IsGoodStart source start_
 start_good source clean made laws trace rest start_ first by =
     let there : Contains (traces_of source) trace = subst (λ ts. Contains ts trace) (sym first) (contains_first trace rest) in
-    let facts = listed_facts source clean made (start_atoms source trace.start) 0 by.atoms (λ raw listed. start_listed_all source trace raw there listed) by.atoms_are in
+    let is_state = listed_state_atoms source clean made (start_atoms source trace.start) 0 by.atoms (λ raw listed. start_listed_all source trace raw there listed) by.atoms_are in
     let sizes = list_sizes source clean made (start_atoms source trace.start) 0 by.atoms by.atoms_are in
     let copies_are = gathered_copies laws by.atoms in
     let nodes_are = gathered_nodes laws by.atoms in
@@ -287,8 +287,8 @@ start_good source clean made laws trace rest start_ first by =
     subst (IsGoodStart source) (sym by.start_is)
     (record {
       state = record {
-        bag = laws.kept by.atoms (ground_all by.atoms facts);
-        facts = gathered_there laws (IsFact (signature_of source)) by.atoms facts;
+        bag = laws.kept by.atoms (ground_all by.atoms is_state);
+        each = gathered_there laws (IsStateAtom (signature_of source)) by.atoms is_state;
       };
       fits = record {
         copies = let s = sizes.0 in omega (arith, copies_are, s, few_copies);
@@ -296,6 +296,6 @@ start_good source clean made laws trace rest start_ first by =
       };
     })
   where
-    ground_all : (list : List AtomTree) → AllByRecursion (IsFact (signature_of source)) list → AllByRecursion IsGroundAtom list
+    ground_all : (list : List AtomTree) → AllByRecursion (IsStateAtom (signature_of source)) list → AllByRecursion IsGroundAtom list
     ground_all [] all = tt
     ground_all (atom ∷ list) all = (all.0.ground, ground_all list all.1)

@@ -9,11 +9,11 @@ use Rattle.cep_parse.specs.declared.raw.RawKind.{RawKind}
 use Rattle.cep_parse.specs.declared.raw.RawKind.TheVariants as kind
 use Rattle.cep_parse.specs.declared.raw.RawNode.{RawNode}
 use Rattle.cep_parse.specs.declared.raw.RawAtom.{RawAtom}
-use Rattle.cep_term.specs.Tree.{Tree, Trees, AtomTree, variable, node, none, more, depth_of, depth_among, depth_in, IsGroundAtom}
+use Rattle.cep_term.specs.Tree.{Tree, Trees, AtomTree, variable, node, none, more, term_depth, argument_depth, atom_depth, IsGroundAtom}
 use Rattle.cep_names.specs.Items.{Source}
 use Rattle.cep_names.specs.Variables.{blanks_behind}
 use Rattle.cep_names.specs.Starts.{levels, greatest, depth_written}
-use Rattle.cep_types.specs.Heads.{Head, var, con, count_of, heads_of, heads_among, head_at, heads_from, IsAtomBy}
+use Rattle.cep_types.specs.Heads.{Head, var, con, argument_count, heads_of, heads_among, head_at, heads_from, IsAtomBy}
 use Rattle.cep_ground.proofs.HeadLaws.{IsClosed, terms_ground}
 
 -- each node is a constructor
@@ -70,25 +70,25 @@ module _ (source : Source) (vars : List (List ℕ)) where
   mutual
     deep_term : (t : Tree) (level : ℕ) (next : List ℕ) (heads : List Head) (blanks : ℕ) (nodes : List RawNode)
         → heads_of t ++ heads ≡ heads_from source vars blanks nodes → AreClosed nodes
-        → (level + depth_of t ≤ 1 + greatest (levels (level ∷ next) nodes)) × IsBehind next heads (greatest (levels (level ∷ next) nodes))
+        → (level + term_depth t ≤ 1 + greatest (levels (level ∷ next) nodes)) × IsBehind next heads (greatest (levels (level ∷ next) nodes))
     deep_term (variable v) level next heads blanks [] e all = absurd cc
     deep_term (variable v) level next heads blanks (first ∷ nodes) e all =
         let here : var v ≡ head_at source vars blanks first.kind first.at first.args = cc in
         absurd (no_var blanks v first.kind first.at first.args all.0 here)
     deep_term (node c args) level next heads blanks [] e all = absurd cc
     deep_term (node c args) level next heads blanks (first ∷ nodes) e all =
-        let here : con c (count_of args) ≡ head_at source vars blanks first.kind first.at first.args = cc in
-        let count = con_args blanks c (count_of args) first.kind first.at first.args here in
+        let here : con c (argument_count args) ≡ head_at source vars blanks first.kind first.at first.args = cc in
+        let count = con_args blanks c (argument_count args) first.kind first.at first.args here in
         let behind : heads_among args ++ heads ≡ heads_from source vars (blanks_behind blanks first.kind) nodes = cc in
         let rest = deep_args args (level + 1) next heads (blanks_behind blanks first.kind) nodes behind all.1 in
-        let deeper = greatest (levels (repeat (count_of args) ((level + 1) ∷ []) ++ next) nodes) in
+        let deeper = greatest (levels (repeat (argument_count args) ((level + 1) ∷ []) ++ next) nodes) in
         let same : greatest (levels (repeat first.args ((level + 1) ∷ []) ++ next) nodes) ≡ deeper = ap (λ n. greatest (levels (repeat n ((level + 1) ∷ []) ++ next) nodes)) (sym count) in
         let left = le-max_left level (greatest (levels (repeat first.args ((level + 1) ∷ []) ++ next) nodes)) in
         let right = le-max_right level (greatest (levels (repeat first.args ((level + 1) ∷ []) ++ next) nodes)) in
         let behind_ = rest.1 in
         let inside = behind_.within in (
           ⊎_elim
-              (λ (zero_ : depth_among args ≡ 0). omega (arith, zero_, left))
+              (λ (zero_ : argument_depth args ≡ 0). omega (arith, zero_, left))
               (λ deep. omega (arith, deep, right, same))
               rest.0,
           record { blanks = behind_.blanks; nodes = behind_.nodes; heads_are = behind_.heads_are; closed = behind_.closed; within = omega (arith, inside, right, same) },
@@ -96,18 +96,18 @@ module _ (source : Source) (vars : List (List ℕ)) where
 
     deep_args : (ts : Trees) (level : ℕ) (next : List ℕ) (heads : List Head) (blanks : ℕ) (nodes : List RawNode)
         → heads_among ts ++ heads ≡ heads_from source vars blanks nodes → AreClosed nodes
-        → ((depth_among ts ≡ 0) ⊎ (level + depth_among ts ≤ 1 + greatest (levels (repeat (count_of ts) (level ∷ []) ++ next) nodes))) × IsBehind next heads (greatest (levels (repeat (count_of ts) (level ∷ []) ++ next) nodes))
+        → ((argument_depth ts ≡ 0) ⊎ (level + argument_depth ts ≤ 1 + greatest (levels (repeat (argument_count ts) (level ∷ []) ++ next) nodes))) × IsBehind next heads (greatest (levels (repeat (argument_count ts) (level ∷ []) ++ next) nodes))
     deep_args none level next heads blanks nodes e all = (inl refl, record { blanks = blanks; nodes = nodes; heads_are = e; closed = all; within = omega arith })
     deep_args (more t rest) level next heads blanks nodes e all =
-        let first = deep_term t level (repeat (count_of rest) (level ∷ []) ++ next) (heads_among rest ++ heads) blanks nodes (sym (append_assoc (heads_of t) (heads_among rest) heads) ∙ e) all in
+        let first = deep_term t level (repeat (argument_count rest) (level ∷ []) ++ next) (heads_among rest ++ heads) blanks nodes (sym (append_assoc (heads_of t) (heads_among rest) heads) ∙ e) all in
         let behind_ = first.1 in
         let others = deep_args rest level next heads behind_.blanks behind_.nodes behind_.heads_are behind_.closed in
-        let most = greatest (levels (level ∷ (repeat (count_of rest) (level ∷ []) ++ next)) nodes) in
-        let here : level + depth_of t ≤ 1 + most = first.0 in
-        let inside : greatest (levels (repeat (count_of rest) (level ∷ []) ++ next) behind_.nodes) ≤ most = behind_.within in
-        let one : depth_of t ≤ (1 + most) - level = omega (arith, here) in
-        let other : depth_among rest ≤ (1 + most) - level = ⊎_elim (λ (zero_ : depth_among rest ≡ 0). omega (arith, zero_)) (λ deep. omega (arith, deep, inside)) others.0 in
-        let both : max (depth_of t) (depth_among rest) ≤ (1 + most) - level = max-le one other in
+        let most = greatest (levels (level ∷ (repeat (argument_count rest) (level ∷ []) ++ next)) nodes) in
+        let here : level + term_depth t ≤ 1 + most = first.0 in
+        let inside : greatest (levels (repeat (argument_count rest) (level ∷ []) ++ next) behind_.nodes) ≤ most = behind_.within in
+        let one : term_depth t ≤ (1 + most) - level = omega (arith, here) in
+        let other : argument_depth rest ≤ (1 + most) - level = ⊎_elim (λ (zero_ : argument_depth rest ≡ 0). omega (arith, zero_)) (λ deep. omega (arith, deep, inside)) others.0 in
+        let both : max (term_depth t) (argument_depth rest) ≤ (1 + most) - level = max-le one other in
         let last = others.1 in
         let within : greatest (levels next last.nodes) ≤ most = let w = last.within in omega (arith, w, inside) in (
           inr (omega (arith, both, here)),
@@ -115,14 +115,14 @@ module _ (source : Source) (vars : List (List ℕ)) where
         )
 
 -- an atom without variables is no deeper than it is written
-pub atom_depth : (source : Source) (vars : List (List ℕ)) (blanks : ℕ) (raw : RawAtom) (atom : AtomTree) → IsAtomBy source vars blanks raw atom → AreClosed raw.nodes → depth_in atom ≤ depth_written raw
-atom_depth source vars blanks raw atom by all =
+pub raw_depth : (source : Source) (vars : List (List ℕ)) (blanks : ℕ) (raw : RawAtom) (atom : AtomTree) → IsAtomBy source vars blanks raw atom → AreClosed raw.nodes → atom_depth atom ≤ depth_written raw
+raw_depth source vars blanks raw atom by all =
     let deep = deep_args source vars atom.args 2 [] [] blanks raw.nodes (append-nil (heads_among atom.args) ∙ by.heads) all in
-    let same : greatest (levels (repeat (count_of atom.args) (2 ∷ []) ++ []) raw.nodes) ≡ greatest (levels (repeat raw.args (2 ∷ [])) raw.nodes) =
-    ap (λ ls. greatest (levels ls raw.nodes)) (append-nil (repeat (count_of atom.args) (2 ∷ []))) ∙ ap (λ n. greatest (levels (repeat n (2 ∷ [])) raw.nodes)) by.count in
+    let same : greatest (levels (repeat (argument_count atom.args) (2 ∷ []) ++ []) raw.nodes) ≡ greatest (levels (repeat raw.args (2 ∷ [])) raw.nodes) =
+    ap (λ ls. greatest (levels ls raw.nodes)) (append-nil (repeat (argument_count atom.args) (2 ∷ []))) ∙ ap (λ n. greatest (levels (repeat n (2 ∷ [])) raw.nodes)) by.count in
     let left = le-max_left 1 (greatest (levels (repeat raw.args (2 ∷ [])) raw.nodes)) in
     let right = le-max_right 1 (greatest (levels (repeat raw.args (2 ∷ [])) raw.nodes)) in
-    ⊎_elim (λ (zero_ : depth_among atom.args ≡ 0). omega (arith, zero_, left)) (λ further. omega (arith, further, same, right)) deep.0
+    ⊎_elim (λ (zero_ : argument_depth atom.args ≡ 0). omega (arith, zero_, left)) (λ further. omega (arith, further, same, right)) deep.0
 
 -- what is not too great is small enough
 pub not_greater : (a b : ℕ) → (b < a → ⊥) → a ≤ b

@@ -12,7 +12,7 @@ use Rattle.cep_names.specs.declared.space.Space.TheVariants as space
 use Rattle.cep_names.specs.Items.{Source, said}
 use Rattle.cep_names.specs.Variables.{blanks_behind}
 use Rattle.cep_types.specs.Sites.{node_types}
-use Rattle.cep_types.specs.Heads.{Head, var, con, count_of, heads_of, heads_among, number_of, variable_of, head_at, heads_from}
+use Rattle.cep_types.specs.Heads.{Head, var, con, argument_count, heads_of, heads_among, number_of, variable_of, head_at, heads_from}
 
 module _ (source : Source) (vars : List (List ℕ)) (kinds : List ℕ) (cons : List Con) where
   -- the number of a type by its name
@@ -85,8 +85,8 @@ module _ (source : Source) (vars : List (List ℕ)) (kinds : List ℕ) (cons : L
         )
     typed_term (node c args) wants next heads blanks [] e good = absurd cc
     typed_term (node c args) wants next heads blanks (first ∷ nodes) e good =
-        let here : con c (count_of args) ≡ head_at source vars blanks first.kind first.at first.args = cc in
-        let is = con_at first.kind first.at first.args c (count_of args) blanks here in
+        let here : con c (argument_count args) ≡ head_at source vars blanks first.kind first.at first.args = cc in
+        let is = con_at first.kind first.at first.args c (argument_count args) blanks here in
         let one : IsGoodCon wants first.at first.args = subst (λ k. IsGood blanks wants k first.at first.args) is.kind_is good.0 in
         let further : AreGood (blanks_behind blanks first.kind) (node_types source kind.App first.at ++ next) nodes = subst (λ k. AreGood (blanks_behind blanks first.kind) (node_types source k first.at ++ next) nodes) is.kind_is good.1 in
         let behind : heads_among args ++ heads ≡ heads_from source vars (blanks_behind blanks first.kind) nodes = cc in
@@ -94,7 +94,7 @@ module _ (source : Source) (vars : List (List ℕ)) (kinds : List ℕ) (cons : L
         (con_typed c args wants first.at first.args one is.number (subst (λ types. HaveSorts cons kinds types args) (sym one.types) rest.0), rest.1)
 
     pub typed_args : (ts : Trees) (types next : List (List ℕ)) (heads : List Head) (blanks : ℕ) (nodes : List RawNode)
-        → count_of ts ≡ length types → heads_among ts ++ heads ≡ heads_from source vars blanks nodes → AreGood blanks (types ++ next) nodes
+        → argument_count ts ≡ length types → heads_among ts ++ heads ≡ heads_from source vars blanks nodes → AreGood blanks (types ++ next) nodes
         → HaveSorts cons kinds (map type_number types) ts × Behind next heads
     typed_args none [] next heads blanks nodes count e good = (tt, record { blanks = blanks; nodes = nodes; heads_are = e; good = good })
     typed_args none (wants ∷ types) next heads blanks nodes count e good = absurd (omega (arith, count))

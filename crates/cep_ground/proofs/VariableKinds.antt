@@ -11,13 +11,13 @@ use Rattle.cep_parse.specs.declared.raw.RawKind.{RawKind}
 use Rattle.cep_parse.specs.declared.raw.RawKind.TheVariants as kind
 use Rattle.cep_parse.specs.declared.raw.RawNode.{RawNode}
 use Rattle.cep_parse.specs.declared.raw.RawAtom.{RawAtom}
-use Rattle.cep_parse.specs.Written.{IsNodeOf}
+use Rattle.cep_parse.specs.Written.{IsWrittenAt}
 use Rattle.cep_rule.specs.Names.{IsVariableName}
 use Rattle.cep_names.specs.declared.space.Space.TheVariants as space
 use Rattle.cep_names.specs.Items.{Source, ConItem, PredItem, said, sorts_of, cons_of, preds_of}
 use Rattle.cep_names.specs.Spaces.{named, names_in, is_in, con_named, pred_named}
 use Rattle.cep_names.specs.Uses.{use_in}
-use Rattle.cep_names.specs.Variables.{Occurrence, occurrence_at, blanks_behind, occurrences_from, occurrences_of, nodes_of, variables_of}
+use Rattle.cep_names.specs.Variables.{Occurrence, occurrence_at, blanks_behind, occurrences_from, occurrences_of, raw_nodes, variables_of}
 use Rattle.cep_types.specs.Sites.{Site, Wanted, con_types, pred_types, node_types, sites_from, sites_in, sites_of, wanted_from, type_of}
 use Rattle.cep_types.specs.Heads.{number_of}
 use Rattle.cep_infer.specs.Meaning.{names_of, kinds_of}
@@ -125,7 +125,7 @@ module _ (source : Source) (clean : IsClean source) (made : AtomsMade source) wh
     short = let size = length-decimal-le 20 (blanks + 1) (omega arith) (omega arith) (omega arith) in omega (arith, size);
   }
 
-  name_at : (blanks : ℕ) (shape : RawKind) (at : Span) (o : Occurrence) → blanks < 2 ^ 63 → IsNodeOf clean.is_source.tokens shape at → Contains (occurrence_at source blanks at shape) o → IsVariableName o.name
+  name_at : (blanks : ℕ) (shape : RawKind) (at : Span) (o : Occurrence) → blanks < 2 ^ 63 → IsWrittenAt clean.is_source.tokens shape at → Contains (occurrence_at source blanks at shape) o → IsVariableName o.name
   name_at blanks kind.App at o few node there = absurd (contains_none o there)
   name_at blanks kind.Var at o few node there = ⊎_elim (λ (same : record { name = said source at; at = at } ≡ o). subst (λ (p : Occurrence). IsVariableName p.name) same (variable_is source clean.is_source at node)) (λ later. absurd (contains_none o later)) (contains_cases (record { name = said source at; at = at }) [] o there)
   name_at blanks kind.Blank at o few node there = ⊎_elim (λ (same : record { name = codes "_" ++ decimal (blanks + 1); at = at } ≡ o). subst (λ (p : Occurrence). IsVariableName p.name) same (blank_name blanks few)) (λ later. absurd (contains_none o later)) (contains_cases (record { name = codes "_" ++ decimal (blanks + 1); at = at }) [] o there)
@@ -135,7 +135,7 @@ module _ (source : Source) (clean : IsClean source) (made : AtomsMade source) wh
   fewer blanks size kind.Var few = omega arith
   fewer blanks size kind.Blank few = omega arith
 
-  names_at : (blanks : ℕ) (nodes : List RawNode) (o : Occurrence) → blanks + length nodes < 2 ^ 63 → ((node : RawNode) → Contains nodes node → IsNodeOf clean.is_source.tokens node.kind node.at) → Contains (occurrences_from source blanks nodes) o → IsVariableName o.name
+  names_at : (blanks : ℕ) (nodes : List RawNode) (o : Occurrence) → blanks + length nodes < 2 ^ 63 → ((node : RawNode) → Contains nodes node → IsWrittenAt clean.is_source.tokens node.kind node.at) → Contains (occurrences_from source blanks nodes) o → IsVariableName o.name
   names_at blanks [] o few all there = absurd (contains_none o there)
   names_at blanks (node ∷ nodes) o few all there =
       ⊎_elim
@@ -143,13 +143,13 @@ module _ (source : Source) (clean : IsClean source) (made : AtomsMade source) wh
       (λ later. names_at (blanks_behind blanks node.kind) nodes o (fewer blanks (length nodes) node.kind few) (λ other in_. all other (contains_behind node nodes other in_)) later)
       (contains_either (occurrence_at source blanks node.at node.kind) _ o there)
 
-  pub variable_names : (atoms : List RawAtom) → AreHere source clean made atoms → length (nodes_of atoms) < 2 ^ 63 → AllByRecursion IsVariableName (names_of source atoms)
+  pub variable_names : (atoms : List RawAtom) → AreHere source clean made atoms → length (raw_nodes atoms) < 2 ^ 63 → AllByRecursion IsVariableName (names_of source atoms)
   variable_names atoms are few =
       all_map IsVariableName (λ (o : Occurrence). o.name) (variables_of source atoms)
       (all_of (λ (o : Occurrence). IsVariableName o.name) (variables_of source atoms)
-      (λ o there. names_at 0 (nodes_of atoms) o (omega (arith, few))
+      (λ o there. names_at 0 (raw_nodes atoms) o (omega (arith, few))
       (λ node inside.
       let from = flat_cases (λ (atom : RawAtom). atom.nodes) atoms node inside in
       let here = are.here from.from from.there in
-      all_at (λ (n : RawNode). IsNodeOf clean.is_source.tokens n.kind n.at) from.from.nodes node (atom_of_tokens source clean made here.role from.from here.there).nodes from.inside)
+      all_at (λ (n : RawNode). IsWrittenAt clean.is_source.tokens n.kind n.at) from.from.nodes node (atom_of_tokens source clean made here.role from.from here.there).nodes from.inside)
       (firsts_there [] (occurrences_of source atoms) o there)))

@@ -3,7 +3,7 @@ use Rattle.std.specs.Prelude.{◌≡◌, ◌⊎◌, ℕ, ◌<◌, ◌≤◌, tru
 use Rattle.std.specs.List.{AllByRecursion}
 use Rattle.cep_base.specs.declared.place.Pos.{Pos}
 use Rattle.cep_lex.specs.declared.token.Token.{Token}
-use Rattle.cep_lex.specs.declared.token.TheConstants.{MOST_BYTES}
+use Rattle.cep_base.specs.declared.limits.TheConstants.{MOST_TEXT}
 use Rattle.cep_lex.specs.Cuts.{AreTokens, IsBadByte, IsNameLong}
 use Rattle.cep_lex.specs.Places.{IsPlaceBehind}
 use Rattle.cep_parse.specs.Symbols.{symbols_of}
@@ -54,18 +54,18 @@ phase _ = 4
 -- What is wrong with a text.
 pub data IsWrong (text : List ℕ) (fault : Fault) : Type 0 where
   -- it is longer than a text may be
-  too_long : MOST_BYTES < length text → fault ≡ wrong TooLong 0 → IsWrong text fault
+  too_long : MOST_TEXT < length text → fault ≡ wrong TooLong 0 → IsWrong text fault
   -- a byte begins no token, or a name is too long
-  bad_byte : (at : ℕ) → length text ≤ MOST_BYTES → IsBadByte text at → fault ≡ wrong BadByte at → IsWrong text fault
-  name_long : (at : ℕ) → length text ≤ MOST_BYTES → IsNameLong text at → fault ≡ wrong NameLong at → IsWrong text fault
+  bad_byte : (at : ℕ) → length text ≤ MOST_TEXT → IsBadByte text at → fault ≡ wrong BadByte at → IsWrong text fault
+  name_long : (at : ℕ) → length text ≤ MOST_TEXT → IsNameLong text at → fault ≡ wrong NameLong at → IsWrong text fault
   -- no file goes on with a token, or a parenthesis is one too many
-  unexpected : (tokens : List Token) (at : ℕ) → length text ≤ MOST_BYTES → AreTokens text tokens → IsUnexpected (symbols_of text tokens) (length text) at → fault ≡ wrong Unexpected at → IsWrong text fault
-  nested : (tokens : List Token) (at : ℕ) → length text ≤ MOST_BYTES → AreTokens text tokens → IsNested (symbols_of text tokens) at → fault ≡ wrong Nested at → IsWrong text fault
+  unexpected : (tokens : List Token) (at : ℕ) → length text ≤ MOST_TEXT → AreTokens text tokens → IsUnexpected (symbols_of text tokens) (length text) at → fault ≡ wrong Unexpected at → IsWrong text fault
+  nested : (tokens : List Token) (at : ℕ) → length text ≤ MOST_TEXT → AreTokens text tokens → IsNested (symbols_of text tokens) at → fault ≡ wrong Nested at → IsWrong text fault
   -- something is wrong with its names, or a term is of another type than is wanted of it
-  misnamed : (source : Source) → source.text ≡ text → length text ≤ MOST_BYTES → IsSource source → Misnamed source fault → IsWrong text fault
-  mistyped : (source : Source) → source.text ≡ text → length text ≤ MOST_BYTES → IsSource source → Mistyped source fault → IsWrong text fault
+  misnamed : (source : Source) → source.text ≡ text → length text ≤ MOST_TEXT → IsSource source → Misnamed source fault → IsWrong text fault
+  mistyped : (source : Source) → source.text ≡ text → length text ≤ MOST_TEXT → IsSource source → Mistyped source fault → IsWrong text fault
   -- a variable of a right side is not on the left, or a blank stands there
-  unbound : (source : Source) (rule : RuleItem) (occurrence : Occurrence) → source.text ≡ text → length text ≤ MOST_BYTES → IsSource source → Contains (rules_of source) rule → Contains (unbound_of source rule) occurrence → fault ≡ wrong Unbound occurrence.at.from → IsWrong text fault
+  unbound : (source : Source) (rule : RuleItem) (occurrence : Occurrence) → source.text ≡ text → length text ≤ MOST_TEXT → IsSource source → Contains (rules_of source) rule → Contains (unbound_of source rule) occurrence → fault ≡ wrong Unbound occurrence.at.from → IsWrong text fault
   -- nothing of that is wrong, but what it declares cannot be played yet
   not_built : (source : Source) (parts : Parts) → source.text ≡ text → IsClean source → IsBound source → AreParts source parts → ¬ (IsBuilt parts) → fault ≡ wrong NotBuilt 0 → IsWrong text fault
 

@@ -1,7 +1,7 @@
 -- Which program a text spells.
 use Rattle.std.specs.Prelude.{◌≡◌, ℕ, ◌≤◌, List, [], length}
 use Rattle.std.specs.List.{AllByRecursion}
-use Rattle.cep_lex.specs.declared.token.TheConstants.{MOST_BYTES}
+use Rattle.cep_base.specs.declared.limits.TheConstants.{MOST_TEXT}
 use Rattle.cep_rule.specs.declared.parts.Parts.{Parts}
 use Rattle.cep_rule.specs.Groundness.{IsGrounded}
 use Rattle.cep_names.specs.declared.fault.Fault.{Fault}
@@ -15,7 +15,7 @@ use Rattle.cep_infer.specs.Places.{unbound_of}
 -- A source in order: nothing is wrong with its length, its tokens, its grammar, its names and its types.
 pub record IsClean (source : Source) : Type 0 where
   pub is_source : IsSource source
-  pub short : length source.text ≤ MOST_BYTES
+  pub short : length source.text ≤ MOST_TEXT
   pub names : (fault : Fault) → ¬ (Misnamed source fault)
   pub types : (fault : Fault) → ¬ (Mistyped source fault)
 

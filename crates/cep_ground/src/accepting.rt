@@ -1,10 +1,11 @@
 ghost use Rattle.std.specs.Prelude.{IfOk};
 ghost use Rattle.cep_ground.specs.Refusals.{IsAccepted};
 
+use cep_base::limits::MOST_TEXT;
 use crate::refusals::{of_grammar, of_tokens, tell_at_front};
 use crate::sealing::judged;
 use cep_infer::{Refusal, resolve};
-use cep_lex::{MOST_BYTES, lex, lexed_once};
+use cep_lex::{lex, lexed_once};
 use cep_names::Reason;
 use cep_parse::{one_raw_file, parse, parsed_once};
 use cep_rule::Program;
@@ -21,7 +22,7 @@ pub fn accept(alloc: Global, text: &[u8]) -> Result<Result<Program, Refusal>, Al
     lexed_once();
     one_raw_file();
     parsed_once();
-    if text.len() > MOST_BYTES {
+    if text.len() > MOST_TEXT {
         return Ok(Err(tell_at_front(text, Reason::TooLong)));
     }
     let tokens = match lex(alloc, text)? {

@@ -13,10 +13,10 @@ use Rattle.cep_term.specs.Tree.{AtomTree}
 use Rattle.cep_rule.specs.Patterns.{PremiseTree, ClauseTree}
 use Rattle.cep_names.specs.Items.{Source, ClauseItem, RuleItem}
 use Rattle.cep_names.specs.Uses.{atoms_in, atoms_of}
-use Rattle.cep_names.specs.Variables.{nodes_of}
+use Rattle.cep_names.specs.Variables.{raw_nodes}
 use Rattle.cep_types.specs.declared.variables.Variables.{Variables}
 use Rattle.cep_types.specs.Heads.{IsAtomBy, AreAtomsBy, blanks_after}
-use Rattle.cep_types.specs.Met.{AreMet, none_met, names_in, kinds_met}
+use Rattle.cep_types.specs.Met.{AreMet, none_met, names_seen, kinds_met}
 use Rattle.cep_infer.specs.declared.left.LeftSide.{LeftSide}
 use Rattle.cep_infer.specs.Meaning.{ArePremisesBy, is_back, IsClauseBy, AreClausesBy, IsRuleBy, AreRulesBy}
 use Rattle.cep_infer.specs.Built.{AreBuilt, IsLeftBuilt}
@@ -24,12 +24,12 @@ use Rattle.cep_infer.proofs.Meeting.{blanks_both}
 use Rattle.cep_infer.proofs.FirstOccurrences.{names_met, kinds_are_met}
 
 module _ (source : Source) (vars : List (List ℕ)) where
-  pub atoms_both : (blanks : ℕ) (one two : List RawAtom) (ts us : List AtomTree) → AreAtomsBy source vars blanks one ts → AreAtomsBy source vars (blanks_after blanks (nodes_of one)) two us → AreAtomsBy source vars blanks (one ++ two) (ts ++ us)
+  pub atoms_both : (blanks : ℕ) (one two : List RawAtom) (ts us : List AtomTree) → AreAtomsBy source vars blanks one ts → AreAtomsBy source vars (blanks_after blanks (raw_nodes one)) two us → AreAtomsBy source vars blanks (one ++ two) (ts ++ us)
   atoms_both blanks [] two [] us first second = second
   atoms_both blanks [] two (t ∷ ts) us first second = absurd first
   atoms_both blanks (x ∷ one) two [] us first second = absurd first
   atoms_both blanks (x ∷ one) two (t ∷ ts) us first second =
-      (first.0, atoms_both (blanks_after blanks x.nodes) one two ts us first.1 (subst (λ n. AreAtomsBy source vars n two us) (blanks_both blanks x.nodes (nodes_of one)) second))
+      (first.0, atoms_both (blanks_after blanks x.nodes) one two ts us first.1 (subst (λ n. AreAtomsBy source vars n two us) (blanks_both blanks x.nodes (raw_nodes one)) second))
 
   pub none_built : (blanks : ℕ) (old : List AtomTree) → AreBuilt source vars [] blanks blanks old old
   none_built blanks old = record { more = []; new_is = sym (append-nil old); are = tt; behind_is = refl }
@@ -42,7 +42,7 @@ module _ (source : Source) (vars : List (List ℕ)) where
     more = first.more ++ second.more;
     new_is = second.new_is ∙ ap (λ ts. ts ++ second.more) first.new_is ∙ append_assoc old first.more second.more;
     are = atoms_both before one two first.more second.more first.are (subst (λ n. AreAtomsBy source vars n two second.more) first.behind_is second.are);
-    behind_is = second.behind_is ∙ ap (λ n. blanks_after n (nodes_of two)) first.behind_is ∙ sym (ap (blanks_after before) (flat_map-append (λ (atom : RawAtom). atom.nodes) one two) ∙ blanks_both before (nodes_of one) (nodes_of two));
+    behind_is = second.behind_is ∙ ap (λ n. blanks_after n (raw_nodes two)) first.behind_is ∙ sym (ap (blanks_after before) (flat_map-append (λ (atom : RawAtom). atom.nodes) one two) ∙ blanks_both before (raw_nodes one) (raw_nodes two));
   }
 
   pub part_built : {X : Type 0} (g : X → List RawAtom) (xs : List X) (i : ℕ) (x : X) (before middle behind : ℕ) (old between new : List AtomTree) → i < length xs → x ≡ get_or xs i x
@@ -60,14 +60,14 @@ module _ (source : Source) (vars : List (List ℕ)) where
 
   -- ---- premises
 
-  pub premises_both : (blanks : ℕ) (one two : List RawElem) (ps qs : List PremiseTree) → ArePremisesBy source vars blanks one ps → ArePremisesBy source vars (blanks_after blanks (nodes_of (atoms_of one))) two qs → ArePremisesBy source vars blanks (one ++ two) (ps ++ qs)
+  pub premises_both : (blanks : ℕ) (one two : List RawElem) (ps qs : List PremiseTree) → ArePremisesBy source vars blanks one ps → ArePremisesBy source vars (blanks_after blanks (raw_nodes (atoms_of one))) two qs → ArePremisesBy source vars blanks (one ++ two) (ps ++ qs)
   premises_both blanks [] two [] qs first second = second
   premises_both blanks [] two (p ∷ ps) qs first second = absurd first
   premises_both blanks (elem.Qui span ∷ one) two ps qs first second = premises_both blanks one two ps qs first second
   premises_both blanks (elem.Stage span ∷ one) two ps qs first second = premises_both blanks one two ps qs first second
   premises_both blanks (elem.Atom kept raw ∷ one) two [] qs first second = absurd first
   premises_both blanks (elem.Atom kept raw ∷ one) two (p ∷ ps) qs first second =
-      (first.0, first.1, premises_both (blanks_after blanks raw.nodes) one two ps qs first.2 (subst (λ n. ArePremisesBy source vars n two qs) (blanks_both blanks raw.nodes (nodes_of (atoms_of one))) second))
+      (first.0, first.1, premises_both (blanks_after blanks raw.nodes) one two ps qs first.2 (subst (λ n. ArePremisesBy source vars n two qs) (blanks_both blanks raw.nodes (raw_nodes (atoms_of one))) second))
 
   pub no_premise : (blanks : ℕ) (left : LeftSide) → IsLeftBuilt source vars [] blanks blanks left left
   no_premise blanks left = record { more = []; are = tt; premises_are = sym (append-nil left.premises); backs_are = sym (append-nil left.backs); behind_is = refl }
@@ -91,8 +91,8 @@ module _ (source : Source) (vars : List (List ℕ)) where
             ∙ ap (λ ps. old.premises ++ ps) (sym (filter_both linear first.more second.more));
         backs_are = second.backs_are ∙ ap (λ ps. ps ++ map atom_in (filter backward second.more)) first.backs_are ∙ append_assoc old.backs (map atom_in (filter backward first.more)) (map atom_in (filter backward second.more))
             ∙ ap (λ ps. old.backs ++ ps) (sym (ap (map atom_in) (filter_both backward first.more second.more) ∙ map-append atom_in (filter backward first.more) (filter backward second.more)));
-        behind_is = second.behind_is ∙ ap (λ n. blanks_after n (nodes_of (atoms_of two))) first.behind_is
-            ∙ sym (ap (blanks_after before) (ap nodes_of (flat_map-append atoms_in one two) ∙ flat_map-append (λ (atom : RawAtom). atom.nodes) (atoms_of one) (atoms_of two)) ∙ blanks_both before (nodes_of (atoms_of one)) (nodes_of (atoms_of two)));
+        behind_is = second.behind_is ∙ ap (λ n. blanks_after n (raw_nodes (atoms_of two))) first.behind_is
+            ∙ sym (ap (blanks_after before) (ap raw_nodes (flat_map-append atoms_in one two) ∙ flat_map-append (λ (atom : RawAtom). atom.nodes) (atoms_of one) (atoms_of two)) ∙ blanks_both before (raw_nodes (atoms_of one)) (raw_nodes (atoms_of two)));
       }
 
   pub elem_built : (xs : List RawElem) (i : ℕ) (x : RawElem) (before middle behind : ℕ) (old between new : LeftSide) → i < length xs → x ≡ get_or xs i x
@@ -121,8 +121,8 @@ module _ (source : Source) (vars : List (List ℕ)) where
 
 -- a clause is built
 pub clause_built : (source : Source) (head : RawAtom) (goals : List RawAtom) (variables : Variables) (names : List (List ℕ)) (kinds : List ℕ) (middle behind : ℕ) (tree : AtomTree) (none atoms : List AtomTree)
-    → AreMet source (head ∷ goals) none_met variables → names ≡ names_in variables.firsts → kinds ≡ kinds_met source variables.firsts
-    → IsAtomBy source (names_in variables.firsts) 0 head tree → middle ≡ blanks_after 0 head.nodes → none ≡ [] → AreBuilt source (names_in variables.firsts) goals middle behind none atoms
+    → AreMet source (head ∷ goals) none_met variables → names ≡ names_seen variables.firsts → kinds ≡ kinds_met source variables.firsts
+    → IsAtomBy source (names_seen variables.firsts) 0 head tree → middle ≡ blanks_after 0 head.nodes → none ≡ [] → AreBuilt source (names_seen variables.firsts) goals middle behind none atoms
     → IsClauseBy source (record { head = head; goals = goals }) (record { vars = names; kinds = kinds; head = tree; goals = atoms })
 clause_built source head goals variables names kinds middle behind tree none atoms met names_are kinds_are first blanks_are none_is built = record {
   vars_are = names_are ∙ names_met source (head ∷ goals) variables met;
@@ -130,7 +130,7 @@ clause_built source head goals variables names kinds middle behind tree none ato
   atoms_are = (
     subst (λ (vs : List (List ℕ)). IsAtomBy source vs 0 head tree) (sym names_are) first,
     subst (λ (vs : List (List ℕ)). AreAtomsBy source vs (blanks_after 0 head.nodes) goals atoms) (sym names_are)
-        (subst (λ n. AreAtomsBy source (names_in variables.firsts) n goals atoms) blanks_are (subst (λ (ts : List AtomTree). AreAtomsBy source (names_in variables.firsts) middle goals ts) more_is built.are)),
+        (subst (λ n. AreAtomsBy source (names_seen variables.firsts) n goals atoms) blanks_are (subst (λ (ts : List AtomTree). AreAtomsBy source (names_seen variables.firsts) middle goals ts) more_is built.are)),
   );
 } where
   more_is : built.more ≡ atoms

@@ -13,11 +13,11 @@ use Rattle.cep_parse.specs.declared.raw.RawKind.TheVariants as kind
 use Rattle.cep_parse.specs.declared.raw.RawAtom.{RawAtom}
 use Rattle.cep_names.specs.declared.space.Space.TheVariants as space
 use Rattle.cep_names.specs.Items.{Source, said}
-use Rattle.cep_names.specs.Variables.{Occurrence, occurrence_at, blanks_behind, nodes_of, occurrences_from, firsts_beside, variables_of}
+use Rattle.cep_names.specs.Variables.{Occurrence, occurrence_at, blanks_behind, raw_nodes, occurrences_from, firsts_beside, variables_of}
 use Rattle.cep_types.specs.declared.variables.Variables.{Variables}
 use Rattle.cep_types.specs.Sites.{Site, Wanted, sites_of, wanted_from, type_of}
 use Rattle.cep_types.specs.Heads.{number_of}
-use Rattle.cep_types.specs.Met.{names_in, kinds_met, none_met, further, AreMet}
+use Rattle.cep_types.specs.Met.{names_seen, kinds_met, none_met, further, AreMet}
 use Rattle.cep_infer.specs.Meaning.{names_of, kinds_of}
 use Rattle.cep_infer.proofs.Lookups.{bytes_eq_sym}
 use Rattle.cep_infer.proofs.Meeting.{nodes_at}
@@ -172,12 +172,12 @@ module _ (source : Source) (atoms : List RawAtom) (variables : Variables) (met :
   abbrev firsts : List Wanted
   firsts = fold further [] all
 
-  pub names_met : names_in variables.firsts ≡ names_of source atoms
+  pub names_met : names_seen variables.firsts ≡ names_of source atoms
   names_met =
       sym (map-map (λ (w : Wanted). w.name) (λ (e : List ℕ × Span). record { name = e.0; wants = said source e.1 }) variables.firsts)
       ∙ ap wanted_names_of met.firsts ∙ met_names [] [] all (λ name. refl)
       ∙ ap (new_names []) (wanted_names source 0 (sites_of source atoms) ∙ ap (λ nodes. occurring (occurrences_from source 0 nodes)) met.covered)
-      ∙ sym (firsts_names [] (occurrences_from source 0 (nodes_of atoms)))
+      ∙ sym (firsts_names [] (occurrences_from source 0 (raw_nodes atoms)))
 
   abbrev kind_of : Option (List ℕ) → ℕ
   kind_of type = number_of source space.Sorts (unwrap_or type [])
@@ -199,5 +199,5 @@ module _ (source : Source) (atoms : List RawAtom) (variables : Variables) (met :
       ∙ map-map kind_found (λ (w : Wanted). found firsts w.name) firsts
       ∙ sym (each_kind firsts)
       ∙ ap (map (λ (name : List ℕ). kind_of (type_of source atoms name)))
-      (met_names [] [] all (λ name. refl) ∙ ap (new_names []) (wanted_names source 0 (sites_of source atoms) ∙ ap (λ nodes. occurring (occurrences_from source 0 nodes)) met.covered) ∙ sym (firsts_names [] (occurrences_from source 0 (nodes_of atoms))))
+      (met_names [] [] all (λ name. refl) ∙ ap (new_names []) (wanted_names source 0 (sites_of source atoms) ∙ ap (λ nodes. occurring (occurrences_from source 0 nodes)) met.covered) ∙ sym (firsts_names [] (occurrences_from source 0 (raw_nodes atoms))))
       ∙ map-map (λ (name : List ℕ). kind_of (type_of source atoms name)) (λ (o : Occurrence). o.name) (variables_of source atoms)

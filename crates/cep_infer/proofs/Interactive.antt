@@ -8,7 +8,7 @@ use Rattle.std.proofs.lemmas.Slice.Eq.{bytes_eq-Decides}
 use Rattle.cep_parse.specs.declared.raw.Span.{Span}
 use Rattle.cep_parse.specs.declared.raw.RawItem.{RawItem}
 use Rattle.cep_names.specs.Items.{Source, said, is_said, interactives_in}
-use Rattle.cep_types.specs.Met.{has_name, added}
+use Rattle.cep_types.specs.Met.{is_met, added}
 use Rattle.cep_infer.proofs.Lookups.{bytes_eq_sym}
 
 any_both : {X : Type 0} (p : X → Bool) (one two : List X) → list_any p (one ++ two) ≡ (list_any p one || list_any p two)
@@ -22,21 +22,21 @@ or_false : (b : Bool) → (b || false) ≡ b
 or_false true = refl
 or_false false = refl
 
-pub has_added : (source : Source) (firsts : List (List ℕ × Span)) (span wants : Span) (name : List ℕ) → has_name (added firsts (said source span, wants)) name ≡ (has_name firsts name || is_said source (span ∷ []) name)
-has_added source firsts span wants name = cases (has_name firsts (said source span)) refl where
-  there : has_name firsts (said source span) ≡ true → (b : Bool) → bytes_eq (said source span) name ≡ b → has_name firsts name ≡ (has_name firsts name || (b || false))
+pub has_added : (source : Source) (firsts : List (List ℕ × Span)) (span wants : Span) (name : List ℕ) → is_met (added firsts (said source span, wants)) name ≡ (is_met firsts name || is_said source (span ∷ []) name)
+has_added source firsts span wants name = cases (is_met firsts (said source span)) refl where
+  there : is_met firsts (said source span) ≡ true → (b : Bool) → bytes_eq (said source span) name ≡ b → is_met firsts name ≡ (is_met firsts name || (b || false))
   there e true is = yes ∙ ap (λ c. c || (true || false)) (sym yes) where
-    yes : has_name firsts name ≡ true
-    yes = ap (has_name firsts) (sym ((bytes_eq-Decides (said source span) name).0 is)) ∙ e
-  there e false is = sym (or_false (has_name firsts name))
+    yes : is_met firsts name ≡ true
+    yes = ap (is_met firsts) (sym ((bytes_eq-Decides (said source span) name).0 is)) ∙ e
+  there e false is = sym (or_false (is_met firsts name))
 
-  cases : (b : Bool) → has_name firsts (said source span) ≡ b → has_name (if b then firsts else firsts ++ (said source span, wants) ∷ []) name ≡ (has_name firsts name || is_said source (span ∷ []) name)
+  cases : (b : Bool) → is_met firsts (said source span) ≡ b → is_met (if b then firsts else firsts ++ (said source span, wants) ∷ []) name ≡ (is_met firsts name || is_said source (span ∷ []) name)
   cases true e = there e (bytes_eq (said source span) name) refl
-  cases false e = any_both (λ entry. bytes_eq name entry.0) firsts ((said source span, wants) ∷ []) ∙ ap (λ b. has_name firsts name || (b || false)) (bytes_eq_sym name (said source span))
+  cases false e = any_both (λ entry. bytes_eq name entry.0) firsts ((said source span, wants) ∷ []) ∙ ap (λ b. is_met firsts name || (b || false)) (bytes_eq_sym name (said source span))
 
 pub interactive_more : (source : Source) (items : List RawItem) (i : ℕ) (x : RawItem) (old new : List (List ℕ × Span)) (name : List ℕ) → i < length items → x ≡ get_or items i x
-    → has_name old name ≡ is_said source (flat_map interactives_in (take i items)) name → has_name new name ≡ (has_name old name || is_said source (interactives_in x) name)
-    → has_name new name ≡ is_said source (flat_map interactives_in (take (i + 1) items)) name
+    → is_met old name ≡ is_said source (flat_map interactives_in (take i items)) name → is_met new name ≡ (is_met old name || is_said source (interactives_in x) name)
+    → is_met new name ≡ is_said source (flat_map interactives_in (take (i + 1) items)) name
 interactive_more source items i x old new name h at was is =
     is ∙ ap (λ b. b || is_said source (interactives_in x) name) was
     ∙ sym (ap (λ spans. is_said source spans name)

@@ -8,7 +8,7 @@ use Rattle.cep_parse.specs.declared.raw.RawKind.{RawKind}
 use Rattle.cep_parse.specs.declared.raw.RawNode.{RawNode}
 use Rattle.cep_parse.specs.declared.raw.RawAtom.{RawAtom}
 use Rattle.cep_names.specs.Items.{Source}
-use Rattle.cep_names.specs.Variables.{occurrence_at, blanks_behind, nodes_of}
+use Rattle.cep_names.specs.Variables.{occurrence_at, blanks_behind, raw_nodes}
 use Rattle.cep_types.specs.declared.variables.Variables.{Variables}
 use Rattle.cep_types.specs.Sites.{Site, Wanted, sites_in, sites_of, wanted_from}
 use Rattle.cep_types.specs.Heads.{blanks_after}
@@ -41,9 +41,9 @@ both_are_met source one two start middle now first second = record {
       ∙ fold-append further (wanted_in source start.firsts) (wanted_from source start.blanks (sites_of source one)) (wanted_from source (blanks_after start.blanks (nodes_at (sites_of source one))) (sites_of source two))
       ∙ ap (λ n. fold further (fold further (wanted_in source start.firsts) (wanted_from source start.blanks (sites_of source one))) (wanted_from source n (sites_of source two)))
       (ap (blanks_after start.blanks) first.covered ∙ sym first.blanks));
-  blanks = second.blanks ∙ ap (λ n. blanks_after n (nodes_of two)) first.blanks
-      ∙ sym (ap (blanks_after start.blanks) (flat_map-append (λ (atom : RawAtom). atom.nodes) one two) ∙ blanks_both start.blanks (nodes_of one) (nodes_of two));
+  blanks = second.blanks ∙ ap (λ n. blanks_after n (raw_nodes two)) first.blanks
+      ∙ sym (ap (blanks_after start.blanks) (flat_map-append (λ (atom : RawAtom). atom.nodes) one two) ∙ blanks_both start.blanks (raw_nodes one) (raw_nodes two));
   covered = ap nodes_at (flat_map-append (sites_in source) one two) ∙ map-append (λ (site : Site). site.node) (sites_of source one) (sites_of source two)
-      ∙ ap (λ ns. ns ++ nodes_at (sites_of source two)) first.covered ∙ ap (λ ns. nodes_of one ++ ns) second.covered
+      ∙ ap (λ ns. ns ++ nodes_at (sites_of source two)) first.covered ∙ ap (λ ns. raw_nodes one ++ ns) second.covered
       ∙ sym (flat_map-append (λ (atom : RawAtom). atom.nodes) one two);
 }

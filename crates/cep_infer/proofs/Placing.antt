@@ -7,7 +7,7 @@ use Rattle.std.proofs.lemmas.List.{take_more, take-take, take_min, take-append-d
 use Rattle.std.proofs.lemmas.List.Sums.{sum_by_push}
 use Rattle.std.proofs.lemmas.Slice.{between_is}
 use Rattle.cep_base.specs.declared.place.Pos.{Pos}
-use Rattle.cep_lex.specs.Cuts.{IsUnbroken}
+use Rattle.cep_base.specs.Spelling.{IsUnbroken}
 use Rattle.cep_lex.specs.Places.{IsPlaceBehind}
 use Rattle.cep_infer.specs.declared.places.Reached.{Reached}
 use Rattle.cep_infer.specs.Places.{IsReached, ArePlaces, ArePlaceLists}

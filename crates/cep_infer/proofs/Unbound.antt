@@ -12,10 +12,10 @@ use Rattle.cep_parse.specs.declared.raw.RawElem.{RawElem}
 use Rattle.cep_names.specs.Items.{Source, RuleItem}
 use Rattle.cep_names.specs.Misnamed.{is_declared}
 use Rattle.cep_names.specs.Uses.{atoms_in, atoms_of}
-use Rattle.cep_names.specs.Variables.{Occurrence, occurrence_at, occurrences_from, blanks_behind, nodes_of}
+use Rattle.cep_names.specs.Variables.{Occurrence, occurrence_at, occurrences_from, blanks_behind, raw_nodes}
 use Rattle.cep_types.specs.declared.variables.Variables.{Variables}
 use Rattle.cep_types.specs.Heads.{blanks_after}
-use Rattle.cep_types.specs.Met.{has_name, names_in, none_met, AreMet}
+use Rattle.cep_types.specs.Met.{is_met, names_seen, none_met, AreMet}
 use Rattle.cep_infer.specs.Meaning.{names_of}
 use Rattle.cep_infer.specs.Places.{unbound_at}
 use Rattle.cep_infer.proofs.Lookups.{bytes_eq_sym}
@@ -75,17 +75,17 @@ module _ (source : Source) where
       ap (λ n. blanks_after n (drop (i + 1) nodes)) behind_is ∙ sym (ap (blanks_after blanks) (drop_more nodes i d h)) ∙ was
 
   -- one element more
-  elem_nodes : (side : List RawElem) (i : ℕ) (elem : RawElem) → i < length side → elem ≡ get_or side i elem → nodes_of (atoms_of (drop i side)) ≡ nodes_of (atoms_in elem) ++ nodes_of (atoms_of (drop (i + 1) side))
+  elem_nodes : (side : List RawElem) (i : ℕ) (elem : RawElem) → i < length side → elem ≡ get_or side i elem → raw_nodes (atoms_of (drop i side)) ≡ raw_nodes (atoms_in elem) ++ raw_nodes (atoms_of (drop (i + 1) side))
   elem_nodes side i elem h at =
-      ap (λ (es : List RawElem). nodes_of (atoms_of es)) (drop_more side i elem h ∙ ap (λ (e : RawElem). e ∷ drop (i + 1) side) (sym at))
+      ap (λ (es : List RawElem). raw_nodes (atoms_of es)) (drop_more side i elem h ∙ ap (λ (e : RawElem). e ∷ drop (i + 1) side) (sym at))
       ∙ flat_map-append (λ (atom : RawAtom). atom.nodes) (atoms_in elem) (atoms_of (drop (i + 1) side))
 
-  pub elem_pushed : (p : Occurrence → Bool) (side : List RawElem) (i blanks behind : ℕ) (elem : RawElem) (nodes : List RawNode) (old new all : List ℕ) → i < length side → elem ≡ get_or side i elem → nodes ≡ nodes_of (atoms_in elem)
+  pub elem_pushed : (p : Occurrence → Bool) (side : List RawElem) (i blanks behind : ℕ) (elem : RawElem) (nodes : List RawNode) (old new all : List ℕ) → i < length side → elem ≡ get_or side i elem → nodes ≡ raw_nodes (atoms_in elem)
       → new ≡ old ++ places_of p (occurrences_from source blanks nodes) → behind ≡ blanks_after blanks nodes
-      → old ++ places_of p (occurrences_from source blanks (nodes_of (atoms_of (drop i side)))) ≡ all → new ++ places_of p (occurrences_from source behind (nodes_of (atoms_of (drop (i + 1) side)))) ≡ all
+      → old ++ places_of p (occurrences_from source blanks (raw_nodes (atoms_of (drop i side)))) ≡ all → new ++ places_of p (occurrences_from source behind (raw_nodes (atoms_of (drop (i + 1) side)))) ≡ all
   elem_pushed p side i blanks behind elem nodes old new all h at nodes_are new_is behind_is was =
-      let rest = nodes_of (atoms_of (drop (i + 1) side)) in
-      pushed old new (places_of p (occurrences_from source blanks nodes)) (places_of p (occurrences_from source behind rest)) (places_of p (occurrences_from source blanks (nodes_of (atoms_of (drop i side))))) all new_is
+      let rest = raw_nodes (atoms_of (drop (i + 1) side)) in
+      pushed old new (places_of p (occurrences_from source blanks nodes)) (places_of p (occurrences_from source behind rest)) (places_of p (occurrences_from source blanks (raw_nodes (atoms_of (drop i side))))) all new_is
       (ap (λ (ns : List RawNode). places_of p (occurrences_from source blanks ns)) (elem_nodes side i elem h at ∙ ap (λ (ns : List RawNode). ns ++ rest) (sym nodes_are))
       ∙ ap (places_of p) (occurrences_both blanks nodes rest)
       ∙ kept_both (λ (occurrence : Occurrence). occurrence.at.from) p (occurrences_from source blanks nodes) (occurrences_from source (blanks_after blanks nodes) rest)
@@ -95,26 +95,26 @@ module _ (source : Source) where
   -- ---- what was met on the left
 
   abbrev fresh : List (List ℕ × Span) → Occurrence → Bool
-  fresh firsts occurrence = not (has_name firsts occurrence.name)
+  fresh firsts occurrence = not (is_met firsts occurrence.name)
 
   abbrev unnamed : List RawAtom → Occurrence → Bool
   unnamed atoms occurrence = not (list_any (λ name. bytes_eq name occurrence.name) (names_of source atoms))
 
-  has_names : (firsts : List (List ℕ × Span)) (name : List ℕ) → has_name firsts name ≡ list_any (λ other. bytes_eq other name) (names_in firsts)
+  has_names : (firsts : List (List ℕ × Span)) (name : List ℕ) → is_met firsts name ≡ list_any (λ other. bytes_eq other name) (names_seen firsts)
   has_names [] name = refl
-  has_names (entry ∷ firsts) name = ap (λ b. b || has_name firsts name) (bytes_eq_sym name entry.0) ∙ ap (λ b. bytes_eq entry.0 name || b) (has_names firsts name)
+  has_names (entry ∷ firsts) name = ap (λ b. b || is_met firsts name) (bytes_eq_sym name entry.0) ∙ ap (λ b. bytes_eq entry.0 name || b) (has_names firsts name)
 
   fresh_is : (atoms : List RawAtom) (left : Variables) → AreMet source atoms none_met left → (occurrence : Occurrence) → fresh left.firsts occurrence ≡ unnamed atoms occurrence
   fresh_is atoms left met occurrence = ap not (has_names left.firsts occurrence.name ∙ ap (λ (names : List (List ℕ)). list_any (λ name. bytes_eq name occurrence.name) names) (names_met source atoms left met))
 
-  unbound_met : (atoms : List RawAtom) (right : List RawNode) (left : Variables) → AreMet source atoms none_met left → places_of (fresh left.firsts) (occurrences_from source left.blanks right) ≡ places_of (unnamed atoms) (occurrences_from source (blanks_after 0 (nodes_of atoms)) right)
+  unbound_met : (atoms : List RawAtom) (right : List RawNode) (left : Variables) → AreMet source atoms none_met left → places_of (fresh left.firsts) (occurrences_from source left.blanks right) ≡ places_of (unnamed atoms) (occurrences_from source (blanks_after 0 (raw_nodes atoms)) right)
   unbound_met atoms right left met =
       ap (λ n. places_of (fresh left.firsts) (occurrences_from source n right)) met.blanks
-      ∙ ap (map (λ (occurrence : Occurrence). occurrence.at.from)) (filter_agree (fresh left.firsts) (unnamed atoms) (fresh_is atoms left met) (occurrences_from source (blanks_after 0 (nodes_of atoms)) right))
+      ∙ ap (map (λ (occurrence : Occurrence). occurrence.at.from)) (filter_agree (fresh left.firsts) (unnamed atoms) (fresh_is atoms left met) (occurrences_from source (blanks_after 0 (raw_nodes atoms)) right))
 
   pub unbound_is : (item : RuleItem) (left_side right_side : List RawElem) (start left : Variables) → left_side ≡ item.raw.left → right_side ≡ item.raw.right → start ≡ none_met → AreMet source (atoms_of left_side) start left
-      → places_of (λ (occurrence : Occurrence). not (has_name left.firsts occurrence.name)) (occurrences_from source left.blanks (nodes_of (atoms_of right_side))) ≡ unbound_at source item
+      → places_of (λ (occurrence : Occurrence). not (is_met left.firsts occurrence.name)) (occurrences_from source left.blanks (raw_nodes (atoms_of right_side))) ≡ unbound_at source item
   unbound_is item left_side right_side start left left_is right_is none met =
-      ap (λ (side : List RawElem). places_of (fresh left.firsts) (occurrences_from source left.blanks (nodes_of (atoms_of side)))) right_is
-      ∙ unbound_met (atoms_of item.raw.left) (nodes_of (atoms_of item.raw.right)) left
+      ap (λ (side : List RawElem). places_of (fresh left.firsts) (occurrences_from source left.blanks (raw_nodes (atoms_of side)))) right_is
+      ∙ unbound_met (atoms_of item.raw.left) (raw_nodes (atoms_of item.raw.right)) left
       (subst (λ (v : Variables). AreMet source (atoms_of item.raw.left) v left) none (subst (λ (side : List RawElem). AreMet source (atoms_of side) start left) left_is met))

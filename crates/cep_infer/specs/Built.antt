@@ -6,7 +6,7 @@ use Rattle.cep_term.specs.Tree.{AtomTree}
 use Rattle.cep_rule.specs.Patterns.{PremiseTree}
 use Rattle.cep_names.specs.Items.{Source}
 use Rattle.cep_names.specs.Uses.{atoms_of}
-use Rattle.cep_names.specs.Variables.{nodes_of}
+use Rattle.cep_names.specs.Variables.{raw_nodes}
 use Rattle.cep_types.specs.Heads.{AreAtomsBy, blanks_after}
 use Rattle.cep_infer.specs.declared.left.LeftSide.{LeftSide}
 use Rattle.cep_infer.specs.Meaning.{ArePremisesBy, is_back}
@@ -16,7 +16,7 @@ pub record AreBuilt (source : Source) (vars : List (List ℕ)) (raws : List RawA
   pub more : List AtomTree
   pub new_is : new ≡ old ++ more
   pub are : AreAtomsBy source vars before raws more
-  pub behind_is : behind ≡ blanks_after before (nodes_of raws)
+  pub behind_is : behind ≡ blanks_after before (raw_nodes raws)
 
 -- Behind the old premises stand those that are written, the linear ones and the backward ones.
 pub record IsLeftBuilt (source : Source) (vars : List (List ℕ)) (side : List RawElem) (before behind : ℕ) (old new : LeftSide) : Type 0 where
@@ -24,4 +24,4 @@ pub record IsLeftBuilt (source : Source) (vars : List (List ℕ)) (side : List R
   pub are : ArePremisesBy source vars before side more
   pub premises_are : new.premises ≡ old.premises ++ filter (λ premise. not (is_back source premise.atom)) more
   pub backs_are : new.backs ≡ old.backs ++ map (λ premise. premise.atom) (filter (λ premise. is_back source premise.atom) more)
-  pub behind_is : behind ≡ blanks_after before (nodes_of (atoms_of side))
+  pub behind_is : behind ≡ blanks_after before (raw_nodes (atoms_of side))

@@ -19,7 +19,7 @@ use Rattle.cep_names.specs.declared.space.Space.TheVariants as space
 use Rattle.cep_names.specs.Items.{Source, PredItem, ConItem, ClauseItem, RuleItem, TraceItem, said, is_said, sorts_of, preds_of, cons_of, stages_of, interactives_of, clauses_of, rules_of, traces_of}
 use Rattle.cep_names.specs.Spaces.{names_in}
 use Rattle.cep_names.specs.Uses.{atoms_of}
-use Rattle.cep_names.specs.Variables.{nodes_of, variables_of}
+use Rattle.cep_names.specs.Variables.{raw_nodes, variables_of}
 use Rattle.cep_names.specs.Starts.{start_atoms}
 use Rattle.cep_names.specs.Misnamed.{number_said}
 use Rattle.cep_types.specs.Sites.{type_of, rule_scope, clause_scope}
@@ -101,7 +101,7 @@ pub record IsRuleBy (source : Source) (name : List ℕ) (item : RuleItem) (rule 
   pub left_is : ArePremisesBy source rule.vars 0 item.raw.left left
   pub premises_are : rule.premises ≡ filter (λ premise. not (is_back source premise.atom)) left
   pub backs_are : rule.backs ≡ map (λ premise. premise.atom) (filter (λ premise. is_back source premise.atom) left)
-  pub right_is : AreAtomsBy source rule.vars (blanks_after 0 (nodes_of (atoms_of item.raw.left))) (atoms_of item.raw.right) rule.right
+  pub right_is : AreAtomsBy source rule.vars (blanks_after 0 (raw_nodes (atoms_of item.raw.left))) (atoms_of item.raw.right) rule.right
 
 -- The rules are those that are written, one after another, by their names.
 abbrev pub AreRulesBy : Source → List (List ℕ) → List RuleItem → List Rule → Type 0

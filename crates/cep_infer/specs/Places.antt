@@ -6,7 +6,7 @@ use Rattle.cep_base.specs.declared.place.Pos.{Pos}
 use Rattle.cep_lex.specs.Places.{IsPlaceBehind}
 use Rattle.cep_names.specs.Items.{Source, RuleItem, rules_of}
 use Rattle.cep_names.specs.Uses.{atoms_of}
-use Rattle.cep_names.specs.Variables.{Occurrence, occurrences_from, nodes_of}
+use Rattle.cep_names.specs.Variables.{Occurrence, occurrences_from, raw_nodes}
 use Rattle.cep_names.specs.Misnamed.{backward_of}
 use Rattle.cep_types.specs.Heads.{blanks_after}
 use Rattle.cep_infer.specs.declared.draft.Draft.{Draft}
@@ -21,7 +21,7 @@ backs_at source item = map (λ atom. atom.name.from) (backward_of source item.ra
 abbrev pub unbound_of : Source → RuleItem → List Occurrence
 unbound_of source item =
     filter (λ occurrence. not (list_any (λ name. bytes_eq name occurrence.name) (names_of source (atoms_of item.raw.left))))
-    (occurrences_from source (blanks_after 0 (nodes_of (atoms_of item.raw.left))) (nodes_of (atoms_of item.raw.right)))
+    (occurrences_from source (blanks_after 0 (raw_nodes (atoms_of item.raw.left))) (raw_nodes (atoms_of item.raw.right)))
 
 -- their places
 abbrev pub unbound_at : Source → RuleItem → List ℕ

@@ -1,7 +1,7 @@
 // Atoms of one side, one clause or one state, one after another.
 ghost use Rattle.std.specs.Prelude.{◌≡◌, ◌∷◌, [], OnOk};
 ghost use Rattle.cep_names.specs.Uses.{atoms_in, atoms_of};
-ghost use Rattle.cep_types.specs.Met.{names_in};
+ghost use Rattle.cep_types.specs.Met.{names_seen};
 ghost use Rattle.cep_infer.specs.Built.{AreBuilt};
 
 use crate::terms::read_atom;
@@ -18,7 +18,7 @@ pub(crate) fn push_atom(
     blanks: &mut u64,
     atoms: &mut AtomList,
 ) -> Result<(), AllocError>
-    ensures { OnOk result (AreBuilt declared.now (names_in variables.now.firsts) (raw.now ∷ []) blanks.old blanks.new atoms.old atoms.new) }
+    ensures { OnOk result (AreBuilt declared.now (names_seen variables.now.firsts) (raw.now ∷ []) blanks.old blanks.new atoms.old atoms.new) }
 {
     let atom = read_atom(declared, variables, blanks, raw)?;
     atoms.push(atom)
@@ -32,7 +32,7 @@ pub(crate) fn push_atoms(
     blanks: &mut u64,
     atoms: &mut AtomList,
 ) -> Result<(), AllocError>
-    ensures { OnOk result (AreBuilt declared.now (names_in variables.now.firsts) raws.now blanks.old blanks.new atoms.old atoms.new) }
+    ensures { OnOk result (AreBuilt declared.now (names_seen variables.now.firsts) raws.now blanks.old blanks.new atoms.old atoms.new) }
 {
     for raw in raws {
         push_atom(declared, variables, raw, blanks, atoms)?;
@@ -47,7 +47,7 @@ fn push_elem(
     blanks: &mut u64,
     atoms: &mut AtomList,
 ) -> Result<(), AllocError>
-    ensures { OnOk result (AreBuilt declared.now (names_in variables.now.firsts) (atoms_in elem.now) blanks.old blanks.new atoms.old atoms.new) }
+    ensures { OnOk result (AreBuilt declared.now (names_seen variables.now.firsts) (atoms_in elem.now) blanks.old blanks.new atoms.old atoms.new) }
 {
     match elem {
         RawElem::Atom { atom, .. } => push_atom(declared, variables, atom, blanks, atoms),
@@ -63,7 +63,7 @@ pub(crate) fn push_side(
     blanks: &mut u64,
     atoms: &mut AtomList,
 ) -> Result<(), AllocError>
-    ensures { OnOk result (AreBuilt declared.now (names_in variables.now.firsts) (atoms_of side.now) blanks.old blanks.new atoms.old atoms.new) }
+    ensures { OnOk result (AreBuilt declared.now (names_seen variables.now.firsts) (atoms_of side.now) blanks.old blanks.new atoms.old atoms.new) }
 {
     for elem in side {
         push_elem(declared, variables, elem, blanks, atoms)?;

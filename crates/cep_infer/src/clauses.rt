@@ -3,7 +3,7 @@ ghost use Rattle.std.specs.Prelude.{◌≡◌, ◌++◌, ◌∷◌, [], map, opt
 ghost use Rattle.cep_names.specs.Items.{clauses_in, clauses_of};
 ghost use Rattle.cep_rule.specs.Patterns.{ClauseTree, clause_of};
 ghost use Rattle.cep_types.specs.Heads.{AreAtomsBy};
-ghost use Rattle.cep_types.specs.Met.{names_in};
+ghost use Rattle.cep_types.specs.Met.{names_seen};
 ghost use Rattle.cep_infer.specs.Meaning.{IsClauseBy, AreClausesBy};
 
 use crate::atoms::push_atoms;

@@ -1,6 +1,6 @@
-use cep_base::Pos;
+use cep_base::{List, Pos};
 use cep_names::Reason;
-use cep_rule::{Items, Parts};
+use cep_rule::Parts;
 
 /// Why a text is refused, and where.
 #[derive(Clone, Copy, Debug, PartialEq, Eq)]
@@ -10,10 +10,10 @@ pub struct Refusal {
 }
 
 /// Some places, in written order.
-pub type Places = Items<Pos>;
+pub type Places = List<Pos>;
 
 /// For each rule, in written order, some places.
-pub type PlaceLists = Items<Places>;
+pub type PlaceLists = List<Places>;
 
 /// What a text declares, where it is not known yet whether it is a program: whether each variable
 /// of a right side is bound on the left, and what backward premises leave unknown. A variable that

@@ -1,7 +1,7 @@
 // The left sides of rules.
 ghost use Rattle.std.specs.Prelude.{◌≡◌, ◌∷◌, ◌++◌, [], if◌then◌else◌, OnOk};
 ghost use Rattle.cep_term.specs.Tree.{atom_of};
-ghost use Rattle.cep_types.specs.Met.{names_in};
+ghost use Rattle.cep_types.specs.Met.{names_seen};
 ghost use Rattle.cep_infer.specs.Meaning.{is_back};
 ghost use Rattle.cep_infer.specs.Built.{IsLeftBuilt};
 
@@ -61,7 +61,7 @@ fn push_premise(
     blanks: &mut u64,
     left: &mut LeftSide,
 ) -> Result<(), AllocError>
-    ensures { OnOk result (IsLeftBuilt declared.now (names_in variables.now.firsts) (elem.now ∷ []) blanks.old blanks.new left.old left.new) }
+    ensures { OnOk result (IsLeftBuilt declared.now (names_seen variables.now.firsts) (elem.now ∷ []) blanks.old blanks.new left.old left.new) }
 {
     match elem {
         RawElem::Atom { kept, atom } => {
@@ -81,7 +81,7 @@ pub(crate) fn push_left(
     blanks: &mut u64,
     left: &mut LeftSide,
 ) -> Result<(), AllocError>
-    ensures { OnOk result (IsLeftBuilt declared.now (names_in variables.now.firsts) side.now blanks.old blanks.new left.old left.new) }
+    ensures { OnOk result (IsLeftBuilt declared.now (names_seen variables.now.firsts) side.now blanks.old blanks.new left.old left.new) }
 {
     for elem in side {
         push_premise(declared, variables, elem, blanks, left)?;

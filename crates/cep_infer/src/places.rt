@@ -4,9 +4,9 @@ ghost use Rattle.cep_lex.specs.Places.{IsPlaceBehind};
 ghost use Rattle.cep_names.specs.Misnamed.{is_declared};
 ghost use Rattle.cep_names.specs.Spaces.{back_of};
 ghost use Rattle.cep_names.specs.Uses.{atoms_in, atoms_of};
-ghost use Rattle.cep_names.specs.Variables.{nodes_of, occurrence_at, occurrences_from};
+ghost use Rattle.cep_names.specs.Variables.{raw_nodes, occurrence_at, occurrences_from};
 ghost use Rattle.cep_types.specs.Heads.{blanks_after};
-ghost use Rattle.cep_types.specs.Met.{has_name};
+ghost use Rattle.cep_types.specs.Met.{is_met};
 ghost use Rattle.cep_infer.specs.Places.{IsReached, ArePlaces, ArePlaceLists, backs_at, unbound_at};
 ghost use Rattle.cep_infer.specs.Listed.{rule_item};
 
@@ -144,7 +144,7 @@ fn is_unbound(
     blanks: u64,
     node: &RawNode,
 ) -> Result<bool, AllocError>
-    ensures { IfOk result (λ unbound. (if unbound then node.now.at.from ∷ [] else []) ≡ map (λ occurrence. occurrence.at.from) (filter (λ occurrence. not (has_name left.now.firsts occurrence.name)) (occurrence_at declared.now blanks node.now.at node.now.kind))) }
+    ensures { IfOk result (λ unbound. (if unbound then node.now.at.from ∷ [] else []) ≡ map (λ occurrence. occurrence.at.from) (filter (λ occurrence. not (is_met left.now.firsts occurrence.name)) (occurrence_at declared.now blanks node.now.at node.now.kind))) }
 {
     match node.kind {
         RawKind::App => Ok(false),
@@ -164,7 +164,7 @@ fn push_node(
     node: &RawNode,
     ats: &mut Vec<u32>,
 ) -> Result<(), AllocError>
-    ensures { OnOk result (ats.new.items ≡ ats.old.items ++ map (λ occurrence. occurrence.at.from) (filter (λ occurrence. not (has_name left.now.firsts occurrence.name)) (occurrence_at declared.now blanks node.now.at node.now.kind))) }
+    ensures { OnOk result (ats.new.items ≡ ats.old.items ++ map (λ occurrence. occurrence.at.from) (filter (λ occurrence. not (is_met left.now.firsts occurrence.name)) (occurrence_at declared.now blanks node.now.at node.now.kind))) }
 {
     if is_unbound(declared, left, blanks, node)? {
         ats.push(node.at.from)?;
@@ -180,7 +180,7 @@ fn push_unbound(
     nodes: &[RawNode],
     ats: &mut Vec<u32>,
 ) -> Result<(), AllocError>
-    ensures ats { OnOk result (ats.new.items ≡ ats.old.items ++ map (λ occurrence. occurrence.at.from) (filter (λ occurrence. not (has_name left.now.firsts occurrence.name)) (occurrences_from declared.now blanks.old nodes.now))) }
+    ensures ats { OnOk result (ats.new.items ≡ ats.old.items ++ map (λ occurrence. occurrence.at.from) (filter (λ occurrence. not (is_met left.now.firsts occurrence.name)) (occurrences_from declared.now blanks.old nodes.now))) }
     ensures blanks { OnOk result (blanks.new ≡ blanks_after blanks.old nodes.now) }
 {
     for node in nodes {
@@ -196,7 +196,7 @@ fn unbound_in(
     left: &Variables,
     side: &[RawElem],
 ) -> Result<Vec<u32>, AllocError>
-    ensures { IfOk result (λ ats. ats.items ≡ map (λ occurrence. occurrence.at.from) (filter (λ occurrence. not (has_name left.now.firsts occurrence.name)) (occurrences_from declared.now left.now.blanks (nodes_of (atoms_of side.now))))) }
+    ensures { IfOk result (λ ats. ats.items ≡ map (λ occurrence. occurrence.at.from) (filter (λ occurrence. not (is_met left.now.firsts occurrence.name)) (occurrences_from declared.now left.now.blanks (raw_nodes (atoms_of side.now))))) }
 {
     let mut blanks = left.blanks;
     let mut ats = Vec::new(declared.alloc());
@@ -249,7 +249,7 @@ pub(crate) fn right_places(
 
 // The nodes of an element that is an atom.
 fn nodes_in(elem: &RawElem) -> &[RawNode]
-    ensures { result.now ≡ nodes_of (atoms_in elem.now) }
+    ensures { result.now ≡ raw_nodes (atoms_in elem.now) }
 {
     match elem {
         RawElem::Atom { atom, .. } => atom.nodes.as_slice(),

@@ -1,18 +1,18 @@
 ghost use Rattle.std.specs.Prelude.{◌≡◌, ◌<◌, ◌≤◌, ◌^◌, Some, length, map, take, IfOk};
+ghost use Rattle.cep_base.specs.declared.limits.TheConstants.{MOST_TEXT};
 ghost use Rattle.std.specs.Option.{ForSome, option_map};
 ghost use Rattle.std.specs.Char.{digit_value};
 ghost use Rattle.std.specs.Str.Parse.{digits_value};
-ghost use Rattle.cep_lex.specs.declared.token.TheConstants.{MOST_BYTES};
 ghost use Rattle.cep_lex.specs.Places.{IsPlaceBehind};
 ghost use Rattle.cep_rule.specs.Limits.{IsTurnLimit};
 ghost use Rattle.cep_names.specs.Items.{rules_of, traces_of};
 ghost use Rattle.cep_names.specs.Misnamed.{number_said};
-ghost use Rattle.cep_names.specs.Named.{AreNames};
+ghost use Rattle.cep_names.specs.Named.{AreNamedRight};
 ghost use Rattle.cep_infer.specs.Shapes.{IsSource};
 ghost use Rattle.cep_infer.specs.Meaning.{AreParts};
 ghost use Rattle.cep_infer.specs.Places.{IsDraft};
 ghost use Rattle.cep_infer.specs.Listed.{rule_item, IsFirstTrace};
-ghost use Rattle.cep_infer.specs.Resolved.{IsWellNamed, IsResolved, IsTyped};
+ghost use Rattle.cep_infer.specs.Resolved.{IsWellNamed, IsResolved, IsTypedDraft};
 
 use crate::clauses::read_clauses;
 use crate::draft::{Draft, Refusal};
@@ -31,7 +31,7 @@ use std::alloc::{AllocError, Global};
 
 // The refusal of a text for a fault. A place behind the end is the end.
 fn refusal(text: &[u8], fault: Fault) -> Refusal
-    requires { length text.now ≤ MOST_BYTES }
+    requires { length text.now ≤ MOST_TEXT }
     ensures reason { result.reason ≡ fault.reason }
     ensures pos { IsPlaceBehind (take fault.at text.now) result.pos }
 {
@@ -120,8 +120,8 @@ fn typed(
     file: &RawFile,
     names: &Names,
 ) -> Result<Result<Draft, Fault>, AllocError>
-    requires { AreNames (record { text = text.now; file = file.now }) names.now }
-    ensures { IfOk result (λ answer. IsTyped (record { text = text.now; file = file.now }) answer) }
+    requires { AreNamedRight (record { text = text.now; file = file.now }) names.now }
+    ensures { IfOk result (λ answer. IsTypedDraft (record { text = text.now; file = file.now }) answer) }
 {
     let declared = Declarations::of(alloc, text, file, names)?;
     if let Some(fault) = declared.first_clash()? {
@@ -141,7 +141,7 @@ pub fn resolve(
     text: &[u8],
     file: &RawFile,
 ) -> Result<Result<Draft, Refusal>, AllocError>
-    requires short { length text.now ≤ MOST_BYTES }
+    requires short { length text.now ≤ MOST_TEXT }
     requires source { IsSource (record { text = text.now; file = file.now }) }
     ensures { IfOk result (IsResolved (record { text = text.now; file = file.now })) }
 {

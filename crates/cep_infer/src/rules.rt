@@ -2,9 +2,9 @@
 ghost use Rattle.std.specs.Prelude.{◌≡◌, ◌++◌, ◌∷◌, [], map, IfOk, OnOk, option_to_list};
 ghost use Rattle.cep_names.specs.Spaces.{rule_name, rule_names_from, unlabelled_behind};
 ghost use Rattle.cep_names.specs.Uses.{atoms_of};
-ghost use Rattle.cep_names.specs.Variables.{nodes_of};
+ghost use Rattle.cep_names.specs.Variables.{raw_nodes};
 ghost use Rattle.cep_types.specs.Heads.{AreAtomsBy, blanks_after};
-ghost use Rattle.cep_types.specs.Met.{none_met, AreMet, names_in, kinds_met};
+ghost use Rattle.cep_types.specs.Met.{none_met, AreMet, names_seen, kinds_met};
 ghost use Rattle.cep_types.specs.Sites.{rule_scope};
 ghost use Rattle.cep_infer.specs.Meaning.{AreRulesBy, IsRuleBy, stages_in_elem, stage_named, group_of, next_of};
 ghost use Rattle.cep_infer.specs.Listed.{rule_item};
@@ -122,7 +122,7 @@ fn rule_from(
 ) -> Result<Rule, AllocError>
     ensures name { IfOk result (λ rule. rule.name ≡ rule_name declared.now unlabelled item.now.raw.now.label) }
     ensures group { IfOk result (λ rule. rule.group ≡ group_of declared.now item.now.home item.now.raw.now.left) }
-    ensures vars { IfOk result (λ rule. rule.vars ≡ names_in variables.now.firsts) }
+    ensures vars { IfOk result (λ rule. rule.vars ≡ names_seen variables.now.firsts) }
     ensures kinds { IfOk result (λ rule. rule.kinds ≡ kinds_met declared.now variables.now.firsts) }
     ensures premises { IfOk result (λ rule. rule.premises ≡ left.premises) }
     ensures backs { IfOk result (λ rule. rule.backs ≡ left.backs) }

@@ -2,7 +2,7 @@
 ghost use Rattle.std.specs.Prelude.{◌≡◌, ◌++◌, ◌||◌, List, ℕ, map, option_to_list, IfOk, OnOk};
 ghost use Rattle.cep_names.specs.Items.{said, sorts_in, sorts_of, stages_in, stages_of, interactives_in, is_said, cons_of, preds_of};
 ghost use Rattle.cep_types.specs.Kept.{con_item, pred_item};
-ghost use Rattle.cep_types.specs.Met.{has_name, AreInteractive};
+ghost use Rattle.cep_types.specs.Met.{is_met, AreInteractive};
 ghost use Rattle.cep_infer.specs.Meaning.{con_by, pred_by, signature_of, stage_by};
 
 use cep_base::Name;
@@ -118,7 +118,7 @@ fn push_interactive(
     item: &RawItem,
     names: &mut Firsts,
 ) -> Result<(), AllocError>
-    ensures { (name : List ℕ) → OnOk result (has_name names.new name ≡ (has_name names.old name || is_said declared.now (interactives_in item.now) name)) }
+    ensures { (name : List ℕ) → OnOk result (is_met names.new name ≡ (is_met names.old name || is_said declared.now (interactives_in item.now) name)) }
 {
     match interactive_in(item) {
         Some(span) => names.add(declared.said(span), span),

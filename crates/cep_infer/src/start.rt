@@ -10,7 +10,7 @@ ghost use Rattle.cep_names.specs.Items.{traces_of};
 ghost use Rattle.cep_names.specs.Starts.{listed_or, start_atoms};
 ghost use Rattle.cep_names.specs.Uses.{placed, is_context};
 ghost use Rattle.cep_types.specs.Heads.{AreAtomsBy};
-ghost use Rattle.cep_types.specs.Met.{names_in};
+ghost use Rattle.cep_types.specs.Met.{names_seen};
 ghost use Rattle.cep_infer.specs.Meaning.{IsStartBy};
 ghost use Rattle.cep_infer.specs.Built.{AreBuilt};
 ghost use Rattle.cep_infer.specs.Listed.{trace_item};
@@ -43,7 +43,7 @@ fn push_listed(
     blanks: &mut u64,
     atoms: &mut AtomList,
 ) -> Result<(), AllocError>
-    ensures { OnOk result (AreBuilt declared.now (names_in none.now.firsts) (listed_or (is_context declared.now (placed role.Start raw.now)) declared.now raw.now) blanks.old blanks.new atoms.old atoms.new) }
+    ensures { OnOk result (AreBuilt declared.now (names_seen none.now.firsts) (listed_or (is_context declared.now (placed role.Start raw.now)) declared.now raw.now) blanks.old blanks.new atoms.old atoms.new) }
 {
     if is_context(declared, raw) {
         return push_atoms(declared, none, declared.context(raw.name), blanks, atoms);
@@ -58,7 +58,7 @@ fn push_all_listed(
     blanks: &mut u64,
     atoms: &mut AtomList,
 ) -> Result<(), AllocError>
-    ensures { OnOk result (AreBuilt declared.now (names_in none.now.firsts) (start_atoms declared.now (start.Listed raws.now)) blanks.old blanks.new atoms.old atoms.new) }
+    ensures { OnOk result (AreBuilt declared.now (names_seen none.now.firsts) (start_atoms declared.now (start.Listed raws.now)) blanks.old blanks.new atoms.old atoms.new) }
 {
     for raw in raws {
         push_listed(declared, none, raw, blanks, atoms)?;

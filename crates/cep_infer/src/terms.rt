@@ -2,8 +2,8 @@
 ghost use Rattle.std.specs.Prelude.{◌≡◌, ◌++◌, ◌≤◌, ◌<◌, length, drop, IfOk, OnOk};
 ghost use Rattle.cep_term.specs.Tree.{atom_of, tree_of, trees_of};
 ghost use Rattle.cep_names.specs.Variables.{blanks_behind};
-ghost use Rattle.cep_types.specs.Heads.{IsAtomBy, heads_of, heads_among, heads_from, count_of, blanks_after};
-ghost use Rattle.cep_types.specs.Met.{names_in};
+ghost use Rattle.cep_types.specs.Heads.{IsAtomBy, heads_of, heads_among, heads_from, argument_count, blanks_after};
+ghost use Rattle.cep_types.specs.Met.{names_seen};
 
 use cep_names::Space;
 use cep_parse::{RawAtom, RawKind, RawNode};
@@ -37,7 +37,7 @@ fn read_term(
     nodes: &[RawNode],
     cursor: &mut Cursor,
 ) -> Result<Term, AllocError>
-    ensures heads { IfOk result (λ term. heads_from declared.now (names_in variables.now.firsts) cursor.old.blanks (drop cursor.old.at nodes.now) ≡ heads_of (tree_of term) ++ heads_from declared.now (names_in variables.now.firsts) cursor.new.blanks (drop cursor.new.at nodes.now)) }
+    ensures heads { IfOk result (λ term. heads_from declared.now (names_seen variables.now.firsts) cursor.old.blanks (drop cursor.old.at nodes.now) ≡ heads_of (tree_of term) ++ heads_from declared.now (names_seen variables.now.firsts) cursor.new.blanks (drop cursor.new.at nodes.now)) }
     ensures blanks { OnOk result (blanks_after cursor.old.blanks (drop cursor.old.at nodes.now) ≡ blanks_after cursor.new.blanks (drop cursor.new.at nodes.now)) }
     ensures further { OnOk result (cursor.old.at < cursor.new.at) }
     ensures within { OnOk result (cursor.new.at ≤ length nodes.now) }
@@ -65,8 +65,8 @@ fn read_args(
     cursor: &mut Cursor,
     count: u32,
 ) -> Result<Args, AllocError>
-    ensures heads { IfOk result (λ args. heads_from declared.now (names_in variables.now.firsts) cursor.old.blanks (drop cursor.old.at nodes.now) ≡ heads_among (trees_of args) ++ heads_from declared.now (names_in variables.now.firsts) cursor.new.blanks (drop cursor.new.at nodes.now)) }
-    ensures count { IfOk result (λ args. count_of (trees_of args) ≡ count) }
+    ensures heads { IfOk result (λ args. heads_from declared.now (names_seen variables.now.firsts) cursor.old.blanks (drop cursor.old.at nodes.now) ≡ heads_among (trees_of args) ++ heads_from declared.now (names_seen variables.now.firsts) cursor.new.blanks (drop cursor.new.at nodes.now)) }
+    ensures count { IfOk result (λ args. argument_count (trees_of args) ≡ count) }
     ensures blanks { OnOk result (blanks_after cursor.old.blanks (drop cursor.old.at nodes.now) ≡ blanks_after cursor.new.blanks (drop cursor.new.at nodes.now)) }
     ensures further { OnOk result (cursor.old.at ≤ cursor.new.at) }
     ensures within { cursor.old.at ≤ length nodes.now → OnOk result (cursor.new.at ≤ length nodes.now) }
@@ -86,7 +86,7 @@ pub(crate) fn read_atom(
     blanks: &mut u64,
     raw: &RawAtom,
 ) -> Result<Atom, AllocError>
-    ensures atom { IfOk result (λ atom. IsAtomBy declared.now (names_in variables.now.firsts) blanks.old raw.now (atom_of atom)) }
+    ensures atom { IfOk result (λ atom. IsAtomBy declared.now (names_seen variables.now.firsts) blanks.old raw.now (atom_of atom)) }
     ensures blanks { OnOk result (blanks.new ≡ blanks_after blanks.old raw.now.nodes) }
 {
     let pred = declared.number(Space::Predicates, raw.name)?;

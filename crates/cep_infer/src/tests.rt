@@ -1,12 +1,13 @@
+use cep_base::limits::MOST_TEXT;
 use crate::{Draft, Reason, Refusal, resolve};
-use cep_lex::{MOST_BYTES, lex};
+use cep_lex::lex;
 use cep_parse::parse;
 use std::alloc::Global;
 use std::test::Fail;
 
 // What a text comes to.
 fn resolved(alloc: Global, text: &[u8]) -> Result<Result<Draft, Refusal>, Fail> {
-    if text.len() > MOST_BYTES {
+    if text.len() > MOST_TEXT {
         return Err(Fail::from("long"));
     }
     let tokens = lex(alloc, text)?.map_err(|_| "token")?;

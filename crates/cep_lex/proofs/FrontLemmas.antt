@@ -5,7 +5,7 @@ use Rattle.std.proofs.lemmas.List.Sums.{prefix_len-le-length}
 use Rattle.std.specs.List.{prefix_len}
 use Rattle.cep_lex.specs.declared.token.TokenKind.{TokenKind}
 use Rattle.cep_lex.specs.declared.words.Class.{Class}
-use Rattle.cep_lex.specs.Words.{Spells, BeginsNoToken, Pass, Runs}
+use Rattle.cep_lex.specs.Words.{SpellsToken, BeginsNoToken, Pass, Runs}
 use Rattle.cep_lex.specs.Fronts.{class, IsFront}
 use Rattle.cep_lex.proofs.Runs.{longest_run}
 use Rattle.cep_lex.proofs.Shapes.{Follows, most_behind, IsShapedAt, shaped_at, shaped_within}
@@ -16,11 +16,11 @@ first_and_tail [] some = absurd (omega arith)
 first_and_tail (byte ∷ tail) some = refl
 
 -- a token at the front, by the first byte
-shaped_front : (bytes : List ℕ) → 0 < length bytes → (kind : TokenKind) (word rest : List ℕ) → bytes ≡ word ++ rest → Spells kind word → IsShapedAt (get_or bytes 0 0) (drop 1 bytes) word rest
+shaped_front : (bytes : List ℕ) → 0 < length bytes → (kind : TokenKind) (word rest : List ℕ) → bytes ≡ word ++ rest → SpellsToken kind word → IsShapedAt (get_or bytes 0 0) (drop 1 bytes) word rest
 shaped_front bytes some kind word rest cut spelled = shaped_at _ _ kind word rest (sym (first_and_tail bytes some) ∙ cut) spelled
 
 -- a token of as many bytes as can follow its first is the longest
-pub front_from : (bytes : List ℕ) (kind : TokenKind) (size : ℕ) → 0 < length bytes → size ≡ 1 + most_behind (class (get_or bytes 0 0)) (drop 1 bytes) → size ≤ length bytes → Spells kind (take size bytes) → IsFront bytes kind size
+pub front_from : (bytes : List ℕ) (kind : TokenKind) (size : ℕ) → 0 < length bytes → size ≡ 1 + most_behind (class (get_or bytes 0 0)) (drop 1 bytes) → size ≤ length bytes → SpellsToken kind (take size bytes) → IsFront bytes kind size
 front_from bytes kind size some is within spelled = record {
   some = omega arith;
   within = within;
@@ -56,12 +56,12 @@ run_word first p (byte ∷ tail) size some passes is =
     rw s (passes, subst (λ n. Pass p (take n tail)) (sym e) (longest_run p tail))
 
 -- a token that is a first byte and the longest run of those that may follow it
-pub run_front : (p : ℕ → Bool) (told : Class) (bytes : List ℕ) (kind : TokenKind) (size : ℕ) → 0 < length bytes → class (get_or bytes 0 0) ≡ told → ((tail : List ℕ) → most_behind told tail ≡ prefix_len p tail) → size ≡ prefix_len p (take (length bytes - 1) (drop 1 bytes)) → Spells kind (take (1 + size) bytes) → IsFront bytes kind (1 + size)
+pub run_front : (p : ℕ → Bool) (told : Class) (bytes : List ℕ) (kind : TokenKind) (size : ℕ) → 0 < length bytes → class (get_or bytes 0 0) ≡ told → ((tail : List ℕ) → most_behind told tail ≡ prefix_len p tail) → size ≡ prefix_len p (take (length bytes - 1) (drop 1 bytes)) → SpellsToken kind (take (1 + size) bytes) → IsFront bytes kind (1 + size)
 run_front p told bytes kind size some is most size_is spelled =
     let e : size ≡ most_behind (class (get_or bytes 0 0)) (drop 1 bytes) = size_is ∙ ap (prefix_len p) (tail_is bytes) ∙ sym (ap (λ c. most_behind c (drop 1 bytes)) is ∙ most (drop 1 bytes)) in
     front_from bytes kind (1 + size) some (ap (λ n. 1 + n) e) (run_within p bytes size some size_is) spelled
 
 -- the first byte alone spells a token
-pub mark_spelled : (bytes : List ℕ) (kind : TokenKind) → 0 < length bytes → Spells kind (get_or bytes 0 0 ∷ []) → Spells kind (take 1 bytes)
+pub mark_spelled : (bytes : List ℕ) (kind : TokenKind) → 0 < length bytes → SpellsToken kind (get_or bytes 0 0 ∷ []) → SpellsToken kind (take 1 bytes)
 mark_spelled [] kind some spelled = absurd (omega arith)
 mark_spelled (byte ∷ tail) kind some spelled = spelled

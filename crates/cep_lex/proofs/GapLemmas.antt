@@ -2,7 +2,8 @@
 use Rattle.std.proofs.Common.{not, eqb, get_or, take, ◌≡◌, ◌≢◌, ℕ, ◌+◌, ◌<◌, ◌≤◌, Bool, true, false, IsTrue, List, [], ◌∷◌, ◌++◌, length, drop, refl, sym, ap, subst, ◌∙◌, inl, inr, arith, append_assoc, length-append, take-append-drop, length-take-le}
 use Rattle.std.proofs.lemmas.List.{drop_at, drop_more, take_more, take_all}
 use Rattle.std.proofs.lemmas.Bool.{eqb-true, eq-eqb, not-false, true≢false}
-use Rattle.cep_lex.specs.Cuts.{is_separator, IsUnbroken, IsGap, IsLastGap}
+use Rattle.cep_base.specs.Spelling.{IsUnbroken}
+use Rattle.cep_lex.specs.Cuts.{is_separator, IsGap, IsLastGap}
 use Rattle.cep_lex.specs.Cuts.IsGap.{empty, separator, comment}
 use Rattle.cep_lex.specs.Fronts.{IsGapLength}
 use Rattle.cep_lex.specs.Fronts.IsGapLength.{all, before}

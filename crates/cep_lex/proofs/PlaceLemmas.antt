@@ -3,7 +3,7 @@ use Rattle.std.proofs.Common.{◌≡◌, ◌≢◌, ℕ, ◌+◌, ◌<◌, ◌==
 use Rattle.std.proofs.lemmas.Bool.{eq-eqb, ne_eqb}
 use Rattle.std.proofs.lemmas.List.{append-nil, take_more}
 use Rattle.std.proofs.lemmas.List.Sums.{count_by_more_yes, count_by_more_no}
-use Rattle.cep_lex.specs.Cuts.{IsUnbroken}
+use Rattle.cep_base.specs.Spelling.{IsUnbroken}
 use Rattle.cep_lex.specs.Places.{IsPlaceBehind}
 
 -- one more byte that is no LF

@@ -3,11 +3,12 @@ use Rattle.std.proofs.Common.{◌≡◌, ℕ, nat_le, suc, ◌+◌, ◌<◌, ◌
 use Rattle.std.specs.Char.{is_ascii_alphabetic, is_ascii_digit, is_ascii_lowercase, is_ascii_uppercase}
 use Rattle.std.specs.List.{prefix_len}
 use Rattle.std.proofs.lemmas.Bool.{or_left, or_right, or_from, and_left, and_parts, leb-true, lt-leb, eqb-true}
+use Rattle.cep_base.specs.Spelling.{is_name_byte}
 use Rattle.cep_lex.specs.declared.token.TokenKind.{TokenKind}
 use Rattle.cep_lex.specs.declared.token.TokenKind.TheVariants.{Name, Variable, Blank, Number, Directive, Colon, Dot, Comma, Star, Dollar, Equals, Open, Close, OpenBrace, CloseBrace, Lolli, Back, KwType, KwPred, KwBwd, KwFact, KwStage, KwContext, KwQui}
 use Rattle.cep_lex.specs.declared.words.Class.{Class}
 use Rattle.cep_lex.specs.declared.words.Class.TheVariants.{Letter, Digit, Hash, Pair, Mark, Other}
-use Rattle.cep_lex.specs.Words.{is_name_byte, Pass, Runs, Spells}
+use Rattle.cep_lex.specs.Words.{Pass, Runs, SpellsToken}
 use Rattle.cep_lex.specs.Fronts.{class}
 use Rattle.cep_lex.proofs.Runs.{run_is_within}
 
@@ -51,7 +52,7 @@ run_shaped first next class' [] is follows runs = absurd runs
 run_shaped first next class' (byte ∷ run) is follows runs = record { byte = byte; run = run; is = refl; follows = subst (λ c. Follows c run) (sym (is byte runs.0)) (follows run (λ e. cc) runs.1 (omega arith)) }
 
 -- each token has such a shape
-pub shaped : (kind : TokenKind) (word : List ℕ) → Spells kind word → IsShaped word
+pub shaped : (kind : TokenKind) (word : List ℕ) → SpellsToken kind word → IsShaped word
 shaped Name word h = run_shaped is_ascii_lowercase is_name_byte Letter word (λ byte lower. letter_class byte (or_right _ _ lower)) (λ run some pass size. pass) h.0
 shaped Variable word h = run_shaped is_ascii_uppercase is_name_byte Letter word (λ byte upper. letter_class byte (or_left _ _ upper)) (λ run some pass size. pass) h
 shaped Number word h = run_shaped is_ascii_digit is_ascii_digit Digit word digit_class (λ run some pass size. pass) h
@@ -102,7 +103,7 @@ pub record IsShapedAt (byte : ℕ) (tail word rest : List ℕ) : Type 0 where
   pub split : tail ≡ run ++ rest
   pub follows : Follows (class byte) run
 
-pub shaped_at : (byte : ℕ) (tail : List ℕ) (kind : TokenKind) (word rest : List ℕ) → byte ∷ tail ≡ word ++ rest → Spells kind word → IsShapedAt byte tail word rest
+pub shaped_at : (byte : ℕ) (tail : List ℕ) (kind : TokenKind) (word rest : List ℕ) → byte ∷ tail ≡ word ++ rest → SpellsToken kind word → IsShapedAt byte tail word rest
 shaped_at byte tail kind word rest cut spelled =
     let shape = shaped kind word spelled in
     let e : byte ∷ tail ≡ shape.byte ∷ (shape.run ++ rest) = cut ∙ ap (λ w. w ++ rest) shape.is in

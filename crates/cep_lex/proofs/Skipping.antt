@@ -2,8 +2,9 @@
 use Rattle.std.proofs.Common.{◌≡◌, ℕ, ◌==◌, ◌||◌, Bool, true, false, cond, List, [], ◌∷◌, ◌++◌, refl, sym, ap, subst, ◌∙◌, ⊎_elim, append_assoc}
 use Rattle.std.proofs.lemmas.Bool.{or_cases, eqb-true, ne_eqb, false_from_ne_true}
 use Rattle.std.proofs.lemmas.List.{append-nil}
+use Rattle.cep_base.specs.Spelling.{IsUnbroken}
 use Rattle.cep_lex.specs.declared.token.TokenKind.{TokenKind}
-use Rattle.cep_lex.specs.Cuts.{is_separator, IsUnbroken, IsGap, IsLastGap, Splits}
+use Rattle.cep_lex.specs.Cuts.{is_separator, IsGap, IsLastGap, Splits}
 use Rattle.cep_lex.specs.Cuts.IsGap.{empty, separator, comment}
 use Rattle.cep_lex.specs.Fronts.{class}
 use Rattle.cep_lex.proofs.Shapes.{Follows, shaped}

@@ -6,7 +6,7 @@ use Rattle.cep_lex.specs.declared.fault.LexFault.{LexFault}
 use Rattle.cep_lex.specs.declared.fault.LexFault.TheVariants.{BadByte, NameLong}
 use Rattle.cep_lex.specs.declared.token.Token.{Token}
 use Rattle.cep_lex.specs.declared.token.TokenKind.{TokenKind}
-use Rattle.cep_lex.specs.Words.{Spells, IsLongest, BeginsNoToken, IsShort, IsTooLong}
+use Rattle.cep_lex.specs.Words.{SpellsToken, IsLongest, BeginsNoToken, IsShort, IsTooLong}
 use Rattle.cep_lex.specs.Cuts.{Splits, StartsWith, Cuts, IsLexed}
 use Rattle.cep_lex.proofs.Shapes.{shaped}
 use Rattle.cep_lex.proofs.WordKinds.{same_kind}
@@ -18,7 +18,7 @@ pub record IsAtFront (bytes : List ℕ) : Type 0 where
   pub word : List ℕ
   pub rest : List ℕ
   pub cut : bytes ≡ word ++ rest
-  pub spelled : Spells kind word
+  pub spelled : SpellsToken kind word
   pub longest : IsLongest word rest
 
 -- two such tokens are the same
@@ -30,7 +30,7 @@ same_front bytes one other =
     let size : length one.word ≡ length other.word = omega arith in
     let word : one.word ≡ other.word = sym (take-append_seam one.word one.rest) ∙ ap (take (length one.word)) e ∙ ap (λ n. take n (other.word ++ other.rest)) size ∙ take-append_seam other.word other.rest in
     let rest : one.rest ≡ other.rest = sym (drop-append_seam one.word one.rest) ∙ ap (drop (length one.word)) e ∙ ap (λ n. drop n (other.word ++ other.rest)) size ∙ drop-append_seam other.word other.rest in
-    (same_kind one.kind other.kind other.word (subst (Spells one.kind) word one.spelled) other.spelled, word, rest)
+    (same_kind one.kind other.kind other.word (subst (SpellsToken one.kind) word one.spelled) other.spelled, word, rest)
 
 -- the token behind a gap
 abbrev front_of : (bytes gap : List ℕ) (kind : TokenKind) (word rest : List ℕ) → Splits bytes gap kind word rest → IsAtFront (behind_gap false bytes)

@@ -8,7 +8,7 @@ use Rattle.cep_lex.specs.declared.token.TokenKind.{TokenKind}
 use Rattle.cep_lex.specs.declared.token.TokenKind.TheVariants.{Name, Variable, Blank, Number, Directive, Colon, Dot, Comma, Star, Dollar, Equals, Open, Close, OpenBrace, CloseBrace, Lolli, Back, KwType, KwPred, KwBwd, KwFact, KwStage, KwContext, KwQui}
 use Rattle.cep_lex.specs.declared.words.Class.{Class}
 use Rattle.cep_lex.specs.declared.words.Class.TheVariants.{Letter, Digit, Hash, Pair, Mark, Other}
-use Rattle.cep_lex.specs.Words.{Spells}
+use Rattle.cep_lex.specs.Words.{SpellsToken}
 use Rattle.cep_lex.specs.Fronts.{class}
 use Rattle.cep_lex.proofs.Shapes.{letter_class, digit_class, hash_class}
 
@@ -45,7 +45,7 @@ lower_not_upper : (byte : ℕ) → is_ascii_lowercase byte ≡ true → is_ascii
 lower_not_upper byte lower = let above : 97 ≤ byte = leb-true 97 byte (and_parts (nat_le 97 byte) (nat_le byte 122) lower).0 in and_right _ _ (lt-leb byte 90 (omega arith))
 
 -- a word spells the one kind
-spelled_kind : (kind : TokenKind) (word : List ℕ) → Spells kind word → kind_of word ≡ kind
+spelled_kind : (kind : TokenKind) (word : List ℕ) → SpellsToken kind word → kind_of word ≡ kind
 spelled_kind Name [] h = absurd h.0
 spelled_kind Name (byte ∷ run) h =
     rw (letter_class byte (or_right _ _ h.0.0), lower_not_upper byte h.0.0)
@@ -77,5 +77,5 @@ spelled_kind KwStage word h = ap kind_of h
 spelled_kind KwContext word h = ap kind_of h
 spelled_kind KwQui word h = ap kind_of h
 
-pub same_kind : (one other : TokenKind) (word : List ℕ) → Spells one word → Spells other word → one ≡ other
+pub same_kind : (one other : TokenKind) (word : List ℕ) → SpellsToken one word → SpellsToken other word → one ≡ other
 same_kind one other word is is' = sym (spelled_kind one word is) ∙ spelled_kind other word is'

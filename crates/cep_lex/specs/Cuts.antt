@@ -1,7 +1,8 @@
 -- What the tokens of a text are, and which text has none.
 use Rattle.std.specs.Prelude.{◌≡◌, ◌⊎◌, ℕ, ◌+◌, ◌≢◌, ◌==◌, ◌||◌, Bool, IsTrue, List, [], ◌∷◌, ◌++◌, length, Result, Ok, Err}
 use Rattle.std.specs.List.{AllByRecursion}
-use Rattle.cep_lex.specs.Words.{Spells, IsLongest, BeginsNoToken, IsShort, IsTooLong}
+use Rattle.cep_base.specs.Spelling.{IsUnbroken}
+use Rattle.cep_lex.specs.Words.{SpellsToken, IsLongest, BeginsNoToken, IsShort, IsTooLong}
 use Rattle.cep_lex.specs.declared.fault.LexFault.{LexFault}
 use Rattle.cep_lex.specs.declared.fault.LexFault.TheVariants.{BadByte, NameLong}
 use Rattle.cep_lex.specs.declared.token.Token.{Token}
@@ -10,10 +11,6 @@ use Rattle.cep_lex.specs.declared.token.TokenKind.{TokenKind}
 -- space, tab, CR and LF
 abbrev pub is_separator : ℕ → Bool
 is_separator byte = byte == 32 || byte == 9 || byte == 13 || byte == 10
-
--- no LF stands among the bytes
-abbrev pub IsUnbroken : List ℕ → Type 0
-IsUnbroken bytes = AllByRecursion (λ byte. byte ≢ 10) bytes
 
 -- What stands between tokens: separators, and comments from `%` up to an LF.
 pub data IsGap : List ℕ → Type 0 where
@@ -29,7 +26,7 @@ IsLastGap bytes = IsGap bytes ⊎ ((gap : List ℕ) × (body : List ℕ) × (byt
 pub record Splits (bytes gap : List ℕ) (kind : TokenKind) (word behind : List ℕ) : Type 0 where
   pub cut : bytes ≡ gap ++ (word ++ behind)
   pub apart : IsGap gap
-  pub spelled : Spells kind word
+  pub spelled : SpellsToken kind word
   pub longest : IsLongest word behind
 
 -- The bytes from this place on are a gap, this token, and what stands behind it.

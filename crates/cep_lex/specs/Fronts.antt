@@ -1,12 +1,13 @@
 -- What bytes begin with: a gap, or a token that the first byte tells. The public clauses speak of none of this.
 use Rattle.std.specs.Prelude.{◌≡◌, ◌≢◌, ◌⊎◌, ℕ, ◌<◌, ◌≤◌, ◌==◌, Bool, if◌then◌else◌, IsTrue, List, [], ◌∷◌, ◌++◌, length, take, drop, Err}
 use Rattle.std.specs.Char.{is_ascii_alphabetic, is_ascii_digit}
-use Rattle.cep_lex.specs.Words.{is_name_byte, Runs, Spells, IsLongest}
+use Rattle.cep_base.specs.Spelling.{is_name_byte}
+use Rattle.cep_lex.specs.Words.{Runs, SpellsToken, IsLongest}
 use Rattle.cep_lex.specs.Cuts.{is_separator, IsGap, IsLastGap, StartsWith, Cuts, IsLexed}
 use Rattle.cep_lex.specs.declared.token.Token.{Token}
 use Rattle.cep_lex.specs.declared.token.TokenKind.{TokenKind}
 use Rattle.cep_lex.specs.declared.token.TokenKind.TheVariants.{Number, Lolli, Back, Blank, Colon, Dot, Comma, Star, Dollar, Equals, Open, Close, OpenBrace, CloseBrace}
-use Rattle.cep_lex.specs.declared.token.TheConstants.{LONGEST_NAME}
+use Rattle.cep_base.specs.declared.limits.TheConstants.{MOST_NAME}
 use Rattle.cep_lex.specs.declared.words.Class.{Class}
 use Rattle.cep_lex.specs.declared.words.Class.TheVariants.{Letter, Digit, Hash, Pair, Mark, Other}
 use Rattle.cep_lex.specs.declared.words.RunOf.{RunOf}
@@ -38,13 +39,13 @@ abbrev pub class : ℕ → Class
 class byte = if is_ascii_alphabetic byte then Letter else (if is_ascii_digit byte then Digit else mark_class byte)
 
 -- what a class says of the first byte
-abbrev pub Tells : Class → ℕ → Type 0
-Tells Letter byte = IsTrue (is_ascii_alphabetic byte)
-Tells Digit byte = IsTrue (is_ascii_digit byte)
-Tells Hash byte = byte ≡ 35
-Tells (Pair kind second) byte = Spells kind (byte ∷ second ∷ [])
-Tells (Mark kind) byte = Spells kind (byte ∷ [])
-Tells Other byte = Unit {0}
+abbrev pub BeginsWith : Class → ℕ → Type 0
+BeginsWith Letter byte = IsTrue (is_ascii_alphabetic byte)
+BeginsWith Digit byte = IsTrue (is_ascii_digit byte)
+BeginsWith Hash byte = byte ≡ 35
+BeginsWith (Pair kind second) byte = SpellsToken kind (byte ∷ second ∷ [])
+BeginsWith (Mark kind) byte = SpellsToken kind (byte ∷ [])
+BeginsWith Other byte = Unit {0}
 
 -- this byte stands behind the first
 abbrev pub HasSecond : List ℕ → ℕ → Type 0
@@ -57,23 +58,23 @@ passes Digits byte = is_ascii_digit byte
 passes Letters byte = is_ascii_alphabetic byte
 
 -- a letter, and then bytes of names
-abbrev pub IsWord : List ℕ → Type 0
-IsWord word = Runs is_ascii_alphabetic is_name_byte word
+abbrev pub IsLetters : List ℕ → Type 0
+IsLetters word = Runs is_ascii_alphabetic is_name_byte word
 
 -- The first bytes, so many, spell a token of this kind, as long as it can be.
 pub record IsFront (bytes : List ℕ) (kind : TokenKind) (size : ℕ) : Type 0 where
   pub some : 0 < size
   pub within : size ≤ length bytes
-  pub spelled : Spells kind (take size bytes)
+  pub spelled : SpellsToken kind (take size bytes)
   pub longest : IsLongest (take size bytes) (drop size bytes)
 
 -- only a number may be longer than the longest name
 abbrev pub IsShortLength : TokenKind → ℕ → Type 0
-IsShortLength kind size = (kind ≡ Number) ⊎ (size ≤ LONGEST_NAME)
+IsShortLength kind size = (kind ≡ Number) ⊎ (size ≤ MOST_NAME)
 
 -- longer than the longest name, and no number
 abbrev pub IsLongLength : TokenKind → ℕ → Type 0
-IsLongLength kind size = (kind ≢ Number) × (LONGEST_NAME < size)
+IsLongLength kind size = (kind ≢ Number) × (MOST_NAME < size)
 
 -- So many bytes at the front are a gap: all of them, or those before a byte that is in none.
 pub data IsGapLength (bytes : List ℕ) (size : ℕ) : Type 0 where

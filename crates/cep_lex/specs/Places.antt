@@ -1,7 +1,7 @@
 -- The line and the column of a place in a text.
 use Rattle.std.specs.Prelude.{◌≡◌, ◌⊎◌, ℕ, ◌+◌, ◌==◌, List, [], ◌∷◌, ◌++◌, length, count_by}
 use Rattle.cep_base.specs.declared.place.Pos.{Pos}
-use Rattle.cep_lex.specs.Cuts.{IsUnbroken}
+use Rattle.cep_base.specs.Spelling.{IsUnbroken}
 
 -- no bytes, or bytes that an LF ends
 abbrev pub IsEnded : List ℕ → Type 0

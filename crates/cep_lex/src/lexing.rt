@@ -2,9 +2,10 @@ ghost use Rattle.std.specs.Prelude.{◌≤◌, length, IfOk};
 ghost use Rattle.cep_lex.specs.Cuts.{IsLexed};
 ghost use Rattle.cep_lex.specs.Fronts.{Stands};
 
+use cep_base::limits::MOST_TEXT;
 use crate::fault::LexFault;
 use crate::gaps::gap_len;
-use crate::token::{MOST_BYTES, Token, Tokens};
+use crate::token::{Token, Tokens};
 use crate::words::{front, is_too_long};
 use std::alloc::{AllocError, Global};
 
@@ -21,7 +22,7 @@ enum Step {
 
 // What stands at this place.
 fn step_at(text: &[u8], at: usize) -> Step
-    requires short { length text.now ≤ MOST_BYTES }
+    requires short { length text.now ≤ MOST_TEXT }
     requires within { at ≤ length text.now }
     ensures { Stands text.now at result }
 {
@@ -46,7 +47,7 @@ fn step_at(text: &[u8], at: usize) -> Step
 /// (`BadByte`), or a name that is too long (`NameLong`). Each token is as long as it can be.
 /// Comments go from `%` to the end of their line. The spellings are this profile's.
 pub fn lex(alloc: Global, text: &[u8]) -> Result<Result<Tokens, LexFault>, AllocError>
-    requires { length text.now ≤ MOST_BYTES }
+    requires { length text.now ≤ MOST_TEXT }
     ensures { IfOk result (λ answer. IsLexed text.now answer) }
 {
     let mut tokens = Tokens::new(alloc);

@@ -13,7 +13,7 @@ pub use fault::LexFault;
 pub use laws::lexed_once;
 pub use lexing::lex;
 pub use places::place;
-pub use token::{LONGEST_NAME, MOST_BYTES, Token, TokenKind, Tokens};
+pub use token::{Token, TokenKind, Tokens};
 
 #[cfg(test)]
 mod tests;

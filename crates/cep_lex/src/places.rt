@@ -1,13 +1,13 @@
 ghost use Rattle.std.specs.Prelude.{◌≤◌, length, take};
 ghost use Rattle.cep_lex.specs.Places.{IsPlaceBehind};
 
-use crate::token::MOST_BYTES;
+use cep_base::limits::MOST_TEXT;
 use cep_base::Pos;
 
 /// The line and the column of a place in a text. Both count from 1, columns count bytes, and LF
 /// ends a line.
 pub fn place(text: &[u8], at: u32) -> Pos
-    requires short { length text.now ≤ MOST_BYTES }
+    requires short { length text.now ≤ MOST_TEXT }
     requires within { at ≤ length text.now }
     ensures { IsPlaceBehind (take at text.now) result }
 {

@@ -1,10 +1,11 @@
-use crate::{LexFault, MOST_BYTES, lex, place};
+use cep_base::limits::MOST_TEXT;
+use crate::{LexFault, lex, place};
 use std::alloc::Global;
 use std::test::Fail;
 
 // The tokens of a text, or its fault, in words.
 fn shown(alloc: Global, text: &[u8]) -> Result<String, Fail> {
-    if text.len() > MOST_BYTES {
+    if text.len() > MOST_TEXT {
         return Ok(format!(in alloc; "too long")?);
     }
     match lex(alloc, text)? {
@@ -95,7 +96,7 @@ fn a_largest_text_is_lexed(rt: HostRuntime) -> Result<(), Fail> {
     for _ in 0..500_000 {
         text.extend_from_slice(b"\n.")?;
     }
-    if text.len() > MOST_BYTES {
+    if text.len() > MOST_TEXT {
         return Ok(());
     }
     let tokens = lex(rt.alloc(), &text)?;

@@ -1,10 +1,11 @@
 // The token that bytes begin with.
 ghost use Rattle.std.specs.Prelude.{◌≡◌, ◌<◌, ◌≤◌, length, slice_index, IfSome, IfNone, MatchBool};
 ghost use Rattle.std.specs.List.{prefix_len};
-ghost use Rattle.cep_lex.specs.Words.{Spells, BeginsNoToken};
-ghost use Rattle.cep_lex.specs.Fronts.{class, passes, Tells, HasSecond, IsWord, IsFront, IsLongLength, IsShortLength};
+ghost use Rattle.cep_lex.specs.Words.{SpellsToken, BeginsNoToken};
+ghost use Rattle.cep_lex.specs.Fronts.{class, passes, BeginsWith, HasSecond, IsLetters, IsFront, IsLongLength, IsShortLength};
 
-use crate::token::{LONGEST_NAME, TokenKind};
+use cep_base::limits::MOST_NAME;
+use crate::token::TokenKind;
 
 /// What the first byte of a token says of it.
 #[derive(Clone, Copy, Debug, PartialEq, Eq)]
@@ -33,7 +34,7 @@ pub(crate) enum RunOf {
 
 fn class_of(byte: u8) -> Class
     ensures class { result ≡ class byte }
-    ensures told { Tells result byte }
+    ensures told { BeginsWith result byte }
 {
     if byte.is_ascii_alphabetic() {
         return Class::Letter;
@@ -83,8 +84,8 @@ fn run_len(bytes: &[u8], run: RunOf) -> usize
 
 // The kind of a word that is a letter and name bytes.
 fn name_kind(word: &[u8]) -> TokenKind
-    requires { IsWord word.now }
-    ensures { Spells result word.now }
+    requires { IsLetters word.now }
+    ensures { SpellsToken result word.now }
 {
     if word[0].is_ascii_uppercase() {
         return TokenKind::Variable;
@@ -125,7 +126,7 @@ fn has_second(bytes: &[u8], second: u8) -> bool
 fn pair(bytes: &[u8], kind: TokenKind, second: u8) -> Option<(TokenKind, usize)>
     requires some { 0 < length bytes.now }
     requires class { class (slice_index bytes.now 0) ≡ Class.Pair kind second }
-    requires told { Tells (Class.Pair kind second) (slice_index bytes.now 0) }
+    requires told { BeginsWith (Class.Pair kind second) (slice_index bytes.now 0) }
     ensures found { IfSome result (λ front. IsFront bytes.now front.0 front.1) }
     ensures none { IfNone result (BeginsNoToken bytes.now) }
 {
@@ -162,6 +163,6 @@ pub(crate) fn is_too_long(kind: TokenKind, len: usize) -> bool
 {
     match kind {
         TokenKind::Number => false,
-        _ => len > LONGEST_NAME,
+        _ => len > MOST_NAME,
     }
 }

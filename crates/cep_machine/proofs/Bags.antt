@@ -7,7 +7,7 @@ use Rattle.std.specs.Cmp.{tied_itself}
 use Rattle.std.specs.FinMap as finite
 use Rattle.std.proofs.Math.Nat.{add-mul}
 use Rattle.std.proofs.lemmas.List.Sums.{sum_by-cons}
-use Rattle.cep_term.specs.Tree.{AtomTree, IsGroundAtom, nodes_in}
+use Rattle.cep_term.specs.Tree.{AtomTree, IsGroundAtom, atom_nodes}
 use Rattle.cep_term.specs.Order.{atom_cmp}
 use Rattle.cep_term.specs.Multiset.{Multiset, count_of, with_one, without_one, gathered, sum_of, difference_of, copies_in, nodes_in_all, IsContained, IsBag}
 use Rattle.cep_machine.specs.BagLaws.{BagLaws}
@@ -137,13 +137,13 @@ module _ (laws : BagLaws) where
   gathered_copies [] = laws.empty_copies
   gathered_copies (a ∷ atoms) = let rest = gathered_copies atoms in let more = one_more_copy (gathered atoms) a in omega arith
 
-  pub gathered_nodes : (atoms : List AtomTree) → nodes_in_all (gathered atoms) ≡ sum_by nodes_in atoms
+  pub gathered_nodes : (atoms : List AtomTree) → nodes_in_all (gathered atoms) ≡ sum_by atom_nodes atoms
   gathered_nodes [] = laws.empty_nodes
   gathered_nodes (a ∷ atoms) =
       let rest = gathered_nodes atoms in
       let set = laws.set_nodes (gathered atoms) a (count_of (gathered atoms) a + 1) in
-      let split = add-mul (count_of (gathered atoms) a) 1 (nodes_in a) in
-      let sum = sum_by-cons nodes_in a atoms in
+      let split = add-mul (count_of (gathered atoms) a) 1 (atom_nodes a) in
+      let sum = sum_by-cons atom_nodes a atoms in
       omega arith
 
   -- an atom of the list has a copy

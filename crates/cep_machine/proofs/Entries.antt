@@ -6,16 +6,16 @@ use Rattle.std.specs.FinMap as finite
 use Rattle.std.proofs.Math.Nat.{add-mul}
 use Rattle.std.proofs.lemmas.List.{take_all}
 use Rattle.std.proofs.lemmas.List.Sums.{sum_by_push, sum_by-take-le}
-use Rattle.cep_term.specs.Tree.{AtomTree, nodes_in}
+use Rattle.cep_term.specs.Tree.{AtomTree, atom_nodes}
 use Rattle.cep_term.specs.Multiset.{Multiset, nodes_in_all, IsEntry, IsBag}
 use Rattle.cep_machine.proofs.Lists.{take_next, all_at}
 
 -- the nodes of an entry, each copy counted
 abbrev pub entry_nodes : AtomTree × ℕ → ℕ
-entry_nodes e = e.1 * nodes_in e.0
+entry_nodes e = e.1 * atom_nodes e.0
 
 -- one entry more
-pub next_entry : (state : Multiset) (n : ℕ) (a : AtomTree) (copies : ℕ) → slice_get (finite.entries state) n ≡ Some (a, copies) → sum_by entry_nodes (take (n + 1) (finite.entries state)) ≡ sum_by entry_nodes (take n (finite.entries state)) + copies * nodes_in a
+pub next_entry : (state : Multiset) (n : ℕ) (a : AtomTree) (copies : ℕ) → slice_get (finite.entries state) n ≡ Some (a, copies) → sum_by entry_nodes (take (n + 1) (finite.entries state)) ≡ sum_by entry_nodes (take n (finite.entries state)) + copies * atom_nodes a
 next_entry state n a copies is =
     ap (sum_by entry_nodes) (take_next (finite.entries state) n (a, copies) is)
     ∙ sum_by_push entry_nodes (take n (finite.entries state)) (a, copies)
@@ -28,11 +28,11 @@ at_least_once zero m h = absurd (omega arith)
 at_least_once (suc n) m h = let split = add-mul 1 n m in let next : suc n * m ≡ (1 + n) * m = ap (λ k. k * m) (omega arith) in omega arith
 
 -- an atom of a state has at most as many nodes as the state
-pub atom_within : (state : Multiset) (n : ℕ) (a : AtomTree) (copies : ℕ) → IsBag state → slice_get (finite.entries state) n ≡ Some (a, copies) → nodes_in a ≤ nodes_in_all state
+pub atom_within : (state : Multiset) (n : ℕ) (a : AtomTree) (copies : ℕ) → IsBag state → slice_get (finite.entries state) n ≡ Some (a, copies) → atom_nodes a ≤ nodes_in_all state
 atom_within state n a copies bag is =
     let next = next_entry state n a copies is in
     let most = first_entries state (n + 1) in
-    let once = at_least_once copies (nodes_in a) (all_at IsEntry (finite.entries state) n (a, copies) bag is).0 in
+    let once = at_least_once copies (atom_nodes a) (all_at IsEntry (finite.entries state) n (a, copies) bag is).0 in
     omega arith
 
 pub all_entries : (state : Multiset) (n : ℕ) → finite.len state ≤ n → sum_by entry_nodes (take n (finite.entries state)) ≡ nodes_in_all state

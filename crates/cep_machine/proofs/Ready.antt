@@ -4,7 +4,7 @@ use Rattle.std.specs.Prelude.{slice_get, slice_index_or, filter, IfSome}
 use Rattle.std.specs.List.{AllByRecursion}
 use Rattle.std.proofs.lemmas.List.{map-append, length-map}
 use Rattle.std.proofs.lemmas.Option.{slice_get_within}
-use Rattle.cep_term.specs.declared.term.TheConstants.{MAX_NODES}
+use Rattle.cep_base.specs.declared.limits.TheConstants.{MOST_NODES}
 use Rattle.cep_term.specs.Tree.{Tree, AtomTree, IsGroundAtom, IsFit, IsAtomInRange}
 use Rattle.cep_term.specs.Multiset.{Multiset, count_of, gathered, difference_of, IsContained}
 use Rattle.cep_rule.specs.declared.signature.Signature.{Signature}
@@ -14,8 +14,8 @@ use Rattle.cep_rule.specs.declared.offer.Offer.{Offer}
 use Rattle.cep_rule.specs.Typing.{IsTyped, IsLinear, AreValues}
 use Rattle.cep_rule.specs.Limits.{IsSmallRule, IsSmallPattern}
 use Rattle.cep_rule.specs.Binding.{needed_of, IsBoundRule, OccursInSome}
-use Rattle.cep_rule.specs.State.{IsFact, IsState, Fits}
-use Rattle.cep_rule.specs.Instances.{instance_by, instances_by, kept_of, left_of}
+use Rattle.cep_rule.specs.State.{IsStateAtom, IsState, Fits}
+use Rattle.cep_rule.specs.Instances.{full_instance, full_instances, kept_of, left_of}
 use Rattle.cep_rule.specs.Patterns.{PremiseTree}
 use Rattle.cep_rule.specs.Program.{IsTypedRule, IsDividedRule, IsProgram}
 use Rattle.cep_rule.specs.Offers.{Applies}
@@ -27,9 +27,9 @@ use Rattle.cep_machine.specs.declared.weighing.Weighed.TheVariants.{TooMuch, Wit
 use Rattle.cep_machine.specs.Configuration.{Configuration}
 use Rattle.cep_machine.specs.Changing.{CanChange}
 use Rattle.cep_machine.specs.Asking.{asked_offers}
-use Rattle.cep_machine.specs.Stepping.{added_by, IsChosen, Passes, IsNext}
+use Rattle.cep_machine.specs.Stepping.{added_by, IsAskedAt, Passes, IsNext}
 use Rattle.cep_machine.specs.Sizes.{IsSmallValue, IsMeasurable}
-use Rattle.cep_machine.specs.Weighing.{atoms_of, next_state, CanWeigh, IsWeighed}
+use Rattle.cep_machine.specs.Weighing.{premise_atoms, next_state, CanWeigh, IsWeighed}
 use Rattle.cep_machine.specs.StepLaws.{StepLaws}
 use Rattle.cep_machine.proofs.Lists.{none_some, some_same, all_at, all_weaker, all_joined}
 use Rattle.cep_machine.proofs.Bags.{of_gathered, all_contained}
@@ -89,14 +89,14 @@ stage_in_range stages stage None within next = within
 stage_in_range stages stage (Some other) within next = next
 
 -- what holds of the instances of all premises holds of those that are kept
-all_kept : (P : AtomTree → Type 0) (values : List Tree) (premises : List PremiseTree) → AllByRecursion P (instances_by values (atoms_of premises)) → AllByRecursion P (instances_by values (kept_in premises))
+all_kept : (P : AtomTree → Type 0) (values : List Tree) (premises : List PremiseTree) → AllByRecursion P (full_instances values (premise_atoms premises)) → AllByRecursion P (full_instances values (kept_in premises))
 all_kept P values [] all = tt
 all_kept P values (premise ∷ premises) all =
     let rest = all_kept P values premises all.1 in
     let others = filter (λ (other : PremiseTree). other.kept) premises in
-    elim premise.kept as (λ t. AllByRecursion P (instances_by values (atoms_of (cond t (premise ∷ others) others)))) [ true ↦ (all.0, rest) | false ↦ rest ]
+    elim premise.kept as (λ t. AllByRecursion P (full_instances values (premise_atoms (cond t (premise ∷ others) others)))) [ true ↦ (all.0, rest) | false ↦ rest ]
 
-small_atoms : (premises : List PremiseTree) → AllByRecursion (λ premise. IsSmallPattern premise.atom) premises → AllByRecursion IsSmallPattern (atoms_of premises)
+small_atoms : (premises : List PremiseTree) → AllByRecursion (λ premise. IsSmallPattern premise.atom) premises → AllByRecursion IsSmallPattern (premise_atoms premises)
 small_atoms [] small = tt
 small_atoms (premise ∷ premises) small = (small.0, (small_atoms premises small.1))
 
@@ -106,31 +106,31 @@ measurable_all signature kinds values many all (a ∷ atoms) typed small = (
   (record {
     in_range = subst (λ n. IsAtomInRange n a) (sym many) (atom_in_range signature kinds a typed.0);
     nodes =
-        let most = instance_bounded MAX_NODES values (omega arith) (all_weaker IsSmallValue (IsBelow MAX_NODES) values (λ t (h : IsSmallValue t). h.nodes) all) a in
+        let most = instance_bounded MOST_NODES values (omega arith) (all_weaker IsSmallValue (IsBelow MOST_NODES) values (λ t (h : IsSmallValue t). h.nodes) all) a in
         let few = small.0 in
         omega arith;
   }),
   (measurable_all signature kinds values many all atoms typed.1 small.1),
 )
 
-right_facts_of : (laws : StepLaws) (signature : Signature) (kinds : List ℕ) (values : List Tree) → AreValues signature.cons kinds values → (atoms : List AtomTree) → AllByRecursion (IsTyped signature kinds) atoms → AllByRecursion (IsLinear signature) atoms → AllByRecursion IsFit (instances_by values atoms) → AllByRecursion (IsFact signature) (instances_by values atoms)
-right_facts_of laws signature kinds values are [] typed linear fit = tt
-right_facts_of laws signature kinds values are (a ∷ atoms) typed linear fit = (
+right_state_atoms_of : (laws : StepLaws) (signature : Signature) (kinds : List ℕ) (values : List Tree) → AreValues signature.cons kinds values → (atoms : List AtomTree) → AllByRecursion (IsTyped signature kinds) atoms → AllByRecursion (IsLinear signature) atoms → AllByRecursion IsFit (full_instances values atoms) → AllByRecursion (IsStateAtom signature) (full_instances values atoms)
+right_state_atoms_of laws signature kinds values are [] typed linear fit = tt
+right_state_atoms_of laws signature kinds values are (a ∷ atoms) typed linear fit = (
   (record {
     ground = laws.ground signature kinds values a are typed.0;
     typed = laws.typed signature kinds values a are typed.0;
     linear = linear.0;
     fit = fit.0;
   }),
-  (right_facts_of laws signature kinds values are atoms typed.1 linear.1 fit.1),
+  (right_state_atoms_of laws signature kinds values are atoms typed.1 linear.1 fit.1),
 )
 
-module _ (laws : StepLaws) (program : Parts) (state : Multiset) (rule : Rule) (values : List Tree) (is : IsReady program state rule values) (facts : IsState program.signature state) (fits : Fits state) where
-  needed_facts : AllByRecursion (IsFact program.signature) (instances_by values (needed_of rule))
-  needed_facts = all_contained laws.bags (IsFact program.signature) (instances_by values (needed_of rule)) state is.contained facts.facts
+module _ (laws : StepLaws) (program : Parts) (state : Multiset) (rule : Rule) (values : List Tree) (is : IsReady program state rule values) (is_state : IsState program.signature state) (fits : Fits state) where
+  needed_state_atoms : AllByRecursion (IsStateAtom program.signature) (full_instances values (needed_of rule))
+  needed_state_atoms = all_contained laws.bags (IsStateAtom program.signature) (full_instances values (needed_of rule)) state is.contained is_state.each
 
-  needed_fit : AllByRecursion IsFit (instances_by values (needed_of rule))
-  needed_fit = all_weaker (IsFact program.signature) IsFit (instances_by values (needed_of rule)) (λ a (fact : IsFact program.signature a). fact.fit) needed_facts
+  needed_fit : AllByRecursion IsFit (full_instances values (needed_of rule))
+  needed_fit = all_weaker (IsStateAtom program.signature) IsFit (full_instances values (needed_of rule)) (λ a (atom_is : IsStateAtom program.signature a). atom_is.fit) needed_state_atoms
 
   many_values : length values ≡ length rule.kinds
   many_values = as_many_values program.signature.cons rule.kinds values is.are
@@ -159,46 +159,46 @@ module _ (laws : StepLaws) (program : Parts) (state : Multiset) (rule : Rule) (v
     needed_fit = needed_fit;
     few_premises = is.small.premises;
     few_right = is.small.right;
-    bag = facts.bag;
+    bag = is_state.bag;
     left_bag = laws.left_bag program.signature rule values is.typed is.are;
     fits = fits;
     contained = is.contained;
   }
 
-  right_facts : AllByRecursion IsFit (instances_by values rule.right) → AllByRecursion (IsFact program.signature) (instances_by values rule.right)
-  right_facts fit = right_facts_of laws program.signature rule.kinds values is.are rule.right is.typed.right is.divided.right fit
+  right_state_atoms : AllByRecursion IsFit (full_instances values rule.right) → AllByRecursion (IsStateAtom program.signature) (full_instances values rule.right)
+  right_state_atoms fit = right_state_atoms_of laws program.signature rule.kinds values is.are rule.right is.typed.right is.divided.right fit
 
-  added_facts : AllByRecursion IsFit (instances_by values rule.right) → AllByRecursion (IsFact program.signature) (added_by rule values)
-  added_facts fit =
-      subst (AllByRecursion (IsFact program.signature)) (sym (map-append (instance_by values) rule.right (kept_of rule)))
-      (all_joined (IsFact program.signature) (instances_by values rule.right) (instances_by values (kept_of rule)) (right_facts fit) (all_kept (IsFact program.signature) values rule.premises needed_facts))
+  added_state_atoms : AllByRecursion IsFit (full_instances values rule.right) → AllByRecursion (IsStateAtom program.signature) (added_by rule values)
+  added_state_atoms fit =
+      subst (AllByRecursion (IsStateAtom program.signature)) (sym (map-append (full_instance values) rule.right (kept_of rule)))
+      (all_joined (IsStateAtom program.signature) (full_instances values rule.right) (full_instances values (kept_of rule)) (right_state_atoms fit) (all_kept (IsStateAtom program.signature) values rule.premises needed_state_atoms))
 
-  pub left_ground : AllByRecursion IsGroundAtom (instances_by values (needed_of rule))
-  left_ground = all_weaker (IsFact program.signature) IsGroundAtom (instances_by values (needed_of rule)) (λ a (fact : IsFact program.signature a). fact.ground) needed_facts
+  pub left_ground : AllByRecursion IsGroundAtom (full_instances values (needed_of rule))
+  left_ground = all_weaker (IsStateAtom program.signature) IsGroundAtom (full_instances values (needed_of rule)) (λ a (atom_is : IsStateAtom program.signature a). atom_is.ground) needed_state_atoms
 
-  pub added_ground : AllByRecursion IsFit (instances_by values rule.right) → AllByRecursion IsGroundAtom (added_by rule values)
-  added_ground fit = all_weaker (IsFact program.signature) IsGroundAtom (added_by rule values) (λ a (fact : IsFact program.signature a). fact.ground) (added_facts fit)
+  pub added_ground : AllByRecursion IsFit (full_instances values rule.right) → AllByRecursion IsGroundAtom (added_by rule values)
+  added_ground fit = all_weaker (IsStateAtom program.signature) IsGroundAtom (added_by rule values) (λ a (atom_is : IsStateAtom program.signature a). atom_is.ground) (added_state_atoms fit)
 
-  pub few_left : length (instances_by values (needed_of rule)) ≡ length rule.premises
-  few_left = length-map (needed_of rule) (instance_by values) ∙ length-map rule.premises (λ premise. premise.atom)
+  pub few_left : length (full_instances values (needed_of rule)) ≡ length rule.premises
+  few_left = length-map (needed_of rule) (full_instance values) ∙ length-map rule.premises (λ premise. premise.atom)
 
-  pub next_facts : AllByRecursion IsFit (instances_by values rule.right) → IsState program.signature (next_state rule values state)
-  next_facts fit = record {
+  pub next_state_atoms : AllByRecursion IsFit (full_instances values rule.right) → IsState program.signature (next_state rule values state)
+  next_state_atoms fit = record {
     bag = laws.bags.sum_kept (difference_of state (left_of rule values)) (gathered (added_by rule values))
-        (laws.bags.difference_kept state (left_of rule values) facts.bag (laws.left_bag program.signature rule values is.typed is.are))
+        (laws.bags.difference_kept state (left_of rule values) is_state.bag (laws.left_bag program.signature rule values is.typed is.are))
         (laws.bags.gathered_kept (added_by rule values) (added_ground fit));
-    facts = λ a some. by a some (count_of state a) refl;
+    each = λ a some. by a some (count_of state a) refl;
   }
     where
-      by : (a : AtomTree) → 0 < count_of (next_state rule values state) a → (n : ℕ) → count_of state a ≡ n → IsFact program.signature a
+      by : (a : AtomTree) → 0 < count_of (next_state rule values state) a → (n : ℕ) → count_of state a ≡ n → IsStateAtom program.signature a
       by a some zero none =
           let sum = laws.bags.sum (difference_of state (left_of rule values)) (gathered (added_by rule values)) a in
           let less = laws.bags.difference state (left_of rule values) a in
-          of_gathered laws.bags (IsFact program.signature) (added_by rule values) (added_facts fit) a (omega arith)
-      by a some (suc n) is_there = facts.facts a (omega arith)
+          of_gathered laws.bags (IsStateAtom program.signature) (added_by rule values) (added_state_atoms fit) a (omega arith)
+      by a some (suc n) is_there = is_state.each a (omega arith)
 
 -- the rule and the values that are chosen are those of the offer at the place
-pub chosen_once : (program : Parts) (lists : List (List Offer)) (stage place : ℕ) (offers : List Offer) (offer : Offer) (rule : Rule) → offers ≡ asked_offers lists stage → slice_get offers place ≡ Some offer → slice_get program.rules offer.rule ≡ Some rule → (P : Rule → List Tree → Type 0) → P rule offer.values → (other : Rule) (values : List Tree) → IsChosen program lists stage place other values → P other values
+pub chosen_once : (program : Parts) (lists : List (List Offer)) (stage place : ℕ) (offers : List Offer) (offer : Offer) (rule : Rule) → offers ≡ asked_offers lists stage → slice_get offers place ≡ Some offer → slice_get program.rules offer.rule ≡ Some rule → (P : Rule → List Tree → Type 0) → P rule offer.values → (other : Rule) (values : List Tree) → IsAskedAt program lists stage place other values → P other values
 chosen_once program lists stage place offers offer rule same is numbered P holds other values chosen =
     let one : offer ≡ record { rule = chosen.number; values = values } = same_some (slice_get offers place) offer (record { rule = chosen.number; values = values }) is (ap (λ (os : List Offer). slice_get os place) same ∙ chosen.offered) in
     let rules : rule ≡ other = same_some (slice_get program.rules offer.rule) rule other numbered (ap (λ (o : Offer). slice_get program.rules o.rule) one ∙ chosen.numbered) in
@@ -218,26 +218,26 @@ pub ready_offer : (program parts : Parts) (height : ℕ) (held state : Multiset)
 ready_offer program parts height held state lists group place offer rule kept whole are same is numbered =
     ready program height state offer rule kept (offer_applies program height held state lists group place offer are same is) (ap (λ (p : Parts). slice_get p.rules offer.rule) (sym whole) ∙ numbered)
 
-module _ (laws : StepLaws) (program : Parts) (state : Multiset) (rule : Rule) (values : List Tree) (is : IsReady program state rule values) (facts : IsState program.signature state) (fits : Fits state) (nodes : ℕ) (weighed : IsWeighed rule values state (Within nodes)) where
+module _ (laws : StepLaws) (program : Parts) (state : Multiset) (rule : Rule) (values : List Tree) (is : IsReady program state rule values) (is_state : IsState program.signature state) (fits : Fits state) (nodes : ℕ) (weighed : IsWeighed rule values state (Within nodes)) where
   -- the change of a step that is within the limits can be made
-  pub can_change : IsProgram program → (stage : ℕ) → stage < length program.stages → (left added : List AtomTree) → left ≡ instances_by values (needed_of rule) → added ≡ added_by rule values → CanChange program state (record { stage = stage; nodes = nodes; left = left; added = added })
+  pub can_change : IsProgram program → (stage : ℕ) → stage < length program.stages → (left added : List AtomTree) → left ≡ full_instances values (needed_of rule) → added ≡ added_by rule values → CanChange program state (record { stage = stage; nodes = nodes; left = left; added = added })
   can_change kept stage within left added same_left same_added =
       subst (λ (atoms : List AtomTree). CanChange program state (record { stage = stage; nodes = nodes; left = atoms; added = added })) (sym same_left)
-      (subst (λ (atoms : List AtomTree). CanChange program state (record { stage = stage; nodes = nodes; left = instances_by values (needed_of rule); added = atoms })) (sym same_added)
+      (subst (λ (atoms : List AtomTree). CanChange program state (record { stage = stage; nodes = nodes; left = full_instances values (needed_of rule); added = atoms })) (sym same_added)
       (record {
         stage = within;
         low = let most = kept.small.stages in omega arith;
-        left = left_ground laws program state rule values is facts fits;
-        added = added_ground laws program state rule values is facts fits weighed.0;
-        few = let many = few_left laws program state rule values is facts fits in let most = is.small.premises in omega arith;
+        left = left_ground laws program state rule values is is_state fits;
+        added = added_ground laws program state rule values is is_state fits weighed.0;
+        few = let many = few_left laws program state rule values is is_state fits in let most = is.small.premises in omega arith;
         contained = is.contained;
-        facts = next_facts laws program state rule values is facts fits weighed.0;
+        is_state = next_state_atoms laws program state rule values is is_state fits weighed.0;
         fits = weighed.1;
         nodes = weighed.2;
       }))
 
   -- what the change leads to is the configuration after the step
-  pub is_next : {M : Type 0} (old new : Configuration M) (left added : List AtomTree) → old.state ≡ state → left ≡ instances_by values (needed_of rule) → added ≡ added_by rule values → new.state ≡ state_after old.state (gathered left) added → new.stage ≡ unwrap_or rule.next old.stage → new.turns ≡ old.turns + 1 → IsNext rule values old new
+  pub is_next : {M : Type 0} (old new : Configuration M) (left added : List AtomTree) → old.state ≡ state → left ≡ full_instances values (needed_of rule) → added ≡ added_by rule values → new.state ≡ state_after old.state (gathered left) added → new.stage ≡ unwrap_or rule.next old.stage → new.turns ≡ old.turns + 1 → IsNext rule values old new
   is_next old new left added same same_left same_added after stage turns =
       let state' : new.state ≡ next_state rule values state =
       after
@@ -248,7 +248,7 @@ module _ (laws : StepLaws) (program : Parts) (state : Multiset) (rule : Rule) (v
         fit = weighed.0;
         step =
             subst (λ (bag : Multiset). Step rule values bag new.state) (sym same)
-            (subst (λ (bag : Multiset). Step rule values state bag) (sym state') (laws.edit program.signature rule values state is.typed is.are facts.bag is.contained));
+            (subst (λ (bag : Multiset). Step rule values state bag) (sym state') (laws.edit program.signature rule values state is.typed is.are is_state.bag is.contained));
         fits = subst Fits (sym state') weighed.1;
         stage = stage;
         turns = turns;

@@ -3,16 +3,16 @@ use Rattle.std.proofs.Common.{◌≡◌, ⊎_elim, ℕ, zero, suc, ◌+◌, ◌*
 use Rattle.std.specs.Prelude.{slice_index_or, slice_get}
 use Rattle.std.specs.List.{AllByRecursion}
 use Rattle.std.proofs.Math.Nat.{add-mul}
-use Rattle.cep_term.specs.Tree.{Tree, Trees, AtomTree, variable, node, none, more, nodes_of, nodes_among, nodes_in, depth_of, depth_among, IsGround, AreGround, IsInRange, AreInRange, Occurs, OccursAmong, OccursIn}
-use Rattle.cep_term.specs.Values.{value_of, instance_of, instances_of}
-use Rattle.cep_rule.specs.Instances.{given, instance_by}
+use Rattle.cep_term.specs.Tree.{Tree, Trees, AtomTree, variable, node, none, more, term_nodes, argument_nodes, atom_nodes, term_depth, argument_depth, IsGround, AreGround, IsInRange, AreInRange, Occurs, OccursAmong, OccursIn}
+use Rattle.cep_term.specs.Values.{value_of, term_instance, argument_instances}
+use Rattle.cep_rule.specs.Instances.{given, full_instance}
 use Rattle.cep_machine.specs.declared.size.Size.{Size}
-use Rattle.cep_machine.specs.Sizes.{size_of, size_under, size_among, IsSmallValue, IsMeasurable}
+use Rattle.cep_machine.specs.Sizes.{size_of, size_by, size_among, IsSmallValue, IsMeasurable}
 use Rattle.cep_machine.proofs.Lists.{take_next, map_last}
 
 -- the size of arguments together
 abbrev pub size_of_all : Trees → Size
-size_of_all args = record { nodes = nodes_among args; depth = depth_among args }
+size_of_all args = record { nodes = argument_nodes args; depth = argument_depth args }
 
 under_at : (values : List Tree) (v w : ℕ) → slice_index_or (map size_of values) v (record { nodes = 1; depth = 1 }) ≡ size_of (unwrap_or (slice_index_or (map Some values) v None) (variable w))
 under_at [] v w = refl
@@ -20,11 +20,11 @@ under_at (t ∷ values) zero w = refl
 under_at (t ∷ values) (suc v) w = under_at values v w
 
 mutual
-  under : (values : List Tree) (t : Tree) → size_under (map size_of values) t ≡ size_of (instance_of (given values) t)
+  under : (values : List Tree) (t : Tree) → size_by (map size_of values) t ≡ size_of (term_instance (given values) t)
   under values (variable v) = under_at values v v
   under values (node c args) = let rest = among values args in λ i. record { nodes = 1 + (rest i).nodes; depth = 1 + (rest i).depth }
 
-  among : (values : List Tree) (args : Trees) → size_among (map size_of values) args ≡ size_of_all (instances_of (given values) args)
+  among : (values : List Tree) (args : Trees) → size_among (map size_of values) args ≡ size_of_all (argument_instances (given values) args)
   among values none = refl
   among values (more t rest) =
       let first = under values t in
@@ -32,30 +32,30 @@ mutual
       λ i. record { nodes = (first i).nodes + (others i).nodes; depth = max (first i).depth (others i).depth }
 
 -- the size of an instance's arguments
-pub measured_args : (values : List Tree) (sizes : List Size) (args : Trees) → sizes ≡ map size_of values → size_among sizes args ≡ size_of_all (instances_of (given values) args)
+pub measured_args : (values : List Tree) (sizes : List Size) (args : Trees) → sizes ≡ map size_of values → size_among sizes args ≡ size_of_all (argument_instances (given values) args)
 measured_args values sizes args same = ap (λ (other : List Size). size_among other args) same ∙ among values args
 
 mutual
-  no_values : (t : Tree) → instance_of (given []) t ≡ t
+  no_values : (t : Tree) → term_instance (given []) t ≡ t
   no_values (variable v) = refl
   no_values (node c args) = ap (node c) (no_values_among args)
 
-  no_values_among : (args : Trees) → instances_of (given []) args ≡ args
+  no_values_among : (args : Trees) → argument_instances (given []) args ≡ args
   no_values_among none = refl
   no_values_among (more t rest) = let first = no_values t in let others = no_values_among rest in λ i. more (first i) (others i)
 
 -- the size of a term without further sizes
-pub measured_value : (t : Tree) → size_under [] t ≡ size_of t
+pub measured_value : (t : Tree) → size_by [] t ≡ size_of t
 measured_value t = under [] t ∙ ap size_of (no_values t)
 
 mutual
-  pub term_depth : (t : Tree) → depth_of t ≤ nodes_of t
-  term_depth (variable v) = omega arith
-  term_depth (node c args) = let rest = args_depth args in omega arith
+  pub depth_below_nodes : (t : Tree) → term_depth t ≤ term_nodes t
+  depth_below_nodes (variable v) = omega arith
+  depth_below_nodes (node c args) = let rest = args_depth args in omega arith
 
-  pub args_depth : (args : Trees) → depth_among args ≤ nodes_among args
+  pub args_depth : (args : Trees) → argument_depth args ≤ argument_nodes args
   args_depth none = omega arith
-  args_depth (more t rest) = let first = term_depth t in let others = args_depth rest in omega arith
+  args_depth (more t rest) = let first = depth_below_nodes t in let others = args_depth rest in omega arith
 
 mutual
   pub ground_in_range : (t : Tree) → IsGround t → IsInRange 0 t
@@ -68,45 +68,45 @@ mutual
 
 -- A value has at most so many nodes.
 abbrev pub IsBelow : ℕ → Tree → Type 0
-IsBelow most t = nodes_of t ≤ most
+IsBelow most t = term_nodes t ≤ most
 
-bounded_at : (most : ℕ) (values : List Tree) (v w : ℕ) → 1 ≤ most → AllByRecursion (IsBelow most) values → nodes_of (unwrap_or (slice_index_or (map Some values) v None) (variable w)) ≤ most
+bounded_at : (most : ℕ) (values : List Tree) (v w : ℕ) → 1 ≤ most → AllByRecursion (IsBelow most) values → term_nodes (unwrap_or (slice_index_or (map Some values) v None) (variable w)) ≤ most
 bounded_at most [] v w some all = some
 bounded_at most (t ∷ values) zero w some all = all.0
 bounded_at most (t ∷ values) (suc v) w some all = bounded_at most values v w some all.1
 
 mutual
-  bounded : (most : ℕ) (values : List Tree) → 1 ≤ most → AllByRecursion (IsBelow most) values → (t : Tree) → nodes_of (instance_of (given values) t) ≤ nodes_of t * most
+  bounded : (most : ℕ) (values : List Tree) → 1 ≤ most → AllByRecursion (IsBelow most) values → (t : Tree) → term_nodes (term_instance (given values) t) ≤ term_nodes t * most
   bounded most values some all (variable v) = let at = bounded_at most values v v some all in omega arith
   bounded most values some all (node c args) =
       let rest = bounded_all most values some all args in
-      let split = add-mul 1 (nodes_among args) most in
+      let split = add-mul 1 (argument_nodes args) most in
       omega (arith, split)
 
-  bounded_all : (most : ℕ) (values : List Tree) → 1 ≤ most → AllByRecursion (IsBelow most) values → (args : Trees) → nodes_among (instances_of (given values) args) ≤ nodes_among args * most
+  bounded_all : (most : ℕ) (values : List Tree) → 1 ≤ most → AllByRecursion (IsBelow most) values → (args : Trees) → argument_nodes (argument_instances (given values) args) ≤ argument_nodes args * most
   bounded_all most values some all none = omega arith
   bounded_all most values some all (more t rest) =
       let first = bounded most values some all t in
       let others = bounded_all most values some all rest in
-      let split = add-mul (nodes_of t) (nodes_among rest) most in
+      let split = add-mul (term_nodes t) (argument_nodes rest) most in
       omega (arith, split)
 
 -- an instance has at most so many times the nodes of its pattern
-pub instance_bounded : (most : ℕ) (values : List Tree) → 1 ≤ most → AllByRecursion (IsBelow most) values → (a : AtomTree) → nodes_in (instance_by values a) ≤ nodes_in a * most
+pub instance_bounded : (most : ℕ) (values : List Tree) → 1 ≤ most → AllByRecursion (IsBelow most) values → (a : AtomTree) → atom_nodes (full_instance values a) ≤ atom_nodes a * most
 instance_bounded most values some all a =
     let rest = bounded_all most values some all a.args in
-    let split = add-mul 1 (nodes_among a.args) most in
+    let split = add-mul 1 (argument_nodes a.args) most in
     omega (arith, split)
 
 mutual
-  value_within : (values : List Tree) (v : ℕ) (u : Tree) → value_of (given values) v ≡ Some u → (t : Tree) → Occurs v t → nodes_of u ≤ nodes_of (instance_of (given values) t)
+  value_within : (values : List Tree) (v : ℕ) (u : Tree) → value_of (given values) v ≡ Some u → (t : Tree) → Occurs v t → term_nodes u ≤ term_nodes (term_instance (given values) t)
   value_within values v u is (variable w) occurs =
       let here : unwrap_or (value_of (given values) w) (variable w) ≡ u = ap (λ o. unwrap_or o (variable w)) (ap (value_of (given values)) (sym occurs) ∙ is) in
-      let same : nodes_of (unwrap_or (value_of (given values) w) (variable w)) ≡ nodes_of u = ap nodes_of here in
+      let same : term_nodes (unwrap_or (value_of (given values) w) (variable w)) ≡ term_nodes u = ap term_nodes here in
       omega (arith, same)
   value_within values v u is (node c args) occurs = let rest = value_among values v u is args occurs in omega arith
 
-  value_among : (values : List Tree) (v : ℕ) (u : Tree) → value_of (given values) v ≡ Some u → (args : Trees) → OccursAmong v args → nodes_of u ≤ nodes_among (instances_of (given values) args)
+  value_among : (values : List Tree) (v : ℕ) (u : Tree) → value_of (given values) v ≡ Some u → (args : Trees) → OccursAmong v args → term_nodes u ≤ argument_nodes (argument_instances (given values) args)
   value_among values v u is none occurs = absurd occurs
   value_among values v u is (more t rest) occurs = ⊎_elim
       (λ here. let first = value_within values v u is t here in omega arith)
@@ -114,15 +114,15 @@ mutual
       occurs
 
 -- a value is no larger than an instance in which its variable occurs
-pub value_in_instance : (values : List Tree) (v : ℕ) (u : Tree) → value_of (given values) v ≡ Some u → (a : AtomTree) → OccursIn v a → nodes_of u ≤ nodes_in (instance_by values a)
+pub value_in_instance : (values : List Tree) (v : ℕ) (u : Tree) → value_of (given values) v ≡ Some u → (a : AtomTree) → OccursIn v a → term_nodes u ≤ atom_nodes (full_instance values a)
 value_in_instance values v u is a occurs = let rest = value_among values v u is a.args occurs in omega arith
 
 module _ (values : List Tree) (sizes : List Size) (a : AtomTree) (same : sizes ≡ map size_of values) where
   -- the nodes and the levels of an instance, but for its predicate
-  pub args_nodes : (size_among sizes a.args).nodes ≡ nodes_among (instances_of (given values) a.args)
+  pub args_nodes : (size_among sizes a.args).nodes ≡ argument_nodes (argument_instances (given values) a.args)
   args_nodes = ap (λ (size : Size). size.nodes) (measured_args values sizes a.args same)
 
-  pub args_levels : (size_among sizes a.args).depth ≡ depth_among (instances_of (given values) a.args)
+  pub args_levels : (size_among sizes a.args).depth ≡ argument_depth (argument_instances (given values) a.args)
   args_levels = ap (λ (size : Size). size.depth) (measured_args values sizes a.args same)
 
   pub few_nodes : IsMeasurable values a → 1 + (size_among sizes a.args).nodes < 2 ^ 64
@@ -132,27 +132,27 @@ module _ (values : List Tree) (sizes : List Size) (a : AtomTree) (same : sizes �
   few_levels can =
       let same_levels = args_levels in
       let few = can.nodes in
-      let low = args_depth (instances_of (given values) a.args) in
+      let low = args_depth (argument_instances (given values) a.args) in
       omega arith
 
 -- the nodes and the levels of a value
-pub value_nodes : (t : Tree) → IsSmallValue t → (size_under [] t).nodes < 2 ^ 64
+pub value_nodes : (t : Tree) → IsSmallValue t → (size_by [] t).nodes < 2 ^ 64
 value_nodes t small =
-    let same : (size_under [] t).nodes ≡ nodes_of t = ap (λ (size : Size). size.nodes) (measured_value t) in
+    let same : (size_by [] t).nodes ≡ term_nodes t = ap (λ (size : Size). size.nodes) (measured_value t) in
     let few = small.nodes in
     omega arith
 
-pub value_levels : (t : Tree) → IsSmallValue t → (size_under [] t).depth < 2 ^ 64
+pub value_levels : (t : Tree) → IsSmallValue t → (size_by [] t).depth < 2 ^ 64
 value_levels t small =
-    let same : (size_under [] t).depth ≡ depth_of t = ap (λ (size : Size). size.depth) (measured_value t) in
+    let same : (size_by [] t).depth ≡ term_depth t = ap (λ (size : Size). size.depth) (measured_value t) in
     let few = small.nodes in
-    let low = term_depth t in
+    let low = depth_below_nodes t in
     omega arith
 
 -- one value more
-pub next_size : (values : List Tree) (n : ℕ) (t : Tree) (sizes : List Size) → sizes ≡ map size_of (take n values) → slice_get values n ≡ Some t → sizes ++ size_under [] t ∷ [] ≡ map size_of (take (n + 1) values)
+pub next_size : (values : List Tree) (n : ℕ) (t : Tree) (sizes : List Size) → sizes ≡ map size_of (take n values) → slice_get values n ≡ Some t → sizes ++ size_by [] t ∷ [] ≡ map size_of (take (n + 1) values)
 next_size values n t sizes so_far is =
-    ap (λ (other : List Size). other ++ size_under [] t ∷ []) so_far
+    ap (λ (other : List Size). other ++ size_by [] t ∷ []) so_far
     ∙ ap (λ (size : Size). map size_of (take n values) ++ size ∷ []) (measured_value t)
     ∙ sym (map_last size_of (take n values) t)
     ∙ ap (map size_of) (sym (take_next values n t is))

@@ -4,12 +4,12 @@ use Rattle.std.specs.Prelude.{slice_get, sum_by}
 use Rattle.std.specs.List.{AllByRecursion}
 use Rattle.std.proofs.lemmas.List.{map-append, length-map, length-append}
 use Rattle.std.proofs.lemmas.List.Sums.{sum_by-append}
-use Rattle.cep_term.specs.declared.term.TheConstants.{MAX_NODES, MAX_DEPTH}
-use Rattle.cep_term.specs.Tree.{Tree, AtomTree, nodes_in, depth_in, IsFit}
+use Rattle.cep_base.specs.declared.limits.TheConstants.{MOST_DEPTH, MOST_NODES}
+use Rattle.cep_term.specs.Tree.{Tree, AtomTree, atom_nodes, atom_depth, IsFit}
 use Rattle.cep_term.specs.Multiset.{Multiset, gathered, difference_of, copies_in, nodes_in_all}
 use Rattle.cep_rule.specs.declared.rule.Rule.{Rule}
 use Rattle.cep_rule.specs.Binding.{needed_of}
-use Rattle.cep_rule.specs.Instances.{instance_by, instances_by, kept_of, left_of}
+use Rattle.cep_rule.specs.Instances.{full_instance, full_instances, kept_of, left_of}
 use Rattle.cep_rule.specs.Patterns.{PremiseTree}
 use Rattle.cep_machine.specs.declared.size.Size.{Size}
 use Rattle.cep_machine.specs.Passing.{IsTooLarge, IsFirstTooLarge}
@@ -22,7 +22,7 @@ use Rattle.cep_machine.proofs.Premises.{kept_in, nodes_by, nodes_last, nodes_par
 use Rattle.cep_machine.proofs.Lists.{take_next}
 
 -- one atom more is made
-pub made_next : (values : List Tree) (atoms : List AtomTree) (n : ℕ) (a : AtomTree) (nodes size : ℕ) → nodes ≡ nodes_by values (take n atoms) → slice_get atoms n ≡ Some a → size ≡ nodes_in (instance_by values a) → nodes + size ≡ nodes_by values (take (n + 1) atoms)
+pub made_next : (values : List Tree) (atoms : List AtomTree) (n : ℕ) (a : AtomTree) (nodes size : ℕ) → nodes ≡ nodes_by values (take n atoms) → slice_get atoms n ≡ Some a → size ≡ atom_nodes (full_instance values a) → nodes + size ≡ nodes_by values (take (n + 1) atoms)
 made_next values atoms n a nodes size so_far is same =
     let next : nodes_by values (take (n + 1) atoms) ≡ nodes_by values (take n atoms ++ a ∷ []) = ap (nodes_by values) (take_next atoms n a is) in
     let last = nodes_last values (take n atoms) a in
@@ -30,7 +30,7 @@ made_next values atoms n a nodes size so_far is same =
 
 module _ (values : List Tree) (premises : List PremiseTree) (n : ℕ) (premise : PremiseTree) (is : slice_get premises n ≡ Some premise) where
   -- one premise more is used
-  pub used_more : (nodes size : ℕ) → nodes ≡ nodes_by values (used_of (take n premises)) → premise.kept ≡ false → size ≡ nodes_in (instance_by values premise.atom) → nodes + size ≡ nodes_by values (used_of (take (n + 1) premises))
+  pub used_more : (nodes size : ℕ) → nodes ≡ nodes_by values (used_of (take n premises)) → premise.kept ≡ false → size ≡ atom_nodes (full_instance values premise.atom) → nodes + size ≡ nodes_by values (used_of (take (n + 1) premises))
   used_more nodes size so_far kept same =
       let next : nodes_by values (used_of (take (n + 1) premises)) ≡ nodes_by values (used_of (take n premises) ++ premise.atom ∷ []) = ap (nodes_by values) (used_next premises n premise is kept) in
       let last = nodes_last values (used_of (take n premises)) premise.atom in
@@ -49,25 +49,25 @@ module _ (values : List Tree) (premises : List PremiseTree) (n : ℕ) (premise :
   count_same count so_far kept = so_far ∙ ap (length {A = AtomTree}) (sym (not_used_next premises n premise is kept))
 
 -- An atom of this size is fit.
-fit_by_size : (a : AtomTree) (size : Size) → size.nodes ≡ nodes_in a → size.depth ≡ depth_in a → (size.nodes ≤ MAX_NODES) × (size.depth ≤ MAX_DEPTH) → IsFit a
-fit_by_size a size nodes depth fit = record { nodes = subst (λ n. n ≤ MAX_NODES) nodes fit.0; depth = subst (λ n. n ≤ MAX_DEPTH) depth fit.1 }
+fit_by_size : (a : AtomTree) (size : Size) → size.nodes ≡ atom_nodes a → size.depth ≡ atom_depth a → (size.nodes ≤ MOST_NODES) × (size.depth ≤ MOST_DEPTH) → IsFit a
+fit_by_size a size nodes depth fit = record { nodes = subst (λ n. n ≤ MOST_NODES) nodes fit.0; depth = subst (λ n. n ≤ MOST_DEPTH) depth fit.1 }
 
 -- one atom more is fit
-pub fit_next : (values : List Tree) (atoms : List AtomTree) (n : ℕ) (a : AtomTree) (size : Size) → AllByRecursion IsFit (instances_by values (take n atoms)) → slice_get atoms n ≡ Some a → size.nodes ≡ nodes_in (instance_by values a) → size.depth ≡ depth_in (instance_by values a) → (size.nodes ≤ MAX_NODES) × (size.depth ≤ MAX_DEPTH) → AllByRecursion IsFit (instances_by values (take (n + 1) atoms))
+pub fit_next : (values : List Tree) (atoms : List AtomTree) (n : ℕ) (a : AtomTree) (size : Size) → AllByRecursion IsFit (full_instances values (take n atoms)) → slice_get atoms n ≡ Some a → size.nodes ≡ atom_nodes (full_instance values a) → size.depth ≡ atom_depth (full_instance values a) → (size.nodes ≤ MOST_NODES) × (size.depth ≤ MOST_DEPTH) → AllByRecursion IsFit (full_instances values (take (n + 1) atoms))
 fit_next values atoms n a size so_far is nodes depth fit =
     subst (AllByRecursion IsFit) (sym (next_instances values atoms n a is))
-    (all_joined IsFit (instances_by values (take n atoms)) (instance_by values a ∷ []) so_far ((fit_by_size (instance_by values a) size nodes depth fit), tt))
+    (all_joined IsFit (full_instances values (take n atoms)) (full_instance values a ∷ []) so_far ((fit_by_size (full_instance values a) size nodes depth fit), tt))
 
 -- a size that is too large is that of an atom that is
-pub too_large : (a : AtomTree) (size : Size) (number : ℕ) → size.nodes ≡ nodes_in a → size.depth ≡ depth_in a → ((MAX_NODES < size.nodes) × (number ≡ size.nodes)) ⊎ ((size.nodes ≤ MAX_NODES) × (MAX_DEPTH < size.depth) × (number ≡ size.depth)) → IsTooLarge a number
+pub too_large : (a : AtomTree) (size : Size) (number : ℕ) → size.nodes ≡ atom_nodes a → size.depth ≡ atom_depth a → ((MOST_NODES < size.nodes) × (number ≡ size.nodes)) ⊎ ((size.nodes ≤ MOST_NODES) × (MOST_DEPTH < size.depth) × (number ≡ size.depth)) → IsTooLarge a number
 too_large a size number nodes depth over =
-    subst (λ n. ((MAX_NODES < n) × (number ≡ n)) ⊎ ((n ≤ MAX_NODES) × (MAX_DEPTH < depth_in a) × (number ≡ depth_in a))) nodes
-    (subst (λ n. ((MAX_NODES < size.nodes) × (number ≡ size.nodes)) ⊎ ((size.nodes ≤ MAX_NODES) × (MAX_DEPTH < n) × (number ≡ n))) depth over)
+    subst (λ n. ((MOST_NODES < n) × (number ≡ n)) ⊎ ((n ≤ MOST_NODES) × (MOST_DEPTH < atom_depth a) × (number ≡ atom_depth a))) nodes
+    (subst (λ n. ((MOST_NODES < size.nodes) × (number ≡ size.nodes)) ⊎ ((size.nodes ≤ MOST_NODES) × (MOST_DEPTH < n) × (number ≡ n))) depth over)
 
 -- the first atom that is not fit
-pub first_at : (values : List Tree) (atoms : List AtomTree) (n : ℕ) (a : AtomTree) (number : ℕ) → AllByRecursion IsFit (instances_by values (take n atoms)) → slice_get atoms n ≡ Some a → IsTooLarge (instance_by values a) number → IsFirstTooLarge (instances_by values atoms) number
+pub first_at : (values : List Tree) (atoms : List AtomTree) (n : ℕ) (a : AtomTree) (number : ℕ) → AllByRecursion IsFit (full_instances values (take n atoms)) → slice_get atoms n ≡ Some a → IsTooLarge (full_instance values a) number → IsFirstTooLarge (full_instances values atoms) number
 first_at values [] n a number fit is over = none_some a is
-first_at values (x ∷ atoms) zero a number fit is over = inl (subst (λ y. IsTooLarge (instance_by values y) number) (sym (some_same x a is)) over)
+first_at values (x ∷ atoms) zero a number fit is over = inl (subst (λ y. IsTooLarge (full_instance values y) number) (sym (some_same x a is)) over)
 first_at values (x ∷ atoms) (suc n) a number fit is over = inr (fit.0, (first_at values atoms n a number fit.1 is over))
 
 module _ (laws : BagLaws) (rule : Rule) (values : List Tree) (state : Multiset) (can : CanWeigh rule values state) where
@@ -83,24 +83,24 @@ module _ (laws : BagLaws) (rule : Rule) (values : List Tree) (state : Multiset) 
 
   left_copies : copies_in (left_of rule values) ≡ length (kept_in rule.premises) + length (used_of rule.premises)
   left_copies =
-      gathered_copies laws (instances_by values (needed_of rule))
-      ∙ length-map (needed_of rule) (instance_by values)
+      gathered_copies laws (full_instances values (needed_of rule))
+      ∙ length-map (needed_of rule) (full_instance values)
       ∙ count_parted rule.premises
 
   left_nodes : nodes_in_all (left_of rule values) ≡ nodes_by values (kept_in rule.premises) + nodes_by values (used_of rule.premises)
-  left_nodes = gathered_nodes laws (instances_by values (needed_of rule)) ∙ nodes_parted values rule.premises
+  left_nodes = gathered_nodes laws (full_instances values (needed_of rule)) ∙ nodes_parted values rule.premises
 
   added_copies : copies_in (gathered (added_by rule values)) ≡ length rule.right + length (kept_in rule.premises)
   added_copies =
       gathered_copies laws (added_by rule values)
-      ∙ length-map (rule.right ++ kept_of rule) (instance_by values)
+      ∙ length-map (rule.right ++ kept_of rule) (full_instance values)
       ∙ length-append rule.right (kept_of rule)
 
   added_nodes : nodes_in_all (gathered (added_by rule values)) ≡ nodes_by values rule.right + nodes_by values (kept_in rule.premises)
   added_nodes =
       gathered_nodes laws (added_by rule values)
-      ∙ ap (sum_by nodes_in) (map-append (instance_by values) rule.right (kept_of rule))
-      ∙ sum_by-append nodes_in (instances_by values rule.right) (instances_by values (kept_of rule))
+      ∙ ap (sum_by atom_nodes) (map-append (full_instance values) rule.right (kept_of rule))
+      ∙ sum_by-append atom_nodes (full_instances values rule.right) (full_instances values (kept_of rule))
 
   pub next_copies : copies_in (next_state rule values state) + length (used_of rule.premises) ≡ copies_in state + length rule.right
   next_copies =

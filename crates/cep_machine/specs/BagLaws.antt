@@ -3,7 +3,7 @@ use Rattle.std.specs.Prelude.{◌≡◌, ◌≢◌, ℕ, ◌+◌, ◌-◌, ◌*�
 use Rattle.std.specs.List.{AllByRecursion}
 use Rattle.std.specs.Cmp.{IsTotalOrder}
 use Rattle.std.specs.FinMap as finite
-use Rattle.cep_term.specs.Tree.{AtomTree, IsGroundAtom, nodes_in}
+use Rattle.cep_term.specs.Tree.{AtomTree, IsGroundAtom, atom_nodes}
 use Rattle.cep_term.specs.Order.{atom_cmp}
 use Rattle.cep_term.specs.Multiset.{Multiset, count_of, with_count, gathered, sum_of, difference_of, copies_in, nodes_in_all, IsContained, IsBag}
 
@@ -18,7 +18,7 @@ pub record BagLaws : Type 0 where
   pub own : (bag : Multiset) (a : AtomTree) (n : ℕ) → count_of (with_count bag a n) a ≡ n
   pub others : (bag : Multiset) (a q : AtomTree) (n : ℕ) → q ≢ a → count_of (with_count bag a n) q ≡ count_of bag q
   pub set_copies : (bag : Multiset) (a : AtomTree) (n : ℕ) → copies_in (with_count bag a n) + count_of bag a ≡ copies_in bag + n
-  pub set_nodes : (bag : Multiset) (a : AtomTree) (n : ℕ) → nodes_in_all (with_count bag a n) + count_of bag a * nodes_in a ≡ nodes_in_all bag + n * nodes_in a
+  pub set_nodes : (bag : Multiset) (a : AtomTree) (n : ℕ) → nodes_in_all (with_count bag a n) + count_of bag a * atom_nodes a ≡ nodes_in_all bag + n * atom_nodes a
   pub set_kept : (bag : Multiset) (a : AtomTree) (n : ℕ) → IsGroundAtom a → IsBag bag → IsBag (with_count bag a n)
   pub equal : (bag other : Multiset) → IsBag bag → IsBag other → ((a : AtomTree) → count_of bag a ≡ count_of other a) → bag ≡ other
   pub taken_and_added : (bag other : Multiset) → IsBag bag → IsBag other → IsContained other bag → sum_of (difference_of bag other) other ≡ bag

@@ -4,7 +4,7 @@ use Rattle.std.specs.List.{AllByRecursion}
 use Rattle.cep_term.specs.Tree.{IsGroundAtom}
 use Rattle.cep_term.specs.Multiset.{Multiset, gathered, nodes_in_all, IsContained}
 use Rattle.cep_rule.specs.declared.parts.Parts.{Parts}
-use Rattle.cep_rule.specs.declared.limits.TheConstants.{MOST_PREMISES, MOST_STAGES}
+use Rattle.cep_base.specs.declared.limits.TheConstants.{MOST_PREMISES, MOST_STAGES}
 use Rattle.cep_rule.specs.State.{IsState, Fits}
 use Rattle.cep_rule.specs.Matching.{state_after}
 use Rattle.cep_machine.specs.declared.changing.Change.{Change}
@@ -17,6 +17,6 @@ pub record CanChange (program : Parts) (state : Multiset) (change : Change) : Ty
   pub added : AllByRecursion IsGroundAtom change.added
   pub few : length change.left ≤ MOST_PREMISES
   pub contained : IsContained (gathered change.left) state
-  pub facts : IsState program.signature (state_after state (gathered change.left) change.added)
+  pub is_state : IsState program.signature (state_after state (gathered change.left) change.added)
   pub fits : Fits (state_after state (gathered change.left) change.added)
   pub nodes : change.nodes ≡ nodes_in_all (state_after state (gathered change.left) change.added)

@@ -4,7 +4,7 @@ use Rattle.std.specs.Coded.{Coded, code_by, coded×, coded_ℕ}
 use Rattle.std.specs.FinMap as finite
 use Rattle.cep_term.specs.Codes.{atom_code}
 use Rattle.cep_term.specs.Multiset.{Multiset, nodes_in_all}
-use Rattle.cep_rule.specs.declared.limits.TheConstants.{MOST_STAGES}
+use Rattle.cep_base.specs.declared.limits.TheConstants.{MOST_STAGES}
 use Rattle.cep_rule.specs.declared.parts.Parts.{Parts}
 use Rattle.cep_rule.specs.State.{IsState, Fits}
 use Rattle.cep_rule.specs.Stages.{leaving_group}
@@ -20,7 +20,7 @@ pub record Configuration (M : Type 0) : Type 0 where
 pub record IsConfigurationOf {M : Type 0} (is_of : Parts → M → Type 0) (program : Parts) (config : Configuration M) : Type 0 where
   pub matcher : is_of program config.matcher
   pub stage : config.stage < length program.stages
-  pub facts : IsState program.signature config.state
+  pub is_state : IsState program.signature config.state
   pub fits : Fits config.state
 
 -- a configuration is stored as its parts

@@ -1,15 +1,14 @@
 -- The numbers that pass a limit.
 use Rattle.std.specs.Prelude.{◌≡◌, ◌⊎◌, ℕ, ◌<◌, ◌≤◌, List, [], ◌∷◌}
-use Rattle.cep_term.specs.declared.term.TheConstants.{MAX_NODES, MAX_DEPTH}
-use Rattle.cep_term.specs.Tree.{AtomTree, nodes_in, depth_in, IsFit}
+use Rattle.cep_base.specs.declared.limits.TheConstants.{MOST_COPIES, MOST_DEPTH, MOST_NODES, MOST_STATE_NODES}
+use Rattle.cep_term.specs.Tree.{AtomTree, atom_nodes, atom_depth, IsFit}
 use Rattle.cep_term.specs.Multiset.{Multiset, copies_in, nodes_in_all}
-use Rattle.cep_rule.specs.declared.limits.TheConstants.{MOST_COPIES, MOST_STATE_NODES}
 
 -- An atom is too large by a number: its nodes where they pass their limit, and else its levels where these pass theirs.
 abbrev pub IsTooLarge : AtomTree → ℕ → Type 0
 IsTooLarge a number =
-    ((MAX_NODES < nodes_in a) × (number ≡ nodes_in a))
-    ⊎ ((nodes_in a ≤ MAX_NODES) × (MAX_DEPTH < depth_in a) × (number ≡ depth_in a))
+    ((MOST_NODES < atom_nodes a) × (number ≡ atom_nodes a))
+    ⊎ ((atom_nodes a ≤ MOST_NODES) × (MOST_DEPTH < atom_depth a) × (number ≡ atom_depth a))
 
 -- The first atom that is not fit is too large by this number.
 abbrev pub IsFirstTooLarge : List AtomTree → ℕ → Type 0

@@ -7,9 +7,9 @@ use Rattle.cep_rule.specs.declared.rule.Rule.{Rule}
 use Rattle.cep_rule.specs.declared.parts.Parts.{Parts}
 use Rattle.cep_rule.specs.declared.offer.Offer.{Offer}
 use Rattle.cep_rule.specs.State.{Fits}
-use Rattle.cep_rule.specs.Instances.{instances_by, kept_of}
+use Rattle.cep_rule.specs.Instances.{full_instances, kept_of}
 use Rattle.cep_rule.specs.Step.{Step}
-use Rattle.cep_rule.specs.Matching.{Rose}
+use Rattle.cep_rule.specs.Matching.{RoseBy}
 use Rattle.cep_machine.specs.declared.stepped.Which.{Which}
 use Rattle.cep_machine.specs.declared.stepped.Which.TheVariants.{Atom, State}
 use Rattle.cep_machine.specs.declared.stepped.Stepped.{Stepped}
@@ -19,18 +19,18 @@ use Rattle.cep_machine.specs.Asking.{asked_offers}
 use Rattle.cep_machine.specs.Passing.{IsFirstTooLarge, IsTooFull}
 
 -- The offer at this place among those that a stage asks is of this rule, with these values for its variables.
-pub record IsChosen (program : Parts) (lists : List (List Offer)) (stage place : ℕ) (rule : Rule) (values : List Tree) : Type 0 where
+pub record IsAskedAt (program : Parts) (lists : List (List Offer)) (stage place : ℕ) (rule : Rule) (values : List Tree) : Type 0 where
   pub number : ℕ
   pub offered : slice_get (asked_offers lists stage) place ≡ Some (record { rule = number; values = values })
   pub numbered : slice_get program.rules number ≡ Some rule
 
 -- the atoms that a step adds: the right ones in written order, and then those of the premises that are kept
 abbrev pub added_by : Rule → List Tree → List AtomTree
-added_by rule values = instances_by values (rule.right ++ kept_of rule)
+added_by rule values = full_instances values (rule.right ++ kept_of rule)
 
 -- The configuration after a step: all right atoms are fit, the state is the one after the step and fits, the stage is the one that the rule names where it names one, and one more turn is done.
 pub record IsNext {M : Type 0} (rule : Rule) (values : List Tree) (old new : Configuration M) : Type 0 where
-  pub fit : AllByRecursion IsFit (instances_by values rule.right)
+  pub fit : AllByRecursion IsFit (full_instances values rule.right)
   pub step : Step rule values old.state new.state
   pub fits : Fits new.state
   pub stage : new.stage ≡ unwrap_or rule.next old.stage
@@ -38,8 +38,8 @@ pub record IsNext {M : Type 0} (rule : Rule) (values : List Tree) (old new : Con
 
 -- A step passes a limit by a number: that of an atom, by its first right atom that is not fit; or that of a state, where all are fit and the state after it does not fit.
 abbrev pub Passes : Rule → List Tree → Multiset → Which → ℕ → Type 0
-Passes rule values state Atom number = IsFirstTooLarge (instances_by values rule.right) number
-Passes rule values state State number = AllByRecursion IsFit (instances_by values rule.right) × ((new : Multiset) × Step rule values state new × IsTooFull new number)
+Passes rule values state Atom number = IsFirstTooLarge (full_instances values rule.right) number
+Passes rule values state State number = AllByRecursion IsFit (full_instances values rule.right) × ((new : Multiset) × Step rule values state new × IsTooFull new number)
 
 -- What a step comes to: the configuration after it, or the old one with the limit that the step would pass.
 abbrev pub IsStepped : {M : Type 0} → Rule → List Tree → Configuration M → Stepped M → Type 0
@@ -53,5 +53,5 @@ config_after (Limit config which number) = config
 
 -- How the counter rises: as is allowed where the step is done, and else not.
 abbrev pub RoseIfDone : {M : Type 0} → (ℕ → Type 0) → Stepped M → ℕ → ℕ → Type 0
-RoseIfDone allowed (Done config) old new = Rose allowed old new
+RoseIfDone allowed (Done config) old new = RoseBy allowed old new
 RoseIfDone allowed (Limit config which number) old new = new ≡ old

@@ -4,10 +4,10 @@ use Rattle.std.specs.List.{AllByRecursion}
 use Rattle.cep_term.specs.Tree.{Tree, AtomTree, IsFit}
 use Rattle.cep_term.specs.Multiset.{Multiset, nodes_in_all, IsContained, IsBag}
 use Rattle.cep_rule.specs.declared.rule.Rule.{Rule}
-use Rattle.cep_rule.specs.declared.limits.TheConstants.{MOST_PREMISES, MOST_RIGHT}
+use Rattle.cep_base.specs.declared.limits.TheConstants.{MOST_PREMISES, MOST_RIGHT}
 use Rattle.cep_rule.specs.State.{Fits}
 use Rattle.cep_rule.specs.Binding.{needed_of}
-use Rattle.cep_rule.specs.Instances.{instances_by, left_of}
+use Rattle.cep_rule.specs.Instances.{full_instances, left_of}
 use Rattle.cep_rule.specs.Patterns.{PremiseTree}
 use Rattle.cep_rule.specs.Matching.{state_after}
 use Rattle.cep_machine.specs.declared.stepped.Which.TheVariants.{Atom, State}
@@ -18,8 +18,8 @@ use Rattle.cep_machine.specs.Stepping.{added_by}
 use Rattle.cep_machine.specs.Sizes.{IsSmallValue, IsMeasurable}
 
 -- the atoms of premises
-abbrev pub atoms_of : List PremiseTree → List AtomTree
-atoms_of premises = map (λ premise. premise.atom) premises
+abbrev pub premise_atoms : List PremiseTree → List AtomTree
+premise_atoms premises = map (λ premise. premise.atom) premises
 
 -- the atoms of the premises that are not kept
 abbrev pub used_of : List PremiseTree → List AtomTree
@@ -34,7 +34,7 @@ pub record CanWeigh (rule : Rule) (values : List Tree) (state : Multiset) : Type
   pub small_values : AllByRecursion IsSmallValue values
   pub premises : AllByRecursion (IsMeasurable values) (needed_of rule)
   pub right : AllByRecursion (IsMeasurable values) rule.right
-  pub needed_fit : AllByRecursion IsFit (instances_by values (needed_of rule))
+  pub needed_fit : AllByRecursion IsFit (full_instances values (needed_of rule))
   pub few_premises : length rule.premises ≤ MOST_PREMISES
   pub few_right : length rule.right ≤ MOST_RIGHT
   pub bag : IsBag state
@@ -44,6 +44,6 @@ pub record CanWeigh (rule : Rule) (values : List Tree) (state : Multiset) : Type
 
 -- What weighing a step comes to: the limit that it passes and by how much, or the nodes of the state after it.
 abbrev pub IsWeighed : Rule → List Tree → Multiset → Weighed → Type 0
-IsWeighed rule values state (TooMuch Atom number) = IsFirstTooLarge (instances_by values rule.right) number
-IsWeighed rule values state (TooMuch State number) = AllByRecursion IsFit (instances_by values rule.right) × IsTooFull (next_state rule values state) number
-IsWeighed rule values state (Within nodes) = AllByRecursion IsFit (instances_by values rule.right) × Fits (next_state rule values state) × (nodes ≡ nodes_in_all (next_state rule values state))
+IsWeighed rule values state (TooMuch Atom number) = IsFirstTooLarge (full_instances values rule.right) number
+IsWeighed rule values state (TooMuch State number) = AllByRecursion IsFit (full_instances values rule.right) × IsTooFull (next_state rule values state) number
+IsWeighed rule values state (Within nodes) = AllByRecursion IsFit (full_instances values rule.right) × Fits (next_state rule values state) × (nodes ≡ nodes_in_all (next_state rule values state))

@@ -1,7 +1,7 @@
 ghost use Rattle.std.specs.Prelude.{◌≡◌, ◌≤◌, IfOk};
 ghost use Rattle.cep_term.specs.Multiset.{nodes_in_all};
 ghost use Rattle.cep_rule.specs.State.{Fits};
-ghost use Rattle.cep_rule.specs.Matching.{Rose};
+ghost use Rattle.cep_rule.specs.Matching.{RoseBy};
 ghost use Rattle.cep_machine.specs.Configuration.{IsConfigurationOf};
 
 use crate::config::Config;
@@ -27,7 +27,7 @@ impl<M: Matcher> Config<M> {
         ensures state { IfOk result (λ config. config.state ≡ program.now.start) }
         ensures turns { IfOk result (λ config. config.turns ≡ 0) }
         ensures height { IfOk result (λ config. M.height_held config.matcher ≡ height) }
-        ensures ticked { IfOk result (λ _. Rose (M.may_begin program.now program.now.start height) steps.old steps.new) }
+        ensures ticked { IfOk result (λ _. RoseBy (M.may_begin program.now program.now.start height) steps.old steps.new) }
         ensures never_falls { steps.old ≤ steps.new }
     {
         let parts = program.parts();

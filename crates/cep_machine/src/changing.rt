@@ -1,7 +1,7 @@
 ghost use Rattle.std.specs.Prelude.{◌≡◌, ◌+◌, ◌<◌, ◌≤◌, length, IfOk};
+ghost use Rattle.cep_base.specs.declared.limits.TheConstants.{MOST_TURNS};
 ghost use Rattle.cep_term.specs.Multiset.{gathered};
-ghost use Rattle.cep_rule.specs.declared.limits.TheConstants.{MOST_TURNS};
-ghost use Rattle.cep_rule.specs.Matching.{state_after, Rose};
+ghost use Rattle.cep_rule.specs.Matching.{state_after, RoseBy};
 ghost use Rattle.cep_machine.specs.Configuration.{IsConfigurationOf};
 ghost use Rattle.cep_machine.specs.Changing.{CanChange};
 
@@ -40,7 +40,7 @@ impl<M: Matcher> Config<M> {
         ensures state { IfOk result (λ config. config.state ≡ state_after self.state (gathered change.now.left) change.now.added) }
         ensures turns { IfOk result (λ config. config.turns ≡ self.turns + 1) }
         ensures same_height { IfOk result (λ config. M.height_held config.matcher ≡ M.height_held self.matcher) }
-        ensures ticked { IfOk result (λ _. Rose (M.may_edit program.now self.state (M.height_held self.matcher) (gathered change.now.left) change.now.added) steps.old steps.new) }
+        ensures ticked { IfOk result (λ _. RoseBy (M.may_edit program.now self.state (M.height_held self.matcher) (gathered change.now.left) change.now.added) steps.old steps.new) }
         ensures never_falls { steps.old ≤ steps.new }
     {
         bags_are_lawful();

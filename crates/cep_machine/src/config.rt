@@ -1,4 +1,5 @@
 ghost use Rattle.std.specs.Prelude.{◌≡◌, ℕ, ◌*◌, ◌+◌, ◌<◌, length};
+ghost use Rattle.cep_base.specs.declared.limits.TheConstants.{MOST_STAGES};
 
 use cep_rule::Matcher;
 use cep_term::Bag;
@@ -6,7 +7,7 @@ use std::marker::Model;
 
 /// A configuration of a program: a stage by its number, a state, and how many turns are done, with the
 /// matcher of that state. Ceptre's semantics goes from one to the next; the matcher and the turns are
-/// this profile's. It keeps no program: that it is of one is a fact about the two.
+/// this profile's. It keeps no program: that it is of one is said of the two.
 #[derive(Drop)]
 pub struct Config<M: Matcher> {
     pub(crate) stage: u32,
@@ -21,8 +22,7 @@ impl<M: Matcher> Model for Config<M> {
     ghost use Rattle.std.specs.Prelude.{◌≡◌, ◌+◌, ◌<◌, length};
     ghost use Rattle.cep_term.specs.Multiset.{nodes_in_all};
     ghost use Rattle.cep_rule.specs.Stages.{leaving_group};
-    ghost use Rattle.cep_rule.specs.declared.limits.TheConstants.{MOST_STAGES};
-    ghost use Rattle.cep_machine.specs.Configuration.{Configuration, configuration_code, IsKept};
+        ghost use Rattle.cep_machine.specs.Configuration.{Configuration, configuration_code, IsKept};
 
     ghost Value = { Configuration M };
 

@@ -1,7 +1,7 @@
 ghost use Rattle.std.specs.Prelude.{◌≡◌, map, IfOk};
 ghost use Rattle.std.specs.List.{AllByRecursion};
-ghost use Rattle.cep_term.specs.Tree.{atom_of, nodes_in, depth_in};
-ghost use Rattle.cep_rule.specs.Instances.{instance_by};
+ghost use Rattle.cep_term.specs.Tree.{atom_of, atom_nodes, atom_depth};
+ghost use Rattle.cep_rule.specs.Instances.{full_instance};
 ghost use Rattle.cep_machine.specs.Sizes.{size_of, IsSmallValue, IsMeasurable};
 
 use crate::size::{Size, args_size, term_size};
@@ -31,8 +31,8 @@ impl<'a> Measured<'a> {
     // The size of the atom's instance by these values.
     pub(crate) fn size(&self, atom: &Atom) -> Size
         requires { IsMeasurable self.now.values.now (atom_of atom.now) }
-        ensures nodes { result.nodes ≡ nodes_in (instance_by self.now.values.now (atom_of atom.now)) }
-        ensures depth { result.depth ≡ depth_in (instance_by self.now.values.now (atom_of atom.now)) }
+        ensures nodes { result.nodes ≡ atom_nodes (full_instance self.now.values.now (atom_of atom.now)) }
+        ensures depth { result.depth ≡ atom_depth (full_instance self.now.values.now (atom_of atom.now)) }
     {
         let size = args_size(&atom.args, &self.sizes);
         Size {

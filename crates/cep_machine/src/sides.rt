@@ -3,7 +3,7 @@ ghost use Rattle.std.specs.Prelude.{◌≡◌, ◌∷◌, [], ◌++◌, length, 
 ghost use Rattle.std.specs.List.{AllByRecursion};
 ghost use Rattle.cep_term.specs.Tree.{atom_of, IsAtomInRange};
 ghost use Rattle.cep_rule.specs.Binding.{needed_of};
-ghost use Rattle.cep_rule.specs.Instances.{instance_by, instances_by, kept_of};
+ghost use Rattle.cep_rule.specs.Instances.{full_instance, full_instances, kept_of};
 ghost use Rattle.cep_machine.specs.Stepping.{added_by};
 
 use cep_rule::{AtomList, Rule, Terms, instance};
@@ -13,7 +13,7 @@ use std::alloc::{AllocError, Global};
 // The instances of all linear premises, kept ones included, in written order.
 pub(crate) fn left_atoms(alloc: Global, rule: &Rule, values: &Terms) -> Result<AtomList, AllocError>
     requires { AllByRecursion (IsAtomInRange (length values.now)) (needed_of rule.now) }
-    ensures { IfOk result (λ atoms. atoms ≡ instances_by values.now (needed_of rule.now)) }
+    ensures { IfOk result (λ atoms. atoms ≡ full_instances values.now (needed_of rule.now)) }
 {
     let mut atoms = AtomList::new(alloc);
     for i in 0..rule.premises.len() {
@@ -48,7 +48,7 @@ fn push_kept(
     atoms: &mut AtomList,
 ) -> Result<(), AllocError>
     requires { AllByRecursion (IsAtomInRange (length values.now)) (needed_of rule.now) }
-    ensures { OnOk result (atoms.new ≡ atoms.old ++ instances_by values.now (kept_of rule.now)) }
+    ensures { OnOk result (atoms.new ≡ atoms.old ++ full_instances values.now (kept_of rule.now)) }
 {
     for i in 0..rule.premises.len() {
         let premise = rule.premises.get(i);
@@ -67,7 +67,7 @@ fn push_instance(
     atoms: &mut AtomList,
 ) -> Result<(), AllocError>
     requires { IsAtomInRange (length values.now) (atom_of atom.now) }
-    ensures { OnOk result (atoms.new ≡ atoms.old ++ instance_by values.now (atom_of atom.now) ∷ []) }
+    ensures { OnOk result (atoms.new ≡ atoms.old ++ full_instance values.now (atom_of atom.now) ∷ []) }
 {
     atoms.push(instance(alloc, atom, values)?)
 }

@@ -1,10 +1,11 @@
 // Sizes of terms.
 ghost use Rattle.std.specs.Prelude.{◌≡◌, ◌⊎◌, ◌^◌, ◌<◌, ◌≤◌, length, MatchOption};
-ghost use Rattle.cep_term.specs.declared.term.TheConstants.{MAX_NODES, MAX_DEPTH};
+ghost use Rattle.cep_base.specs.declared.limits.TheConstants.{MOST_DEPTH, MOST_NODES};
 ghost use Rattle.cep_term.specs.Tree.{tree_of, trees_of, IsInRange, AreInRange};
-ghost use Rattle.cep_machine.specs.Sizes.{size_under, size_among};
+ghost use Rattle.cep_machine.specs.Sizes.{size_by, size_among};
 
-use cep_term::{Args, MAX_DEPTH, MAX_NODES, Term};
+use cep_base::limits::{MOST_DEPTH, MOST_NODES};
+use cep_term::{Args, Term};
 
 // How many nodes and levels a term or an atom has.
 #[derive(Clone, Copy, Debug)]
@@ -16,12 +17,12 @@ pub(crate) struct Size {
 impl Size {
     // The number by which an atom of this size is not fit, if it is not.
     pub(crate) fn excess(self) -> Option<u64>
-        ensures { MatchOption result ((self.nodes ≤ MAX_NODES) × (self.depth ≤ MAX_DEPTH))
-            (λ number. ((MAX_NODES < self.nodes) × (number ≡ self.nodes)) ⊎ ((self.nodes ≤ MAX_NODES) × (MAX_DEPTH < self.depth) × (number ≡ self.depth))) }
+        ensures { MatchOption result ((self.nodes ≤ MOST_NODES) × (self.depth ≤ MOST_DEPTH))
+            (λ number. ((MOST_NODES < self.nodes) × (number ≡ self.nodes)) ⊎ ((self.nodes ≤ MOST_NODES) × (MOST_DEPTH < self.depth) × (number ≡ self.depth))) }
     {
-        if self.nodes > MAX_NODES {
+        if self.nodes > MOST_NODES {
             Some(self.nodes)
-        } else if self.depth > MAX_DEPTH {
+        } else if self.depth > MOST_DEPTH {
             Some(self.depth)
         } else {
             None
@@ -33,9 +34,9 @@ impl Size {
 #[cycle(size)]
 pub(crate) fn term_size(term: &Term, sizes: &[Size]) -> Size
     requires in_range { IsInRange (length sizes.now) (tree_of term.now) }
-    requires few { (size_under sizes.now (tree_of term.now)).nodes < 2 ^ 64 }
-    requires low { (size_under sizes.now (tree_of term.now)).depth < 2 ^ 64 }
-    ensures { result ≡ size_under sizes.now (tree_of term.now) }
+    requires few { (size_by sizes.now (tree_of term.now)).nodes < 2 ^ 64 }
+    requires low { (size_by sizes.now (tree_of term.now)).depth < 2 ^ 64 }
+    ensures { result ≡ size_by sizes.now (tree_of term.now) }
 {
     match term {
         Term::Var(v) => sizes[*v as usize],

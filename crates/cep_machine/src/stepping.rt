@@ -1,12 +1,12 @@
 ghost use Rattle.std.specs.Prelude.{◌≡◌, ◌<◌, ◌≤◌, List, length, IfOk};
+ghost use Rattle.cep_base.specs.declared.limits.TheConstants.{MOST_TURNS};
 ghost use Rattle.cep_term.specs.Tree.{Tree};
 ghost use Rattle.cep_rule.specs.declared.rule.Rule.{Rule};
-ghost use Rattle.cep_rule.specs.declared.limits.TheConstants.{MOST_TURNS};
 ghost use Rattle.cep_rule.specs.Instances.{left_of};
-ghost use Rattle.cep_rule.specs.Matching.{Rose};
+ghost use Rattle.cep_rule.specs.Matching.{RoseBy};
 ghost use Rattle.cep_machine.specs.Configuration.{IsConfigurationOf};
 ghost use Rattle.cep_machine.specs.Asking.{asked_offers};
-ghost use Rattle.cep_machine.specs.Stepping.{IsChosen, IsStepped, config_after, added_by, RoseIfDone};
+ghost use Rattle.cep_machine.specs.Stepping.{IsAskedAt, IsStepped, config_after, added_by, RoseIfDone};
 
 use crate::changing::Change;
 use crate::config::Config;
@@ -36,10 +36,10 @@ impl<M: Matcher> Config<M> {
         requires within { i < length (asked_offers (M.offers_held self.matcher) self.stage) }
         requires turns { self.turns < MOST_TURNS }
         ensures stepped { (rule : Rule) (values : List Tree)
-            → IsChosen program.now (M.offers_held self.matcher) self.stage i rule values
+            → IsAskedAt program.now (M.offers_held self.matcher) self.stage i rule values
             → IfOk result (IsStepped rule values self) }
         ensures ticked { (rule : Rule) (values : List Tree)
-            → IsChosen program.now (M.offers_held self.matcher) self.stage i rule values
+            → IsAskedAt program.now (M.offers_held self.matcher) self.stage i rule values
             → IfOk result (λ stepped. RoseIfDone (M.may_edit program.now self.state (M.height_held self.matcher) (left_of rule values) (added_by rule values)) stepped steps.old steps.new) }
         ensures of_program { IfOk result (λ stepped. IsConfigurationOf M.is_of program.now (config_after stepped)) }
         ensures same_height { IfOk result (λ stepped. M.height_held (config_after stepped).matcher ≡ M.height_held self.matcher) }

@@ -1,19 +1,19 @@
 // What a step would pass, known before any of its atoms is built.
 ghost use Rattle.std.specs.Prelude.{◌≡◌, ◌*◌, ◌≤◌, length, sum_by, IfOk, MatchOption};
+ghost use Rattle.cep_base.specs.declared.limits.TheConstants.{MOST_NODES, MOST_PREMISES, MOST_RIGHT};
 ghost use Rattle.std.specs.List.{AllByRecursion};
-ghost use Rattle.cep_term.specs.declared.term.TheConstants.{MAX_NODES};
-ghost use Rattle.cep_term.specs.Tree.{nodes_in, IsFit};
+ghost use Rattle.cep_term.specs.Tree.{atom_nodes, IsFit};
 ghost use Rattle.cep_term.specs.Multiset.{nodes_in_all};
-ghost use Rattle.cep_rule.specs.declared.limits.TheConstants.{MOST_PREMISES, MOST_RIGHT};
-ghost use Rattle.cep_rule.specs.Instances.{instances_by};
+ghost use Rattle.cep_rule.specs.Instances.{full_instances};
 ghost use Rattle.cep_machine.specs.Passing.{IsFirstTooLarge};
 ghost use Rattle.cep_machine.specs.Sizes.{IsMeasurable};
-ghost use Rattle.cep_machine.specs.Weighing.{used_of, atoms_of, CanWeigh, IsWeighed};
+ghost use Rattle.cep_machine.specs.Weighing.{used_of, premise_atoms, CanWeigh, IsWeighed};
 
+use cep_base::limits::{MOST_COPIES, MOST_STATE_NODES};
 use crate::laws::bags_are_lawful;
 use crate::measured::Measured;
 use crate::stepped::Which;
-use cep_rule::{AtomList, MOST_COPIES, MOST_STATE_NODES, Premises, Rule, Terms};
+use cep_rule::{AtomList, Premises, Rule, Terms};
 use cep_term::Bag;
 use std::alloc::{AllocError, Global};
 
@@ -47,7 +47,7 @@ pub(crate) fn weigh(
 // Weighs the state after a step whose right atoms are all fit.
 fn weigh_state(rule: &Rule, measured: &Measured, state: &Bag, nodes: u64) -> Weighed
     requires can { CanWeigh rule.now measured.now.values.now state.now }
-    requires fit { AllByRecursion IsFit (instances_by measured.now.values.now rule.now.right) }
+    requires fit { AllByRecursion IsFit (full_instances measured.now.values.now rule.now.right) }
     requires nodes { nodes ≡ nodes_in_all state.now }
     ensures { IsWeighed rule.now measured.now.values.now state.now result }
 {
@@ -66,7 +66,7 @@ fn weigh_state(rule: &Rule, measured: &Measured, state: &Bag, nodes: u64) -> Wei
 // The number by which the first of these atoms whose instance is not fit is too large.
 pub(crate) fn first_too_large(right: &AtomList, measured: &Measured) -> Option<u64>
     requires { AllByRecursion (IsMeasurable measured.now.values.now) right.now }
-    ensures { MatchOption result (AllByRecursion IsFit (instances_by measured.now.values.now right.now)) (IsFirstTooLarge (instances_by measured.now.values.now right.now)) }
+    ensures { MatchOption result (AllByRecursion IsFit (full_instances measured.now.values.now right.now)) (IsFirstTooLarge (full_instances measured.now.values.now right.now)) }
 {
     for i in 0..right.len() {
         if let Some(number) = measured.size(right.get(i)).excess() {
@@ -79,10 +79,10 @@ pub(crate) fn first_too_large(right: &AtomList, measured: &Measured) -> Option<u
 // How many nodes the instances of these atoms have, which are all fit.
 fn nodes_made(right: &AtomList, measured: &Measured) -> u64
     requires measurable { AllByRecursion (IsMeasurable measured.now.values.now) right.now }
-    requires fit { AllByRecursion IsFit (instances_by measured.now.values.now right.now) }
+    requires fit { AllByRecursion IsFit (full_instances measured.now.values.now right.now) }
     requires few { length right.now ≤ MOST_RIGHT }
-    ensures nodes { result ≡ sum_by nodes_in (instances_by measured.now.values.now right.now) }
-    ensures few { result ≤ MOST_RIGHT * MAX_NODES }
+    ensures nodes { result ≡ sum_by atom_nodes (full_instances measured.now.values.now right.now) }
+    ensures few { result ≤ MOST_RIGHT * MOST_NODES }
 {
     let mut nodes = 0;
     for i in 0..right.len() {
@@ -107,10 +107,10 @@ fn used_count(premises: &Premises) -> u64
 
 // How many nodes the instances of the premises have that are not kept, which are all fit.
 fn nodes_used(premises: &Premises, measured: &Measured) -> u64
-    requires measurable { AllByRecursion (IsMeasurable measured.now.values.now) (atoms_of premises.now) }
-    requires fit { AllByRecursion IsFit (instances_by measured.now.values.now (atoms_of premises.now)) }
+    requires measurable { AllByRecursion (IsMeasurable measured.now.values.now) (premise_atoms premises.now) }
+    requires fit { AllByRecursion IsFit (full_instances measured.now.values.now (premise_atoms premises.now)) }
     requires few { length premises.now ≤ MOST_PREMISES }
-    ensures { result ≡ sum_by nodes_in (instances_by measured.now.values.now (used_of premises.now)) }
+    ensures { result ≡ sum_by atom_nodes (full_instances measured.now.values.now (used_of premises.now)) }
 {
     let mut nodes = 0;
     for i in 0..premises.len() {

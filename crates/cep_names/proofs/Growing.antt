@@ -13,7 +13,7 @@ use Rattle.cep_names.specs.declared.entries.Tabled.{Tabled}
 use Rattle.cep_names.specs.declared.reason.Reason.TheVariants.{Twice}
 use Rattle.cep_names.specs.First.{first_of}
 use Rattle.cep_names.specs.Misnamed.{wrong}
-use Rattle.cep_names.specs.Tables.{Tables, table_in, has_in, has_name, under}
+use Rattle.cep_names.specs.Tables.{Tables, table_in, has_in, has_name, listed_under}
 use Rattle.cep_names.specs.Filling.{Declaration, with_entry, declared, all_declared}
 
 -- ---- spaces
@@ -79,7 +79,7 @@ flip a b = cases (bytes_eq a b) (bytes_eq b a) refl refl where
   cases true false e f = sym ((bytes_eq-Decides b a).1 (sym ((bytes_eq-Decides a b).0 e))) ∙ f
   cases false true e f = sym e ∙ (bytes_eq-Decides a b).1 (sym ((bytes_eq-Decides b a).0 f))
 
-pub some_under : (table : List (List ℕ × Shape)) (name : List ℕ) → is_some (under table name) ≡ has_name table name
+pub some_under : (table : List (List ℕ × Shape)) (name : List ℕ) → is_some (listed_under table name) ≡ has_name table name
 some_under table name = is_some-lookup (λ other. bytes_eq name other) table ∙ any_map (λ other. bytes_eq name other) (λ entry. entry.0) table
 
 or_none : {X : Type 0} (one : Option X) → option_or one None ≡ one
@@ -111,22 +111,22 @@ first_shape_some name (d ∷ ds) = rw (← flip name d.name) (cases (bytes_eq na
   cases true e = refl
   cases false e = e
 
-under_push : (table : List (List ℕ × Shape)) (name other : List ℕ) (shape : Shape) → under (table ++ (other, shape) ∷ []) name ≡ option_or (under table name) (if bytes_eq name other then Some shape else None)
+under_push : (table : List (List ℕ × Shape)) (name other : List ℕ) (shape : Shape) → listed_under (table ++ (other, shape) ∷ []) name ≡ option_or (listed_under table name) (if bytes_eq name other then Some shape else None)
 under_push [] name other shape = refl
 under_push (entry ∷ table) name other shape = cases (bytes_eq name entry.0) (under_push table name other shape) where
-  cases : (here : Bool) → under (table ++ (other, shape) ∷ []) name ≡ option_or (under table name) (if bytes_eq name other then Some shape else None)
-      → (if here then Some entry.1 else under (table ++ (other, shape) ∷ []) name) ≡ option_or (if here then Some entry.1 else under table name) (if bytes_eq name other then Some shape else None)
+  cases : (here : Bool) → listed_under (table ++ (other, shape) ∷ []) name ≡ option_or (listed_under table name) (if bytes_eq name other then Some shape else None)
+      → (if here then Some entry.1 else listed_under (table ++ (other, shape) ∷ []) name) ≡ option_or (if here then Some entry.1 else listed_under table name) (if bytes_eq name other then Some shape else None)
   cases true e = refl
   cases false e = e
 
 -- ---- one declaration, and all
 
--- a name that is there keeps what is under it
-kept : (table : List (List ℕ × Shape)) (name other : List ℕ) (shape : Shape) → has_name table other ≡ true → under table name ≡ option_or (under table name) (if bytes_eq name other then Some shape else None)
+-- a name that is there keeps what is listed_under it
+kept : (table : List (List ℕ × Shape)) (name other : List ℕ) (shape : Shape) → has_name table other ≡ true → listed_under table name ≡ option_or (listed_under table name) (if bytes_eq name other then Some shape else None)
 kept table name other shape there = cases (bytes_eq name other) refl where
-  cases : (here : Bool) → bytes_eq name other ≡ here → under table name ≡ option_or (under table name) (if here then Some shape else None)
-  cases false e = sym (or_none (under table name))
-  cases true e = some (under table name) (some_under table name ∙ ap (has_name table) ((bytes_eq-Decides name other).0 e) ∙ there) where
+  cases : (here : Bool) → bytes_eq name other ≡ here → listed_under table name ≡ option_or (listed_under table name) (if here then Some shape else None)
+  cases false e = sym (or_none (listed_under table name))
+  cases true e = some (listed_under table name) (some_under table name ∙ ap (has_name table) ((bytes_eq-Decides name other).0 e) ∙ there) where
     some : (u : Option Shape) → is_some u ≡ true → u ≡ option_or u (Some shape)
     some None e = absurd (false≢true e)
     some (Some x) e = refl
@@ -144,19 +144,19 @@ names_after old d = cases (has_in old.names d.space d.name) where
   cases true = refl
   cases false = refl
 
-under_one : (old : Tabled) (d : Declaration) (s : Space) (name : List ℕ) → under (table_in (declared old d).names s) name ≡ option_or (under (table_in old.names s) name) (first_shape name (in_space s (d ∷ [])))
+under_one : (old : Tabled) (d : Declaration) (s : Space) (name : List ℕ) → listed_under (table_in (declared old d).names s) name ≡ option_or (listed_under (table_in old.names s) name) (first_shape name (in_space s (d ∷ [])))
 under_one old d s name = rw (names_after old d) (cases (has_in old.names d.space d.name) (same d.space s) refl refl) where
   entry : List ℕ × Shape
   entry = (d.name, d.shape)
 
   cases : (there here : Bool) → has_in old.names d.space d.name ≡ there → same d.space s ≡ here
-      → under (table_in (after there old.names d) s) name ≡ option_or (under (table_in old.names s) name) (first_shape name (if here then d ∷ [] else []))
+      → listed_under (table_in (after there old.names d) s) name ≡ option_or (listed_under (table_in old.names s) name) (first_shape name (if here then d ∷ [] else []))
   cases true true x y = kept (table_in old.names s) name d.name d.shape (subst (λ t. has_name (table_in old.names t) d.name ≡ true) (same_is d.space s y) x)
-  cases true false x y = sym (or_none (under (table_in old.names s) name))
+  cases true false x y = sym (or_none (listed_under (table_in old.names s) name))
   cases false true x y =
-      subst (λ t. under (table_in (with_entry old.names d.space (d.name, d.shape)) t) name ≡ option_or (under (table_in old.names t) name) (first_shape name (d ∷ []))) (same_is d.space s y)
+      subst (λ t. listed_under (table_in (with_entry old.names d.space (d.name, d.shape)) t) name ≡ option_or (listed_under (table_in old.names t) name) (first_shape name (d ∷ []))) (same_is d.space s y)
       (rw (put_same old.names d.space (d.name, d.shape)) (under_push (table_in old.names d.space) name d.name d.shape))
-  cases false false x y = rw (put_other old.names d.space s (d.name, d.shape) y) (sym (or_none (under (table_in old.names s) name)))
+  cases false false x y = rw (put_other old.names d.space s (d.name, d.shape) y) (sym (or_none (listed_under (table_in old.names s) name)))
 
 pub in_space-cons : (s : Space) (d : Declaration) (ds : List Declaration) → in_space s (d ∷ []) ++ in_space s ds ≡ in_space s (d ∷ ds)
 in_space-cons s d ds = cases (same d.space s) where
@@ -164,10 +164,10 @@ in_space-cons s d ds = cases (same d.space s) where
   cases true = refl
   cases false = refl
 
-pub under_all : (old : Tabled) (ds : List Declaration) (s : Space) (name : List ℕ) → under (table_in (all_declared old ds).names s) name ≡ option_or (under (table_in old.names s) name) (first_shape name (in_space s ds))
-under_all old [] s name = sym (or_none (under (table_in old.names s) name))
+pub under_all : (old : Tabled) (ds : List Declaration) (s : Space) (name : List ℕ) → listed_under (table_in (all_declared old ds).names s) name ≡ option_or (listed_under (table_in old.names s) name) (first_shape name (in_space s ds))
+under_all old [] s name = sym (or_none (listed_under (table_in old.names s) name))
 under_all old (d ∷ ds) s name =
-    let u = under (table_in old.names s) name in
+    let u = listed_under (table_in old.names s) name in
     under_all (declared old d) ds s name
     ∙ ap (λ (x : Option Shape). option_or x (first_shape name (in_space s ds))) (under_one old d s name)
     ∙ or_or u (first_shape name (in_space s (d ∷ []))) (first_shape name (in_space s ds))
@@ -185,7 +185,7 @@ none_yet Stages = refl
 none_yet Contexts = refl
 none_yet Rules = refl
 
-pub under_declared : (ds : List Declaration) (s : Space) (name : List ℕ) → under (table_in (all_declared nothing ds).names s) name ≡ first_shape name (in_space s ds)
+pub under_declared : (ds : List Declaration) (s : Space) (name : List ℕ) → listed_under (table_in (all_declared nothing ds).names s) name ≡ first_shape name (in_space s ds)
 under_declared ds s name = rw (under_all nothing ds s name, none_yet s) refl
 
 pub has_declared : (ds : List Declaration) (s : Space) (name : List ℕ) → has_in (all_declared nothing ds).names s name ≡ list_any (λ d. bytes_eq d.name name) (in_space s ds)

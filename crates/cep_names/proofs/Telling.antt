@@ -20,7 +20,7 @@ use Rattle.cep_names.specs.Items.{Source, said, sorts_of, preds_of, cons_of, is_
 use Rattle.cep_names.specs.Spaces.{is_in, arity_of, pred_named, con_named}
 use Rattle.cep_names.specs.First.{first_of}
 use Rattle.cep_names.specs.Misnamed.{wrong}
-use Rattle.cep_names.specs.Tables.{Tables, AreTablesOf, AreWhole, table_in, has_in, under, arity_in, is_labelled_in}
+use Rattle.cep_names.specs.Tables.{Tables, AreTablesOf, AreWhole, table_in, has_in, listed_under, arity_in, is_labelled_in}
 use Rattle.cep_names.specs.Filling.{Declaration, with_entry, declared, all_declared, con_unless, others_in}
 use Rattle.cep_names.proofs.Growing.{same, same_is, in_space, any_map, flip, first_shape, after, names_after, put_same, put_other, nothing, none_yet, under_declared, has_declared}
 use Rattle.cep_names.proofs.Declaring.{all, basics, others, rules, sort_declared, pred_declared, con_declared, named_of, basic_sorts, basic_preds, declared_cons, declared_preds, named_all}
@@ -49,10 +49,10 @@ module _ (source : Source) where
       ∙ sym (any_map (λ other. bytes_eq other.name name) (named_of source) (in_space s (all source)))
       ∙ ap (list_any (λ other. bytes_eq other.name name)) (named_all source s)
 
-  pred_shape : (name : List ℕ) → under tables.predicates name ≡ option_map (λ pred. (pred_declared source pred).shape) (pred_named source name)
+  pred_shape : (name : List ℕ) → listed_under tables.predicates name ≡ option_map (λ pred. (pred_declared source pred).shape) (pred_named source name)
   pred_shape name = under_declared (all source) Predicates name ∙ ap (first_shape name) (declared_preds source) ∙ shape_found (pred_declared source) name (preds_of source)
 
-  con_shape : (name : List ℕ) → under tables.constructors name ≡ option_map (λ con. (con_declared source con).shape) (con_named source name)
+  con_shape : (name : List ℕ) → listed_under tables.constructors name ≡ option_map (λ con. (con_declared source con).shape) (con_named source name)
   con_shape name = under_declared (all source) Constructors name ∙ ap (first_shape name) (declared_cons source) ∙ shape_found (con_declared source) name (cons_of source)
 
   arities_told : (s : Space) (name : List ℕ) → arity_in tables s name ≡ arity_of source s name

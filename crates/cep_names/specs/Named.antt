@@ -7,12 +7,12 @@ use Rattle.cep_names.specs.First.{IsFirst}
 use Rattle.cep_names.specs.Misnamed.{Misnamed}
 
 -- Nothing is wrong with the names of a text, and these are their tables.
-pub record AreNames (source : Source) (tables : Tables) : Type 0 where
+pub record AreNamedRight (source : Source) (tables : Tables) : Type 0 where
   pub sound : (fault : Fault) → ¬ Misnamed source fault
   pub tables_of : AreTablesOf source tables
   pub whole : AreWhole source tables
 
 -- The tables of a text's names, or the first fault of them.
 abbrev pub IsNamed : Source → Result Tables Fault → Type 0
-IsNamed source (Ok tables) = AreNames source tables
+IsNamed source (Ok tables) = AreNamedRight source tables
 IsNamed source (Err fault) = IsFirst (Misnamed source) fault

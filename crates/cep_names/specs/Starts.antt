@@ -5,7 +5,7 @@ use Rattle.cep_parse.specs.declared.raw.RawNode.{RawNode}
 use Rattle.cep_parse.specs.declared.raw.RawAtom.{RawAtom}
 use Rattle.cep_parse.specs.declared.raw.RawStart.{RawStart}
 use Rattle.cep_parse.specs.declared.raw.RawStart.TheVariants as start
-use Rattle.cep_term.specs.declared.term.TheConstants.{MAX_NODES, MAX_DEPTH}
+use Rattle.cep_base.specs.declared.limits.TheConstants.{MOST_DEPTH, MOST_NODES}
 use Rattle.cep_names.specs.declared.space.Role.TheVariants as role
 use Rattle.cep_names.specs.Items.{Source, ContextItem, said}
 use Rattle.cep_names.specs.Spaces.{context_named}
@@ -47,5 +47,5 @@ depth_written atom = max 1 (greatest (levels (repeat atom.args (2 ∷ [])) atom.
 
 -- An atom is small enough to be kept in a state.
 pub record IsFitWritten (atom : RawAtom) : Type 0 where
-  pub nodes : nodes_written atom ≤ MAX_NODES
-  pub depth : depth_written atom ≤ MAX_DEPTH
+  pub nodes : nodes_written atom ≤ MOST_NODES
+  pub depth : depth_written atom ≤ MOST_DEPTH

@@ -17,12 +17,12 @@ abbrev pub has_name : List (List ℕ × Shape) → List ℕ → Bool
 has_name table name = list_any (λ entry. bytes_eq name entry.0) table
 
 -- the number of the name, from 0
-abbrev pub number_of : List (List ℕ × Shape) → List ℕ → Option ℕ
-number_of table name = position (λ entry. bytes_eq name entry.0) table
+abbrev pub number_listed : List (List ℕ × Shape) → List ℕ → Option ℕ
+number_listed table name = position (λ entry. bytes_eq name entry.0) table
 
--- what stands under the name
-abbrev pub under : List (List ℕ × Shape) → List ℕ → Option Shape
-under table name = lookup (λ other. bytes_eq name other) table
+-- what stands listed_under the name
+abbrev pub listed_under : List (List ℕ × Shape) → List ℕ → Option Shape
+listed_under table name = lookup (λ other. bytes_eq name other) table
 
 -- A table for each space: each name once, with how many arguments it takes and whether clauses define it.
 pub record Tables : Type 0 where
@@ -48,17 +48,17 @@ has_in tables space name = has_name (table_in tables space) name
 
 -- the number of the name in its space, from 0
 abbrev pub number_in : Tables → Space → List ℕ → Option ℕ
-number_in tables space name = number_of (table_in tables space) name
+number_in tables space name = number_listed (table_in tables space) name
 
 -- how many arguments the constructor or the predicate of this name takes
 abbrev pub arity_in : Tables → Space → List ℕ → Option ℕ
-arity_in tables space.Constructors name = option_map (λ shape. shape.args) (under tables.constructors name)
-arity_in tables space.Predicates name = option_map (λ shape. shape.args) (under tables.predicates name)
+arity_in tables space.Constructors name = option_map (λ shape. shape.args) (listed_under tables.constructors name)
+arity_in tables space.Predicates name = option_map (λ shape. shape.args) (listed_under tables.predicates name)
 arity_in tables _ name = None
 
 -- whether clauses define the predicate of this name
 abbrev pub back_in : Tables → List ℕ → Option Bool
-back_in tables name = option_map (λ shape. shape.back) (under tables.predicates name)
+back_in tables name = option_map (λ shape. shape.back) (listed_under tables.predicates name)
 
 -- whether `x : y.` is a clause with a label, as the types and the predicates say
 abbrev pub is_labelled_in : Tables → List ℕ → List Span → Span → Bool

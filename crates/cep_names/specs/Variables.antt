@@ -32,12 +32,12 @@ occurrences_from source blanks (node ∷ nodes) =
     occurrence_at source blanks node.at node.kind ++ occurrences_from source (blanks_behind blanks node.kind) nodes
 
 -- the nodes of atoms, one after another
-abbrev pub nodes_of : List RawAtom → List RawNode
-nodes_of atoms = flat_map (λ atom. atom.nodes) atoms
+abbrev pub raw_nodes : List RawAtom → List RawNode
+raw_nodes atoms = flat_map (λ atom. atom.nodes) atoms
 
 -- the occurrences of the variables of atoms in written order
 abbrev pub occurrences_of : Source → List RawAtom → List Occurrence
-occurrences_of source atoms = occurrences_from source 0 (nodes_of atoms)
+occurrences_of source atoms = occurrences_from source 0 (raw_nodes atoms)
 
 -- the first occurrence of each variable, but for those that were seen before
 abbrev pub firsts_beside : List (List ℕ) → List Occurrence → List Occurrence

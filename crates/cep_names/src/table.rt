@@ -1,5 +1,5 @@
 ghost use Rattle.std.specs.Prelude.{◌≡◌, [], ◌∷◌, ◌++◌, if◌then◌else◌, not, is_some, IfOk, OnErr};
-ghost use Rattle.cep_names.specs.Tables.{has_name, number_of, under};
+ghost use Rattle.cep_names.specs.Tables.{has_name, number_listed, listed_under};
 
 use indexmap::IndexMap;
 use std::alloc::{AllocError, Global};
@@ -61,14 +61,14 @@ impl Table {
 
     /// The number of a name, from 0.
     pub fn number(&self, name: &[u8]) -> Option<usize>
-        ensures { result ≡ number_of self.now name.now }
+        ensures { result ≡ number_listed self.now name.now }
     {
         self.entries.get_index_of(name)
     }
 
     /// The shape of a name.
     pub fn shape(&self, name: &[u8]) -> Option<Shape>
-        ensures { result ≡ under self.now name.now }
+        ensures { result ≡ listed_under self.now name.now }
     {
         self.entries.get(name).copied()
     }

@@ -27,10 +27,10 @@ use Rattle.cep_parse.specs.Grammar.Args.{no_args, more_args}
 use Rattle.cep_parse.specs.Grammar.Atom.{atom}
 use Rattle.cep_parse.specs.Grammar.Elem.{atom as elem_atom, stage as elem_stage}
 use Rattle.cep_parse.specs.Grammar.Sides.{sides}
-use Rattle.cep_parse.specs.Grammar.Label.{none as no_label, named as a_label}
+use Rattle.cep_parse.specs.Grammar.Label.{none as no_label, names_begun as a_label}
 use Rattle.cep_parse.specs.Grammar.Limit.{blank as blank_limit, number as number_limit}
-use Rattle.cep_parse.specs.Grammar.Item.{sort, pred, back as back_pred, colon, fact, labelled as labelled_item, clause, outer, unnamed, stage as stage_item, context, interactive, trace_named, trace_listed}
-use Rattle.cep_parse.specs.Machine.{atom_of_names, begin, behind_blank, context_equals, context_named, context_word, head_alone, interactive_word, labelled, named, stage_equals, stage_named, stage_word, step, step_declared, step_names, step_plain, trace_limit, trace_stage, trace_word}
+use Rattle.cep_parse.specs.Grammar.Item.{sort, pred, back as back_pred, colon, bare_clause, labelled as labelled_item, clause, outer, unnamed, stage as stage_item, context, interactive, trace_named, trace_listed}
+use Rattle.cep_parse.specs.Machine.{atom_of_names, begin, behind_blank, context_equals, context_begun, context_word, head_alone, interactive_word, labelled, names_begun, stage_equals, stage_begun, stage_word, step, step_declared, step_names, step_plain, trace_limit, trace_stage, trace_word}
 use Rattle.cep_parse.proofs.Residual.{DotRest, LeftRest, HeadRest, InAtomRest, PlainRest, Rest, NextRest}
 use Rattle.cep_parse.proofs.Residual.HeadRest.{alone, goals, side}
 use Rattle.cep_parse.proofs.BackRules.{before_elem_back, behind_left_back, elem_back_left, rule_back, whole_atom_of}
@@ -107,9 +107,9 @@ names_item name args s rest i up =
     let h : Atom (at word.Name name ∷ (names args ++ up.front)) up.atom =
     subst (λ b. Atom (at word.Name name ∷ (names args ++ up.front)) b) (sym up.read.is) (atom name _ _ _ (names_args args up.front up.read.count up.read.more up.read.read)) in
     subst (λ r. Item (at word.Name name ∷ r) i) (append_assoc (names args) up.front up.behind ∙ ap (λ r. names args ++ r) (sym up.cut))
-    (head_item [] None no_label name.from (at word.Name name ∷ (names args ++ up.front)) up.atom h up.behind i refl (λ dot. fact dot (at word.Name name ∷ (names args ++ up.front)) up.atom h) up.after)
+    (head_item [] None no_label name.from (at word.Name name ∷ (names args ++ up.front)) up.atom h up.behind i refl (λ dot. bare_clause dot (at word.Name name ∷ (names args ++ up.front)) up.atom h) up.after)
 
-named_back : (name : Span) (args : List Span) (x : Span) (rest : List Symbol) (i : RawItem) → NextRest (named name args) rest i → Item (at word.Name name ∷ (names args ++ at word.Colon x ∷ rest)) i
+named_back : (name : Span) (args : List Span) (x : Span) (rest : List Symbol) (i : RawItem) → NextRest (names_begun name args) rest i → Item (at word.Name name ∷ (names args ++ at word.Colon x ∷ rest)) i
 named_back name [] x rest i h = h x
 named_back name (a ∷ args) x rest i h = h x
 
@@ -151,7 +151,7 @@ stage_word_back place _ x rest i h = absurd h
 stage_outer : (place : ℕ) (a : Span) (w : Word) (x : Span) (rest : List Symbol) (i : RawItem) → LeftRest Stars None place None (elem.Stage a ∷ []) (at w x ∷ rest) i → (s : Span) → s.from ≡ place → Item (at word.Stage s ∷ at word.Name a ∷ at w x ∷ rest) i
 stage_outer place a w x rest i up s is = outer_item [] None no_label place (at word.Stage s ∷ at word.Name a ∷ at w x ∷ rest) i (sym is) (elem_back_left None (at word.Stage s ∷ at word.Name a ∷ []) (elem.Stage a ∷ []) (elem_stage false s a) place None [] (at w x ∷ rest) i up)
 
-stage_named_back : (place : ℕ) (a : Span) (w : Word) (x : Span) (rest : List Symbol) (i : RawItem) → NextRest (stage_named place a w) rest i → (s : Span) → s.from ≡ place → Item (at word.Stage s ∷ at word.Name a ∷ at w x ∷ rest) i
+stage_named_back : (place : ℕ) (a : Span) (w : Word) (x : Span) (rest : List Symbol) (i : RawItem) → NextRest (stage_begun place a w) rest i → (s : Span) → s.from ≡ place → Item (at word.Stage s ∷ at word.Name a ∷ at w x ∷ rest) i
 stage_named_back place a word.Equals x rest i h s is = h s x
 stage_named_back place a w x rest i h s is = stage_outer place a w x rest i (behind_left_back None place None (elem.Stage a ∷ []) w x rest i h) s is
 
@@ -166,7 +166,7 @@ context_word_back : (w : Word) (x : Span) (rest : List Symbol) (i : RawItem) →
 context_word_back word.Name x rest i h = h
 context_word_back _ x rest i h = absurd h
 
-context_named_back : (a : Span) (w : Word) (x : Span) (rest : List Symbol) (i : RawItem) → NextRest (context_named a w) rest i → (c : Span) → Item (at word.Context c ∷ at word.Name a ∷ at w x ∷ rest) i
+context_named_back : (a : Span) (w : Word) (x : Span) (rest : List Symbol) (i : RawItem) → NextRest (context_begun a w) rest i → (c : Span) → Item (at word.Context c ∷ at word.Name a ∷ at w x ∷ rest) i
 context_named_back a word.Equals x rest i h c = h c x
 context_named_back a _ x rest i h c = absurd h
 

@@ -21,7 +21,7 @@ use Rattle.cep_parse.specs.Grammar.Atom.{atom}
 use Rattle.cep_parse.specs.Grammar.Elem.{unit as elem_unit, atom as elem_atom, kept, qui, stage as elem_stage}
 use Rattle.cep_parse.specs.Grammar.Stars.{none as no_stars, more as more_stars}
 use Rattle.cep_parse.specs.Grammar.Elems.{elems}
-use Rattle.cep_parse.specs.Machine.{atom_of, before_elem, behind_dollar, behind_in, behind_left, behind_open, behind_right, behind_stage, rule_ended, step_rule}
+use Rattle.cep_parse.specs.Machine.{atom_begun, before_elem, behind_dollar, behind_in, behind_left, behind_open, behind_right, behind_stage, rule_ended, step_rule}
 use Rattle.cep_parse.proofs.Residual.{AtomRest, RuleEnd, left_of, right_of, LeftRest, RightRest, SideRest, KeptRest, StageRest, RuleRest, InAtomRest, NextRest}
 
 -- the atom of a name and what completes it
@@ -59,7 +59,7 @@ elem_back_right stage first fs h place label left right behind i up = record {
 
 -- an atom before the elements behind it
 atom_back : (right : Option (List RawElem)) (stage : Option StageSoFar) (place : ℕ) (label : Option Span) (left : List RawElem) (x : Span) (rest : List Symbol) (i : RawItem)
-    → InAtomRest (atom_of x) (use_.Elem (record { stage = stage; at = place; label = label; left = left; right = right }) false) rest i → SideRest Elems right stage place label left (at word.Name x ∷ rest) i
+    → InAtomRest (atom_begun x) (use_.Elem (record { stage = stage; at = place; label = label; left = left; right = right }) false) rest i → SideRest Elems right stage place label left (at word.Name x ∷ rest) i
 atom_back None stage place label left x rest i up =
     subst (λ r. LeftRest Elems stage place label left (at word.Name x ∷ r) i) (sym up.cut)
     (elem_back_left stage (at word.Name x ∷ up.front) (elem.Atom false up.atom ∷ []) (elem_atom (left_of stage) _ up.atom (whole_atom_of x up.front up.atom up.read)) place label left up.behind i up.after)

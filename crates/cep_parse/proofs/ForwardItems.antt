@@ -35,8 +35,8 @@ use Rattle.cep_parse.specs.Grammar.Bag.{empty as empty_bag, some as some_bag}
 use Rattle.cep_parse.specs.Grammar.MayDot.{none as no_dot, dot as a_dot}
 use Rattle.cep_parse.specs.Grammar.Label.{none as no_label, named as a_label}
 use Rattle.cep_parse.specs.Grammar.Limit.{blank as blank_limit, number as number_limit}
-use Rattle.cep_parse.specs.Grammar.Item.{sort, pred, back as back_pred, colon, fact, labelled, clause, outer, unnamed, stage as stage_item, context, interactive, trace_named, trace_listed}
-use Rattle.cep_parse.specs.Machine.{atom_of, bag_ended}
+use Rattle.cep_parse.specs.Grammar.Item.{sort, pred, back as back_pred, colon, bare_clause, labelled, clause, outer, unnamed, stage as stage_item, context, interactive, trace_named, trace_listed}
+use Rattle.cep_parse.specs.Machine.{atom_begun, bag_ended}
 use Rattle.cep_parse.proofs.Runs.{moved, run, run_from, atom_at, state_behind}
 use Rattle.cep_parse.proofs.ForwardAtoms.{names_run, StandsBehind}
 use Rattle.cep_parse.proofs.ForwardAtoms.StandsBehind.{dot as stands_dot, back as stands_back, star as stands_star, lolli as stands_lolli}
@@ -51,13 +51,13 @@ goals_run : (symbols : List Symbol) (goals : List RawAtom) → Goals symbols goa
 goals_run symbols goals no_goals items label head so_far name count nodes x rest = refl
 goals_run symbols goals (more_goals mark a first others goal goals' one (atom b inner count' nodes' args) h) items label head so_far name count nodes x rest =
     let so_far' = so_far ++ record { name = name; args = count; nodes = nodes } ∷ [] in
-    ap (run items (state.Atom (atom_of b) (use_.Goal (record { label = label; head = head; goals = so_far' })))) (append_assoc inner others (at word.Dot x ∷ rest))
+    ap (run items (state.Atom (atom_begun b) (use_.Goal (record { label = label; head = head; goals = so_far' })))) (append_assoc inner others (at word.Dot x ∷ rest))
     ∙ atom_runs inner count' nodes' args items b (use_.Goal (record { label = label; head = head; goals = so_far' })) (others ++ at word.Dot x ∷ rest)
     ∙ goals_run others goals' h items label head so_far' b count' nodes' x rest
     ∙ ap (λ gs. run (items ++ item.Clause label head gs ∷ []) (state.Plain plain.Top) rest) (append_assoc so_far (record { name = name; args = count; nodes = nodes } ∷ []) (record { name = b; args = count'; nodes = nodes' } ∷ goals'))
 goals_run symbols goals (more_goals mark a first others goal goals' other (atom b inner count' nodes' args) h) items label head so_far name count nodes x rest =
     let so_far' = so_far ++ record { name = name; args = count; nodes = nodes } ∷ [] in
-    ap (run items (state.Atom (atom_of b) (use_.Goal (record { label = label; head = head; goals = so_far' })))) (append_assoc inner others (at word.Dot x ∷ rest))
+    ap (run items (state.Atom (atom_begun b) (use_.Goal (record { label = label; head = head; goals = so_far' })))) (append_assoc inner others (at word.Dot x ∷ rest))
     ∙ atom_runs inner count' nodes' args items b (use_.Goal (record { label = label; head = head; goals = so_far' })) (others ++ at word.Dot x ∷ rest)
     ∙ goals_run others goals' h items label head so_far' b count' nodes' x rest
     ∙ ap (λ gs. run (items ++ item.Clause label head gs ∷ []) (state.Plain plain.Top) rest) (append_assoc so_far (record { name = name; args = count; nodes = nodes } ∷ []) (record { name = b; args = count'; nodes = nodes' } ∷ goals'))
@@ -282,16 +282,16 @@ item_runs symbols i (sort a colon_ type_ x) items rest = dotted _ _ items rest r
 item_runs symbols i (pred a colon_ p x args) items rest = dotted _ _ items rest (ap (run items (state.Names a [])) (append_assoc (names args) _ rest) ∙ decl_names_run args items a [] _ ∙ pred_runs a colon_ p x args items rest)
 item_runs symbols i (back_pred a colon_ p x args) items rest = dotted _ _ items rest (ap (run items (state.Names a [])) (append_assoc (names args) _ rest) ∙ decl_names_run args items a [] _ ∙ bwd_runs a colon_ p x args items rest)
 item_runs symbols i (colon a colon_ b x args) items rest = dotted _ _ items rest (ap (run items (state.Names a [])) (append_assoc (names args) _ rest) ∙ decl_names_run args items a [] _ ∙ colon_runs a colon_ b x args items rest)
-item_runs symbols i (fact x inner head (atom name args count nodes h)) items rest =
+item_runs symbols i (bare_clause x inner head (atom name args count nodes h)) items rest =
     dotted _ _ items rest (ap (run items (state.Names name [])) (append_assoc args (at word.Dot x ∷ []) rest) ∙ head_runs args count nodes h items name word.Dot x rest stands_dot)
 item_runs symbols i (labelled a colon_ x inner head (atom name args count nodes h) some) items rest =
-    dotted _ _ items rest (ap (run items (state.Atom (atom_of name) (use_.First a.from (Some a)))) (append_assoc args (at word.Dot x ∷ []) rest)
+    dotted _ _ items rest (ap (run items (state.Atom (atom_begun name) (use_.First a.from (Some a)))) (append_assoc args (at word.Dot x ∷ []) rest)
     ∙ atom_runs args count nodes h items name (use_.First a.from (Some a)) (at word.Dot x ∷ rest) ∙ labelled_dot items a name count nodes x rest some)
 item_runs symbols i (clause arrow x before inner first' others label head goal goals no_label (atom name args count nodes h) g k) items rest =
     dotted _ _ items rest (ap (run items (state.Names name [])) (regroup_clause args (at word.Back arrow) first' others (at word.Dot x) rest)
     ∙ head_runs args count nodes h items name word.Back arrow _ stands_back ∙ clause_end arrow x first' others None (record { name = name; args = count; nodes = nodes }) goal goals g k items rest)
 item_runs symbols i (clause arrow x before inner first' others label head goal goals (a_label a colon_) (atom name args count nodes h) g k) items rest =
-    dotted _ _ items rest (ap (run items (state.Atom (atom_of name) (use_.First a.from (Some a)))) (regroup_clause args (at word.Back arrow) first' others (at word.Dot x) rest)
+    dotted _ _ items rest (ap (run items (state.Atom (atom_begun name) (use_.First a.from (Some a)))) (regroup_clause args (at word.Back arrow) first' others (at word.Dot x) rest)
     ∙ atom_runs args count nodes h items name (use_.First a.from (Some a)) _ ∙ clause_end arrow x first' others (Some a) (record { name = name; args = count; nodes = nodes }) goal goals g k items rest)
 item_runs symbols i (outer before inner label left right no_label (sides outer' arrow x before' after left' right' (elems side first' others fs gs one' stars) g)) items rest =
     let next = left_end side others gs stars arrow (after ++ at word.Dot x ∷ rest) in

@@ -25,14 +25,14 @@ use Rattle.cep_parse.specs.Grammar.Stars.{none as no_stars, more as more_stars}
 use Rattle.cep_parse.specs.Grammar.Elems.{elems}
 use Rattle.cep_parse.specs.Grammar.Sides.{sides}
 use Rattle.cep_parse.specs.Grammar.Rules.{none as no_rules, more as more_rules}
-use Rattle.cep_parse.specs.Machine.{atom_of, rule_ended}
+use Rattle.cep_parse.specs.Machine.{atom_begun, rule_ended}
 use Rattle.cep_parse.proofs.Runs.{moved, run, run_from, atom_at}
 use Rattle.cep_parse.proofs.Runs.TakesArgs.{flat}
 use Rattle.cep_parse.proofs.ForwardAtoms.{args_run}
 
 -- the arguments of an atom whose name was read
 pub atom_runs : (symbols : List Symbol) (count : ℕ) (nodes : List RawNode) → Args symbols count nodes → (items : List RawItem) (name : Span) (used : Use) (rest : List Symbol)
-    → run items (state.Atom (atom_of name) used) (symbols ++ rest) ≡ run items (atom_at name count nodes [] used) rest
+    → run items (state.Atom (atom_begun name) used) (symbols ++ rest) ≡ run items (atom_at name count nodes [] used) rest
 atom_runs symbols count nodes args items name used rest =
     args_run symbols count nodes args items name 0 [] [] used rest flat ∙ (let e : 0 + count ≡ count = omega arith in λ i. run items (atom_at name (e i) nodes [] used) rest)
 

@@ -7,7 +7,7 @@ use Rattle.cep_parse.specs.declared.fault.ParseFault.{ParseFault}
 use Rattle.cep_parse.specs.declared.fault.ParseFault.TheVariants.{Unexpected, Nested}
 use Rattle.cep_parse.specs.declared.raw.RawItem.{RawItem}
 use Rattle.cep_parse.specs.declared.symbol.Symbol.{Symbol}
-use Rattle.cep_parse.specs.declared.parser.TheConstants.{MOST_OPEN}
+use Rattle.cep_base.specs.declared.limits.TheConstants.{MOST_OPEN}
 use Rattle.cep_parse.specs.Symbols.{symbols_of}
 use Rattle.cep_parse.specs.Grammar.{File}
 use Rattle.cep_parse.specs.Files.{Begins, open_from, IsShallow, IsUnexpected, IsNested, IsParsed}

@@ -7,7 +7,7 @@ use Rattle.cep_parse.specs.declared.raw.RawItem.{RawItem}
 use Rattle.cep_parse.specs.declared.symbol.Symbol.{Symbol}
 use Rattle.cep_parse.specs.declared.symbol.Word.{Word}
 use Rattle.cep_parse.specs.declared.symbol.Word.TheVariants as word
-use Rattle.cep_parse.specs.declared.parser.TheConstants.{MOST_OPEN}
+use Rattle.cep_base.specs.declared.limits.TheConstants.{MOST_OPEN}
 use Rattle.cep_parse.specs.declared.state.Next.{Next}
 use Rattle.cep_parse.specs.declared.state.Next.TheVariants.{Go, Item as ItemEnds, Stop}
 use Rattle.cep_parse.specs.declared.state.Plain.TheVariants as plain

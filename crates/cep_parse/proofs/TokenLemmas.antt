@@ -3,7 +3,7 @@ use Rattle.std.proofs.Common.{◌≡◌, ℕ, zero, suc, ◌+◌, ◌<◌, ◌�
 use Rattle.std.proofs.lemmas.List.{append-nil, drop_more, length-map, take_all, take_more}
 use Rattle.cep_lex.specs.declared.token.Token.{Token}
 use Rattle.cep_lex.specs.Cuts.{AreTokens, Cuts, StartsWith}
-use Rattle.cep_parse.specs.declared.parser.TheConstants.{MOST_OPEN}
+use Rattle.cep_base.specs.declared.limits.TheConstants.{MOST_OPEN}
 use Rattle.cep_parse.specs.declared.raw.RawItem.{RawItem}
 use Rattle.cep_parse.specs.declared.state.State.{State}
 use Rattle.cep_parse.specs.declared.symbol.Symbol.{Symbol}

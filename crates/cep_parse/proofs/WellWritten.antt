@@ -18,7 +18,7 @@ use Rattle.cep_parse.specs.declared.symbol.Word.TheVariants as word
 use Rattle.cep_parse.specs.Symbols.{symbol_of, symbols_of, word_of, slice_of, directive_word}
 use Rattle.cep_parse.specs.Grammar as grammar
 use Rattle.cep_parse.specs.Grammar.{Side, at, names}
-use Rattle.cep_parse.specs.Written.{IsTokenAt, IsNameAt, Fill, IsNodeOf, IsAtomOf, IsElemOf, IsLabelOf, IsRuleOf, IsItemOf}
+use Rattle.cep_parse.specs.Written.{IsTokenAt, IsNameAt, Fill, IsWrittenAt, IsAtomOf, IsElemOf, IsLabelOf, IsRuleOf, IsItemOf}
 
 -- what holds of two lists holds of both, one behind the other
 both_all : {A : Type 0} (P : A → Type 0) (xs ys : List A) → AllByRecursion P xs → AllByRecursion P ys → AllByRecursion P (xs ++ ys)
@@ -60,7 +60,7 @@ module _ (tokens : List Token) where
   back one other said = record { all = rest_all _ one other said.all; few = let f = said.few in let e = length-append one other in omega arith }
 
   abbrev AreNodes : List RawNode → Type 0
-  AreNodes nodes = AllByRecursion (λ node. IsNodeOf tokens node.kind node.at) nodes
+  AreNodes nodes = AllByRecursion (λ node. IsWrittenAt tokens node.kind node.at) nodes
 
   abbrev AreAtoms : List RawAtom → Type 0
   AreAtoms atoms = AllByRecursion (IsAtomOf tokens) atoms
@@ -212,7 +212,7 @@ module _ (tokens : List Token) where
   item_well _ _ (grammar.Item.pred a colon pred_ dot args) said = (said.all.0, (names_well args _ (next _ _ said)).0)
   item_well _ _ (grammar.Item.back a colon bwd dot args) said = (said.all.0, (names_well args _ (next _ _ said)).0)
   item_well _ _ (grammar.Item.colon a colon_ b dot args) said = let spans = names_well args _ (next _ _ said) in (said.all.0, spans.0, (next _ _ spans.1).all.0)
-  item_well _ _ (grammar.Item.fact dot symbols head is) said = (atom_well symbols head is (front symbols _ said), tt)
+  item_well _ _ (grammar.Item.bare_clause dot symbols head is) said = (atom_well symbols head is (front symbols _ said), tt)
   item_well _ _ (grammar.Item.labelled a colon_ dot symbols head is some) said = (atom_well symbols head is (front symbols _ (next _ _ (next _ _ said))), tt)
   item_well _ _ (grammar.Item.clause arrow dot before symbols first rest label head goal goals labelled is is' further) said =
       let behind = (label_well before _ label labelled said).1 in
@@ -298,7 +298,7 @@ item_some _ _ (grammar.Item.sort a colon type_ dot) = omega arith
 item_some _ _ (grammar.Item.pred a colon pred_ dot args) = omega arith
 item_some _ _ (grammar.Item.back a colon bwd dot args) = omega arith
 item_some _ _ (grammar.Item.colon a colon_ b dot args) = omega arith
-item_some _ _ (grammar.Item.fact dot symbols head is) = let e = length-append symbols (at word.Dot dot ∷ []) in omega arith
+item_some _ _ (grammar.Item.bare_clause dot symbols head is) = let e = length-append symbols (at word.Dot dot ∷ []) in omega arith
 item_some _ _ (grammar.Item.labelled a colon_ dot symbols head is some) = omega arith
 item_some _ _ (grammar.Item.clause arrow dot before symbols first rest label head goal goals labelled is is' further) =
     let e = length-append before (symbols ++ at word.Back arrow ∷ (first ++ (rest ++ at word.Dot dot ∷ []))) in

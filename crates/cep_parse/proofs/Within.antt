@@ -29,7 +29,7 @@ use Rattle.cep_parse.specs.declared.state.Use.TheVariants as use_
 use Rattle.cep_parse.specs.declared.state.Grown.{Grown}
 use Rattle.cep_parse.specs.declared.state.Grown.TheVariants.{Going, Ended, Broken}
 use Rattle.cep_parse.specs.declared.symbol.Word.{Word}
-use Rattle.cep_parse.specs.Machine.{atom_of_names, bag_behind, bag_ended, bag_first, bag_next, bag_unit, before_elem, before_goal, begin, behind_atom, behind_blank, behind_dollar, behind_goal, behind_head, behind_in, behind_left, behind_open, behind_right, behind_stage, context_equals, context_named, context_word, grow_in, grown, interactive_word, is_within, labelled, named, rule_ended, rule_from, rule_named, stage_equals, stage_named, stage_word, step, step_atom, step_bag, step_declared, step_ending, step_names, step_rule, step_rules, trace_limit, trace_stage, trace_word, with_elem, with_goal}
+use Rattle.cep_parse.specs.Machine.{atom_of_names, bag_behind, bag_ended, bag_first, bag_next, bag_unit, before_elem, before_goal, begin, behind_atom, behind_blank, behind_dollar, behind_goal, behind_head, behind_in, behind_left, behind_open, behind_right, behind_stage, context_equals, context_begun, context_word, grow_in, grown, interactive_word, is_within, labelled, names_begun, rule_ended, rule_from, rule_named, stage_equals, stage_begun, stage_word, step, step_atom, step_bag, step_declared, step_ending, step_names, step_rule, step_rules, trace_limit, trace_stage, trace_word, with_elem, with_goal}
 
 -- whether a step leads to where items begin
 abbrev pub is_between : Next → Bool
@@ -132,7 +132,7 @@ grown_within Broken used w = refl
 atom_within : (a : AtomSoFar) (used : Use) (w : Word) (x : Span) → is_between (step_atom a used w x) ≡ false
 atom_within a used w x = grown_within (grow_in a.levels a w x) used w
 
-named_within : (name : Span) (args : List Span) → is_between (named name args) ≡ false
+named_within : (name : Span) (args : List Span) → is_between (names_begun name args) ≡ false
 named_within name [] = refl
 named_within name (a ∷ args) = refl
 
@@ -169,7 +169,7 @@ stage_word_within : (place : ℕ) (w : Word) (x : Span) → is_between (stage_wo
 stage_word_within place word.Name x = refl
 stage_word_within place _ x = refl
 
-stage_named_within : (place : ℕ) (a : Span) (w : Word) → is_between (stage_named place a w) ≡ false
+stage_named_within : (place : ℕ) (a : Span) (w : Word) → is_between (stage_begun place a w) ≡ false
 stage_named_within place a word.Equals = refl
 stage_named_within place a w = behind_left_within (rule_from None place None (elem.Stage a ∷ [])) w
 
@@ -181,7 +181,7 @@ context_word_within : (w : Word) (x : Span) → is_between (context_word w x) �
 context_word_within word.Name x = refl
 context_word_within _ x = refl
 
-context_named_within : (a : Span) (w : Word) → is_between (context_named a w) ≡ false
+context_named_within : (a : Span) (w : Word) → is_between (context_begun a w) ≡ false
 context_named_within a word.Equals = refl
 context_named_within a _ = refl
 

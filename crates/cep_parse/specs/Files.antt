@@ -7,7 +7,7 @@ use Rattle.cep_parse.specs.declared.raw.RawItem.{RawItem}
 use Rattle.cep_parse.specs.declared.symbol.Symbol.{Symbol}
 use Rattle.cep_parse.specs.declared.symbol.Word.{Word}
 use Rattle.cep_parse.specs.declared.symbol.Word.TheVariants as word
-use Rattle.cep_parse.specs.declared.parser.TheConstants.{MOST_OPEN}
+use Rattle.cep_base.specs.declared.limits.TheConstants.{MOST_OPEN}
 use Rattle.cep_parse.specs.Symbols.{symbols_of}
 use Rattle.cep_parse.specs.Grammar.{File}
 

@@ -142,7 +142,7 @@ pub data Item : List Symbol → RawItem → Type 0 where
   back : (a colon bwd dot : Span) (args : List Span) → Item (at word.Name a ∷ (names args ++ at word.Colon colon ∷ at word.Bwd bwd ∷ at word.Dot dot ∷ [])) (item.Pred a args true)
   colon : (a colon_ b dot : Span) (args : List Span) → Item (at word.Name a ∷ (names args ++ at word.Colon colon_ ∷ at word.Name b ∷ at word.Dot dot ∷ [])) (item.Colon a args b)
   -- a clause without goals and without a label
-  fact : (dot : Span) (symbols : List Symbol) (head : RawAtom) → Atom symbols head → Item (symbols ++ at word.Dot dot ∷ []) (item.Clause None head [])
+  bare_clause : (dot : Span) (symbols : List Symbol) (head : RawAtom) → Atom symbols head → Item (symbols ++ at word.Dot dot ∷ []) (item.Clause None head [])
   -- one with a label: its head has arguments
   labelled : (a colon_ dot : Span) (symbols : List Symbol) (head : RawAtom) → Atom symbols head → 0 < head.args
       → Item (at word.Name a ∷ at word.Colon colon_ ∷ (symbols ++ at word.Dot dot ∷ [])) (item.Clause (Some a) head [])

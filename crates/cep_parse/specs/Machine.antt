@@ -40,8 +40,8 @@ use Rattle.cep_parse.specs.declared.state.Use.TheVariants as use_
 use Rattle.cep_parse.specs.Grammar.{node}
 
 -- a name and nothing behind it
-abbrev pub atom_of : Span → AtomSoFar
-atom_of name = record { name = name; args = 0; nodes = []; levels = [] }
+abbrev pub atom_begun : Span → AtomSoFar
+atom_begun name = record { name = name; args = 0; nodes = []; levels = [] }
 
 -- a name and names behind it
 abbrev pub atom_of_names : Span → List Span → AtomSoFar
@@ -130,7 +130,7 @@ plainly p = Go (state.Plain p)
 
 -- an atom is read for this
 abbrev pub atom_for : Span → Use → Next
-atom_for name used = Go (state.Atom (atom_of name) used)
+atom_for name used = Go (state.Atom (atom_begun name) used)
 
 -- a rule of which nothing was read but its label
 abbrev pub rule_from : Option StageSoFar → ℕ → Option Span → List RawElem → RuleSoFar
@@ -285,13 +285,13 @@ abbrev pub step_atom : AtomSoFar → Use → Word → Span → Next
 step_atom a used word at = grown (grow a word at) used word
 
 -- behind names: a colon makes them a declaration, or the one of them a label
-abbrev pub named : Span → List Span → Next
-named name [] = plainly (plain.Labelled name)
-named name (a ∷ more) = Go (state.Declared name (a ∷ more))
+abbrev pub names_begun : Span → List Span → Next
+names_begun name [] = plainly (plain.Labelled name)
+names_begun name (a ∷ more) = Go (state.Declared name (a ∷ more))
 
 abbrev pub step_names : Span → List Span → Word → Span → Next
 step_names name args word.Name at = Go (state.Names name (args ++ at ∷ []))
-step_names name args word.Colon at = named name args
+step_names name args word.Colon at = names_begun name args
 step_names name args word at = step_atom (atom_of_names name args) (use_.First name.from None) word at
 
 -- behind the colon of names
@@ -334,9 +334,9 @@ abbrev pub stage_word : ℕ → Word → Span → Next
 stage_word place word.Name at = plainly (plain.StageNamed place at)
 stage_word place _ at = Stop
 
-abbrev pub stage_named : ℕ → Span → Word → Next
-stage_named place name word.Equals = plainly (plain.StageEquals name)
-stage_named place name word = behind_left (rule_from None place None (elem.Stage name ∷ [])) word
+abbrev pub stage_begun : ℕ → Span → Word → Next
+stage_begun place name word.Equals = plainly (plain.StageEquals name)
+stage_begun place name word = behind_left (rule_from None place None (elem.Stage name ∷ [])) word
 
 abbrev pub stage_equals : Span → Word → Next
 stage_equals name word.OpenBrace = Go (state.Rules (record { name = name; rules = [] }))
@@ -347,9 +347,9 @@ abbrev pub context_word : Word → Span → Next
 context_word word.Name at = plainly (plain.ContextNamed at)
 context_word _ at = Stop
 
-abbrev pub context_named : Span → Word → Next
-context_named name word.Equals = plainly (plain.ContextEquals name)
-context_named name _ = Stop
+abbrev pub context_begun : Span → Word → Next
+context_begun name word.Equals = plainly (plain.ContextEquals name)
+context_begun name _ = Stop
 
 abbrev pub context_equals : Span → Word → Next
 context_equals name word.OpenBrace = Go (state.Bag (record { home = home.Context name; atoms = [] }) bag.First)
@@ -382,10 +382,10 @@ step_plain plain.Top word at = begin word at
 step_plain (plain.Labelled label) word at = labelled label word at
 step_plain (plain.Blank place) word at = behind_blank place word
 step_plain (plain.StageWord place) word at = stage_word place word at
-step_plain (plain.StageNamed place name) word at = stage_named place name word
+step_plain (plain.StageNamed place name) word at = stage_begun place name word
 step_plain (plain.StageEquals name) word at = stage_equals name word
 step_plain plain.ContextWord word at = context_word word at
-step_plain (plain.ContextNamed name) word at = context_named name word
+step_plain (plain.ContextNamed name) word at = context_begun name word
 step_plain (plain.ContextEquals name) word at = context_equals name word
 step_plain plain.InteractiveWord word at = interactive_word word at
 step_plain (plain.TraceWord place) word at = trace_word place word at

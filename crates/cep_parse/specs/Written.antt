@@ -42,17 +42,17 @@ Fill (suc terms) [] = ⊥
 Fill (suc terms) (first ∷ nodes) = IsCount first.kind first.args × Fill (first.args + terms) nodes
 
 -- A constructor stands at a name, a variable at a variable.
-abbrev pub IsNodeOf : List Token → RawKind → Span → Type 0
-IsNodeOf tokens kind.App span = IsNameAt tokens span
-IsNodeOf tokens kind.Var span = IsTokenAt tokens token.Variable span
-IsNodeOf tokens kind.Blank span = Unit {0}
+abbrev pub IsWrittenAt : List Token → RawKind → Span → Type 0
+IsWrittenAt tokens kind.App span = IsNameAt tokens span
+IsWrittenAt tokens kind.Var span = IsTokenAt tokens token.Variable span
+IsWrittenAt tokens kind.Blank span = Unit {0}
 
 -- An atom has a name, and its nodes are its arguments, each a token.
 pub record IsAtomOf (tokens : List Token) (atom : RawAtom) : Type 0 where
   pub name : IsNameAt tokens atom.name
   pub filled : Fill atom.args atom.nodes
   pub few : length atom.nodes < length tokens
-  pub nodes : AllByRecursion (λ node. IsNodeOf tokens node.kind node.at) atom.nodes
+  pub nodes : AllByRecursion (λ node. IsWrittenAt tokens node.kind node.at) atom.nodes
 
 abbrev pub IsElemOf : List Token → RawElem → Type 0
 IsElemOf tokens (elem.Atom kept atom) = IsAtomOf tokens atom

@@ -1,7 +1,7 @@
 // An atom, symbol by symbol.
 ghost use Rattle.std.specs.Prelude.{◌≡◌, ◌+◌, ◌++◌, ◌∷◌, [], IfOk};
 ghost use Rattle.cep_parse.specs.Grammar.{node};
-ghost use Rattle.cep_parse.specs.Machine.{atom_of, atom_of_names, child_in, closed, closed_whole, grow, grow_args, grow_empty, grow_flat, grow_whole, headed, leaf, opened, set_args};
+ghost use Rattle.cep_parse.specs.Machine.{atom_begun, atom_of_names, child_in, closed, closed_whole, grow, grow_args, grow_empty, grow_flat, grow_whole, headed, leaf, opened, set_args};
 
 use crate::levels::{Level, Levels};
 use crate::raw::{RawAtom, RawKind, RawNode, RawNodes, Span, Spans};
@@ -10,8 +10,8 @@ use crate::symbol::{Symbol, Word};
 use std::alloc::{AllocError, Global};
 
 /// A name, behind which no argument was read.
-pub(crate) fn atom_of(alloc: Global, name: Span) -> AtomSoFar
-    ensures { result ≡ atom_of name }
+pub(crate) fn atom_begun(alloc: Global, name: Span) -> AtomSoFar
+    ensures { result ≡ atom_begun name }
 {
     AtomSoFar {
         name,
@@ -182,7 +182,7 @@ pub(crate) fn grow(mut atom: AtomSoFar, symbol: Symbol) -> Result<Grown, AllocEr
 pub(crate) fn atom_of_names(alloc: Global, name: Span, args: Spans) -> Result<AtomSoFar, AllocError>
     ensures { IfOk result (λ atom. atom ≡ atom_of_names name args) }
 {
-    let mut atom = atom_of(alloc, name);
+    let mut atom = atom_begun(alloc, name);
     for arg in args.as_slice() {
         atom.nodes.push(RawNode {
             at: *arg,

@@ -1,6 +1,6 @@
 // The states in which nothing but names and places are kept.
 ghost use Rattle.std.specs.Prelude.{◌≡◌, ◌∷◌, [], IfOk, None, Some};
-ghost use Rattle.cep_parse.specs.Machine.{IsFixed, begin, labelled, plainly, stage_equals, stage_named, step_ended, step_plain, trace_stage, trace_word, behind_blank, context_equals};
+ghost use Rattle.cep_parse.specs.Machine.{IsFixed, begin, labelled, plainly, stage_equals, stage_begun, step_ended, step_plain, trace_stage, trace_word, behind_blank, context_equals};
 
 use crate::raw::{RawAtoms, RawElem, RawItem, RawRules, RawSide, RawStart, Span, Spans};
 use crate::rules::{atom_for, before_elem, behind_left, rule_from};
@@ -82,8 +82,8 @@ fn labelled(alloc: Global, label: Span, symbol: Symbol) -> Result<Next, AllocErr
 }
 
 // Behind `stage` and its name.
-fn stage_named(alloc: Global, at: u32, name: Span, symbol: Symbol) -> Result<Next, AllocError>
-    ensures { IfOk result (λ next. next ≡ stage_named at name symbol.word) }
+fn stage_begun(alloc: Global, at: u32, name: Span, symbol: Symbol) -> Result<Next, AllocError>
+    ensures { IfOk result (λ next. next ≡ stage_begun at name symbol.word) }
 {
     match symbol.word {
         Word::Equals => Ok(plainly(Plain::StageEquals { name })),
@@ -129,7 +129,7 @@ pub(crate) fn step_plain(alloc: Global, plain: Plain, symbol: Symbol) -> Result<
         Plain::Ended => step_ended(alloc, symbol),
         Plain::Top => begin(alloc, symbol),
         Plain::Labelled { label } => labelled(alloc, label, symbol),
-        Plain::StageNamed { at, name } => stage_named(alloc, at, name, symbol),
+        Plain::StageNamed { at, name } => stage_begun(alloc, at, name, symbol),
         Plain::TraceStage { at, limit, stage } => {
             Ok(trace_stage(alloc, at, limit, stage, symbol))
         }

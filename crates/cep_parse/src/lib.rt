@@ -6,7 +6,6 @@ mod begins;
 mod fault;
 mod laws;
 mod levels;
-mod list;
 mod parser;
 mod raw;
 mod rules;
@@ -16,8 +15,7 @@ mod symbol;
 
 pub use fault::ParseFault;
 pub use laws::{items_are_made_of_tokens, one_raw_file, parsed_once};
-pub use list::List;
-pub use parser::{MOST_OPEN, parse};
+pub use parser::parse;
 pub use raw::{
     RawAtom, RawAtoms, RawElem, RawFile, RawItem, RawKind, RawNode, RawNodes, RawRule, RawRules,
     RawSide, RawStart, Span, Spans,

@@ -4,16 +4,14 @@ ghost use Rattle.cep_lex.specs.Cuts.{AreTokens};
 ghost use Rattle.cep_parse.specs.Files.{IsParsed, open_behind};
 ghost use Rattle.cep_parse.specs.Machine.{is_within, moved, state_behind, step};
 
+use cep_base::limits::{MOST_OPEN, MOST_TEXT};
 use crate::fault::ParseFault;
 use crate::raw::RawFile;
 use crate::state::{Next, Plain, State};
 use crate::steps::step;
 use crate::symbol::{Symbol, Word, symbol_of};
-use cep_lex::{MOST_BYTES, Tokens};
+use cep_lex::Tokens;
 use std::alloc::{AllocError, Global};
-
-/// The most parentheses that may be open at once. The limit is this profile's.
-pub const MOST_OPEN: u32 = 512;
 
 // The state behind a whole item.
 fn state_behind(may_dot: bool) -> State
@@ -83,7 +81,7 @@ pub fn parse(
     text: &[u8],
     tokens: &Tokens,
 ) -> Result<Result<RawFile, ParseFault>, AllocError>
-    requires short { length text.now ≤ MOST_BYTES }
+    requires short { length text.now ≤ MOST_TEXT }
     requires tokens { AreTokens text.now tokens.now }
     ensures { IfOk result (λ answer. IsParsed text.now tokens.now answer) }
 {

@@ -1,4 +1,4 @@
-use crate::list::List;
+use cep_base::List;
 
 /// Bytes of the text, from a place up to another.
 #[derive(Clone, Copy, Debug, PartialEq, Eq)]

@@ -1,6 +1,6 @@
 // What a symbol does in each state.
 ghost use Rattle.std.specs.Prelude.{◌≡◌, IfOk, None};
-ghost use Rattle.cep_parse.specs.Machine.{before_goal, rule_named, behind_atom, behind_goal, behind_head, head_alone, named, step, step_atom, step_declared, step_ending, step_names, step_rules, with_goal};
+ghost use Rattle.cep_parse.specs.Machine.{before_goal, rule_named, behind_atom, behind_goal, behind_head, head_alone, names_begun, step, step_atom, step_declared, step_ending, step_names, step_rules, with_goal};
 
 use crate::atoms::{atom_of_names, grow};
 use crate::begins::step_plain;
@@ -120,8 +120,8 @@ fn step_atom(alloc: Global, atom: AtomSoFar, used: Use, symbol: Symbol) -> Resul
 }
 
 // Behind names and their colon.
-fn named(name: Span, args: Spans) -> Next
-    ensures { result ≡ named name args }
+fn names_begun(name: Span, args: Spans) -> Next
+    ensures { result ≡ names_begun name args }
 {
     if args.len() == 0 {
         return Next::Go(State::Plain(Plain::Labelled { label: name }));
@@ -143,7 +143,7 @@ fn step_names(
             args.push(symbol.at)?;
             Ok(Next::Go(State::Names { name, args }))
         }
-        Word::Colon => Ok(named(name, args)),
+        Word::Colon => Ok(names_begun(name, args)),
         _ => {
             let used = Use::First {
                 at: name.from,

@@ -1,5 +1,6 @@
+use cep_base::limits::MOST_TEXT;
 use crate::{ParseFault, RawAtom, RawElem, RawItem, RawKind, RawRule, RawStart, Span, parse};
-use cep_lex::{MOST_BYTES, lex, place};
+use cep_lex::{lex, place};
 use std::alloc::Global;
 use std::test::Fail;
 
@@ -135,7 +136,7 @@ fn put_fault(out: &mut String, text: &str, fault: ParseFault) -> Result<(), Fail
         ParseFault::Unexpected { at } => ("unexpected", at),
         ParseFault::Nested { at } => ("nested", at),
     };
-    if at as usize <= text.len() && text.len() <= MOST_BYTES {
+    if at as usize <= text.len() && text.len() <= MOST_TEXT {
         let pos = place(text.as_bytes(), at);
         out.push_str(format!(in alloc; "{word} {}:{}", pos.line, pos.col)?.as_str())?;
     }
@@ -145,7 +146,7 @@ fn put_fault(out: &mut String, text: &str, fault: ParseFault) -> Result<(), Fail
 // What a text says, or its fault, in words.
 fn shown(alloc: Global, text: &str) -> Result<String, Fail> {
     let mut out = String::new(alloc);
-    if text.len() > MOST_BYTES {
+    if text.len() > MOST_TEXT {
         return Ok(out);
     }
     let Ok(tokens) = lex(alloc, text.as_bytes())? else {
@@ -265,7 +266,7 @@ fn at_most_512_parentheses_are_open(rt: HostRuntime) -> Result<(), Fail> {
 
 // How many items a text has, and how many nodes the first one's head.
 fn counts(alloc: Global, text: &[u8]) -> Result<(usize, usize), Fail> {
-    if text.len() > MOST_BYTES {
+    if text.len() > MOST_TEXT {
         return Ok((0, 0));
     }
     let Ok(tokens) = lex(alloc, text)? else {

@@ -11,7 +11,7 @@ use Rattle.cep_play.specs.declared.dialogue.EndWord.TheVariants.{Quiet, Input, T
 use Rattle.cep_rule.specs.declared.parts.Parts.{Parts}
 use Rattle.cep_ground.specs.Texts.{Spells}
 use Rattle.cep_ground.specs.Refusals.{IsBuilt}
-use Rattle.cep_play.specs.declared.command.TheConstants.{MOST_TEXT}
+use Rattle.cep_base.specs.declared.limits.TheConstants.{MOST_TEXT}
 use Rattle.cep_play.specs.Command.{Says, OfFile, OfText, OfRun, OfWords, IsNoForm, Writes, usage, code_of, status_of}
 use Rattle.cep_play.proofs.Did.{did_map}
 

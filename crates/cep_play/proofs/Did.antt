@@ -49,7 +49,7 @@ module _ {C : Type 0} (talk : C → Option (List Event)) (left : C → Option (L
       let s = other (said ++ f.0) f.1 f.2 f.3 in
       (f.0 ++ s.0, s.1, s.2 ∙ ap Some (append_assoc said f.0 s.0), s.3, join come f.0 f.1 s.0 s.1 f.4 s.4)
 
-  -- what was done may be told by a weaker fact
+  -- what was done may be told by a weaker predicate
   pub did_map : (old new : C) (P Q : List ℕ → List Event → List ℕ → Type 0)
       → ((come : List ℕ) (events : List Event) (rest : List ℕ) → P come events rest → Q come events rest)
       → Did talk left old new P → Did talk left old new Q

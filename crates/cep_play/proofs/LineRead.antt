@@ -1,6 +1,7 @@
 -- The reading of one line, byte by byte.
 use Rattle.std.proofs.Common.{◌≡◌, ◌≢◌, ℕ, ◌+◌, ◌<◌, inl, inr, List, [], ◌∷◌, ◌++◌, length, append_assoc, Option, None, Some, refl, sym, ap, ◌∙◌, arith}
 use Rattle.std.proofs.lemmas.List.{append-nil, length_push, map_push, nil_from_length}
+use Rattle.cep_base.specs.Spelling.{IsUnbroken}
 use Rattle.cep_base.specs.declared.console.Event.{Event}
 use Rattle.cep_base.specs.declared.console.Event.TheVariants.{In, End}
 use Rattle.cep_base.specs.Talk.{ins, heard, GoesOn, Takes, Did}
@@ -8,7 +9,7 @@ use Rattle.cep_play.specs.declared.choice.Said.{Said}
 use Rattle.cep_play.specs.declared.choice.Said.TheVariants as said
 use Rattle.cep_play.specs.declared.typed.Typed.{Typed}
 use Rattle.cep_play.specs.declared.typed.Typed.TheVariants as typed
-use Rattle.cep_play.specs.Choice.{Cut, Ended, Last, Nothing, Full, ReadsLine, IsLine, IsUnbroken, Says}
+use Rattle.cep_play.specs.Choice.{Cut, Ended, Last, Nothing, Full, ReadsLine, IsLine, IsHeardAs}
 use Rattle.cep_play.specs.Typed.{Reads, SaysOf}
 use Rattle.cep_play.proofs.Did.{did_same, did_hear, did_end, did_then, did_map}
 
@@ -23,7 +24,7 @@ pub record HasRead (n : ℕ) (now : Typed) (taken : ℕ) (come : List ℕ) (even
 
 -- one reading of a line, and what it says
 abbrev pub ReadsSaid : ℕ → ℕ → Said → ℕ → List ℕ → List Event → List ℕ → Type 0
-ReadsSaid n room said taken come events rest = (cut : Cut) × ReadsLine room come events cut rest taken × Says n cut said
+ReadsSaid n room said taken come events rest = (cut : Cut) × ReadsLine room come events cut rest taken × IsHeardAs n cut said
 
 -- One byte, or the end, behind what was read
 
@@ -38,7 +39,7 @@ module _ {n : ℕ} {now : Typed} {taken : ℕ} {come : List ℕ} {first : List E
   said_then : (others last : List Event) → others ≡ last → first ++ others ≡ ins before.bytes ++ last
   said_then others last e = ap (λ events. events ++ others) before.said ∙ ap (λ events. ins before.bytes ++ events) e
 
-  says_line : (cut : Cut) (said : Said) → IsLine cut before.bytes → ((line : List ℕ) → Reads n now line → SaysOf n line said) → Says n cut said
+  says_line : (cut : Cut) (said : Said) → IsLine cut before.bytes → ((line : List ℕ) → Reads n now line → SaysOf n line said) → IsHeardAs n cut said
   says_line cut (said.Number place) is says = (before.bytes, is, says before.bytes before.reads)
   says_line cut said.Bad is says = (before.bytes, is, says before.bytes before.reads)
   says_line cut said.End is says = absurd (says before.bytes before.reads)

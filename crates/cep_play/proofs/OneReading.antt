@@ -6,10 +6,11 @@ use Rattle.std.proofs.lemmas.Str.Parse.{digit_from_value}
 use Rattle.std.proofs.lemmas.Fmt.{decimal_is_IsNumeral, decimal_injective}
 use Rattle.std.specs.Fmt.{decimal}
 use Rattle.std.specs.Str.Parse.{AllDigits}
+use Rattle.cep_base.specs.Spelling.{IsUnbroken}
 use Rattle.cep_base.specs.declared.console.Event.{Event}
 use Rattle.cep_play.specs.declared.choice.Choice.{Choice}
 use Rattle.cep_play.specs.declared.choice.Choice.TheVariants.{Place}
-use Rattle.cep_play.specs.Choice.{Chooses, ChoosesNone, IsUnbroken, Cut, Ended, Last, Nothing, Full, ReadsLine, IsLine, room_after, Hears, chosen, again, no_more, no_room}
+use Rattle.cep_play.specs.Choice.{Chooses, ChoosesNone, Cut, Ended, Last, Nothing, Full, ReadsLine, IsLine, room_after, Hears, chosen, again, no_more, no_room}
 
 -- One line
 

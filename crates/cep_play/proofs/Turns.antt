@@ -9,12 +9,12 @@ use Rattle.cep_base.specs.declared.console.Event.{Event}
 use Rattle.cep_base.specs.Talk.{outs, Did}
 use Rattle.cep_term.specs.Tree.{Tree, AtomTree, IsFit}
 use Rattle.cep_term.specs.Multiset.{Multiset}
-use Rattle.cep_rule.specs.declared.limits.TheConstants.{MOST_OFFERS}
+use Rattle.cep_base.specs.declared.limits.TheConstants.{DEFAULT_HEIGHT, MOST_OFFERS}
 use Rattle.cep_rule.specs.declared.rule.Rule.{Rule}
 use Rattle.cep_rule.specs.declared.parts.Parts.{Parts}
 use Rattle.cep_rule.specs.declared.offer.Offer.{Offer}
 use Rattle.cep_rule.specs.State.{Fits}
-use Rattle.cep_rule.specs.Instances.{instances_by}
+use Rattle.cep_rule.specs.Instances.{full_instances}
 use Rattle.cep_rule.specs.Offers.{AreOffers, IsOffer}
 use Rattle.cep_rule.specs.Stages.{IsAsked, IsQuiet}
 use Rattle.cep_rule.specs.Typing.{AreValues}
@@ -32,14 +32,13 @@ use Rattle.cep_play.specs.declared.choice.Choice.{Choice}
 use Rattle.cep_play.specs.declared.choice.Choice.TheVariants.{Place}
 use Rattle.cep_play.specs.declared.dialogue.EndWord.{EndWord}
 use Rattle.cep_play.specs.declared.dialogue.EndWord.TheVariants.{Quiet, Offers, Atom, State, Input, Turns, Typed}
-use Rattle.cep_play.specs.declared.dialogue.TheConstants.{HEIGHT}
 use Rattle.cep_play.specs.declared.turn.Turned.{Turned}
 use Rattle.cep_play.specs.declared.turn.Turned.TheVariants.{Done, Over}
 use Rattle.cep_play.specs.Choice.{Hears}
 use Rattle.cep_play.specs.Lines.{question, step_line, step_lines, next_line}
 use Rattle.cep_play.specs.Dialogue as dialogue
 use Rattle.cep_play.specs.Dialogue.{Position, position_after, Ending, Ends, AreAsked, IsQuestion, IsChosen, MakesFit, IsStop, Talk}
-use Rattle.cep_play.specs.Turn.{position_of, Asks, Acts, Fails, IsTooMuch, limit_word, IsActed, IsTurn, IsLastTurn, IsTurned}
+use Rattle.cep_play.specs.Turn.{position_of, AsksPlayer, Acts, PassesLimit, IsTooMuch, limit_word, IsActed, IsTurn, IsLastTurn, IsTurned}
 use Rattle.cep_play.proofs.Did.{did_then}
 
 none_some : {A B : Type 0} (x : A) → ◌≡◌ {A = Option A} None (Some x) → B
@@ -72,8 +71,8 @@ module _ (program : Parts) (height : ℕ) (state : Multiset) (group : ℕ) (offe
 
 -- the lists of a matcher are the offers of the group that is asked
 pub are_asked : {M : Type 0} (program : Parts) (group height : ℕ) (held : Multiset) (lists : List (List Offer)) (config : Configuration M)
-    → height ≡ HEIGHT → held ≡ config.state → AreListed program height held lists → group < length lists → IsAsked program height config.state config.stage group
-    → AreAsked program HEIGHT (position_of config) (offers_of lists group)
+    → height ≡ DEFAULT_HEIGHT → held ≡ config.state → AreListed program height held lists → group < length lists → IsAsked program height config.state config.stage group
+    → AreAsked program DEFAULT_HEIGHT (position_of config) (offers_of lists group)
 are_asked program group height held lists config high same are listed asked = record {
   group = group;
   asked = subst (λ h. IsAsked program h config.state config.stage group) high asked;
@@ -114,7 +113,7 @@ too_full state number (inl full) fits = let copies = fits.copies in omega arith
 too_full state number (inr full) fits = let nodes = fits.nodes in omega arith
 
 passes : (which : Which) (offer : Offer) (rule : Rule) (state : Multiset) (number : ℕ) → Passes rule offer.values state which number → IsTooMuch (limit_word which) offer rule state
-passes which.Atom offer rule state number large = first_too_large (instances_by offer.values rule.right) number large
+passes which.Atom offer rule state number large = first_too_large (full_instances offer.values rule.right) number large
 passes which.State offer rule state number full = (full.0, (full.1.0, full.1.1, too_full full.1.0 number full.1.2))
 
 -- no stage is named where the rule leads to none
@@ -164,7 +163,7 @@ module _ {M : Type 0} (program : Parts) (height : ℕ) (held : Multiset) (group 
 
   -- the step would pass a limit
   pub step_fails : (last : Configuration M) (which : Which) (number : ℕ) → ((rule : Rule) (values : List Tree) → machine.IsChosen program lists old.stage i rule values → (last ≡ old) × Passes rule values old.state which number)
-      → (come : List ℕ) (events : List Event) (rest : List ℕ) → (events ≡ []) × (rest ≡ come) → Fails program offers place (limit_word which) (position_of old) come events rest
+      → (come : List ℕ) (events : List Event) (rest : List ℕ) → (events ≡ []) × (rest ≡ come) → PassesLimit program offers place (limit_word which) (position_of old) come events rest
   step_fails last which number stepped come events rest same = record {
     offer = offer;
     rule = rule_of;
@@ -181,35 +180,35 @@ module _ {M : Type 0} (program : Parts) (height : ℕ) (held : Multiset) (group 
 
 module _ (program : Parts) (at : Position) (taken : ℕ) where
   -- no rule applies
-  pub quiet_turn : (come : List ℕ) (events : List Event) → IsQuiet program HEIGHT at.state at.stage → events ≡ [] → IsLastTurn program HEIGHT Quiet at taken come events
+  pub quiet_turn : (come : List ℕ) (events : List Event) → IsQuiet program DEFAULT_HEIGHT at.state at.stage → events ≡ [] → IsLastTurn program DEFAULT_HEIGHT Quiet at taken come events
   quiet_turn come events is none limit last ending remain ends =
-      subst (λ es. Talk program HEIGHT limit at come taken (es ++ last) ending) (sym none) (dialogue.quiet is ends)
+      subst (λ es. Talk program DEFAULT_HEIGHT limit at come taken (es ++ last) ending) (sym none) (dialogue.quiet is ends)
 
   -- the offers are too many
-  pub crowded_turn : (offers : List Offer) (come : List ℕ) (events : List Event) → AreAsked program HEIGHT at offers → MOST_OFFERS < length offers → events ≡ [] → IsLastTurn program HEIGHT Offers at taken come events
+  pub crowded_turn : (offers : List Offer) (come : List ℕ) (events : List Event) → AreAsked program DEFAULT_HEIGHT at offers → MOST_OFFERS < length offers → events ≡ [] → IsLastTurn program DEFAULT_HEIGHT Offers at taken come events
   crowded_turn offers come events are many none limit last ending remain ends =
-      subst (λ es. Talk program HEIGHT limit at come taken (es ++ last) ending) (sym none) (dialogue.crowded offers are many remain ends)
+      subst (λ es. Talk program DEFAULT_HEIGHT limit at come taken (es ++ last) ending) (sym none) (dialogue.crowded offers are many remain ends)
 
-  asked : (offers : List Offer) (limit : ℕ) → AreAsked program HEIGHT at offers → length offers ≤ MOST_OFFERS → at.turns < limit → IsQuestion program HEIGHT limit at offers
+  asked : (offers : List Offer) (limit : ℕ) → AreAsked program DEFAULT_HEIGHT at offers → length offers ≤ MOST_OFFERS → at.turns < limit → IsQuestion program DEFAULT_HEIGHT limit at offers
   asked offers limit are few remain = record { are = are; few = few; remain = remain }
 
   regrouped : (first second q heard others : List Event) → first ≡ q ++ heard → (first ++ second) ++ others ≡ q ++ (heard ++ (second ++ others))
   regrouped first second q heard others e = rw e (simp append_assoc)
 
-  module _ (offers : List Offer) (are : AreAsked program HEIGHT at offers) (few : length offers ≤ MOST_OFFERS) where
+  module _ (offers : List Offer) (are : AreAsked program DEFAULT_HEIGHT at offers) (few : length offers ≤ MOST_OFFERS) where
     -- the choice is not made
-    pub unchosen_turn : (taken' : ℕ) (come rest : List ℕ) (events : List Event) (choice : Choice) (word : EndWord) → Asks program offers come taken events choice rest taken' → IsStop choice word → IsLastTurn program HEIGHT word at taken come events
+    pub unchosen_turn : (taken' : ℕ) (come rest : List ℕ) (events : List Event) (choice : Choice) (word : EndWord) → AsksPlayer program offers come taken events choice rest taken' → IsStop choice word → IsLastTurn program DEFAULT_HEIGHT word at taken come events
     unchosen_turn taken' come rest events choice word asks stops limit last ending remain ends =
         dialogue.unchosen offers choice word rest taken' asks.heard last (asked offers limit are few remain) asks.hears stops ends
         (ap (λ xs. xs ++ last) asks.whole ∙ append_assoc (outs (question program offers)) asks.heard last)
 
-    module _ (taken' place : ℕ) (come between rest : List ℕ) (first second : List Event) (asks : Asks program offers come taken first (Place place) between taken') where
+    module _ (taken' place : ℕ) (come between rest : List ℕ) (first second : List Event) (asks : AsksPlayer program offers come taken first (Place place) between taken') where
       -- one turn is done
-      pub done_turn : (new : Position) → Acts program offers place at new between second rest → IsTurn program HEIGHT at taken new taken' come (first ++ second) rest
+      pub done_turn : (new : Position) → Acts program offers place at new between second rest → IsTurn program DEFAULT_HEIGHT at taken new taken' come (first ++ second) rest
       done_turn new acts limit others ending remain talk =
           dialogue.turn offers place acts.offer acts.rule new.state between taken' asks.heard others (asked offers limit are few remain) asks.hears acts.chosen acts.fit acts.step acts.fits
-          (subst (λ bytes. Talk program HEIGHT limit (position_after at acts.rule new.state) bytes taken' others ending) acts.untaken
-          (subst (λ next. Talk program HEIGHT limit next rest taken' others ending) acts.after talk))
+          (subst (λ bytes. Talk program DEFAULT_HEIGHT limit (position_after at acts.rule new.state) bytes taken' others ending) acts.untaken
+          (subst (λ next. Talk program DEFAULT_HEIGHT limit next rest taken' others ending) acts.after talk))
           (regrouped first second (outs (question program offers)) asks.heard others asks.whole
           ∙ ap (λ step. outs (question program offers) ++ (asks.heard ++ (step ++ others))) acts.written)
 
@@ -219,7 +218,7 @@ module _ (program : Parts) (at : Position) (taken : ℕ) where
           ∙ ap (λ step. outs (question program offers) ++ (asks.heard ++ (step ++ last))) none
 
       -- the step passes a limit
-      pub failed_turn : (word : EndWord) → Fails program offers place word at between second rest → IsLastTurn program HEIGHT word at taken come (first ++ second)
+      pub failed_turn : (word : EndWord) → PassesLimit program offers place word at between second rest → IsLastTurn program DEFAULT_HEIGHT word at taken come (first ++ second)
       failed_turn Atom fails limit last ending remain ends =
           dialogue.unfit offers place fails.offer fails.rule between taken' asks.heard last (asked offers limit are few remain) asks.hears fails.chosen fails.too_much ends (unwritten last fails.unwritten)
       failed_turn State fails limit last ending remain ends =
@@ -232,7 +231,7 @@ module _ (program : Parts) (at : Position) (taken : ℕ) where
       failed_turn Typed fails limit last ending remain ends = absurd fails.too_much
 
 -- the offers are written, and the choice is heard
-pub asks_after : (program : Parts) (offers : List Offer) (text written come middle rest : List ℕ) (taken taken' : ℕ) (first others : List Event) (choice : Choice) → written ≡ text → text ≡ [] ++ question program offers → (first ≡ outs written) × (middle ≡ come) → Hears (length offers) middle taken others choice rest taken' → Asks program offers come taken (first ++ others) choice rest taken'
+pub asks_after : (program : Parts) (offers : List Offer) (text written come middle rest : List ℕ) (taken taken' : ℕ) (first others : List Event) (choice : Choice) → written ≡ text → text ≡ [] ++ question program offers → (first ≡ outs written) × (middle ≡ come) → Hears (length offers) middle taken others choice rest taken' → AsksPlayer program offers come taken (first ++ others) choice rest taken'
 asks_after program offers text written come middle rest taken taken' first others choice e f put hears =
     record {
       heard = others;
@@ -242,8 +241,8 @@ asks_after program offers text written come middle rest taken taken' first other
 
 -- a choice was made, and what came of it is a turn
 pub chosen_turn : {C M : Type 0} (talk : C → Option (List Event)) (left : C → Option (List ℕ)) (old between new : C) (program : Parts) (config : Configuration M) (taken taken' place : ℕ) (offers : List Offer) (turned : Turned M)
-    → AreAsked program HEIGHT (position_of config) offers → length offers ≤ MOST_OFFERS
-    → Did talk left old between (λ come events rest. Asks program offers come taken events (Place place) rest taken')
+    → AreAsked program DEFAULT_HEIGHT (position_of config) offers → length offers ≤ MOST_OFFERS
+    → Did talk left old between (λ come events rest. AsksPlayer program offers come taken events (Place place) rest taken')
     → IsActed talk left between new program offers place config turned → IsTurned talk left old new program config taken taken' turned
 chosen_turn talk left old between new program config taken taken' place offers (Done next) are few asks acted =
     (did_then talk left old between new _ _ _ (λ come first middle others rest asks acts. done_turn program (position_of config) taken offers are few taken' place come middle rest first others asks (position_of next) acts) asks acted.0, acted.1)

@@ -1,11 +1,12 @@
 -- What is typed for one choice: a line is read, and while it chooses nothing, a further one.
 use Rattle.std.specs.Prelude.{◌≡◌, ◌≢◌, ◌⊎◌, ℕ, ◌+◌, ◌-◌, ◌<◌, ◌≤◌, List, [], ◌∷◌, ◌++◌, length, codes, decimal}
 use Rattle.std.specs.List.{AllByRecursion}
+use Rattle.cep_base.specs.Spelling.{IsUnbroken}
 use Rattle.cep_base.specs.declared.console.Event.{Event}
 use Rattle.cep_base.specs.declared.console.Event.TheVariants.{End}
 use Rattle.cep_base.specs.Talk.{outs, ins}
 use Rattle.cep_play.specs.Lines.{line}
-use Rattle.cep_play.specs.declared.choice.TheConstants.{MOST_TYPED}
+use Rattle.cep_base.specs.declared.limits.TheConstants.{MOST_TYPED}
 use Rattle.cep_play.specs.declared.choice.Said.{Said}
 use Rattle.cep_play.specs.declared.choice.Said.TheVariants as said
 use Rattle.cep_play.specs.declared.choice.Choice.{Choice}
@@ -18,10 +19,6 @@ Chooses n line place = (0 < place) × (place ≤ n) × ((line ≡ decimal place)
 -- the line chooses no place among n
 abbrev pub ChoosesNone : ℕ → List ℕ → Type 0
 ChoosesNone n line = (place : ℕ) → Chooses n line place → ⊥
-
--- no LF stands among the bytes
-abbrev pub IsUnbroken : List ℕ → Type 0
-IsUnbroken bytes = AllByRecursion (λ byte. byte ≢ 10) bytes
 
 -- how the reading of one line ended: at its LF, at the end of the input behind some bytes or behind none, or where no more may be taken
 pub data Cut : Type 0 where
@@ -46,11 +43,11 @@ abbrev pub IsLine : Cut → List ℕ → Type 0
 IsLine cut line = (cut ≡ Ended line) ⊎ (cut ≡ Last line)
 
 -- what one reading says of a choice among n
-abbrev pub Says : ℕ → Cut → Said → Type 0
-Says n cut (said.Number place) = (line : List ℕ) × IsLine cut line × Chooses n line place
-Says n cut said.Bad = (line : List ℕ) × IsLine cut line × ChoosesNone n line
-Says n cut said.End = cut ≡ Nothing
-Says n cut said.Limit = (bytes : List ℕ) × (cut ≡ Full bytes)
+abbrev pub IsHeardAs : ℕ → Cut → Said → Type 0
+IsHeardAs n cut (said.Number place) = (line : List ℕ) × IsLine cut line × Chooses n line place
+IsHeardAs n cut said.Bad = (line : List ℕ) × IsLine cut line × ChoosesNone n line
+IsHeardAs n cut said.End = cut ≡ Nothing
+IsHeardAs n cut said.Limit = (bytes : List ℕ) × (cut ≡ Full bytes)
 
 -- a line was read, so some byte was taken
 abbrev pub TakesSome : Said → ℕ → Type 0

@@ -17,8 +17,7 @@ use Rattle.cep_play.specs.declared.command.Status.{Status}
 use Rattle.cep_play.specs.declared.command.Status.TheVariants.{Ended, Usage, Refused, Limited, Console, Unread, Memory}
 use Rattle.cep_play.specs.declared.dialogue.EndWord.{EndWord}
 use Rattle.cep_play.specs.declared.dialogue.EndWord.TheVariants.{Quiet, Input, Turns, Offers, Typed, Atom, State}
-use Rattle.cep_play.specs.declared.dialogue.TheConstants.{HEIGHT, TURNS}
-use Rattle.cep_play.specs.declared.command.TheConstants.{MOST_TEXT}
+use Rattle.cep_base.specs.declared.limits.TheConstants.{DEFAULT_HEIGHT, DEFAULT_TURNS, MOST_TEXT}
 use Rattle.cep_play.specs.Lines.{line}
 use Rattle.cep_play.specs.Dialogue.{Ending, Dialogue}
 
@@ -50,12 +49,12 @@ Writes talk left old new text = Did talk left old new (λ come events rest. (eve
 
 -- how many turns a run of the program has at most
 abbrev pub turn_limit : Parts → ℕ
-turn_limit program = unwrap_or program.turns TURNS
+turn_limit program = unwrap_or program.turns DEFAULT_TURNS
 
 -- what is said from old to new is a dialogue of the program, and its end word has P
 abbrev pub Says : {C : Type 0} → (C → Option (List Event)) → (C → Option (List ℕ)) → C → C → Parts → (EndWord → Type 0) → Type 0
 Says talk left old new program P =
-    Did talk left old new (λ come events rest. (ending : Ending) × Dialogue program HEIGHT (turn_limit program) come events ending × P ending.word)
+    Did talk left old new (λ come events rest. (ending : Ending) × Dialogue program DEFAULT_HEIGHT (turn_limit program) come events ending × P ending.word)
 
 -- the text spells a program that can be played today, and what is said is a dialogue of it, whose end word has P
 abbrev pub Plays : {C : Type 0} → (C → Option (List Event)) → (C → Option (List ℕ)) → C → C → List ℕ → (EndWord → Type 0) → Type 0
@@ -67,8 +66,8 @@ Refuses talk left old new text =
     (fault : Fault) × (refusal : Refusal) × IsRefusedFor text fault × Tells text fault refusal × Writes talk left old new (refusal_text refusal)
 
 -- the run ended in quiet or at the end of the input
-abbrev pub IsOver : EndWord → Type 0
-IsOver word = (word ≡ Quiet) ⊎ (word ≡ Input)
+abbrev pub IsFinished : EndWord → Type 0
+IsFinished word = (word ≡ Quiet) ⊎ (word ≡ Input)
 
 -- the run ended by a limit
 abbrev pub IsLimited : EndWord → Type 0
@@ -86,7 +85,7 @@ status_of State = Limited
 
 -- what a status says of a text within the limit
 abbrev pub OfText : {C : Type 0} → (C → Option (List Event)) → (C → Option (List ℕ)) → C → C → List ℕ → Status → Type 0
-OfText talk left old new text Ended = Plays talk left old new text IsOver
+OfText talk left old new text Ended = Plays talk left old new text IsFinished
 OfText talk left old new text Limited = Plays talk left old new text IsLimited
 OfText talk left old new text Refused = Refuses talk left old new text
 OfText talk left old new text Usage = ⊥
@@ -102,7 +101,7 @@ RefusesFile talk left old new files name =
 
 -- what a status says of a file
 abbrev pub OfRun : {C : Type 0} → (C → Option (List Event)) → (C → Option (List ℕ)) → C → C → Option Files → List ℕ → Status → Type 0
-OfRun talk left old new files name Ended = OfFile files name (λ text. Plays talk left old new text IsOver)
+OfRun talk left old new files name Ended = OfFile files name (λ text. Plays talk left old new text IsFinished)
 OfRun talk left old new files name Limited = OfFile files name (λ text. Plays talk left old new text IsLimited)
 OfRun talk left old new files name Refused = RefusesFile talk left old new files name
 OfRun talk left old new files name Unread = Writes talk left old new no_program
@@ -153,10 +152,10 @@ AsksFile before name after (Err faults.Failed) = Adds before after (name ∷ [])
 AsksFile before name after (Err (faults.Memory error)) = Adds before after (name ∷ []) ⊎ (after ≡ before)
 
 -- what the words ask for was asked for, but for want of memory perhaps
-abbrev pub Asks : Option (List (List ℕ)) → List (List ℕ) → Option (List (List ℕ)) → Result Status ConsoleFault → Type 0
-Asks before words after (Ok status) = AsksFor words (Adds before after)
-Asks before words after (Err faults.Failed) = AsksFor words (Adds before after)
-Asks before words after (Err (faults.Memory error)) = AsksFor words (Adds before after) ⊎ (after ≡ before)
+abbrev pub AskedAsSaid : Option (List (List ℕ)) → List (List ℕ) → Option (List (List ℕ)) → Result Status ConsoleFault → Type 0
+AskedAsSaid before words after (Ok status) = AsksFor words (Adds before after)
+AskedAsSaid before words after (Err faults.Failed) = AsksFor words (Adds before after)
+AskedAsSaid before words after (Err (faults.Memory error)) = AsksFor words (Adds before after) ⊎ (after ≡ before)
 
 -- the status of the process
 abbrev pub code_of : Status → ℕ

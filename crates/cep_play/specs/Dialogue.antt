@@ -5,12 +5,12 @@ use Rattle.cep_base.specs.declared.console.Event.{Event}
 use Rattle.cep_base.specs.Talk.{outs}
 use Rattle.cep_term.specs.Tree.{IsFit}
 use Rattle.cep_term.specs.Multiset.{Multiset}
-use Rattle.cep_rule.specs.declared.limits.TheConstants.{MOST_OFFERS}
+use Rattle.cep_base.specs.declared.limits.TheConstants.{MOST_OFFERS}
 use Rattle.cep_rule.specs.declared.rule.Rule.{Rule}
 use Rattle.cep_rule.specs.declared.parts.Parts.{Parts}
 use Rattle.cep_rule.specs.declared.offer.Offer.{Offer}
 use Rattle.cep_rule.specs.State.{Fits}
-use Rattle.cep_rule.specs.Instances.{instances_by}
+use Rattle.cep_rule.specs.Instances.{full_instances}
 use Rattle.cep_rule.specs.Offers.{AreOffers}
 use Rattle.cep_rule.specs.Stages.{IsAsked, IsQuiet}
 use Rattle.cep_rule.specs.Step.{Step}
@@ -65,7 +65,7 @@ pub record IsChosen (program : Parts) (offers : List Offer) (place : ℕ) (offer
 
 -- All atoms that the offer's rule makes are fit.
 abbrev pub MakesFit : Offer → Rule → Type 0
-MakesFit offer rule = AllByRecursion IsFit (instances_by offer.values rule.right)
+MakesFit offer rule = AllByRecursion IsFit (full_instances offer.values rule.right)
 
 -- what ends a run when a choice is wanted: no more is typed, or no more may be
 abbrev pub IsStop : Choice → EndWord → Type 0

@@ -59,18 +59,18 @@ step_line program offer = line (codes "step " ++ offer_text program offer)
 unfoldable pub step_lines : Parts → Offer → Rule → List ℕ
 step_lines program offer rule = step_line program offer ++ next_line program rule.next
 
-abbrev pub word_of : EndWord → List ℕ
-word_of Quiet = codes "quiet"
-word_of Input = codes "input"
-word_of Turns = codes "turns"
-word_of Offers = codes "offers"
-word_of Typed = codes "typed"
-word_of Atom = codes "atom"
-word_of State = codes "state"
+abbrev pub ending_word : EndWord → List ℕ
+ending_word Quiet = codes "quiet"
+ending_word Input = codes "input"
+ending_word Turns = codes "turns"
+ending_word Offers = codes "offers"
+ending_word Typed = codes "typed"
+ending_word Atom = codes "atom"
+ending_word State = codes "state"
 
 -- `end WORD`, and the listing of the state
 unfoldable pub end_lines : Signature → EndWord → Multiset → List ℕ
-end_lines signature word state = line (codes "end " ++ word_of word) ++ listing signature state
+end_lines signature word state = line (codes "end " ++ ending_word word) ++ listing signature state
 
 -- the first three lines, and the listing of the start state
 unfoldable pub header : Parts → ℕ → List ℕ

@@ -14,7 +14,7 @@ use Rattle.cep_machine.specs.Configuration.{Configuration, IsConfigurationOf}
 use Rattle.cep_play.specs.declared.choice.Choice.{Choice}
 use Rattle.cep_play.specs.declared.dialogue.EndWord.{EndWord}
 use Rattle.cep_play.specs.declared.dialogue.EndWord.TheVariants.{Quiet, Input, Turns, Offers, Typed, Atom, State}
-use Rattle.cep_play.specs.declared.dialogue.TheConstants.{HEIGHT}
+use Rattle.cep_base.specs.declared.limits.TheConstants.{DEFAULT_HEIGHT}
 use Rattle.cep_play.specs.declared.turn.Turned.{Turned}
 use Rattle.cep_play.specs.declared.turn.Turned.TheVariants.{Done, Over}
 use Rattle.cep_play.specs.Choice.{Hears}
@@ -28,10 +28,10 @@ position_of config = record { stage = config.stage; state = config.state; turns 
 -- The configuration is one of the program, at the height of a run.
 pub record IsPlayed {M : Type 0} (is_of : Parts → M → Type 0) (height_held : M → ℕ) (program : Parts) (config : Configuration M) : Type 0 where
   pub of_program : IsConfigurationOf is_of program config
-  pub height : height_held config.matcher ≡ HEIGHT
+  pub height : height_held config.matcher ≡ DEFAULT_HEIGHT
 
 -- The offers are written, and a choice among them is heard.
-pub record Asks (program : Parts) (offers : List Offer) (come : List ℕ) (taken : ℕ) (events : List Event) (choice : Choice) (rest : List ℕ) (taken' : ℕ) : Type 0 where
+pub record AsksPlayer (program : Parts) (offers : List Offer) (come : List ℕ) (taken : ℕ) (events : List Event) (choice : Choice) (rest : List ℕ) (taken' : ℕ) : Type 0 where
   pub heard : List Event
   pub hears : Hears (length offers) come taken heard choice rest taken'
   pub whole : events ≡ outs (question program offers) ++ heard
@@ -64,7 +64,7 @@ IsTooMuch Offers offer rule state = ⊥
 IsTooMuch Typed offer rule state = ⊥
 
 -- The step by the chosen offer would pass a limit, and nothing is written.
-pub record Fails (program : Parts) (offers : List Offer) (place : ℕ) (word : EndWord) (at : Position) (come : List ℕ) (events : List Event) (rest : List ℕ) : Type 0 where
+pub record PassesLimit (program : Parts) (offers : List Offer) (place : ℕ) (word : EndWord) (at : Position) (come : List ℕ) (events : List Event) (rest : List ℕ) : Type 0 where
   pub offer : Offer
   pub rule : Rule
   pub chosen : IsChosen program offers place offer rule
@@ -77,7 +77,7 @@ abbrev pub IsActed : {C M : Type 0} → (C → Option (List Event)) → (C → O
 IsActed talk left old new program offers place config (Done next) =
     Did talk left old new (Acts program offers place (position_of config) (position_of next)) × (next.turns ≡ config.turns + 1)
 IsActed talk left old new program offers place config (Over last) =
-    Did talk left old new (Fails program offers place last.word (position_of config)) × (last.config ≡ config)
+    Did talk left old new (PassesLimit program offers place last.word (position_of config)) × (last.config ≡ config)
 
 -- These events do one turn: put before any talk from the new position, they make a talk from the old one.
 abbrev pub IsTurn : Parts → ℕ → Position → ℕ → Position → ℕ → List ℕ → List Event → List ℕ → Type 0
@@ -94,14 +94,14 @@ IsLastTurn program height word at taken come events =
 -- What a turn from a position comes to: it was done, with one more turn done, or the run ends here.
 abbrev pub IsTurned : {C M : Type 0} → (C → Option (List Event)) → (C → Option (List ℕ)) → C → C → Parts → Configuration M → ℕ → ℕ → Turned M → Type 0
 IsTurned talk left old new program config taken taken' (Done next) =
-    Did talk left old new (IsTurn program HEIGHT (position_of config) taken (position_of next) taken') × (next.turns ≡ config.turns + 1)
+    Did talk left old new (IsTurn program DEFAULT_HEIGHT (position_of config) taken (position_of next) taken') × (next.turns ≡ config.turns + 1)
 IsTurned talk left old new program config taken taken' (Over last) =
-    Did talk left old new (λ come events rest. IsLastTurn program HEIGHT last.word (position_of config) taken come events) × (last.config ≡ config)
+    Did talk left old new (λ come events rest. IsLastTurn program DEFAULT_HEIGHT last.word (position_of config) taken come events) × (last.config ≡ config)
 
 -- the configuration that is there after a turn
-abbrev pub config_after : {M : Type 0} → Turned M → Configuration M
-config_after (Done config) = config
-config_after (Over last) = last.config
+abbrev pub config_left : {M : Type 0} → Turned M → Configuration M
+config_left (Done config) = config
+config_left (Over last) = last.config
 
 -- These events are all turns of a run: put before its end, they make a talk from the start, of which no byte was taken.
 abbrev pub AreTurns : Parts → ℕ → ℕ → EndWord → Position → Position → List ℕ → List Event → Type 0

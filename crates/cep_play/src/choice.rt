@@ -2,13 +2,11 @@
 ghost use Rattle.std.specs.Prelude.{◌≡◌, ℕ, ◌<◌, ◌≤◌, IfOk};
 ghost use Rattle.cep_base.specs.Talk.{Did, ConsoleCause};
 ghost use Rattle.cep_play.specs.declared.choice.Said.{Said};
-ghost use Rattle.cep_play.specs.Choice.{Cut, ReadsLine, Says, TakesSome, IsPlaceWithin, IsChoiceWithin, Hears};
+ghost use Rattle.cep_play.specs.Choice.{Cut, ReadsLine, IsHeardAs, TakesSome, IsPlaceWithin, IsChoiceWithin, Hears};
 
+use cep_base::limits::MOST_TYPED;
 use crate::typed::Typed;
 use cep_base::{Console, ConsoleFault};
-
-/// The most bytes that may be typed in a run.
-pub const MOST_TYPED: u64 = 16_777_216;
 
 /// What one typed line says of a choice.
 #[derive(Clone, Copy, Debug, PartialEq, Eq)]
@@ -44,7 +42,7 @@ pub enum Choice {
 /// Reads one line, of at most `room` bytes, and says which place among `n` it chooses.
 pub fn read_choice<C: Console>(console: &mut C, n: u32, room: u64) -> Result<Heard, ConsoleFault>
     ensures line { IfOk result (λ heard. Did C.talk C.left console.old console.new (λ come events rest.
-        (cut : Cut) × ReadsLine room come events cut rest heard.taken × Says n cut heard.said)) }
+        (cut : Cut) × ReadsLine room come events cut rest heard.taken × IsHeardAs n cut heard.said)) }
     ensures within { IfOk result (λ heard. heard.taken ≤ room) }
     ensures some { IfOk result (λ heard. TakesSome heard.said heard.taken) }
     ensures place { IfOk result (λ heard. IsPlaceWithin n heard.said) }

@@ -4,8 +4,9 @@ ghost use Rattle.cep_base.specs.Talk.{Did, ConsoleCause};
 ghost use Rattle.cep_base.specs.Faults.{Rose};
 ghost use Rattle.std.specs.Prelude.{OnOk, ◌++◌};
 ghost use Rattle.cep_play.specs.Lines.{line};
-ghost use Rattle.cep_play.specs.Command.{IsPlay, OfFile, Plays, RefusesFile, Writes, IsOver, IsLimited, OfText, OfRun, OfWords, CountsFaults, Adds, AsksFile, Asks, AsksFor, OfPlay, IsNoForm, usage, no_program, refusal_text, code_of, status_of};
+ghost use Rattle.cep_play.specs.Command.{IsPlay, OfFile, Plays, RefusesFile, Writes, IsFinished, IsLimited, OfText, OfRun, OfWords, CountsFaults, Adds, AsksFile, AskedAsSaid, AsksFor, OfPlay, IsNoForm, usage, no_program, refusal_text, code_of, status_of};
 
+use cep_base::limits::MOST_TEXT;
 use crate::dialogue::{EndWord, play};
 use cep_base::{Console, ConsoleFault, Shelf, ShelfFault, Steps, Text};
 use cep_ground::accept;
@@ -13,9 +14,6 @@ use cep_infer::Refusal;
 use cep_scratch::Scratch;
 use std::alloc::{AllocError, Global};
 use std::sync::ledger::Ledger;
-
-/// The most bytes of a program's text that are read.
-pub const MOST_TEXT: usize = 1_048_576;
 
 const USAGE: &[u8] =
     b"usage: play FILE [seed=N] [height=N] [turns=N] | check FILE LOG | world N [seed=N] [height=N] [turns=N]\n";
@@ -166,7 +164,7 @@ fn command<C: Console, H: Shelf, L: Ledger>(
     ensures outcome { IfOk result (OfWords C.talk C.left console.old console.new (H.files shelf.old) (map string_bytes words.now)) }
     ensures cause { ConsoleCause (C.faults console.old) (C.faults console.new) result }
     ensures faults { IfOk result (CountsFaults (H.faults shelf.old) (H.faults shelf.new)) }
-    ensures asked { Asks (H.asked shelf.old) (map string_bytes words.now) (H.asked shelf.new) result }
+    ensures asked { AskedAsSaid (H.asked shelf.old) (map string_bytes words.now) (H.asked shelf.new) result }
     ensures files { H.files shelf.new ≡ H.files shelf.old }
     ensures counted { steps.old ≤ steps.new }
 {
@@ -202,7 +200,7 @@ pub fn ceptre<C: Console, H: Shelf, L: Ledger>(
 ) -> u8
     // A run that ended is a dialogue of the program that the file's text spells.
     ensures ended { result ≡ 0 → OfPlay (map string_bytes words.now) (λ name. OfFile (H.files shelf.old) name (λ text.
-        Plays C.talk C.left console.old console.new text IsOver)) }
+        Plays C.talk C.left console.old console.new text IsFinished)) }
     ensures limited { result ≡ 4 → OfPlay (map string_bytes words.now) (λ name. OfFile (H.files shelf.old) name (λ text.
         Plays C.talk C.left console.old console.new text IsLimited)) }
 

@@ -1,13 +1,14 @@
 // A run: turn by turn the offers are written, a choice is read, and the step is done.
 ghost use Rattle.std.specs.Prelude.{◌≡◌, ◌<◌, ◌≤◌, IfOk, OnOk};
+ghost use Rattle.cep_base.specs.declared.limits.TheConstants.{MOST_TURNS};
 ghost use Rattle.cep_base.specs.Talk.{outs, Did, ConsoleCause};
-ghost use Rattle.cep_rule.specs.declared.limits.TheConstants.{MOST_TURNS};
 ghost use Rattle.cep_rule.specs.State.{IsState};
 ghost use Rattle.cep_ground.specs.Refusals.{IsBuilt};
-ghost use Rattle.cep_play.specs.Lines.{word_of, end_lines, header};
+ghost use Rattle.cep_play.specs.Lines.{ending_word, end_lines, header};
 ghost use Rattle.cep_play.specs.Turn.{position_of, IsPlayed, AreTurns};
 ghost use Rattle.cep_play.specs.Command.{Says, turn_limit};
 
+use cep_base::limits::{DEFAULT_HEIGHT, DEFAULT_TURNS};
 use crate::lines::{put_end, put_header};
 use crate::turn::{Ended, Turned, turn};
 use cep_base::{Console, ConsoleFault, Steps, Text};
@@ -16,12 +17,6 @@ use cep_rule::{Matcher, Program};
 use cep_term::Bag;
 use std::alloc::Global;
 use std::sync::ledger::Ledger;
-
-/// The height that a transcript names where no other is asked for.
-pub const HEIGHT: u32 = 128;
-
-/// The most turns of a run where the program asks for no other number.
-pub const TURNS: u32 = 10_000;
 
 /// Why a run ended.
 #[derive(Clone, Copy, Debug, PartialEq, Eq)]
@@ -45,7 +40,7 @@ pub enum EndWord {
 impl EndWord {
     /// The word as a transcript writes it.
     pub fn text(self) -> &'static [u8]
-        ensures { result.now ≡ word_of self }
+        ensures { result.now ≡ ending_word self }
     {
         match self {
             EndWord::Quiet => b"quiet",
@@ -73,7 +68,7 @@ fn all_turns<C: Console, M: Matcher, L: Ledger>(
     requires begins { start.turns ≡ 0 }
     requires limit { limit ≤ MOST_TURNS }
     ensures said { IfOk result (λ end. Did C.talk C.left console.old console.new (λ come events rest.
-        AreTurns program.now HEIGHT limit end.word (position_of start) (position_of end.config) come events)) }
+        AreTurns program.now DEFAULT_HEIGHT limit end.word (position_of start) (position_of end.config) come events)) }
     ensures played { IfOk result (λ end. IsPlayed M.is_of M.height_held program.now end.config) }
     ensures counted { steps.old ≤ steps.new }
     ensures cause { ConsoleCause (C.faults console.old) (C.faults console.new) result }
@@ -101,11 +96,11 @@ fn all_turns<C: Console, M: Matcher, L: Ledger>(
 /// Writes the header of a transcript.
 fn begin<C: Console>(alloc: Global, program: &Program, console: &mut C) -> Result<(), ConsoleFault>
     ensures told { OnOk result (Did C.talk C.left console.old console.new (λ come events rest.
-        (events ≡ outs (header program.now HEIGHT)) × (rest ≡ come))) }
+        (events ≡ outs (header program.now DEFAULT_HEIGHT)) × (rest ≡ come))) }
     ensures cause { ConsoleCause (C.faults console.old) (C.faults console.new) result }
 {
     let mut lines = Text::new(alloc);
-    put_header(&mut lines, program, HEIGHT)?;
+    put_header(&mut lines, program, DEFAULT_HEIGHT)?;
     console.put(lines.bytes())
 }
 
@@ -132,7 +127,7 @@ fn limit_of(program: &Program) -> u32
     ensures limit { result ≡ turn_limit program.now }
     ensures few { result ≤ MOST_TURNS }
 {
-    program.parts().turns.unwrap_or(TURNS)
+    program.parts().turns.unwrap_or(DEFAULT_TURNS)
 }
 
 /// Plays a program with the person at a console, from its start until the run ends. Answers why it
@@ -148,7 +143,7 @@ pub fn play<M: Matcher, C: Console, L: Ledger>(
     ensures counted { steps.old ≤ steps.new }
     ensures cause { ConsoleCause (C.faults console.old) (C.faults console.new) result }
 {
-    let config = Config::<M>::begin(alloc, program, HEIGHT, steps)?;
+    let config = Config::<M>::begin(alloc, program, DEFAULT_HEIGHT, steps)?;
     begin(alloc, program, console)?;
     let end = all_turns(alloc, program, config, limit_of(program), console, steps)?;
     finish(alloc, program, end.word, end.config.state(), console)?;

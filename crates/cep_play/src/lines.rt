@@ -3,7 +3,7 @@ ghost use Rattle.std.specs.Prelude.{◌≡◌, ◌<◌, ◌++◌, length, All, O
 ghost use Rattle.cep_term.specs.Tree.{atom_of};
 ghost use Rattle.cep_rule.specs.State.{IsState};
 ghost use Rattle.cep_rule.specs.Matching.{offers_of};
-ghost use Rattle.cep_text.specs.Texts.{IsTypedFact, IsOfferOf};
+ghost use Rattle.cep_text.specs.Texts.{IsTypedGround, IsOfferOf};
 ghost use Rattle.cep_play.specs.Lines.{have_line, listing, offer_line, question, stage_line, step_line, end_lines, header};
 
 use crate::dialogue::EndWord;
@@ -16,7 +16,7 @@ use std::alloc::AllocError;
 
 #[tactic(auto, using(std::proofs::Common::append_assoc), unfolding(crate::specs::Lines::have_line))]
 fn put_have(out: &mut Text, program: &Program, atom: &Atom, copies: u32) -> Result<(), AllocError>
-    requires { IsTypedFact program.now.signature (atom_of atom.now) }
+    requires { IsTypedGround program.now.signature (atom_of atom.now) }
     ensures { OnOk result (out.new ≡ out.old ++ have_line program.now.signature (atom_of atom.now, copies)) }
 {
     out.append(b"have ")?;

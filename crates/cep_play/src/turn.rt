@@ -1,16 +1,17 @@
 // One turn of a run: the offers are written, a choice is read, and the step is done.
 ghost use Rattle.std.specs.Prelude.{◌≡◌, ◌⊎◌, ◌<◌, ◌≤◌, length, IfOk, All};
+ghost use Rattle.cep_base.specs.declared.limits.TheConstants.{MOST_OFFERS, MOST_TURNS};
 ghost use Rattle.cep_base.specs.Talk.{Did, ConsoleCause};
-ghost use Rattle.cep_rule.specs.declared.limits.TheConstants.{MOST_OFFERS, MOST_TURNS};
 ghost use Rattle.cep_rule.specs.Matching.{offers_of};
 ghost use Rattle.cep_text.specs.Texts.{IsOfferOf};
 ghost use Rattle.cep_ground.specs.Refusals.{IsBuilt};
 ghost use Rattle.cep_machine.specs.Asking.{asked_offers};
 ghost use Rattle.cep_play.specs.declared.turn.Turned.TheVariants.{Over};
 ghost use Rattle.cep_play.specs.Choice.{IsChoiceWithin};
-ghost use Rattle.cep_play.specs.Turn.{Asks, IsPlayed, IsActed, IsTurned, config_after, limit_word};
+ghost use Rattle.cep_play.specs.Turn.{AsksPlayer, IsPlayed, IsActed, IsTurned, config_left, limit_word};
 
-use crate::choice::{Choice, MOST_TYPED, choose};
+use cep_base::limits::MOST_TYPED;
+use crate::choice::{Choice, choose};
 use crate::dialogue::EndWord;
 use crate::lines::{put_question, put_step};
 use cep_base::{Console, ConsoleFault, Steps, Text};
@@ -56,7 +57,7 @@ fn ask<C: Console, M: Matcher>(
     requires few { length (offers_of (M.offers_held matcher.now) group) ≤ MOST_OFFERS }
     requires within { taken.old ≤ MOST_TYPED }
     ensures heard { IfOk result (λ choice. Did C.talk C.left console.old console.new (λ come events rest.
-        Asks program.now (offers_of (M.offers_held matcher.now) group) come taken.old events choice rest taken.new)) }
+        AsksPlayer program.now (offers_of (M.offers_held matcher.now) group) come taken.old events choice rest taken.new)) }
     ensures place { IfOk result (λ choice. IsChoiceWithin (length (offers_of (M.offers_held matcher.now) group)) choice) }
     ensures within { taken.new ≤ MOST_TYPED }
     ensures cause { ConsoleCause (C.faults console.old) (C.faults console.new) result }
@@ -86,7 +87,7 @@ fn act<C: Console, M: Matcher, L: Ledger>(
     requires within { place ≤ length (offers_of (M.offers_held config.matcher) group) }
     requires turns { config.turns < MOST_TURNS }
     ensures acted { IfOk result (IsActed C.talk C.left console.old console.new program.now (offers_of (M.offers_held config.matcher) group) place config) }
-    ensures played { IfOk result (λ turned. IsPlayed M.is_of M.height_held program.now (config_after turned)) }
+    ensures played { IfOk result (λ turned. IsPlayed M.is_of M.height_held program.now (config_left turned)) }
     ensures counted { steps.old ≤ steps.new }
     ensures cause { ConsoleCause (C.faults console.old) (C.faults console.new) result }
 {
@@ -126,7 +127,7 @@ pub fn turn<C: Console, M: Matcher, L: Ledger>(
     requires turns { config.turns < MOST_TURNS }
     requires within { taken.old ≤ MOST_TYPED }
     ensures turned { IfOk result (IsTurned C.talk C.left console.old console.new program.now config taken.old taken.new) }
-    ensures played { IfOk result (λ turned. IsPlayed M.is_of M.height_held program.now (config_after turned)) }
+    ensures played { IfOk result (λ turned. IsPlayed M.is_of M.height_held program.now (config_left turned)) }
     ensures within { taken.new ≤ MOST_TYPED }
     ensures counted { steps.old ≤ steps.new }
     ensures cause { ConsoleCause (C.faults console.old) (C.faults console.new) result }

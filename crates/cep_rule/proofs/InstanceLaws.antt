@@ -2,11 +2,11 @@
 use Rattle.std.proofs.Common.{◌≡◌, ℕ, zero, suc, List, [], ◌∷◌, map, Option, Some, None, unwrap_or, subst}
 use Rattle.std.specs.Prelude.{slice_get, slice_index_or, IsSomeAnd}
 use Rattle.cep_term.specs.Tree.{Tree, Trees, AtomTree, variable, node, none, more, AreGround, IsGroundAtom}
-use Rattle.cep_term.specs.Values.{instance_of, instances_of}
+use Rattle.cep_term.specs.Values.{term_instance, argument_instances}
 use Rattle.cep_rule.specs.declared.signature.Con.{Con}
 use Rattle.cep_rule.specs.declared.signature.Signature.{Signature}
 use Rattle.cep_rule.specs.Typing.{HasSort, HaveSorts, IsTyped, IsValue, AreValues}
-use Rattle.cep_rule.specs.Instances.{given, instance_by}
+use Rattle.cep_rule.specs.Instances.{given, full_instance}
 
 -- what follows for each value follows for the value that there is
 for_some : {X : Type 0} (o : Option X) (P Q : X → Type 0) → ((x : X) → P x → Q x) → IsSomeAnd o P → IsSomeAnd o Q
@@ -36,14 +36,14 @@ abbrev AreOf : List Con → List ℕ → Trees → Type 0
 AreOf cons sorts args = AreGround args × HaveSorts cons [] sorts args
 
 mutual
-  term_value : (cons : List Con) (kinds : List ℕ) (values : List Tree) → AreValues cons kinds values → (t : Tree) (sort : ℕ) → HasSort cons kinds sort t → IsValue cons sort (instance_of (given values) t)
+  term_value : (cons : List Con) (kinds : List ℕ) (values : List Tree) → AreValues cons kinds values → (t : Tree) (sort : ℕ) → HasSort cons kinds sort t → IsValue cons sort (term_instance (given values) t)
   term_value cons kinds values are (variable v) sort h = value_at cons kinds values v sort (variable v) are h
   term_value cons kinds values are (node c args) sort h = record {
     ground = from_some (slice_get cons c) _ _ (λ con typed. (args_values cons kinds values are args con.args typed.1).0) h;
     typed = for_some (slice_get cons c) _ _ (λ con typed. (typed.0, (args_values cons kinds values are args con.args typed.1).1)) h;
   }
 
-  args_values : (cons : List Con) (kinds : List ℕ) (values : List Tree) → AreValues cons kinds values → (args : Trees) (sorts : List ℕ) → HaveSorts cons kinds sorts args → AreOf cons sorts (instances_of (given values) args)
+  args_values : (cons : List Con) (kinds : List ℕ) (values : List Tree) → AreValues cons kinds values → (args : Trees) (sorts : List ℕ) → HaveSorts cons kinds sorts args → AreOf cons sorts (argument_instances (given values) args)
   args_values cons kinds values are none [] h = (tt, tt)
   args_values cons kinds values are none (sort ∷ sorts) h = absurd h
   args_values cons kinds values are (more t rest) [] h = absurd h
@@ -52,10 +52,10 @@ mutual
       let others = args_values cons kinds values are rest sorts h.1 in
       ((first.ground, others.0), (first.typed, others.1))
 
-pub ground_instance : (signature : Signature) (kinds : List ℕ) (values : List Tree) (a : AtomTree) → AreValues signature.cons kinds values → IsTyped signature kinds a → IsGroundAtom (instance_by values a)
+pub ground_instance : (signature : Signature) (kinds : List ℕ) (values : List Tree) (a : AtomTree) → AreValues signature.cons kinds values → IsTyped signature kinds a → IsGroundAtom (full_instance values a)
 ground_instance signature kinds values a are typed =
     from_some (slice_get signature.preds a.pred) _ _ (λ pred h. (args_values signature.cons kinds values are a.args pred.args h).0) typed
 
-pub typed_instance : (signature : Signature) (kinds : List ℕ) (values : List Tree) (a : AtomTree) → AreValues signature.cons kinds values → IsTyped signature kinds a → IsTyped signature [] (instance_by values a)
+pub typed_instance : (signature : Signature) (kinds : List ℕ) (values : List Tree) (a : AtomTree) → AreValues signature.cons kinds values → IsTyped signature kinds a → IsTyped signature [] (full_instance values a)
 typed_instance signature kinds values a are typed =
     for_some (slice_get signature.preds a.pred) _ _ (λ pred h. (args_values signature.cons kinds values are a.args pred.args h).1) typed

@@ -5,6 +5,7 @@ use Rattle.std.proofs.lemmas.Bool.{eq-eqb}
 use Rattle.std.specs.List.{AllByRecursion, list_all}
 use Rattle.std.specs.FinMap.{get-empty, len-empty, len-entries}
 use Rattle.std.specs.FinMap as finite
+use Rattle.cep_base.specs.Spelling.{reserved_words}
 use Rattle.cep_term.specs.Tree.{AtomTree, variable, node, none, more}
 use Rattle.cep_term.specs.Order.{atom_cmp}
 use Rattle.cep_term.specs.Multiset.{count_of, IsEntry}
@@ -13,7 +14,7 @@ use Rattle.cep_rule.specs.declared.rule.Rule.{Rule}
 use Rattle.cep_rule.specs.declared.parts.Parts.{Parts}
 use Rattle.cep_rule.specs.declared.parts.Stage.{Stage}
 use Rattle.cep_rule.specs.Patterns.{ClauseTree}
-use Rattle.cep_rule.specs.Names.{IsName, IsVariableName, AreNames, reserved_words}
+use Rattle.cep_rule.specs.Names.{IsName, IsVariableName, AreNames}
 use Rattle.cep_rule.specs.State.{IsState, Fits}
 use Rattle.cep_rule.specs.Program.{IsProgram}
 
@@ -58,7 +59,7 @@ none_there a some = let none : count_of finite.empty a ≡ 0 = ap (λ found. unw
 empty_state : (signature : Signature) → IsState signature finite.empty
 empty_state signature = record {
   bag = subst (AllByRecursion IsEntry) (sym no_entries) tt;
-  facts = λ a some. absurd (none_there a some);
+  each = λ a some. absurd (none_there a some);
 }
 
 empty_fits : Fits finite.empty

@@ -8,11 +8,11 @@ use Rattle.cep_rule.specs.declared.rule.Rule.{Rule}
 use Rattle.cep_rule.specs.Patterns.{PremiseTree}
 use Rattle.cep_rule.specs.Typing.{IsTyped, AreValues}
 use Rattle.cep_rule.specs.Binding.{needed_of}
-use Rattle.cep_rule.specs.Instances.{instances_by, kept_of}
+use Rattle.cep_rule.specs.Instances.{full_instances, kept_of}
 use Rattle.cep_rule.specs.Program.{IsTypedRule}
 use Rattle.cep_rule.proofs.InstanceLaws.{ground_instance}
 
-ground_all : (signature : Signature) (kinds : List ℕ) (values : List Tree) → AreValues signature.cons kinds values → (atoms : List AtomTree) → AllByRecursion (IsTyped signature kinds) atoms → AllByRecursion IsGroundAtom (instances_by values atoms)
+ground_all : (signature : Signature) (kinds : List ℕ) (values : List Tree) → AreValues signature.cons kinds values → (atoms : List AtomTree) → AllByRecursion (IsTyped signature kinds) atoms → AllByRecursion IsGroundAtom (full_instances values atoms)
 ground_all signature kinds values are [] typed = tt
 ground_all signature kinds values are (a ∷ atoms) typed = ((ground_instance signature kinds values a are typed.0), (ground_all signature kinds values are atoms typed.1))
 
@@ -28,10 +28,10 @@ all_kept P (premise ∷ premises) all =
     let others = filter (λ (other : PremiseTree). other.kept) premises in
     elim premise.kept as (λ t. AllByRecursion P (map (λ other. other.atom) (cond t (premise ∷ others) others))) [ true ↦ (all.0, rest) | false ↦ rest ]
 
-pub ground_left : (signature : Signature) (rule : Rule) (values : List Tree) → IsTypedRule signature rule → AreValues signature.cons rule.kinds values → AllByRecursion IsGroundAtom (instances_by values (needed_of rule))
+pub ground_left : (signature : Signature) (rule : Rule) (values : List Tree) → IsTypedRule signature rule → AreValues signature.cons rule.kinds values → AllByRecursion IsGroundAtom (full_instances values (needed_of rule))
 ground_left signature rule values typed are = ground_all signature rule.kinds values are (needed_of rule) typed.premises
 
-pub ground_right : (signature : Signature) (rule : Rule) (values : List Tree) → IsTypedRule signature rule → AreValues signature.cons rule.kinds values → AllByRecursion IsGroundAtom (instances_by values (rule.right ++ kept_of rule))
+pub ground_right : (signature : Signature) (rule : Rule) (values : List Tree) → IsTypedRule signature rule → AreValues signature.cons rule.kinds values → AllByRecursion IsGroundAtom (full_instances values (rule.right ++ kept_of rule))
 ground_right signature rule values typed are =
     ground_all signature rule.kinds values are (rule.right ++ kept_of rule)
     (all_joined (IsTyped signature rule.kinds) rule.right (kept_of rule) typed.right (all_kept (IsTyped signature rule.kinds) rule.premises typed.premises))

@@ -7,7 +7,7 @@ use Rattle.cep_term.specs.Order.{atom_cmp}
 use Rattle.cep_term.specs.Multiset.{Multiset, count_of, sum_of, difference_of, IsContained, IsBag}
 use Rattle.cep_rule.specs.declared.rule.Rule.{Rule}
 use Rattle.cep_rule.specs.Binding.{needed_of}
-use Rattle.cep_rule.specs.Instances.{instances_by, kept_of, left_of, right_of}
+use Rattle.cep_rule.specs.Instances.{full_instances, kept_of, left_of, right_of}
 use Rattle.cep_rule.specs.Step.{Step, StepsByCounts}
 use Rattle.cep_rule.specs.Matching.{state_after}
 use Rattle.cep_rule.proofs.Copies.{HasCopies, copies-bag, copies-gathered, copies-sum_of, same_counts}
@@ -60,7 +60,7 @@ UndoesTaking = (bag other : Multiset) → IsBag bag → IsBag other → IsContai
 abbrev pub SumCommutes : Type 0
 SumCommutes = (bag other : Multiset) → IsBag bag → IsBag other → sum_of bag other ≡ sum_of other bag
 
-pub edit_is_step : KeepsBags → UndoesTaking → SumCommutes → (rule : Rule) (values : List Tree) (state : Multiset) → IsBag (left_of rule values) → IsBag (right_of rule values) → IsBag state → IsContained (left_of rule values) state → Step rule values state (state_after state (left_of rule values) (instances_by values (rule.right ++ kept_of rule)))
+pub edit_is_step : KeepsBags → UndoesTaking → SumCommutes → (rule : Rule) (values : List Tree) (state : Multiset) → IsBag (left_of rule values) → IsBag (right_of rule values) → IsBag state → IsContained (left_of rule values) state → Step rule values state (state_after state (left_of rule values) (full_instances values (rule.right ++ kept_of rule)))
 edit_is_step keeps undoes commutes rule values state kept_left kept_right kept contained =
     let left = left_of rule values in
     let rest = difference_of state left in
@@ -86,10 +86,10 @@ module _ (total : IsTotalOrder atom_cmp) (ties : IsAntisymmetric atom_cmp) (sums
   }
 
   left_copies : (rule : Rule) (values : List Tree) (rest : Multiset) → HasCopies (sum_of (left_of rule values) rest)
-  left_copies rule values rest = copies-sum_of total (left_of rule values) rest (copies-gathered total (instances_by values (needed_of rule)))
+  left_copies rule values rest = copies-sum_of total (left_of rule values) rest (copies-gathered total (full_instances values (needed_of rule)))
 
   right_copies : (rule : Rule) (values : List Tree) (rest : Multiset) → HasCopies (sum_of (right_of rule values) rest)
-  right_copies rule values rest = copies-sum_of total (right_of rule values) rest (copies-gathered total (instances_by values (rule.right ++ kept_of rule)))
+  right_copies rule values rest = copies-sum_of total (right_of rule values) rest (copies-gathered total (full_instances values (rule.right ++ kept_of rule)))
 
   pub one_step : (rule : Rule) (values : List Tree) (old one other : Multiset) → Step rule values old one → Step rule values old other → one ≡ other
   one_step rule values old one other step step' =

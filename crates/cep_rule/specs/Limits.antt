@@ -1,8 +1,8 @@
 -- The limits of a program.
 use Rattle.std.specs.Prelude.{ℕ, ◌≤◌, length, IfSome}
 use Rattle.std.specs.List.{AllByRecursion}
-use Rattle.cep_term.specs.Tree.{AtomTree, nodes_in}
-use Rattle.cep_rule.specs.declared.limits.TheConstants.{MOST_SORTS, MOST_CONS, MOST_PREDS, MOST_STAGES, MOST_RULES, MOST_CLAUSES, MOST_ARGUMENTS, MOST_VARIABLES, MOST_PREMISES, MOST_BACKS, MOST_RIGHT, MOST_GOALS, MOST_PATTERN_NODES, MOST_TURNS}
+use Rattle.cep_term.specs.Tree.{AtomTree, atom_nodes}
+use Rattle.cep_base.specs.declared.limits.TheConstants.{MOST_ARGUMENTS, MOST_BACKS, MOST_CLAUSES, MOST_CONS, MOST_GOALS, MOST_PATTERN_NODES, MOST_PREDS, MOST_PREMISES, MOST_RIGHT, MOST_RULES, MOST_SORTS, MOST_STAGES, MOST_TURNS, MOST_VARIABLES}
 use Rattle.cep_rule.specs.declared.signature.Signature.{Signature}
 use Rattle.cep_rule.specs.declared.rule.Rule.{Rule}
 use Rattle.cep_rule.specs.declared.parts.Parts.{Parts}
@@ -10,7 +10,7 @@ use Rattle.cep_rule.specs.Patterns.{ClauseTree}
 
 -- An atom of a rule or a clause has not too many nodes.
 abbrev pub IsSmallPattern : AtomTree → Type 0
-IsSmallPattern a = nodes_in a ≤ MOST_PATTERN_NODES
+IsSmallPattern a = atom_nodes a ≤ MOST_PATTERN_NODES
 
 -- There are not too many types, constructors and predicates, and none has too many arguments.
 pub record IsSmallSignature (signature : Signature) : Type 0 where

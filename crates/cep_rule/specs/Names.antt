@@ -2,20 +2,13 @@
 use Rattle.std.specs.Prelude.{◌≡◌, ◌≢◌, ◌⊎◌, ℕ, ◌≤◌, ◌==◌, ◌||◌, Bool, IsTrue, List, [], ◌∷◌, length, codes, decimal}
 use Rattle.std.specs.List.{AllByRecursion}
 use Rattle.std.specs.Char.{is_ascii_alphanumeric, is_ascii_lowercase, is_ascii_uppercase}
-use Rattle.cep_rule.specs.declared.limits.TheConstants.{MOST_NAME}
-
--- a byte that goes on with a name: an ASCII letter, a digit, `_`, `/` or `'`
-abbrev pub is_name_byte : ℕ → Bool
-is_name_byte byte = is_ascii_alphanumeric byte || byte == 95 || byte == 47 || byte == 39
+use Rattle.cep_base.specs.Spelling.{is_name_byte, reserved_words}
+use Rattle.cep_base.specs.declared.limits.TheConstants.{MOST_NAME}
 
 -- a byte that passes the test, and then bytes that go on with a name
 abbrev pub IsWord : (ℕ → Bool) → List ℕ → Type 0
 IsWord begins [] = ⊥
 IsWord begins (byte ∷ bytes) = IsTrue (begins byte) × AllByRecursion (λ next. IsTrue (is_name_byte next)) bytes
-
--- the words that name nothing
-abbrev pub reserved_words : List (List ℕ)
-reserved_words = codes "type" ∷ codes "pred" ∷ codes "bwd" ∷ codes "fact" ∷ codes "stage" ∷ codes "context" ∷ codes "qui" ∷ []
 
 -- A name: it begins with a small letter, is no reserved word, and is not too long.
 pub record IsName (name : List ℕ) : Type 0 where

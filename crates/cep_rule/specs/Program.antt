@@ -27,7 +27,7 @@ abbrev pub AreSorts : Signature → List ℕ → Type 0
 AreSorts signature kinds = AllByRecursion (λ sort. sort < length signature.sorts) kinds
 
 -- Each number of a type or a stage is that of one. (Those of constructors, predicates and variables are where atoms are well typed.)
-pub record AreInRange (parts : Parts) : Type 0 where
+pub record AreNumbersDeclared (parts : Parts) : Type 0 where
   pub con_sorts : AllByRecursion (λ con. con.sort < length parts.signature.sorts) parts.signature.cons
   pub con_args : AllByRecursion (λ con. AreSorts parts.signature con.args) parts.signature.cons
   pub pred_args : AllByRecursion (λ pred. AreSorts parts.signature pred.args) parts.signature.preds
@@ -72,7 +72,7 @@ pub record IsProgram (parts : Parts) : Type 0 where
   -- the names are names, and differ in each space
   pub named : AreNamed parts
   -- the numbers of types and stages are in range
-  pub in_range : AreInRange parts
+  pub in_range : AreNumbersDeclared parts
   -- all atoms are well typed
   pub typed_rules : AllByRecursion (IsTypedRule parts.signature) parts.rules
   pub typed_clauses : AllByRecursion (IsTypedClause parts.signature) parts.clauses

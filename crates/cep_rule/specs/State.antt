@@ -1,22 +1,22 @@
--- States: multisets of facts.
+-- States: multisets of ground atoms.
 use Rattle.std.specs.Prelude.{◌<◌, ◌≤◌, []}
 use Rattle.cep_term.specs.Tree.{AtomTree, IsGroundAtom, IsFit}
 use Rattle.cep_term.specs.Multiset.{Multiset, count_of, copies_in, nodes_in_all, IsBag}
-use Rattle.cep_rule.specs.declared.limits.TheConstants.{MOST_COPIES, MOST_STATE_NODES}
+use Rattle.cep_base.specs.declared.limits.TheConstants.{MOST_COPIES, MOST_STATE_NODES}
 use Rattle.cep_rule.specs.declared.signature.Signature.{Signature}
 use Rattle.cep_rule.specs.Typing.{IsTyped, IsLinear}
 
--- A fact: a ground, well-typed, fit atom of a linear predicate.
-pub record IsFact (signature : Signature) (a : AtomTree) : Type 0 where
+-- An atom that a state may have: ground, well typed, fit and of a linear predicate.
+pub record IsStateAtom (signature : Signature) (a : AtomTree) : Type 0 where
   pub ground : IsGroundAtom a
   pub typed : IsTyped signature [] a
   pub linear : IsLinear signature a
   pub fit : IsFit a
 
--- A state: a multiset in which each atom that is there is a fact.
+-- A state: a multiset in which each atom that is there may be there.
 pub record IsState (signature : Signature) (state : Multiset) : Type 0 where
   pub bag : IsBag state
-  pub facts : (a : AtomTree) → 0 < count_of state a → IsFact signature a
+  pub each : (a : AtomTree) → 0 < count_of state a → IsStateAtom signature a
 
 -- A state fits: it has not too many copies, and not too many nodes, each copy counted.
 pub record Fits (state : Multiset) : Type 0 where

@@ -1,7 +1,7 @@
 ghost use Rattle.std.specs.Prelude.{◌≡◌, length, IfOk};
 ghost use Rattle.cep_term.specs.Tree.{atom_of, tree_of, trees_of, IsInRange, AreInRange, IsAtomInRange};
-ghost use Rattle.cep_term.specs.Values.{instance_of, instances_of};
-ghost use Rattle.cep_rule.specs.Instances.{given, instance_by};
+ghost use Rattle.cep_term.specs.Values.{term_instance, argument_instances};
+ghost use Rattle.cep_rule.specs.Instances.{given, full_instance};
 
 use crate::terms::Terms;
 use cep_term::{Args, Atom, Term, copy_term};
@@ -11,7 +11,7 @@ use std::alloc::{AllocError, Global};
 /// instantiated. Each variable needs to have a value. Only want of memory is refused.
 pub fn instance(alloc: Global, atom: &Atom, values: &Terms) -> Result<Atom, AllocError>
     requires { IsAtomInRange (length values.now) (atom_of atom.now) }
-    ensures { IfOk result (λ a. atom_of a ≡ instance_by values.now (atom_of atom.now)) }
+    ensures { IfOk result (λ a. atom_of a ≡ full_instance values.now (atom_of atom.now)) }
 {
     Ok(Atom {
         pred: atom.pred,
@@ -23,7 +23,7 @@ pub fn instance(alloc: Global, atom: &Atom, values: &Terms) -> Result<Atom, Allo
 #[cycle(instance)]
 fn term_by(alloc: Global, term: &Term, values: &Terms) -> Result<Term, AllocError>
     requires { IsInRange (length values.now) (tree_of term.now) }
-    ensures { IfOk result (λ t. tree_of t ≡ instance_of (given values.now) (tree_of term.now)) }
+    ensures { IfOk result (λ t. tree_of t ≡ term_instance (given values.now) (tree_of term.now)) }
 {
     match term {
         Term::Var(v) => copy_term(alloc, values.get(*v as usize)),
@@ -38,7 +38,7 @@ fn term_by(alloc: Global, term: &Term, values: &Terms) -> Result<Term, AllocErro
 #[cycle(instance)]
 fn args_by(alloc: Global, args: &Args, values: &Terms) -> Result<Args, AllocError>
     requires { AreInRange (length values.now) (trees_of args.now) }
-    ensures { IfOk result (λ others. trees_of others ≡ instances_of (given values.now) (trees_of args.now)) }
+    ensures { IfOk result (λ others. trees_of others ≡ argument_instances (given values.now) (trees_of args.now)) }
 {
     match args {
         Args::Nil => Ok(Args::Nil),

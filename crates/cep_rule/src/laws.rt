@@ -12,7 +12,7 @@ ghost use Rattle.cep_rule.specs.declared.offer.Offer.{Offer};
 ghost use Rattle.cep_rule.specs.Patterns.{ClauseTree};
 ghost use Rattle.cep_rule.specs.Typing.{IsTyped, AreValues};
 ghost use Rattle.cep_rule.specs.Groundness.{Known, IsBad};
-ghost use Rattle.cep_rule.specs.Instances.{instance_by, instances_by, kept_of, left_of, right_of};
+ghost use Rattle.cep_rule.specs.Instances.{full_instance, full_instances, kept_of, left_of, right_of};
 ghost use Rattle.cep_rule.specs.Offers.{offer_cmp, AreOffers};
 ghost use Rattle.cep_rule.specs.Step.{Step, StepsByCounts};
 ghost use Rattle.cep_rule.specs.Matching.{state_after};
@@ -75,7 +75,7 @@ pub fn edits_are_steps()
         → AreValues signature.cons rule.kinds values
         → IsBag state
         → IsContained (left_of rule values) state
-        → Step rule values state (state_after state (left_of rule values) (instances_by values (rule.right ++ kept_of rule))) }
+        → Step rule values state (state_after state (left_of rule values) (full_instances values (rule.right ++ kept_of rule))) }
 {
     sides_are_bags();
     sums_and_differences();
@@ -87,11 +87,11 @@ pub fn instances_are_ground_and_typed()
     ensures ground { (signature : Signature) (kinds : List ℕ) (values : List Tree) (a : AtomTree)
         → AreValues signature.cons kinds values
         → IsTyped signature kinds a
-        → IsGroundAtom (instance_by values a) }
+        → IsGroundAtom (full_instance values a) }
     ensures typed { (signature : Signature) (kinds : List ℕ) (values : List Tree) (a : AtomTree)
         → AreValues signature.cons kinds values
         → IsTyped signature kinds a
-        → IsTyped signature [] (instance_by values a) }
+        → IsTyped signature [] (full_instance values a) }
 {}
 
 /// With values of the right types both sides of a well-typed rule are multisets of ground atoms.

@@ -13,9 +13,7 @@ mod atoms;
 mod clause;
 mod derivation;
 mod instances;
-mod items;
 pub mod laws;
-mod limits;
 mod matcher;
 mod offer;
 mod parts;
@@ -30,12 +28,6 @@ pub use atoms::AtomList;
 pub use clause::{Clause, Clauses};
 pub use derivation::{Derivation, Derivations};
 pub use instances::instance;
-pub use items::Items;
-pub use limits::{
-    MOST_ARGUMENTS, MOST_BACKS, MOST_CLAUSES, MOST_CONS, MOST_COPIES, MOST_GOALS, MOST_NAME,
-    MOST_OFFERS, MOST_PATTERN_NODES, MOST_PREDS, MOST_PREMISES, MOST_RIGHT, MOST_RULES, MOST_SORTS,
-    MOST_STAGES, MOST_STATE_NODES, MOST_TURNS, MOST_VARIABLES,
-};
 pub use matcher::Matcher;
 pub use offer::{Offer, order_offer};
 pub use parts::{Parts, Stage, Stages};

@@ -4,10 +4,10 @@ ghost use Rattle.cep_term.specs.Multiset.{Multiset, IsContained};
 ghost use Rattle.cep_rule.specs.declared.parts.Parts.{Parts};
 ghost use Rattle.cep_rule.specs.declared.offer.Offer.{Offer};
 ghost use Rattle.cep_rule.specs.State.{IsState, Fits};
-ghost use Rattle.cep_rule.specs.Matching.{offers_of, AreListed, state_after, Rose};
+ghost use Rattle.cep_rule.specs.Matching.{offers_of, AreListed, state_after, RoseBy};
 
+use cep_base::limits::MOST_OFFERS;
 use crate::atoms::AtomList;
-use crate::limits::MOST_OFFERS;
 use crate::offer::Offer;
 use crate::program::Program;
 use cep_base::Steps;
@@ -51,12 +51,12 @@ pub trait Matcher: Sized + Drop {
     ) -> Result<Self, AllocError>
         requires some_height { 1 ≤ height }
         requires low { height ≤ 512 }
-        requires facts { IsState program.now.signature state.now }
+        requires is_state { IsState program.now.signature state.now }
         requires fits { Fits state.now }
         ensures of_program { IfOk result (λ matcher. is_of program.now matcher) }
         ensures same_state { IfOk result (λ matcher. state_held matcher ≡ state.now) }
         ensures same_height { IfOk result (λ matcher. height_held matcher ≡ height) }
-        ensures ticked { IfOk result (λ matcher. Rose (may_begin program.now state.now height) steps.old steps.new) }
+        ensures ticked { IfOk result (λ matcher. RoseBy (may_begin program.now state.now height) steps.old steps.new) }
         ensures never_falls { steps.old ≤ steps.new };
 
     /// The matcher after these atoms are taken from its state and those are added, in this order.
@@ -72,12 +72,12 @@ pub trait Matcher: Sized + Drop {
     ) -> Result<Self, AllocError>
         requires of_program { is_of program.now self }
         requires contained { IsContained taken.now (state_held self) }
-        requires facts { IsState program.now.signature (state_after (state_held self) taken.now added.now) }
+        requires is_state { IsState program.now.signature (state_after (state_held self) taken.now added.now) }
         requires fits { Fits (state_after (state_held self) taken.now added.now) }
         ensures of_program { IfOk result (λ matcher. is_of program.now matcher) }
         ensures new_state { IfOk result (λ matcher. state_held matcher ≡ state_after (state_held self) taken.now added.now) }
         ensures same_height { IfOk result (λ matcher. height_held matcher ≡ height_held self) }
-        ensures ticked { IfOk result (λ matcher. Rose (may_edit program.now (state_held self) (height_held self) taken.now added.now) steps.old steps.new) }
+        ensures ticked { IfOk result (λ matcher. RoseBy (may_edit program.now (state_held self) (height_held self) taken.now added.now) steps.old steps.new) }
         ensures never_falls { steps.old ≤ steps.new };
 
     /// How many offers the group has. It takes no memory.

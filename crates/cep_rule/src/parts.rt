@@ -1,8 +1,7 @@
 use crate::clause::Clauses;
-use crate::items::Items;
 use crate::rule::Rules;
 use crate::signature::Signature;
-use cep_base::Name;
+use cep_base::{List, Name};
 use cep_term::Bag;
 
 /// A stage of Ceptre, whose own rules run until none applies. In an interactive one the player
@@ -14,7 +13,7 @@ pub struct Stage {
 }
 
 /// A list of stages.
-pub type Stages = Items<Stage>;
+pub type Stages = List<Stage>;
 
 /// What a program is made of. Stages, rules and clauses are numbered in written order, from 0. The
 /// rules of stage k are those of group 2k, and those that leave it at quiescence are those of group

@@ -2,9 +2,8 @@ ghost use Rattle.std.specs.Prelude.{◌≡◌, ◌<◌, [], ◌∷◌, ◌++◌,
 ghost use Rattle.cep_rule.specs.Patterns.{premise_of};
 
 use crate::atoms::AtomList;
-use crate::items::Items;
 use crate::signature::{Kinds, Names};
-use cep_base::Name;
+use cep_base::{List, Name};
 use cep_term::Atom;
 use std::alloc::{AllocError, Global};
 use std::marker::Model;
@@ -34,7 +33,7 @@ pub struct Rule {
 }
 
 /// A list of rules.
-pub type Rules = Items<Rule>;
+pub type Rules = List<Rule>;
 
 /// A list of premises.
 #[derive(Debug, Drop)]

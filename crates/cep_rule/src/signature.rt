@@ -1,17 +1,16 @@
-use crate::items::Items;
-use cep_base::Name;
+use cep_base::{List, Name};
 
 /// A list of names: those of the types of a program, or those of the variables of a rule.
-pub type Names = Items<Name>;
+pub type Names = List<Name>;
 
 /// A list of types, each by its number.
-pub type Kinds = Items<u32>;
+pub type Kinds = List<u32>;
 
 /// A list of constructors.
-pub type Cons = Items<Con>;
+pub type Cons = List<Con>;
 
 /// A list of predicates.
-pub type Preds = Items<PredDecl>;
+pub type Preds = List<PredDecl>;
 
 /// A constructor: it makes a term of its type from one term of each argument's type. Types are
 /// simple and constructors first order, as in Ceptre.

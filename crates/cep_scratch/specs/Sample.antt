@@ -56,6 +56,6 @@ the_a = record { pred = 2; args = none }
 
 -- A state of few copies of small atoms.
 pub record IsSmallState (copies : ℕ) (state : Multiset) : Type 0 where
-  pub facts : IsState the_signature state
+  pub is_state : IsState the_signature state
   pub few : copies_in state ≤ copies
   pub small : nodes_in_all state ≤ 4 * copies

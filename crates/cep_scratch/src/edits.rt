@@ -1,8 +1,8 @@
 ghost use Rattle.std.specs.Prelude.{◌≡◌, ◌+◌, ◌-◌, ◌≤◌, length, OnOk};
+ghost use Rattle.cep_base.specs.declared.limits.TheConstants.{MOST_COPIES};
 ghost use Rattle.std.specs.List.{AllByRecursion};
 ghost use Rattle.cep_term.specs.Tree.{atom_of, IsGroundAtom};
 ghost use Rattle.cep_term.specs.Multiset.{count_of, with_count, gathered, sum_of, difference_of, copies_in, IsContained, IsBag};
-ghost use Rattle.cep_rule.specs.declared.limits.TheConstants.{MOST_COPIES};
 
 use cep_rule::AtomList;
 use cep_term::laws::{

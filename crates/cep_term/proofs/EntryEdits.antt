@@ -16,7 +16,7 @@ atom_at [] a i d at = absurd at
 atom_at (x ∷ items) a zero d at = at
 atom_at (x ∷ items) a (suc i) d at = atom_at items a i d at.1
 
--- the fact of each entry, at the atom's
+-- what holds of each entry, at the atom's
 entry_at : (items : List Entry) (a : AtomTree) (i : ℕ) (d : Entry) → IsAt (entries_of items) a i → AllByRecursion IsEntry (entries_of items) → IsEntry (entry_of (get_or items i d))
 entry_at [] a i d at all = absurd at
 entry_at (x ∷ items) a zero d at all = all.0

@@ -11,7 +11,7 @@ use Rattle.std.specs.Ordering.{is_eq, eq_by_cmp}
 use Rattle.std.specs.Cmp.{tied_itself}
 use Rattle.std.specs.FinMap as finite
 use Rattle.std.specs.FinMap.Entries.{find, below_all}
-use Rattle.cep_term.specs.Tree.{AtomTree, IsGroundAtom, nodes_in}
+use Rattle.cep_term.specs.Tree.{AtomTree, IsGroundAtom, atom_nodes}
 use Rattle.cep_term.specs.Order.{atom_cmp}
 use Rattle.cep_term.specs.Multiset.{Multiset, count_of, with_count, with_one, gathered, sum_of, difference_of, copies_in, nodes_in_all, IsContained, IsBag, IsEntry}
 use Rattle.cep_term.specs.Entries.{IsRising, find_count, set_among}
@@ -78,7 +78,7 @@ pub copies_empty : copies_in finite.empty ≡ 0
 copies_empty = ap total entries_empty
 
 pub nodes_empty : nodes_in_all finite.empty ≡ 0
-nodes_empty = ap (λ es. sum_by (λ e. e.1 * nodes_in e.0) es) entries_empty
+nodes_empty = ap (λ es. sum_by (λ e. e.1 * atom_nodes e.0) es) entries_empty
 
 pub bag_empty : IsBag finite.empty
 bag_empty = subst (AllByRecursion IsEntry) (sym entries_empty) tt
@@ -176,20 +176,20 @@ module _ (worth : AtomTree → ℕ → ℕ) (nothing : (a : AtomTree) → worth 
       omega (arith, worth_sum adds es next, worth_set_count bag e.0 (count_of bag e.0 + e.1), adds e.0 (count_of bag e.0) e.1, sum_by-cons (λ (d : Counted). worth d.0 d.1) e es)
 
 -- no copies have no nodes
-no_nodes : (a : AtomTree) → 0 * nodes_in a ≡ 0
-no_nodes a = zero-mul (nodes_in a)
+no_nodes : (a : AtomTree) → 0 * atom_nodes a ≡ 0
+no_nodes a = zero-mul (atom_nodes a)
 
 pub copies_set_count : (bag : Multiset) (a : AtomTree) (n : ℕ) → copies_in (with_count bag a n) + count_of bag a ≡ copies_in bag + n
 copies_set_count = worth_set_count (λ a n. n) (λ a. refl)
 
-pub nodes_set_count : (bag : Multiset) (a : AtomTree) (n : ℕ) → nodes_in_all (with_count bag a n) + count_of bag a * nodes_in a ≡ nodes_in_all bag + n * nodes_in a
-nodes_set_count = worth_set_count (λ a n. n * nodes_in a) no_nodes
+pub nodes_set_count : (bag : Multiset) (a : AtomTree) (n : ℕ) → nodes_in_all (with_count bag a n) + count_of bag a * atom_nodes a ≡ nodes_in_all bag + n * atom_nodes a
+nodes_set_count = worth_set_count (λ a n. n * atom_nodes a) no_nodes
 
 pub copies_sum : (bag other : Multiset) → copies_in (sum_of bag other) ≡ copies_in bag + copies_in other
 copies_sum bag other = worth_sum (λ a n. n) (λ a. refl) (λ a n m. refl) (finite.entries other) bag
 
 pub nodes_sum : (bag other : Multiset) → nodes_in_all (sum_of bag other) ≡ nodes_in_all bag + nodes_in_all other
-nodes_sum bag other = worth_sum (λ a n. n * nodes_in a) no_nodes (λ a n m. add-mul n m (nodes_in a)) (finite.entries other) bag
+nodes_sum bag other = worth_sum (λ a n. n * atom_nodes a) no_nodes (λ a n m. add-mul n m (atom_nodes a)) (finite.entries other) bag
 
 -- what one copy more makes of the copies
 pub copies_with_one : (bag : Multiset) (a : AtomTree) → copies_in (with_count bag a (count_of bag a + 1)) ≡ copies_in bag + 1

@@ -77,7 +77,7 @@ empty_seen_back es bag n result rising seen is e =
       λ empty. e ∙ eq-eqb n 0 (is ∙ long ∙ ap (λ z. finite.len z) empty ∙ finite.len-empty atom_cmp ℕ),
     )
 
--- a fact of each entry, at one of them
+-- what holds of each entry, at one of them
 pub all_at : {E : Type 0} (P : Counted → Type 0) (f : E → Counted) (xs : List E) (i : ℕ) (x : E) → AllByRecursion P (map f xs) → i < length xs → x ≡ get_or xs i x → P (f x)
 all_at P f [] i x all lt is = absurd (omega arith)
 all_at P f (y ∷ xs) zero x all lt is = subst (λ z. P (f z)) (sym is) all.0

@@ -5,7 +5,7 @@ use Rattle.std.proofs.lemmas.Bool.{cases_eq}
 use Rattle.std.specs.Option.{option_map}
 use Rattle.cep_term.specs.declared.term.Term.{Term}
 use Rattle.cep_term.specs.Tree.{Tree, Trees, variable, node, none, more, tree_of, IsGround, AreGround, Occurs, OccursAmong}
-use Rattle.cep_term.specs.Values.{Values, value_of, values_of, AreGroundValues, instance_of, instances_of}
+use Rattle.cep_term.specs.Values.{Values, value_of, values_of, AreGroundValues, term_instance, argument_instances}
 
 -- a value that is set, seen without boxes
 pub values_of-set : (terms : List (Option Term)) (v : ℕ) (x : Option Term) → values_of (slice_set terms v x) ≡ slice_set (values_of terms) v (option_map tree_of x)
@@ -35,13 +35,13 @@ some_value (Some t) h = (t, refl)
 
 -- a pattern whose variables have ground values has a ground instance
 mutual
-  pub instance_ground : (t : Tree) (values : Values) → AreGroundValues values → ((v : ℕ) → Occurs v t → IsSome (value_of values v)) → IsGround (instance_of values t)
+  pub instance_ground : (t : Tree) (values : Values) → AreGroundValues values → ((v : ℕ) → Occurs v t → IsSome (value_of values v)) → IsGround (term_instance values t)
   instance_ground (variable v) values all has =
       let found = some_value (value_of values v) (has v refl) in
       rw found.1 (all v found.0 found.1)
   instance_ground (node c args) values all has = instances_ground args values all has
 
-  pub instances_ground : (ts : Trees) (values : Values) → AreGroundValues values → ((v : ℕ) → OccursAmong v ts → IsSome (value_of values v)) → AreGround (instances_of values ts)
+  pub instances_ground : (ts : Trees) (values : Values) → AreGroundValues values → ((v : ℕ) → OccursAmong v ts → IsSome (value_of values v)) → AreGround (argument_instances values ts)
   instances_ground none values all has = tt
   instances_ground (more t ts) values all has = (instance_ground t values all (λ v occurs. has v (inl occurs)), instances_ground ts values all (λ v occurs. has v (inr occurs)))
 

@@ -2,7 +2,7 @@
 use Rattle.std.specs.Prelude.{ℕ, ◌+◌, ◌-◌, ◌*◌, ◌≤◌, ◌<◌, ◌==◌, if◌then◌else◌, List, [], ◌∷◌, fold, sum_by, unwrap_or}
 use Rattle.std.specs.List.{AllByRecursion}
 use Rattle.std.specs.FinMap as finite
-use Rattle.cep_term.specs.Tree.{AtomTree, IsGroundAtom, nodes_in}
+use Rattle.cep_term.specs.Tree.{AtomTree, IsGroundAtom, atom_nodes}
 use Rattle.cep_term.specs.Order.{atom_cmp}
 
 -- a finite map from atoms to counts; its entries stand in the order of the atoms
@@ -48,7 +48,7 @@ copies_in bag = sum_by (λ e. e.1) (finite.entries bag)
 
 -- how many nodes there are in all, each copy counted
 abbrev pub nodes_in_all : Multiset → ℕ
-nodes_in_all bag = sum_by (λ e. e.1 * nodes_in e.0) (finite.entries bag)
+nodes_in_all bag = sum_by (λ e. e.1 * atom_nodes e.0) (finite.entries bag)
 
 -- The entry is of a ground atom, and there is a copy of it.
 abbrev pub IsEntry : AtomTree × ℕ → Type 0

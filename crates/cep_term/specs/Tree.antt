@@ -5,7 +5,7 @@ use Rattle.cep_term.specs.declared.term.Term.TheVariants.{Var, App'}
 use Rattle.cep_term.specs.declared.term.Args.{Args}
 use Rattle.cep_term.specs.declared.term.Args.TheVariants.{Nil, Cons'}
 use Rattle.cep_term.specs.declared.term.Atom.{Atom}
-use Rattle.cep_term.specs.declared.term.TheConstants.{MAX_NODES, MAX_DEPTH}
+use Rattle.cep_base.specs.declared.limits.TheConstants.{MOST_DEPTH, MOST_NODES}
 
 mutual
   -- a term: a variable by its number, or a constructor by its number with one term for each argument
@@ -53,36 +53,36 @@ IsGroundAtom a = AreGround a.args
 
 -- how many variables, constructors and predicates there are: a variable counts 1, and else the head counts 1
 abbrev mutual
-  pub nodes_of : Tree → ℕ
-  nodes_of (variable v) = 1
-  nodes_of (node c args) = 1 + nodes_among args
+  pub term_nodes : Tree → ℕ
+  term_nodes (variable v) = 1
+  term_nodes (node c args) = 1 + argument_nodes args
 
-  pub nodes_among : Trees → ℕ
-  nodes_among none = 0
-  nodes_among (more t rest) = nodes_of t + nodes_among rest
+  pub argument_nodes : Trees → ℕ
+  argument_nodes none = 0
+  argument_nodes (more t rest) = term_nodes t + argument_nodes rest
 
 -- how many nodes the atom has
-abbrev pub nodes_in : AtomTree → ℕ
-nodes_in a = 1 + nodes_among a.args
+abbrev pub atom_nodes : AtomTree → ℕ
+atom_nodes a = 1 + argument_nodes a.args
 
 -- how many levels there are: 1 without arguments, and else 1 more than the deepest argument
 abbrev mutual
-  pub depth_of : Tree → ℕ
-  depth_of (variable v) = 1
-  depth_of (node c args) = 1 + depth_among args
+  pub term_depth : Tree → ℕ
+  term_depth (variable v) = 1
+  term_depth (node c args) = 1 + argument_depth args
 
-  pub depth_among : Trees → ℕ
-  depth_among none = 0
-  depth_among (more t rest) = max (depth_of t) (depth_among rest)
+  pub argument_depth : Trees → ℕ
+  argument_depth none = 0
+  argument_depth (more t rest) = max (term_depth t) (argument_depth rest)
 
 -- how many levels the atom has
-abbrev pub depth_in : AtomTree → ℕ
-depth_in a = 1 + depth_among a.args
+abbrev pub atom_depth : AtomTree → ℕ
+atom_depth a = 1 + argument_depth a.args
 
 -- The atom is small enough to be kept in a state or a derivation.
 pub record IsFit (a : AtomTree) : Type 0 where
-  pub nodes : nodes_in a ≤ MAX_NODES
-  pub depth : depth_in a ≤ MAX_DEPTH
+  pub nodes : atom_nodes a ≤ MOST_NODES
+  pub depth : atom_depth a ≤ MOST_DEPTH
 
 -- The variable occurs in the term, or in some argument.
 abbrev mutual

@@ -22,17 +22,17 @@ AreGroundValues values = (v : ℕ) (t : Tree) → value_of values v ≡ Some t �
 
 -- the term with each variable that has a value replaced by it
 abbrev mutual
-  pub instance_of : Values → Tree → Tree
-  instance_of values (variable v) = unwrap_or (value_of values v) (variable v)
-  instance_of values (node c args) = node c (instances_of values args)
+  pub term_instance : Values → Tree → Tree
+  term_instance values (variable v) = unwrap_or (value_of values v) (variable v)
+  term_instance values (node c args) = node c (argument_instances values args)
 
-  pub instances_of : Values → Trees → Trees
-  instances_of values none = none
-  instances_of values (more t rest) = more (instance_of values t) (instances_of values rest)
+  pub argument_instances : Values → Trees → Trees
+  argument_instances values none = none
+  argument_instances values (more t rest) = more (term_instance values t) (argument_instances values rest)
 
 -- the atom with each variable that has a value replaced by it
-abbrev pub instance_in : Values → AtomTree → AtomTree
-instance_in values a = record { pred = a.pred; args = instances_of values a.args }
+abbrev pub atom_instance : Values → AtomTree → AtomTree
+atom_instance values a = record { pred = a.pred; args = argument_instances values a.args }
 
 -- Each variable of the pattern has a value.
 abbrev pub HasValues : Values → AtomTree → Type 0
@@ -43,8 +43,8 @@ abbrev pub Extends : Values → Values → Type 0
 Extends old new = (v : ℕ) (t : Tree) → value_of old v ≡ Some t → value_of new v ≡ Some t
 
 -- The pattern meets the atom under the values old, and new has besides these exactly the values of the pattern's other variables that make the two equal.
-pub record Meets (old new : Values) (pattern fact : AtomTree) : Type 0 where
-  pub equal : instance_in new pattern ≡ fact
+pub record Meets (old new : Values) (pattern target : AtomTree) : Type 0 where
+  pub equal : atom_instance new pattern ≡ target
   pub kept : Extends old new
   pub set : HasValues new pattern
   pub others : (v : ℕ) → ¬ (OccursIn v pattern) → value_of new v ≡ value_of old v
@@ -52,4 +52,4 @@ pub record Meets (old new : Values) (pattern fact : AtomTree) : Type 0 where
 
 -- No values of further variables make the pattern and the atom equal.
 abbrev pub NeverMeets : Values → AtomTree → AtomTree → Type 0
-NeverMeets old pattern fact = (values : Values) → Extends old values → instance_in values pattern ≢ fact
+NeverMeets old pattern target = (values : Values) → Extends old values → atom_instance values pattern ≢ target

@@ -1,7 +1,7 @@
 ghost use Rattle.std.specs.Prelude.{◌≡◌, ◌<◌, length, replicate, slice_set, IfOk, IfSome, Some, None};
 ghost use Rattle.std.specs.Option.{option_map};
 ghost use Rattle.cep_term.specs.Tree.{atom_of, tree_of, trees_of, IsGround, IsGroundAtom};
-ghost use Rattle.cep_term.specs.Values.{value_of, values_of, AreGroundValues, instance_of, instances_of, instance_in, HasValues};
+ghost use Rattle.cep_term.specs.Values.{value_of, values_of, AreGroundValues, term_instance, argument_instances, atom_instance, HasValues};
 
 use crate::copying::copy_term;
 use crate::term::{Args, Atom, Term};
@@ -71,7 +71,7 @@ impl Binding {
 /// The pattern with each variable replaced by its value, as Ceptre's rules are instantiated. A
 /// variable without a value stays. Only want of memory is refused.
 pub fn apply(alloc: Global, pattern: &Atom, values: &Binding) -> Result<Atom, AllocError>
-    ensures value { IfOk result (λ a. atom_of a ≡ instance_in values.now (atom_of pattern.now)) }
+    ensures value { IfOk result (λ a. atom_of a ≡ atom_instance values.now (atom_of pattern.now)) }
     ensures known { HasValues values.now (atom_of pattern.now) → IfOk result (λ a. IsGroundAtom (atom_of a)) }
 {
     Ok(Atom {
@@ -83,7 +83,7 @@ pub fn apply(alloc: Global, pattern: &Atom, values: &Binding) -> Result<Atom, Al
 // The term with each variable that has a value replaced by it.
 #[cycle(under)]
 fn term_under(alloc: Global, t: &Term, values: &[Option<Term>]) -> Result<Term, AllocError>
-    ensures { IfOk result (λ other. tree_of other ≡ instance_of (values_of values.now) (tree_of t.now)) }
+    ensures { IfOk result (λ other. tree_of other ≡ term_instance (values_of values.now) (tree_of t.now)) }
 {
     match t {
         Term::Var(v) => match values.get(*v as usize) {
@@ -100,7 +100,7 @@ fn term_under(alloc: Global, t: &Term, values: &[Option<Term>]) -> Result<Term, 
 // The arguments with each variable that has a value replaced by it.
 #[cycle(under)]
 fn args_under(alloc: Global, args: &Args, values: &[Option<Term>]) -> Result<Args, AllocError>
-    ensures { IfOk result (λ others. trees_of others ≡ instances_of (values_of values.now) (trees_of args.now)) }
+    ensures { IfOk result (λ others. trees_of others ≡ argument_instances (values_of values.now) (trees_of args.now)) }
 {
     match args {
         Args::Nil => Ok(Args::Nil),

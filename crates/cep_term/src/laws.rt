@@ -4,9 +4,9 @@ ghost use Rattle.std.specs.Prelude.{◌≡◌, ℕ, ◌+◌, ◌-◌, ◌*◌, �
 ghost use Rattle.std.specs.List.{AllByRecursion};
 ghost use Rattle.std.specs.Cmp.{IsTotalOrder};
 ghost use Rattle.std.specs.FinMap as finite;
-ghost use Rattle.cep_term.specs.Tree.{Tree, AtomTree, variable, IsGroundAtom, OccursIn, nodes_in};
+ghost use Rattle.cep_term.specs.Tree.{Tree, AtomTree, variable, IsGroundAtom, OccursIn, atom_nodes};
 ghost use Rattle.cep_term.specs.Order.{tree_cmp, atom_cmp};
-ghost use Rattle.cep_term.specs.Values.{Values, value_of, instance_of, instance_in, AreGroundValues, HasValues, Extends, Meets, NeverMeets};
+ghost use Rattle.cep_term.specs.Values.{Values, value_of, term_instance, atom_instance, AreGroundValues, HasValues, Extends, Meets, NeverMeets};
 ghost use Rattle.cep_term.specs.Multiset.{Multiset, count_of, with_count, with_one, gathered, sum_of, difference_of, copies_in, nodes_in_all, IsContained, IsBag};
 
 /// The order of terms and of atoms is total, and only equal ones tie.
@@ -21,40 +21,40 @@ pub fn order_is_total()
 pub fn instances_of_instances()
     ensures of_known { (values : Values) (a : AtomTree)
         → IsGroundAtom a
-        → instance_in values a ≡ a }
+        → atom_instance values a ≡ a }
     ensures twice { (first next both : Values) (a : AtomTree)
-        → ((v : ℕ) → instance_of next (instance_of first (variable v)) ≡ instance_of both (variable v))
-        → instance_in next (instance_in first a) ≡ instance_in both a }
+        → ((v : ℕ) → term_instance next (term_instance first (variable v)) ≡ term_instance both (variable v))
+        → atom_instance next (atom_instance first a) ≡ atom_instance both a }
     ensures later { (old new : Values) (a : AtomTree)
         → AreGroundValues old
         → Extends old new
-        → instance_in new (instance_in old a) ≡ instance_in new a }
+        → atom_instance new (atom_instance old a) ≡ atom_instance new a }
     ensures alike { (x y : Values) (a : AtomTree)
         → ((v : ℕ) → OccursIn v a → value_of x v ≡ value_of y v)
-        → instance_in x a ≡ instance_in y a }
+        → atom_instance x a ≡ atom_instance y a }
     ensures known { (values : Values) (a : AtomTree)
         → AreGroundValues values
         → HasValues values a
-        → IsGroundAtom (instance_in values a) }
+        → IsGroundAtom (atom_instance values a) }
 {}
 
 /// A pattern meets a ground atom with one choice of values, which every other choice that makes the
 /// two equal has too; and then it is not so that it never meets.
 pub fn matches_are_least()
-    ensures one { (old new other : Values) (pattern fact : AtomTree)
-        → IsGroundAtom fact
-        → Meets old new pattern fact
-        → Meets old other pattern fact
+    ensures one { (old new other : Values) (pattern target : AtomTree)
+        → IsGroundAtom target
+        → Meets old new pattern target
+        → Meets old other pattern target
         → new ≡ other }
-    ensures least { (old new values : Values) (pattern fact : AtomTree)
-        → IsGroundAtom fact
-        → Meets old new pattern fact
+    ensures least { (old new values : Values) (pattern target : AtomTree)
+        → IsGroundAtom target
+        → Meets old new pattern target
         → Extends old values
-        → instance_in values pattern ≡ fact
+        → atom_instance values pattern ≡ target
         → Extends new values }
-    ensures not_both { (old new : Values) (pattern fact : AtomTree)
-        → Meets old new pattern fact
-        → ¬ (NeverMeets old pattern fact) }
+    ensures not_both { (old new : Values) (pattern target : AtomTree)
+        → Meets old new pattern target
+        → ¬ (NeverMeets old pattern target) }
 {}
 
 /// What setting a count does to the counts, the copies and the nodes of a multiset.
@@ -70,7 +70,7 @@ pub fn counts_are_set()
     ensures copies { (bag : Multiset) (a : AtomTree) (n : ℕ)
         → copies_in (with_count bag a n) + count_of bag a ≡ copies_in bag + n }
     ensures nodes { (bag : Multiset) (a : AtomTree) (n : ℕ)
-        → nodes_in_all (with_count bag a n) + count_of bag a * nodes_in a ≡ nodes_in_all bag + n * nodes_in a }
+        → nodes_in_all (with_count bag a n) + count_of bag a * atom_nodes a ≡ nodes_in_all bag + n * atom_nodes a }
     ensures kept { (bag : Multiset) (a : AtomTree) (n : ℕ)
         → IsGroundAtom a
         → IsBag bag

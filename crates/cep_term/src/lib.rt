@@ -24,7 +24,7 @@ pub use copying::{copy, copy_term};
 pub use entries::Missing;
 pub use matching::meet;
 pub use measure::{depth, nodes};
-pub use term::{Args, Atom, MAX_DEPTH, MAX_NODES, Term};
+pub use term::{Args, Atom, Term};
 
 #[cfg(test)]
 mod tests;

@@ -1,13 +1,13 @@
 ghost use Rattle.std.specs.Prelude.{◌≡◌, ◌<◌, ◌^◌};
-ghost use Rattle.cep_term.specs.Tree.{atom_of, tree_of, trees_of, nodes_in, nodes_of, nodes_among, depth_in, depth_of, depth_among};
+ghost use Rattle.cep_term.specs.Tree.{atom_of, tree_of, trees_of, atom_nodes, term_nodes, argument_nodes, atom_depth, term_depth, argument_depth};
 
 use crate::term::{Args, Atom, Term};
 
 /// How many nodes the atom has: its predicate, its constructors and its variables, each place
 /// counted. The measure is this profile's. It takes no memory.
 pub fn nodes(a: &Atom) -> u64
-    requires { nodes_in (atom_of a.now) < 2 ^ 64 }
-    ensures { result ≡ nodes_in (atom_of a.now) }
+    requires { atom_nodes (atom_of a.now) < 2 ^ 64 }
+    ensures { result ≡ atom_nodes (atom_of a.now) }
 {
     1 + args_nodes(&a.args)
 }
@@ -15,8 +15,8 @@ pub fn nodes(a: &Atom) -> u64
 // How many nodes the term has.
 #[cycle(nodes)]
 fn term_nodes(t: &Term) -> u64
-    requires { nodes_of (tree_of t.now) < 2 ^ 64 }
-    ensures { result ≡ nodes_of (tree_of t.now) }
+    requires { term_nodes (tree_of t.now) < 2 ^ 64 }
+    ensures { result ≡ term_nodes (tree_of t.now) }
 {
     match t {
         Term::Var(_) => 1,
@@ -27,8 +27,8 @@ fn term_nodes(t: &Term) -> u64
 // How many nodes the arguments have together.
 #[cycle(nodes)]
 fn args_nodes(args: &Args) -> u64
-    requires { nodes_among (trees_of args.now) < 2 ^ 64 }
-    ensures { result ≡ nodes_among (trees_of args.now) }
+    requires { argument_nodes (trees_of args.now) < 2 ^ 64 }
+    ensures { result ≡ argument_nodes (trees_of args.now) }
 {
     match args {
         Args::Nil => 0,
@@ -39,8 +39,8 @@ fn args_nodes(args: &Args) -> u64
 /// How many levels the atom has: 1 without arguments, and else one more than its deepest argument;
 /// a variable is one level. The measure is this profile's. It takes no memory.
 pub fn depth(a: &Atom) -> u64
-    requires { depth_in (atom_of a.now) < 2 ^ 64 }
-    ensures { result ≡ depth_in (atom_of a.now) }
+    requires { atom_depth (atom_of a.now) < 2 ^ 64 }
+    ensures { result ≡ atom_depth (atom_of a.now) }
 {
     1 + args_depth(&a.args)
 }
@@ -48,8 +48,8 @@ pub fn depth(a: &Atom) -> u64
 // How many levels the term has.
 #[cycle(depth)]
 fn term_depth(t: &Term) -> u64
-    requires { depth_of (tree_of t.now) < 2 ^ 64 }
-    ensures { result ≡ depth_of (tree_of t.now) }
+    requires { term_depth (tree_of t.now) < 2 ^ 64 }
+    ensures { result ≡ term_depth (tree_of t.now) }
 {
     match t {
         Term::Var(_) => 1,
@@ -60,8 +60,8 @@ fn term_depth(t: &Term) -> u64
 // How many levels the deepest argument has, and 0 where there is none.
 #[cycle(depth)]
 fn args_depth(args: &Args) -> u64
-    requires { depth_among (trees_of args.now) < 2 ^ 64 }
-    ensures { result ≡ depth_among (trees_of args.now) }
+    requires { argument_depth (trees_of args.now) < 2 ^ 64 }
+    ensures { result ≡ argument_depth (trees_of args.now) }
 {
     match args {
         Args::Nil => 0,

@@ -1,9 +1,3 @@
-/// The most nodes that an atom of a state or a derivation may have. A limit of this profile.
-pub const MAX_NODES: u64 = 65_536;
-
-/// The most levels that an atom of a state or a derivation may have. A limit of this profile.
-pub const MAX_DEPTH: u64 = 512;
-
 /// A term: a variable by its number, or a constructor by its number with one term for each
 /// argument. Ceptre's first-order terms.
 #[derive(Debug, Drop)]

@@ -1,7 +1,7 @@
 -- What variables are given, as it is read.
 use Rattle.std.proofs.Common.{◌≡◌, ℕ, ◌+◌, ◌≤◌, List, [], ◌∷◌, ◌++◌, length, codes, Some, refl, sym, ap, subst, ◌∙◌, arith, append_assoc, append-nil}
 use Rattle.std.specs.List.{AllByRecursion}
-use Rattle.cep_term.specs.Tree.{Tree, depth_of}
+use Rattle.cep_term.specs.Tree.{Tree, term_depth}
 use Rattle.cep_rule.specs.declared.signature.Signature.{Signature}
 use Rattle.cep_rule.specs.Names.{AreNames}
 use Rattle.cep_rule.specs.Typing.{AreValues}
@@ -109,7 +109,7 @@ small_read signature names (kind ∷ kinds) (t ∷ values) typed small =
 -- how many levels any of the values has at most
 abbrev pub levels_of : List Tree → ℕ
 levels_of [] = 0
-levels_of (t ∷ values) = depth_of t + levels_of values
+levels_of (t ∷ values) = term_depth t + levels_of values
 
 -- all values are read with that many levels
 pub all_read : (signature : Signature) → AreNames (con_names signature.cons) → (depth : ℕ) (kinds : List ℕ) (values : List Tree) → AreValues signature.cons kinds values → levels_of values ≤ depth → AreRead signature (value_at signature.cons depth) kinds values
@@ -117,6 +117,6 @@ all_read signature names depth [] [] typed low = tt
 all_read signature names depth [] (t ∷ values) typed low = absurd typed
 all_read signature names depth (kind ∷ kinds) [] typed low = absurd typed
 all_read signature names depth (kind ∷ kinds) (t ∷ values) typed low =
-    let one : depth_of t ≤ depth = omega arith in
+    let one : term_depth t ≤ depth = omega arith in
     let others : levels_of values ≤ depth = omega arith in
     ((λ rest apart. value_again signature names t depth kind rest typed.0.ground typed.0.typed one apart), all_read signature names depth kinds values typed.1 others)

@@ -6,10 +6,11 @@ use Rattle.std.specs.Char.{is_ascii_lowercase}
 use Rattle.std.specs.Option.{option_map}
 use Rattle.std.proofs.lemmas.Bool.{eqb-true, eq-eqb}
 use Rattle.std.proofs.lemmas.Option.{slice_get-map}
+use Rattle.cep_base.specs.Spelling.{is_name_byte}
 use Rattle.cep_rule.specs.declared.signature.Con.{Con}
 use Rattle.cep_rule.specs.declared.signature.PredDecl.{PredDecl}
-use Rattle.cep_rule.specs.Names.{is_name_byte, IsWord, IsName, AreNames}
-use Rattle.cep_text.specs.Reading.{literal_at, name_len, front_name, behind_name, number_of, con_names, pred_names, of_sort, con_at, pred_head, pred_at}
+use Rattle.cep_rule.specs.Names.{IsWord, IsName, AreNames}
+use Rattle.cep_text.specs.Reading.{literal_at, name_len, front_name, behind_name, number_among, con_names, pred_names, of_sort, con_at, pred_head, pred_at}
 use Rattle.cep_text.proofs.Numbers.{by_bind, guard_some, some_is, all_at, number_is, number_found, item_name}
 
 -- No byte of a name stands at the front.
@@ -80,7 +81,7 @@ named (Some other) con name e there = let p : other ≡ con = cc in ap (λ c. c.
 pub con_found : (cons : List Con) (sort : ℕ) (bytes : List ℕ) (number : ℕ) (kinds rest : List ℕ) → con_at cons sort bytes ≡ Some ((number, kinds), rest) → ConFound cons sort bytes number kinds rest
 unfolding con_at
 con_found cons sort bytes number kinds rest e =
-    by_bind (number_of (con_names cons) (front_name bytes)) _ _ e (λ n n-is e.
+    by_bind (number_among (con_names cons) (front_name bytes)) _ _ e (λ n n-is e.
     by_bind (of_sort sort n (slice_get cons n)) _ _ e (λ head head-is e.
     let read : (ℕ × List ℕ) × List ℕ = (head, behind_name bytes) in
     let wanted : (ℕ × List ℕ) × List ℕ = ((number, kinds), rest) in
@@ -128,7 +129,7 @@ named_pred (Some other) pred name e there = let p : other ≡ pred = cc in ap (�
 pub pred_found : (preds : List PredDecl) (bytes : List ℕ) (number : ℕ) (kinds rest : List ℕ) → pred_at preds bytes ≡ Some ((number, kinds), rest) → PredFound preds bytes number kinds rest
 unfolding pred_at
 pred_found preds bytes number kinds rest e =
-    by_bind (number_of (pred_names preds) (front_name bytes)) _ _ e (λ n n-is e.
+    by_bind (number_among (pred_names preds) (front_name bytes)) _ _ e (λ n n-is e.
     by_bind (pred_head n (slice_get preds n)) _ _ e (λ head head-is e.
     let read : (ℕ × List ℕ) × List ℕ = (head, behind_name bytes) in
     let wanted : (ℕ × List ℕ) × List ℕ = ((number, kinds), rest) in

@@ -6,7 +6,7 @@ use Rattle.std.proofs.lemmas.List.{length-map}
 use Rattle.std.proofs.lemmas.Option.{slice_get-map, slice_get_within}
 use Rattle.std.proofs.lemmas.Slice.Eq.{bytes_eq-Decides}
 use Rattle.cep_rule.specs.Names.{AllDiffer}
-use Rattle.cep_text.specs.Reading.{◌>>=◌, number_of}
+use Rattle.cep_text.specs.Reading.{◌>>=◌, number_among}
 
 -- what follows from a step that did not fail
 pub by_bind : {A B P : Type 0} (r : Option A) (f : A → Option B) (y : B) → (r >>= f) ≡ Some y → ((x : A) → r ≡ Some x → f x ≡ Some y → P) → P
@@ -41,10 +41,10 @@ bytes_apart a b apart = cases (bytes_eq a b) refl where
 
 -- no name before the place is this one
 abbrev pub IsNotBefore : ℕ → List (List ℕ) → List ℕ → Type 0
-IsNotBefore i names name = number_of (take i names) name ≡ None
+IsNotBefore i names name = number_among (take i names) name ≡ None
 
 pub not_before_none : (names : List (List ℕ)) (name : List ℕ) → IsNotBefore 0 names name
-unfolding number_of
+unfolding number_among
 not_before_none names name = refl
 
 -- of the first name and the rest neither is this one
@@ -55,20 +55,20 @@ first_apart false (Some number) e = absurd cc
 
 -- one name more is another
 pub not_before_more : (i : ℕ) (names : List (List ℕ)) (name other : List ℕ) → slice_get names i ≡ Some other → bytes_eq other name ≡ false → IsNotBefore i names name → IsNotBefore (suc i) names name
-unfolding number_of
+unfolding number_among
 not_before_more i [] name other e apart before = absurd cc
 not_before_more zero (first ∷ names) name other e apart before = let p : first ≡ other = cc in rw (p, apart) refl
 not_before_more (suc i) (first ∷ names) name other e apart before =
-    let parts = first_apart (bytes_eq first name) (number_of (take i names) name) before in
+    let parts = first_apart (bytes_eq first name) (number_among (take i names) name) before in
     rw (parts.0, not_before_more i names name other e apart parts.1) refl
 
 -- the first that is this one
-pub number_here : (i : ℕ) (names : List (List ℕ)) (name other : List ℕ) → slice_get names i ≡ Some other → bytes_eq other name ≡ true → IsNotBefore i names name → number_of names name ≡ Some i
-unfolding number_of
+pub number_here : (i : ℕ) (names : List (List ℕ)) (name other : List ℕ) → slice_get names i ≡ Some other → bytes_eq other name ≡ true → IsNotBefore i names name → number_among names name ≡ Some i
+unfolding number_among
 number_here i [] name other e same before = absurd cc
 number_here zero (first ∷ names) name other e same before = let p : first ≡ other = cc in rw (p, same) refl
 number_here (suc i) (first ∷ names) name other e same before =
-    let parts = first_apart (bytes_eq first name) (number_of (take i names) name) before in
+    let parts = first_apart (bytes_eq first name) (number_among (take i names) name) before in
     rw (parts.0, number_here i names name other e same parts.1) refl
 
 -- the same where each name is of an item
@@ -76,8 +76,8 @@ pub item_name : {X : Type 0} (name_of : X → List ℕ) (items : List X) (i : �
 item_name name_of items i item e = slice_get-map name_of items i ∙ ap (option_map name_of) e
 
 -- among different names each is found at its place
-pub number_found : (names : List (List ℕ)) (i : ℕ) (name : List ℕ) → AllDiffer names → slice_get names i ≡ Some name → number_of names name ≡ Some i
-unfolding number_of
+pub number_found : (names : List (List ℕ)) (i : ℕ) (name : List ℕ) → AllDiffer names → slice_get names i ≡ Some name → number_among names name ≡ Some i
+unfolding number_among
 number_found [] i name differ e = absurd cc
 number_found (other ∷ names) zero name differ e = let p : other ≡ name = cc in rw (← p, bytes_same other) refl
 number_found (other ∷ names) (suc i) name differ e =
@@ -85,17 +85,17 @@ number_found (other ∷ names) (suc i) name differ e =
     rw (bytes_apart other name apart, number_found names i name differ.1 e) refl
 
 -- what is found has the name
-pub number_is : (names : List (List ℕ)) (name : List ℕ) (i : ℕ) → number_of names name ≡ Some i → slice_get names i ≡ Some name
-unfolding number_of
+pub number_is : (names : List (List ℕ)) (name : List ℕ) (i : ℕ) → number_among names name ≡ Some i → slice_get names i ≡ Some name
+unfolding number_among
 number_is [] name i e = absurd cc
 number_is (other ∷ names) name i e = cases (bytes_eq other name) refl e (number_is names name) where
-  cases : (same : Bool) → bytes_eq other name ≡ same → cond same (Some zero) (number_of names name >>= λ number. Some (suc number)) ≡ Some i → ((i : ℕ) → number_of names name ≡ Some i → slice_get names i ≡ Some name) → slice_get (other ∷ names) i ≡ Some name
+  cases : (same : Bool) → bytes_eq other name ≡ same → cond same (Some zero) (number_among names name >>= λ number. Some (suc number)) ≡ Some i → ((i : ℕ) → number_among names name ≡ Some i → slice_get names i ≡ Some name) → slice_get (other ∷ names) i ≡ Some name
   cases true t e more = let p : zero ≡ i = cc in subst (λ (i : ℕ). slice_get (other ∷ names) i ≡ Some name) p (ap Some ((bytes_eq-Decides other name).0 t))
   cases false t e more =
-      by_bind (number_of names name) _ i e (λ number is e.
+      by_bind (number_among names name) _ i e (λ number is e.
       subst (λ (i : ℕ). slice_get (other ∷ names) i ≡ Some name) (some_is (suc number) i e) (more number is))
 
-pub number_within : {X : Type 0} (name_of : X → List ℕ) (items : List X) (name : List ℕ) (i : ℕ) → number_of (map name_of items) name ≡ Some i → i < length items
+pub number_within : {X : Type 0} (name_of : X → List ℕ) (items : List X) (name : List ℕ) (i : ℕ) → number_among (map name_of items) name ≡ Some i → i < length items
 number_within name_of items name i e =
     let within = slice_get_within (map name_of items) i name (number_is (map name_of items) name i e) in
     omega (arith, within, length-map items name_of)

@@ -10,9 +10,9 @@ use Rattle.cep_rule.specs.declared.parts.Parts.{Parts}
 use Rattle.cep_rule.specs.Names.{IsName, AreNames}
 use Rattle.cep_rule.specs.Typing.{AreValues}
 use Rattle.cep_rule.specs.Program.{IsProgram, IsTypedRule}
-use Rattle.cep_text.specs.Texts.{rule_name, rule_vars, all_given_text, offer_text, IsOfferOf}
+use Rattle.cep_text.specs.Texts.{offer_name, rule_vars, all_given_text, offer_text, IsOfferOf}
 use Rattle.cep_text.specs.Reads.{IsSmallTerm, IsOfferText}
-use Rattle.cep_text.specs.Reading.{Reader, name_len, front_name, behind_name, number_of, rule_names, small_at, whole, givens_at, rule_at, offer_read}
+use Rattle.cep_text.specs.Reading.{Reader, name_len, front_name, behind_name, number_among, rule_names, small_at, whole, givens_at, rule_at, offer_read}
 use Rattle.cep_text.proofs.Numbers.{by_bind, some_is, none_is, all_at, number_is, number_found, item_name}
 use Rattle.cep_text.proofs.Heads.{IsApart, name_bytes, front_is, behind_is}
 use Rattle.cep_text.proofs.TermTexts.{whole_is}
@@ -30,7 +30,7 @@ named_rule (Some other) rule name e there = let p : other ≡ rule = cc in ap (�
 rule_found : (rules : List Rule) (bytes : List ℕ) (number : ℕ) (rule : Rule) (rest : List ℕ) → rule_at rules bytes ≡ Some ((number, rule), rest) → RuleFound rules bytes number rule rest
 unfolding rule_at
 rule_found rules bytes number rule rest e =
-    by_bind (number_of (rule_names rules) (front_name bytes)) _ _ e (λ n n-is e.
+    by_bind (number_among (rule_names rules) (front_name bytes)) _ _ e (λ n n-is e.
     by_bind (slice_get rules n) _ _ e (λ found found-is e.
     let read : (ℕ × Rule) × List ℕ = ((n, found), behind_name bytes) in
     let wanted : (ℕ × Rule) × List ℕ = ((number, rule), rest) in
@@ -69,7 +69,7 @@ as_many program number rule keeps there = (all_at (IsTypedRule program.signature
 
 -- the text of an offer of this rule
 text_by : (program : Parts) (number : ℕ) (rule : Rule) (values : List Tree) → slice_get program.rules number ≡ Some rule → rule.name ++ all_given_text program.signature rule.vars values ≡ offer_text program (record { rule = number; values = values })
-text_by program number rule values there = ap (λ found. rule_name found ++ all_given_text program.signature (rule_vars found) values) (sym there)
+text_by program number rule values there = ap (λ found. offer_name found ++ all_given_text program.signature (rule_vars found) values) (sym there)
 
 pub offer_some : (program : Parts) (bytes : List ℕ) (offer : Offer) → IsProgram program → offer_read program (small_at program.signature.cons) bytes ≡ Some offer → IsOfferText program bytes offer
 unfolding offer_read

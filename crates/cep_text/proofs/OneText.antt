@@ -1,16 +1,16 @@
 -- No text is the text of two values.
 use Rattle.std.proofs.Common.{◌≡◌, ℕ, ◌+◌, ◌≤◌, List, [], ◌++◌, slice_get, codes, Option, Some, None, refl, sym, ap, subst, ◌∙◌, arith, append-nil, append_assoc}
-use Rattle.cep_term.specs.Tree.{Tree, Trees, AtomTree, variable, node, none, more, IsGround, AreGround, depth_of, depth_among}
+use Rattle.cep_term.specs.Tree.{Tree, Trees, AtomTree, variable, node, none, more, IsGround, AreGround, term_depth, argument_depth}
 use Rattle.cep_rule.specs.declared.signature.Con.{Con}
 use Rattle.cep_rule.specs.declared.signature.Signature.{Signature}
 use Rattle.cep_rule.specs.Names.{IsName, AreNames}
 use Rattle.cep_rule.specs.declared.parts.Parts.{Parts}
 use Rattle.cep_rule.specs.declared.offer.Offer.{Offer}
 use Rattle.cep_rule.specs.Typing.{HasSort, IsValue}
-use Rattle.cep_rule.specs.Derivations.{ProofTree, height_of}
+use Rattle.cep_rule.specs.Derivations.{ProofTree, proof_height}
 use Rattle.cep_rule.specs.Program.{IsProgram}
-use Rattle.cep_text.specs.Texts.{con_name, pred_name, term_text, args_text, atom_text, offer_text, proof_text, IsGroundTerm, IsTypedFact, IsOfferOf, IsProofOf}
-use Rattle.cep_text.specs.Reading.{◌>>=◌, literal_at, front_name, number_of, con_names, pred_names, pred_at, arguments_at, value_at, offer_read, proof_read}
+use Rattle.cep_text.specs.Texts.{con_name, pred_name, term_text, args_text, atom_text, offer_text, proof_text, IsGroundTerm, IsTypedGround, IsOfferOf, IsProofOf}
+use Rattle.cep_text.specs.Reading.{◌>>=◌, literal_at, front_name, number_among, con_names, pred_names, pred_at, arguments_at, value_at, offer_read, proof_read}
 use Rattle.cep_text.proofs.Numbers.{some_is, all_at, number_found, item_name}
 use Rattle.cep_text.proofs.ValuesAgain.{con_of, value_again, arguments_again, args_apart}
 use Rattle.cep_text.proofs.Literals.{literal_again}
@@ -27,7 +27,7 @@ one_read read a b x y e f g = some_is x y (sym f ∙ ap read e ∙ g)
 one_term : (program : Parts) (sort : ℕ) (one other : Tree) → IsProgram program → IsValue program.signature.cons sort one → IsValue program.signature.cons sort other → term_text program.signature one ≡ term_text program.signature other → one ≡ other
 one_term program sort one other keeps a b e =
     let signature = program.signature in
-    let depth = depth_of one + depth_of other in
+    let depth = term_depth one + term_depth other in
     let f = value_again signature keeps.named.cons one depth sort [] a.ground a.typed (omega arith) refl in
     let g = value_again signature keeps.named.cons other depth sort [] b.ground b.typed (omega arith) refl in
     ap (λ z. z.0) (one_read (value_at signature.cons depth sort) (term_text signature one ++ []) (term_text signature other ++ []) (one, []) (other, []) (ap (λ text. text ++ []) e) f g)
@@ -39,9 +39,9 @@ unopened (Some inside) bytes = inside
 
 -- the number of the constructor that the text names first
 abbrev first_number : Signature → List ℕ → Option ℕ
-first_number signature text = number_of (con_names signature.cons) (front_name (unopened (literal_at (codes "(") text) text))
+first_number signature text = number_among (con_names signature.cons) (front_name (unopened (literal_at (codes "(") text) text))
 
-number_in : (signature : Signature) → AreNames (con_names signature.cons) → (number : ℕ) (con : Con) (rest : List ℕ) → slice_get signature.cons number ≡ Some con → IsApart rest → number_of (con_names signature.cons) (front_name (con.name ++ rest)) ≡ Some number
+number_in : (signature : Signature) → AreNames (con_names signature.cons) → (number : ℕ) (con : Con) (rest : List ℕ) → slice_get signature.cons number ≡ Some con → IsApart rest → number_among (con_names signature.cons) (front_name (con.name ++ rest)) ≡ Some number
 number_in signature names number con rest there apart =
     let named_there = item_name (λ con. con.name) signature.cons number con there in
     let letters = name_bytes con.name (all_at IsName (con_names signature.cons) number con.name names.each named_there) in
@@ -78,7 +78,7 @@ one_ground_term program one other keeps a b e =
 abbrev front_atom : Signature → ℕ → List ℕ → Option AtomTree
 front_atom signature depth bytes = pred_at signature.preds bytes >>= λ pred. (arguments_at (value_at signature.cons depth) pred.0.1 pred.1 >>= λ args. Some (record { pred = pred.0.0; args = args.0 }))
 
-atom_again : (signature : Signature) (depth : ℕ) → AreNames (con_names signature.cons) → AreNames (pred_names signature.preds) → (a : AtomTree) (of : PredOf signature a) → AreGround a.args → depth_among a.args ≤ depth → front_atom signature depth (atom_text signature a) ≡ Some a
+atom_again : (signature : Signature) (depth : ℕ) → AreNames (con_names signature.cons) → AreNames (pred_names signature.preds) → (a : AtomTree) (of : PredOf signature a) → AreGround a.args → argument_depth a.args ≤ depth → front_atom signature depth (atom_text signature a) ≡ Some a
 atom_again signature depth cons preds a of known low =
     let args = args_text signature a.args in
     let apart : IsApart args = subst IsApart (append-nil args) (args_apart signature a.args [] refl) in
@@ -87,10 +87,10 @@ atom_again signature depth cons preds a of known low =
     ap (λ found. front_atom signature depth (pred_name found ++ args)) of.numbered
     ∙ rw (pred_again signature.preds a.pred of.pred args preds of.numbered apart, again) refl
 
-pub one_atom : (program : Parts) (one other : AtomTree) → IsProgram program → IsTypedFact program.signature one → IsTypedFact program.signature other → atom_text program.signature one ≡ atom_text program.signature other → one ≡ other
+pub one_atom : (program : Parts) (one other : AtomTree) → IsProgram program → IsTypedGround program.signature one → IsTypedGround program.signature other → atom_text program.signature one ≡ atom_text program.signature other → one ≡ other
 one_atom program one other keeps a b e =
     let signature = program.signature in
-    let depth = depth_among one.args + depth_among other.args in
+    let depth = argument_depth one.args + argument_depth other.args in
     let of = pred_of signature one (slice_get signature.preds one.pred) refl a.typed in
     let of' = pred_of signature other (slice_get signature.preds other.pred) refl b.typed in
     let f = atom_again signature depth keeps.named.cons keeps.named.preds one of a.is_ground (omega arith) in
@@ -110,7 +110,7 @@ one_offer program one other keeps a b e =
 pub one_proof : (program : Parts) (one other : ProofTree) → IsProgram program → IsProofOf program one → IsProofOf program other → proof_text program one ≡ proof_text program other → one ≡ other
 one_proof program one other keeps a b e =
     let depth = levels_in one + levels_in other in
-    let height = height_of one + height_of other in
+    let height = proof_height one + proof_height other in
     let value = value_at program.signature.cons depth in
     let f = text_again program value height keeps one (all_is_read program keeps depth one a (omega arith)) (omega arith) in
     let g = text_again program value height keeps other (all_is_read program keeps depth other b (omega arith)) (omega arith) in

@@ -4,11 +4,11 @@ use Rattle.cep_term.specs.Tree.{Tree}
 use Rattle.cep_rule.specs.declared.parts.Parts.{Parts}
 use Rattle.cep_rule.specs.Patterns.{ClauseTree}
 use Rattle.cep_rule.specs.Typing.{AreValues}
-use Rattle.cep_rule.specs.Derivations.{ProofTree, ProofTrees, by_clause, no_goal, goal_by, height_of}
+use Rattle.cep_rule.specs.Derivations.{ProofTree, ProofTrees, by_clause, no_goal, goal_by, proof_height}
 use Rattle.cep_rule.specs.Program.{IsProgram}
 use Rattle.cep_text.specs.Texts.{proof_text, AreAsMany, IsProofOf, AreProofsOf}
 use Rattle.cep_text.specs.Reads.{HasSmallValues, HaveSmallValues, IsProofText}
-use Rattle.cep_text.specs.declared.read_proofs.TheConstants.{MAX_BRACKETS}
+use Rattle.cep_base.specs.declared.limits.TheConstants.{MOST_HEIGHT}
 use Rattle.cep_text.specs.Reading.{Reader, value_at, small_at, proof_at, proof_read}
 use Rattle.cep_text.proofs.Numbers.{by_bind, none_is}
 use Rattle.cep_text.proofs.TermTexts.{whole_is}
@@ -61,12 +61,12 @@ mutual
       let others : levels_among proofs ≤ depth = omega arith in
       (all_is_read program keeps depth proof are.0 first, all_are_read program keeps depth proofs are.1 others)
 
-pub proof_some : (program : Parts) (bytes : List ℕ) (proof : ProofTree) → IsProgram program → proof_read program (small_at program.signature.cons) MAX_BRACKETS bytes ≡ Some proof → IsProofText program bytes proof
+pub proof_some : (program : Parts) (bytes : List ℕ) (proof : ProofTree) → IsProgram program → proof_read program (small_at program.signature.cons) MOST_HEIGHT bytes ≡ Some proof → IsProofText program bytes proof
 unfolding proof_read
 proof_some program bytes proof keeps e =
-    by_bind (proof_at program (small_at program.signature.cons) MAX_BRACKETS bytes) _ proof e (λ read read-is e.
+    by_bind (proof_at program (small_at program.signature.cons) MOST_HEIGHT bytes) _ proof e (λ read read-is e.
     let ended = whole_is read proof e in
-    let found = proof_found program MAX_BRACKETS keeps bytes read.0 read.1 read-is in
+    let found = proof_found program MOST_HEIGHT keeps bytes read.0 read.1 read-is in
     subst (IsProofText program bytes) ended.0 (record {
       of_clauses = found.of_clauses;
       small = found.small;
@@ -75,14 +75,14 @@ proof_some program bytes proof keeps e =
     }))
 
 -- the text of a derivation is read as that derivation
-pub text_again : (program : Parts) (value : ℕ → Reader Tree) (height : ℕ) → IsProgram program → (proof : ProofTree) → IsRead program value proof → height_of proof ≤ height → proof_read program value height (proof_text program proof) ≡ Some proof
+pub text_again : (program : Parts) (value : ℕ → Reader Tree) (height : ℕ) → IsProgram program → (proof : ProofTree) → IsRead program value proof → proof_height proof ≤ height → proof_read program value height (proof_text program proof) ≡ Some proof
 unfolding proof_read
 text_again program value height keeps proof read low =
     let text = proof_text program proof in
     let again : proof_at program value height text ≡ Some (proof, []) = ap (proof_at program value height) (sym (append-nil text)) ∙ proof_again program value keeps proof height [] read low in
     rw again refl
 
-pub proof_none : (program : Parts) (bytes : List ℕ) → IsProgram program → proof_read program (small_at program.signature.cons) MAX_BRACKETS bytes ≡ None → (proof : ProofTree) → IsProofText program bytes proof → ⊥
+pub proof_none : (program : Parts) (bytes : List ℕ) → IsProgram program → proof_read program (small_at program.signature.cons) MOST_HEIGHT bytes ≡ None → (proof : ProofTree) → IsProofText program bytes proof → ⊥
 proof_none program bytes keeps e proof is =
-    none_is proof (proof_read program (small_at program.signature.cons) MAX_BRACKETS bytes) e
-    (ap (proof_read program (small_at program.signature.cons) MAX_BRACKETS) is.text ∙ text_again program (small_at program.signature.cons) MAX_BRACKETS keeps proof (small_is_read program keeps proof is.of_clauses is.small) is.low)
+    none_is proof (proof_read program (small_at program.signature.cons) MOST_HEIGHT bytes) e
+    (ap (proof_read program (small_at program.signature.cons) MOST_HEIGHT) is.text ∙ text_again program (small_at program.signature.cons) MOST_HEIGHT keeps proof (small_is_read program keeps proof is.of_clauses is.small) is.low)

@@ -7,11 +7,11 @@ use Rattle.std.proofs.lemmas.Fmt.{digits_decimal}
 use Rattle.std.proofs.lemmas.Str.Parse.{numerals_by_value, tells_all_ascii_digits}
 use Rattle.std.proofs.lemmas.Option.{slice_get_within}
 use Rattle.cep_term.specs.Tree.{Tree, AtomTree}
-use Rattle.cep_rule.specs.declared.limits.TheConstants.{MOST_CLAUSES}
+use Rattle.cep_base.specs.declared.limits.TheConstants.{MOST_CLAUSES}
 use Rattle.cep_rule.specs.declared.parts.Parts.{Parts}
-use Rattle.cep_rule.specs.Names.{is_name_byte}
+use Rattle.cep_base.specs.Spelling.{is_name_byte}
 use Rattle.cep_rule.specs.Patterns.{ClauseTree}
-use Rattle.cep_rule.specs.Derivations.{ProofTree, ProofTrees, by_clause, no_goal, goal_by, height_of, height_among}
+use Rattle.cep_rule.specs.Derivations.{ProofTree, ProofTrees, by_clause, no_goal, goal_by, proof_height, greatest_height}
 use Rattle.cep_rule.specs.Program.{IsProgram}
 use Rattle.cep_text.specs.Texts.{clause_vars, all_given_text, begin_text, proof_text, proofs_text, AreAsMany}
 use Rattle.cep_text.specs.Reading.{Reader, clause_at, begin_at, proofs_at, node_at, proof_at}
@@ -104,23 +104,23 @@ node_again program value read number values subs rest keeps node again =
 mutual
   unfolding proofs_at
 
-  pub proof_again : (program : Parts) (value : ℕ → Reader Tree) → IsProgram program → (proof : ProofTree) (height : ℕ) (rest : List ℕ) → IsRead program value proof → height_of proof ≤ height
+  pub proof_again : (program : Parts) (value : ℕ → Reader Tree) → IsProgram program → (proof : ProofTree) (height : ℕ) (rest : List ℕ) → IsRead program value proof → proof_height proof ≤ height
       → proof_at program value height (proof_text program proof ++ rest) ≡ Some (proof, rest)
   proof_again program value keeps (by_clause number values subs) height rest read low =
       let more : height ≡ suc (height - 1) = omega arith in
-      let inner : height_among subs ≤ height - 1 = omega arith in
+      let inner : greatest_height subs ≤ height - 1 = omega arith in
       proof_more program value height (height - 1) (proof_text program (by_clause number values subs) ++ rest) more
       ∙ node_again program value (proof_at program value (height - 1)) number values subs rest keeps read.0
       (λ behind. proofs_again program value keeps subs (height - 1) read.0.clause.goals behind read.1 read.0.many inner)
 
-  pub proofs_again : (program : Parts) (value : ℕ → Reader Tree) → IsProgram program → (proofs : ProofTrees) (height : ℕ) (goals : List AtomTree) (rest : List ℕ) → AllAreRead program value proofs → AreAsMany proofs goals → height_among proofs ≤ height
+  pub proofs_again : (program : Parts) (value : ℕ → Reader Tree) → IsProgram program → (proofs : ProofTrees) (height : ℕ) (goals : List AtomTree) (rest : List ℕ) → AllAreRead program value proofs → AreAsMany proofs goals → greatest_height proofs ≤ height
       → proofs_at (proof_at program value height) (length goals) (proofs_text program proofs ++ rest) ≡ Some (proofs, rest)
   proofs_again program value keeps no_goal height [] rest read many low = refl
   proofs_again program value keeps no_goal height (goal ∷ goals) rest read many low = absurd many
   proofs_again program value keeps (goal_by proof proofs) height [] rest read many low = absurd many
   proofs_again program value keeps (goal_by proof proofs) height (goal ∷ goals) rest read many low =
-      let first : height_of proof ≤ height = omega arith in
-      let then_others : height_among proofs ≤ height = omega arith in
+      let first : proof_height proof ≤ height = omega arith in
+      let then_others : greatest_height proofs ≤ height = omega arith in
       let behind = proofs_text program proofs ++ rest in
       let one = proof_again program value keeps proof height behind read.0 first in
       let all = proofs_again program value keeps proofs height goals rest read.1 many then_others in

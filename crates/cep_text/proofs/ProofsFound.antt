@@ -6,7 +6,7 @@ use Rattle.cep_term.specs.Tree.{Tree, AtomTree}
 use Rattle.cep_rule.specs.declared.parts.Parts.{Parts}
 use Rattle.cep_rule.specs.Patterns.{ClauseTree}
 use Rattle.cep_rule.specs.Typing.{AreValues}
-use Rattle.cep_rule.specs.Derivations.{ProofTree, ProofTrees, by_clause, no_goal, goal_by, height_of, height_among}
+use Rattle.cep_rule.specs.Derivations.{ProofTree, ProofTrees, by_clause, no_goal, goal_by, proof_height, greatest_height}
 use Rattle.cep_rule.specs.Program.{IsProgram, IsTypedClause}
 use Rattle.cep_text.specs.Texts.{clause_vars, all_given_text, begin_text, proof_text, proofs_text, AreAsMany, IsProofOf, AreProofsOf}
 use Rattle.cep_text.specs.Reads.{IsSmallTerm, HasSmallValues, HaveSmallValues}
@@ -81,7 +81,7 @@ begin_found program bytes number values goals rest keeps e =
 pub record ProofFound (program : Parts) (height : ℕ) (bytes : List ℕ) (proof : ProofTree) (rest : List ℕ) : Type 0 where
   pub of_clauses : IsProofOf program proof
   pub small : HasSmallValues proof
-  pub low : height_of proof ≤ height
+  pub low : proof_height proof ≤ height
   pub text : bytes ≡ proof_text program proof ++ rest
 
 -- There are as many derivations, each such, and their texts stand before the rest.
@@ -89,7 +89,7 @@ pub record ProofsFound (program : Parts) (height goals : ℕ) (bytes : List ℕ)
   pub as_many : (atoms : List AtomTree) → length atoms ≡ goals → AreAsMany proofs atoms
   pub of_clauses : AreProofsOf program proofs
   pub small : HaveSmallValues proofs
-  pub low : height_among proofs ≤ height
+  pub low : greatest_height proofs ≤ height
   pub text : bytes ≡ proofs_text program proofs ++ rest
 
 -- Each derivation that the reader gives is found so.

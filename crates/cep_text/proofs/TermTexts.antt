@@ -1,8 +1,8 @@
 -- Whole texts of terms and atoms.
 use Rattle.std.proofs.Common.{◌≡◌, ℕ, ◌-◌, ◌<◌, ◌≤◌, true, eqb, nat_le, List, [], ◌∷◌, ◌++◌, length, slice_get, Option, Some, None, IsSomeAnd, refl, sym, ap, subst, ◌∙◌, arith, append-nil}
 use Rattle.std.proofs.lemmas.Bool.{eqb-true, leb-true, le-leb}
-use Rattle.cep_term.specs.declared.term.TheConstants.{MAX_NODES, MAX_DEPTH}
-use Rattle.cep_term.specs.Tree.{Tree, Trees, AtomTree, variable, node, IsGround, AreGround, IsFit, nodes_of, nodes_among, depth_among}
+use Rattle.cep_base.specs.declared.limits.TheConstants.{MOST_DEPTH, MOST_NODES}
+use Rattle.cep_term.specs.Tree.{Tree, Trees, AtomTree, variable, node, IsGround, AreGround, IsFit, term_nodes, argument_nodes, argument_depth}
 use Rattle.cep_rule.specs.declared.signature.Con.{Con}
 use Rattle.cep_rule.specs.declared.signature.PredDecl.{PredDecl}
 use Rattle.cep_rule.specs.declared.signature.Signature.{Signature}
@@ -27,12 +27,12 @@ pub record SmallFound (signature : Signature) (sort : ℕ) (bytes : List ℕ) (t
 pub small_found : (signature : Signature) (sort : ℕ) (bytes : List ℕ) (t : Tree) (rest : List ℕ) → small_at signature.cons sort bytes ≡ Some (t, rest) → SmallFound signature sort bytes t rest
 unfolding small_at
 small_found signature sort bytes t rest e =
-    by_bind (value_at signature.cons MAX_DEPTH sort bytes) _ (t, rest) e (λ value value-is e.
-    let parts = guard_some (nat_le (nodes_of value.0) MAX_NODES) value (t, rest) e in
-    let found = value_found signature MAX_DEPTH sort bytes value.0 value.1 value-is in
+    by_bind (value_at signature.cons MOST_DEPTH sort bytes) _ (t, rest) e (λ value value-is e.
+    let parts = guard_some (nat_le (term_nodes value.0) MOST_NODES) value (t, rest) e in
+    let found = value_found signature MOST_DEPTH sort bytes value.0 value.1 value-is in
     subst (λ (x : Tree × List ℕ). SmallFound signature sort bytes x.0 x.1) parts.1 (record {
       value = found.value;
-      small = record { nodes = leb-true (nodes_of value.0) MAX_NODES parts.0; depth = found.low };
+      small = record { nodes = leb-true (term_nodes value.0) MOST_NODES parts.0; depth = found.low };
       text = found.text;
     }))
 
@@ -40,7 +40,7 @@ pub small_again : (signature : Signature) → AreNames (con_names signature.cons
     → small_at signature.cons sort (term_text signature t ++ rest) ≡ Some (t, rest)
 unfolding small_at
 small_again signature names t sort rest value small apart =
-    rw (value_again signature names t MAX_DEPTH sort rest value.ground value.typed small.depth apart, le-leb (nodes_of t) MAX_NODES small.nodes) refl
+    rw (value_again signature names t MOST_DEPTH sort rest value.ground value.typed small.depth apart, le-leb (term_nodes t) MOST_NODES small.nodes) refl
 
 -- where nothing stands behind what was read
 pub whole_is : {X : Type 0} (read : X × List ℕ) (x : X) → whole read ≡ Some x → (read.0 ≡ x) × (read.1 ≡ [])
@@ -102,17 +102,17 @@ unfolding atom_read
 atom_some program bytes a e =
     let signature = program.signature in
     by_bind (pred_at signature.preds bytes) _ a e (λ pred pred-is e.
-    by_bind (arguments_at (value_at signature.cons (MAX_DEPTH - 1)) pred.0.1 pred.1) _ a e (λ args args-is e.
+    by_bind (arguments_at (value_at signature.cons (MOST_DEPTH - 1)) pred.0.1 pred.1) _ a e (λ args args-is e.
     by_bind (whole args) _ a e (λ all all-is e.
     let read : AtomTree = record { pred = pred.0.0; args = all } in
-    let parts = guard_some (nat_le (nodes_among all) (MAX_NODES - 1)) read a e in
+    let parts = guard_some (nat_le (argument_nodes all) (MOST_NODES - 1)) read a e in
     let ended = whole_is args all all-is in
     let head = pred_found signature.preds bytes pred.0.0 pred.0.1 pred.1 pred-is in
-    let found : FoundAll signature (MAX_DEPTH - 1) pred.0.1 pred.1 all args.1 = subst (λ (x : Trees). FoundAll signature (MAX_DEPTH - 1) pred.0.1 pred.1 x args.1) ended.0 (arguments_found signature (MAX_DEPTH - 1) (value_at signature.cons (MAX_DEPTH - 1)) (value_found signature (MAX_DEPTH - 1)) pred.0.1 pred.1 args.0 args.1 args-is) in
-    let nodes = leb-true (nodes_among all) (MAX_NODES - 1) parts.0 in
+    let found : FoundAll signature (MOST_DEPTH - 1) pred.0.1 pred.1 all args.1 = subst (λ (x : Trees). FoundAll signature (MOST_DEPTH - 1) pred.0.1 pred.1 x args.1) ended.0 (arguments_found signature (MOST_DEPTH - 1) (value_at signature.cons (MOST_DEPTH - 1)) (value_found signature (MOST_DEPTH - 1)) pred.0.1 pred.1 args.0 args.1 args-is) in
+    let nodes = leb-true (argument_nodes all) (MOST_NODES - 1) parts.0 in
     let typed = subst (λ kinds. HaveSorts signature.cons [] kinds all) (sym head.args) found.typed in
     subst (IsAtomText program bytes) parts.1 (record {
-      fact = record { is_ground = found.is_ground; typed = pred_typed signature.cons all (slice_get signature.preds pred.0.0) head.pred head.numbered typed };
+      well_typed = record { is_ground = found.is_ground; typed = pred_typed signature.cons all (slice_get signature.preds pred.0.0) head.pred head.numbered typed };
       fit = record { nodes = omega arith; depth = let low = found.low in omega arith };
       text = head.text
           ∙ ap (λ text. head.pred.name ++ text) (found.text ∙ ap (λ rest. args_text signature all ++ rest) ended.1 ∙ append-nil (args_text signature all))
@@ -125,16 +125,16 @@ read_again : (signature : Signature) → AreNames (con_names signature.cons) →
 unfolding atom_read
 read_again signature cons preds a of known fit =
     let text = args_text signature a.args in
-    let nodes : nodes_among a.args ≤ MAX_NODES - 1 = let n = fit.nodes in omega arith in
-    let depth : depth_among a.args ≤ MAX_DEPTH - 1 = let d = fit.depth in omega arith in
+    let nodes : argument_nodes a.args ≤ MOST_NODES - 1 = let n = fit.nodes in omega arith in
+    let depth : argument_depth a.args ≤ MOST_DEPTH - 1 = let d = fit.depth in omega arith in
     let apart : IsApart text = subst IsApart (append-nil text) (args_apart signature a.args [] refl) in
-    let again : arguments_at (value_at signature.cons (MAX_DEPTH - 1)) of.pred.args text ≡ Some (a.args, []) =
-    ap (arguments_at (value_at signature.cons (MAX_DEPTH - 1)) of.pred.args) (sym (append-nil text)) ∙ arguments_again signature cons a.args (MAX_DEPTH - 1) of.pred.args [] known of.typed depth refl in
-    rw (pred_again signature.preds a.pred of.pred text preds of.numbered apart, again, le-leb (nodes_among a.args) (MAX_NODES - 1) nodes) refl
+    let again : arguments_at (value_at signature.cons (MOST_DEPTH - 1)) of.pred.args text ≡ Some (a.args, []) =
+    ap (arguments_at (value_at signature.cons (MOST_DEPTH - 1)) of.pred.args) (sym (append-nil text)) ∙ arguments_again signature cons a.args (MOST_DEPTH - 1) of.pred.args [] known of.typed depth refl in
+    rw (pred_again signature.preds a.pred of.pred text preds of.numbered apart, again, le-leb (argument_nodes a.args) (MOST_NODES - 1) nodes) refl
 
 pub atom_none : (program : Parts) (bytes : List ℕ) → IsProgram program → atom_read program.signature bytes ≡ None → (a : AtomTree) → IsAtomText program bytes a → ⊥
 atom_none program bytes keeps e a is =
     let signature = program.signature in
-    let of = pred_of signature a (slice_get signature.preds a.pred) refl is.fact.typed in
+    let of = pred_of signature a (slice_get signature.preds a.pred) refl is.well_typed.typed in
     let text : bytes ≡ of.pred.name ++ args_text signature a.args = is.text ∙ ap (λ found. pred_name found ++ args_text signature a.args) of.numbered in
-    none_is a (atom_read signature bytes) e (ap (atom_read signature) text ∙ read_again signature keeps.named.cons keeps.named.preds a of is.fact.is_ground is.fit)
+    none_is a (atom_read signature bytes) e (ap (atom_read signature) text ∙ read_again signature keeps.named.cons keeps.named.preds a of is.well_typed.is_ground is.fit)

@@ -1,7 +1,7 @@
 -- The text of a term is read as that term.
 use Rattle.std.proofs.Common.{◌≡◌, ℕ, suc, ◌-◌, ◌≤◌, false, eqb, List, [], ◌∷◌, ◌++◌, length, slice_get, codes, Option, Some, None, IsSomeAnd, refl, ap, ◌∙◌, arith, append_assoc, append-nil}
 use Rattle.std.proofs.Math.Dec.{eqb-suc-zero}
-use Rattle.cep_term.specs.Tree.{Tree, Trees, variable, node, none, more, IsGround, AreGround, depth_of, depth_among}
+use Rattle.cep_term.specs.Tree.{Tree, Trees, variable, node, none, more, IsGround, AreGround, term_depth, argument_depth}
 use Rattle.cep_rule.specs.declared.signature.Con.{Con}
 use Rattle.cep_rule.specs.declared.signature.Signature.{Signature}
 use Rattle.cep_rule.specs.Names.{IsName, AreNames}
@@ -77,24 +77,24 @@ argument_again signature depth sort t text behind e = rw (literal_again (codes "
 mutual
   unfolding arguments_at
 
-  pub value_again : (signature : Signature) → AreNames (con_names signature.cons) → (t : Tree) (depth sort : ℕ) (rest : List ℕ) → IsGround t → HasSort signature.cons [] sort t → depth_of t ≤ depth → IsApart rest
+  pub value_again : (signature : Signature) → AreNames (con_names signature.cons) → (t : Tree) (depth sort : ℕ) (rest : List ℕ) → IsGround t → HasSort signature.cons [] sort t → term_depth t ≤ depth → IsApart rest
       → value_at signature.cons depth sort (term_text signature t ++ rest) ≡ Some (t, rest)
   value_again signature names (variable v) depth sort rest g typed low apart = absurd g
   value_again signature names (node number args) depth sort rest g typed low apart =
       let more_levels : depth ≡ suc (depth - 1) = omega arith in
       let of = con_of signature.cons sort number args (slice_get signature.cons number) refl typed in
-      let inner : depth_among args ≤ depth - 1 = omega arith in
+      let inner : argument_depth args ≤ depth - 1 = omega arith in
       value_more signature.cons depth (depth - 1) sort (term_text signature (node number args) ++ rest) more_levels
       ∙ node_again signature (depth - 1) sort number args rest names of (λ behind behind_apart. arguments_again signature names args (depth - 1) of.con.args behind g of.typed inner behind_apart) apart
 
-  pub arguments_again : (signature : Signature) → AreNames (con_names signature.cons) → (args : Trees) (depth : ℕ) (sorts rest : List ℕ) → AreGround args → HaveSorts signature.cons [] sorts args → depth_among args ≤ depth → IsApart rest
+  pub arguments_again : (signature : Signature) → AreNames (con_names signature.cons) → (args : Trees) (depth : ℕ) (sorts rest : List ℕ) → AreGround args → HaveSorts signature.cons [] sorts args → argument_depth args ≤ depth → IsApart rest
       → arguments_at (value_at signature.cons depth) sorts (args_text signature args ++ rest) ≡ Some (args, rest)
   arguments_again signature names none depth [] rest g typed low apart = refl
   arguments_again signature names none depth (sort ∷ sorts) rest g typed low apart = absurd typed
   arguments_again signature names (more t others) depth [] rest g typed low apart = absurd typed
   arguments_again signature names (more t others) depth (sort ∷ sorts) rest g typed low apart =
-      let first : depth_of t ≤ depth = omega arith in
-      let then_others : depth_among others ≤ depth = omega arith in
+      let first : term_depth t ≤ depth = omega arith in
+      let then_others : argument_depth others ≤ depth = omega arith in
       let text = term_text signature t in
       let behind = args_text signature others ++ rest in
       let one = value_again signature names t depth sort behind g.0 typed.0 first (args_apart signature others rest apart) in

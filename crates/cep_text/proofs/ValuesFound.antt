@@ -1,7 +1,7 @@
 -- What is read as a term is the text of one.
 use Rattle.std.proofs.Common.{◌≡◌, ℕ, zero, suc, ◌≤◌, Bool, true, false, cond, eqb, List, [], ◌∷◌, ◌++◌, length, slice_get, codes, Option, Some, None, IsSomeAnd, refl, sym, ap, subst, ◌∙◌, arith, append_assoc, append-nil}
 use Rattle.std.proofs.lemmas.Bool.{eqb-true}
-use Rattle.cep_term.specs.Tree.{Tree, Trees, node, none, more, AreGround, depth_of, depth_among}
+use Rattle.cep_term.specs.Tree.{Tree, Trees, node, none, more, AreGround, term_depth, argument_depth}
 use Rattle.cep_rule.specs.declared.signature.Con.{Con}
 use Rattle.cep_rule.specs.declared.signature.Signature.{Signature}
 use Rattle.cep_rule.specs.Typing.{HaveSorts, IsValue}
@@ -14,14 +14,14 @@ use Rattle.cep_text.proofs.Heads.{con_found}
 -- The term is a value of the type, of at most so many levels, and its text stands before the rest.
 pub record Found (signature : Signature) (depth sort : ℕ) (bytes : List ℕ) (t : Tree) (rest : List ℕ) : Type 0 where
   pub value : IsValue signature.cons sort t
-  pub low : depth_of t ≤ depth
+  pub low : term_depth t ≤ depth
   pub text : bytes ≡ term_text signature t ++ rest
 
 -- The arguments are values of the types, and their texts stand before the rest.
 pub record FoundAll (signature : Signature) (depth : ℕ) (sorts bytes : List ℕ) (args : Trees) (rest : List ℕ) : Type 0 where
   pub is_ground : AreGround args
   pub typed : HaveSorts signature.cons [] sorts args
-  pub low : depth_among args ≤ depth
+  pub low : argument_depth args ≤ depth
   pub text : bytes ≡ args_text signature args ++ rest
 
 -- Each term that the reader gives is found so.

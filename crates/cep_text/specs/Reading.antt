@@ -1,15 +1,15 @@
 -- Reading canonical texts from left to right, on lists alone: each reading gives what stands at the front of the bytes, and the bytes behind it. Only functions inside this crate are described by it.
 use Rattle.std.specs.Prelude.{◌≡◌, ℕ, zero, suc, ◌==◌, ◌-◌, if◌then◌else◌, List, [], ◌∷◌, ◌++◌, length, take, drop, map, codes, decimal, Option, Some, None, Result, Ok, Err, slice_get, nat_le, bytes_eq}
 use Rattle.std.specs.List.{prefix_len}
-use Rattle.cep_term.specs.declared.term.TheConstants.{MAX_NODES, MAX_DEPTH}
-use Rattle.cep_term.specs.Tree.{Tree, Trees, AtomTree, node, none, more, nodes_of, nodes_among}
+use Rattle.cep_base.specs.declared.limits.TheConstants.{MOST_DEPTH, MOST_NODES}
+use Rattle.cep_term.specs.Tree.{Tree, Trees, AtomTree, node, none, more, term_nodes, argument_nodes}
 use Rattle.cep_rule.specs.declared.signature.Con.{Con}
 use Rattle.cep_rule.specs.declared.signature.PredDecl.{PredDecl}
 use Rattle.cep_rule.specs.declared.signature.Signature.{Signature}
 use Rattle.cep_rule.specs.declared.rule.Rule.{Rule}
 use Rattle.cep_rule.specs.declared.offer.Offer.{Offer}
 use Rattle.cep_rule.specs.declared.parts.Parts.{Parts}
-use Rattle.cep_rule.specs.Names.{is_name_byte}
+use Rattle.cep_base.specs.Spelling.{is_name_byte}
 use Rattle.cep_rule.specs.Patterns.{ClauseTree}
 use Rattle.cep_rule.specs.Derivations.{ProofTree, ProofTrees, by_clause, no_goal, goal_by}
 use Rattle.cep_text.specs.declared.stop.Stop.{Stop}
@@ -51,9 +51,9 @@ abbrev pub behind_name : List ℕ → List ℕ
 behind_name bytes = drop (name_len bytes) bytes
 
 -- the place of a name
-unfoldable pub number_of : List (List ℕ) → List ℕ → Option ℕ
-number_of [] name = None
-number_of (other ∷ names) name = if bytes_eq other name then Some zero else (number_of names name >>= λ number. Some (suc number))
+unfoldable pub number_among : List (List ℕ) → List ℕ → Option ℕ
+number_among [] name = None
+number_among (other ∷ names) name = if bytes_eq other name then Some zero else (number_among names name >>= λ number. Some (suc number))
 
 -- the names of constructors, of predicates, and of rules
 abbrev pub con_names : List Con → List (List ℕ)
@@ -73,7 +73,7 @@ of_sort sort number (Some con) = if con.sort == sort then Some (number, con.args
 -- a constructor of the type, by its name
 unfoldable pub con_at : List Con → ℕ → Reader (ℕ × List ℕ)
 con_at cons sort bytes = do
-  number ← number_of (con_names cons) (front_name bytes)
+  number ← number_among (con_names cons) (front_name bytes)
   con ← of_sort sort number (slice_get cons number)
   Some (con, behind_name bytes)
 
@@ -124,8 +124,8 @@ value_at cons (suc depth) sort bytes = value_by (value_at cons depth) cons sort 
 -- a term of the type, within the sizes of one
 unfoldable pub small_at : List Con → ℕ → Reader Tree
 small_at cons sort bytes = do
-  value ← value_at cons MAX_DEPTH sort bytes
-  if nat_le (nodes_of value.0) MAX_NODES then Some value else None
+  value ← value_at cons MOST_DEPTH sort bytes
+  if nat_le (term_nodes value.0) MOST_NODES then Some value else None
 
 -- what was read, where nothing stands behind it
 abbrev pub whole : {X : Type 0} → X × List ℕ → Option X
@@ -145,7 +145,7 @@ pred_head number (Some pred) = Some (number, pred.args)
 -- a predicate, by its name
 unfoldable pub pred_at : List PredDecl → Reader (ℕ × List ℕ)
 pred_at preds bytes = do
-  number ← number_of (pred_names preds) (front_name bytes)
+  number ← number_among (pred_names preds) (front_name bytes)
   pred ← pred_head number (slice_get preds number)
   Some (pred, behind_name bytes)
 
@@ -153,9 +153,9 @@ pred_at preds bytes = do
 unfoldable pub atom_read : Signature → List ℕ → Option AtomTree
 atom_read signature bytes = do
   pred ← pred_at signature.preds bytes
-  args ← arguments_at (value_at signature.cons (MAX_DEPTH - 1)) pred.0.1 pred.1
+  args ← arguments_at (value_at signature.cons (MOST_DEPTH - 1)) pred.0.1 pred.1
   all ← whole args
-  if nat_le (nodes_among all) (MAX_NODES - 1) then Some (record { pred = pred.0.0; args = all }) else None
+  if nat_le (argument_nodes all) (MOST_NODES - 1) then Some (record { pred = pred.0.0; args = all }) else None
 
 -- what one variable is given
 unfoldable pub given_at : Reader Tree → List ℕ → Reader Tree
@@ -176,7 +176,7 @@ givens_at value (name ∷ names) (kind ∷ kinds) before bytes = do
 -- a rule, by its name
 unfoldable pub rule_at : List Rule → Reader (ℕ × Rule)
 rule_at rules bytes = do
-  number ← number_of (rule_names rules) (front_name bytes)
+  number ← number_among (rule_names rules) (front_name bytes)
   rule ← slice_get rules number
   Some ((number, rule), behind_name bytes)
 

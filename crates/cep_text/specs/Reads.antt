@@ -1,19 +1,18 @@
 -- Of which values the bytes are the canonical text, within the sizes that are read.
 use Rattle.std.specs.Prelude.{◌≡◌, ℕ, ◌≤◌, List}
 use Rattle.std.specs.List.{AllByRecursion}
-use Rattle.cep_term.specs.declared.term.TheConstants.{MAX_NODES, MAX_DEPTH}
-use Rattle.cep_term.specs.Tree.{Tree, AtomTree, IsFit, nodes_of, depth_of}
+use Rattle.cep_base.specs.declared.limits.TheConstants.{MOST_DEPTH, MOST_HEIGHT, MOST_NODES}
+use Rattle.cep_term.specs.Tree.{Tree, AtomTree, IsFit, term_nodes, term_depth}
 use Rattle.cep_rule.specs.declared.parts.Parts.{Parts}
 use Rattle.cep_rule.specs.declared.offer.Offer.{Offer}
 use Rattle.cep_rule.specs.Typing.{IsValue}
-use Rattle.cep_rule.specs.Derivations.{ProofTree, ProofTrees, by_clause, no_goal, goal_by, height_of}
-use Rattle.cep_text.specs.declared.read_proofs.TheConstants.{MAX_BRACKETS}
-use Rattle.cep_text.specs.Texts.{term_text, atom_text, offer_text, proof_text, IsTypedFact, IsOfferOf, IsProofOf}
+use Rattle.cep_rule.specs.Derivations.{ProofTree, ProofTrees, by_clause, no_goal, goal_by, proof_height}
+use Rattle.cep_text.specs.Texts.{term_text, atom_text, offer_text, proof_text, IsTypedGround, IsOfferOf, IsProofOf}
 
 -- A term is small enough to be read: the limits are those of an atom that is kept.
 pub record IsSmallTerm (t : Tree) : Type 0 where
-  pub nodes : nodes_of t ≤ MAX_NODES
-  pub depth : depth_of t ≤ MAX_DEPTH
+  pub nodes : term_nodes t ≤ MOST_NODES
+  pub depth : term_depth t ≤ MOST_DEPTH
 
 -- The bytes are the text of a value of the type, which is small enough.
 pub record IsTermText (program : Parts) (sort : ℕ) (bytes : List ℕ) (t : Tree) : Type 0 where
@@ -23,7 +22,7 @@ pub record IsTermText (program : Parts) (sort : ℕ) (bytes : List ℕ) (t : Tre
 
 -- The bytes are the text of a ground, well-typed, fit atom, linear or backward.
 pub record IsAtomText (program : Parts) (bytes : List ℕ) (a : AtomTree) : Type 0 where
-  pub fact : IsTypedFact program.signature a
+  pub well_typed : IsTypedGround program.signature a
   pub fit : IsFit a
   pub text : bytes ≡ atom_text program.signature a
 
@@ -46,5 +45,5 @@ abbrev mutual
 pub record IsProofText (program : Parts) (bytes : List ℕ) (proof : ProofTree) : Type 0 where
   pub of_clauses : IsProofOf program proof
   pub small : HasSmallValues proof
-  pub low : height_of proof ≤ MAX_BRACKETS
+  pub low : proof_height proof ≤ MOST_HEIGHT
   pub text : bytes ≡ proof_text program proof

@@ -22,9 +22,9 @@ pred_name (Some pred) = pred.name
 pred_name None = []
 
 -- the name of a rule
-abbrev pub rule_name : Option Rule → List ℕ
-rule_name (Some rule) = rule.name
-rule_name None = []
+abbrev pub offer_name : Option Rule → List ℕ
+offer_name (Some rule) = rule.name
+offer_name None = []
 
 -- the names of a rule's variables
 abbrev pub rule_vars : Option Rule → List (List ℕ)
@@ -68,7 +68,7 @@ all_given_text signature (name ∷ names) (value ∷ values) = given_text signat
 -- The text of an offer: its rule's name, and what each variable of the rule is given.
 abbrev pub offer_text : Parts → Offer → List ℕ
 offer_text program offer =
-    rule_name (slice_get program.rules offer.rule)
+    offer_name (slice_get program.rules offer.rule)
     ++ all_given_text program.signature (rule_vars (slice_get program.rules offer.rule)) offer.values
 
 -- how a derivation begins: a bracket, its clause's number counted from 1, and what each variable of the clause is given
@@ -97,7 +97,7 @@ pub record IsGroundTerm (signature : Signature) (t : Tree) : Type 0 where
   pub value : IsValue signature.cons sort t
 
 -- A ground atom, well typed.
-pub record IsTypedFact (signature : Signature) (a : AtomTree) : Type 0 where
+pub record IsTypedGround (signature : Signature) (a : AtomTree) : Type 0 where
   pub is_ground : IsGroundAtom a
   pub typed : IsTyped signature [] a
 

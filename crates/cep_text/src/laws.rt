@@ -6,7 +6,7 @@ ghost use Rattle.cep_rule.specs.declared.parts.Parts.{Parts};
 ghost use Rattle.cep_rule.specs.declared.offer.Offer.{Offer};
 ghost use Rattle.cep_rule.specs.Derivations.{ProofTree};
 ghost use Rattle.cep_rule.specs.Program.{IsProgram};
-ghost use Rattle.cep_text.specs.Texts.{term_text, atom_text, offer_text, proof_text, IsGroundTerm, IsTypedFact, IsOfferOf, IsProofOf};
+ghost use Rattle.cep_text.specs.Texts.{term_text, atom_text, offer_text, proof_text, IsGroundTerm, IsTypedGround, IsOfferOf, IsProofOf};
 
 /// No text is the text of two values: of two well-typed ground terms, two such atoms, two offers,
 /// or two derivations.
@@ -19,8 +19,8 @@ pub fn one_value()
         → one ≡ other }
     ensures atoms { (program : Parts) (one other : AtomTree)
         → IsProgram program
-        → IsTypedFact program.signature one
-        → IsTypedFact program.signature other
+        → IsTypedGround program.signature one
+        → IsTypedGround program.signature other
         → atom_text program.signature one ≡ atom_text program.signature other
         → one ≡ other }
     ensures offers { (program : Parts) (one other : Offer)

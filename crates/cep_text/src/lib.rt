@@ -20,6 +20,6 @@ mod words;
 pub use derivations::put_proof;
 pub use offers::put_offer;
 pub use read_offers::read_offer;
-pub use read_proofs::{MAX_BRACKETS, read_proof};
+pub use read_proofs::read_proof;
 pub use read_terms::{read_atom, read_term};
 pub use terms::{put_atom, put_term};

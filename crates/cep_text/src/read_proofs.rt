@@ -5,14 +5,12 @@ ghost use Rattle.cep_rule.specs.Program.{IsProgram};
 ghost use Rattle.cep_text.specs.Reads.{IsProofText};
 ghost use Rattle.cep_text.specs.Reading.{Gives, clause_at, begin_at, proofs_at, node_at, proof_at, proof_read, small_at};
 
+use cep_base::limits::MOST_HEIGHT;
 use crate::read_offers::givens;
 use crate::stop::Stop;
 use crate::words::{literal, name_len, numbered};
 use cep_rule::{Clause, Derivation, Derivations, Program, Terms};
 use std::alloc::{AllocError, Global};
-
-/// The most brackets that are open at once in the text of a derivation. A limit of this profile.
-pub const MAX_BRACKETS: u32 = 512;
 
 /// The derivation that the bytes are the text of, or `None` exactly where they are the text of none.
 /// Each node has a clause of the program, one ground, well-typed term for each of its variables,
@@ -37,12 +35,12 @@ pub fn read_proof(
 // All of the bytes as a derivation.
 #[tactic(auto, unfolding(crate::specs::Reading::proof_read))]
 fn whole_proof(alloc: Global, program: &Program, bytes: &[u8]) -> Result<Derivation, Stop>
-    ensures read { Gives proof_of result (proof_read program.now (small_at program.now.signature.cons) MAX_BRACKETS bytes.now) }
+    ensures read { Gives proof_of result (proof_read program.now (small_at program.now.signature.cons) MOST_HEIGHT bytes.now) }
     ensures kept { IsProgram program.now }
 {
     // What each program keeps is known from here on.
     program.parts();
-    let (d, rest) = proof(alloc, program, MAX_BRACKETS, bytes)?;
+    let (d, rest) = proof(alloc, program, MOST_HEIGHT, bytes)?;
     if !rest.is_empty() {
         return Err(Stop::Unread);
     }

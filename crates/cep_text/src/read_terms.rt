@@ -4,11 +4,12 @@ ghost use Rattle.cep_rule.specs.Program.{IsProgram};
 ghost use Rattle.cep_text.specs.Reads.{IsTermText, IsAtomText};
 ghost use Rattle.cep_text.specs.Reading.{Gives, pred_at, term_read, atom_read};
 
+use cep_base::limits::{MOST_DEPTH, MOST_NODES};
 use crate::stop::Stop;
 use crate::values::{arguments, left_after_all, small_value};
 use crate::words::{find, name_len};
 use cep_rule::{Kinds, Program};
-use cep_term::{Atom, MAX_DEPTH, MAX_NODES, Term};
+use cep_term::{Atom, Term};
 use std::alloc::{AllocError, Global};
 
 /// The term of this type that the bytes are the text of, as it stands as an argument, or `None`
@@ -67,11 +68,11 @@ fn whole_atom(alloc: Global, program: &Program, bytes: &[u8]) -> Result<Atom, St
     ensures kept { IsProgram program.now }
 {
     let (pred, kinds, rest) = pred(program, bytes)?;
-    let (args, rest) = arguments(alloc, program, MAX_DEPTH as u32 - 1, kinds, 0, rest)?;
+    let (args, rest) = arguments(alloc, program, MOST_DEPTH as u32 - 1, kinds, 0, rest)?;
     if !rest.is_empty() {
         return Err(Stop::Unread);
     }
-    match left_after_all(&args, MAX_NODES - 1) {
+    match left_after_all(&args, MOST_NODES - 1) {
         Some(_) => Ok(Atom { pred, args }),
         None => Err(Stop::Unread),
     }

@@ -1,6 +1,6 @@
 ghost use Rattle.std.specs.Prelude.{◌≡◌, ◌++◌, OnOk, OnErr};
 ghost use Rattle.cep_term.specs.Tree.{atom_of, tree_of, trees_of};
-ghost use Rattle.cep_text.specs.Texts.{term_text, args_text, atom_text, IsGroundTerm, IsTypedFact, HasNames, HaveNames};
+ghost use Rattle.cep_text.specs.Texts.{term_text, args_text, atom_text, IsGroundTerm, IsTypedGround, HasNames, HaveNames};
 ghost use Rattle.cep_text.specs.Writing.{IsBegun};
 
 use cep_base::Text;
@@ -20,7 +20,7 @@ pub fn put_term(program: &Program, term: &Term, out: &mut Text) -> Result<(), Al
 
 /// Adds the text of a ground atom. After want of memory a front of it was added.
 pub fn put_atom(program: &Program, atom: &Atom, out: &mut Text) -> Result<(), AllocError>
-    requires { IsTypedFact program.now.signature (atom_of atom.now) }
+    requires { IsTypedGround program.now.signature (atom_of atom.now) }
     ensures ok { OnOk result (out.new ≡ out.old ++ atom_text program.now.signature (atom_of atom.now)) }
     ensures err { OnErr result (IsBegun out.old (atom_text program.now.signature (atom_of atom.now)) out.new) }
 {

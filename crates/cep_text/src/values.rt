@@ -1,11 +1,12 @@
 ghost use Rattle.std.specs.Prelude.{◌≡◌, ◌≤◌, ◌<◌, ◌-◌, length, drop, IfOk, SomeIff};
-ghost use Rattle.cep_term.specs.Tree.{tree_of, trees_of, nodes_of, nodes_among};
+ghost use Rattle.cep_term.specs.Tree.{tree_of, trees_of, term_nodes, argument_nodes};
 ghost use Rattle.cep_text.specs.Reading.{Gives, con_at, bare_at, argument_at, arguments_at, inside_at, enclosed_at, value_at, small_at};
 
+use cep_base::limits::{MOST_DEPTH, MOST_NODES};
 use crate::stop::Stop;
 use crate::words::{find, literal, name_len, strip};
 use cep_rule::{Kinds, Program};
-use cep_term::{Args, MAX_DEPTH, MAX_NODES, Term};
+use cep_term::{Args, Term};
 use std::alloc::Global;
 
 // A constructor of the type at the front: its number, and the types of its arguments.
@@ -157,8 +158,8 @@ pub(crate) fn small_value<'a>(
     ensures read { Gives (λ x. (tree_of x.0, x.1.now)) result (small_at program.now.signature.cons sort bytes.now) }
     ensures shorter { IfOk result (λ x. length x.1.now ≤ length bytes.now) }
 {
-    let (t, rest) = value(alloc, program, MAX_DEPTH as u32, sort, bytes)?;
-    match left_after(&t, MAX_NODES) {
+    let (t, rest) = value(alloc, program, MOST_DEPTH as u32, sort, bytes)?;
+    match left_after(&t, MOST_NODES) {
         Some(_) => Ok((t, rest)),
         None => Err(Stop::Unread),
     }
@@ -167,7 +168,7 @@ pub(crate) fn small_value<'a>(
 // How many nodes are left after those of the term, if it has not more.
 #[cycle(left)]
 pub(crate) fn left_after(t: &Term, left: u64) -> Option<u64>
-    ensures { SomeIff result (nodes_of (tree_of t.now) ≤ left) (left - nodes_of (tree_of t.now)) }
+    ensures { SomeIff result (term_nodes (tree_of t.now) ≤ left) (left - term_nodes (tree_of t.now)) }
 {
     match t {
         Term::Var(_) => left.checked_sub(1),
@@ -178,7 +179,7 @@ pub(crate) fn left_after(t: &Term, left: u64) -> Option<u64>
 // How many nodes are left after those of the arguments.
 #[cycle(left)]
 pub(crate) fn left_after_all(args: &Args, left: u64) -> Option<u64>
-    ensures { SomeIff result (nodes_among (trees_of args.now) ≤ left) (left - nodes_among (trees_of args.now)) }
+    ensures { SomeIff result (argument_nodes (trees_of args.now) ≤ left) (left - argument_nodes (trees_of args.now)) }
 {
     match args {
         Args::Nil => Some(left),

@@ -1,10 +1,11 @@
 ghost use Rattle.std.specs.Prelude.{◌≡◌, ◌≢◌, ℕ, ◌≤◌, ◌<◌, ◌+◌, ◌^◌, List, length, map, decimal, MatchOption, IfOk, IfSome, IfNone};
-ghost use Rattle.cep_rule.specs.Names.{is_name_byte};
-ghost use Rattle.cep_text.specs.Reading.{Gives, literal_at, name_len, number_of, numbered_by};
+ghost use Rattle.cep_base.specs.Spelling.{is_name_byte};
+ghost use Rattle.cep_text.specs.Reading.{Gives, literal_at, name_len, number_among, numbered_by};
 
 use crate::stop::Stop;
 use cep_base::Name;
-use cep_rule::{Con, Items, PredDecl, Rule};
+use cep_base::List;
+use cep_rule::{Con, PredDecl, Rule};
 use itoa::Buffer;
 
 // The bytes behind a word, if it stands at the front.
@@ -74,8 +75,8 @@ impl Named for Rule {
 }
 
 // The number of the item of this name.
-pub(crate) fn find<T: Named>(items: &Items<T>, name: &[u8]) -> Option<usize>
-    ensures { result ≡ number_of (map T.name_of items.now) name.now }
+pub(crate) fn find<T: Named>(items: &List<T>, name: &[u8]) -> Option<usize>
+    ensures { result ≡ number_among (map T.name_of items.now) name.now }
 {
     for i in 0..items.len() {
         if items.get(i).name().bytes() == name {

@@ -10,14 +10,14 @@ use Rattle.cep_parse.specs.declared.raw.RawAtom.{RawAtom}
 use Rattle.cep_names.specs.Items.{Source, said}
 use Rattle.cep_types.specs.declared.variables.Variables.{Variables}
 use Rattle.cep_types.specs.Sites.{Wanted, sites_of, wanted_from, type_of}
-use Rattle.cep_types.specs.Met.{under, type_met, none_met, wanted_in, further, AreMet}
+use Rattle.cep_types.specs.Met.{met_under, type_met, none_met, wanted_in, further, AreMet}
 use Rattle.cep_types.proofs.Lookups.{bytes_eq_sym}
 
 -- whether the name is that of a wanted one
 abbrev has_wanted : List Wanted → List ℕ → Bool
 has_wanted ws name = list_any (λ (w : Wanted). bytes_eq name w.name) ws
 
--- ---- what is found under a name
+-- ---- what is found met_under a name
 
 abbrev found : List Wanted → List ℕ → Option Wanted
 found ws name = find (λ (w : Wanted). bytes_eq w.name name) ws
@@ -66,11 +66,11 @@ module _ (source : Source) (atoms : List RawAtom) (variables : Variables) (met :
   abbrev all : List Wanted
   all = wanted_from source 0 (sites_of source atoms)
 
-  under_found : (firsts_ : List (List ℕ × Span)) (name : List ℕ) → option_map (said source) (under firsts_ name) ≡ option_map (λ (w : Wanted). w.wants) (found (wanted_in source firsts_) name)
+  under_found : (firsts_ : List (List ℕ × Span)) (name : List ℕ) → option_map (said source) (met_under firsts_ name) ≡ option_map (λ (w : Wanted). w.wants) (found (wanted_in source firsts_) name)
   under_found [] name = refl
   under_found (e ∷ firsts_) name = rw (bytes_eq_sym name e.0) (cases (bytes_eq e.0 name) (under_found firsts_ name)) where
-    cases : (b : Bool) → option_map (said source) (under firsts_ name) ≡ option_map (λ (w : Wanted). w.wants) (found (wanted_in source firsts_) name)
-        → option_map (said source) (if b then Some e.1 else under firsts_ name) ≡ option_map (λ (w : Wanted). w.wants) (cond b (Some (record { name = e.0; wants = said source e.1 })) (found (wanted_in source firsts_) name))
+    cases : (b : Bool) → option_map (said source) (met_under firsts_ name) ≡ option_map (λ (w : Wanted). w.wants) (found (wanted_in source firsts_) name)
+        → option_map (said source) (if b then Some e.1 else met_under firsts_ name) ≡ option_map (λ (w : Wanted). w.wants) (cond b (Some (record { name = e.0; wants = said source e.1 })) (found (wanted_in source firsts_) name))
     cases true rest = refl
     cases false rest = rest
 

@@ -12,11 +12,11 @@ use Rattle.cep_parse.specs.declared.raw.RawKind.TheVariants as kind
 use Rattle.cep_parse.specs.declared.raw.RawNode.{RawNode}
 use Rattle.cep_parse.specs.declared.raw.RawAtom.{RawAtom}
 use Rattle.cep_names.specs.Items.{Source, said}
-use Rattle.cep_names.specs.Variables.{occurrence_at, blanks_behind, nodes_of}
+use Rattle.cep_names.specs.Variables.{occurrence_at, blanks_behind, raw_nodes}
 use Rattle.cep_types.specs.declared.variables.Variables.{Variables}
 use Rattle.cep_types.specs.Sites.{Site, Wanted, sites_from, sites_in, sites_of, wanted_from}
 use Rattle.cep_types.specs.Heads.{blanks_after}
-use Rattle.cep_types.specs.Met.{has_name, added, met_site, wanted_in, further, AreMet}
+use Rattle.cep_types.specs.Met.{is_met, added, met_site, wanted_in, further, AreMet}
 
 -- the nodes of terms
 abbrev pub nodes_at : List Site → List RawNode
@@ -27,12 +27,12 @@ abbrev wanted_at : Source → ℕ → RawKind → Span → List ℕ → List Wan
 wanted_at source blanks kind at wants = map (λ occurrence. record { name = occurrence.name; wants = wants }) (occurrence_at source blanks at kind)
 
 module _ (source : Source) where
-  any_wanted : (name : List ℕ) (firsts : List (List ℕ × Span)) → has_name firsts name ≡ list_any (λ (other : Wanted). bytes_eq name other.name) (wanted_in source firsts)
+  any_wanted : (name : List ℕ) (firsts : List (List ℕ × Span)) → is_met firsts name ≡ list_any (λ (other : Wanted). bytes_eq name other.name) (wanted_in source firsts)
   any_wanted name [] = refl
   any_wanted name (entry ∷ firsts) = ap (λ (rest : Bool). bytes_eq name entry.0 || rest) (any_wanted name firsts)
 
   added_wanted : (firsts : List (List ℕ × Span)) (name : List ℕ) (wants : Span) → wanted_in source (added firsts (name, wants)) ≡ further (wanted_in source firsts) (record { name = name; wants = said source wants })
-  added_wanted firsts name wants = rw (← any_wanted name firsts) (cases (has_name firsts name)) where
+  added_wanted firsts name wants = rw (← any_wanted name firsts) (cases (is_met firsts name)) where
     entry : List (List ℕ × Span)
     entry = (name, wants) ∷ []
 
@@ -126,10 +126,10 @@ both_are_met source one two start middle now first second = record {
       ∙ fold-append further (wanted_in source start.firsts) (wanted_from source start.blanks (sites_of source one)) (wanted_from source (blanks_after start.blanks (nodes_at (sites_of source one))) (sites_of source two))
       ∙ ap (λ n. fold further (fold further (wanted_in source start.firsts) (wanted_from source start.blanks (sites_of source one))) (wanted_from source n (sites_of source two)))
       (ap (blanks_after start.blanks) first.covered ∙ sym first.blanks));
-  blanks = second.blanks ∙ ap (λ n. blanks_after n (nodes_of two)) first.blanks
-      ∙ sym (ap (blanks_after start.blanks) (flat_map-append (λ (atom : RawAtom). atom.nodes) one two) ∙ blanks_both start.blanks (nodes_of one) (nodes_of two));
+  blanks = second.blanks ∙ ap (λ n. blanks_after n (raw_nodes two)) first.blanks
+      ∙ sym (ap (blanks_after start.blanks) (flat_map-append (λ (atom : RawAtom). atom.nodes) one two) ∙ blanks_both start.blanks (raw_nodes one) (raw_nodes two));
   covered = ap nodes_at (flat_map-append (sites_in source) one two) ∙ map-append (λ (site : Site). site.node) (sites_of source one) (sites_of source two)
-      ∙ ap (λ ns. ns ++ nodes_at (sites_of source two)) first.covered ∙ ap (λ ns. nodes_of one ++ ns) second.covered
+      ∙ ap (λ ns. ns ++ nodes_at (sites_of source two)) first.covered ∙ ap (λ ns. raw_nodes one ++ ns) second.covered
       ∙ sym (flat_map-append (λ (atom : RawAtom). atom.nodes) one two);
 }
 

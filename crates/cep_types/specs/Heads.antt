@@ -20,15 +20,15 @@ pub data Head : Type 0 where
   con : ℕ → ℕ → Head
 
 -- how many arguments there are
-abbrev pub count_of : Trees → ℕ
-count_of none = 0
-count_of (more t rest) = suc (count_of rest)
+abbrev pub argument_count : Trees → ℕ
+argument_count none = 0
+argument_count (more t rest) = suc (argument_count rest)
 
 -- the nodes of a term, and of arguments, in prefix order: each term's own, and then those of its arguments
 abbrev mutual
   pub heads_of : Tree → List Head
   heads_of (variable v) = var v ∷ []
-  heads_of (node c args) = con c (count_of args) ∷ heads_among args
+  heads_of (node c args) = con c (argument_count args) ∷ heads_among args
 
   pub heads_among : Trees → List Head
   heads_among none = []
@@ -65,7 +65,7 @@ blanks_after blanks (first ∷ nodes) = blanks_after (blanks_behind blanks first
 -- The atom is the one that is written, where the variables are these and so many blanks stand before it.
 pub record IsAtomBy (source : Source) (vars : List (List ℕ)) (blanks : ℕ) (raw : RawAtom) (atom : AtomTree) : Type 0 where
   pub pred : atom.pred ≡ number_of source space.Predicates (said source raw.name)
-  pub count : count_of atom.args ≡ raw.args
+  pub count : argument_count atom.args ≡ raw.args
   pub heads : heads_among atom.args ≡ heads_from source vars blanks raw.nodes
 
 -- The atoms are those that are written, one after another.

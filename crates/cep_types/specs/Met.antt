@@ -10,36 +10,36 @@ use Rattle.cep_parse.specs.declared.raw.RawKind.TheVariants as kind
 use Rattle.cep_parse.specs.declared.raw.RawAtom.{RawAtom}
 use Rattle.cep_names.specs.declared.space.Space.TheVariants as space
 use Rattle.cep_names.specs.Items.{Source, said, is_said, interactives_of}
-use Rattle.cep_names.specs.Variables.{nodes_of}
+use Rattle.cep_names.specs.Variables.{raw_nodes}
 use Rattle.cep_types.specs.declared.variables.Variables.{Variables}
 use Rattle.cep_types.specs.Sites.{Wanted, sites_of, wanted_from}
 use Rattle.cep_types.specs.Heads.{Head, con, var, blanks_after}
 use Rattle.cep_types.specs.Heads as heads
 
 -- whether the name is there, its number, and its type
-abbrev pub has_name : List (List ℕ × Span) → List ℕ → Bool
-has_name firsts name = list_any (λ entry. bytes_eq name entry.0) firsts
+abbrev pub is_met : List (List ℕ × Span) → List ℕ → Bool
+is_met firsts name = list_any (λ entry. bytes_eq name entry.0) firsts
 
-abbrev pub number_of : List (List ℕ × Span) → List ℕ → Option ℕ
-number_of firsts name = position (λ entry. bytes_eq name entry.0) firsts
+abbrev pub met_number : List (List ℕ × Span) → List ℕ → Option ℕ
+met_number firsts name = position (λ entry. bytes_eq name entry.0) firsts
 
-abbrev pub under : List (List ℕ × Span) → List ℕ → Option Span
-under firsts name = lookup (λ other. bytes_eq name other) firsts
+abbrev pub met_under : List (List ℕ × Span) → List ℕ → Option Span
+met_under firsts name = lookup (λ other. bytes_eq name other) firsts
 
 -- one more name, if it is new
 abbrev pub added : List (List ℕ × Span) → List ℕ × Span → List (List ℕ × Span)
-added firsts entry = if has_name firsts entry.0 then firsts else firsts ++ entry ∷ []
+added firsts entry = if is_met firsts entry.0 then firsts else firsts ++ entry ∷ []
 
 -- These names are those of the stages that are said to be interactive.
 abbrev pub AreInteractive : Source → List (List ℕ × Span) → Type 0
-AreInteractive source firsts = (name : List ℕ) → has_name firsts name ≡ is_said source (interactives_of source) name
+AreInteractive source firsts = (name : List ℕ) → is_met firsts name ≡ is_said source (interactives_of source) name
 
 -- the name of a name's type
 abbrev pub type_met : Source → List (List ℕ × Span) → List ℕ → Option (List ℕ)
-type_met source firsts name = option_map (said source) (under firsts name)
+type_met source firsts name = option_map (said source) (met_under firsts name)
 
-abbrev pub names_in : List (List ℕ × Span) → List (List ℕ)
-names_in firsts = map (λ entry. entry.0) firsts
+abbrev pub names_seen : List (List ℕ × Span) → List (List ℕ)
+names_seen firsts = map (λ entry. entry.0) firsts
 
 -- the numbers of the types of all names
 abbrev pub kinds_met : Source → List (List ℕ × Span) → List ℕ
@@ -66,8 +66,8 @@ further old next = if list_any (λ other. bytes_eq next.name other.name) old the
 -- Where the old variables were met, the new ones are met behind these atoms, each node of which has its type.
 pub record AreMet (source : Source) (atoms : List RawAtom) (old new : Variables) : Type 0 where
   pub firsts : wanted_in source new.firsts ≡ fold further (wanted_in source old.firsts) (wanted_from source old.blanks (sites_of source atoms))
-  pub blanks : new.blanks ≡ blanks_after old.blanks (nodes_of atoms)
-  pub covered : map (λ site. site.node) (sites_of source atoms) ≡ nodes_of atoms
+  pub blanks : new.blanks ≡ blanks_after old.blanks (raw_nodes atoms)
+  pub covered : map (λ site. site.node) (sites_of source atoms) ≡ raw_nodes atoms
 
 -- the head of a node by its number
 abbrev pub head_by : RawKind → ℕ → ℕ → Head

@@ -1,6 +1,6 @@
 // The names of variables in the order of their first occurrences.
 ghost use Rattle.std.specs.Prelude.{◌≡◌, [], ◌∷◌, ◌++◌, IfOk, OnOk, map};
-ghost use Rattle.cep_types.specs.Met.{has_name, number_of, under, added, names_in};
+ghost use Rattle.cep_types.specs.Met.{is_met, met_number, met_under, added, names_seen};
 
 use cep_base::Name;
 use cep_parse::Span;
@@ -48,28 +48,28 @@ impl Firsts {
 
     /// Whether a name is there.
     pub fn has(&self, name: &[u8]) -> bool
-        ensures { result ≡ has_name self.now name.now }
+        ensures { result ≡ is_met self.now name.now }
     {
         self.entries.contains_key(name)
     }
 
     // The number of a name, from 0.
     pub(crate) fn number(&self, name: &[u8]) -> Option<usize>
-        ensures { result ≡ number_of self.now name.now }
+        ensures { result ≡ met_number self.now name.now }
     {
         self.entries.get_index_of(name)
     }
 
     // The type of a name.
     pub(crate) fn wants(&self, name: &[u8]) -> Option<Span>
-        ensures { result ≡ under self.now name.now }
+        ensures { result ≡ met_under self.now name.now }
     {
         self.entries.get(name).copied()
     }
 
     /// All names.
     pub fn names(&self, alloc: Global) -> Result<Names, AllocError>
-        ensures { IfOk result (λ names. names ≡ names_in self.now) }
+        ensures { IfOk result (λ names. names ≡ names_seen self.now) }
     {
         let mut names = Names::new(alloc);
         for (name, _) in &self.entries {

@@ -4,7 +4,6 @@
 mod clashes;
 mod declarations;
 mod firsts;
-mod pending;
 mod sites;
 mod variables;
 

@@ -6,7 +6,7 @@ ghost use Rattle.cep_names.specs.Spaces.{pred_named};
 ghost use Rattle.cep_types.specs.Sites.{node_types, pred_types, sites_from};
 
 use crate::declarations::Declarations;
-use crate::pending::Pending;
+use cep_base::Stack;
 use cep_parse::{RawKind, RawNode, Span};
 use std::alloc::AllocError;
 
@@ -35,21 +35,21 @@ impl<'a> Declarations<'a> {
     }
 
     // The types that are wanted of the terms of an atom of this predicate.
-    pub(crate) fn pending(&self, name: Span) -> Result<Pending, AllocError>
+    pub(crate) fn pending(&self, name: Span) -> Result<Stack<Span>, AllocError>
         ensures { IfOk result (λ pending. map (said self.now) pending ≡ pred_types self.now (pred_named self.now (said self.now name))) }
     {
-        let mut pending = Pending::new(self.alloc());
-        pending.put(self.pred_types(name))?;
+        let mut pending = Stack::new(self.alloc());
+        pending.push_all(self.pred_types(name))?;
         Ok(pending)
     }
 
     // The type that is wanted of the next node.
-    pub(crate) fn site(&self, pending: &mut Pending, node: &RawNode) -> Result<Span, AllocError>
+    pub(crate) fn site(&self, pending: &mut Stack<Span>, node: &RawNode) -> Result<Span, AllocError>
         ensures { (nodes : List RawNode) → IfOk result (λ wants. sites_from self.now (map (said self.now) pending.old) (node.now ∷ nodes) ≡ record { node = node.now; wants = said self.now wants } ∷ sites_from self.now (map (said self.now) pending.new) nodes) }
     {
         // In a text without wrong names no node is one too many.
-        let wants = pending.next().ok_or(AllocError)?;
-        pending.put(self.node_types(node))?;
+        let wants = pending.pop().ok_or(AllocError)?;
+        pending.push_all(self.node_types(node))?;
         Ok(wants)
     }
 }

@@ -3,7 +3,7 @@ ghost use Rattle.std.specs.Prelude.{◌≡◌, ◌∷◌, ◌++◌, [], map, IfO
 ghost use Rattle.cep_names.specs.Items.{said};
 ghost use Rattle.cep_names.specs.Uses.{atoms_in, atoms_of};
 ghost use Rattle.cep_types.specs.Heads.{variable_of, head_at};
-ghost use Rattle.cep_types.specs.Met.{none_met, met_site, AreMet, names_in, kinds_met, head_by};
+ghost use Rattle.cep_types.specs.Met.{none_met, met_site, AreMet, names_seen, kinds_met, head_by};
 
 use crate::declarations::Declarations;
 use crate::firsts::Firsts;
@@ -118,7 +118,7 @@ impl Variables {
 
     // The number of a variable, from 0.
     fn number(&self, name: &[u8]) -> Result<u32, AllocError>
-        ensures { IfOk result (λ number. number ≡ variable_of (names_in self.now.firsts) name.now) }
+        ensures { IfOk result (λ number. number ≡ variable_of (names_seen self.now.firsts) name.now) }
     {
         let number = self.firsts.number(name).unwrap_or(0);
         // No memory holds so many names that a number does not fit.
@@ -136,7 +136,7 @@ impl Variables {
         blanks: u64,
         node: &RawNode,
     ) -> Result<u32, AllocError>
-        ensures { IfOk result (λ number. head_by node.now.kind number node.now.args ≡ head_at declared.now (names_in self.now.firsts) blanks node.now.kind node.now.at node.now.args) }
+        ensures { IfOk result (λ number. head_by node.now.kind number node.now.args ≡ head_at declared.now (names_seen self.now.firsts) blanks node.now.kind node.now.at node.now.args) }
     {
         match node.kind {
             RawKind::App => declared.number(Space::Constructors, node.at),

@@ -3,11 +3,11 @@ use Rattle.std.specs.List.{slice_get, flat_map}
 use Rattle.cep_parse.specs.declared.raw.RawNode.{RawNode}
 use Rattle.cep_parse.specs.declared.raw.RawElem.{RawElem}
 use Rattle.cep_parse.specs.declared.raw.RawAtom.{RawAtom}
-use Rattle.cep_rule.specs.declared.limits.TheConstants.{MOST_VARIABLES}
+use Rattle.cep_base.specs.declared.limits.TheConstants.{MOST_VARIABLES}
 use Rattle.cep_names.specs.First.{first_in}
 use Rattle.cep_faults.specs.Faults.{past}
 use Rattle.cep_names.specs.Uses.{atoms_in}
-use Rattle.cep_names.specs.Variables.{nodes_of}
+use Rattle.cep_names.specs.Variables.{raw_nodes}
 use Rattle.cep_faults.specs.Seen.{unseen, new_in}
 use Rattle.cep_faults.proofs.FirstLoops.{flat_map-flat_map}
 use Rattle.cep_faults.proofs.variables.rule_fault.Goals as goal
@@ -15,5 +15,5 @@ use Rattle.cep_faults.proofs.variables.rule_fault.Goals as goal
 pub returns : goal.returns
 returns c =
     c.past.ensures ∙ ap (λ o. first_in (past o)) (c.in_ok-at.ensures
-    ∙ ap (λ (side : List RawElem). slice_get (new_in c.args.text.now unseen (flat_map (λ elem. nodes_of (atoms_in elem)) side)) MOST_VARIABLES) c.as_slice.ensures
+    ∙ ap (λ (side : List RawElem). slice_get (new_in c.args.text.now unseen (flat_map (λ elem. raw_nodes (atoms_in elem)) side)) MOST_VARIABLES) c.as_slice.ensures
     ∙ ap (λ (nodes : List RawNode). slice_get (new_in c.args.text.now unseen nodes) MOST_VARIABLES) (sym (flat_map-flat_map (λ (atom : RawAtom). atom.nodes) atoms_in c.args.rule.now.left)))

@@ -2,15 +2,15 @@ use Rattle.std.proofs.Common.{List, sym, ap, ◌∙◌, ◌-◌, Ok, lit≤}
 use Rattle.std.specs.List.{slice_get}
 use Rattle.cep_parse.specs.declared.raw.RawNode.{RawNode}
 use Rattle.cep_parse.specs.declared.raw.RawElem.{RawElem}
-use Rattle.cep_rule.specs.declared.limits.TheConstants.{MOST_VARIABLES}
+use Rattle.cep_base.specs.declared.limits.TheConstants.{MOST_VARIABLES}
 use Rattle.cep_names.specs.Uses.{atoms_in}
-use Rattle.cep_names.specs.Variables.{nodes_of}
+use Rattle.cep_names.specs.Variables.{raw_nodes}
 use Rattle.cep_faults.specs.Seen.{unseen, new_in, met_all}
 use Rattle.cep_faults.proofs.SeenLaws.{parts_more, parts_found, parts_none}
 use Rattle.cep_faults.proofs.variables.side_past.Goals as goal
 
 abbrev nodes : RawElem → List RawNode
-nodes elem = nodes_of (atoms_in elem)
+nodes elem = raw_nodes (atoms_in elem)
 
 pub returns-in-Some : goal.returns-in-Some
 returns-in-Some c =

@@ -2,14 +2,14 @@ use Rattle.std.proofs.Common.{[], ◌∷◌, sym, subst}
 use Rattle.std.specs.Prelude.{OnOk}
 use Rattle.cep_parse.specs.declared.raw.RawElem.{RawElem}
 use Rattle.cep_term.specs.Tree.{atom_of}
-use Rattle.cep_types.specs.Met.{names_in}
+use Rattle.cep_types.specs.Met.{names_seen}
 use Rattle.cep_infer.specs.Built.{IsLeftBuilt}
 use Rattle.cep_infer.proofs.Building.{premise_built, on_ok_both}
 use Rattle.cep_infer.proofs.left.push_premise.Goals as goal
 
 pub returns-in_ok-atom-in-Atom : goal.returns-in_ok-atom-in-Atom
 returns-in_ok-atom-in-Atom c =
-    let vars = names_in c.args.variables.now.firsts in
+    let vars = names_seen c.args.variables.now.firsts in
     subst (λ (e : RawElem). OnOk c.push.result (IsLeftBuilt c.args.declared.now vars (e ∷ []) c.args.blanks.now c.read_atom.new.blanks c.args.left.now c.push.new.self)) (sym c.in-Atom.is)
     (on_ok_both c.push.result
     (λ p b. premise_built c.args.declared.now vars c.in-Atom.kept c.in-Atom.atom c.args.blanks.now c.read_atom.new.blanks c.args.left.now c.push.new.self (atom_of c.in_ok-atom-in-Atom.atom) c.is_back-back.result

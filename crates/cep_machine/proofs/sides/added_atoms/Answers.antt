@@ -1,7 +1,7 @@
 use Rattle.std.proofs.Common.{List, [], ◌∷◌, ◌++◌, length, sym, ap, ◌∙◌, arith}
 use Rattle.std.proofs.lemmas.List.{map-append}
 use Rattle.cep_term.specs.Tree.{AtomTree, IsAtomInRange, atom_of}
-use Rattle.cep_rule.specs.Instances.{instance_by, instances_by, kept_of}
+use Rattle.cep_rule.specs.Instances.{full_instance, full_instances, kept_of}
 use Rattle.cep_machine.proofs.Lists.{all_at}
 use Rattle.cep_machine.proofs.Premises.{next_instances, all_instances}
 use Rattle.cep_machine.proofs.sides.added_atoms.Goals as goal
@@ -12,7 +12,7 @@ push_instance-requires c = all_at (IsAtomInRange (length c.args.values.now)) c.a
 pub loop-i-preserved : goal.loop-i-preserved
 loop-i-preserved c =
     c.in_ok-push_instance.ensures
-    ∙ ap (λ (atoms : List AtomTree). atoms ++ instance_by c.args.values.now (atom_of c.get.result.now) ∷ []) c.loop-i.invariant
+    ∙ ap (λ (atoms : List AtomTree). atoms ++ full_instance c.args.values.now (atom_of c.get.result.now) ∷ []) c.loop-i.invariant
     ∙ sym (next_instances c.args.values.now c.args.rule.now.right c.loop-i.i (atom_of c.get.result.now) c.get.ensures)
 
 pub returns : goal.returns
@@ -20,5 +20,5 @@ returns c =
     let rule = c.args.rule.now in
     let values = c.args.values.now in
     c.in_ok-push_kept.ensures
-    ∙ ap (λ (atoms : List AtomTree). atoms ++ instances_by values (kept_of rule)) (c.loop-i.invariant ∙ all_instances values rule.right c.loop-i.i (omega arith))
-    ∙ sym (map-append (instance_by values) rule.right (kept_of rule))
+    ∙ ap (λ (atoms : List AtomTree). atoms ++ full_instances values (kept_of rule)) (c.loop-i.invariant ∙ all_instances values rule.right c.loop-i.i (omega arith))
+    ∙ sym (map-append (full_instance values) rule.right (kept_of rule))

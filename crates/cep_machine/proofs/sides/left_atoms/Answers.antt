@@ -2,8 +2,8 @@ use Rattle.std.proofs.Common.{List, [], ◌∷◌, ◌++◌, length, sym, ap, �
 use Rattle.std.proofs.lemmas.List.{take_all}
 use Rattle.cep_term.specs.Tree.{AtomTree, IsAtomInRange}
 use Rattle.cep_rule.specs.Patterns.{PremiseTree, premise_of}
-use Rattle.cep_rule.specs.Instances.{instance_by, instances_by}
-use Rattle.cep_machine.specs.Weighing.{atoms_of}
+use Rattle.cep_rule.specs.Instances.{full_instance, full_instances}
+use Rattle.cep_machine.specs.Weighing.{premise_atoms}
 use Rattle.cep_machine.proofs.Lists.{all_mapped_at}
 use Rattle.cep_machine.proofs.Premises.{next_left}
 use Rattle.cep_machine.proofs.sides.left_atoms.Goals as goal
@@ -15,10 +15,10 @@ push_instance-requires c =
 pub loop-i-preserved : goal.loop-i-preserved
 loop-i-preserved c =
     c.in_ok-push_instance.ensures
-    ∙ ap (λ (atoms : List AtomTree). atoms ++ instance_by c.args.values.now (premise_of c.get.result.now).atom ∷ []) c.loop-i.invariant
+    ∙ ap (λ (atoms : List AtomTree). atoms ++ full_instance c.args.values.now (premise_of c.get.result.now).atom ∷ []) c.loop-i.invariant
     ∙ sym (next_left c.args.values.now c.args.rule.now.premises c.loop-i.i (premise_of c.get.result.now) c.get.ensures)
 
 pub returns : goal.returns
 returns c =
     c.loop-i.invariant
-    ∙ ap (λ (premises : List PremiseTree). instances_by c.args.values.now (atoms_of premises)) (take_all c.loop-i.i c.args.rule.now.premises (omega arith))
+    ∙ ap (λ (premises : List PremiseTree). full_instances c.args.values.now (premise_atoms premises)) (take_all c.loop-i.i c.args.rule.now.premises (omega arith))

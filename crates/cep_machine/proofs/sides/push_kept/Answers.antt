@@ -2,7 +2,7 @@ use Rattle.std.proofs.Common.{List, ◌++◌, length, sym, ap, ◌∙◌, arith}
 use Rattle.std.proofs.lemmas.List.{take_all}
 use Rattle.cep_term.specs.Tree.{IsAtomInRange}
 use Rattle.cep_rule.specs.Patterns.{PremiseTree, premise_of}
-use Rattle.cep_rule.specs.Instances.{instances_by}
+use Rattle.cep_rule.specs.Instances.{full_instances}
 use Rattle.cep_machine.proofs.Lists.{all_mapped_at}
 use Rattle.cep_machine.proofs.Premises.{kept_in, nothing_more, push_kept_next, push_kept_same}
 use Rattle.cep_machine.proofs.sides.push_kept.Goals.{then-premise+in_ok-push_instance, else-premise}
@@ -28,4 +28,4 @@ loop-i-preserved c =
 pub returns : goal.returns
 returns c =
     c.loop-i.invariant
-    ∙ ap (λ (premises : List PremiseTree). c.args.atoms.now ++ instances_by c.args.values.now (kept_in premises)) (take_all c.loop-i.i c.args.rule.now.premises (omega arith))
+    ∙ ap (λ (premises : List PremiseTree). c.args.atoms.now ++ full_instances c.args.values.now (kept_in premises)) (take_all c.loop-i.i c.args.rule.now.premises (omega arith))

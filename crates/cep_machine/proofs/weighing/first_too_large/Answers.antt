@@ -1,7 +1,7 @@
 use Rattle.std.proofs.Common.{subst, arith}
 use Rattle.std.specs.List.{AllByRecursion}
 use Rattle.cep_term.specs.Tree.{atom_of, IsFit}
-use Rattle.cep_rule.specs.Instances.{instance_by}
+use Rattle.cep_rule.specs.Instances.{full_instance}
 use Rattle.cep_machine.specs.Sizes.{IsMeasurable}
 use Rattle.cep_machine.proofs.Lists.{all_at}
 use Rattle.cep_machine.proofs.Premises.{all_instances}
@@ -20,7 +20,7 @@ returns-in-Some c =
     let a = atom_of c.get.result.now in
     let values = c.args.measured.now.values.now in
     first_at values c.args.right.now c.loop-i.i a c.in-Some.number c.loop-i.invariant c.get.ensures
-    (too_large (instance_by values a) c.size.result c.in-Some.number c.size.ensures.nodes c.size.ensures.depth c.in-Some.ensures)
+    (too_large (full_instance values a) c.size.result c.in-Some.number c.size.ensures.nodes c.size.ensures.depth c.in-Some.ensures)
 
 pub returns : goal.returns
 returns c = subst (AllByRecursion IsFit) (all_instances c.args.measured.now.values.now c.args.right.now c.loop-i.i (omega arith)) c.loop-i.invariant

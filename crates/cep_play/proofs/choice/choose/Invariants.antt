@@ -1,6 +1,6 @@
 use Rattle.std.proofs.Common.{◌≡◌, ◌≤◌, ◌-◌}
 use Rattle.cep_base.specs.Talk.{Did}
-use Rattle.cep_play.specs.declared.choice.TheConstants.{MOST_TYPED}
+use Rattle.cep_base.specs.declared.limits.TheConstants.{MOST_TYPED}
 use Rattle.cep_play.proofs.Hearing.{Awaits}
 use Rattle.cep_play.proofs.choice.choose.Given as goal
 

@@ -1,8 +1,8 @@
 use Rattle.std.proofs.Common.{◌≡◌, ◌+◌, ◌<◌, ◌++◌, refl, sym, subst, ap, ◌∙◌, arith}
 use Rattle.std.specs.Prelude.{IsNone}
 use Rattle.cep_rule.specs.Stages.{IsAsked, IsQuiet}
-use Rattle.cep_play.specs.declared.dialogue.TheConstants.{HEIGHT}
-use Rattle.cep_play.specs.Turn.{position_of, IsPlayed, IsTurned, config_after, AreTurns}
+use Rattle.cep_base.specs.declared.limits.TheConstants.{DEFAULT_HEIGHT}
+use Rattle.cep_play.specs.Turn.{position_of, IsPlayed, IsTurned, config_left, AreTurns}
 use Rattle.cep_play.proofs.Did.{did_same, did_map, did_then}
 use Rattle.cep_play.proofs.Runs.{run_begins, run_goes_on, run_stops, run_quiets, run_is_over}
 use Rattle.cep_play.proofs.dialogue.all_turns.Goals as goal
@@ -16,7 +16,7 @@ loop-done-init g c =
       within = omega arith;
       counted = omega arith;
       cause = refl;
-      so_far = did_map g.C.Console.talk g.C.Console.left console console _ _ (run_begins c.args.program.now HEIGHT c.args.limit (position_of c.args.start)) (did_same g.C.Console.talk g.C.Console.left console console refl refl);
+      so_far = did_map g.C.Console.talk g.C.Console.left console console _ _ (run_begins c.args.program.now DEFAULT_HEIGHT c.args.limit (position_of c.args.start)) (did_same g.C.Console.talk g.C.Console.left console console refl refl);
     }
 
 pub loop-done-preserved : goal.loop-done-preserved
@@ -30,13 +30,13 @@ loop-done-preserved g c =
     let same = before.turns in
     let remain : config.turns < c.args.limit = omega (arith, c.loop-done-test.true) in
     record {
-      played = subst (λ t. IsPlayed g.M.Matcher.is_of g.M.Matcher.height_held program (config_after t)) c.in-Done.is c.in_ok-next.ensures.played;
+      played = subst (λ t. IsPlayed g.M.Matcher.is_of g.M.Matcher.height_held program (config_left t)) c.in-Done.is c.in_ok-next.ensures.played;
       turns = turned.1 ∙ ap (λ n. n + 1) same;
       within = c.turn.ensures.within;
       counted = omega (arith, before.counted, c.turn.ensures.counted);
       cause = c.in_ok-next.ensures.cause ∙ before.cause;
       so_far = did_then talk left c.args.console.now c.loop-done.console c.turn.new.console _ _ _ (λ come first between second rest so turn.
-          run_goes_on program HEIGHT c.args.limit (position_of c.args.start) (position_of config) c.loop-done.taken (position_of c.in-Done.next) c.turn.new.taken come first between second rest remain so turn)
+          run_goes_on program DEFAULT_HEIGHT c.args.limit (position_of c.args.start) (position_of config) c.loop-done.taken (position_of c.in-Done.next) c.turn.new.taken come first between second rest remain so turn)
           before.so_far turned.0;
     }
 
@@ -52,8 +52,8 @@ returns-in-Over-clause-said g c =
     let same = before.turns in
     let remain : config.turns < c.args.limit = omega (arith, c.loop-done-test.true) in
     did_then talk left c.args.console.now c.loop-done.console c.turn.new.console _ _ _ (λ come first between second rest so stop.
-    subst (λ last. AreTurns program HEIGHT c.args.limit end.word (position_of c.args.start) (position_of last) come (first ++ second)) (sym turned.1)
-    (run_stops program HEIGHT c.args.limit (position_of c.args.start) (position_of config) c.loop-done.taken end.word come first between second remain so stop))
+    subst (λ last. AreTurns program DEFAULT_HEIGHT c.args.limit end.word (position_of c.args.start) (position_of last) come (first ++ second)) (sym turned.1)
+    (run_stops program DEFAULT_HEIGHT c.args.limit (position_of c.args.start) (position_of config) c.loop-done.taken end.word come first between second remain so stop))
     before.so_far turned.0
 
 pub returns-in-Some-clause-said : goal.returns-in-Some-clause-said
@@ -66,7 +66,7 @@ returns-in-Some-clause-said g c =
     let same = before.turns in
     let all : config.turns ≡ c.args.limit = omega (arith, c.loop-done-test.false, c.loop-done.auto._done-end) in
     did_map g.C.Console.talk g.C.Console.left c.args.console.now c.loop-done.console _ _ (λ come events rest so.
-    run_is_over program HEIGHT c.args.limit (position_of c.args.start) (position_of config) c.loop-done.taken group come events rest asked all so)
+    run_is_over program DEFAULT_HEIGHT c.args.limit (position_of c.args.start) (position_of config) c.loop-done.taken group come events rest asked all so)
     before.so_far
 
 pub returns-in-None-clause-said : goal.returns-in-None-clause-said
@@ -77,5 +77,5 @@ returns-in-None-clause-said g c =
     let quiet = (c.asked.ensures.quiet program before.played.of_program).0 (subst (λ o. IsNone o) (sym c.in-None.is) refl) in
     let is = subst (λ h. IsQuiet program h config.state config.stage) before.played.height quiet in
     did_map g.C.Console.talk g.C.Console.left c.args.console.now c.loop-done.console _ _ (λ come events rest so.
-    run_quiets program HEIGHT c.args.limit (position_of c.args.start) (position_of config) c.loop-done.taken come events rest is so)
+    run_quiets program DEFAULT_HEIGHT c.args.limit (position_of c.args.start) (position_of config) c.loop-done.taken come events rest is so)
     before.so_far

@@ -1,7 +1,6 @@
 use Rattle.std.proofs.Common.{◌≡◌, ◌≤◌}
 use Rattle.cep_base.specs.Talk.{Did}
-use Rattle.cep_play.specs.declared.choice.TheConstants.{MOST_TYPED}
-use Rattle.cep_play.specs.declared.dialogue.TheConstants.{HEIGHT}
+use Rattle.cep_base.specs.declared.limits.TheConstants.{DEFAULT_HEIGHT, MOST_TYPED}
 use Rattle.cep_play.specs.Turn.{position_of, IsPlayed}
 use Rattle.cep_play.proofs.Runs.{SoFar}
 use Rattle.cep_play.proofs.dialogue.all_turns.Given as goal
@@ -15,5 +14,5 @@ invariant-loop-done g l =
       within : l.taken ≤ MOST_TYPED;
       counted : l.fn.steps ≤ l.steps;
       cause : g.C.Console.faults l.console ≡ g.C.Console.faults l.fn.console;
-      so_far : Did g.C.Console.talk g.C.Console.left l.fn.console l.console (SoFar l.program HEIGHT l.limit (position_of l.fn.start) (position_of l.config) l.taken);
+      so_far : Did g.C.Console.talk g.C.Console.left l.fn.console l.console (SoFar l.program DEFAULT_HEIGHT l.limit (position_of l.fn.start) (position_of l.config) l.taken);
     }

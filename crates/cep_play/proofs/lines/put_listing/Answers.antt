@@ -4,12 +4,12 @@ use Rattle.std.specs.FinMap.{len-entries}
 use Rattle.cep_term.specs.Tree.{atom_of}
 use Rattle.cep_play.specs.Lines.{have_line, listing}
 use Rattle.cep_play.proofs.LineLemmas.{listing_next, listing_done}
-use Rattle.cep_play.proofs.States.{fact_at}
+use Rattle.cep_play.proofs.States.{typed_at_head}
 use Rattle.cep_play.proofs.lines.put_listing.Goals as goal
 
 pub put_have-requires : goal.put_have-requires
 put_have-requires c =
-    fact_at c.order_is_total.ensures.atoms c.args.program.now.signature c.args.state.now c.loop-i.i _ _ c.requires c.entry-copies.ensures
+    typed_at_head c.order_is_total.ensures.atoms c.args.program.now.signature c.args.state.now c.loop-i.i _ _ c.requires c.entry-copies.ensures
 
 pub loop-i-preserved : goal.loop-i-preserved
 loop-i-preserved c =

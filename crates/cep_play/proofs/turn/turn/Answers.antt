@@ -2,13 +2,12 @@ use Rattle.std.proofs.Common.{◌<◌, ◌≤◌, length, refl, sym, subst}
 use Rattle.std.specs.Prelude.{IsNone}
 use Rattle.std.proofs.lemmas.Result.{IfOk-weaker}
 use Rattle.cep_base.specs.Talk.{Did}
-use Rattle.cep_rule.specs.declared.limits.TheConstants.{MOST_OFFERS}
+use Rattle.cep_base.specs.declared.limits.TheConstants.{DEFAULT_HEIGHT, MOST_OFFERS}
 use Rattle.cep_rule.specs.Stages.{IsQuiet}
 use Rattle.cep_rule.specs.Matching.{offers_of}
 use Rattle.cep_play.specs.declared.dialogue.EndWord.TheVariants.{Input, Typed}
-use Rattle.cep_play.specs.declared.dialogue.TheConstants.{HEIGHT}
 use Rattle.cep_play.specs.Dialogue.{AreAsked, IsStop}
-use Rattle.cep_play.specs.Turn.{position_of, Asks, IsTurned}
+use Rattle.cep_play.specs.Turn.{position_of, AsksPlayer, IsTurned}
 use Rattle.cep_play.proofs.Did.{did_same, did_map}
 use Rattle.cep_play.proofs.Turns.{offers_have_texts, are_asked, group_listed, too_many, quiet_turn, crowded_turn, unchosen_turn, chosen_turn}
 use Rattle.cep_play.proofs.turn.turn.Goals as goal
@@ -39,7 +38,7 @@ returns-then-not-len_ok-clause-turned g c =
     let lists = g.M.Matcher.offers_held matcher in
     let group = c.in-Some.group in
     let listed = group_listed lists config.stage group c.in-Some.ensures.listed c.matcher.ensures.listed in
-    let are : AreAsked program HEIGHT (position_of config) (offers_of lists group) = are_asked program group (g.M.Matcher.height_held matcher) (g.M.Matcher.state_held matcher) lists config c.requires.played.height c.matcher.ensures.same_state
+    let are : AreAsked program DEFAULT_HEIGHT (position_of config) (offers_of lists group) = are_asked program group (g.M.Matcher.height_held matcher) (g.M.Matcher.state_held matcher) lists config c.requires.played.height c.matcher.ensures.same_state
     (g.met.M.Matcher.exact program matcher c.requires.played.of_program.matcher) listed (c.in-Some.ensures.asked program c.requires.played.of_program) in
     let many : MOST_OFFERS < length (offers_of lists group) = subst (λ m. MOST_OFFERS < length (offers_of (g.M.Matcher.offers_held m) group)) c.matcher.ensures.matcher
     (too_many c.len_ok.result _ MOST_OFFERS c.len_ok.ensures c.if-not-len_ok.true) in
@@ -70,13 +69,13 @@ returns-in-Place-clause-turned g c =
     let group = c.in-Some.group in
     let offers = offers_of lists group in
     let listed = group_listed lists config.stage group c.in-Some.ensures.listed c.matcher.ensures.listed in
-    let are : AreAsked program HEIGHT (position_of config) (offers_of lists group) = are_asked program group (g.M.Matcher.height_held matcher) (g.M.Matcher.state_held matcher) lists config c.requires.played.height c.matcher.ensures.same_state
+    let are : AreAsked program DEFAULT_HEIGHT (position_of config) (offers_of lists group) = are_asked program group (g.M.Matcher.height_held matcher) (g.M.Matcher.state_held matcher) lists config c.requires.played.height c.matcher.ensures.same_state
     (g.met.M.Matcher.exact program matcher c.requires.played.of_program.matcher) listed (c.in-Some.ensures.asked program c.requires.played.of_program) in
     let few : length (offers_of lists group) ≤ MOST_OFFERS = subst (λ m. length (offers_of (g.M.Matcher.offers_held m) group) ≤ MOST_OFFERS) c.matcher.ensures.matcher (c.len_ok.ensures.0 c.if-not-len_ok.false) in
-    let heard : Did talk left console c.ask.new.console (λ come events rest. Asks program (offers_of lists group) come c.args.taken.now events c.in_ok-place.field-0 rest c.ask.new.taken) =
-    subst (λ m. Did talk left console c.ask.new.console (λ come events rest. Asks program (offers_of (g.M.Matcher.offers_held m) group) come c.args.taken.now events c.in_ok-place.field-0 rest c.ask.new.taken)) c.matcher-2.ensures.matcher c.in_ok-place.ensures.heard in
+    let heard : Did talk left console c.ask.new.console (λ come events rest. AsksPlayer program (offers_of lists group) come c.args.taken.now events c.in_ok-place.field-0 rest c.ask.new.taken) =
+    subst (λ m. Did talk left console c.ask.new.console (λ come events rest. AsksPlayer program (offers_of (g.M.Matcher.offers_held m) group) come c.args.taken.now events c.in_ok-place.field-0 rest c.ask.new.taken)) c.matcher-2.ensures.matcher c.in_ok-place.ensures.heard in
     IfOk-weaker c.act.result _ _ (λ turned acted. chosen_turn talk left console c.ask.new.console c.act.new.console program config c.args.taken.now c.ask.new.taken c.in-Place.place offers turned are few
-    (subst (λ choice. Did talk left console c.ask.new.console (λ come events rest. Asks program (offers_of lists group) come c.args.taken.now events choice rest c.ask.new.taken)) c.in-Place.is heard) acted) c.act.ensures.acted
+    (subst (λ choice. Did talk left console c.ask.new.console (λ come events rest. AsksPlayer program (offers_of lists group) come c.args.taken.now events choice rest c.ask.new.taken)) c.in-Place.is heard) acted) c.act.ensures.acted
 
 pub returns-in-NoMore-clause-turned : goal.returns-in-NoMore-clause-turned
 returns-in-NoMore-clause-turned g c =
@@ -90,11 +89,11 @@ returns-in-NoMore-clause-turned g c =
     let group = c.in-Some.group in
     let offers = offers_of lists group in
     let listed = group_listed lists config.stage group c.in-Some.ensures.listed c.matcher.ensures.listed in
-    let are : AreAsked program HEIGHT (position_of config) (offers_of lists group) = are_asked program group (g.M.Matcher.height_held matcher) (g.M.Matcher.state_held matcher) lists config c.requires.played.height c.matcher.ensures.same_state
+    let are : AreAsked program DEFAULT_HEIGHT (position_of config) (offers_of lists group) = are_asked program group (g.M.Matcher.height_held matcher) (g.M.Matcher.state_held matcher) lists config c.requires.played.height c.matcher.ensures.same_state
     (g.met.M.Matcher.exact program matcher c.requires.played.of_program.matcher) listed (c.in-Some.ensures.asked program c.requires.played.of_program) in
     let few : length (offers_of lists group) ≤ MOST_OFFERS = subst (λ m. length (offers_of (g.M.Matcher.offers_held m) group) ≤ MOST_OFFERS) c.matcher.ensures.matcher (c.len_ok.ensures.0 c.if-not-len_ok.false) in
-    let heard : Did talk left console c.ask.new.console (λ come events rest. Asks program (offers_of lists group) come c.args.taken.now events c.in_ok-place.field-0 rest c.ask.new.taken) =
-    subst (λ m. Did talk left console c.ask.new.console (λ come events rest. Asks program (offers_of (g.M.Matcher.offers_held m) group) come c.args.taken.now events c.in_ok-place.field-0 rest c.ask.new.taken)) c.matcher-2.ensures.matcher c.in_ok-place.ensures.heard in
+    let heard : Did talk left console c.ask.new.console (λ come events rest. AsksPlayer program (offers_of lists group) come c.args.taken.now events c.in_ok-place.field-0 rest c.ask.new.taken) =
+    subst (λ m. Did talk left console c.ask.new.console (λ come events rest. AsksPlayer program (offers_of (g.M.Matcher.offers_held m) group) come c.args.taken.now events c.in_ok-place.field-0 rest c.ask.new.taken)) c.matcher-2.ensures.matcher c.in_ok-place.ensures.heard in
     subst (λ t. IsTurned talk left console c.ask.new.console program config c.args.taken.now c.ask.new.taken t) (sym c.over-in-NoMore.ensures) (
       did_map talk left console c.ask.new.console _ _ (λ come events rest asks. unchosen_turn program (position_of config) c.args.taken.now offers are few c.ask.new.taken come rest events c.in_ok-place.field-0 Input
           asks (subst (λ choice. IsStop choice Input) (sym c.in-NoMore.is) refl)) heard,
@@ -113,11 +112,11 @@ returns-in-NoRoom-clause-turned g c =
     let group = c.in-Some.group in
     let offers = offers_of lists group in
     let listed = group_listed lists config.stage group c.in-Some.ensures.listed c.matcher.ensures.listed in
-    let are : AreAsked program HEIGHT (position_of config) (offers_of lists group) = are_asked program group (g.M.Matcher.height_held matcher) (g.M.Matcher.state_held matcher) lists config c.requires.played.height c.matcher.ensures.same_state
+    let are : AreAsked program DEFAULT_HEIGHT (position_of config) (offers_of lists group) = are_asked program group (g.M.Matcher.height_held matcher) (g.M.Matcher.state_held matcher) lists config c.requires.played.height c.matcher.ensures.same_state
     (g.met.M.Matcher.exact program matcher c.requires.played.of_program.matcher) listed (c.in-Some.ensures.asked program c.requires.played.of_program) in
     let few : length (offers_of lists group) ≤ MOST_OFFERS = subst (λ m. length (offers_of (g.M.Matcher.offers_held m) group) ≤ MOST_OFFERS) c.matcher.ensures.matcher (c.len_ok.ensures.0 c.if-not-len_ok.false) in
-    let heard : Did talk left console c.ask.new.console (λ come events rest. Asks program (offers_of lists group) come c.args.taken.now events c.in_ok-place.field-0 rest c.ask.new.taken) =
-    subst (λ m. Did talk left console c.ask.new.console (λ come events rest. Asks program (offers_of (g.M.Matcher.offers_held m) group) come c.args.taken.now events c.in_ok-place.field-0 rest c.ask.new.taken)) c.matcher-2.ensures.matcher c.in_ok-place.ensures.heard in
+    let heard : Did talk left console c.ask.new.console (λ come events rest. AsksPlayer program (offers_of lists group) come c.args.taken.now events c.in_ok-place.field-0 rest c.ask.new.taken) =
+    subst (λ m. Did talk left console c.ask.new.console (λ come events rest. AsksPlayer program (offers_of (g.M.Matcher.offers_held m) group) come c.args.taken.now events c.in_ok-place.field-0 rest c.ask.new.taken)) c.matcher-2.ensures.matcher c.in_ok-place.ensures.heard in
     subst (λ t. IsTurned talk left console c.ask.new.console program config c.args.taken.now c.ask.new.taken t) (sym c.over-in-NoRoom.ensures) (
       did_map talk left console c.ask.new.console _ _ (λ come events rest asks. unchosen_turn program (position_of config) c.args.taken.now offers are few c.ask.new.taken come rest events c.in_ok-place.field-0 Typed
           asks (subst (λ choice. IsStop choice Typed) (sym c.in-NoRoom.is) refl)) heard,

@@ -1,5 +1,5 @@
 use Rattle.std.proofs.Common.{◌≡◌, ◌≤◌, length, sym, arith, slice_get, Some}
-use Rattle.cep_rule.specs.declared.limits.TheConstants.{MOST_CLAUSES}
+use Rattle.cep_base.specs.declared.limits.TheConstants.{MOST_CLAUSES}
 use Rattle.cep_rule.specs.Patterns.{clause_of}
 use Rattle.cep_rule.specs.Program.{IsTypedClause}
 use Rattle.cep_text.proofs.Numbers.{all_at}

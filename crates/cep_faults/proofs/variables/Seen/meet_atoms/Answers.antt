@@ -2,7 +2,7 @@ use Rattle.std.proofs.Common.{List, sym, ap, ◌∙◌, ◌-◌, Ok}
 use Rattle.std.specs.List.{slice_get}
 use Rattle.cep_parse.specs.declared.raw.RawNode.{RawNode}
 use Rattle.cep_parse.specs.declared.raw.RawAtom.{RawAtom}
-use Rattle.cep_rule.specs.declared.limits.TheConstants.{MOST_VARIABLES}
+use Rattle.cep_base.specs.declared.limits.TheConstants.{MOST_VARIABLES}
 use Rattle.cep_faults.specs.Seen.{new_in, met_all}
 use Rattle.cep_faults.proofs.SeenLaws.{parts_more, parts_found, parts_none}
 use Rattle.cep_faults.proofs.variables.Seen.meet_atoms.Goals as goal

@@ -1,5 +1,5 @@
 use Rattle.std.proofs.Common.{◌≡◌, ◌≤◌, take}
-use Rattle.cep_rule.specs.declared.limits.TheConstants.{MOST_VARIABLES}
+use Rattle.cep_base.specs.declared.limits.TheConstants.{MOST_VARIABLES}
 use Rattle.cep_faults.specs.Seen.{met_all}
 use Rattle.cep_faults.proofs.variables.Seen.meet_nodes.Given as goal
 

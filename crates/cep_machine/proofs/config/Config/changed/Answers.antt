@@ -11,7 +11,7 @@ add_all-requires-clause-bag g c =
     let left = c.args.change.now.left in
     let same : c.self.inside.state ≡ c.args.self.state = ap (λ (config : Configuration g.row.M.Denot). config.state) c.self.view_is in
     subst IsBag (sym c.take_all.ensures)
-    (laws.difference_kept c.self.inside.state (gathered left) (subst IsBag (sym same) c.requires.of_program.facts.bag) (laws.gathered_kept left c.requires.can.left))
+    (laws.difference_kept c.self.inside.state (gathered left) (subst IsBag (sym same) c.requires.of_program.is_state.bag) (laws.gathered_kept left c.requires.can.left))
 
 pub add_all-requires-clause-few : goal.add_all-requires-clause-few
 add_all-requires-clause-few g c =

@@ -25,25 +25,25 @@ pub weigh-requires-clause-can : goal.weigh-requires-clause-can
 weigh-requires-clause-can g c =
     let own = subst (IsConfigurationOf g.M.Matcher.is_of c.args.program.now) (sym c.self.view_is) c.requires.of_program in
     let is = ready_offer c.args.program.now c.parts.result.now (g.M.Matcher.height_held c.self.inside.matcher) (g.M.Matcher.state_held c.self.inside.matcher) c.self.inside.state (g.M.Matcher.offers_held c.self.inside.matcher) c.unwrap-group.result c.args.i c.offer-offer.result.now c.get-rule.result.now c.parts.ensures.kept c.parts.ensures.parts (g.met.M.Matcher.exact c.args.program.now c.self.inside.matcher own.matcher) c.self.invariant.same_state c.offer-offer.ensures c.get-rule.ensures in
-    can_weigh c.steps_are_lawful.ensures c.args.program.now c.self.inside.state c.get-rule.result.now c.offer-offer.result.now.values is own.facts own.fits
+    can_weigh c.steps_are_lawful.ensures c.args.program.now c.self.inside.state c.get-rule.result.now c.offer-offer.result.now.values is own.is_state own.fits
 
 pub left_atoms-requires : goal.left_atoms-requires
 left_atoms-requires g c =
     let own = subst (IsConfigurationOf g.M.Matcher.is_of c.args.program.now) (sym c.self.view_is) c.requires.of_program in
     let is = ready_offer c.args.program.now c.parts.result.now (g.M.Matcher.height_held c.self.inside.matcher) (g.M.Matcher.state_held c.self.inside.matcher) c.self.inside.state (g.M.Matcher.offers_held c.self.inside.matcher) c.unwrap-group.result c.args.i c.offer-offer.result.now c.get-rule.result.now c.parts.ensures.kept c.parts.ensures.parts (g.met.M.Matcher.exact c.args.program.now c.self.inside.matcher own.matcher) c.self.invariant.same_state c.offer-offer.ensures c.get-rule.ensures in
-    needed_in_range c.steps_are_lawful.ensures c.args.program.now c.self.inside.state c.get-rule.result.now c.offer-offer.result.now.values is own.facts own.fits
+    needed_in_range c.steps_are_lawful.ensures c.args.program.now c.self.inside.state c.get-rule.result.now c.offer-offer.result.now.values is own.is_state own.fits
 
 pub added_atoms-requires-clause-right : goal.added_atoms-requires-clause-right
 added_atoms-requires-clause-right g c =
     let own = subst (IsConfigurationOf g.M.Matcher.is_of c.args.program.now) (sym c.self.view_is) c.requires.of_program in
     let is = ready_offer c.args.program.now c.parts.result.now (g.M.Matcher.height_held c.self.inside.matcher) (g.M.Matcher.state_held c.self.inside.matcher) c.self.inside.state (g.M.Matcher.offers_held c.self.inside.matcher) c.unwrap-group.result c.args.i c.offer-offer.result.now c.get-rule.result.now c.parts.ensures.kept c.parts.ensures.parts (g.met.M.Matcher.exact c.args.program.now c.self.inside.matcher own.matcher) c.self.invariant.same_state c.offer-offer.ensures c.get-rule.ensures in
-    right_in_range c.steps_are_lawful.ensures c.args.program.now c.self.inside.state c.get-rule.result.now c.offer-offer.result.now.values is own.facts own.fits
+    right_in_range c.steps_are_lawful.ensures c.args.program.now c.self.inside.state c.get-rule.result.now c.offer-offer.result.now.values is own.is_state own.fits
 
 pub added_atoms-requires-clause-needed : goal.added_atoms-requires-clause-needed
 added_atoms-requires-clause-needed g c =
     let own = subst (IsConfigurationOf g.M.Matcher.is_of c.args.program.now) (sym c.self.view_is) c.requires.of_program in
     let is = ready_offer c.args.program.now c.parts.result.now (g.M.Matcher.height_held c.self.inside.matcher) (g.M.Matcher.state_held c.self.inside.matcher) c.self.inside.state (g.M.Matcher.offers_held c.self.inside.matcher) c.unwrap-group.result c.args.i c.offer-offer.result.now c.get-rule.result.now c.parts.ensures.kept c.parts.ensures.parts (g.met.M.Matcher.exact c.args.program.now c.self.inside.matcher own.matcher) c.self.invariant.same_state c.offer-offer.ensures c.get-rule.ensures in
-    needed_in_range c.steps_are_lawful.ensures c.args.program.now c.self.inside.state c.get-rule.result.now c.offer-offer.result.now.values is own.facts own.fits
+    needed_in_range c.steps_are_lawful.ensures c.args.program.now c.self.inside.state c.get-rule.result.now c.offer-offer.result.now.values is own.is_state own.fits
 
 pub changed-requires-clause-can : goal.changed-requires-clause-can
 changed-requires-clause-can g c =
@@ -55,7 +55,7 @@ changed-requires-clause-can g c =
     let left = c.in_ok-left_atoms-in-Within.field-0 in
     let added = c.in_ok-added_atoms-in-Within.field-0 in
     subst (λ (state : Multiset). CanChange c.args.program.now state (record { stage = c.unwrap_or.result; nodes = c.in-Within.nodes; left = left; added = added })) same
-    (can_change c.steps_are_lawful.ensures c.args.program.now c.self.inside.state c.get-rule.result.now c.offer-offer.result.now.values is own.facts own.fits c.in-Within.nodes weighed c.parts.ensures.kept c.unwrap_or.result within left added c.in_ok-left_atoms-in-Within.ensures c.in_ok-added_atoms-in-Within.ensures)
+    (can_change c.steps_are_lawful.ensures c.args.program.now c.self.inside.state c.get-rule.result.now c.offer-offer.result.now.values is own.is_state own.fits c.in-Within.nodes weighed c.parts.ensures.kept c.unwrap_or.result within left added c.in_ok-left_atoms-in-Within.ensures c.in_ok-added_atoms-in-Within.ensures)
 
 pub returns-in-TooMuch-clause-stepped : goal.returns-in-TooMuch-clause-stepped
 returns-in-TooMuch-clause-stepped g c =
@@ -70,7 +70,7 @@ returns-in-TooMuch-clause-stepped g c =
     let passed : Passes c.get-rule.result.now values c.args.self.state c.in-TooMuch.which c.in-TooMuch.number =
     subst (λ (state : Multiset). Passes c.get-rule.result.now values state c.in-TooMuch.which c.in-TooMuch.number) same
     (passes c.get-rule.result.now values c.self.inside.state c.in-TooMuch.which c.in-TooMuch.number
-    (c.steps_are_lawful.ensures.edit c.args.program.now.signature c.get-rule.result.now values c.self.inside.state is.typed is.are own.facts.bag is.contained) weighed) in
+    (c.steps_are_lawful.ensures.edit c.args.program.now.signature c.get-rule.result.now values c.self.inside.state is.typed is.are own.is_state.bag is.contained) weighed) in
     chosen_once c.args.program.now (g.M.Matcher.offers_held c.args.self.matcher) c.args.self.stage c.args.i (offers_of (g.M.Matcher.offers_held c.args.self.matcher) c.unwrap-group.result) c.offer-offer.result.now c.get-rule.result.now offers placed numbered
     (λ (rule : Rule) (values : List Tree). (c.args.self ≡ c.args.self) × Passes rule values c.args.self.state c.in-TooMuch.which c.in-TooMuch.number)
     (refl, passed)
@@ -90,5 +90,5 @@ returns-in_ok-changed-in-Within-clause-stepped g c =
     ∙ ap (λ (config : Configuration g.row.M.Denot). unwrap_or c.get-rule.result.now.next config.stage) c.self.view_is in
     chosen_once c.args.program.now (g.M.Matcher.offers_held c.args.self.matcher) c.args.self.stage c.args.i (offers_of (g.M.Matcher.offers_held c.args.self.matcher) c.unwrap-group.result) c.offer-offer.result.now c.get-rule.result.now offers placed numbered
     (λ (rule : Rule) (values : List Tree). IsNext rule values c.args.self new)
-    (is_next c.steps_are_lawful.ensures c.args.program.now c.self.inside.state c.get-rule.result.now c.offer-offer.result.now.values is own.facts own.fits c.in-Within.nodes weighed c.args.self new c.in_ok-left_atoms-in-Within.field-0 c.in_ok-added_atoms-in-Within.field-0
+    (is_next c.steps_are_lawful.ensures c.args.program.now c.self.inside.state c.get-rule.result.now c.offer-offer.result.now.values is own.is_state own.fits c.in-Within.nodes weighed c.args.self new c.in_ok-left_atoms-in-Within.field-0 c.in_ok-added_atoms-in-Within.field-0
     (sym same) c.in_ok-left_atoms-in-Within.ensures c.in_ok-added_atoms-in-Within.ensures c.in_ok-changed-in-Within.ensures.state stage c.in_ok-changed-in-Within.ensures.turns)

@@ -1,7 +1,10 @@
-ghost use Rattle.std.specs.Prelude.{◌≡◌, ◌<◌, [], ◌∷◌, ◌++◌, length, slice_get, slice_set, Some, OnOk, OnErr};
+ghost use Rattle.std.specs.Prelude.{◌≡◌, ◌<◌, ◌^◌, ◌↔◌, [], ◌∷◌, ◌++◌, length, slice_get, slice_set, Some, IsTrue, OnOk, OnErr};
+ghost use Rattle.std.specs.Iterator.Adapters.{IterYieldsInOrder};
+ghost use Rattle.std.specs.Slice.Iter.{iter_rest};
 
 use std::alloc::{AllocError, Global};
 use std::marker::Model;
+use std::slice::Iter;
 
 /// A list that grows at its end.
 #[derive(Debug, Drop)]
@@ -27,14 +30,21 @@ impl<T> List<T> {
         }
     }
 
-    /// How many items there are.
+    /// How many items there are. It takes no memory.
     pub fn len(&self) -> usize
         ensures { result ≡ length self.now }
     {
         self.items.len()
     }
 
-    /// The item at a place, from 0.
+    /// Whether there are none. It takes no memory.
+    pub fn is_empty(&self) -> bool
+        ensures { IsTrue result ↔ (self.now ≡ []) }
+    {
+        self.items.is_empty()
+    }
+
+    /// The item at a place, from 0. It takes no memory.
     pub fn get(&self, i: usize) -> &T
         requires { i < length self.now }
         ensures { slice_get self.now i ≡ Some result.now }
@@ -42,24 +52,33 @@ impl<T> List<T> {
         &self.items[i]
     }
 
-    /// All of them.
+    /// All of them. It takes no memory.
     pub fn as_slice(&self) -> &[T]
         ensures { result.now ≡ self.now }
     {
         &self.items
     }
+
+    /// One after another, from the first. It takes no memory.
+    pub fn iter(&self) -> Iter<'_, T>
+        ensures rest { iter_rest result ≡ self.now }
+        ensures bound { length (iter_rest result) < 2 ^ 64 }
+        ensures runs { IterYieldsInOrder T }
+    {
+        self.items.as_slice().iter()
+    }
 }
 
 impl<T: Drop> List<T> {
-    /// Puts another item at a place, from 0.
-    pub(crate) fn set(&mut self, i: usize, item: T)
+    /// Puts another item at a place, from 0. It takes no memory.
+    pub fn set(&mut self, i: usize, item: T)
         requires { i < length self.old }
         ensures { self.new ≡ slice_set self.old i item }
     {
         self.items[i] = item;
     }
 
-    /// Adds an item at the end.
+    /// Adds an item at the end. After want of memory the list is as before, and the item is gone.
     pub fn push(&mut self, item: T) -> Result<(), AllocError>
         ensures ok { OnOk result (self.new ≡ self.old ++ item ∷ []) }
         ensures err { OnErr result (self.new ≡ self.old) }
