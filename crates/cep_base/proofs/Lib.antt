@@ -1,1 +1,4 @@
+pub mod Members
+pub mod Elements
+pub mod Bytes
 pub mod Holdings

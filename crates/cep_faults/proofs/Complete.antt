@@ -32,7 +32,7 @@ use Rattle.cep_faults.specs.Seen.{unseen, new_in}
 use Rattle.cep_faults.specs.Looks.{looks_of, cons_by, clauses_by}
 use Rattle.cep_faults.specs.Faults.{lack_faults, arity_faults, use_faults, pred_faults, node_faults, open_faults, back_faults, linear_faults, state_faults, role_faults, placed_faults, past, places, argument_faults, con_faults, size_faults, rule_faults, clause_faults, premise_places, is_qui_rule, qui_faults, is_turn_limit, turns_faults, trace_faults, outers_in, listed_atoms, state_role, state_atoms, item_faults}
 use Rattle.cep_faults.specs.Totals.{variable_faults, item_variable_faults, is_fit, unfit_faults, item_unfit_faults, count_faults, all_count_faults, written_size, is_large, start_size, start_faults, traces_faults, all_faults}
-use Rattle.cep_faults.proofs.Members.{In, here, in_nil, in_one, in_same, in_left, in_right, in_parts, through, via, image, mapped, from_contains, give}
+use Rattle.cep_base.proofs.Members.{In, here, in_nil, in_one, in_same, in_left, in_right, in_parts, through, via, image, mapped, from_contains, give}
 use Rattle.cep_faults.proofs.Parts.{own_parts, housed}
 use Rattle.cep_faults.proofs.Same.{atom_at, entry_at, head_at, occurrence_from, premise_list, atom_list, preds_at, cons_at, clauses_at, rules_at, size_same, large_same}
 use Rattle.cep_faults.proofs.SoundItems.{variable_list, context_sizes}

@@ -13,7 +13,7 @@ use Rattle.cep_faults.specs.Looks.{Looks, looks_of, looks_in}
 use Rattle.cep_faults.specs.Faults.{item_faults}
 use Rattle.cep_faults.specs.Totals.{item_unfit_faults, item_variable_faults, all_count_faults, traces_faults, first_size, all_faults}
 use Rattle.cep_faults.proofs.Firsts.{first_union, first_same, first_among, first_in-append}
-use Rattle.cep_faults.proofs.Members.{to_contains, from_contains}
+use Rattle.cep_base.proofs.Members.{to_contains, from_contains}
 use Rattle.cep_faults.proofs.SourceLooks.{looks_is}
 use Rattle.cep_faults.proofs.SoundItems.{all_sound}
 use Rattle.cep_faults.proofs.Complete.{complete}

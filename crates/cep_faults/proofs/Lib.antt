@@ -6,7 +6,6 @@ pub mod SizeTables
 pub mod TraceSteps
 pub mod SeenLaws
 pub mod Pending
-pub mod Members
 pub mod SourceLooks
 pub mod Parts
 pub mod Same

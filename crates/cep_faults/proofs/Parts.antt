@@ -8,7 +8,7 @@ use Rattle.cep_names.specs.Items.{Source, ConItem, ClauseItem, RuleItem, cons_in
 use Rattle.cep_names.specs.Filling.{item_rules}
 use Rattle.cep_names.specs.Uses.{Placed, Use, own_atoms, item_atoms, placed_of, rule_atoms, clause_atoms, own_uses, con_uses, atom_uses, item_uses, uses_of}
 use Rattle.cep_faults.specs.Faults.{outers_in, state_atoms}
-use Rattle.cep_faults.proofs.Members.{In, here, there, in_nil, in_one, in_same, in_left, in_right, in_parts, through, via, image, mapped}
+use Rattle.cep_base.proofs.Members.{In, here, there, in_nil, in_one, in_same, in_left, in_right, in_parts, through, via, image, mapped}
 
 pub own_use : (source : Source) (item : RawItem) (used : Use) → In source.file item → In (own_uses item) used → In (uses_of source) used
 own_use source item used member h = via (item_uses source) source.file item used member (in_left (own_uses item) _ used h)

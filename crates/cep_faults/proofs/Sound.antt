@@ -20,7 +20,7 @@ use Rattle.cep_names.specs.Spaces.{is_in, arity_of, back_of}
 use Rattle.cep_names.specs.Uses.{Placed, Use, is_context, placed_of, uses_of, pred_uses, node_uses}
 use Rattle.cep_faults.specs.Looks.{looks_of}
 use Rattle.cep_faults.specs.Faults.{lack_faults, arity_faults, use_faults, pred_faults, node_faults, open_by, open_faults, back_faults, linear_faults, state_faults, role_faults, placed_faults}
-use Rattle.cep_faults.proofs.Members.{In, here, in_nil, in_one, in_same, in_left, in_right, in_parts, through, via, to_contains}
+use Rattle.cep_base.proofs.Members.{In, here, in_nil, in_one, in_same, in_left, in_right, in_parts, through, via, to_contains}
 use Rattle.cep_faults.proofs.Parts.{placed_use}
 
 lack : (source : Source) (used : Use) (fault : Fault) (has anywhere : Bool) → In (uses_of source) used → is_in source used.space (said source used.name) ≡ has → is_somewhere source (said source used.name) ≡ anywhere

@@ -23,7 +23,7 @@ use Rattle.cep_types.specs.Sites.{rule_scope, clause_scope}
 use Rattle.cep_types.specs.Heads.{var, variable_of, head_at, heads_from, blanks_after, IsAtomBy, AreAtomsBy}
 use Rattle.cep_infer.specs.Meaning.{names_of, is_back, ArePremisesBy, IsRuleBy, IsClauseBy}
 use Rattle.cep_infer.specs.Places.{unbound_of}
-use Rattle.cep_ground.proofs.Members.{contains_none, contains_first, contains_behind, contains_cases, contains_either, contains_left, contains_right, contains_map, contains_at}
+use Rattle.cep_base.proofs.Elements.{contains_none, contains_first, contains_behind, contains_cases, contains_either, contains_left, contains_right, contains_map, contains_at}
 use Rattle.cep_ground.proofs.Finds.{IsFound}
 use Rattle.cep_ground.proofs.Limits.{filter_keeps}
 use Rattle.cep_ground.proofs.HeadLaws.{terms_occur}

@@ -9,7 +9,7 @@ use Rattle.cep_names.specs.Items.{Source}
 use Rattle.cep_names.specs.Spaces.{Named, names_in}
 use Rattle.cep_names.specs.Misnamed.{Misnamed, wrong}
 use Rattle.cep_names.specs.Misnamed.Misnamed.{twice}
-use Rattle.cep_ground.proofs.Members.{contains_first, contains_behind}
+use Rattle.cep_base.proofs.Elements.{contains_first, contains_behind}
 
 -- no name of a list stands before itself
 abbrev IsOnce : List Named → Type 0

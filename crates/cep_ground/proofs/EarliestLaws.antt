@@ -7,7 +7,7 @@ use Rattle.std.specs.List.{flat_map}
 use Rattle.cep_base.specs.declared.place.Pos.{Pos}
 use Rattle.cep_ground.specs.Refusals.{StandsBefore}
 use Rattle.cep_ground.specs.Earliest.{IsEarliest}
-use Rattle.cep_ground.proofs.Members.{contains_none, contains_first, contains_cases, contains_left, contains_right, contains_either}
+use Rattle.cep_base.proofs.Elements.{contains_none, contains_first, contains_cases, contains_left, contains_right, contains_either}
 
 -- how two numbers compare
 data Lines (a b : ℕ) : Type 0 where

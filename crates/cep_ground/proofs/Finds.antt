@@ -2,7 +2,7 @@
 use Rattle.std.proofs.Common.{◌≡◌, Bool, true, false, ◌||◌, List, [], ◌∷◌, map, refl, Contains, subst}
 use Rattle.std.specs.Prelude.{Option, Some, cond}
 use Rattle.std.specs.List.{find, list_any}
-use Rattle.cep_ground.proofs.Members.{contains_first, contains_behind}
+use Rattle.cep_base.proofs.Elements.{contains_first, contains_behind}
 
 -- something is found
 pub record IsFound {Y : Type 0} (found : Option Y) : Type 0 where

@@ -23,7 +23,7 @@ use Rattle.cep_rule.specs.declared.rule.Rule.{Rule}
 use Rattle.cep_rule.specs.Program.{IsGroupedRule}
 use Rattle.cep_infer.specs.Meaning.{IsRuleBy}
 use Rattle.cep_ground.specs.Texts.{IsClean}
-use Rattle.cep_ground.proofs.Members.{contains_none, contains_first, contains_cases, contains_left, contains_right, contains_flat, flat_cases}
+use Rattle.cep_base.proofs.Elements.{contains_none, contains_first, contains_cases, contains_left, contains_right, contains_flat, flat_cases}
 use Rattle.cep_ground.proofs.Known.{known}
 use Rattle.cep_ground.proofs.Located.{place_within, position_there}
 use Rattle.cep_ground.proofs.RuleItems.{rule_uses, home_within}

@@ -17,7 +17,7 @@ use Rattle.cep_names.specs.Spaces.{named, is_in, pred_named, con_named, arity_of
 use Rattle.cep_names.specs.Uses.{Placed, Use, use_in, pred_uses, node_uses, atom_uses, con_uses, own_uses, item_uses, uses_of, item_atoms, own_atoms, clause_atoms, placed_of, is_context}
 use Rattle.cep_names.specs.Misnamed.{Misnamed, wrong, is_somewhere}
 use Rattle.cep_names.specs.Misnamed.Misnamed.{unknown, wrong_kind, wrong_arity}
-use Rattle.cep_ground.proofs.Members.{contains_first, contains_none, contains_cases, contains_left, contains_right, contains_map, contains_flat, flat_cases}
+use Rattle.cep_base.proofs.Elements.{contains_first, contains_none, contains_cases, contains_left, contains_right, contains_map, contains_flat, flat_cases}
 use Rattle.cep_ground.proofs.Finds.{any_found}
 
 -- the names of the source are in order

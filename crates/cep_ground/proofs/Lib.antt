@@ -1,4 +1,3 @@
-pub mod Members
 pub mod Distinct
 pub mod Finds
 pub mod Known

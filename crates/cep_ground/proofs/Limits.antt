@@ -4,7 +4,7 @@ use Rattle.std.specs.Prelude.{Some, slice_get, cond}
 use Rattle.std.specs.List.{AllByRecursion}
 use Rattle.cep_parse.specs.declared.raw.RawAtom.{RawAtom}
 use Rattle.cep_names.specs.Variables.{raw_nodes}
-use Rattle.cep_ground.proofs.Members.{contains_first, contains_behind, contains_cases}
+use Rattle.cep_base.proofs.Elements.{contains_first, contains_behind, contains_cases}
 
 -- where nothing stands at a place, there are not more
 pub at_most : {X : Type 0} (xs : List X) (n : ℕ) → ((x : X) → slice_get xs n ≡ Some x → ⊥) → length xs ≤ n

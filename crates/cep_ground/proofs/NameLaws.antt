@@ -22,7 +22,7 @@ use Rattle.cep_names.specs.Misnamed.{wrong}
 use Rattle.cep_names.specs.Misnamed.Misnamed.{over}
 use Rattle.cep_names.specs.Misnamed.{IsOver as overs}
 use Rattle.cep_ground.specs.Texts.{IsClean}
-use Rattle.cep_ground.proofs.Members.{contains_none, contains_first, contains_behind, contains_cases, flat_cases, all_at, all_of}
+use Rattle.cep_base.proofs.Elements.{contains_none, contains_first, contains_behind, contains_cases, flat_cases, all_at, all_of}
 use Rattle.cep_ground.proofs.Distinct.{names_differ}
 use Rattle.cep_ground.proofs.Limits.{at_most, all_map}
 use Rattle.cep_ground.proofs.RuleItems.{StandsIn, rule_stands}

@@ -38,7 +38,7 @@ use Rattle.cep_types.specs.Heads.{number_of, sorts_said}
 use Rattle.cep_infer.specs.Meaning.{con_by, pred_by, signature_of, stage_by, names_of, is_back, IsRuleBy, AreRulesBy, IsClauseBy, AreClausesBy, AreParts}
 use Rattle.cep_infer.specs.Places.{unbound_of}
 use Rattle.cep_ground.specs.Texts.{IsClean, IsBound}
-use Rattle.cep_ground.proofs.Members.{contains_none, contains_first, contains_behind, contains_cases, contains_left, contains_right, contains_map, flat_cases, all_at, all_of}
+use Rattle.cep_base.proofs.Elements.{contains_none, contains_first, contains_behind, contains_cases, contains_left, contains_right, contains_map, flat_cases, all_at, all_of}
 use Rattle.cep_ground.proofs.Known.{own_item_uses}
 use Rattle.cep_ground.proofs.Limits.{at_most, nodes_few, all_filter, all_map}
 use Rattle.cep_ground.proofs.Spelled.{tokens_few}

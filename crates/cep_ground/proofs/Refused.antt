@@ -30,7 +30,7 @@ use Rattle.cep_ground.specs.Texts.{IsClean, IsBound}
 use Rattle.cep_ground.specs.Refusals.{IsBuilt, phase, IsWrong, IsToldFirst, IsRefusedFor}
 use Rattle.cep_ground.specs.Refusals.IsWrong.{too_long, bad_byte, name_long, unexpected, nested, misnamed, mistyped, unbound, not_built}
 use Rattle.cep_ground.proofs.OneProgram.{LexedOnce, FileOnce, tokens_once, source_once}
-use Rattle.cep_ground.proofs.Members.{contains_none, all_at}
+use Rattle.cep_base.proofs.Elements.{contains_none, all_at}
 use Rattle.cep_ground.proofs.Once.{parts_once}
 
 -- what the law of parsed tokens says

@@ -32,7 +32,7 @@ use Rattle.cep_types.specs.Sites.{sites_of, wanted_from, type_of, rule_scope, cl
 use Rattle.cep_types.specs.Heads.{number_of, heads_from, blanks_after, IsAtomBy, AreAtomsBy}
 use Rattle.cep_infer.specs.Meaning.{pred_by, signature_of, names_of, kinds_of, is_back, ArePremisesBy, IsRuleBy, IsClauseBy}
 use Rattle.cep_ground.specs.Texts.{IsClean}
-use Rattle.cep_ground.proofs.Members.{contains_first, contains_behind, contains_left, contains_right}
+use Rattle.cep_base.proofs.Elements.{contains_first, contains_behind, contains_left, contains_right}
 use Rattle.cep_ground.proofs.Known.{pred_known}
 use Rattle.cep_ground.proofs.Located.{located}
 use Rattle.cep_ground.proofs.Limits.{all_filter, all_map, all_pass}

@@ -28,7 +28,7 @@ use Rattle.cep_types.specs.Sites.{Site, sites_of, IsScope, rule_scope, clause_sc
 use Rattle.cep_types.specs.Sites.{IsScope as scopes}
 use Rattle.cep_infer.specs.Shapes.{IsSource}
 use Rattle.cep_ground.specs.Texts.{IsClean}
-use Rattle.cep_ground.proofs.Members.{contains_either, contains_left, contains_right, contains_map, flat_cases, all_at}
+use Rattle.cep_base.proofs.Elements.{contains_either, contains_left, contains_right, contains_map, flat_cases, all_at}
 use Rattle.cep_ground.proofs.Known.{pred_known, clause_placed}
 use Rattle.cep_ground.proofs.RuleItems.{rule_placed}
 use Rattle.cep_ground.proofs.Limits.{at_most, filters_cover, nodes_few}

@@ -31,7 +31,7 @@ use Rattle.cep_types.specs.Sites.{Site, Wanted, con_types, pred_types, node_type
 use Rattle.cep_types.specs.Sites.Mistyped.{constructor, variable}
 use Rattle.cep_types.specs.Heads.{number_of, variable_of, heads_among, blanks_after, IsAtomBy, AreAtomsBy, sorts_said}
 use Rattle.cep_infer.specs.Meaning.{ArePremisesBy, con_by, pred_by, signature_of, names_of, kinds_of}
-use Rattle.cep_ground.proofs.Members.{contains_none, contains_first, contains_behind, contains_left, contains_right, contains_map}
+use Rattle.cep_base.proofs.Elements.{contains_none, contains_first, contains_behind, contains_left, contains_right, contains_map}
 use Rattle.cep_ground.proofs.Finds.{IsFound, any_found, found_in}
 use Rattle.cep_ground.proofs.Known.{AreNamesClean, IsPredKnown, pred_known, IsConKnown, con_known}
 use Rattle.cep_ground.proofs.Located.{located}

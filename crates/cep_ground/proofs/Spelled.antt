@@ -15,7 +15,7 @@ use Rattle.cep_parse.specs.Written.{IsTokenAt, IsNameAt}
 use Rattle.cep_rule.specs.Names.{IsName, IsVariableName, IsWord}
 use Rattle.cep_names.specs.Items.{Source, said}
 use Rattle.cep_infer.specs.Shapes.{IsSource}
-use Rattle.cep_ground.proofs.Members.{all_at}
+use Rattle.cep_base.proofs.Elements.{all_at}
 
 -- a token's bytes are its word, which is not too long
 pub record IsSpelled (text : List ℕ) (token : Token) : Type 0 where

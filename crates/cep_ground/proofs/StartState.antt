@@ -45,7 +45,7 @@ use Rattle.cep_types.specs.Sites.{IsScope as scopes}
 use Rattle.cep_types.specs.Heads.{number_of, blanks_after, IsAtomBy, AreAtomsBy}
 use Rattle.cep_infer.specs.Meaning.{signature_of, names_of, kinds_of, IsStartBy}
 use Rattle.cep_ground.specs.Texts.{IsClean}
-use Rattle.cep_ground.proofs.Members.{contains_none, contains_first, contains_behind, contains_cases, contains_map, flat_cases, all_of}
+use Rattle.cep_base.proofs.Elements.{contains_none, contains_first, contains_behind, contains_cases, contains_map, flat_cases, all_of}
 use Rattle.cep_ground.proofs.Finds.{found_in}
 use Rattle.cep_ground.proofs.Known.{own_placed, pred_known}
 use Rattle.cep_ground.proofs.Scopes.{IsHere, typed_atoms}

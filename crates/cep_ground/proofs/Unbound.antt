@@ -10,7 +10,7 @@ use Rattle.cep_names.specs.Variables.{Occurrence}
 use Rattle.cep_infer.specs.Places.{unbound_of, unbound_at, ArePlaces, ArePlaceLists}
 use Rattle.cep_ground.specs.Texts.{IsBound}
 use Rattle.cep_ground.specs.Earliest.{IsEarliest}
-use Rattle.cep_ground.proofs.Members.{contains_none, contains_first, contains_behind, contains_cases, contains_flat, flat_cases, map_cases, contains_map, all_of}
+use Rattle.cep_base.proofs.Elements.{contains_none, contains_first, contains_behind, contains_cases, contains_flat, flat_cases, map_cases, contains_map, all_of}
 use Rattle.cep_ground.proofs.PlaceOrder.{places_rise}
 use Rattle.cep_ground.proofs.EarliestLaws.{one_place}
 

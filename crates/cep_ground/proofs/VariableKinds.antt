@@ -22,7 +22,7 @@ use Rattle.cep_types.specs.Sites.{Site, Wanted, con_types, pred_types, node_type
 use Rattle.cep_types.specs.Heads.{number_of}
 use Rattle.cep_infer.specs.Meaning.{names_of, kinds_of}
 use Rattle.cep_ground.specs.Texts.{IsClean}
-use Rattle.cep_ground.proofs.Members.{contains_none, contains_first, contains_behind, contains_cases, contains_either, contains_left, contains_right, contains_map, map_cases, flat_cases, all_at, all_of}
+use Rattle.cep_base.proofs.Elements.{contains_none, contains_first, contains_behind, contains_cases, contains_either, contains_left, contains_right, contains_map, map_cases, flat_cases, all_at, all_of}
 use Rattle.cep_ground.proofs.Finds.{any_found, found_in}
 use Rattle.cep_ground.proofs.Known.{known, con_item_uses, pred_item_uses}
 use Rattle.cep_ground.proofs.Located.{place_within, position_there}

@@ -16,7 +16,7 @@ use Rattle.cep_names.specs.Items.{Source, ConItem, said}
 use Rattle.cep_names.specs.Variables.{Occurrence, occurrence_at, blanks_behind, occurrences_from, firsts_beside}
 use Rattle.cep_types.specs.Sites.{Site, Wanted, con_types, node_types, sites_from, wanted_from}
 use Rattle.cep_types.specs.Heads.{blanks_after}
-use Rattle.cep_ground.proofs.Members.{contains_none, contains_first, contains_behind, contains_cases}
+use Rattle.cep_base.proofs.Elements.{contains_none, contains_first, contains_behind, contains_cases}
 use Rattle.cep_ground.proofs.Known.{IsConKnown}
 
 -- the nodes of terms

@@ -20,7 +20,7 @@ use Rattle.cep_infer.specs.Meaning.{AreRulesBy}
 use Rattle.cep_infer.specs.Places.{ArePlaceLists}
 use Rattle.cep_infer.specs.Listed.{rule_item, trace_item, IsFirstTrace}
 use Rattle.cep_infer.specs.Resolved.{IsWellNamed}
-use Rattle.cep_infer.proofs.Members.{contains_first}
+use Rattle.cep_base.proofs.Elements.{contains_first}
 
 -- the rules of all items
 pub all_rules : (source : Source) (items : List RuleItem) (rules : List Rule) → items ≡ rules_of source → AreRulesBy source (map (λ named. named.name) (rule_names_from source 0 items)) items rules

@@ -19,7 +19,7 @@ use Rattle.cep_types.specs.Sites.{Site, Wanted, sites_of, wanted_from, type_of}
 use Rattle.cep_types.specs.Heads.{number_of}
 use Rattle.cep_types.specs.Met.{names_seen, kinds_met, none_met, further, AreMet}
 use Rattle.cep_infer.specs.Meaning.{names_of, kinds_of}
-use Rattle.cep_infer.proofs.Lookups.{bytes_eq_sym}
+use Rattle.cep_base.proofs.Bytes.{bytes_eq_sym}
 use Rattle.cep_infer.proofs.Meeting.{nodes_at}
 
 -- whether a name is among names

@@ -28,7 +28,7 @@ use Rattle.cep_names.specs.Misnamed.{IsOpen as opens}
 use Rattle.cep_names.specs.Misnamed.Misnamed.{variable_in_state}
 use Rattle.cep_types.specs.Heads.{Head, var, con, heads_of, heads_among, head_at, heads_from, blanks_after, IsAtomBy, AreAtomsBy}
 use Rattle.cep_infer.specs.Resolved.{IsWellNamed}
-use Rattle.cep_infer.proofs.Members.{contains_none, contains_first, contains_behind, contains_cases, contains_map, contains_flat, flat_cases, all_of}
+use Rattle.cep_base.proofs.Elements.{contains_none, contains_first, contains_behind, contains_cases, contains_map, contains_flat, flat_cases, all_of}
 
 -- a constructor is no variable
 abbrev pub IsClosed : Head → Type 0

@@ -9,7 +9,7 @@ use Rattle.cep_parse.specs.declared.raw.Span.{Span}
 use Rattle.cep_parse.specs.declared.raw.RawItem.{RawItem}
 use Rattle.cep_names.specs.Items.{Source, said, is_said, interactives_in}
 use Rattle.cep_types.specs.Met.{is_met, added}
-use Rattle.cep_infer.proofs.Lookups.{bytes_eq_sym}
+use Rattle.cep_base.proofs.Bytes.{bytes_eq_sym}
 
 any_both : {X : Type 0} (p : X → Bool) (one two : List X) → list_any p (one ++ two) ≡ (list_any p one || list_any p two)
 any_both p [] two = refl

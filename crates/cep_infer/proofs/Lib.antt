@@ -1,6 +1,4 @@
-pub mod Members
 pub mod Filled
-pub mod Lookups
 pub mod Meeting
 pub mod FirstOccurrences
 pub mod Building

@@ -14,7 +14,7 @@ use Rattle.std.proofs.lemmas.List.Sorted.{Contains-permutation, IsPermutation-sy
 use Rattle.cep_term.specs.Tree.{AtomTree, IsGroundAtom}
 use Rattle.cep_term.specs.Order.{atom_cmp}
 use Rattle.cep_term.specs.Multiset.{Multiset, count_of, with_count, with_one, gathered, IsBag}
-use Rattle.cep_infer.proofs.Members.{all_at, all_of}
+use Rattle.cep_base.proofs.Elements.{all_at, all_of}
 
 -- what holds of all holds of all in another order
 pub all_reordered : {X : Type 0} (P : X → Type 0) (xs ys : List X) → IsPermutation xs ys → AllByRecursion P xs → AllByRecursion P ys

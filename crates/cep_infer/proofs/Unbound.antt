@@ -18,7 +18,7 @@ use Rattle.cep_types.specs.Heads.{blanks_after}
 use Rattle.cep_types.specs.Met.{is_met, names_seen, none_met, AreMet}
 use Rattle.cep_infer.specs.Meaning.{names_of}
 use Rattle.cep_infer.specs.Places.{unbound_at}
-use Rattle.cep_infer.proofs.Lookups.{bytes_eq_sym}
+use Rattle.cep_base.proofs.Bytes.{bytes_eq_sym}
 use Rattle.cep_infer.proofs.FirstOccurrences.{names_met}
 
 -- a predicate that is not declared is no backward one

@@ -2,7 +2,7 @@
 ghost use Rattle.std.specs.Prelude.{◌≡◌, ◌++◌, ◌∷◌, [], IfOk, Some};
 ghost use Rattle.cep_parse.specs.Machine.{atom_for, bag_behind, bag_ended, bag_first, bag_next, bag_unit, before_elem, behind_dollar, behind_elem, behind_left, behind_open, behind_right, behind_stage, rule_ended, rule_from, step_bag, step_rule, whole_rule, with_elem};
 
-use crate::atoms::atom_of;
+use crate::atoms::atom_begun;
 use crate::raw::{RawAtom, RawAtoms, RawElem, RawItem, RawRule, RawSide, RawStart, Span};
 use crate::state::{
     BagHome, BagPlace, BagSoFar, Next, Plain, RulePlace, RuleSoFar, StageSoFar, State, Use,
@@ -15,7 +15,7 @@ pub(crate) fn atom_for(alloc: Global, name: Span, used: Use) -> Next
     ensures { result ≡ atom_for name used }
 {
     Next::Go(State::Atom {
-        atom: atom_of(alloc, name),
+        atom: atom_begun(alloc, name),
         used,
     })
 }

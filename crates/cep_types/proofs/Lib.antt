@@ -5,6 +5,5 @@ pub mod FirstOccurrences
 pub mod FirstFaults
 pub mod FirstLoops
 pub mod Clashing
-pub mod Within
 pub mod ScopesInItems
 pub mod Mistaken

@@ -18,7 +18,7 @@ use Rattle.cep_types.specs.Sites.Mistyped.{constructor, variable}
 use Rattle.cep_types.specs.Clashes.{type_at, clash_if, clash_of, atom_clashes, scope_clashes, item_scopes}
 use Rattle.cep_types.proofs.FirstFaults.{first_among, first_same}
 use Rattle.cep_types.proofs.Meeting.{no_sites}
-use Rattle.cep_types.proofs.Within.{In, here, in_nil, in_one, in_same, through, via, to_contains, from_contains}
+use Rattle.cep_base.proofs.Members.{In, here, in_nil, in_one, in_same, through, via, to_contains, from_contains}
 use Rattle.cep_types.proofs.ScopesInItems.{IsFound, scope_is, scope_found_in}
 use Rattle.cep_types.proofs.ScopesInItems.IsFound.{found, empty}
 

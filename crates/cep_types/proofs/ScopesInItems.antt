@@ -15,7 +15,7 @@ use Rattle.cep_names.specs.Uses.{Placed, placed, own_atoms, item_atoms, placed_o
 use Rattle.cep_types.specs.Sites.{IsScope, clause_scope}
 use Rattle.cep_types.specs.Sites.IsScope.{rule, clause, state}
 use Rattle.cep_types.specs.Clashes.{item_scopes}
-use Rattle.cep_types.proofs.Within.{In, here, there, in_nil, in_one, in_left, in_right, in_parts, through, via, image, mapped, to_contains, from_contains}
+use Rattle.cep_base.proofs.Members.{In, here, there, in_nil, in_one, in_left, in_right, in_parts, through, via, image, mapped, to_contains, from_contains}
 
 -- the atoms of a rule
 abbrev raw_scope : RawRule → List RawAtom

@@ -2,7 +2,7 @@ use Rattle.std.proofs.Common.{◌≡◌, ◌+◌, ◌-◌, ◌<◌, length, map,
 use Rattle.std.proofs.lemmas.List.{length-map}
 use Rattle.cep_term.specs.Tree.{IsGroundAtom, atom_of}
 use Rattle.cep_term.specs.Multiset.{gathered}
-use Rattle.cep_infer.proofs.Members.{all_at}
+use Rattle.cep_base.proofs.Elements.{all_at}
 use Rattle.cep_infer.proofs.Reordered.{atom_at, gathered_more}
 use Rattle.cep_infer.proofs.start.add_all.Goals as goal
 

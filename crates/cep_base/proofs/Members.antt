@@ -1,6 +1,7 @@
--- The members of lists, as a relation.
-use Rattle.std.proofs.Common.{◌≡◌, ℕ, zero, suc, ◌<◌, ◌⊎◌, inl, inr, ⊎_elim, List, [], ◌∷◌, ◌++◌, length, get_or, map, refl, sym, subst, arith}
-use Rattle.std.specs.List.{Contains, flat_map}
+-- The members of lists, one after another.
+use Rattle.std.proofs.Common.{◌≡◌, ℕ, zero, suc, ◌<◌, ◌⊎◌, inl, inr, ⊎_elim, List, [], ◌∷◌, ◌++◌, length, get_or, map, Some, refl, ap, sym, ◌∙◌, subst, arith}
+use Rattle.std.specs.List.{Contains, flat_map, slice_get}
+use Rattle.std.proofs.lemmas.List.{map-append}
 use Rattle.std.proofs.lemmas.List.Elements.{Contains-get_or, Contains-append_right}
 
 -- y is a member
@@ -79,3 +80,29 @@ at (x ∷ xs) y (suc k) h e = there x y xs (at xs y k (omega arith) e)
 
 pub from_contains : {X : Type 0} (xs : List X) (y : X) → Contains xs y → In xs y
 from_contains xs y h = at xs y h.0 h.1 h.2
+
+pub in_got : {X : Type 0} (xs : List X) (k : ℕ) (y : X) → slice_get xs k ≡ Some y → In xs y
+in_got [] k y e = absurd cc
+in_got (x ∷ xs) zero y e = let same : x ≡ y = cc in subst (λ z. In (x ∷ xs) z) same (here x xs)
+in_got (x ∷ xs) (suc k) y e = there x y xs (in_got xs k y e)
+
+-- the n-th of images is the image of the n-th
+pub record Got {X : Type 0} (v : X → ℕ) (xs : List X) (k : ℕ) (at : ℕ) : Type 0 where
+  pub from : X
+  pub got : slice_get xs k ≡ Some from
+  pub is : at ≡ v from
+
+pub got : {X : Type 0} (v : X → ℕ) (xs : List X) (k at : ℕ) → slice_get (map v xs) k ≡ Some at → Got v xs k at
+got v [] k at e = absurd cc
+got v (x ∷ xs) zero at e = record { from = x; got = refl; is = cc }
+got v (x ∷ xs) (suc k) at e = let rest = got v xs k at e in record { from = rest.from; got = rest.got; is = rest.is }
+
+pub give : {X : Type 0} (v : X → ℕ) (xs : List X) (k : ℕ) (x : X) → slice_get xs k ≡ Some x → slice_get (map v xs) k ≡ Some (v x)
+give v [] k x e = absurd cc
+give v (y ∷ xs) zero x e = let same : y ≡ x = cc in ap (λ z. Some (v z)) same
+give v (y ∷ xs) (suc k) x e = give v xs k x e
+
+-- a list of what several give
+pub map-flat_map : {X Y Z : Type 0} (v : Y → Z) (f : X → List Y) (xs : List X) → map v (flat_map f xs) ≡ flat_map (λ x. map v (f x)) xs
+map-flat_map v f [] = refl
+map-flat_map v f (x ∷ xs) = map-append v (f x) (flat_map f xs) ∙ ap (λ ys. map v (f x) ++ ys) (map-flat_map v f xs)

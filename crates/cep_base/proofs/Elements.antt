@@ -1,4 +1,4 @@
--- Elements of lists.
+-- Elements of lists, by their places.
 use Rattle.std.proofs.Common.{◌≡◌, ◌⊎◌, inl, inr, ⊎_elim, ℕ, zero, suc, ◌<◌, List, [], ◌∷◌, ◌++◌, length, map, refl, sym, ap, subst, arith, Contains}
 use Rattle.std.specs.Prelude.{slice_index_or, slice_get, Some}
 use Rattle.std.specs.List.{AllByRecursion, flat_map}

@@ -1,4 +1,4 @@
--- Names are the same either way round.
+-- Two texts are equal whichever way round they are compared.
 use Rattle.std.proofs.Common.{◌≡◌, ℕ, Bool, true, false, List, refl, sym, ◌∙◌}
 use Rattle.std.specs.Str.{bytes_eq}
 use Rattle.std.proofs.lemmas.Bool.{false≢true}
