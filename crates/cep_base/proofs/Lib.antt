@@ -1,4 +1,5 @@
 pub mod Members
 pub mod Elements
+pub mod Lists
 pub mod Bytes
 pub mod Holdings

@@ -9,6 +9,7 @@ use Rattle.cep_parse.specs.declared.raw.RawAtom.{RawAtom}
 use Rattle.cep_parse.specs.declared.raw.RawItem.{RawItem}
 use Rattle.cep_parse.specs.declared.raw.RawItem.TheVariants as item
 use Rattle.cep_parse.specs.Written.{IsItemOf}
+use Rattle.cep_term.specs.BagLaws.{BagLaws}
 use Rattle.cep_term.specs.Tree.{AtomTree}
 use Rattle.cep_rule.specs.declared.signature.Con.{Con}
 use Rattle.cep_rule.specs.declared.signature.PredDecl.{PredDecl}
@@ -46,7 +47,7 @@ use Rattle.cep_ground.proofs.RuleScopes.{AtomsMade, AreHere, rule_here, clause_h
 use Rattle.cep_ground.proofs.RuleParts.{IsJudged, judged_premises, judged_atoms, back_part, linear_count, back_count, atoms_count, all_follow, rule_typed, rule_divided, clause_typed, clause_divided}
 use Rattle.cep_ground.proofs.BoundVariables.{bound_vars, rule_bound, clause_bound}
 use Rattle.cep_ground.proofs.VariableKinds.{in_range, con_sort_known, con_args_known, pred_args_known, kinds_in_range, variable_names}
-use Rattle.cep_ground.proofs.StartState.{CountLaws, start_good}
+use Rattle.cep_ground.proofs.StartState.{start_good}
 use Rattle.cep_ground.proofs.StateAtoms.{not_greater}
 use Rattle.cep_ground.proofs.NameLaws.{rule_names_size, rules_few, sort_names, stage_names, con_names, pred_names, rule_names}
 use Rattle.cep_ground.proofs.GroupLaws.{used_stage, rule_grouped, rule_next}
@@ -106,7 +107,7 @@ sorts_in_range : (source : Source) (spans : List Span) (most : ℕ) → AllByRec
 sorts_in_range source [] most all = tt
 sorts_in_range source (span ∷ spans) most all = (all.0, sorts_in_range source spans most all.1)
 
-module _ (source : Source) (clean : IsClean source) (made : AtomsMade source) (items : AllByRecursion (IsItemOf clean.is_source.tokens) source.file) (few : length source.file ≤ length clean.is_source.tokens) (laws : CountLaws) (bound : IsBound source) where
+module _ (source : Source) (clean : IsClean source) (made : AtomsMade source) (items : AllByRecursion (IsItemOf clean.is_source.tokens) source.file) (few : length source.file ≤ length clean.is_source.tokens) (laws : BagLaws) (bound : IsBound source) where
   file_few : length source.file ≤ 1048576
   file_few = let tokens = tokens_few source clean.is_source in let s = clean.short in omega (arith, few, tokens, s)
 

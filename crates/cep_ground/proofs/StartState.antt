@@ -20,7 +20,7 @@ use Rattle.cep_parse.specs.declared.raw.RawStart.TheVariants as start
 use Rattle.cep_parse.specs.declared.raw.RawItem.{RawItem}
 use Rattle.cep_parse.specs.declared.raw.RawItem.TheVariants as item
 use Rattle.cep_term.specs.Tree.{AtomTree, IsGroundAtom, atom_nodes, IsFit}
-use Rattle.cep_term.specs.Order.{atom_cmp}
+use Rattle.cep_term.specs.BagLaws.{BagLaws}
 use Rattle.cep_term.specs.Multiset.{Multiset, count_of, with_count, gathered, copies_in, nodes_in_all, IsBag}
 use Rattle.cep_rule.specs.declared.signature.PredDecl.{PredDecl}
 use Rattle.cep_rule.specs.Typing.{IsTyped, IsLinear}
@@ -45,7 +45,7 @@ use Rattle.cep_types.specs.Sites.{IsScope as scopes}
 use Rattle.cep_types.specs.Heads.{number_of, blanks_after, IsAtomBy, AreAtomsBy}
 use Rattle.cep_infer.specs.Meaning.{signature_of, names_of, kinds_of, IsStartBy}
 use Rattle.cep_ground.specs.Texts.{IsClean}
-use Rattle.cep_base.proofs.Elements.{contains_none, contains_first, contains_behind, contains_cases, contains_map, flat_cases, all_of}
+use Rattle.cep_base.proofs.Elements.{contains_none, contains_first, contains_behind, contains_cases, contains_map, flat_cases, all_at, all_of}
 use Rattle.cep_ground.proofs.Finds.{found_in}
 use Rattle.cep_ground.proofs.Known.{own_placed, pred_known}
 use Rattle.cep_ground.proofs.Scopes.{IsHere, typed_atoms}
@@ -215,80 +215,25 @@ module _ (source : Source) (clean : IsClean source) (made : AtomsMade source) wh
       let other = sum_by-cons nodes_written raw raws in
       (ap suc rest.0, let r = rest.1 in omega (arith, size, one, other, r))
 
--- the laws of multisets that are needed
-pub record CountLaws : Type 0 where
-  pub empty : (a : AtomTree) → count_of finite.empty a ≡ 0
-  pub empty_copies : copies_in finite.empty ≡ 0
-  pub empty_nodes : nodes_in_all finite.empty ≡ 0
-  pub others : (bag : Multiset) (a q : AtomTree) (n : ℕ) → q ≢ a → count_of (with_count bag a n) q ≡ count_of bag q
-  pub copies : (bag : Multiset) (a : AtomTree) (n : ℕ) → copies_in (with_count bag a n) + count_of bag a ≡ copies_in bag + n
-  pub nodes : (bag : Multiset) (a : AtomTree) (n : ℕ) → nodes_in_all (with_count bag a n) + count_of bag a * atom_nodes a ≡ nodes_in_all bag + n * atom_nodes a
-  pub total : IsTotalOrder atom_cmp
-  pub ties : finite.IsAntisymmetric atom_cmp
-  pub kept : (atoms : List AtomTree) → AllByRecursion IsGroundAtom atoms → IsBag (gathered atoms)
-
-module _ (laws : CountLaws) where
-  -- a list has as many copies and nodes as its multiset
-  pub gathered_copies : (list : List AtomTree) → copies_in (gathered list) ≡ length list
-  gathered_copies [] = laws.empty_copies
-  gathered_copies (atom ∷ list) =
-      let rest = gathered_copies list in
-      let law = laws.copies (gathered list) atom (count_of' list atom + 1) in
-      omega (arith, rest, law)
-    where
-      count_of' : List AtomTree → AtomTree → ℕ
-      count_of' list atom = count_of (gathered list) atom
-
-  pub gathered_nodes : (list : List AtomTree) → nodes_in_all (gathered list) ≡ sum_by atom_nodes list
-  gathered_nodes [] = laws.empty_nodes
-  gathered_nodes (atom ∷ list) =
-      let rest = gathered_nodes list in
-      let c = count_of (gathered list) atom in
-      let law = laws.nodes (gathered list) atom (count_of (gathered list) atom + 1) in
-      let one : count_of (gathered list) atom + 1 ≡ suc (count_of (gathered list) atom) = omega arith in
-      let product : (count_of (gathered list) atom + 1) * atom_nodes atom ≡ count_of (gathered list) atom * atom_nodes atom + atom_nodes atom = ap (λ n. n * atom_nodes atom) one ∙ suc-mul (count_of (gathered list) atom) (atom_nodes atom) in
-      let sum = sum_by-cons atom_nodes atom list in
-      omega (arith, rest, law, product, sum)
-
-  equal_or_not : (a b : AtomTree) → (a ≡ b) ⊎ (a ≢ b)
-  equal_or_not a b = by_test (atom_cmp a b) refl
-    where
-      differ : (o : Ordering) → atom_cmp a b ≡ o → (o ≡ Equal → ⊥) → a ≢ b
-      differ o is never same = never (sym is ∙ ap (atom_cmp a) (sym same) ∙ tied_itself laws.total a)
-
-      by_test : (o : Ordering) → atom_cmp a b ≡ o → (a ≡ b) ⊎ (a ≢ b)
-      by_test Equal is = inl (laws.ties a b is)
-      by_test Less is = inr (differ Less is (λ (e : Less ≡ Equal). absurd cc))
-      by_test Greater is = inr (differ Greater is (λ (e : Greater ≡ Equal). absurd cc))
-
-  -- what is there in the multiset is in the list
-  pub gathered_there : (P : AtomTree → Type 0) (list : List AtomTree) → AllByRecursion P list → (a : AtomTree) → 0 < count_of (gathered list) a → P a
-  gathered_there P [] all a some = let none = laws.empty a in absurd (omega (arith, some, none))
-  gathered_there P (atom ∷ list) all a some =
-      ⊎_elim
-      (λ (same : a ≡ atom). subst P (sym same) all.0)
-      (λ (differ : a ≢ atom). gathered_there P list all.1 a (let law = laws.others (gathered list) atom a (count_of (gathered list) atom + 1) differ in omega (arith, some, law)))
-      (equal_or_not a atom)
-
 -- the start state of a text in order
 pub record IsGoodStart (source : Source) (start_ : Multiset) : Type 0 where
   pub state : IsState (signature_of source) start_
   pub fits : Fits start_
 
-pub start_good : (source : Source) (clean : IsClean source) (made : AtomsMade source) (laws : CountLaws) (trace : TraceItem) (rest : List TraceItem) (start_ : Multiset) → traces_of source ≡ trace ∷ rest → IsStartBy source trace start_ → IsGoodStart source start_
+pub start_good : (source : Source) (clean : IsClean source) (made : AtomsMade source) (laws : BagLaws) (trace : TraceItem) (rest : List TraceItem) (start_ : Multiset) → traces_of source ≡ trace ∷ rest → IsStartBy source trace start_ → IsGoodStart source start_
 start_good source clean made laws trace rest start_ first by =
     let there : Contains (traces_of source) trace = subst (λ ts. Contains ts trace) (sym first) (contains_first trace rest) in
     let is_state = listed_state_atoms source clean made (start_atoms source trace.start) 0 by.atoms (λ raw listed. start_listed_all source trace raw there listed) by.atoms_are in
     let sizes = list_sizes source clean made (start_atoms source trace.start) 0 by.atoms by.atoms_are in
-    let copies_are = gathered_copies laws by.atoms in
-    let nodes_are = gathered_nodes laws by.atoms in
+    let copies_are = laws.gathered_copies by.atoms in
+    let nodes_are = laws.gathered_nodes by.atoms in
     let few_copies : length (start_atoms source trace.start) ≤ 100000 = not_greater _ _ (λ more_. clean.names (wrong OverLimit trace.at) (over trace.at (copies trace rest first more_ refl) refl)) in
     let few_nodes : sum_by nodes_written (start_atoms source trace.start) ≤ 4194304 = not_greater _ _ (λ more_. clean.names (wrong OverLimit trace.at) (over trace.at (nodes trace rest first more_ refl) refl)) in
     subst (IsGoodStart source) (sym by.start_is)
     (record {
       state = record {
-        bag = laws.kept by.atoms (ground_all by.atoms is_state);
-        each = gathered_there laws (IsStateAtom (signature_of source)) by.atoms is_state;
+        bag = laws.gathered_kept by.atoms (ground_all by.atoms is_state);
+        each = λ a some. all_at (IsStateAtom (signature_of source)) by.atoms a is_state ((laws.gathered_there by.atoms a).0 some);
       };
       fits = record {
         copies = let s = sizes.0 in omega (arith, copies_are, s, few_copies);

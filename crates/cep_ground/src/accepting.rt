@@ -1,9 +1,9 @@
 ghost use Rattle.std.specs.Prelude.{IfOk};
 ghost use Rattle.cep_ground.specs.Refusals.{IsAccepted};
 
-use cep_base::limits::MOST_TEXT;
 use crate::refusals::{of_grammar, of_tokens, tell_at_front};
 use crate::sealing::judged;
+use cep_base::limits::MOST_TEXT;
 use cep_infer::{Refusal, resolve};
 use cep_lex::{lex, lexed_once};
 use cep_names::Reason;

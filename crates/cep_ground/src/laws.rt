@@ -13,7 +13,7 @@ ghost use Rattle.cep_ground.specs.Refusals.{IsBuilt, IsWrong};
 use cep_infer::laws::atoms_are_made_of_tokens;
 use cep_lex::lexed_once;
 use cep_parse::{items_are_made_of_tokens, one_raw_file, parsed_once};
-use cep_term::laws::{atoms_are_gathered, counts_are_set, order_is_total};
+use cep_term::laws::bags_are_lawful;
 
 /// What a text declares is a program, where nothing is wrong with its names and types, each variable
 /// of a right side is on the left, and no rule has a backward premise yet.
@@ -27,9 +27,7 @@ pub fn clean_parts_are_a_program()
 {
     items_are_made_of_tokens();
     atoms_are_made_of_tokens();
-    atoms_are_gathered();
-    counts_are_set();
-    order_is_total();
+    bags_are_lawful();
 }
 
 /// A text spells one program at most.

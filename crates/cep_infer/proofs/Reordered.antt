@@ -2,8 +2,7 @@
 use Rattle.std.proofs.Common.{◌≡◌, ◌≢◌, ℕ, ◌+◌, ◌<◌, List, [], ◌∷◌, ◌++◌, Some, length, get_or, take, drop, map, sum_by, refl, sym, ap, subst, ◌∙◌, arith}
 use Rattle.std.specs.declared.cmp.Ordering.{Ordering}
 use Rattle.std.specs.declared.cmp.Ordering.TheVariants.{Less, Equal, Greater}
-use Rattle.std.specs.Cmp.{IsTotalOrder}
-use Rattle.std.specs.FinMap as finite
+use Rattle.std.specs.Cmp.{tied_itself}
 use Rattle.std.specs.List.{AllByRecursion}
 use Rattle.std.specs.List.Sorted.{IsPermutation}
 use Rattle.std.specs.List.{slice_get}
@@ -12,8 +11,9 @@ use Rattle.std.proofs.lemmas.Option.{get_or_from_slice_get}
 use Rattle.std.proofs.lemmas.List.Sums.{sum_by-cons}
 use Rattle.std.proofs.lemmas.List.Sorted.{Contains-permutation, IsPermutation-sym, sum_by-IsPermutation}
 use Rattle.cep_term.specs.Tree.{AtomTree, IsGroundAtom}
+use Rattle.cep_term.specs.BagLaws.{BagLaws}
 use Rattle.cep_term.specs.Order.{atom_cmp}
-use Rattle.cep_term.specs.Multiset.{Multiset, count_of, with_count, with_one, gathered, IsBag}
+use Rattle.cep_term.specs.Multiset.{Multiset, count_of, with_one, gathered}
 use Rattle.cep_base.proofs.Elements.{all_at, all_of}
 
 -- what holds of all holds of all in another order
@@ -29,38 +29,24 @@ tally_by Greater = 0
 abbrev tally : AtomTree → AtomTree → ℕ
 tally a x = tally_by (atom_cmp a x)
 
-module _ (order : IsTotalOrder atom_cmp) (antisymmetric : finite.IsAntisymmetric atom_cmp)
-    (empty : (a : AtomTree) → count_of finite.empty a ≡ 0)
-    (own : (bag : Multiset) (a : AtomTree) (n : ℕ) → count_of (with_count bag a n) a ≡ n)
-    (others : (bag : Multiset) (a q : AtomTree) (n : ℕ) → q ≢ a → count_of (with_count bag a n) q ≡ count_of bag q) where
-  -- an atom ties with itself
-  itself : (x : AtomTree) → atom_cmp x x ≡ Equal
-  itself x = by (atom_cmp x x) refl
-    where
-      by : (o : Ordering) → atom_cmp x x ≡ o → atom_cmp x x ≡ Equal
-      by Less e = let turned = order.antisymm x x in absurd cc
-      by Equal e = e
-      by Greater e = let turned = order.antisymm x x in absurd cc
-
+module _ (laws : BagLaws) where
   differs : (a x : AtomTree) (o : Ordering) → atom_cmp a x ≡ o → o ≢ Equal → a ≢ x
-  differs a x o is unequal same = unequal (sym is ∙ subst (λ y. atom_cmp a y ≡ Equal) same (itself a))
+  differs a x o is unequal same = unequal (sym is ∙ subst (λ y. atom_cmp a y ≡ Equal) same (tied_itself laws.total a))
 
   counted_more : (a x : AtomTree) (bag : Multiset) (rest : ℕ) (o : Ordering) → atom_cmp a x ≡ o → count_of bag a ≡ rest → count_of (with_one bag x) a ≡ tally_by o + rest
-  counted_more a x bag rest Less is was = let more = others bag x a (count_of bag x + 1) (differs a x Less is (λ e. cc)) in omega (arith, more, was)
+  counted_more a x bag rest Less is was = let more = laws.others bag x a (count_of bag x + 1) (differs a x Less is (λ e. cc)) in omega (arith, more, was)
   counted_more a x bag rest Equal is was =
-      subst (λ y. count_of (with_one bag y) a ≡ 1 + rest) (antisymmetric a x is) (let more = own bag a (count_of bag a + 1) in omega (arith, more, was))
-  counted_more a x bag rest Greater is was = let more = others bag x a (count_of bag x + 1) (differs a x Greater is (λ e. cc)) in omega (arith, more, was)
+      subst (λ y. count_of (with_one bag y) a ≡ 1 + rest) (laws.ties a x is) (let more = laws.own bag a (count_of bag a + 1) in omega (arith, more, was))
+  counted_more a x bag rest Greater is was = let more = laws.others bag x a (count_of bag x + 1) (differs a x Greater is (λ e. cc)) in omega (arith, more, was)
 
   -- the copies of an atom are the times that it stands in the list
   counted : (a : AtomTree) (atoms : List AtomTree) → count_of (gathered atoms) a ≡ sum_by (tally a) atoms
-  counted a [] = empty a
+  counted a [] = laws.empty a
   counted a (x ∷ atoms) = counted_more a x (gathered atoms) (sum_by (tally a) atoms) (atom_cmp a x) refl (counted a atoms) ∙ sym (sum_by-cons (tally a) x atoms)
 
-  pub same_gathered : ((atoms : List AtomTree) → AllByRecursion IsGroundAtom atoms → IsBag (gathered atoms))
-      → ((bag other : Multiset) → IsBag bag → IsBag other → ((a : AtomTree) → count_of bag a ≡ count_of other a) → bag ≡ other)
-      → (xs ys : List AtomTree) → IsPermutation xs ys → AllByRecursion IsGroundAtom xs → gathered ys ≡ gathered xs
-  same_gathered kept equal xs ys same all =
-      equal (gathered ys) (gathered xs) (kept ys (all_reordered IsGroundAtom xs ys same all)) (kept xs all)
+  pub same_gathered : (xs ys : List AtomTree) → IsPermutation xs ys → AllByRecursion IsGroundAtom xs → gathered ys ≡ gathered xs
+  same_gathered xs ys same all =
+      laws.equal (gathered ys) (gathered xs) (laws.gathered_kept ys (all_reordered IsGroundAtom xs ys same all)) (laws.gathered_kept xs all)
       (λ a. counted a ys ∙ sum_by-IsPermutation (tally a) xs ys same ∙ sym (counted a xs))
 
 -- the atom at a place of a list that is mapped

@@ -21,7 +21,7 @@ use crate::listing::TraceRef;
 use cep_names::Space;
 use cep_parse::{RawAtom, RawStart};
 use cep_rule::AtomList;
-use cep_term::laws::{atoms_are_gathered, counts_are_set, counts_decide, order_is_total};
+use cep_term::laws::bags_are_lawful;
 use cep_term::{Atom, Bag, order};
 use cep_types::{Declarations, Variables};
 use std::alloc::{AllocError, Global};
@@ -106,10 +106,7 @@ fn gather(alloc: Global, atoms: &AtomList) -> Result<Bag, AllocError>
     requires { AllByRecursion IsGroundAtom atoms.now }
     ensures { IfOk result (λ bag. bag ≡ gathered atoms.now) }
 {
-    order_is_total();
-    counts_are_set();
-    counts_decide();
-    atoms_are_gathered();
+    bags_are_lawful();
     let falling = in_falling_order(alloc, atoms)?;
     add_all(alloc, &falling)
 }

@@ -8,7 +8,7 @@ use Rattle.std.proofs.lemmas.List.{take_all}
 use Rattle.std.proofs.lemmas.List.Sums.{sum_by_push, sum_by-take-le}
 use Rattle.cep_term.specs.Tree.{AtomTree, atom_nodes}
 use Rattle.cep_term.specs.Multiset.{Multiset, nodes_in_all, IsEntry, IsBag}
-use Rattle.cep_machine.proofs.Lists.{take_next, all_at}
+use Rattle.cep_base.proofs.Lists.{take_next, holds_at}
 
 -- the nodes of an entry, each copy counted
 abbrev pub entry_nodes : AtomTree × ℕ → ℕ
@@ -32,7 +32,7 @@ pub atom_within : (state : Multiset) (n : ℕ) (a : AtomTree) (copies : ℕ) →
 atom_within state n a copies bag is =
     let next = next_entry state n a copies is in
     let most = first_entries state (n + 1) in
-    let once = at_least_once copies (atom_nodes a) (all_at IsEntry (finite.entries state) n (a, copies) bag is).0 in
+    let once = at_least_once copies (atom_nodes a) (holds_at IsEntry (finite.entries state) n (a, copies) bag is).0 in
     omega arith
 
 pub all_entries : (state : Multiset) (n : ℕ) → finite.len state ≤ n → sum_by entry_nodes (take n (finite.entries state)) ≡ nodes_in_all state

@@ -1,6 +1,4 @@
-pub mod Lists
 pub mod SizesOf
-pub mod Bags
 pub mod Asked
 pub mod Premises
 pub mod Weights

@@ -9,7 +9,7 @@ use Rattle.cep_term.specs.Tree.{Tree, AtomTree, atom_nodes, IsFit}
 use Rattle.cep_rule.specs.Patterns.{PremiseTree}
 use Rattle.cep_rule.specs.Instances.{full_instance, full_instances}
 use Rattle.cep_machine.specs.Weighing.{premise_atoms, used_of}
-use Rattle.cep_machine.proofs.Lists.{take_next, map_last, all_mapped_at, get_mapped}
+use Rattle.cep_base.proofs.Lists.{take_next, map_last, holds_at_mapped, get_mapped}
 
 -- the atoms of the premises that are kept
 abbrev pub kept_in : List PremiseTree → List AtomTree
@@ -117,4 +117,4 @@ module _ (values : List Tree) (premises : List PremiseTree) (n : ℕ) (premise :
 -- the instance of a premise is fit where those of all are
 pub fit_premise : (values : List Tree) (premises : List PremiseTree) (n : ℕ) (premise : PremiseTree) → AllByRecursion IsFit (full_instances values (premise_atoms premises)) → slice_get premises n ≡ Some premise → IsFit (full_instance values premise.atom)
 fit_premise values premises n premise fit is =
-    all_mapped_at IsFit (full_instance values) (premise_atoms premises) n premise.atom fit (get_mapped (λ (p : PremiseTree). p.atom) premises n premise is)
+    holds_at_mapped IsFit (full_instance values) (premise_atoms premises) n premise.atom fit (get_mapped (λ (p : PremiseTree). p.atom) premises n premise is)

@@ -31,11 +31,11 @@ use Rattle.cep_machine.specs.Stepping.{added_by, IsAskedAt, Passes, IsNext}
 use Rattle.cep_machine.specs.Sizes.{IsSmallValue, IsMeasurable}
 use Rattle.cep_machine.specs.Weighing.{premise_atoms, next_state, CanWeigh, IsWeighed}
 use Rattle.cep_machine.specs.StepLaws.{StepLaws}
-use Rattle.cep_machine.proofs.Lists.{none_some, some_same, all_at, all_weaker, all_joined}
-use Rattle.cep_machine.proofs.Bags.{of_gathered, all_contained}
+use Rattle.cep_base.proofs.Elements.{both_all, all_at, all_of}
+use Rattle.cep_base.proofs.Lists.{none_some, some_same, holds_at, all_weaker}
 use Rattle.cep_machine.proofs.SizesOf.{IsBelow, instance_bounded}
 use Rattle.cep_machine.proofs.Premises.{kept_in, nothing_more}
-use Rattle.cep_machine.proofs.Ranges.{atom_in_range, as_many_values, small_values}
+use Rattle.cep_machine.proofs.Ranges.{small_values}
 
 -- A rule with values that apply to a state.
 pub record IsReady (program : Parts) (state : Multiset) (rule : Rule) (values : List Tree) : Type 0 where
@@ -73,12 +73,12 @@ ready program height state offer rule kept applies numbered =
     let n = offer.rule in
     let same : applies.rule ≡ rule = same_some (slice_get program.rules n) applies.rule rule applies.numbered numbered in
     record {
-      typed = all_at (IsTypedRule program.signature) program.rules n rule kept.typed_rules numbered;
-      divided = all_at (IsDividedRule program.signature) program.rules n rule kept.divided_rules numbered;
-      small = all_at IsSmallRule program.rules n rule kept.small.each_rule numbered;
-      bound = all_at IsBoundRule program.rules n rule kept.bound_rules numbered;
-      alone = all_at (λ (r : Rule). r.backs ≡ []) program.rules n rule kept.no_backs numbered;
-      next = all_at (λ (r : Rule). IfSome r.next (λ stage. stage < length program.stages)) program.rules n rule kept.in_range.next_stages numbered;
+      typed = holds_at (IsTypedRule program.signature) program.rules n rule kept.typed_rules numbered;
+      divided = holds_at (IsDividedRule program.signature) program.rules n rule kept.divided_rules numbered;
+      small = holds_at IsSmallRule program.rules n rule kept.small.each_rule numbered;
+      bound = holds_at IsBoundRule program.rules n rule kept.bound_rules numbered;
+      alone = holds_at (λ (r : Rule). r.backs ≡ []) program.rules n rule kept.no_backs numbered;
+      next = holds_at (λ (r : Rule). IfSome r.next (λ stage. stage < length program.stages)) program.rules n rule kept.in_range.next_stages numbered;
       are = subst (λ (r : Rule). AreValues program.signature.cons r.kinds offer.values) same applies.values;
       contained = subst (λ (r : Rule). IsContained (left_of r offer.values) state) same applies.contained;
     }
@@ -100,25 +100,25 @@ small_atoms : (premises : List PremiseTree) → AllByRecursion (λ premise. IsSm
 small_atoms [] small = tt
 small_atoms (premise ∷ premises) small = (small.0, (small_atoms premises small.1))
 
-measurable_all : (signature : Signature) (kinds : List ℕ) (values : List Tree) → length values ≡ length kinds → AllByRecursion IsSmallValue values → (atoms : List AtomTree) → AllByRecursion (IsTyped signature kinds) atoms → AllByRecursion IsSmallPattern atoms → AllByRecursion (IsMeasurable values) atoms
-measurable_all signature kinds values many all [] typed small = tt
-measurable_all signature kinds values many all (a ∷ atoms) typed small = (
+measurable_all : StepLaws → (signature : Signature) (kinds : List ℕ) (values : List Tree) → length values ≡ length kinds → AllByRecursion IsSmallValue values → (atoms : List AtomTree) → AllByRecursion (IsTyped signature kinds) atoms → AllByRecursion IsSmallPattern atoms → AllByRecursion (IsMeasurable values) atoms
+measurable_all laws signature kinds values many all [] typed small = tt
+measurable_all laws signature kinds values many all (a ∷ atoms) typed small = (
   (record {
-    in_range = subst (λ n. IsAtomInRange n a) (sym many) (atom_in_range signature kinds a typed.0);
+    in_range = subst (λ n. IsAtomInRange n a) (sym many) (laws.types.in_range signature kinds a typed.0);
     nodes =
         let most = instance_bounded MOST_NODES values (omega arith) (all_weaker IsSmallValue (IsBelow MOST_NODES) values (λ t (h : IsSmallValue t). h.nodes) all) a in
         let few = small.0 in
         omega arith;
   }),
-  (measurable_all signature kinds values many all atoms typed.1 small.1),
+  (measurable_all laws signature kinds values many all atoms typed.1 small.1),
 )
 
 right_state_atoms_of : (laws : StepLaws) (signature : Signature) (kinds : List ℕ) (values : List Tree) → AreValues signature.cons kinds values → (atoms : List AtomTree) → AllByRecursion (IsTyped signature kinds) atoms → AllByRecursion (IsLinear signature) atoms → AllByRecursion IsFit (full_instances values atoms) → AllByRecursion (IsStateAtom signature) (full_instances values atoms)
 right_state_atoms_of laws signature kinds values are [] typed linear fit = tt
 right_state_atoms_of laws signature kinds values are (a ∷ atoms) typed linear fit = (
   (record {
-    ground = laws.ground signature kinds values a are typed.0;
-    typed = laws.typed signature kinds values a are typed.0;
+    ground = laws.types.ground signature kinds values a are typed.0;
+    typed = laws.types.typed signature kinds values a are typed.0;
     linear = linear.0;
     fit = fit.0;
   }),
@@ -127,13 +127,17 @@ right_state_atoms_of laws signature kinds values are (a ∷ atoms) typed linear 
 
 module _ (laws : StepLaws) (program : Parts) (state : Multiset) (rule : Rule) (values : List Tree) (is : IsReady program state rule values) (is_state : IsState program.signature state) (fits : Fits state) where
   needed_state_atoms : AllByRecursion (IsStateAtom program.signature) (full_instances values (needed_of rule))
-  needed_state_atoms = all_contained laws.bags (IsStateAtom program.signature) (full_instances values (needed_of rule)) state is.contained is_state.each
+  needed_state_atoms = all_of (IsStateAtom program.signature) (full_instances values (needed_of rule))
+      (λ a there.
+      let some = (laws.bags.gathered_there (full_instances values (needed_of rule)) a).1 there in
+      let most = is.contained a in
+      is_state.each a (omega arith))
 
   needed_fit : AllByRecursion IsFit (full_instances values (needed_of rule))
   needed_fit = all_weaker (IsStateAtom program.signature) IsFit (full_instances values (needed_of rule)) (λ a (atom_is : IsStateAtom program.signature a). atom_is.fit) needed_state_atoms
 
   many_values : length values ≡ length rule.kinds
-  many_values = as_many_values program.signature.cons rule.kinds values is.are
+  many_values = laws.types.as_many program.signature.cons rule.kinds values is.are
 
   all_small : AllByRecursion IsSmallValue values
   all_small = small_values program.signature.cons rule.kinds values (needed_of rule) is.are
@@ -145,17 +149,17 @@ module _ (laws : StepLaws) (program : Parts) (state : Multiset) (rule : Rule) (v
 
   pub needed_in_range : AllByRecursion (IsAtomInRange (length values)) (needed_of rule)
   needed_in_range = all_weaker (IsTyped program.signature rule.kinds) (IsAtomInRange (length values)) (needed_of rule)
-      (λ a typed. subst (λ n. IsAtomInRange n a) (sym many_values) (atom_in_range program.signature rule.kinds a typed)) is.typed.premises
+      (λ a typed. subst (λ n. IsAtomInRange n a) (sym many_values) (laws.types.in_range program.signature rule.kinds a typed)) is.typed.premises
 
   pub right_in_range : AllByRecursion (IsAtomInRange (length values)) rule.right
   right_in_range = all_weaker (IsTyped program.signature rule.kinds) (IsAtomInRange (length values)) rule.right
-      (λ a typed. subst (λ n. IsAtomInRange n a) (sym many_values) (atom_in_range program.signature rule.kinds a typed)) is.typed.right
+      (λ a typed. subst (λ n. IsAtomInRange n a) (sym many_values) (laws.types.in_range program.signature rule.kinds a typed)) is.typed.right
 
   pub can_weigh : CanWeigh rule values state
   can_weigh = record {
     small_values = all_small;
-    premises = measurable_all program.signature rule.kinds values many_values all_small (needed_of rule) is.typed.premises (small_atoms rule.premises is.small.premise_nodes);
-    right = measurable_all program.signature rule.kinds values many_values all_small rule.right is.typed.right is.small.right_nodes;
+    premises = measurable_all laws program.signature rule.kinds values many_values all_small (needed_of rule) is.typed.premises (small_atoms rule.premises is.small.premise_nodes);
+    right = measurable_all laws program.signature rule.kinds values many_values all_small rule.right is.typed.right is.small.right_nodes;
     needed_fit = needed_fit;
     few_premises = is.small.premises;
     few_right = is.small.right;
@@ -171,7 +175,7 @@ module _ (laws : StepLaws) (program : Parts) (state : Multiset) (rule : Rule) (v
   added_state_atoms : AllByRecursion IsFit (full_instances values rule.right) → AllByRecursion (IsStateAtom program.signature) (added_by rule values)
   added_state_atoms fit =
       subst (AllByRecursion (IsStateAtom program.signature)) (sym (map-append (full_instance values) rule.right (kept_of rule)))
-      (all_joined (IsStateAtom program.signature) (full_instances values rule.right) (full_instances values (kept_of rule)) (right_state_atoms fit) (all_kept (IsStateAtom program.signature) values rule.premises needed_state_atoms))
+      (both_all (IsStateAtom program.signature) (full_instances values rule.right) (full_instances values (kept_of rule)) (right_state_atoms fit) (all_kept (IsStateAtom program.signature) values rule.premises needed_state_atoms))
 
   pub left_ground : AllByRecursion IsGroundAtom (full_instances values (needed_of rule))
   left_ground = all_weaker (IsStateAtom program.signature) IsGroundAtom (full_instances values (needed_of rule)) (λ a (atom_is : IsStateAtom program.signature a). atom_is.ground) needed_state_atoms
@@ -194,7 +198,7 @@ module _ (laws : StepLaws) (program : Parts) (state : Multiset) (rule : Rule) (v
       by a some zero none =
           let sum = laws.bags.sum (difference_of state (left_of rule values)) (gathered (added_by rule values)) a in
           let less = laws.bags.difference state (left_of rule values) a in
-          of_gathered laws.bags (IsStateAtom program.signature) (added_by rule values) (added_state_atoms fit) a (omega arith)
+          all_at (IsStateAtom program.signature) (added_by rule values) a (added_state_atoms fit) ((laws.bags.gathered_there (added_by rule values) a).0 (omega arith))
       by a some (suc n) is_there = is_state.each a (omega arith)
 
 -- the rule and the values that are chosen are those of the offer at the place

@@ -8,7 +8,7 @@ use Rattle.cep_term.specs.Values.{value_of, term_instance, argument_instances}
 use Rattle.cep_rule.specs.Instances.{given, full_instance}
 use Rattle.cep_machine.specs.declared.size.Size.{Size}
 use Rattle.cep_machine.specs.Sizes.{size_of, size_by, size_among, IsSmallValue, IsMeasurable}
-use Rattle.cep_machine.proofs.Lists.{take_next, map_last}
+use Rattle.cep_base.proofs.Lists.{take_next, map_last}
 
 -- the size of arguments together
 abbrev pub size_of_all : Trees → Size

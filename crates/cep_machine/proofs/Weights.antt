@@ -15,11 +15,10 @@ use Rattle.cep_machine.specs.declared.size.Size.{Size}
 use Rattle.cep_machine.specs.Passing.{IsTooLarge, IsFirstTooLarge}
 use Rattle.cep_machine.specs.Stepping.{added_by}
 use Rattle.cep_machine.specs.Weighing.{used_of, next_state, CanWeigh}
-use Rattle.cep_machine.specs.BagLaws.{BagLaws}
-use Rattle.cep_machine.proofs.Lists.{none_some, some_same, all_joined}
-use Rattle.cep_machine.proofs.Bags.{gathered_copies, gathered_nodes}
+use Rattle.cep_term.specs.BagLaws.{BagLaws}
+use Rattle.cep_base.proofs.Elements.{both_all}
+use Rattle.cep_base.proofs.Lists.{none_some, some_same, take_next}
 use Rattle.cep_machine.proofs.Premises.{kept_in, nodes_by, nodes_last, nodes_parted, count_parted, next_instances, used_next, not_used_next}
-use Rattle.cep_machine.proofs.Lists.{take_next}
 
 -- one atom more is made
 pub made_next : (values : List Tree) (atoms : List AtomTree) (n : ℕ) (a : AtomTree) (nodes size : ℕ) → nodes ≡ nodes_by values (take n atoms) → slice_get atoms n ≡ Some a → size ≡ atom_nodes (full_instance values a) → nodes + size ≡ nodes_by values (take (n + 1) atoms)
@@ -56,7 +55,7 @@ fit_by_size a size nodes depth fit = record { nodes = subst (λ n. n ≤ MOST_NO
 pub fit_next : (values : List Tree) (atoms : List AtomTree) (n : ℕ) (a : AtomTree) (size : Size) → AllByRecursion IsFit (full_instances values (take n atoms)) → slice_get atoms n ≡ Some a → size.nodes ≡ atom_nodes (full_instance values a) → size.depth ≡ atom_depth (full_instance values a) → (size.nodes ≤ MOST_NODES) × (size.depth ≤ MOST_DEPTH) → AllByRecursion IsFit (full_instances values (take (n + 1) atoms))
 fit_next values atoms n a size so_far is nodes depth fit =
     subst (AllByRecursion IsFit) (sym (next_instances values atoms n a is))
-    (all_joined IsFit (full_instances values (take n atoms)) (full_instance values a ∷ []) so_far ((fit_by_size (full_instance values a) size nodes depth fit), tt))
+    (both_all IsFit (full_instances values (take n atoms)) (full_instance values a ∷ []) so_far ((fit_by_size (full_instance values a) size nodes depth fit), tt))
 
 -- a size that is too large is that of an atom that is
 pub too_large : (a : AtomTree) (size : Size) (number : ℕ) → size.nodes ≡ atom_nodes a → size.depth ≡ atom_depth a → ((MOST_NODES < size.nodes) × (number ≡ size.nodes)) ⊎ ((size.nodes ≤ MOST_NODES) × (MOST_DEPTH < size.depth) × (number ≡ size.depth)) → IsTooLarge a number
@@ -83,22 +82,22 @@ module _ (laws : BagLaws) (rule : Rule) (values : List Tree) (state : Multiset) 
 
   left_copies : copies_in (left_of rule values) ≡ length (kept_in rule.premises) + length (used_of rule.premises)
   left_copies =
-      gathered_copies laws (full_instances values (needed_of rule))
+      laws.gathered_copies (full_instances values (needed_of rule))
       ∙ length-map (needed_of rule) (full_instance values)
       ∙ count_parted rule.premises
 
   left_nodes : nodes_in_all (left_of rule values) ≡ nodes_by values (kept_in rule.premises) + nodes_by values (used_of rule.premises)
-  left_nodes = gathered_nodes laws (full_instances values (needed_of rule)) ∙ nodes_parted values rule.premises
+  left_nodes = laws.gathered_nodes (full_instances values (needed_of rule)) ∙ nodes_parted values rule.premises
 
   added_copies : copies_in (gathered (added_by rule values)) ≡ length rule.right + length (kept_in rule.premises)
   added_copies =
-      gathered_copies laws (added_by rule values)
+      laws.gathered_copies (added_by rule values)
       ∙ length-map (rule.right ++ kept_of rule) (full_instance values)
       ∙ length-append rule.right (kept_of rule)
 
   added_nodes : nodes_in_all (gathered (added_by rule values)) ≡ nodes_by values rule.right + nodes_by values (kept_in rule.premises)
   added_nodes =
-      gathered_nodes laws (added_by rule values)
+      laws.gathered_nodes (added_by rule values)
       ∙ ap (sum_by atom_nodes) (map-append (full_instance values) rule.right (kept_of rule))
       ∙ sum_by-append atom_nodes (full_instances values rule.right) (full_instances values (kept_of rule))
 

@@ -5,6 +5,5 @@ pub mod Stepping
 pub mod Sizes
 pub mod Weighing
 pub mod Changing
-pub mod BagLaws
 pub mod StepLaws
 pub mod Sample

@@ -6,10 +6,10 @@ ghost use Rattle.cep_machine.specs.Configuration.{IsConfigurationOf};
 ghost use Rattle.cep_machine.specs.Changing.{CanChange};
 
 use crate::config::Config;
-use crate::edits::{add_all, bag_of, take_all};
-use crate::laws::bags_are_lawful;
 use cep_base::Steps;
 use cep_rule::{AtomList, Matcher, Program};
+use cep_term::Bag;
+use cep_term::laws::bags_are_lawful;
 use std::alloc::{AllocError, Global};
 use std::sync::ledger::Ledger;
 
@@ -51,9 +51,9 @@ impl<M: Matcher> Config<M> {
             nodes: _,
             matcher,
         } = self;
-        let taken = bag_of(alloc, &change.left)?;
-        take_all(&mut state, &change.left);
-        add_all(&mut state, &change.added)?;
+        let taken = Bag::of(alloc, &change.left)?;
+        state.take_all(&taken);
+        state.add_all(&change.added)?;
         let matcher = matcher.edit(alloc, program, &taken, &change.added, steps)?;
         Ok(Config {
             stage: change.stage,

@@ -22,7 +22,7 @@ impl<M: Matcher> Model for Config<M> {
     ghost use Rattle.std.specs.Prelude.{◌≡◌, ◌+◌, ◌<◌, length};
     ghost use Rattle.cep_term.specs.Multiset.{nodes_in_all};
     ghost use Rattle.cep_rule.specs.Stages.{leaving_group};
-        ghost use Rattle.cep_machine.specs.Configuration.{Configuration, configuration_code, IsKept};
+    ghost use Rattle.cep_machine.specs.Configuration.{Configuration, configuration_code, IsKept};
 
     ghost Value = { Configuration M };
 

@@ -9,7 +9,6 @@ mod asking;
 mod beginning;
 mod changing;
 mod config;
-mod edits;
 mod laws;
 mod measured;
 mod sides;

@@ -2,14 +2,13 @@ ghost use Rattle.std.specs.Prelude.{◌≡◌, ◌≤◌, ◌∷◌, [], true, f
 ghost use Rattle.cep_term.specs.Tree.{atom_of, tree_of, trees_of, none, more, node, variable};
 ghost use Rattle.cep_machine.specs.Sample.{tower};
 
-use crate::edits::{add_all, bag_of, take_all};
-use crate::laws::bags_are_lawful;
 use crate::measured::Measured;
 use crate::sides::{added_atoms, left_atoms};
 use crate::size::Size;
 use crate::weighing::first_too_large;
 use cep_base::Name;
 use cep_rule::{AtomList, Kinds, Names, Premise, Premises, Rule, Terms};
+use cep_term::laws::bags_are_lawful;
 use cep_term::{Args, Atom, Bag, Term};
 use std::alloc::{AllocError, Global};
 use std::test::Fail;
@@ -103,9 +102,10 @@ fn swapped(alloc: Global) -> Result<(AtomList, Bag), AllocError>
     let values = Terms::new(alloc);
     let left = left_atoms(alloc, &rule, &values)?;
     let added = added_atoms(alloc, &rule, &values)?;
-    let mut state = bag_of(alloc, &left)?;
-    take_all(&mut state, &left);
-    add_all(&mut state, &added)?;
+    let taken = Bag::of(alloc, &left)?;
+    let mut state = taken.copy(alloc)?;
+    state.take_all(&taken);
+    state.add_all(&added)?;
     Ok((added, state))
 }
 

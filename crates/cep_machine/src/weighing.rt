@@ -9,12 +9,12 @@ ghost use Rattle.cep_machine.specs.Passing.{IsFirstTooLarge};
 ghost use Rattle.cep_machine.specs.Sizes.{IsMeasurable};
 ghost use Rattle.cep_machine.specs.Weighing.{used_of, premise_atoms, CanWeigh, IsWeighed};
 
-use cep_base::limits::{MOST_COPIES, MOST_STATE_NODES};
-use crate::laws::bags_are_lawful;
 use crate::measured::Measured;
 use crate::stepped::Which;
+use cep_base::limits::{MOST_COPIES, MOST_STATE_NODES};
 use cep_rule::{AtomList, Premises, Rule, Terms};
 use cep_term::Bag;
+use cep_term::laws::bags_are_lawful;
 use std::alloc::{AllocError, Global};
 
 // What a step comes to: a limit that it would pass, with the number that passes it, or how many nodes

@@ -4,8 +4,8 @@ ghost use Rattle.cep_base.specs.Talk.{Did, ConsoleCause};
 ghost use Rattle.cep_play.specs.declared.choice.Said.{Said};
 ghost use Rattle.cep_play.specs.Choice.{Cut, ReadsLine, IsHeardAs, TakesSome, IsPlaceWithin, IsChoiceWithin, Hears};
 
-use cep_base::limits::MOST_TYPED;
 use crate::typed::Typed;
+use cep_base::limits::MOST_TYPED;
 use cep_base::{Console, ConsoleFault};
 
 /// What one typed line says of a choice.

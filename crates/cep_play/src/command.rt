@@ -6,8 +6,8 @@ ghost use Rattle.std.specs.Prelude.{OnOk, ◌++◌};
 ghost use Rattle.cep_play.specs.Lines.{line};
 ghost use Rattle.cep_play.specs.Command.{IsPlay, OfFile, Plays, RefusesFile, Writes, IsFinished, IsLimited, OfText, OfRun, OfWords, CountsFaults, Adds, AsksFile, AskedAsSaid, AsksFor, OfPlay, IsNoForm, usage, no_program, refusal_text, code_of, status_of};
 
-use cep_base::limits::MOST_TEXT;
 use crate::dialogue::{EndWord, play};
+use cep_base::limits::MOST_TEXT;
 use cep_base::{Console, ConsoleFault, Shelf, ShelfFault, Steps, Text};
 use cep_ground::accept;
 use cep_infer::Refusal;

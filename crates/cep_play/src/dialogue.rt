@@ -8,9 +8,9 @@ ghost use Rattle.cep_play.specs.Lines.{ending_word, end_lines, header};
 ghost use Rattle.cep_play.specs.Turn.{position_of, IsPlayed, AreTurns};
 ghost use Rattle.cep_play.specs.Command.{Says, turn_limit};
 
-use cep_base::limits::{DEFAULT_HEIGHT, DEFAULT_TURNS};
 use crate::lines::{put_end, put_header};
 use crate::turn::{Ended, Turned, turn};
+use cep_base::limits::{DEFAULT_HEIGHT, DEFAULT_TURNS};
 use cep_base::{Console, ConsoleFault, Steps, Text};
 use cep_machine::Config;
 use cep_rule::{Matcher, Program};

@@ -9,7 +9,7 @@ ghost use Rattle.cep_play.specs.Lines.{have_line, listing, offer_line, question,
 use crate::dialogue::EndWord;
 use cep_base::Text;
 use cep_rule::{Matcher, Offer, Program};
-use cep_term::laws::order_is_total;
+use cep_term::laws::bags_are_lawful;
 use cep_term::{Atom, Bag};
 use cep_text::{put_atom, put_offer};
 use std::alloc::AllocError;
@@ -30,7 +30,7 @@ fn put_listing(out: &mut Text, program: &Program, state: &Bag) -> Result<(), All
     requires { IsState program.now.signature state.now }
     ensures { OnOk result (out.new ≡ out.old ++ listing program.now.signature state.now) }
 {
-    order_is_total();
+    bags_are_lawful();
     for i in 0..state.len() {
         let (atom, copies) = state.entry(i);
         put_have(out, program, atom, copies)?;

@@ -2,8 +2,8 @@
 // writes, from examples that were worked out by hand.
 ghost use Rattle.std.specs.Prelude.{◌≡◌, ◌<◌};
 
-use cep_base::limits::{MOST_TEXT, MOST_TYPED};
 use crate::ceptre;
+use cep_base::limits::{MOST_TEXT, MOST_TYPED};
 use cep_base::{CalmConsole, Console, Event, MemConsole, MemShelf, Shelf, Steps};
 use std::alloc::{AllocError, Global};
 use std::marker::Brand;

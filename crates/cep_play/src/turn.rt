@@ -10,10 +10,10 @@ ghost use Rattle.cep_play.specs.declared.turn.Turned.TheVariants.{Over};
 ghost use Rattle.cep_play.specs.Choice.{IsChoiceWithin};
 ghost use Rattle.cep_play.specs.Turn.{AsksPlayer, IsPlayed, IsActed, IsTurned, config_left, limit_word};
 
-use cep_base::limits::MOST_TYPED;
 use crate::choice::{Choice, choose};
 use crate::dialogue::EndWord;
 use crate::lines::{put_question, put_step};
+use cep_base::limits::MOST_TYPED;
 use cep_base::{Console, ConsoleFault, Steps, Text};
 use cep_machine::{Config, Stepped, Which};
 use cep_rule::{Matcher, Program};

@@ -4,12 +4,12 @@ use Rattle.std.specs.Prelude.{fold}
 use Rattle.std.specs.List.{AllByRecursion}
 use Rattle.std.proofs.lemmas.Bool.{eqb-false}
 use Rattle.std.specs.Ordering.{eq_by_cmp}
-use Rattle.std.specs.Cmp.{IsTotalOrder}
-use Rattle.std.specs.FinMap.{IsAntisymmetric, get-entries, get-empty, get-insert, get-remove, same_map}
+use Rattle.std.specs.FinMap.{get-entries, get-empty, get-insert, get-remove, same_map}
 use Rattle.std.specs.FinMap.Entries.{find}
 use Rattle.std.specs.FinMap as finite
 use Rattle.cep_term.specs.Tree.{AtomTree}
 use Rattle.cep_term.specs.Order.{atom_cmp}
+use Rattle.cep_term.specs.BagLaws.{BagLaws}
 use Rattle.cep_term.specs.Multiset.{Multiset, count_of, with_count, gathered, sum_of, IsBag, IsEntry}
 
 -- Each atom that is there has a copy.
@@ -47,12 +47,12 @@ same_found None (Some n) p q e = absurd (q (ap Some (sym e)))
 same_found (Some m) None p q e = absurd (p (ap Some e))
 same_found (Some m) (Some n) p q e = ap Some e
 
-module _ (total : IsTotalOrder atom_cmp) where
+module _ (laws : BagLaws) where
   -- what is found once a count is set
   got : (bag : Multiset) (a : AtomTree) (n : ℕ) (b : AtomTree) → finite.get (with_count bag a n) b ≡ cond (eq_by_cmp atom_cmp b a) (cond (n == 0) None (Some n)) (finite.get bag b)
   got bag a n b = elim (n == 0) as (λ t. finite.get (cond t (finite.remove bag a) (finite.insert bag a n)) b ≡ cond (eq_by_cmp atom_cmp b a) (cond t None (Some n)) (finite.get bag b)) [
-    | true ↦ get-remove total bag a b
-    | false ↦ get-insert total bag a n b
+    | true ↦ get-remove laws.total bag a b
+    | false ↦ get-insert laws.total bag a n b
   ]
 
   copies-with_count : (bag : Multiset) (a : AtomTree) (n : ℕ) → HasCopies bag → HasCopies (with_count bag a n)
@@ -70,6 +70,6 @@ module _ (total : IsTotalOrder atom_cmp) where
   pub copies-sum_of : (bag other : Multiset) → HasCopies bag → HasCopies (sum_of bag other)
   copies-sum_of bag other has = copies-added (finite.entries other) bag has
 
-  pub same_counts : IsAntisymmetric atom_cmp → (one other : Multiset) → HasCopies one → HasCopies other → ((a : AtomTree) → count_of one a ≡ count_of other a) → one ≡ other
-  same_counts ties one other has has' same =
-      same_map total ties one other (λ a. same_found (finite.get one a) (finite.get other a) (has a) (has' a) (same a))
+  pub same_counts : (one other : Multiset) → HasCopies one → HasCopies other → ((a : AtomTree) → count_of one a ≡ count_of other a) → one ≡ other
+  same_counts one other has has' same =
+      same_map laws.total laws.ties one other (λ a. same_found (finite.get one a) (finite.get other a) (has a) (has' a) (same a))

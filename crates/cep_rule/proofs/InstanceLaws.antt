@@ -13,7 +13,7 @@ for_some : {X : Type 0} (o : Option X) (P Q : X → Type 0) → ((x : X) → P x
 for_some None P Q f h = h
 for_some (Some x) P Q f h = f x h
 
-from_some : {X : Type 0} (o : Option X) (P : X → Type 0) (Q : Type 0) → ((x : X) → P x → Q) → IsSomeAnd o P → Q
+pub from_some : {X : Type 0} (o : Option X) (P : X → Type 0) (Q : Type 0) → ((x : X) → P x → Q) → IsSomeAnd o P → Q
 from_some None P Q f h = absurd h
 from_some (Some x) P Q f h = f x h
 

@@ -2,6 +2,7 @@
 use Rattle.std.proofs.Common.{ℕ, true, false, cond, List, [], ◌∷◌, ◌++◌, map}
 use Rattle.std.specs.Prelude.{filter}
 use Rattle.std.specs.List.{AllByRecursion}
+use Rattle.cep_base.proofs.Elements.{both_all}
 use Rattle.cep_term.specs.Tree.{Tree, AtomTree, IsGroundAtom}
 use Rattle.cep_rule.specs.declared.signature.Signature.{Signature}
 use Rattle.cep_rule.specs.declared.rule.Rule.{Rule}
@@ -15,10 +16,6 @@ use Rattle.cep_rule.proofs.InstanceLaws.{ground_instance}
 ground_all : (signature : Signature) (kinds : List ℕ) (values : List Tree) → AreValues signature.cons kinds values → (atoms : List AtomTree) → AllByRecursion (IsTyped signature kinds) atoms → AllByRecursion IsGroundAtom (full_instances values atoms)
 ground_all signature kinds values are [] typed = tt
 ground_all signature kinds values are (a ∷ atoms) typed = ((ground_instance signature kinds values a are typed.0), (ground_all signature kinds values are atoms typed.1))
-
-all_joined : {X : Type 0} (P : X → Type 0) (xs ys : List X) → AllByRecursion P xs → AllByRecursion P ys → AllByRecursion P (xs ++ ys)
-all_joined P [] ys all others = others
-all_joined P (x ∷ xs) ys all others = (all.0, (all_joined P xs ys all.1 others))
 
 -- what holds of the atoms of all premises holds of those that are kept
 all_kept : (P : AtomTree → Type 0) (premises : List PremiseTree) → AllByRecursion P (map (λ premise. premise.atom) premises) → AllByRecursion P (map (λ premise. premise.atom) (filter (λ premise. premise.kept) premises))
@@ -34,4 +31,4 @@ ground_left signature rule values typed are = ground_all signature rule.kinds va
 pub ground_right : (signature : Signature) (rule : Rule) (values : List Tree) → IsTypedRule signature rule → AreValues signature.cons rule.kinds values → AllByRecursion IsGroundAtom (full_instances values (rule.right ++ kept_of rule))
 ground_right signature rule values typed are =
     ground_all signature rule.kinds values are (rule.right ++ kept_of rule)
-    (all_joined (IsTyped signature rule.kinds) rule.right (kept_of rule) typed.right (all_kept (IsTyped signature rule.kinds) rule.premises typed.premises))
+    (both_all (IsTyped signature rule.kinds) rule.right (kept_of rule) typed.right (all_kept (IsTyped signature rule.kinds) rule.premises typed.premises))

@@ -1,9 +1,7 @@
 -- What a step leads to is determined, and a step can be told by counts.
 use Rattle.std.proofs.Common.{◌≡◌, ℕ, ◌+◌, ◌-◌, ◌≤◌, List, ◌++◌, sym, ap, ◌∙◌, arith}
-use Rattle.std.specs.Cmp.{IsTotalOrder}
-use Rattle.std.specs.FinMap.{IsAntisymmetric}
 use Rattle.cep_term.specs.Tree.{Tree, AtomTree}
-use Rattle.cep_term.specs.Order.{atom_cmp}
+use Rattle.cep_term.specs.BagLaws.{BagLaws}
 use Rattle.cep_term.specs.Multiset.{Multiset, count_of, sum_of, difference_of, IsContained, IsBag}
 use Rattle.cep_rule.specs.declared.rule.Rule.{Rule}
 use Rattle.cep_rule.specs.Binding.{needed_of}
@@ -11,18 +9,6 @@ use Rattle.cep_rule.specs.Instances.{full_instances, kept_of, left_of, right_of}
 use Rattle.cep_rule.specs.Step.{Step, StepsByCounts}
 use Rattle.cep_rule.specs.Matching.{state_after}
 use Rattle.cep_rule.proofs.Copies.{HasCopies, copies-bag, copies-gathered, copies-sum_of, same_counts}
-
--- The counts of a sum are the sums of the counts.
-abbrev pub SumsCounts : Type 0
-SumsCounts = (bag other : Multiset) (a : AtomTree) → count_of (sum_of bag other) a ≡ count_of bag a + count_of other a
-
--- The counts of a difference are the differences of the counts.
-abbrev pub TakesCounts : Type 0
-TakesCounts = (bag other : Multiset) (a : AtomTree) → count_of (difference_of bag other) a ≡ count_of bag a - count_of other a
-
--- A difference of bags is a bag.
-abbrev pub KeepsBags : Type 0
-KeepsBags = (bag other : Multiset) → IsBag bag → IsBag other → IsBag (difference_of bag other)
 
 -- The new count is the old one without the left side's and with the right side's.
 after_counts : (l r x o n : ℕ) → o ≡ l + x → n ≡ r + x → (l ≤ o) × (n + l ≡ o + r)
@@ -34,17 +20,13 @@ same_after l r o m n e f = omega arith
 same_rest : (l x y o : ℕ) → o ≡ l + x → o ≡ l + y → x ≡ y
 same_rest l x y o e f = omega arith
 
--- The counts say which bag it is.
-abbrev pub CountsDecide : Type 0
-CountsDecide = (bag other : Multiset) → IsBag bag → IsBag other → ((a : AtomTree) → count_of bag a ≡ count_of other a) → bag ≡ other
-
-pub one_rest : SumsCounts → CountsDecide → (rule : Rule) (values : List Tree) (old one other : Multiset) (step : Step rule values old one) (step' : Step rule values old other) → step.rest ≡ step'.rest
-one_rest sums decide rule values old one other step step' =
+pub one_rest : BagLaws → (rule : Rule) (values : List Tree) (old one other : Multiset) (step : Step rule values old one) (step' : Step rule values old other) → step.rest ≡ step'.rest
+one_rest laws rule values old one other step step' =
     let left = left_of rule values in
-    decide step.rest step'.rest step.bag step'.bag
+    laws.equal step.rest step'.rest step.bag step'.bag
     (λ a. same_rest (count_of left a) (count_of step.rest a) (count_of step'.rest a) (count_of old a)
-    (ap (λ (bag : Multiset). count_of bag a) step.before ∙ sums left step.rest a)
-    (ap (λ (bag : Multiset). count_of bag a) step'.before ∙ sums left step'.rest a))
+    (ap (λ (bag : Multiset). count_of bag a) step.before ∙ laws.sum left step.rest a)
+    (ap (λ (bag : Multiset). count_of bag a) step'.before ∙ laws.sum left step'.rest a))
 
 back : (l o : ℕ) → l ≤ o → o ≡ l + (o - l)
 back l o h = omega arith
@@ -52,32 +34,24 @@ back l o h = omega arith
 onward : (l r o n : ℕ) → l ≤ o → n + l ≡ o + r → n ≡ r + (o - l)
 onward l r o n h e = omega arith
 
--- What a bag contains can be taken from it and added again.
-abbrev pub UndoesTaking : Type 0
-UndoesTaking = (bag other : Multiset) → IsBag bag → IsBag other → IsContained other bag → sum_of (difference_of bag other) other ≡ bag
-
--- The sum of two bags is that of the other and the one.
-abbrev pub SumCommutes : Type 0
-SumCommutes = (bag other : Multiset) → IsBag bag → IsBag other → sum_of bag other ≡ sum_of other bag
-
-pub edit_is_step : KeepsBags → UndoesTaking → SumCommutes → (rule : Rule) (values : List Tree) (state : Multiset) → IsBag (left_of rule values) → IsBag (right_of rule values) → IsBag state → IsContained (left_of rule values) state → Step rule values state (state_after state (left_of rule values) (full_instances values (rule.right ++ kept_of rule)))
-edit_is_step keeps undoes commutes rule values state kept_left kept_right kept contained =
+pub edit_is_step : BagLaws → (rule : Rule) (values : List Tree) (state : Multiset) → IsBag (left_of rule values) → IsBag (right_of rule values) → IsBag state → IsContained (left_of rule values) state → Step rule values state (state_after state (left_of rule values) (full_instances values (rule.right ++ kept_of rule)))
+edit_is_step laws rule values state kept_left kept_right kept contained =
     let left = left_of rule values in
     let rest = difference_of state left in
-    let kept_rest = keeps state left kept kept_left in
+    let kept_rest = laws.difference_kept state left kept kept_left in
     record {
       rest = rest;
       bag = kept_rest;
-      before = sym (undoes state left kept kept_left contained) ∙ commutes rest left kept_rest kept_left;
-      after = commutes rest (right_of rule values) kept_rest kept_right;
+      before = sym (laws.taken_and_added state left kept kept_left contained) ∙ laws.sum_commutes rest left kept_rest kept_left;
+      after = laws.sum_commutes rest (right_of rule values) kept_rest kept_right;
     }
 
-module _ (total : IsTotalOrder atom_cmp) (ties : IsAntisymmetric atom_cmp) (sums : SumsCounts) where
+module _ (laws : BagLaws) where
   counts_at : (rule : Rule) (values : List Tree) (old new : Multiset) → Step rule values old new → (a : AtomTree) → (count_of (left_of rule values) a ≤ count_of old a) × (count_of new a + count_of (left_of rule values) a ≡ count_of old a + count_of (right_of rule values) a)
   counts_at rule values old new step a =
       after_counts (count_of (left_of rule values) a) (count_of (right_of rule values) a) (count_of step.rest a) (count_of old a) (count_of new a)
-      (ap (λ (bag : Multiset). count_of bag a) step.before ∙ sums (left_of rule values) step.rest a)
-      (ap (λ (bag : Multiset). count_of bag a) step.after ∙ sums (right_of rule values) step.rest a)
+      (ap (λ (bag : Multiset). count_of bag a) step.before ∙ laws.sum (left_of rule values) step.rest a)
+      (ap (λ (bag : Multiset). count_of bag a) step.after ∙ laws.sum (right_of rule values) step.rest a)
 
   pub counts_of_step : (rule : Rule) (values : List Tree) (old new : Multiset) → Step rule values old new → StepsByCounts rule values old new
   counts_of_step rule values old new step = record {
@@ -86,10 +60,10 @@ module _ (total : IsTotalOrder atom_cmp) (ties : IsAntisymmetric atom_cmp) (sums
   }
 
   left_copies : (rule : Rule) (values : List Tree) (rest : Multiset) → HasCopies (sum_of (left_of rule values) rest)
-  left_copies rule values rest = copies-sum_of total (left_of rule values) rest (copies-gathered total (full_instances values (needed_of rule)))
+  left_copies rule values rest = copies-sum_of laws (left_of rule values) rest (copies-gathered laws (full_instances values (needed_of rule)))
 
   right_copies : (rule : Rule) (values : List Tree) (rest : Multiset) → HasCopies (sum_of (right_of rule values) rest)
-  right_copies rule values rest = copies-sum_of total (right_of rule values) rest (copies-gathered total (full_instances values (rule.right ++ kept_of rule)))
+  right_copies rule values rest = copies-sum_of laws (right_of rule values) rest (copies-gathered laws (full_instances values (rule.right ++ kept_of rule)))
 
   pub one_step : (rule : Rule) (values : List Tree) (old one other : Multiset) → Step rule values old one → Step rule values old other → one ≡ other
   one_step rule values old one other step step' =
@@ -99,18 +73,18 @@ module _ (total : IsTotalOrder atom_cmp) (ties : IsAntisymmetric atom_cmp) (sums
       λ a. same_after (count_of left a) (count_of right a) (count_of old a) (count_of one a) (count_of other a) (counts_at rule values old one step a).1 (counts_at rule values old other step' a).1 in
       let counts' : (a : AtomTree) → count_of (sum_of right step.rest) a ≡ count_of (sum_of right step'.rest) a =
       λ a. ap (λ (bag : Multiset). count_of bag a) (sym step.after) ∙ counts a ∙ ap (λ (bag : Multiset). count_of bag a) step'.after in
-      step.after ∙ same_counts total ties (sum_of right step.rest) (sum_of right step'.rest) (right_copies rule values step.rest) (right_copies rule values step'.rest) counts' ∙ sym step'.after
+      step.after ∙ same_counts laws (sum_of right step.rest) (sum_of right step'.rest) (right_copies rule values step.rest) (right_copies rule values step'.rest) counts' ∙ sym step'.after
 
-  pub step_by_counts : TakesCounts → KeepsBags → (rule : Rule) (values : List Tree) (old new : Multiset) → IsBag (left_of rule values) → IsBag old → IsBag new → StepsByCounts rule values old new → Step rule values old new
-  step_by_counts takes keeps rule values old new kept_left kept kept' steps =
+  pub step_by_counts : (rule : Rule) (values : List Tree) (old new : Multiset) → IsBag (left_of rule values) → IsBag old → IsBag new → StepsByCounts rule values old new → Step rule values old new
+  step_by_counts rule values old new kept_left kept kept' steps =
       let left = left_of rule values in
       let right = right_of rule values in
       let rest = difference_of old left in
       record {
         rest = rest;
-        bag = keeps old left kept kept_left;
-        before = same_counts total ties old (sum_of left rest) (copies-bag old kept) (left_copies rule values rest)
-            (λ a. back (count_of left a) (count_of old a) (steps.contained a) ∙ ap (λ n. count_of left a + n) (sym (takes old left a)) ∙ sym (sums left rest a));
-        after = same_counts total ties new (sum_of right rest) (copies-bag new kept') (right_copies rule values rest)
-            (λ a. onward (count_of left a) (count_of right a) (count_of old a) (count_of new a) (steps.contained a) (steps.counts a) ∙ ap (λ n. count_of right a + n) (sym (takes old left a)) ∙ sym (sums right rest a));
+        bag = laws.difference_kept old left kept kept_left;
+        before = same_counts laws old (sum_of left rest) (copies-bag old kept) (left_copies rule values rest)
+            (λ a. back (count_of left a) (count_of old a) (steps.contained a) ∙ ap (λ n. count_of left a + n) (sym (laws.difference old left a)) ∙ sym (laws.sum left rest a));
+        after = same_counts laws new (sum_of right rest) (copies-bag new kept') (right_copies rule values rest)
+            (λ a. onward (count_of left a) (count_of right a) (count_of old a) (count_of new a) (steps.contained a) (steps.counts a) ∙ ap (λ n. count_of right a + n) (sym (laws.difference old left a)) ∙ sym (laws.sum right rest a));
       }

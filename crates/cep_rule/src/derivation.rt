@@ -1,4 +1,4 @@
-use crate::terms::Terms;
+use cep_term::Terms;
 
 /// How a ground atom follows from the clauses: a clause by its number, a value for each of its
 /// variables, and a derivation of each of its goals, in order. The textbook's tree.

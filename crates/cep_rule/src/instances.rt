@@ -3,8 +3,7 @@ ghost use Rattle.cep_term.specs.Tree.{atom_of, tree_of, trees_of, IsInRange, Are
 ghost use Rattle.cep_term.specs.Values.{term_instance, argument_instances};
 ghost use Rattle.cep_rule.specs.Instances.{given, full_instance};
 
-use crate::terms::Terms;
-use cep_term::{Args, Atom, Term, copy_term};
+use cep_term::{Args, Atom, Term, Terms, copy_term};
 use std::alloc::{AllocError, Global};
 
 /// The atom with each variable replaced by the value at its place, as Ceptre's rules are

@@ -1,5 +1,5 @@
-//! Laws of what programs mean, for the crates that rest on them. Each function does nothing, and its
-//! contract is the law.
+//! Laws of what programs mean, for the crates that rest on them. Each function computes nothing, and
+//! its contract is the law.
 ghost use Rattle.std.specs.Prelude.{◌≡◌, ◌↔◌, ℕ, List, [], ◌++◌, true};
 ghost use Rattle.std.specs.declared.cmp.Ordering.TheVariants.{Equal};
 ghost use Rattle.std.specs.Cmp.{IsTotalOrder};
@@ -10,15 +10,16 @@ ghost use Rattle.cep_rule.specs.declared.rule.Rule.{Rule};
 ghost use Rattle.cep_rule.specs.declared.parts.Parts.{Parts};
 ghost use Rattle.cep_rule.specs.declared.offer.Offer.{Offer};
 ghost use Rattle.cep_rule.specs.Patterns.{ClauseTree};
-ghost use Rattle.cep_rule.specs.Typing.{IsTyped, AreValues};
+ghost use Rattle.cep_rule.specs.Typing.{AreValues};
 ghost use Rattle.cep_rule.specs.Groundness.{Known, IsBad};
 ghost use Rattle.cep_rule.specs.Instances.{full_instance, full_instances, kept_of, left_of, right_of};
 ghost use Rattle.cep_rule.specs.Offers.{offer_cmp, AreOffers};
 ghost use Rattle.cep_rule.specs.Step.{Step, StepsByCounts};
 ghost use Rattle.cep_rule.specs.Matching.{state_after};
 ghost use Rattle.cep_rule.specs.Program.{IsTypedRule};
+ghost use Rattle.cep_rule.specs.TypeLaws.{TypeLaws};
 
-use cep_term::laws::{atoms_are_gathered, counts_decide, order_is_total, sums_and_differences};
+use cep_term::laws::{bags_are_lawful, order_is_total};
 
 /// A group has one list of offers in a state.
 pub fn one_list_of_offers()
@@ -49,9 +50,7 @@ pub fn one_state_after_a_step()
         (step : Step rule values old one) (step' : Step rule values old other)
         → step.rest ≡ step'.rest }
 {
-    order_is_total();
-    sums_and_differences();
-    counts_decide();
+    bags_are_lawful();
 }
 
 /// A step can be told by counts alone: it is there exactly where the left side is, and what it does
@@ -63,8 +62,7 @@ pub fn steps_can_be_told_by_counts()
         → IsBag new
         → (Step rule values old new ↔ StepsByCounts rule values old new) }
 {
-    order_is_total();
-    sums_and_differences();
+    bags_are_lawful();
 }
 
 /// Taking the left side from a state that contains it, and adding the instances of the right atoms
@@ -78,20 +76,13 @@ pub fn edits_are_steps()
         → Step rule values state (state_after state (left_of rule values) (full_instances values (rule.right ++ kept_of rule))) }
 {
     sides_are_bags();
-    sums_and_differences();
-    counts_decide();
+    bags_are_lawful();
 }
 
-/// Values of the right types make a well-typed atom a ground one that is well typed.
-pub fn instances_are_ground_and_typed()
-    ensures ground { (signature : Signature) (kinds : List ℕ) (values : List Tree) (a : AtomTree)
-        → AreValues signature.cons kinds values
-        → IsTyped signature kinds a
-        → IsGroundAtom (full_instance values a) }
-    ensures typed { (signature : Signature) (kinds : List ℕ) (values : List Tree) (a : AtomTree)
-        → AreValues signature.cons kinds values
-        → IsTyped signature kinds a
-        → IsTyped signature [] (full_instance values a) }
+/// The variables of a well-typed atom have types, and values of the right types, which are as many,
+/// make it a ground one that is well typed.
+pub fn types_are_lawful()
+    ensures { TypeLaws }
 {}
 
 /// With values of the right types both sides of a well-typed rule are multisets of ground atoms.
@@ -105,7 +96,7 @@ pub fn sides_are_bags()
         → AreValues signature.cons rule.kinds values
         → IsBag (right_of rule values) }
 {
-    atoms_are_gathered();
+    bags_are_lawful();
 }
 
 /// A pair that is bad is so too where fewer positions are known: so where more are known than in a

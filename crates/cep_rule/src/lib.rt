@@ -9,7 +9,6 @@
 //! generic over it, and its contracts and its law say all that may be used of one.
 #![tactic(auto)]
 
-mod atoms;
 mod clause;
 mod derivation;
 mod instances;
@@ -20,11 +19,10 @@ mod parts;
 mod program;
 mod rule;
 mod signature;
-mod terms;
 #[cfg(test)]
 mod tests;
 
-pub use atoms::AtomList;
+pub use cep_term::{AtomList, Terms};
 pub use clause::{Clause, Clauses};
 pub use derivation::{Derivation, Derivations};
 pub use instances::instance;
@@ -34,4 +32,3 @@ pub use parts::{Parts, Stage, Stages};
 pub use program::Program;
 pub use rule::{Premise, Premises, Rule, Rules};
 pub use signature::{Con, Cons, Kinds, Names, PredDecl, Preds, Signature};
-pub use terms::Terms;

@@ -6,12 +6,11 @@ ghost use Rattle.cep_rule.specs.declared.offer.Offer.{Offer};
 ghost use Rattle.cep_rule.specs.State.{IsState, Fits};
 ghost use Rattle.cep_rule.specs.Matching.{offers_of, AreListed, state_after, RoseBy};
 
-use cep_base::limits::MOST_OFFERS;
-use crate::atoms::AtomList;
 use crate::offer::Offer;
 use crate::program::Program;
 use cep_base::Steps;
-use cep_term::Bag;
+use cep_base::limits::MOST_OFFERS;
+use cep_term::{AtomList, Bag};
 use std::alloc::{AllocError, Global};
 use std::sync::ledger::Ledger;
 

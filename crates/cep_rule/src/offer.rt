@@ -4,8 +4,7 @@ ghost use Rattle.cep_term.specs.Tree.{tree_of};
 ghost use Rattle.cep_term.specs.Order.{tree_cmp};
 ghost use Rattle.cep_rule.specs.Offers.{offer_cmp};
 
-use crate::terms::Terms;
-use cep_term::{Term, order_term};
+use cep_term::{Term, Terms, order_term};
 use std::cmp::Ordering;
 
 /// An instance of a rule: the rule by its number, with a value for each of its variables, in the

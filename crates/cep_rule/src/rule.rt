@@ -1,10 +1,9 @@
 ghost use Rattle.std.specs.Prelude.{◌≡◌, ◌<◌, [], ◌∷◌, ◌++◌, length, slice_get, Some, OnOk, OnErr};
 ghost use Rattle.cep_rule.specs.Patterns.{premise_of};
 
-use crate::atoms::AtomList;
 use crate::signature::{Kinds, Names};
 use cep_base::{List, Name};
-use cep_term::Atom;
+use cep_term::{Atom, AtomList};
 use std::alloc::{AllocError, Global};
 use std::marker::Model;
 

@@ -6,5 +6,4 @@ pub mod Ordered
 pub mod Values
 pub mod RuleMatches
 pub mod Collecting
-pub mod Editing
 pub mod Sample

@@ -4,11 +4,11 @@ use Rattle.std.specs.Prelude.{codes, Bool, ◌==◌, ◌&&◌, ◌≢◌, not}
 use Rattle.std.proofs.lemmas.Bool.{eq-eqb}
 use Rattle.std.specs.List.{AllByRecursion, list_all}
 use Rattle.std.specs.Ordering.{eq_by_cmp}
-use Rattle.std.specs.Cmp.{IsTotalOrder}
-use Rattle.std.specs.FinMap.{IsAntisymmetric, get-empty, len-empty, len-entries}
+use Rattle.std.specs.FinMap.{get-empty, len-empty, len-entries}
 use Rattle.std.specs.FinMap as finite
 use Rattle.cep_base.specs.Spelling.{reserved_words}
 use Rattle.cep_term.specs.Tree.{AtomTree, node, none, more, atom_nodes}
+use Rattle.cep_term.specs.BagLaws.{BagLaws}
 use Rattle.cep_term.specs.Order.{atom_cmp}
 use Rattle.cep_term.specs.Multiset.{Multiset, count_of, with_count, with_one, gathered, sum_of, difference_of, nodes_in_all, IsBag, IsEntry}
 use Rattle.cep_rule.specs.declared.signature.Signature.{Signature}
@@ -20,12 +20,7 @@ use Rattle.cep_rule.specs.Matching.{state_after}
 use Rattle.cep_rule.specs.Program.{IsProgram}
 use Rattle.cep_scratch.proofs.Entries.{same_atom}
 use Rattle.cep_scratch.proofs.Copies.{one_if, count_more}
-use Rattle.cep_scratch.proofs.Editing.{KeepsBags, CountsDecide, SumsCounts, SumsKeep, SetsCopies}
 use Rattle.cep_scratch.specs.Sample.{the_signature, the_stages, the_rules, meet_rule, the_parts, the_a, IsSmallState}
-
--- Setting a count changes the nodes by those of as many copies.
-abbrev pub SetsNodes : Type 0
-SetsNodes = (bag : Multiset) (a : AtomTree) (n : ℕ) → nodes_in_all (with_count bag a n) + count_of bag a * atom_nodes a ≡ nodes_in_all bag + n * atom_nodes a
 
 no_length : {A : Type 0} (es : List A) → length es ≡ 0 → es ≡ []
 no_length [] e = refl
@@ -192,24 +187,24 @@ none_small = record { is_state = empty_state the_signature; few = rw no_entries 
 pub small_fits : (n : ℕ) (state : Multiset) → n ≤ 9 → IsSmallState n state → Fits state
 small_fits n state few is = let copies = is.few in let nodes = is.small in record { copies = omega arith; nodes = omega arith }
 
-module _ (total : IsTotalOrder atom_cmp) (ties : IsAntisymmetric atom_cmp) where
+module _ (laws : BagLaws) where
   -- one atom more
   state_atom_more : (state : Multiset) (a : AtomTree) → IsState the_signature state → IsStateAtom the_signature a → (b : AtomTree) → 0 < count_of (with_one state a) b → IsStateAtom the_signature b
-  state_atom_more state a is_state atom_is b some = by (eq_by_cmp atom_cmp a b) refl (subst (λ n. 0 < n) (count_more total ties state a b) some)
+  state_atom_more state a is_state atom_is b some = by (eq_by_cmp atom_cmp a b) refl (subst (λ n. 0 < n) (count_more laws state a b) some)
     where
       by : (t : Bool) → eq_by_cmp atom_cmp a b ≡ t → 0 < count_of state b + one_if t → IsStateAtom the_signature b
-      by true e h = subst (IsStateAtom the_signature) (same_atom total ties a b e) atom_is
+      by true e h = subst (IsStateAtom the_signature) (same_atom laws a b e) atom_is
       by false e h = is_state.each b (omega arith)
 
-  pub small_more : KeepsBags → SetsCopies → SetsNodes → (n : ℕ) (state : Multiset) (a : AtomTree) → IsSmallState n state → IsStateAtom the_signature a → atom_nodes a ≤ 4 → IsSmallState (n + 1) (with_one state a)
-  small_more keeps copies nodes n state a is atom_is few =
-      let set = copies state a (count_of state a + 1) in
-      let sized = nodes state a (count_of state a + 1) in
+  pub small_more : (n : ℕ) (state : Multiset) (a : AtomTree) → IsSmallState n state → IsStateAtom the_signature a → atom_nodes a ≤ 4 → IsSmallState (n + 1) (with_one state a)
+  small_more n state a is atom_is few =
+      let set = laws.set_copies state a (count_of state a + 1) in
+      let sized = laws.set_nodes state a (count_of state a + 1) in
       let before = is.few in
       let before' = is.small in
       let one : (count_of state a + 1) * atom_nodes a ≡ count_of state a * atom_nodes a + atom_nodes a = distributed (count_of state a) (atom_nodes a) in
       record {
-        is_state = record { bag = keeps state a (count_of state a + 1) atom_is.ground is.is_state.bag; each = state_atom_more state a is.is_state atom_is };
+        is_state = record { bag = laws.set_kept state a (count_of state a + 1) atom_is.ground is.is_state.bag; each = state_atom_more state a is.is_state atom_is };
         few = omega arith;
         small = omega arith;
       }
@@ -225,28 +220,20 @@ state_atom_at zero known = record { ground = (tt, (tt, tt)); typed = ((refl, tt)
 state_atom_at (suc zero) known = record { ground = (tt, (tt, tt)); typed = ((refl, tt), ((refl, tt), tt)); linear = refl; fit = record { nodes = omega arith; depth = omega arith } }
 state_atom_at (suc (suc n)) known = absurd (omega arith)
 
--- The counts of a difference are the differences of the counts.
-abbrev pub TakesCounts : Type 0
-TakesCounts = (bag other : Multiset) (a : AtomTree) → count_of (difference_of bag other) a ≡ count_of bag a - count_of other a
-
--- The difference of two bags is a bag.
-abbrev pub DifferencesKeep : Type 0
-DifferencesKeep = (bag other : Multiset) → IsBag bag → IsBag other → IsBag (difference_of bag other)
-
-module _ (total : IsTotalOrder atom_cmp) (ties : IsAntisymmetric atom_cmp) (keeps : KeepsBags) (copies : SetsCopies) (nodes : SetsNodes) where
+module _ (laws : BagLaws) where
   one_small : IsSmallState 1 (with_one finite.empty the_a)
-  one_small = small_more total ties keeps copies nodes 0 finite.empty the_a none_small state_atom_a (omega arith)
+  one_small = small_more laws 0 finite.empty the_a none_small state_atom_a (omega arith)
 
   two_small : IsSmallState 2 (with_one (with_one finite.empty the_a) the_a)
-  two_small = small_more total ties keeps copies nodes 1 (with_one finite.empty the_a) the_a one_small state_atom_a (omega arith)
+  two_small = small_more laws 1 (with_one finite.empty the_a) the_a one_small state_atom_a (omega arith)
 
   pub people_small : (start first second : Multiset) (x y : AtomTree) → start ≡ finite.empty → x ≡ record { pred = 0; args = more (node 1 none) (more (node 2 none) none) } → y ≡ record { pred = 0; args = more (node 0 none) (more (node 2 none) none) } → first ≡ with_one start x → second ≡ with_one first y → IsSmallState 2 second
   people_small start first second x y e is is' added added' =
       let one : first ≡ with_one finite.empty (record { pred = 0; args = more (node 1 none) (more (node 2 none) none) }) = cc in
       let two : second ≡ with_one (with_one finite.empty (record { pred = 0; args = more (node 1 none) (more (node 2 none) none) })) (record { pred = 0; args = more (node 0 none) (more (node 2 none) none) }) = cc in
       subst (IsSmallState 2) (sym two)
-      (small_more total ties keeps copies nodes 1 _ _
-      (small_more total ties keeps copies nodes 0 finite.empty _ none_small (state_atom_at 1 (omega arith)) (omega arith))
+      (small_more laws 1 _ _
+      (small_more laws 0 finite.empty _ none_small (state_atom_at 1 (omega arith)) (omega arith))
       (state_atom_at 0 (omega arith)) (omega arith))
 
   pub one_is_state : (program : Parts) (one : Multiset) → program ≡ the_parts → one ≡ with_one finite.empty the_a → IsState program.signature one
@@ -254,13 +241,13 @@ module _ (total : IsTotalOrder atom_cmp) (ties : IsAntisymmetric atom_cmp) (keep
       let signature : program.signature ≡ the_signature = ap (λ (p : Parts). p.signature) e in
       subst (λ (s : Signature). IsState s one) (sym signature) (subst (IsState the_signature) (sym is) one_small.is_state)
 
-  pub swapped_is_state : CountsDecide → SumsCounts → SumsKeep → TakesCounts → DifferencesKeep → (program : Parts) (held one : Multiset) (added : List AtomTree) → program ≡ the_parts → held ≡ one → one ≡ with_one finite.empty the_a → added ≡ the_a ∷ the_a ∷ [] → IsState program.signature (state_after held one added)
-  swapped_is_state decide sums sums_keep takes takes_keep program held one added e same is all =
+  pub swapped_is_state : (program : Parts) (held one : Multiset) (added : List AtomTree) → program ≡ the_parts → held ≡ one → one ≡ with_one finite.empty the_a → added ≡ the_a ∷ the_a ∷ [] → IsState program.signature (state_after held one added)
+  swapped_is_state program held one added e same is all =
       let bag : IsBag one = subst IsBag (sym is) one_small.is_state.bag in
       let signature : program.signature ≡ the_signature = ap (λ (p : Parts). p.signature) e in
-      let rest = takes_keep one one bag bag in
+      let rest = laws.difference_kept one one bag bag in
       let new : sum_of (difference_of one one) (gathered (the_a ∷ the_a ∷ [])) ≡ gathered (the_a ∷ the_a ∷ []) =
-      decide (sum_of (difference_of one one) (gathered (the_a ∷ the_a ∷ []))) (gathered (the_a ∷ the_a ∷ [])) (sums_keep (difference_of one one) (gathered (the_a ∷ the_a ∷ [])) rest two_small.is_state.bag) two_small.is_state.bag
-      (λ a. let sum = sums (difference_of one one) (gathered (the_a ∷ the_a ∷ [])) a in let none = takes one one a in omega arith) in
+      laws.equal (sum_of (difference_of one one) (gathered (the_a ∷ the_a ∷ []))) (gathered (the_a ∷ the_a ∷ [])) (laws.sum_kept (difference_of one one) (gathered (the_a ∷ the_a ∷ [])) rest two_small.is_state.bag) two_small.is_state.bag
+      (λ a. let sum = laws.sum (difference_of one one) (gathered (the_a ∷ the_a ∷ [])) a in let none = laws.difference one one a in omega arith) in
       let after : state_after held one added ≡ gathered (the_a ∷ the_a ∷ []) = ap (λ (bag : Multiset). state_after bag one added) same ∙ ap (λ atoms. state_after one one atoms) all ∙ new in
       subst (λ (s : Signature). IsState s (state_after held one added)) (sym signature) (subst (IsState the_signature) (sym after) two_small.is_state)

@@ -6,7 +6,6 @@
 //! the next. What was found is sorted in the end, group by group.
 #![tactic(auto)]
 
-mod edits;
 mod groups;
 mod partial;
 mod scratch;

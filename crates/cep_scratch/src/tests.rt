@@ -11,7 +11,7 @@ use cep_rule::{
     AtomList, Clauses, Con, Cons, Kinds, Matcher, Names, Offer, Parts, PredDecl, Preds, Premise,
     Premises, Program, Rule, Rules, Signature, Stage, Stages,
 };
-use cep_term::laws::{counts_are_set, counts_decide, order_is_total, sums_and_differences};
+use cep_term::laws::bags_are_lawful;
 use cep_term::{Args, Atom, Bag, Term};
 use std::alloc::{AllocError, Global};
 use std::marker::Brand;
@@ -198,7 +198,7 @@ fn put(state: &mut Bag, atom: &Atom) -> Result<(), AllocError>
     requires small { copies_in state.old < 9 }
     ensures { OnOk result (state.new ≡ with_one state.old (atom_of atom.now)) }
 {
-    counts_decide();
+    bags_are_lawful();
     state.add(atom)
 }
 
@@ -206,7 +206,7 @@ fn put(state: &mut Bag, atom: &Atom) -> Result<(), AllocError>
 fn one_a(alloc: Global) -> Result<Bag, AllocError>
     ensures { IfOk result (λ state. state ≡ with_one finite.empty the_a) }
 {
-    counts_are_set();
+    bags_are_lawful();
     let mut state = Bag::new(alloc);
     put(&mut state, &plain(2))?;
     Ok(state)
@@ -225,8 +225,7 @@ fn at_park(alloc: Global, person: u32) -> Result<Atom, AllocError>
 fn two_people(alloc: Global) -> Result<Bag, AllocError>
     ensures { IfOk result (IsSmallState 2) }
 {
-    order_is_total();
-    counts_are_set();
+    bags_are_lawful();
     let mut state = Bag::new(alloc);
     put(&mut state, &at_park(alloc, 1)?)?;
     put(&mut state, &at_park(alloc, 0)?)?;
@@ -252,10 +251,7 @@ fn pairs<L: Ledger>(alloc: Global, blank: Blank) -> Result<(usize, Scratch), All
     requires open { 0 < L.parts }
     ensures { IfOk result (λ pairs. length pairs.1.groups.items ≡ 2) }
 {
-    order_is_total();
-    counts_are_set();
-    counts_decide();
-    sums_and_differences();
+    bags_are_lawful();
     let mut steps = Steps::<L>::new(blank);
     let program = program(alloc)?;
     let one = one_a(alloc)?;

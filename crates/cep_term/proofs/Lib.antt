@@ -7,4 +7,7 @@ pub mod Edits
 pub mod EntryEdits
 pub mod Seen
 pub mod Multisets
+pub mod Additions
+pub mod Gathered
+pub mod EntryPlaces
 pub mod Instances

@@ -5,3 +5,4 @@ pub mod Values
 pub mod Matching
 pub mod Multiset
 pub mod Entries
+pub mod BagLaws

@@ -1,5 +1,5 @@
 -- Multisets of atoms: for each atom that is there how many copies there are.
-use Rattle.std.specs.Prelude.{ℕ, ◌+◌, ◌-◌, ◌*◌, ◌≤◌, ◌<◌, ◌==◌, if◌then◌else◌, List, [], ◌∷◌, fold, sum_by, unwrap_or}
+use Rattle.std.specs.Prelude.{ℕ, ◌+◌, ◌-◌, ◌*◌, ◌≡◌, ◌≤◌, ◌<◌, ◌==◌, if◌then◌else◌, List, [], ◌∷◌, length, take, fold, sum_by, unwrap_or}
 use Rattle.std.specs.List.{AllByRecursion}
 use Rattle.std.specs.FinMap as finite
 use Rattle.cep_term.specs.Tree.{AtomTree, IsGroundAtom, atom_nodes}
@@ -57,3 +57,9 @@ IsEntry e = (0 < e.1) × IsGroundAtom e.0
 -- Each atom that is there is ground and has a copy, so that the counts alone say which multiset it is.
 abbrev pub IsBag : Multiset → Type 0
 IsBag bag = AllByRecursion IsEntry (finite.entries bag)
+
+-- A front of the atoms was added to the old multiset, and it is not the whole list.
+pub record AddsFront (old new : Multiset) (atoms : List AtomTree) : Type 0 where
+  pub added : ℕ
+  pub before : added < length atoms
+  pub sum : new ≡ sum_of old (gathered (take added atoms))

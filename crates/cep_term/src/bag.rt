@@ -1,8 +1,10 @@
-ghost use Rattle.std.specs.Prelude.{◌≡◌, ◌^◌, ◌-◌, ◌<◌, ◌↔◌, IfOk, OnOk, OnErr, IsErr, IsTrue, Some, slice_get};
+ghost use Rattle.std.specs.Prelude.{◌≡◌, ◌^◌, ◌+◌, ◌-◌, ◌<◌, ◌↔◌, IfOk, OnOk, OnErr, IsErr, IsTrue, Some, length, slice_get};
+ghost use Rattle.std.specs.List.{AllByRecursion};
 ghost use Rattle.std.specs.FinMap as finite;
 ghost use Rattle.cep_term.specs.Tree.{atom_of, IsGroundAtom};
-ghost use Rattle.cep_term.specs.Multiset.{count_of, with_one, without_one, copies_in, IsContained, IsBag};
+ghost use Rattle.cep_term.specs.Multiset.{count_of, with_count, with_one, without_one, gathered, sum_of, difference_of, copies_in, IsContained, IsBag, AddsFront};
 
+use crate::atoms::AtomList;
 use crate::entries::{Entry, Missing, add_copy, copy_entries, count_among, covers, take_copy};
 use crate::term::Atom;
 use std::alloc::{AllocError, Global};
@@ -46,6 +48,17 @@ impl Bag {
         }
     }
 
+    /// The multiset of a list of ground atoms. Only want of memory is refused.
+    pub fn of(alloc: Global, atoms: &AtomList) -> Result<Bag, AllocError>
+        requires known { AllByRecursion IsGroundAtom atoms.now }
+        requires few { length atoms.now < 2 ^ 32 }
+        ensures { IfOk result (λ bag. bag ≡ gathered atoms.now) }
+    {
+        let mut bag = Bag::new(alloc);
+        bag.add_all(atoms)?;
+        Ok(bag)
+    }
+
     /// How many copies of the atom there are: 0 where it is not there. It takes no memory.
     pub fn count(&self, a: &Atom) -> u32
         ensures { result ≡ count_of self.now (atom_of a.now) }
@@ -66,6 +79,21 @@ impl Bag {
         Ok(())
     }
 
+    /// Adds a list of ground atoms, one after another. After want of memory a front of the list is
+    /// added.
+    pub fn add_all(&mut self, atoms: &AtomList) -> Result<(), AllocError>
+        requires known { AllByRecursion IsGroundAtom atoms.now }
+        requires few { copies_in self.old + length atoms.now < 2 ^ 32 }
+        ensures ok { OnOk result (self.new ≡ sum_of self.old (gathered atoms.now)) }
+        ensures err { OnErr result (AddsFront self.old self.new atoms.now) }
+    {
+        self.each_is_kept();
+        for i in 0..atoms.len() {
+            self.add(atoms.get(i))?;
+        }
+        Ok(())
+    }
+
     /// Takes one copy of the atom. `Missing` comes exactly where there is none, and then nothing
     /// changes. It takes no memory.
     pub fn take(&mut self, a: &Atom) -> Result<(), Missing>
@@ -80,6 +108,35 @@ impl Bag {
             }
             Err(missing) => Err(missing),
         }
+    }
+
+    /// Takes the copies that the other bag has, as far as they are there. It takes no memory.
+    pub fn take_all(&mut self, other: &Bag)
+        ensures { self.new ≡ difference_of self.old other.now }
+    {
+        self.each_is_kept();
+        for i in 0..other.len() {
+            let (atom, copies) = other.entry(i);
+            self.take_copies(atom, copies);
+        }
+    }
+
+    // Takes so many copies of the atom, or all where there are fewer.
+    fn take_copies(&mut self, atom: &Atom, copies: u32)
+        requires known { IsGroundAtom (atom_of atom.now) }
+        requires kept { IsBag self.old }
+        ensures { self.new ≡ with_count self.old (atom_of atom.now) (count_of self.old (atom_of atom.now) - copies) }
+    {
+        for _taken in 0..copies {
+            let _ = self.take(atom);
+        }
+    }
+
+    // Each atom of a bag is ground and has a copy. It computes nothing.
+    fn each_is_kept(&self)
+        ensures { IsBag self.now }
+    {
+        let _ = &self.alloc;
     }
 
     /// Whether no count of the other bag is greater than that of this one. It takes no memory.

@@ -7,6 +7,7 @@
 //! its arguments alone, and an atom of a multiset is found by halving.
 #![tactic(auto)]
 
+mod atoms;
 mod bag;
 mod binding;
 mod comparing;
@@ -16,7 +17,9 @@ pub mod laws;
 mod matching;
 mod measure;
 mod term;
+mod terms;
 
+pub use atoms::AtomList;
 pub use bag::Bag;
 pub use binding::{Binding, apply};
 pub use comparing::{order, order_term, same};
@@ -25,6 +28,7 @@ pub use entries::Missing;
 pub use matching::meet;
 pub use measure::{depth, nodes};
 pub use term::{Args, Atom, Term};
+pub use terms::Terms;
 
 #[cfg(test)]
 mod tests;

@@ -7,15 +7,5 @@ returns c source parts clean bound are none =
     (c.atoms_are_made_of_tokens.ensures.made source)
     (c.items_are_made_of_tokens.ensures.made source.text clean.is_source.tokens source.file clean.is_source.parsed)
     (c.items_are_made_of_tokens.ensures.few source.text clean.is_source.tokens source.file clean.is_source.parsed)
-    (record {
-      empty = c.counts_are_set.ensures.empty;
-      empty_copies = c.counts_are_set.ensures.empty_copies;
-      empty_nodes = c.counts_are_set.ensures.empty_nodes;
-      others = c.counts_are_set.ensures.others;
-      copies = c.counts_are_set.ensures.copies;
-      nodes = c.counts_are_set.ensures.nodes;
-      total = c.order_is_total.ensures.atoms;
-      ties = c.order_is_total.ensures.equal_atoms;
-      kept = c.atoms_are_gathered.ensures.kept;
-    })
+    c.bags_are_lawful.ensures
     bound parts are none

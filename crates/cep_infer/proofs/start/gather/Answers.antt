@@ -15,6 +15,5 @@ returns c =
     let trees = map (λ atom. atom_of atom.now) c.deref.result.now in
     let same : IsPermutation c.args.atoms.now trees = subst (λ items. IsPermutation c.args.atoms.now (map (λ atom. atom_of atom.now) items)) (sym c.deref.ensures.value) c.in_ok-falling.ensures in
     IfOk-weaker c.add_all.result _ _
-    (λ bag is. is ∙ same_gathered c.order_is_total.ensures.atoms c.order_is_total.ensures.equal_atoms c.counts_are_set.ensures.empty c.counts_are_set.ensures.own c.counts_are_set.ensures.others
-    c.atoms_are_gathered.ensures.kept c.counts_decide.ensures.equal c.args.atoms.now trees same c.requires)
+    (λ bag is. is ∙ same_gathered c.bags_are_lawful.ensures c.args.atoms.now trees same c.requires)
     c.add_all.ensures

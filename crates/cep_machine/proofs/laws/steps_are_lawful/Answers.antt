@@ -3,8 +3,7 @@ use Rattle.cep_machine.proofs.laws.steps_are_lawful.Goals as goal
 pub returns : goal.returns
 returns c = record {
   bags = c.bags_are_lawful.ensures;
-  ground = c.instances_are_ground_and_typed.ensures.ground;
-  typed = c.instances_are_ground_and_typed.ensures.typed;
+  types = c.types_are_lawful.ensures;
   left_bag = c.sides_are_bags.ensures.left;
   edit = c.edits_are_steps.ensures;
 }

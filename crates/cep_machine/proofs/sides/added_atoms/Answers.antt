@@ -2,12 +2,12 @@ use Rattle.std.proofs.Common.{List, [], ◌∷◌, ◌++◌, length, sym, ap, �
 use Rattle.std.proofs.lemmas.List.{map-append}
 use Rattle.cep_term.specs.Tree.{AtomTree, IsAtomInRange, atom_of}
 use Rattle.cep_rule.specs.Instances.{full_instance, full_instances, kept_of}
-use Rattle.cep_machine.proofs.Lists.{all_at}
+use Rattle.cep_base.proofs.Lists.{holds_at}
 use Rattle.cep_machine.proofs.Premises.{next_instances, all_instances}
 use Rattle.cep_machine.proofs.sides.added_atoms.Goals as goal
 
 pub push_instance-requires : goal.push_instance-requires
-push_instance-requires c = all_at (IsAtomInRange (length c.args.values.now)) c.args.rule.now.right c.loop-i.i (atom_of c.get.result.now) c.requires.right c.get.ensures
+push_instance-requires c = holds_at (IsAtomInRange (length c.args.values.now)) c.args.rule.now.right c.loop-i.i (atom_of c.get.result.now) c.requires.right c.get.ensures
 
 pub loop-i-preserved : goal.loop-i-preserved
 loop-i-preserved c =

@@ -4,13 +4,13 @@ use Rattle.cep_term.specs.Tree.{AtomTree, IsAtomInRange}
 use Rattle.cep_rule.specs.Patterns.{PremiseTree, premise_of}
 use Rattle.cep_rule.specs.Instances.{full_instance, full_instances}
 use Rattle.cep_machine.specs.Weighing.{premise_atoms}
-use Rattle.cep_machine.proofs.Lists.{all_mapped_at}
+use Rattle.cep_base.proofs.Lists.{holds_at_mapped}
 use Rattle.cep_machine.proofs.Premises.{next_left}
 use Rattle.cep_machine.proofs.sides.left_atoms.Goals as goal
 
 pub push_instance-requires : goal.push_instance-requires
 push_instance-requires c =
-    all_mapped_at (IsAtomInRange (length c.args.values.now)) (λ (premise : PremiseTree). premise.atom) c.args.rule.now.premises c.loop-i.i (premise_of c.get.result.now) c.requires c.get.ensures
+    holds_at_mapped (IsAtomInRange (length c.args.values.now)) (λ (premise : PremiseTree). premise.atom) c.args.rule.now.premises c.loop-i.i (premise_of c.get.result.now) c.requires c.get.ensures
 
 pub loop-i-preserved : goal.loop-i-preserved
 loop-i-preserved c =

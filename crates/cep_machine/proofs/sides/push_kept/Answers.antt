@@ -3,7 +3,7 @@ use Rattle.std.proofs.lemmas.List.{take_all}
 use Rattle.cep_term.specs.Tree.{IsAtomInRange}
 use Rattle.cep_rule.specs.Patterns.{PremiseTree, premise_of}
 use Rattle.cep_rule.specs.Instances.{full_instances}
-use Rattle.cep_machine.proofs.Lists.{all_mapped_at}
+use Rattle.cep_base.proofs.Lists.{holds_at_mapped}
 use Rattle.cep_machine.proofs.Premises.{kept_in, nothing_more, push_kept_next, push_kept_same}
 use Rattle.cep_machine.proofs.sides.push_kept.Goals.{then-premise+in_ok-push_instance, else-premise}
 use Rattle.cep_machine.proofs.sides.push_kept.Goals as goal
@@ -13,7 +13,7 @@ loop-i-init c = sym (nothing_more c.args.atoms.now)
 
 pub push_instance-requires : goal.push_instance-requires
 push_instance-requires c =
-    all_mapped_at (IsAtomInRange (length c.args.values.now)) (λ (premise : PremiseTree). premise.atom) c.args.rule.now.premises c.loop-i.i (premise_of c.get-premise.result.now) c.requires c.get-premise.ensures
+    holds_at_mapped (IsAtomInRange (length c.args.values.now)) (λ (premise : PremiseTree). premise.atom) c.args.rule.now.premises c.loop-i.i (premise_of c.get-premise.result.now) c.requires c.get-premise.ensures
 
 pub loop-i-preserved : goal.loop-i-preserved
 loop-i-preserved c =

@@ -3,13 +3,13 @@ use Rattle.std.specs.List.{AllByRecursion}
 use Rattle.cep_term.specs.Tree.{atom_of, IsFit}
 use Rattle.cep_rule.specs.Instances.{full_instance}
 use Rattle.cep_machine.specs.Sizes.{IsMeasurable}
-use Rattle.cep_machine.proofs.Lists.{all_at}
+use Rattle.cep_base.proofs.Lists.{holds_at}
 use Rattle.cep_machine.proofs.Premises.{all_instances}
 use Rattle.cep_machine.proofs.Weights.{fit_next, too_large, first_at}
 use Rattle.cep_machine.proofs.weighing.first_too_large.Goals as goal
 
 pub size-requires : goal.size-requires
-size-requires c = all_at (IsMeasurable c.args.measured.now.values.now) c.args.right.now c.loop-i.i (atom_of c.get.result.now) c.requires c.get.ensures
+size-requires c = holds_at (IsMeasurable c.args.measured.now.values.now) c.args.right.now c.loop-i.i (atom_of c.get.result.now) c.requires c.get.ensures
 
 pub loop-i-preserved : goal.loop-i-preserved
 loop-i-preserved c =

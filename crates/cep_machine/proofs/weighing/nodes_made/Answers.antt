@@ -3,19 +3,19 @@ use Rattle.std.proofs.lemmas.List.{take_all}
 use Rattle.cep_term.specs.Tree.{AtomTree, atom_of, IsFit}
 use Rattle.cep_rule.specs.Instances.{full_instance}
 use Rattle.cep_machine.specs.Sizes.{IsMeasurable}
-use Rattle.cep_machine.proofs.Lists.{all_at, all_mapped_at}
+use Rattle.cep_base.proofs.Lists.{holds_at, holds_at_mapped}
 use Rattle.cep_machine.proofs.Premises.{nodes_by}
 use Rattle.cep_machine.proofs.Weights.{made_next}
 use Rattle.cep_machine.proofs.weighing.nodes_made.Goals as goal
 
 pub size-nodes-requires : goal.size-nodes-requires
-size-nodes-requires c = all_at (IsMeasurable c.args.measured.now.values.now) c.args.right.now c.loop-i.i (atom_of c.get.result.now) c.requires.measurable c.get.ensures
+size-nodes-requires c = holds_at (IsMeasurable c.args.measured.now.values.now) c.args.right.now c.loop-i.i (atom_of c.get.result.now) c.requires.measurable c.get.ensures
 
 pub overflow_add-nodes : goal.overflow_add-nodes
 overflow_add-nodes c =
     let few = c.loop-i.invariant.few in
     let within = c.requires.few in
-    let fit = (all_mapped_at IsFit (full_instance c.args.measured.now.values.now) c.args.right.now c.loop-i.i (atom_of c.get.result.now) c.requires.fit c.get.ensures).nodes in
+    let fit = (holds_at_mapped IsFit (full_instance c.args.measured.now.values.now) c.args.right.now c.loop-i.i (atom_of c.get.result.now) c.requires.fit c.get.ensures).nodes in
     let same = c.size-nodes.ensures.nodes in
     omega arith
 
@@ -24,7 +24,7 @@ loop-i-preserved c = record {
   made = made_next c.args.measured.now.values.now c.args.right.now c.loop-i.i (atom_of c.get.result.now) c.loop-i.nodes c.size-nodes.result.nodes c.loop-i.invariant.made c.get.ensures c.size-nodes.ensures.nodes;
   few =
       let few = c.loop-i.invariant.few in
-      let fit = (all_mapped_at IsFit (full_instance c.args.measured.now.values.now) c.args.right.now c.loop-i.i (atom_of c.get.result.now) c.requires.fit c.get.ensures).nodes in
+      let fit = (holds_at_mapped IsFit (full_instance c.args.measured.now.values.now) c.args.right.now c.loop-i.i (atom_of c.get.result.now) c.requires.fit c.get.ensures).nodes in
       let same = c.size-nodes.ensures.nodes in
       omega arith;
 }

@@ -3,7 +3,7 @@ use Rattle.std.proofs.lemmas.List.{take_all}
 use Rattle.cep_rule.specs.Patterns.{PremiseTree, premise_of}
 use Rattle.cep_machine.specs.Sizes.{IsMeasurable}
 use Rattle.cep_machine.specs.Weighing.{used_of}
-use Rattle.cep_machine.proofs.Lists.{all_mapped_at}
+use Rattle.cep_base.proofs.Lists.{holds_at_mapped}
 use Rattle.cep_machine.proofs.Premises.{nodes_by, fit_premise}
 use Rattle.cep_machine.proofs.Weights.{used_more, used_same}
 use Rattle.cep_machine.proofs.weighing.nodes_used.Goals.{then-not-premise, else-not-premise}
@@ -11,7 +11,7 @@ use Rattle.cep_machine.proofs.weighing.nodes_used.Goals as goal
 
 pub size-nodes-requires : goal.size-nodes-requires
 size-nodes-requires c =
-    all_mapped_at (IsMeasurable c.args.measured.now.values.now) (λ (premise : PremiseTree). premise.atom) c.args.premises.now c.loop-i.i (premise_of c.get-premise.result.now) c.requires.measurable c.get-premise.ensures
+    holds_at_mapped (IsMeasurable c.args.measured.now.values.now) (λ (premise : PremiseTree). premise.atom) c.args.premises.now c.loop-i.i (premise_of c.get-premise.result.now) c.requires.measurable c.get-premise.ensures
 
 pub overflow_add-nodes : goal.overflow_add-nodes
 overflow_add-nodes c =

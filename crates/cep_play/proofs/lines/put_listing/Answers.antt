@@ -9,7 +9,7 @@ use Rattle.cep_play.proofs.lines.put_listing.Goals as goal
 
 pub put_have-requires : goal.put_have-requires
 put_have-requires c =
-    typed_at_head c.order_is_total.ensures.atoms c.args.program.now.signature c.args.state.now c.loop-i.i _ _ c.requires c.entry-copies.ensures
+    typed_at_head c.bags_are_lawful.ensures c.args.program.now.signature c.args.state.now c.loop-i.i _ _ c.requires c.entry-copies.ensures
 
 pub loop-i-preserved : goal.loop-i-preserved
 loop-i-preserved c =

@@ -3,6 +3,6 @@ use Rattle.cep_rule.proofs.laws.steps_can_be_told_by_counts.Goals as goal
 
 pub returns : goal.returns
 returns c = λ rule values old new kept_left kept kept'. (
-  (counts_of_step c.order_is_total.ensures.atoms c.order_is_total.ensures.equal_atoms c.sums_and_differences.ensures.sum rule values old new),
-  (step_by_counts c.order_is_total.ensures.atoms c.order_is_total.ensures.equal_atoms c.sums_and_differences.ensures.sum c.sums_and_differences.ensures.difference c.sums_and_differences.ensures.difference_kept rule values old new kept_left kept kept'),
+  counts_of_step c.bags_are_lawful.ensures rule values old new,
+  step_by_counts c.bags_are_lawful.ensures rule values old new kept_left kept kept',
 )

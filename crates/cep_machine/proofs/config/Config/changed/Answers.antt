@@ -1,17 +1,13 @@
-use Rattle.std.proofs.Common.{◌≡◌, sym, ap, subst, ◌∙◌, arith}
-use Rattle.cep_term.specs.Multiset.{Multiset, gathered, sum_of, difference_of, copies_in, nodes_in_all, IsBag}
+use Rattle.std.proofs.Common.{◌≡◌, List, sym, ap, ◌∙◌, arith}
+use Rattle.cep_term.specs.Tree.{AtomTree}
+use Rattle.cep_term.specs.Multiset.{Multiset, gathered, sum_of, difference_of, copies_in, nodes_in_all}
 use Rattle.cep_rule.specs.Matching.{state_after}
 use Rattle.cep_machine.specs.Configuration.{Configuration}
-use Rattle.cep_machine.proofs.Bags.{gathered_copies}
 use Rattle.cep_machine.proofs.config.Config.changed.Goals as goal
 
-pub add_all-requires-clause-bag : goal.add_all-requires-clause-bag
-add_all-requires-clause-bag g c =
-    let laws = c.bags_are_lawful.ensures in
-    let left = c.args.change.now.left in
-    let same : c.self.inside.state ≡ c.args.self.state = ap (λ (config : Configuration g.row.M.Denot). config.state) c.self.view_is in
-    subst IsBag (sym c.take_all.ensures)
-    (laws.difference_kept c.self.inside.state (gathered left) (subst IsBag (sym same) c.requires.of_program.is_state.bag) (laws.gathered_kept left c.requires.can.left))
+-- the state without the left side
+taken_is : (inside old taken new : Multiset) (left : List AtomTree) → new ≡ difference_of inside taken → inside ≡ old → taken ≡ gathered left → new ≡ difference_of old (gathered left)
+taken_is inside old taken new left is same of = is ∙ ap (λ (bag : Multiset). difference_of bag taken) same ∙ ap (λ (bag : Multiset). difference_of old bag) of
 
 pub add_all-requires-clause-few : goal.add_all-requires-clause-few
 add_all-requires-clause-few g c =
@@ -19,10 +15,10 @@ add_all-requires-clause-few g c =
     let left = c.args.change.now.left in
     let added = c.args.change.now.added in
     let same : c.self.inside.state ≡ c.args.self.state = ap (λ (config : Configuration g.row.M.Denot). config.state) c.self.view_is in
-    let taken : copies_in c.take_all.new.state ≡ copies_in (difference_of c.args.self.state (gathered left)) =
-    ap (λ (bag : Multiset). copies_in bag) (c.take_all.ensures ∙ ap (λ (bag : Multiset). difference_of bag (gathered left)) same) in
+    let taken : copies_in c.take_all.new.self ≡ copies_in (difference_of c.args.self.state (gathered left)) =
+    ap (λ (bag : Multiset). copies_in bag) (taken_is c.self.inside.state c.args.self.state c.in_ok-taken.taken c.take_all.new.self left c.take_all.ensures same c.in_ok-taken.ensures) in
     let sum = laws.sum_copies (difference_of c.args.self.state (gathered left)) (gathered added) in
-    let many = gathered_copies laws added in
+    let many = laws.gathered_copies added in
     let most = c.requires.can.fits.copies in
     omega arith
 
@@ -31,9 +27,9 @@ invariant_of-result g c =
     let left = c.args.change.now.left in
     let added = c.args.change.now.added in
     let view : c.self.inside.state ≡ c.args.self.state = ap (λ (config : Configuration g.row.M.Denot). config.state) c.self.view_is in
-    let new : c.add_all.new.state ≡ state_after c.args.self.state (gathered left) added =
-    c.in_ok-add_all.ensures
-    ∙ ap (λ (bag : Multiset). sum_of bag (gathered added)) (c.take_all.ensures ∙ ap (λ (bag : Multiset). difference_of bag (gathered left)) view) in
+    let new : c.add_all.new.self ≡ state_after c.args.self.state (gathered left) added =
+    c.in_ok-add_all.ensures.ok
+    ∙ ap (λ (bag : Multiset). sum_of bag (gathered added)) (taken_is c.self.inside.state c.args.self.state c.in_ok-taken.taken c.take_all.new.self left c.take_all.ensures view c.in_ok-taken.ensures) in
     let held : g.M.Matcher.state_held c.in_ok-matcher.matcher ≡ state_after c.args.self.state (gathered left) added =
     c.in_ok-matcher.ensures.new_state
     ∙ ap (λ (bag : Multiset). state_after bag c.in_ok-taken.taken added) (c.self.invariant.same_state ∙ view)

@@ -1,7 +1,7 @@
-ghost use Rattle.std.specs.Prelude.{◌≡◌, ◌<◌, [], ◌∷◌, ◌++◌, length, map, slice_get, Some, OnOk, OnErr};
+ghost use Rattle.std.specs.Prelude.{◌≡◌, ◌<◌, ◌↔◌, [], ◌∷◌, ◌++◌, length, map, slice_get, Some, OnOk, OnErr, IsTrue};
 ghost use Rattle.cep_term.specs.Tree.{tree_of};
 
-use cep_term::Term;
+use crate::term::Term;
 use std::alloc::{AllocError, Global};
 use std::marker::Model;
 
@@ -41,6 +41,13 @@ impl Terms {
         self.terms.len()
     }
 
+    /// Whether there is no term. It takes no memory.
+    pub fn is_empty(&self) -> bool
+        ensures { IsTrue result ↔ (self.now ≡ []) }
+    {
+        self.terms.is_empty()
+    }
+
     /// The term at this place, counted from 0. It takes no memory.
     pub fn get(&self, i: usize) -> &Term
         requires { i < length self.now }
@@ -49,8 +56,8 @@ impl Terms {
         &self.terms[i]
     }
 
-    // The terms as they are kept.
-    pub(crate) fn as_slice(&self) -> &[Term]
+    /// The terms as they are kept. It takes no memory.
+    pub fn as_slice(&self) -> &[Term]
         ensures { map tree_of result.now ≡ self.now }
     {
         self.terms.as_slice()

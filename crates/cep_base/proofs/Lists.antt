@@ -1,6 +1,6 @@
--- Lists by places, and what holds of all their items.
+-- Lists by their places: what holds of all items, fronts, and images.
 use Rattle.std.proofs.Common.{◌≡◌, ℕ, zero, suc, ◌+◌, List, [], ◌∷◌, ◌++◌, take, map, Option, Some, None, refl, ap, subst, ◌∙◌, add-one}
-use Rattle.std.specs.Prelude.{slice_get}
+use Rattle.std.specs.Prelude.{slice_get, fold}
 use Rattle.std.specs.List.{AllByRecursion}
 
 pub none_some : {A B : Type 0} (x : A) → ◌≡◌ {A = Option A} None (Some x) → B
@@ -9,15 +9,15 @@ none_some x e = cc
 pub some_same : {A : Type 0} (x y : A) → Some x ≡ Some y → x ≡ y
 some_same x y e = cc
 
-pub all_at : {A : Type 0} (P : A → Type 0) (xs : List A) (n : ℕ) (x : A) → AllByRecursion P xs → slice_get xs n ≡ Some x → P x
-all_at P [] n x all is = none_some x is
-all_at P (y ∷ xs) zero x all is = subst P (some_same y x is) all.0
-all_at P (y ∷ xs) (suc n) x all is = all_at P xs n x all.1 is
+pub holds_at : {A : Type 0} (P : A → Type 0) (xs : List A) (n : ℕ) (x : A) → AllByRecursion P xs → slice_get xs n ≡ Some x → P x
+holds_at P [] n x all is = none_some x is
+holds_at P (y ∷ xs) zero x all is = subst P (some_same y x is) all.0
+holds_at P (y ∷ xs) (suc n) x all is = holds_at P xs n x all.1 is
 
-pub all_mapped_at : {A B : Type 0} (P : B → Type 0) (f : A → B) (xs : List A) (n : ℕ) (x : A) → AllByRecursion P (map f xs) → slice_get xs n ≡ Some x → P (f x)
-all_mapped_at P f [] n x all is = none_some x is
-all_mapped_at P f (y ∷ xs) zero x all is = subst (λ z. P (f z)) (some_same y x is) all.0
-all_mapped_at P f (y ∷ xs) (suc n) x all is = all_mapped_at P f xs n x all.1 is
+pub holds_at_mapped : {A B : Type 0} (P : B → Type 0) (f : A → B) (xs : List A) (n : ℕ) (x : A) → AllByRecursion P (map f xs) → slice_get xs n ≡ Some x → P (f x)
+holds_at_mapped P f [] n x all is = none_some x is
+holds_at_mapped P f (y ∷ xs) zero x all is = subst (λ z. P (f z)) (some_same y x is) all.0
+holds_at_mapped P f (y ∷ xs) (suc n) x all is = holds_at_mapped P f xs n x all.1 is
 
 pub all_weaker : {A : Type 0} (P Q : A → Type 0) (xs : List A) → ((x : A) → P x → Q x) → AllByRecursion P xs → AllByRecursion Q xs
 all_weaker P Q [] f all = tt
@@ -26,10 +26,6 @@ all_weaker P Q (x ∷ xs) f all = ((f x all.0), (all_weaker P Q xs f all.1))
 pub all_mapped : {A B : Type 0} (P : A → Type 0) (Q : B → Type 0) (f : A → B) (xs : List A) → ((x : A) → P x → Q (f x)) → AllByRecursion P xs → AllByRecursion Q (map f xs)
 all_mapped P Q f [] g all = tt
 all_mapped P Q f (x ∷ xs) g all = ((g x all.0), (all_mapped P Q f xs g all.1))
-
-pub all_joined : {A : Type 0} (P : A → Type 0) (xs ys : List A) → AllByRecursion P xs → AllByRecursion P ys → AllByRecursion P (xs ++ ys)
-all_joined P [] ys all others = others
-all_joined P (x ∷ xs) ys all others = (all.0, (all_joined P xs ys all.1 others))
 
 pub all_from_places : {A : Type 0} (P : A → Type 0) (xs : List A) → ((n : ℕ) (x : A) → slice_get xs n ≡ Some x → P x) → AllByRecursion P xs
 all_from_places P [] each = tt
@@ -57,3 +53,8 @@ get_mapped f (y ∷ xs) (suc n) x is = get_mapped f xs n x is
 pub map_last : {A B : Type 0} (f : A → B) (xs : List A) (x : A) → map f (xs ++ x ∷ []) ≡ map f xs ++ f x ∷ []
 map_last f [] x = refl
 map_last f (y ∷ xs) x = ap (λ ys. f y ∷ ys) (map_last f xs x)
+
+-- a fold over one item more
+pub fold_more : {A B : Type 0} (f : B → A → B) (b : B) (xs : List A) (x : A) → fold f b (xs ++ x ∷ []) ≡ f (fold f b xs) x
+fold_more f b [] x = refl
+fold_more f b (y ∷ xs) x = fold_more f (f b y) xs x

@@ -1,7 +1,7 @@
-ghost use Rattle.std.specs.Prelude.{◌≡◌, ◌<◌, [], ◌∷◌, ◌++◌, length, slice_get, Some, OnOk, OnErr};
+ghost use Rattle.std.specs.Prelude.{◌≡◌, ◌<◌, ◌↔◌, [], ◌∷◌, ◌++◌, length, slice_get, Some, OnOk, OnErr, IsTrue};
 ghost use Rattle.cep_term.specs.Tree.{atom_of};
 
-use cep_term::Atom;
+use crate::term::Atom;
 use std::alloc::{AllocError, Global};
 use std::marker::Model;
 
@@ -39,6 +39,13 @@ impl AtomList {
         ensures { result ≡ length self.now }
     {
         self.atoms.len()
+    }
+
+    /// Whether there is no atom. It takes no memory.
+    pub fn is_empty(&self) -> bool
+        ensures { IsTrue result ↔ (self.now ≡ []) }
+    {
+        self.atoms.is_empty()
     }
 
     /// The atom at this place, counted from 0. It takes no memory.
