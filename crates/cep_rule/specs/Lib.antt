@@ -12,3 +12,4 @@ pub mod Step
 pub mod Stages
 pub mod Matching
 pub mod Program
+pub mod Steps
