@@ -3,7 +3,8 @@ ghost use Rattle.std.specs.Prelude.{◌≡◌, ◌++◌, ◌∷◌, [], map, IfO
 ghost use Rattle.cep_names.specs.Spaces.{rule_name, rule_names_from, unlabelled_behind};
 ghost use Rattle.cep_names.specs.Uses.{atoms_of};
 ghost use Rattle.cep_names.specs.Variables.{raw_nodes};
-ghost use Rattle.cep_types.specs.Heads.{AreAtomsBy, blanks_after};
+ghost use Rattle.cep_infer.specs.Heads.{AreAtomsBy};
+ghost use Rattle.cep_types.specs.Heads.{blanks_after};
 ghost use Rattle.cep_types.specs.Met.{none_met, AreMet, names_seen, kinds_met};
 ghost use Rattle.cep_types.specs.Sites.{rule_scope};
 ghost use Rattle.cep_infer.specs.Meaning.{AreRulesBy, IsRuleBy, stages_in_elem, stage_named, group_of, next_of};
