@@ -1,5 +1,5 @@
-use cep_base::limits::MOST_TEXT;
 use crate::named;
+use cep_base::limits::MOST_TEXT;
 use cep_lex::lex;
 use cep_names::{Fault, Reason};
 use cep_parse::parse;

@@ -7,8 +7,8 @@ ghost use Rattle.cep_names.specs.Items.{traces_in};
 ghost use Rattle.cep_faults.specs.Looks.{looks_in};
 ghost use Rattle.cep_faults.specs.Totals.{is_large, size_under, start_faults, traces_faults, trace_step, after_trace};
 
-use cep_base::limits::{MOST_COPIES, MOST_STATE_NODES};
 use crate::sizes::{Size, Sizes};
+use cep_base::limits::{MOST_COPIES, MOST_STATE_NODES};
 use cep_names::{Fault, Names, Reason};
 use cep_parse::{RawItem, RawStart};
 

@@ -66,12 +66,6 @@ others_in is_labelled text (item.Stage name rules) = declaration text space.Stag
 others_in is_labelled text (item.Context name atoms) = declaration text space.Contexts name plain ∷ []
 others_in is_labelled text _ = []
 
--- the rules of an item
-abbrev pub item_rules : RawItem → List RawRule
-item_rules (item.Outer rule) = rule ∷ []
-item_rules (item.Stage name rules) = rules
-item_rules _ = []
-
 -- a text alone
 abbrev pub text_alone : List ℕ → Source
 text_alone text = record { text = text; file = [] }

@@ -9,7 +9,7 @@ mod space;
 mod table;
 mod text;
 
-pub use entries::{Tabled, item_rules};
+pub use entries::Tabled;
 pub use fault::Fault;
 pub use names::Names;
 pub use reason::Reason;

@@ -1,4 +1,4 @@
-use Rattle.cep_names.specs.Uses.{atoms_of}
+use Rattle.cep_parse.specs.Raw.{atoms_of}
 use Rattle.cep_faults.specs.Totals.{variable_faults}
 use Rattle.cep_faults.proofs.FirstLoops.{first_more}
 use Rattle.cep_faults.proofs.variables.rules_fault.Goals as goal
