@@ -17,14 +17,12 @@ use Rattle.cep_faults.specs.declared.counts.Counted.{Counted}
 use Rattle.cep_faults.specs.declared.counts.Counted.TheVariants as counted
 use Rattle.cep_faults.specs.declared.sizes.Size.{Size}
 use Rattle.cep_names.specs.Items.{ContextItem, TraceItem, preds_in, contexts_in, traces_in}
-use Rattle.cep_names.specs.Filling.{item_rules}
+use Rattle.cep_parse.specs.Raw.{item_rules, raw_nodes, atoms_of, listed_atoms}
 use Rattle.cep_refusal.specs.First.{wrong}
-use Rattle.cep_names.specs.Variables.{raw_nodes}
 use Rattle.cep_faults.specs.Seen.{unseen, new_in}
 use Rattle.cep_names.specs.Starts.{nodes_written, depth_written}
 use Rattle.cep_faults.specs.Looks.{Looks, says, names_context, cons_by, clauses_by}
-use Rattle.cep_names.specs.Uses.{atoms_of}
-use Rattle.cep_faults.specs.Faults.{past, listed_atoms, item_faults}
+use Rattle.cep_faults.specs.Faults.{past, item_faults}
 
 -- the places of what an item declares
 abbrev pub places_in : Looks → Counted → RawItem → List ℕ

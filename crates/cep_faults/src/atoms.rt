@@ -3,7 +3,8 @@ ghost use Rattle.std.specs.Prelude.{◌≡◌, ◌++◌, map};
 ghost use Rattle.std.specs.List.{flat_map};
 ghost use Rattle.cep_refusal.specs.First.{first_in};
 ghost use Rattle.cep_faults.specs.Looks.{looks_in, names_context};
-ghost use Rattle.cep_names.specs.Uses.{placed, atoms_in, atoms_of};
+ghost use Rattle.cep_parse.specs.Raw.{atoms_in, atoms_of};
+ghost use Rattle.cep_names.specs.Uses.{placed};
 ghost use Rattle.cep_faults.specs.Faults.{pred_faults, open_faults, back_faults, linear_faults, state_faults, role_faults, placed_faults};
 
 use crate::uses::{nodes_fault, use_fault};
@@ -162,9 +163,9 @@ pub(crate) fn atoms_fault(
 fn elem_fault(names: &Names, text: &[u8], role: Role, elem: &RawElem) -> Option<Fault>
     ensures { result ≡ first_in (flat_map (placed_faults (looks_in text.now names.now)) (map (placed role) (atoms_in elem.now))) }
 {
-    match elem {
-        RawElem::Atom { atom, .. } => atom_fault(names, text, role, atom),
-        RawElem::Qui(_) | RawElem::Stage(_) => None,
+    match elem.atom() {
+        Some(atom) => atom_fault(names, text, role, atom),
+        None => None,
     }
 }
 

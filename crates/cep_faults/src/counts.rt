@@ -7,7 +7,7 @@ ghost use Rattle.cep_faults.specs.Totals.{places_in, count_faults, all_count_fau
 
 use crate::rules::past;
 use cep_base::limits::{MOST_CLAUSES, MOST_CONS, MOST_PREDS, MOST_RULES};
-use cep_names::{Names, item_rules};
+use cep_names::Names;
 use cep_parse::RawItem;
 use cep_refusal::Fault;
 
@@ -48,7 +48,7 @@ fn nth_place(names: &Names, text: &[u8], counted: Counted, item: &RawItem, n: us
 {
     match counted {
         Counted::Rules => {
-            let rule = item_rules(item).get(n)?;
+            let rule = item.rules().get(n)?;
             Some(rule.at)
         }
         _ if n == 0 => place(names, text, counted, item),
@@ -61,7 +61,7 @@ fn places(names: &Names, text: &[u8], counted: Counted, item: &RawItem) -> usize
     ensures { result ≡ length (places_in (looks_in text.now names.now) counted item.now) }
 {
     match counted {
-        Counted::Rules => item_rules(item).len(),
+        Counted::Rules => item.rules().len(),
         _ => match place(names, text, counted, item) {
             Some(_) => 1,
             None => 0,

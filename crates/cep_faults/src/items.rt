@@ -9,7 +9,6 @@ ghost use Rattle.cep_names.specs.Uses.{start_uses};
 ghost use Rattle.cep_faults.specs.Faults.{use_faults, argument_faults, con_faults, turns_faults, item_faults, is_turn_limit};
 
 use crate::atoms::atoms_fault;
-use crate::fitness::start_listed;
 use crate::rules::{
     bare_fault, clause_fault, past, qui_fault, rule_fault, rules_fault, stages_fault,
 };
@@ -134,7 +133,7 @@ fn trace_fault(
         use_fault(names, text, Space::Stages, stage, 0),
         start_fault(names, text, start),
     );
-    let listed = atoms_fault(names, text, Role::Start, start_listed(start));
+    let listed = atoms_fault(names, text, Role::Start, start.listed());
     let rest = Fault::first_of(listed, turns_fault(text, limit));
     Fault::first_of(uses, rest)
 }

@@ -20,8 +20,8 @@ use Rattle.cep_refusal.specs.declared.reason.Reason.TheVariants.{NoTrace}
 use Rattle.cep_names.specs.declared.space.Space.TheVariants as space
 use Rattle.cep_names.specs.Items.{Source, ClauseItem, RuleItem, TraceItem, said, stages_of, clauses_of, rules_of, traces_of}
 use Rattle.cep_names.specs.Spaces.{Named, names_in, rule_names_from, unlabelled_behind}
-use Rattle.cep_names.specs.Uses.{atoms_of}
-use Rattle.cep_names.specs.Variables.{blanks_behind, raw_nodes}
+use Rattle.cep_parse.specs.Raw.{atoms_of, raw_nodes}
+use Rattle.cep_names.specs.Variables.{blanks_behind}
 use Rattle.cep_names.specs.Starts.{start_atoms}
 use Rattle.cep_refusal.specs.First.{wrong}
 use Rattle.cep_names.specs.Misnamed.{number_said}

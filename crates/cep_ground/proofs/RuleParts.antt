@@ -23,8 +23,9 @@ use Rattle.cep_names.specs.declared.space.Role.TheVariants as role
 use Rattle.cep_names.specs.declared.space.Space.TheVariants as space
 use Rattle.cep_names.specs.Items.{Source, RuleItem, ClauseItem, PredItem, said, rules_of, clauses_of, preds_of}
 use Rattle.cep_names.specs.Spaces.{named, back_of}
-use Rattle.cep_names.specs.Uses.{placed, placed_of, atoms_of}
-use Rattle.cep_names.specs.Variables.{raw_nodes, blanks_behind, variables_of, Occurrence}
+use Rattle.cep_parse.specs.Raw.{atoms_of, raw_nodes}
+use Rattle.cep_names.specs.Uses.{placed, placed_of}
+use Rattle.cep_names.specs.Variables.{blanks_behind, variables_of, Occurrence}
 use Rattle.cep_refusal.specs.First.{wrong}
 use Rattle.cep_names.specs.Misnamed.{is_declared}
 use Rattle.cep_names.specs.Misnamed.ComesToState.{made}

@@ -30,9 +30,10 @@ use Rattle.cep_names.specs.declared.space.Role.{Role}
 use Rattle.cep_names.specs.declared.space.Role.TheVariants as role
 use Rattle.cep_names.specs.Items.{Source, TraceItem, ContextItem, said, contexts_in, contexts_of, traces_in, traces_of}
 use Rattle.cep_names.specs.Spaces.{context_named}
-use Rattle.cep_names.specs.Uses.{placed, placed_of, own_atoms, start_listed, is_context}
+use Rattle.cep_parse.specs.Raw.{start_listed, raw_nodes}
+use Rattle.cep_names.specs.Uses.{placed, placed_of, own_atoms, is_context}
 use Rattle.cep_names.specs.declared.space.Space.TheVariants as space
-use Rattle.cep_names.specs.Variables.{Occurrence, firsts, occurrences_from, raw_nodes, blanks_behind}
+use Rattle.cep_names.specs.Variables.{Occurrence, firsts, occurrences_from, blanks_behind}
 use Rattle.cep_names.specs.Starts.{listed_in, listed_or, start_atoms, nodes_written, IsFitWritten}
 use Rattle.cep_refusal.specs.First.{wrong}
 use Rattle.cep_names.specs.Misnamed.{IsOfState}

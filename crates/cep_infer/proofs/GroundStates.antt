@@ -19,7 +19,8 @@ use Rattle.cep_names.specs.declared.space.Role.{Role}
 use Rattle.cep_names.specs.declared.space.Role.TheVariants as role
 use Rattle.cep_names.specs.Items.{Source, TraceItem, ContextItem, said, contexts_in, contexts_of, traces_in, traces_of}
 use Rattle.cep_names.specs.Spaces.{context_named}
-use Rattle.cep_names.specs.Uses.{Placed, placed, placed_of, own_atoms, item_atoms, start_listed, is_context}
+use Rattle.cep_parse.specs.Raw.{start_listed}
+use Rattle.cep_names.specs.Uses.{Placed, placed, placed_of, own_atoms, item_atoms, is_context}
 use Rattle.cep_names.specs.Variables.{blanks_behind}
 use Rattle.cep_names.specs.Starts.{listed_in, listed_or, start_atoms}
 use Rattle.cep_refusal.specs.First.{wrong}

@@ -65,18 +65,6 @@ others_in is_labelled text (item.Stage name rules) = declaration text space.Stag
 others_in is_labelled text (item.Context name atoms) = declaration text space.Contexts name plain ∷ []
 others_in is_labelled text _ = []
 
--- the rules of an item
-abbrev pub item_rules : RawItem → List RawRule
-item_rules (item.Outer rule) = rule ∷ []
-item_rules (item.Stage name rules) = rules
-item_rules (item.Sort name) = []
-item_rules (item.Pred name args back) = []
-item_rules (item.Colon left args right) = []
-item_rules (item.Clause label head goals) = []
-item_rules (item.Context name atoms) = []
-item_rules (item.Interactive name) = []
-item_rules (item.Trace at limit stage start) = []
-
 -- a text alone
 abbrev pub text_alone : List ℕ → Source
 text_alone text = record { text = text; file = [] }

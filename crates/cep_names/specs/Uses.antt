@@ -13,6 +13,7 @@ use Rattle.cep_parse.specs.declared.raw.RawStart.{RawStart}
 use Rattle.cep_parse.specs.declared.raw.RawStart.TheVariants as start
 use Rattle.cep_parse.specs.declared.raw.RawItem.{RawItem}
 use Rattle.cep_parse.specs.declared.raw.RawItem.TheVariants as item
+use Rattle.cep_parse.specs.Raw.{atoms_of, start_listed}
 use Rattle.cep_names.specs.declared.space.Space.{Space}
 use Rattle.cep_names.specs.declared.space.Space.TheVariants as space
 use Rattle.cep_names.specs.declared.space.Role.{Role}
@@ -28,26 +29,12 @@ pub record Placed : Type 0 where
 abbrev pub placed : Role → RawAtom → Placed
 placed role atom = record { role = role; atom = atom }
 
--- the atoms of a side
-abbrev pub atoms_in : RawElem → List RawAtom
-atoms_in (elem.Atom kept atom) = atom ∷ []
-atoms_in (elem.Qui span) = []
-atoms_in (elem.Stage name) = []
-
-abbrev pub atoms_of : List RawElem → List RawAtom
-atoms_of side = flat_map atoms_in side
-
 -- the atoms of a rule, and of a clause
 abbrev pub rule_atoms : RawRule → List Placed
 rule_atoms rule = map (placed role.Needed) (atoms_of rule.left) ++ map (placed role.Made) (atoms_of rule.right)
 
 abbrev pub clause_atoms : ClauseItem → List Placed
 clause_atoms clause = map (placed role.Clause) (clause.head ∷ clause.goals)
-
--- the atoms that a start state lists
-abbrev pub start_listed : RawStart → List RawAtom
-start_listed (start.Named name) = []
-start_listed (start.Listed atoms) = atoms
 
 -- the atoms of an item, but for those of clauses
 abbrev pub own_atoms : RawItem → List Placed

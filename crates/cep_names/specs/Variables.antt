@@ -7,6 +7,7 @@ use Rattle.cep_parse.specs.declared.raw.RawKind.{RawKind}
 use Rattle.cep_parse.specs.declared.raw.RawKind.TheVariants as kind
 use Rattle.cep_parse.specs.declared.raw.RawNode.{RawNode}
 use Rattle.cep_parse.specs.declared.raw.RawAtom.{RawAtom}
+use Rattle.cep_parse.specs.Raw.{raw_nodes}
 use Rattle.cep_names.specs.Items.{Source, said}
 
 -- An occurrence of a variable, or of a `_`, which is a variable of its own.
@@ -31,10 +32,6 @@ abbrev pub occurrences_from : Source → ℕ → List RawNode → List Occurrenc
 occurrences_from source blanks [] = []
 occurrences_from source blanks (node ∷ nodes) =
     occurrence_at source blanks node.at node.kind ++ occurrences_from source (blanks_behind blanks node.kind) nodes
-
--- the nodes of atoms, one after another
-abbrev pub raw_nodes : List RawAtom → List RawNode
-raw_nodes atoms = flat_map (λ atom. atom.nodes) atoms
 
 -- the occurrences of the variables of atoms in written order
 abbrev pub occurrences_of : Source → List RawAtom → List Occurrence

@@ -8,7 +8,7 @@ mod table;
 mod text;
 
 pub use cep_refusal::{Fault, Reason};
-pub use entries::{Tabled, item_rules};
+pub use entries::Tabled;
 pub use names::Names;
 pub use space::{Role, Space};
 pub use table::{Shape, Table};

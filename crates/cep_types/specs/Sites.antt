@@ -13,7 +13,8 @@ use Rattle.cep_refusal.specs.declared.reason.Reason.TheVariants.{TypeClash}
 use Rattle.cep_names.specs.Items.{Source, PredItem, ConItem, ClauseItem, RuleItem, said, clauses_of, rules_of}
 use Rattle.cep_names.specs.Spaces.{pred_named, con_named}
 use Rattle.cep_names.specs.Variables.{occurrence_at, blanks_behind}
-use Rattle.cep_names.specs.Uses.{Placed, atoms_of, placed_of}
+use Rattle.cep_parse.specs.Raw.{atoms_of}
+use Rattle.cep_names.specs.Uses.{Placed, placed_of}
 use Rattle.cep_refusal.specs.First.{wrong}
 use Rattle.cep_names.specs.Misnamed.{IsOfState}
 

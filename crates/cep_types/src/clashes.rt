@@ -4,14 +4,14 @@ ghost use Rattle.std.specs.List.{flat_map};
 ghost use Rattle.std.specs.Option.{option_map};
 ghost use Rattle.cep_refusal.specs.First.{first_in, IsFirstOrNone};
 ghost use Rattle.cep_names.specs.Items.{said};
-ghost use Rattle.cep_names.specs.Uses.{atoms_in, atoms_of};
+ghost use Rattle.cep_parse.specs.Raw.{atoms_in, atoms_of};
 ghost use Rattle.cep_types.specs.Clashes.{type_at, clash_of, atom_clashes, scope_clashes, item_scopes};
 ghost use Rattle.cep_types.specs.Met.{type_met};
 ghost use Rattle.cep_types.specs.Sites.{Mistyped};
 
 use crate::declarations::Declarations;
 use crate::variables::Variables;
-use cep_parse::{RawAtom, RawElem, RawItem, RawKind, RawNode, RawRule, RawStart, Span};
+use cep_parse::{RawAtom, RawElem, RawItem, RawKind, RawNode, RawRule, Span};
 use cep_refusal::{Fault, FirstFault, Reason};
 use std::alloc::AllocError;
 
@@ -75,9 +75,9 @@ impl<'a> Declarations<'a> {
     fn elem_clash(&self, variables: &Variables, elem: &RawElem) -> Result<Option<Fault>, AllocError>
         ensures { IfOk result (λ first. first ≡ first_in (flat_map (atom_clashes self.now (type_met self.now variables.now.firsts)) (atoms_in elem.now))) }
     {
-        match elem {
-            RawElem::Atom { atom, .. } => self.atom_clash(variables, atom),
-            RawElem::Qui(_) | RawElem::Stage(_) => Ok(None),
+        match elem.atom() {
+            Some(atom) => self.atom_clash(variables, atom),
+            None => Ok(None),
         }
     }
 
@@ -161,10 +161,7 @@ impl<'a> Declarations<'a> {
             RawItem::Stage { rules, .. } => self.rules_clash(rules.as_slice()),
             RawItem::Clause { head, goals, .. } => self.clause_clash(head, goals.as_slice()),
             RawItem::Context { atoms, .. } => self.states_clash(atoms.as_slice()),
-            RawItem::Trace { start, .. } => match start {
-                RawStart::Named(_) => Ok(None),
-                RawStart::Listed(atoms) => self.states_clash(atoms.as_slice()),
-            },
+            RawItem::Trace { start, .. } => self.states_clash(start.listed()),
             _ => Ok(None),
         }
     }

@@ -1,7 +1,7 @@
 // The variables of atoms that share them: those of a rule, of a clause, or of an atom of a state.
 ghost use Rattle.std.specs.Prelude.{◌≡◌, ◌∷◌, ◌++◌, [], map, IfOk, OnOk, ◌+◌, codes, decimal};
 ghost use Rattle.cep_names.specs.Items.{said};
-ghost use Rattle.cep_names.specs.Uses.{atoms_in, atoms_of};
+ghost use Rattle.cep_parse.specs.Raw.{atoms_in, atoms_of};
 ghost use Rattle.cep_types.specs.Heads.{variable_of, head_at};
 ghost use Rattle.cep_types.specs.Met.{none_met, met_site, AreMet, names_seen, kinds_met, head_by};
 
@@ -99,9 +99,9 @@ impl Variables {
     fn meet_elem(&mut self, declared: &Declarations, elem: &RawElem) -> Result<(), AllocError>
         ensures { OnOk result (AreMet declared.now (atoms_in elem.now) self.old self.new) }
     {
-        match elem {
-            RawElem::Atom { atom, .. } => self.meet_atom(declared, atom),
-            RawElem::Qui(_) | RawElem::Stage(_) => Ok(()),
+        match elem.atom() {
+            Some(atom) => self.meet_atom(declared, atom),
+            None => Ok(()),
         }
     }
 

@@ -1,7 +1,7 @@
 use Rattle.cep_faults.specs.Looks.{looks_in}
 use Rattle.cep_names.specs.Uses.{placed}
 use Rattle.cep_faults.specs.Faults.{placed_faults}
-use Rattle.cep_names.specs.Uses.{atoms_in}
+use Rattle.cep_parse.specs.Raw.{atoms_in}
 use Rattle.cep_refusal.specs.First.{standing}
 use Rattle.cep_base.proofs.ForemostLoops.{foremost_flat_mapped}
 use Rattle.cep_faults.proofs.atoms.side_fault.Goals as goal

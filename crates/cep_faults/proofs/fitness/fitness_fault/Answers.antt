@@ -7,4 +7,4 @@ use Rattle.cep_faults.proofs.fitness.fitness_fault.Goals as goal
 
 pub loop-item-preserved : goal.loop-item-preserved
 loop-item-preserved c =
-    foremost_more standing item_unfit_faults c.args.items.now c.loop-item.item-index c.item-item.result _ _ _ c.loop-item-test.true c.item-item.is c.loop-item.invariant (c.in_ok-atoms_fault.ensures ∙ ap (λ atoms. first_in (flat_map unfit_faults atoms)) c.listed_atoms.ensures) c.note.ensures
+    foremost_more standing item_unfit_faults c.args.items.now c.loop-item.item-index c.item-item.result _ _ _ c.loop-item-test.true c.item-item.is c.loop-item.invariant (c.in_ok-atoms_fault.ensures ∙ ap (λ atoms. first_in (flat_map unfit_faults atoms)) c.listed.ensures) c.note.ensures

@@ -6,8 +6,7 @@ use Rattle.cep_parse.specs.declared.raw.RawAtom.{RawAtom}
 use Rattle.cep_base.specs.declared.limits.TheConstants.{MOST_VARIABLES}
 use Rattle.cep_refusal.specs.First.{first_in}
 use Rattle.cep_faults.specs.Faults.{past}
-use Rattle.cep_names.specs.Uses.{atoms_in}
-use Rattle.cep_names.specs.Variables.{raw_nodes}
+use Rattle.cep_parse.specs.Raw.{atoms_in, raw_nodes}
 use Rattle.cep_faults.specs.Seen.{unseen, new_in}
 use Rattle.cep_base.proofs.ForemostLoops.{flat_map-flat_map}
 use Rattle.cep_faults.proofs.variables.rule_fault.Goals as goal

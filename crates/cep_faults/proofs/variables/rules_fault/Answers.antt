@@ -1,4 +1,4 @@
-use Rattle.cep_names.specs.Uses.{atoms_of}
+use Rattle.cep_parse.specs.Raw.{atoms_of}
 use Rattle.cep_faults.specs.Totals.{variable_faults}
 use Rattle.cep_refusal.specs.First.{standing}
 use Rattle.cep_base.proofs.ForemostLoops.{foremost_more}

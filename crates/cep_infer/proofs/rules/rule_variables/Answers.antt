@@ -1,7 +1,7 @@
 use Rattle.std.proofs.Common.{◌++◌, subst}
 use Rattle.cep_parse.specs.declared.raw.RawElem.{RawElem}
 use Rattle.std.proofs.Common.{List}
-use Rattle.cep_names.specs.Uses.{atoms_of}
+use Rattle.cep_parse.specs.Raw.{atoms_of}
 use Rattle.cep_types.specs.declared.variables.Variables.{Variables}
 use Rattle.cep_types.specs.Met.{AreMet}
 use Rattle.cep_infer.proofs.Meeting.{both_are_met}

@@ -1,5 +1,5 @@
 use Rattle.std.proofs.Common.{◌++◌}
-use Rattle.cep_names.specs.Uses.{atoms_of}
+use Rattle.cep_parse.specs.Raw.{atoms_of}
 use Rattle.cep_types.specs.Clashes.{scope_clashes}
 use Rattle.cep_refusal.specs.First.{standing}
 use Rattle.cep_base.proofs.ForemostLoops.{foremost_more}

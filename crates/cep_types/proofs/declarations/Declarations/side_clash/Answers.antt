@@ -1,4 +1,4 @@
-use Rattle.cep_names.specs.Uses.{atoms_in}
+use Rattle.cep_parse.specs.Raw.{atoms_in}
 use Rattle.cep_types.specs.Clashes.{atom_clashes}
 use Rattle.cep_types.specs.Met.{type_met}
 use Rattle.cep_refusal.specs.First.{standing}
