@@ -2,14 +2,18 @@ ghost use Rattle.std.specs.Prelude.{ℕ, ◌<◌, List, length, Err};
 ghost use Rattle.cep_base.specs.declared.limits.TheConstants.{MOST_TEXT};
 ghost use Rattle.cep_ground.specs.Refusals.{IsAccepted};
 
-use crate::refusals::tell_at_front;
-use cep_infer::Refusal;
-use cep_names::Reason;
+use cep_refusal::{Fault, Reason, Refusal};
 
 /// The refusal of a text that has more bytes than a text may have, for who knows no more of it than
 /// that. It takes no memory.
 pub fn too_long() -> Refusal
     ensures { (text : List ℕ) → MOST_TEXT < length text → IsAccepted text (Err result) }
 {
-    tell_at_front(b"", Reason::TooLong)
+    Refusal::of(
+        b"",
+        Fault {
+            reason: Reason::TooLong,
+            at: 0,
+        },
+    )
 }

@@ -1,5 +1,5 @@
-use cep_base::limits::MOST_TEXT;
 use crate::{Draft, Reason, Refusal, resolve};
+use cep_base::limits::MOST_TEXT;
 use cep_lex::lex;
 use cep_parse::parse;
 use std::alloc::Global;

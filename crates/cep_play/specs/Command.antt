@@ -6,11 +6,12 @@ use Rattle.cep_base.specs.declared.console.Event.{Event}
 use Rattle.cep_base.specs.Talk.{outs, Did}
 use Rattle.cep_base.specs.Files.{Files, HasFile}
 use Rattle.cep_rule.specs.declared.parts.Parts.{Parts}
-use Rattle.cep_names.specs.declared.fault.Fault.{Fault}
-use Rattle.cep_names.specs.First.{number, reason_name}
-use Rattle.cep_infer.specs.declared.draft.Refusal.{Refusal}
+use Rattle.cep_refusal.specs.declared.fault.Fault.{Fault}
+use Rattle.cep_refusal.specs.Reasons.{number, reason_name}
+use Rattle.cep_refusal.specs.declared.refusal.Refusal.{Refusal}
 use Rattle.cep_ground.specs.Texts.{Spells}
-use Rattle.cep_ground.specs.Refusals.{IsBuilt, IsRefusedFor, Tells}
+use Rattle.cep_refusal.specs.Told.{Tells}
+use Rattle.cep_ground.specs.Refusals.{IsBuilt, IsRefusedFor}
 use Rattle.cep_play.specs.declared.ending.EndWord.{EndWord}
 use Rattle.cep_play.specs.declared.ending.EndWord.TheVariants.{Quiet, Input, Turns, Offers, Typed, Atom, State}
 use Rattle.cep_play.specs.declared.settings.Settings.{Settings}

@@ -13,7 +13,7 @@ use cep_base::limits::MOST_TEXT;
 use cep_base::{Console, ConsoleFault, Shelf, ShelfFault, Steps, Text};
 use cep_ground::{accept, too_long};
 use cep_ground::laws::{no_program_is_refused, one_program};
-use cep_infer::Refusal;
+use cep_refusal::Refusal;
 use cep_scratch::Scratch;
 use std::alloc::{AllocError, Global};
 use std::sync::ledger::Ledger;

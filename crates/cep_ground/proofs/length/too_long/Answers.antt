@@ -1,7 +1,7 @@
-use Rattle.cep_names.specs.declared.reason.Reason.TheVariants.{TooLong}
-use Rattle.cep_names.specs.Misnamed.{wrong}
+use Rattle.cep_refusal.specs.declared.reason.Reason.TheVariants.{TooLong}
+use Rattle.cep_refusal.specs.First.{wrong}
 use Rattle.cep_ground.proofs.Refused.{refused_too_long}
 use Rattle.cep_ground.proofs.length.too_long.Goals as goal
 
 pub returns : goal.returns
-returns c = λ text long. (wrong TooLong 0, refused_too_long text long, record { reason = c.tell_at_front.ensures.reason; pos = c.tell_at_front.ensures.pos })
+returns c = λ text long. (wrong TooLong 0, refused_too_long text long, record { reason = c.of.ensures.reason; pos = c.of.ensures.pos })
