@@ -3,3 +3,7 @@ pub mod Elements
 pub mod Lists
 pub mod Bytes
 pub mod Holdings
+pub mod Foremost
+pub mod ForemostLoops
+pub mod Entries
+pub mod FirstNamed

@@ -29,11 +29,11 @@ abbrev pub Takes : Option (List ℕ) → Option ℕ → Option (List ℕ) → Ty
 Takes before (Some byte) after = before ≡ option_map (λ rest. byte ∷ rest) after
 Takes before None after = (after ≡ before) × IfSome before (λ bytes. bytes ≡ [])
 
--- Where a console tells its talk and the bytes to come, it went from old to new: some events were added, from the bytes to come then some rest is left, and P holds of these bytes, the events and the rest.
+-- Where a console tells the bytes to come, it went from old to new: some events came, which were added to the talk where that is told; from the bytes to come then some rest is left; and P holds of these bytes, the events and the rest.
 abbrev pub Did : {C : Type 0} → (C → Option (List Event)) → (C → Option (List ℕ)) → C → C → (List ℕ → List Event → List ℕ → Type 0) → Type 0
 Did talk left old new P =
-    (said : List Event) (come : List ℕ) → talk old ≡ Some said → left old ≡ Some come →
-    (events : List Event) × (rest : List ℕ) × (talk new ≡ Some (said ++ events)) × (left new ≡ Some rest) × P come events rest
+    (come : List ℕ) → left old ≡ Some come →
+    (events : List Event) × (rest : List ℕ) × GoesOn (talk old) events (talk new) × (left new ≡ Some rest) × P come events rest
 
 -- `Failed` is answered only where the count of faults rose, and every other answer leaves it as it was.
 abbrev pub ConsoleCause : {T : Type 0} → ℕ → ℕ → Result T ConsoleFault → Type 0

@@ -67,6 +67,9 @@ pub const MOST_TURNS: u32 = 1_000_000;
 /// The most turns of a run where neither the words nor the program say how many.
 pub const DEFAULT_TURNS: u32 = 10_000;
 
+/// The seed of a run where nothing else is asked for.
+pub const DEFAULT_SEED: u64 = 42;
+
 /// The most copies of atoms in a state.
 pub const MOST_COPIES: u64 = 100_000;
 

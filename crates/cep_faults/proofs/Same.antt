@@ -25,19 +25,20 @@ use Rattle.cep_faults.specs.declared.sizes.Size.{Size}
 use Rattle.cep_faults.specs.declared.variables.Seen.{Seen}
 use Rattle.cep_faults.specs.declared.counts.Counted.TheVariants as counted
 use Rattle.cep_names.specs.Items.{Source, ContextItem, ClauseItem, RuleItem, clauses_in, clauses_of, said, preds_in, preds_of, cons_in, cons_of, rules_in, rules_from, rules_of, stages_behind, contexts_of}
-use Rattle.cep_names.specs.Filling.{plain, item_rules}
+use Rattle.cep_parse.specs.Raw.{item_rules, atoms_of}
+use Rattle.cep_names.specs.Filling.{plain}
 use Rattle.cep_names.specs.Misnamed.{is_declared}
 use Rattle.cep_faults.specs.Seen.{met, new_at, blanked, new_in, new_kind, met_kind}
 use Rattle.cep_names.specs.Spaces.{Named, named, names_in, rule_names_from, unlabelled_behind, context_named}
 use Rattle.cep_names.specs.Starts.{nodes_written, listed_in, listed_or, start_atoms}
 use Rattle.cep_names.specs.Tables.{has_name}
-use Rattle.cep_names.specs.Uses.{placed, is_context, atoms_of}
+use Rattle.cep_names.specs.Uses.{placed, is_context}
 use Rattle.cep_names.specs.Variables.{Occurrence, occurrence_at, blanks_behind, occurrences_from, firsts_beside}
 use Rattle.cep_faults.specs.Looks.{Looks, looks_of, says}
 use Rattle.cep_faults.specs.Faults.{place_if, premise_places, atom_places}
 use Rattle.cep_faults.specs.Totals.{places_in, cut, most_counted, written_size, size_or_none, first_size, listed_size, start_size, is_large}
 use Rattle.cep_base.proofs.Members.{map-flat_map}
-use Rattle.cep_faults.proofs.SizeTables.{bytes_eq_sym}
+use Rattle.cep_base.proofs.Bytes.{bytes_eq_sym}
 use Rattle.cep_faults.proofs.SourceLooks.{cons_by_is, clauses_by_is}
 
 abbrev pub atom_at : RawAtom → ℕ

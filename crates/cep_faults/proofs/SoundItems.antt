@@ -9,24 +9,25 @@ use Rattle.cep_parse.specs.declared.raw.RawRule.{RawRule}
 use Rattle.cep_parse.specs.declared.raw.RawItem.{RawItem}
 use Rattle.cep_parse.specs.declared.raw.RawItem.TheVariants as item
 use Rattle.cep_faults.specs.declared.sizes.Size.{Size}
-use Rattle.cep_rule.specs.Limits.{IsTurnLimit}
+use Rattle.cep_base.specs.Bounds.{IsTurnLimit}
 use Rattle.cep_base.specs.declared.limits.TheConstants.{MOST_ARGUMENTS, MOST_BACKS, MOST_CLAUSES, MOST_CONS, MOST_COPIES, MOST_DEPTH, MOST_GOALS, MOST_NODES, MOST_PREDS, MOST_PREMISES, MOST_RIGHT, MOST_RULES, MOST_STATE_NODES, MOST_TURNS, MOST_VARIABLES}
-use Rattle.cep_names.specs.declared.fault.Fault.{Fault}
-use Rattle.cep_names.specs.declared.reason.Reason.TheVariants.{OverLimit, BadQui, TwoTraces}
+use Rattle.cep_refusal.specs.declared.fault.Fault.{Fault}
+use Rattle.cep_refusal.specs.declared.reason.Reason.TheVariants.{OverLimit, BadQui, TwoTraces}
 use Rattle.cep_names.specs.declared.space.Space.TheVariants as space
 use Rattle.cep_faults.specs.declared.counts.Counted.TheVariants as counted
 use Rattle.cep_names.specs.Items.{Source, PredItem, ConItem, ClauseItem, RuleItem, TraceItem, said, cons_in, cons_of, preds_in, preds_of, clauses_in, clauses_of, rules_of, traces_in, traces_of, contexts_of}
-use Rattle.cep_names.specs.Filling.{item_rules}
-use Rattle.cep_names.specs.Misnamed.{Misnamed, IsOver, IsOfState, IsQuiRule, wrong, arguments_of, linear_of, backward_of, is_qui, is_stage}
+use Rattle.cep_parse.specs.Raw.{item_rules, atoms_of, raw_nodes, listed_atoms}
+use Rattle.cep_names.specs.Misnamed.{Misnamed, IsOver, IsOfState, IsQuiRule, arguments_of, linear_of, backward_of, is_qui, is_stage}
+use Rattle.cep_refusal.specs.First.{wrong}
 use Rattle.cep_names.specs.Misnamed.Misnamed.{bad_qui, no_trace, two_traces, over}
 use Rattle.cep_names.specs.Misnamed.IsOfState.{listed, start}
 use Rattle.cep_names.specs.Spaces.{names_in}
 use Rattle.cep_names.specs.Starts.{IsFitWritten, nodes_written, depth_written, start_atoms}
-use Rattle.cep_names.specs.Uses.{Placed, placed, own_uses, con_uses, placed_of, rule_atoms, clause_atoms, atoms_of}
-use Rattle.cep_names.specs.Variables.{variables_of, raw_nodes}
+use Rattle.cep_names.specs.Uses.{Placed, placed, own_uses, con_uses, placed_of, rule_atoms, clause_atoms}
+use Rattle.cep_names.specs.Variables.{variables_of}
 use Rattle.cep_faults.specs.Seen.{unseen, new_in}
 use Rattle.cep_faults.specs.Looks.{looks_of, cons_by, clauses_by}
-use Rattle.cep_faults.specs.Faults.{use_faults, placed_faults, past, places, argument_faults, con_faults, size_faults, rule_faults, clause_faults, premise_places, atom_places, is_qui_rule, qui_faults, is_turn_limit, turns_faults, trace_faults, outers_in, listed_atoms, state_role, state_atoms, item_faults}
+use Rattle.cep_faults.specs.Faults.{use_faults, placed_faults, past, places, argument_faults, con_faults, size_faults, rule_faults, clause_faults, premise_places, atom_places, is_qui_rule, qui_faults, is_turn_limit, turns_faults, trace_faults, outers_in, state_role, state_atoms, item_faults}
 use Rattle.cep_faults.specs.Totals.{variable_faults, item_variable_faults, is_fit, unfit_faults, item_unfit_faults, count_faults, all_count_faults, places_in, first_size, written_size, is_large, start_size, start_faults, traces_faults, all_faults}
 use Rattle.cep_base.proofs.Members.{In, in_nil, in_one, in_same, in_left, in_right, in_parts, through, via, image, mapped, to_contains, got}
 use Rattle.cep_faults.proofs.Parts.{own_use, con_use, own_placed, clause_placed, state_own, rule_own, numbered, outer}

@@ -3,20 +3,20 @@ ghost use Rattle.std.specs.Prelude.{◌≡◌, ◌≤◌};
 ghost use Rattle.std.specs.List.{flat_map};
 ghost use Rattle.std.specs.Char.{digit_value};
 ghost use Rattle.std.specs.Str.Parse.{digits_value};
-ghost use Rattle.cep_names.specs.First.{first_in};
+ghost use Rattle.cep_refusal.specs.First.{first_in};
 ghost use Rattle.cep_faults.specs.Looks.{looks_in};
 ghost use Rattle.cep_names.specs.Uses.{start_uses};
 ghost use Rattle.cep_faults.specs.Faults.{use_faults, argument_faults, con_faults, turns_faults, item_faults, is_turn_limit};
 
-use cep_base::limits::{MOST_ARGUMENTS, MOST_TURNS};
 use crate::atoms::atoms_fault;
-use crate::fitness::start_listed;
 use crate::rules::{
     bare_fault, clause_fault, past, qui_fault, rule_fault, rules_fault, stages_fault,
 };
 use crate::uses::{sorts_fault, use_fault};
-use cep_names::{Fault, Names, Reason, Role, Space, said};
+use cep_base::limits::{MOST_ARGUMENTS, MOST_TURNS};
+use cep_names::{Names, Role, Space, said};
 use cep_parse::{RawItem, RawRule, RawStart, Span, Spans};
+use cep_refusal::{Fault, FirstFault};
 
 // The first argument of a declaration that is one too many.
 fn argument_past(args: &[Span]) -> Option<Fault>
@@ -27,7 +27,7 @@ fn argument_past(args: &[Span]) -> Option<Fault>
 }
 
 // The first fault of a constructor's declaration.
-#[tactic(auto, using(crate::proofs::FirstLoops::first_in_append))]
+#[tactic(auto, using(crate::proofs::Firsts::first_in_append))]
 fn con_fault(names: &Names, text: &[u8], left: Span, args: &[Span], right: Span) -> Option<Fault>
     ensures { result ≡ first_in (con_faults (looks_in text.now names.now) (record { name = left; args = args.now; sort = right })) }
 {
@@ -39,7 +39,7 @@ fn con_fault(names: &Names, text: &[u8], left: Span, args: &[Span], right: Span)
 }
 
 // The first fault of a predicate's declaration.
-#[tactic(auto, using(crate::proofs::FirstLoops::first_in_append))]
+#[tactic(auto, using(crate::proofs::Firsts::first_in_append))]
 fn pred_fault(names: &Names, text: &[u8], name: Span, args: &Spans, back: bool) -> Option<Fault>
     ensures { result ≡ first_in (item_faults (looks_in text.now names.now) (RawItem.Pred name args.now back)) }
 {
@@ -59,7 +59,7 @@ fn colon_fault(names: &Names, text: &[u8], left: Span, args: &Spans, right: Span
 }
 
 // The first fault of a rule outside of stages, but for its variables.
-#[tactic(auto, using(crate::proofs::FirstLoops::first_in_append))]
+#[tactic(auto, using(crate::proofs::Firsts::first_in_append))]
 fn outer_fault(names: &Names, text: &[u8], rule: &RawRule) -> Option<Fault>
     ensures { result ≡ first_in (item_faults (looks_in text.now names.now) (RawItem.Outer rule.now)) }
 {
@@ -118,7 +118,7 @@ fn turns_fault(text: &[u8], limit: Option<Span>) -> Option<Fault>
 }
 
 // The first fault of a trace, but for its number among others and the size of its start state.
-#[tactic(auto, using(crate::proofs::FirstLoops::first_in_append))]
+#[tactic(auto, using(crate::proofs::Firsts::first_in_append))]
 fn trace_fault(
     names: &Names,
     text: &[u8],
@@ -133,7 +133,7 @@ fn trace_fault(
         use_fault(names, text, Space::Stages, stage, 0),
         start_fault(names, text, start),
     );
-    let listed = atoms_fault(names, text, Role::Start, start_listed(start));
+    let listed = atoms_fault(names, text, Role::Start, start.listed());
     let rest = Fault::first_of(listed, turns_fault(text, limit));
     Fault::first_of(uses, rest)
 }
@@ -167,9 +167,9 @@ fn item_fault(names: &Names, text: &[u8], item: &RawItem) -> Option<Fault>
 pub(crate) fn items_fault(names: &Names, text: &[u8], items: &[RawItem]) -> Option<Fault>
     ensures { result ≡ first_in (flat_map (item_faults (looks_in text.now names.now)) items.now) }
 {
-    let mut first = None;
+    let mut first = FirstFault::none();
     for item in items {
-        first = Fault::first_of(first, item_fault(names, text, item));
+        first.note(item_fault(names, text, item));
     }
-    first
+    first.found()
 }

@@ -1,20 +1,20 @@
 // The variables of rules and clauses.
 ghost use Rattle.std.specs.Prelude.{◌≡◌, ◌≤◌, ◌+◌, [], ◌∷◌, ◌++◌, Some, None, not, ◌-◌, if◌then◌else◌, Ok, slice_get, codes, decimal, IfOk, OnOk};
 ghost use Rattle.std.specs.List.{flat_map};
-ghost use Rattle.cep_names.specs.First.{first_in};
+ghost use Rattle.cep_refusal.specs.First.{first_in};
 ghost use Rattle.cep_faults.specs.Faults.{past};
 ghost use Rattle.cep_faults.specs.Looks.{looks_in};
 ghost use Rattle.cep_names.specs.Tables.{has_name};
 ghost use Rattle.cep_faults.specs.Totals.{variable_faults, item_variable_faults};
-ghost use Rattle.cep_names.specs.Uses.{atoms_in, atoms_of};
-ghost use Rattle.cep_names.specs.Variables.{raw_nodes};
+ghost use Rattle.cep_parse.specs.Raw.{atoms_in, atoms_of, raw_nodes};
 ghost use Rattle.cep_faults.specs.Seen.{unseen, met, new_at, blank_name, met_kind, new_kind, met_all, new_in};
 
-use cep_base::limits::MOST_VARIABLES;
 use crate::rules::past;
 use cep_base::Text;
-use cep_names::{Fault, Names, Shape, Table, item_rules, said};
+use cep_base::limits::MOST_VARIABLES;
+use cep_names::{Names, Shape, Table, said};
 use cep_parse::{RawAtom, RawElem, RawItem, RawKind, RawNode, RawRule};
+use cep_refusal::{Fault, FirstFault};
 use std::alloc::{AllocError, Global};
 
 /// The names of the variables that were met so far, their number, and the number of blanks. Each
@@ -127,23 +127,13 @@ impl Seen {
     }
 }
 
-// The nodes of an element that is an atom.
-fn nodes_in(elem: &RawElem) -> &[RawNode]
-    ensures { result.now ≡ raw_nodes (atoms_in elem.now) }
-{
-    match elem {
-        RawElem::Atom { atom, .. } => atom.nodes.as_slice(),
-        RawElem::Qui(_) | RawElem::Stage(_) => &[],
-    }
-}
-
 // The place of the first variable of a side that is one too many.
 fn side_past(alloc: Global, text: &[u8], side: &[RawElem]) -> Result<Option<u32>, AllocError>
     ensures { IfOk result (λ past. past ≡ slice_get (new_in text.now unseen (flat_map (λ elem. raw_nodes (atoms_in elem)) side.now)) MOST_VARIABLES) }
 {
     let mut seen = Seen::new(alloc);
     for elem in side {
-        if let Some(at) = seen.meet_nodes(alloc, text, nodes_in(elem))? {
+        if let Some(at) = seen.meet_nodes(alloc, text, elem.nodes())? {
             return Ok(Some(at));
         }
     }
@@ -161,11 +151,11 @@ fn rule_fault(alloc: Global, text: &[u8], rule: &RawRule) -> Result<Option<Fault
 fn rules_fault(alloc: Global, text: &[u8], rules: &[RawRule]) -> Result<Option<Fault>, AllocError>
     ensures { IfOk result (λ first. first ≡ first_in (flat_map (λ rule. variable_faults text.now (atoms_of rule.left)) rules.now)) }
 {
-    let mut first = None;
+    let mut first = FirstFault::none();
     for rule in rules {
-        first = Fault::first_of(first, rule_fault(alloc, text, rule)?);
+        first.note(rule_fault(alloc, text, rule)?);
     }
-    Ok(first)
+    Ok(first.found())
 }
 
 // The first variable of a clause that is one too many.
@@ -196,7 +186,7 @@ fn item_fault(
 {
     match item {
         RawItem::Clause { head, goals, .. } => clause_fault(alloc, text, head, goals.as_slice()),
-        _ => rules_fault(alloc, text, item_rules(item)),
+        _ => rules_fault(alloc, text, item.rules()),
     }
 }
 
@@ -209,9 +199,9 @@ pub(crate) fn variables_fault(
 ) -> Result<Option<Fault>, AllocError>
     ensures { IfOk result (λ first. first ≡ first_in (flat_map (item_variable_faults (looks_in text.now names.now)) items.now)) }
 {
-    let mut first = None;
+    let mut first = FirstFault::none();
     for item in items {
-        first = Fault::first_of(first, item_fault(alloc, names, text, item)?);
+        first.note(item_fault(alloc, names, text, item)?);
     }
-    Ok(first)
+    Ok(first.found())
 }

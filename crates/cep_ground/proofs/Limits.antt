@@ -3,7 +3,7 @@ use Rattle.std.proofs.Common.{◌≡◌, ◌⊎◌, inl, inr, ⊎_elim, ℕ, zer
 use Rattle.std.specs.Prelude.{Some, slice_get, cond}
 use Rattle.std.specs.List.{AllByRecursion}
 use Rattle.cep_parse.specs.declared.raw.RawAtom.{RawAtom}
-use Rattle.cep_names.specs.Variables.{raw_nodes}
+use Rattle.cep_parse.specs.Raw.{raw_nodes}
 use Rattle.cep_base.proofs.Elements.{contains_first, contains_behind, contains_cases}
 
 -- where nothing stands at a place, there are not more

@@ -3,11 +3,13 @@
 
 mod accepting;
 pub mod laws;
+mod length;
 mod places;
 mod refusals;
 mod sealing;
 
 pub use accepting::accept;
+pub use length::too_long;
 
 #[cfg(test)]
 mod acceptance_tests;

@@ -12,11 +12,11 @@ use Rattle.cep_rule.specs.Patterns.{PremiseTree}
 use Rattle.cep_names.specs.declared.space.Space.TheVariants as space
 use Rattle.cep_names.specs.Items.{Source, RuleItem, said}
 use Rattle.cep_names.specs.Spaces.{Named, rule_name, unlabelled_behind, rule_names_from}
-use Rattle.cep_names.specs.Uses.{atoms_of}
-use Rattle.cep_names.specs.Variables.{raw_nodes}
+use Rattle.cep_parse.specs.Raw.{atoms_of, raw_nodes}
 use Rattle.cep_types.specs.declared.variables.Variables.{Variables}
 use Rattle.cep_types.specs.Sites.{rule_scope}
-use Rattle.cep_types.specs.Heads.{AreAtomsBy, blanks_after, number_of}
+use Rattle.cep_infer.specs.Heads.{AreAtomsBy}
+use Rattle.cep_types.specs.Heads.{blanks_after, number_of}
 use Rattle.cep_types.specs.Met.{AreMet, none_met, names_seen, kinds_met}
 use Rattle.cep_infer.specs.declared.left.LeftSide.{LeftSide}
 use Rattle.cep_infer.specs.declared.listing.RuleRef.{RuleRef}

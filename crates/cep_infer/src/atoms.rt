@@ -1,6 +1,6 @@
 // Atoms of one side, one clause or one state, one after another.
 ghost use Rattle.std.specs.Prelude.{◌≡◌, ◌∷◌, [], OnOk};
-ghost use Rattle.cep_names.specs.Uses.{atoms_in, atoms_of};
+ghost use Rattle.cep_parse.specs.Raw.{atoms_in, atoms_of};
 ghost use Rattle.cep_types.specs.Met.{names_seen};
 ghost use Rattle.cep_infer.specs.Built.{AreBuilt};
 
@@ -49,9 +49,9 @@ fn push_elem(
 ) -> Result<(), AllocError>
     ensures { OnOk result (AreBuilt declared.now (names_seen variables.now.firsts) (atoms_in elem.now) blanks.old blanks.new atoms.old atoms.new) }
 {
-    match elem {
-        RawElem::Atom { atom, .. } => push_atom(declared, variables, atom, blanks, atoms),
-        RawElem::Qui(_) | RawElem::Stage(_) => Ok(()),
+    match elem.atom() {
+        Some(atom) => push_atom(declared, variables, atom, blanks, atoms),
+        None => Ok(()),
     }
 }
 

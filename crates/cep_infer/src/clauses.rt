@@ -2,7 +2,7 @@
 ghost use Rattle.std.specs.Prelude.{◌≡◌, ◌++◌, ◌∷◌, [], map, option_to_list, List, IfOk, OnOk};
 ghost use Rattle.cep_names.specs.Items.{clauses_in, clauses_of};
 ghost use Rattle.cep_rule.specs.Patterns.{ClauseTree, clause_of};
-ghost use Rattle.cep_types.specs.Heads.{AreAtomsBy};
+ghost use Rattle.cep_infer.specs.Heads.{AreAtomsBy};
 ghost use Rattle.cep_types.specs.Met.{names_seen};
 ghost use Rattle.cep_infer.specs.Meaning.{IsClauseBy, AreClausesBy};
 
@@ -16,9 +16,7 @@ use std::alloc::AllocError;
 fn clause(declared: &Declarations, head: &RawAtom, goals: &[RawAtom]) -> Result<Clause, AllocError>
     ensures { IfOk result (λ clause. IsClauseBy declared.now (record { head = head.now; goals = goals.now }) (clause_of clause)) }
 {
-    let mut variables = Variables::new(declared.alloc());
-    variables.meet_atom(declared, head)?;
-    variables.meet_atoms(declared, goals)?;
+    let variables = Variables::of_clause(declared, head, goals)?;
     let mut blanks = 0;
     let head = read_atom(declared, &variables, &mut blanks, head)?;
     let mut atoms = AtomList::new(declared.alloc());

@@ -3,8 +3,8 @@ ghost use Rattle.std.specs.Prelude.{◌≡◌, ◌≤◌, ◌+◌, ◌++◌, ◌
 ghost use Rattle.cep_lex.specs.Places.{IsPlaceBehind};
 ghost use Rattle.cep_names.specs.Misnamed.{is_declared};
 ghost use Rattle.cep_names.specs.Spaces.{back_of};
-ghost use Rattle.cep_names.specs.Uses.{atoms_in, atoms_of};
-ghost use Rattle.cep_names.specs.Variables.{raw_nodes, occurrence_at, occurrences_from};
+ghost use Rattle.cep_parse.specs.Raw.{atoms_in, atoms_of, raw_nodes};
+ghost use Rattle.cep_names.specs.Variables.{occurrence_at, occurrences_from};
 ghost use Rattle.cep_types.specs.Heads.{blanks_after};
 ghost use Rattle.cep_types.specs.Met.{is_met};
 ghost use Rattle.cep_infer.specs.Places.{IsReached, ArePlaces, ArePlaceLists, backs_at, unbound_at};
@@ -118,8 +118,8 @@ fn is_backward(declared: &Declarations, atom: &RawAtom) -> bool
 fn back_at(declared: &Declarations, elem: &RawElem) -> Option<u32>
     ensures { option_to_list result ≡ map (λ atom. atom.name.from) (filter (λ atom. is_declared true (back_of declared.now atom)) (atoms_in elem.now)) }
 {
-    match elem {
-        RawElem::Atom { atom, .. } if is_backward(declared, atom) => Some(atom.name.from),
+    match elem.atom() {
+        Some(atom) if is_backward(declared, atom) => Some(atom.name.from),
         _ => None,
     }
 }
@@ -201,7 +201,7 @@ fn unbound_in(
     let mut blanks = left.blanks;
     let mut ats = Vec::new(declared.alloc());
     for elem in side {
-        push_unbound(declared, left, &mut blanks, nodes_in(elem), &mut ats)?;
+        push_unbound(declared, left, &mut blanks, elem.nodes(), &mut ats)?;
     }
     Ok(ats)
 }
@@ -245,14 +245,4 @@ pub(crate) fn right_places(
         lists.push(place_all(declared.alloc(), declared.text(), &mut reached, &ats)?)?;
     }
     Ok(lists)
-}
-
-// The nodes of an element that is an atom.
-fn nodes_in(elem: &RawElem) -> &[RawNode]
-    ensures { result.now ≡ raw_nodes (atoms_in elem.now) }
-{
-    match elem {
-        RawElem::Atom { atom, .. } => atom.nodes.as_slice(),
-        RawElem::Qui(_) | RawElem::Stage(_) => &[],
-    }
 }

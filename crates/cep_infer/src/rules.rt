@@ -1,9 +1,9 @@
 // The rules of a text.
 ghost use Rattle.std.specs.Prelude.{◌≡◌, ◌++◌, ◌∷◌, [], map, IfOk, OnOk, option_to_list};
 ghost use Rattle.cep_names.specs.Spaces.{rule_name, rule_names_from, unlabelled_behind};
-ghost use Rattle.cep_names.specs.Uses.{atoms_of};
-ghost use Rattle.cep_names.specs.Variables.{raw_nodes};
-ghost use Rattle.cep_types.specs.Heads.{AreAtomsBy, blanks_after};
+ghost use Rattle.cep_parse.specs.Raw.{atoms_of, raw_nodes};
+ghost use Rattle.cep_infer.specs.Heads.{AreAtomsBy};
+ghost use Rattle.cep_types.specs.Heads.{blanks_after};
 ghost use Rattle.cep_types.specs.Met.{none_met, AreMet, names_seen, kinds_met};
 ghost use Rattle.cep_types.specs.Sites.{rule_scope};
 ghost use Rattle.cep_infer.specs.Meaning.{AreRulesBy, IsRuleBy, stages_in_elem, stage_named, group_of, next_of};
@@ -15,7 +15,7 @@ use crate::listing::RuleRef;
 use crate::signature::name;
 use cep_base::{Name, Text};
 use cep_names::Space;
-use cep_parse::{RawElem, RawRule, Span};
+use cep_parse::{RawElem, Span};
 use cep_rule::{AtomList, Rule, Rules};
 use cep_types::{Declarations, Variables};
 use std::alloc::AllocError;
@@ -101,16 +101,6 @@ fn rule_name(
     Name::new(declared.alloc(), name.bytes())
 }
 
-// The variables of a rule.
-fn rule_variables(declared: &Declarations, raw: &RawRule) -> Result<Variables, AllocError>
-    ensures { IfOk result (λ variables. AreMet declared.now (atoms_of raw.now.left ++ atoms_of raw.now.right) none_met variables) }
-{
-    let mut variables = Variables::new(declared.alloc());
-    variables.meet_side(declared, raw.left.as_slice())?;
-    variables.meet_side(declared, raw.right.as_slice())?;
-    Ok(variables)
-}
-
 // A rule with these variables and atoms.
 fn rule_from(
     declared: &Declarations,
@@ -176,7 +166,7 @@ fn rule_of(
 fn rule(declared: &Declarations, unlabelled: u64, item: &RuleRef) -> Result<Rule, AllocError>
     ensures { IfOk result (λ rule. IsRuleBy declared.now (rule_name declared.now unlabelled item.now.raw.now.label) (rule_item item.now) rule) }
 {
-    let variables = rule_variables(declared, item.raw)?;
+    let variables = Variables::of_rule(declared, item.raw)?;
     rule_of(declared, &variables, unlabelled, item)
 }
 

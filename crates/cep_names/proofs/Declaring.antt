@@ -12,7 +12,8 @@ use Rattle.cep_names.specs.declared.space.Space.{Space}
 use Rattle.cep_names.specs.declared.space.Space.TheVariants.{Sorts, Constructors, Predicates, Stages, Contexts, Rules}
 use Rattle.cep_names.specs.Items.{Source, PredItem, ConItem, RuleItem, ContextItem, sorts_in, sorts_of, preds_in, preds_of, con_or_none, cons_in, cons_of, stages_in, stages_of, contexts_in, contexts_of, rules_in, rules_from, rules_of, stages_behind, is_labelled}
 use Rattle.cep_names.specs.Spaces.{Named, names_in, rule_names_from, unlabelled_behind}
-use Rattle.cep_names.specs.Filling.{Declaration, plain, declaration, basics_in, con_unless, others_in, item_rules, rule_declaration, rules_in_turn}
+use Rattle.cep_parse.specs.Raw.{item_rules}
+use Rattle.cep_names.specs.Filling.{Declaration, plain, declaration, basics_in, con_unless, others_in, rule_declaration, rules_in_turn}
 use Rattle.cep_names.proofs.Growing.{same, in_space}
 
 -- ---- parts of lists

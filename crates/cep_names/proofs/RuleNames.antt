@@ -7,7 +7,8 @@ use Rattle.cep_parse.specs.declared.raw.RawRule.{RawRule}
 use Rattle.cep_parse.specs.declared.raw.RawItem.{RawItem}
 use Rattle.cep_names.specs.declared.entries.Tabled.{Tabled}
 use Rattle.cep_names.specs.Spaces.{unlabelled_behind}
-use Rattle.cep_names.specs.Filling.{Declaration, declared, all_declared, item_rules, rule_declaration, rules_in_turn, unlabelled_after}
+use Rattle.cep_parse.specs.Raw.{item_rules}
+use Rattle.cep_names.specs.Filling.{Declaration, declared, all_declared, rule_declaration, rules_in_turn, unlabelled_after}
 
 in_turn-append : (text : List ℕ) (n : ℕ) (rules more : List RawRule) → rules_in_turn text n (rules ++ more) ≡ rules_in_turn text n rules ++ rules_in_turn text (unlabelled_after n rules) more
 in_turn-append text n [] more = refl

@@ -7,6 +7,7 @@ use Rattle.cep_parse.specs.declared.raw.RawKind.{RawKind}
 use Rattle.cep_parse.specs.declared.raw.RawKind.TheVariants as kind
 use Rattle.cep_parse.specs.declared.raw.RawNode.{RawNode}
 use Rattle.cep_parse.specs.declared.raw.RawAtom.{RawAtom}
+use Rattle.cep_parse.specs.Raw.{raw_nodes}
 use Rattle.cep_names.specs.Items.{Source, said}
 
 -- An occurrence of a variable, or of a `_`, which is a variable of its own.
@@ -23,17 +24,14 @@ occurrence_at source blanks span kind.App = []
 -- how many blanks there are behind a node, where there were so many before it
 abbrev pub blanks_behind : ℕ → RawKind → ℕ
 blanks_behind blanks kind.Blank = blanks + 1
-blanks_behind blanks _ = blanks
+blanks_behind blanks kind.Var = blanks
+blanks_behind blanks kind.App = blanks
 
 -- the occurrences among nodes in written order, where so many blanks stand before them
 abbrev pub occurrences_from : Source → ℕ → List RawNode → List Occurrence
 occurrences_from source blanks [] = []
 occurrences_from source blanks (node ∷ nodes) =
     occurrence_at source blanks node.at node.kind ++ occurrences_from source (blanks_behind blanks node.kind) nodes
-
--- the nodes of atoms, one after another
-abbrev pub raw_nodes : List RawAtom → List RawNode
-raw_nodes atoms = flat_map (λ atom. atom.nodes) atoms
 
 -- the occurrences of the variables of atoms in written order
 abbrev pub occurrences_of : Source → List RawAtom → List Occurrence

@@ -1,21 +1,20 @@
 ghost use Rattle.std.specs.Prelude.{◌≡◌, ◌+◌, ◌++◌, codes, decimal, IfOk, OnOk, None};
 ghost use Rattle.std.specs.List.{flat_map};
-ghost use Rattle.cep_names.specs.First.{IsFirstOrNone};
-ghost use Rattle.cep_names.specs.Filling.{all_declared, basics_in, declared, item_rules, others_in, plain, rule_declaration, rules_in_turn, unlabelled_after};
+ghost use Rattle.cep_refusal.specs.First.{IsFirstOrNone};
+ghost use Rattle.cep_parse.specs.Raw.{item_rules};
+ghost use Rattle.cep_names.specs.Filling.{all_declared, basics_in, declared, others_in, plain, rule_declaration, rules_in_turn, unlabelled_after};
 ghost use Rattle.cep_names.specs.Misnamed.{IsTwice};
 ghost use Rattle.cep_names.specs.Spaces.{unlabelled_behind};
 ghost use Rattle.cep_names.specs.Tables.{AreTablesOf, AreWhole, is_labelled_in};
 
-use crate::fault::Fault;
 use crate::names::Names;
-use crate::reason::Reason;
 use crate::space::Space;
 use crate::table::Shape;
 use crate::text::said;
 use cep_base::Text;
 use cep_parse::{RawFile, RawItem, RawRule, Span};
+use cep_refusal::{Fault, Reason};
 use std::alloc::{AllocError, Global};
-use std::slice;
 
 /// The names of a text, and the first of the names that are declared again.
 #[derive(Drop)]
@@ -168,7 +167,7 @@ impl Tabled {
     {
         let mut unlabelled = 0;
         for item in file.as_slice() {
-            unlabelled = self.declare_rules(alloc, text, item_rules(item), unlabelled)?;
+            unlabelled = self.declare_rules(alloc, text, item.rules(), unlabelled)?;
         }
         Ok(())
     }
@@ -192,18 +191,6 @@ impl Names {
         tabled.declare_others(text, file)?;
         tabled.declare_all_rules(alloc, text, file)?;
         Ok(tabled)
-    }
-}
-
-/// The rules of an item, for what passes over the rules of a file: one outside of stages, or those
-/// of a stage.
-pub fn item_rules(item: &RawItem) -> &[RawRule]
-    ensures { result.now ≡ item_rules item.now }
-{
-    match item {
-        RawItem::Outer(rule) => slice::from_ref(rule),
-        RawItem::Stage { rules, .. } => rules.as_slice(),
-        _ => &[],
     }
 }
 

@@ -27,7 +27,7 @@ use Rattle.cep_parse.specs.Grammar.Args.{no_args, more_args}
 use Rattle.cep_parse.specs.Grammar.Atom.{atom}
 use Rattle.cep_parse.specs.Grammar.Elem.{atom as elem_atom, stage as elem_stage}
 use Rattle.cep_parse.specs.Grammar.Sides.{sides}
-use Rattle.cep_parse.specs.Grammar.Label.{none as no_label, names_begun as a_label}
+use Rattle.cep_parse.specs.Grammar.Label.{none as no_label, named as a_label}
 use Rattle.cep_parse.specs.Grammar.Limit.{blank as blank_limit, number as number_limit}
 use Rattle.cep_parse.specs.Grammar.Item.{sort, pred, back as back_pred, colon, bare_clause, labelled as labelled_item, clause, outer, unnamed, stage as stage_item, context, interactive, trace_named, trace_listed}
 use Rattle.cep_parse.specs.Machine.{atom_of_names, begin, behind_blank, context_equals, context_begun, context_word, head_alone, interactive_word, labelled, names_begun, stage_equals, stage_begun, stage_word, step, step_declared, step_names, step_plain, trace_limit, trace_stage, trace_word}

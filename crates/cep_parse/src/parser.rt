@@ -4,12 +4,12 @@ ghost use Rattle.cep_lex.specs.Cuts.{AreTokens};
 ghost use Rattle.cep_parse.specs.Files.{IsParsed, open_behind};
 ghost use Rattle.cep_parse.specs.Machine.{is_within, moved, state_behind, step};
 
-use cep_base::limits::{MOST_OPEN, MOST_TEXT};
 use crate::fault::ParseFault;
 use crate::raw::RawFile;
 use crate::state::{Next, Plain, State};
 use crate::steps::step;
 use crate::symbol::{Symbol, Word, symbol_of};
+use cep_base::limits::{MOST_OPEN, MOST_TEXT};
 use cep_lex::Tokens;
 use std::alloc::{AllocError, Global};
 

@@ -1,4 +1,8 @@
+ghost use Rattle.std.specs.Prelude.{◌≡◌, [], ◌∷◌, MatchOption};
+ghost use Rattle.cep_parse.specs.Raw.{raw_nodes, atoms_in, item_rules, start_listed, listed_atoms};
+
 use cep_base::List;
+use std::slice;
 
 /// Bytes of the text, from a place up to another.
 #[derive(Clone, Copy, Debug, PartialEq, Eq)]
@@ -40,6 +44,28 @@ pub enum RawElem {
     Stage(Span),
 }
 
+impl RawElem {
+    /// The atom that it is, if it is one.
+    pub fn atom(&self) -> Option<&RawAtom>
+        ensures { MatchOption result (atoms_in self.now ≡ []) (λ atom. atoms_in self.now ≡ atom.now ∷ []) }
+    {
+        match self {
+            RawElem::Atom { atom, .. } => Some(atom),
+            RawElem::Qui(_) | RawElem::Stage(_) => None,
+        }
+    }
+
+    /// The nodes of the atom that it is, if it is one.
+    pub fn nodes(&self) -> &[RawNode]
+        ensures { result.now ≡ raw_nodes (atoms_in self.now) }
+    {
+        match self {
+            RawElem::Atom { atom, .. } => atom.nodes.as_slice(),
+            RawElem::Qui(_) | RawElem::Stage(_) => &[],
+        }
+    }
+}
+
 /// A rule: the place of its first token, its label, and its sides.
 #[derive(Debug, Drop)]
 pub struct RawRule {
@@ -54,6 +80,18 @@ pub struct RawRule {
 pub enum RawStart {
     Named(Span),
     Listed(RawAtoms),
+}
+
+impl RawStart {
+    /// The atoms that it lists.
+    pub fn listed(&self) -> &[RawAtom]
+        ensures { result.now ≡ start_listed self.now }
+    {
+        match self {
+            RawStart::Named(_) => &[],
+            RawStart::Listed(atoms) => atoms.as_slice(),
+        }
+    }
 }
 
 /// An item of a file. `Colon` is `x a : y.`, a constructor or a clause with a label: which of the
@@ -96,6 +134,30 @@ pub enum RawItem {
         stage: Span,
         start: RawStart,
     },
+}
+
+impl RawItem {
+    /// Its rules: one outside of stages, or those of a stage.
+    pub fn rules(&self) -> &[RawRule]
+        ensures { result.now ≡ item_rules self.now }
+    {
+        match self {
+            RawItem::Outer(rule) => slice::from_ref(rule),
+            RawItem::Stage { rules, .. } => rules.as_slice(),
+            _ => &[],
+        }
+    }
+
+    /// The atoms that it lists, as a context or a trace does.
+    pub fn listed(&self) -> &[RawAtom]
+        ensures { result.now ≡ listed_atoms self.now }
+    {
+        match self {
+            RawItem::Context { atoms, .. } => atoms.as_slice(),
+            RawItem::Trace { start, .. } => start.listed(),
+            _ => &[],
+        }
+    }
 }
 
 pub type Spans = List<Span>;

@@ -1,5 +1,5 @@
-use cep_base::limits::MOST_TEXT;
 use crate::{ParseFault, RawAtom, RawElem, RawItem, RawKind, RawRule, RawStart, Span, parse};
+use cep_base::limits::MOST_TEXT;
 use cep_lex::{lex, place};
 use std::alloc::Global;
 use std::test::Fail;

@@ -1,19 +1,29 @@
 -- What the statuses of the command say.
-use Rattle.std.proofs.Common.{◌≡◌, ℕ, ◌≤◌, List, [], ◌∷◌, length, get_or, refl, sym, subst, inl, inr, lit<, arith, Option, None, Some}
-use Rattle.std.specs.Prelude.{Contains}
+use Rattle.std.proofs.Common.{◌≡◌, ℕ, ◌+◌, ◌<◌, ◌≤◌, List, [], ◌∷◌, length, get_or, refl, sym, ◌∙◌, ap, subst, inl, inr, lit<, arith, Option, None, Some}
+use Rattle.std.specs.Prelude.{Contains, replicate}
 use Rattle.std.specs.Option.{IsSomeAnd}
+use Rattle.std.specs.List.{AllByRecursion}
+use Rattle.cep_base.specs.declared.limits.TheConstants.{MOST_TEXT}
 use Rattle.cep_base.specs.declared.console.Event.{Event}
-use Rattle.cep_base.specs.Files.{Files, HasFile}
+use Rattle.cep_base.specs.Files.{Files, HasFile, HasLongerFile}
+use Rattle.cep_rule.specs.declared.rule.Rule.{Rule}
+use Rattle.cep_rule.specs.declared.parts.Parts.{Parts}
+use Rattle.cep_refusal.specs.declared.refusal.Refusal.{Refusal}
+use Rattle.cep_refusal.specs.declared.fault.Fault.{Fault}
+use Rattle.cep_ground.specs.Texts.{Spells}
+use Rattle.cep_ground.specs.Refusals.{IsPlainRule, IsBuilt, IsWrong, IsAccepted}
+use Rattle.std.specs.Prelude.{Err}
 use Rattle.cep_play.specs.declared.command.Status.{Status}
 use Rattle.cep_play.specs.declared.command.Status.TheVariants.{Ended, Usage, Refused, Limited, Console, Unread, Memory}
-use Rattle.cep_play.specs.declared.dialogue.EndWord.{EndWord}
-use Rattle.cep_play.specs.declared.dialogue.EndWord.TheVariants.{Quiet, Input, Turns, Offers, Typed, Atom, State}
-use Rattle.cep_rule.specs.declared.parts.Parts.{Parts}
-use Rattle.cep_ground.specs.Texts.{Spells}
-use Rattle.cep_ground.specs.Refusals.{IsBuilt}
-use Rattle.cep_base.specs.declared.limits.TheConstants.{MOST_TEXT}
-use Rattle.cep_play.specs.Command.{Says, OfFile, OfText, OfRun, OfWords, IsNoForm, Writes, usage, code_of, status_of}
+use Rattle.cep_play.specs.declared.ending.EndWord.{EndWord}
+use Rattle.cep_play.specs.declared.ending.EndWord.TheVariants.{Quiet, Input, Turns, Offers, Typed, Atom, State}
+use Rattle.cep_play.specs.declared.settings.Settings.{Settings}
+use Rattle.cep_play.specs.Run.{Turn, Ending}
+use Rattle.cep_play.specs.Dialogue.{Dialogue}
+use Rattle.cep_play.specs.Command.{settings_of, IsSaid, Says, OfFile, HaveNoForm, Writes, Refuses, refusal_text, usage}
+use Rattle.cep_play.specs.Outcome.{OfText, OfRun, OfWords, code_of, status_of}
 use Rattle.cep_play.proofs.Did.{did_map}
+use Rattle.cep_play.proofs.Runs.{IsTold}
 
 -- a slice of two items
 pub two_items : {X : Type 0} (items : List X) (one other : X) → 2 ≤ length items → length items ≤ 2 → one ≡ get_or items 0 one → other ≡ get_or items 1 other → items ≡ one ∷ other ∷ []
@@ -22,35 +32,84 @@ two_items (a ∷ []) one other least most e f = absurd (omega arith)
 two_items (a ∷ b ∷ []) one other least most e f = cc
 two_items (a ∷ b ∷ d ∷ more) one other least most e f = absurd (omega arith)
 
--- where the files are told, what holds of the bytes holds of the file's
-pub of_file : (files : Option Files) (name bytes : List ℕ) (P : List ℕ → Type 0) → HasFile files name bytes → P bytes → OfFile files name P
-of_file None name bytes P has holds = tt
-of_file (Some file) name bytes P has holds = subst (λ o. IsSomeAnd o P) (sym has) holds
+-- no rule of a program that can be played has a backward premise
+no_backs : (rules : List Rule) → AllByRecursion IsPlainRule rules → AllByRecursion (λ rule. rule.backs ≡ []) rules
+no_backs [] plain = tt
+no_backs (rule ∷ rules) plain = (plain.0.backs, no_backs rules plain.1)
+
+-- that one dialogue is there, told for any two
+abbrev pub IsOneDialogue : Type 0
+IsOneDialogue =
+    (program : Parts) (settings : Settings) (come : List ℕ) (turns turns' : List Turn) (ending ending' : Ending) (events events' : List Event) (rest rest' : List ℕ)
+    → AllByRecursion (λ rule. rule.backs ≡ []) program.rules
+    → Dialogue program settings come turns ending events rest → Dialogue program settings come turns' ending' events' rest'
+    → (events ≡ events') × (ending ≡ ending') × (rest ≡ rest')
+
+-- what is told is what is said, and what is typed allows no other
+pub is_said : (program : Parts) (settings : Settings) (word : EndWord) → IsOneDialogue → IsBuilt program → settings ≡ settings_of program → (come : List ℕ) (events : List Event) (rest : List ℕ) → IsTold program settings word come events rest → IsSaid program (λ end. end ≡ word) come events rest
+is_said program settings word one built same come events rest told =
+    let dialogue = subst (λ s. Dialogue program s come told.turns told.ending events rest) same told.dialogue in
+    record {
+      turns = told.turns;
+      ending = told.ending;
+      dialogue = dialogue;
+      word = told.word_is;
+      only = λ turns' ending' events' rest' other. one program (settings_of program) come turns' told.turns ending' told.ending events' events rest' rest (no_backs program.rules built.rules) other dialogue;
+    }
 
 module _ {C : Type 0} (talk : C → Option (List Event)) (left : C → Option (List ℕ)) (old new : C) where
   says_word : (program : Parts) (word : EndWord) (P : EndWord → Type 0) → P word → Says talk left old new program (λ end. end ≡ word) → Says talk left old new program P
   says_word program word P holds says =
-      did_map talk left old new _ _ (λ come events rest d. (d.0, d.1, subst P (sym d.2) holds)) says
+      did_map talk left old new _ _ (λ come events rest said. record { turns = said.turns; ending = said.ending; dialogue = said.dialogue; word = subst P (sym said.word) holds; only = said.only }) says
 
   -- a played text
-  pub text_played : (text : List ℕ) (program : Parts) (word : EndWord) → Spells text program → IsBuilt program → Says talk left old new program (λ end. end ≡ word) → OfText talk left old new text (status_of word)
-  text_played text program Quiet spells built says = (program, spells, built, says_word program Quiet _ (inl refl) says)
-  text_played text program Input spells built says = (program, spells, built, says_word program Input _ (inr refl) says)
-  text_played text program Turns spells built says = (program, spells, built, says_word program Turns _ (inl refl) says)
-  text_played text program Offers spells built says = (program, spells, built, says_word program Offers _ (inr (inl refl)) says)
-  text_played text program Typed spells built says = (program, spells, built, says_word program Typed _ (inr (inr (inl refl))) says)
-  text_played text program Atom spells built says = (program, spells, built, says_word program Atom _ (inr (inr (inr (inl refl)))) says)
-  text_played text program State spells built says = (program, spells, built, says_word program State _ (inr (inr (inr (inr refl)))) says)
+  pub text_played : (text : List ℕ) (program : Parts) (word : EndWord) → ((one other : Parts) → Spells text one → Spells text other → one ≡ other) → Spells text program → IsBuilt program → Says talk left old new program (λ end. end ≡ word) → OfText talk left old new text (status_of word)
+  text_played text program word one spells built says = by word says where
+    only : (other : Parts) → Spells text other → other ≡ program
+    only other is = one other program is spells
+
+    by : (end : EndWord) → Says talk left old new program (λ w. w ≡ end) → OfText talk left old new text (status_of end)
+    by Quiet said = record { program = program; spells = spells; built = built; only = only; says = says_word program Quiet _ (inl refl) said }
+    by Input said = record { program = program; spells = spells; built = built; only = only; says = says_word program Input _ (inr refl) said }
+    by Turns said = record { program = program; spells = spells; built = built; only = only; says = says_word program Turns _ (inl refl) said }
+    by Offers said = record { program = program; spells = spells; built = built; only = only; says = says_word program Offers _ (inr (inl refl)) said }
+    by Typed said = record { program = program; spells = spells; built = built; only = only; says = says_word program Typed _ (inr (inr (inl refl))) said }
+    by Atom said = record { program = program; spells = spells; built = built; only = only; says = says_word program Atom _ (inr (inr (inr (inl refl)))) said }
+    by State said = record { program = program; spells = spells; built = built; only = only; says = says_word program State _ (inr (inr (inr (inr refl)))) said }
+
+  -- a refused text
+  pub text_refused : (text : List ℕ) (refusal : Refusal) → ((text : List ℕ) (parts : Parts) (fault : Fault) → Spells text parts → IsBuilt parts → ¬ (IsWrong text fault)) → IsAccepted text (Err refusal) → Writes talk left old new (refusal_text refusal) → Refuses talk left old new text
+  text_refused text refusal never refused writes = record {
+    fault = refused.0;
+    refusal = refusal;
+    refused = refused.1;
+    tells = refused.2;
+    no_program = λ program spells built. never text program refused.0 spells built refused.1.holds;
+    writes = writes;
+  }
 
   -- a file's text
-  pub file_read : (files : Option Files) (name text : List ℕ) (status : Status) → HasFile files name text → length text ≤ MOST_TEXT → OfText talk left old new text status → OfRun talk left old new files name status
-  file_read files name text Ended has short of = of_file files name text _ has of
-  file_read files name text Limited has short of = of_file files name text _ has of
-  file_read files name text Refused has short of = inr (of_file files name text _ has (short, of))
-  file_read files name text Usage has short of = of
-  file_read files name text Console has short of = of
-  file_read files name text Unread has short of = absurd of
-  file_read files name text Memory has short of = of
+  pub file_read : (files : Option Files) (name text : List ℕ) (status : Status) → HasFile files name text → OfText talk left old new text status → OfRun talk left old new files name status
+  file_read files name text Ended has of = (text, has, of)
+  file_read files name text Limited has of = (text, has, of)
+  file_read files name text Refused has of = (text, has, of)
+  file_read files name text Usage has of = of
+  file_read files name text Console has of = of
+  file_read files name text Unread has of = absurd of
+  file_read files name text Memory has of = of
+
+-- a text that is too long, for a shelf that tells none
+long_text : (n : ℕ) → (text : List ℕ) × (n < length text)
+long_text n = (replicate (n + 1) 0, simp length-replicate (omega arith))
+
+long_there : (found : Option (List ℕ)) (most : ℕ) → IsSomeAnd found (λ bytes. most < length bytes) → (text : List ℕ) × (found ≡ Some text) × (most < length text)
+long_there None most is = absurd is
+long_there (Some text) most is = (text, refl, is)
+
+-- some text of the file is too long: the one that is there, where the files are told
+pub longer_file : (files : Option Files) (name : List ℕ) (most : ℕ) → HasLongerFile files name most → (text : List ℕ) × HasFile files name text × (most < length text)
+longer_file None name most has = let some = long_text most in (some.0, tt, some.1)
+longer_file (Some file) name most has = long_there (file name) most has
 
 -- each status is one of these numbers
 pub code_among : (status : Status) → Contains (0 ∷ 2 ∷ 3 ∷ 4 ∷ 6 ∷ 7 ∷ 9 ∷ []) (code_of status)
@@ -63,7 +122,7 @@ code_among Unread = (5, lit< tt, refl)
 code_among Memory = (6, lit< tt, refl)
 
 -- only words without a form have the status of the usage line
-pub usage_from_code : {C : Type 0} (talk : C → Option (List Event)) (left : C → Option (List ℕ)) (old new : C) (files : Option Files) (words : List (List ℕ)) (status : Status) → code_of status ≡ 2 → OfWords talk left old new files words status → IsNoForm words × Writes talk left old new usage
+pub usage_from_code : {C : Type 0} (talk : C → Option (List Event)) (left : C → Option (List ℕ)) (old new : C) (files : Option Files) (words : List (List ℕ)) (status : Status) → code_of status ≡ 2 → OfWords talk left old new files words status → HaveNoForm words × Writes talk left old new usage
 usage_from_code talk left old new files words Usage e of = of
 usage_from_code talk left old new files words Ended e of = absurd (omega arith)
 usage_from_code talk left old new files words Refused e of = absurd (omega arith)

@@ -7,5 +7,7 @@ pub mod OneReading
 pub mod States
 pub mod Turns
 pub mod Runs
-pub mod OneTalk
+pub mod OneRun
+pub mod OneDialogue
+pub mod TurnSteps
 pub mod Commands

@@ -1,68 +1,117 @@
--- Turn after turn, what was said so far begins a talk.
-use Rattle.std.proofs.Common.{◌≡◌, ℕ, ◌<◌, List, [], ◌++◌, refl, sym, ap, subst, append_assoc}
+-- Turn after turn, what was said so far is the events of the turns that are done.
+use Rattle.std.proofs.Common.{◌≡◌, ℕ, List, [], ◌∷◌, ◌++◌, refl, sym, ap, ◌∙◌, subst, append_assoc, None}
+use Rattle.std.specs.List.{flat_map}
+use Rattle.std.proofs.lemmas.Grind.{flat_map-append}
+use Rattle.std.proofs.lemmas.List.{append-nil}
 use Rattle.cep_base.specs.declared.console.Event.{Event}
 use Rattle.cep_base.specs.Talk.{outs}
 use Rattle.cep_rule.specs.declared.parts.Parts.{Parts}
 use Rattle.cep_rule.specs.Stages.{IsAsked, IsQuiet}
-use Rattle.cep_play.specs.declared.dialogue.EndWord.{EndWord}
-use Rattle.cep_play.specs.declared.dialogue.EndWord.TheVariants.{Quiet, Turns}
+use Rattle.cep_play.specs.declared.ending.EndWord.{EndWord}
+use Rattle.cep_play.specs.declared.ending.EndWord.TheVariants.{Quiet, Turns}
+use Rattle.cep_play.specs.declared.settings.Settings.{Settings}
+use Rattle.cep_play.specs.Deciding.{Supply}
 use Rattle.cep_play.specs.Lines.{end_lines, header}
-use Rattle.cep_play.specs.Dialogue as dialogue
-use Rattle.cep_play.specs.Dialogue.{Position, start_of, Ending, Ends, Talk, Dialogue}
-use Rattle.cep_play.specs.Turn.{IsTurn, IsLastTurn, AreTurns}
+use Rattle.cep_play.specs.Run.{Position, start_of, whole_supply, Turn, Ending, IsTurn, AreTurns, EndsAt}
+use Rattle.cep_play.specs.Dialogue.{turn_events, last_events, Dialogue}
+use Rattle.cep_play.specs.Turn.{undrawn, DoesTurn, Stops, SoFar, Runs}
 
--- Whatever is said from here on, put behind what was said so far, is a talk from the start.
-abbrev pub SoFar : Parts → ℕ → ℕ → Position → Position → ℕ → List ℕ → List Event → List ℕ → Type 0
-SoFar program height limit start at taken come events rest =
-    (others : List Event) (ending : Ending) → Talk program height limit at rest taken others ending → Talk program height limit start come 0 (events ++ others) ending
+-- one more turn behind others
+turns_behind : (program : Parts) (settings : Settings) (at : Position) (from : Supply) (turns : List Turn) (last : Position) (between : Supply) (turn : Turn) → AreTurns program settings at from turns last between → IsTurn program settings last between turn → AreTurns program settings at from (turns ++ turn ∷ []) turn.after turn.left
+turns_behind program settings at from [] last between turn done is = (subst (λ place. IsTurn program settings place from turn) done.0 (subst (λ supply. IsTurn program settings last supply turn) done.1 is), (refl, refl))
+turns_behind program settings at from (first ∷ turns) last between turn done is = (done.0, turns_behind program settings first.after first.left turns last between turn done.1 is)
 
-module _ (program : Parts) (height limit : ℕ) (start : Position) where
+module _ (program : Parts) (settings : Settings) (start : Position) where
   -- nothing was said yet
-  pub run_begins : (come : List ℕ) (events : List Event) (rest : List ℕ) → (events ≡ []) × (rest ≡ come) → SoFar program height limit start start 0 come events rest
-  run_begins come events rest same others ending talk =
-      subst (λ es. Talk program height limit start come 0 (es ++ others) ending) (sym same.0) (subst (λ bytes. Talk program height limit start bytes 0 others ending) same.1 talk)
+  pub run_begins : (come : List ℕ) (events : List Event) (rest : List ℕ) → (events ≡ []) × (rest ≡ come) → SoFar program settings start start 0 come events rest
+  run_begins come events rest same = record { turns = []; done = (refl, ap (λ bytes. undrawn bytes 0) same.1); written = same.0 }
 
   module _ (at : Position) (taken : ℕ) where
     -- one more turn
-    pub run_goes_on : (new : Position) (taken' : ℕ) (come : List ℕ) (first : List Event) (between : List ℕ) (second : List Event) (rest : List ℕ) → at.turns < limit → SoFar program height limit start at taken come first between → IsTurn program height at taken new taken' between second rest → SoFar program height limit start new taken' come (first ++ second) rest
-    run_goes_on new taken' come first between second rest remain so turn others ending talk =
-        subst (λ es. Talk program height limit start come 0 es ending) (sym (append_assoc first second others)) (so (second ++ others) ending (turn limit others ending remain talk))
+    pub run_goes_on : (new : Position) (taken' : ℕ) (come : List ℕ) (first : List Event) (between : List ℕ) (second : List Event) (rest : List ℕ) → SoFar program settings start at taken come first between → DoesTurn program settings at taken new taken' between second rest → SoFar program settings start new taken' come (first ++ second) rest
+    run_goes_on new taken' come first between second rest so does = record {
+      turns = so.turns ++ does.turn ∷ [];
+      done = subst (λ supply. AreTurns program settings start (undrawn come 0) (so.turns ++ does.turn ∷ []) new supply) does.left
+          (subst (λ place. AreTurns program settings start (undrawn come 0) (so.turns ++ does.turn ∷ []) place does.turn.left) does.after
+          (turns_behind program settings start (undrawn come 0) so.turns at (undrawn between taken) does.turn so.done does.is));
+      written = ap (λ es. es ++ second) so.written ∙ ap (λ es. flat_map (turn_events program) so.turns ++ es) (does.written ∙ sym (append-nil (turn_events program does.turn))) ∙ sym (flat_map-append (turn_events program) so.turns (does.turn ∷ []));
+    }
 
     -- the run ends within a turn
-    pub run_stops : (word : EndWord) (come : List ℕ) (first : List Event) (between : List ℕ) (second : List Event) → at.turns < limit → SoFar program height limit start at taken come first between → IsLastTurn program height word at taken between second → AreTurns program height limit word start at come (first ++ second)
-    run_stops word come first between second remain so stop last ending ends =
-        subst (λ es. Talk program height limit start come 0 es ending) (sym (append_assoc first second last)) (so (second ++ last) ending (stop limit last ending remain ends))
+    pub run_stops : (word : EndWord) (taken' : ℕ) (come : List ℕ) (first : List Event) (between : List ℕ) (second : List Event) (rest : List ℕ) → SoFar program settings start at taken come first between → Stops program settings at taken word taken' between second rest → Runs program settings word start at come (first ++ second) rest
+    run_stops word taken' come first between second rest so stop = record {
+      turns = so.turns;
+      between = undrawn between taken;
+      left = undrawn rest taken';
+      asked = stop.asked;
+      done = so.done;
+      ends = stop.ends;
+      written = ap (λ es. es ++ second) so.written ∙ ap (λ es. flat_map (turn_events program) so.turns ++ es) stop.written;
+      rest_is = refl;
+    }
+
+    run_over : (word : EndWord) (come : List ℕ) (events : List Event) (rest : List ℕ) → EndsAt program settings at (undrawn rest taken) word None (undrawn rest taken) → SoFar program settings start at taken come events rest → Runs program settings word start at come events rest
+    run_over word come events rest ends so = record {
+      turns = so.turns;
+      between = undrawn rest taken;
+      left = undrawn rest taken;
+      asked = None;
+      done = so.done;
+      ends = ends;
+      written = so.written ∙ sym (append-nil (flat_map (turn_events program) so.turns));
+      rest_is = refl;
+    }
 
     -- the run is quiet after its last turn
-    pub run_quiets : (come : List ℕ) (events : List Event) (rest : List ℕ) → IsQuiet program height at.state at.stage → SoFar program height limit start at taken come events rest → AreTurns program height limit Quiet start at come events
-    run_quiets come events rest is so last ending ends = so last ending (dialogue.quiet is ends)
+    pub run_quiets : (come : List ℕ) (events : List Event) (rest : List ℕ) → IsQuiet program settings.height at.spot.state at.spot.stage → SoFar program settings start at taken come events rest → Runs program settings Quiet start at come events rest
+    run_quiets come events rest is so = run_over Quiet come events rest (is, refl) so
 
     -- all turns are done
-    pub run_is_over : (group : ℕ) (come : List ℕ) (events : List Event) (rest : List ℕ) → IsAsked program height at.state at.stage group → at.turns ≡ limit → SoFar program height limit start at taken come events rest → AreTurns program height limit Turns start at come events
-    run_is_over group come events rest asked all so last ending ends = so last ending (dialogue.turns group asked all ends)
+    pub run_is_over : (group : ℕ) (come : List ℕ) (events : List Event) (rest : List ℕ) → IsAsked program settings.height at.spot.state at.spot.stage group → at.turns ≡ settings.limit → SoFar program settings start at taken come events rest → Runs program settings Turns start at come events rest
+    run_is_over group come events rest asked all so = run_over Turns come events rest (((group, asked), all), refl) so
 
 -- all turns and the end, from some bytes to come
-pub record RunFrom (program : Parts) (height limit : ℕ) (word : EndWord) (start last : Position) (come : List ℕ) (events : List Event) : Type 0 where
+pub record RunFrom (program : Parts) (settings : Settings) (word : EndWord) (start last : Position) (come : List ℕ) (events : List Event) (rest : List ℕ) : Type 0 where
   pub turns : List Event
   pub end : List Event
   pub whole : events ≡ turns ++ end
-  pub are : AreTurns program height limit word start last come turns
-  pub ends : end ≡ outs (end_lines program.signature word last.state)
+  pub runs : Runs program settings word start last come turns rest
+  pub ends : end ≡ outs (end_lines program.signature word last.spot.state)
 
-module _ (program : Parts) (height limit : ℕ) (word : EndWord) (start last : Position) where
-  pub run_ends : (come late rest : List ℕ) (second third : List Event) → AreTurns program height limit word start last come second → (third ≡ outs (end_lines program.signature word last.state)) × (rest ≡ late) → RunFrom program height limit word start last come (second ++ third)
-  run_ends come late rest second third turns ends = record { turns = second; end = third; whole = refl; are = turns; ends = ends.0 }
+-- a dialogue with its end word
+pub record IsTold (program : Parts) (settings : Settings) (word : EndWord) (come : List ℕ) (events : List Event) (rest : List ℕ) : Type 0 where
+  pub turns : List Turn
+  pub ending : Ending
+  pub dialogue : Dialogue program settings come turns ending events rest
+  pub word_is : ending.word ≡ word
+
+module _ (program : Parts) (settings : Settings) (word : EndWord) (start last : Position) where
+  pub run_ends : (come late rest : List ℕ) (second third : List Event) → Runs program settings word start last come second late → (third ≡ outs (end_lines program.signature word last.spot.state)) × (rest ≡ late) → RunFrom program settings word start last come (second ++ third) rest
+  run_ends come late rest second third runs ends = record { turns = second; end = third; whole = refl; runs = subst (λ bytes. Runs program settings word start last come second bytes) (sym ends.1) runs; ends = ends.0 }
 
   -- The header, all turns and the end are a dialogue.
-  pub whole_dialogue : (come middle : List ℕ) (first others : List Event) → start ≡ start_of program → (first ≡ outs (header program height)) × (middle ≡ come) → RunFrom program height limit word start last middle others → (ending : Ending) × Dialogue program height limit come (first ++ others) ending × (ending.word ≡ word)
-  whole_dialogue come middle first others begun begins run =
-      let ending : Ending = record { word = word; state = last.state; turns = last.turns } in
-      let talk : Talk program height limit start middle 0 others ending = subst (λ es. Talk program height limit start middle 0 es ending) (sym run.whole) (run.are run.end ending (record { written = run.ends; ended = refl })) in (
-        ending,
-        record {
-          others = others;
-          talk = subst (λ bytes. Talk program height limit (start_of program) bytes 0 others ending) begins.1 (subst (λ at. Talk program height limit at middle 0 others ending) begun talk);
-          whole = ap (λ es. es ++ others) begins.0;
-        },
-        refl,
-      )
+  pub whole_dialogue : (come middle rest : List ℕ) (first others : List Event) → start ≡ start_of program → (first ≡ outs (header program settings.height)) × (middle ≡ come) → RunFrom program settings word start last middle others rest → IsTold program settings word come (first ++ others) rest
+  whole_dialogue come middle rest first others begun begins run =
+      let runs = run.runs in
+      let end = outs (end_lines program.signature word last.spot.state) in
+      let all = flat_map (turn_events program) runs.turns in
+      record {
+        turns = runs.turns;
+        ending = record { word = word; state = last.spot.state; question = runs.asked };
+        dialogue = record {
+          left = runs.left;
+          run = record {
+            last = last;
+            between = runs.between;
+            done = subst (λ place. AreTurns program settings place (whole_supply come) runs.turns last runs.between) begun
+                (subst (λ bytes. AreTurns program settings start (whole_supply bytes) runs.turns last runs.between) begins.1 runs.done);
+            ends = runs.ends;
+            state = refl;
+          };
+          whole = ap (λ es. es ++ others) begins.0 ∙ ap (λ es. outs (header program settings.height) ++ es)
+              (run.whole ∙ ap (λ es. es ++ run.end) runs.written ∙ append_assoc all (last_events program runs.asked) run.end
+              ∙ ap (λ es. all ++ (last_events program runs.asked ++ es)) run.ends);
+          rest_is = runs.rest_is;
+        };
+        word_is = refl;
+      }

@@ -1,24 +1,26 @@
--- Each way through a turn is a case of a talk.
-use Rattle.std.proofs.Common.{◌≡◌, ℕ, zero, suc, ◌+◌, ◌-◌, ◌<◌, ◌≤◌, List, [], ◌∷◌, ◌++◌, length, get_or, inl, inr, refl, sym, ap, ◌∙◌, subst, arith, append_assoc, Option, None, Some, ◌*◌, Bool, true, false}
-use Rattle.std.specs.Prelude.{slice_get, All, IsSomeAnd, IsTrue, ◌↔◌, nat_lt}
+-- Each way through a turn is a turn of a run, or the end of one.
+use Rattle.std.proofs.Common.{◌≡◌, ℕ, zero, suc, ◌+◌, ◌-◌, ◌*◌, ◌<◌, ◌≤◌, ◌%◌, List, [], ◌∷◌, ◌++◌, length, get_or, inl, inr, refl, sym, ap, ◌∙◌, subst, arith, append_assoc, Option, None, Some, Bool, true, false}
+use Rattle.std.specs.Prelude.{slice_get, All, IsSome, IsSomeAnd, IsTrue, ◌↔◌, nat_lt, unwrap_or}
 use borrow.Author.Tests.{ltb-true, ltb-false}
 use Rattle.std.specs.List.{AllByRecursion}
 use Rattle.std.proofs.lemmas.List.{append-nil, get_or_default}
 use Rattle.std.proofs.lemmas.Option.{slice_get_within, get_or_from_slice_get}
+use Rattle.cep_base.specs.declared.limits.TheConstants.{MOST_OFFERS}
 use Rattle.cep_base.specs.declared.console.Event.{Event}
 use Rattle.cep_base.specs.Talk.{outs, Did}
 use Rattle.cep_term.specs.Tree.{Tree, AtomTree, IsFit}
 use Rattle.cep_term.specs.Multiset.{Multiset}
-use Rattle.cep_base.specs.declared.limits.TheConstants.{DEFAULT_HEIGHT, MOST_OFFERS}
 use Rattle.cep_rule.specs.declared.rule.Rule.{Rule}
 use Rattle.cep_rule.specs.declared.parts.Parts.{Parts}
 use Rattle.cep_rule.specs.declared.offer.Offer.{Offer}
 use Rattle.cep_rule.specs.State.{Fits}
 use Rattle.cep_rule.specs.Instances.{full_instances}
 use Rattle.cep_rule.specs.Offers.{AreOffers, IsOffer}
-use Rattle.cep_rule.specs.Stages.{IsAsked, IsQuiet}
+use Rattle.cep_rule.specs.Stages.{IsAsked, IsQuiet, own_group, leaving_group, HasOffer}
+use Rattle.cep_rule.specs.Steps.{AreProofs}
 use Rattle.cep_rule.specs.Typing.{AreValues}
 use Rattle.cep_rule.specs.Matching.{offers_of, AreListed}
+use Rattle.cep_rule.specs.Program.{IsProgram}
 use Rattle.cep_text.specs.Texts.{IsOfferOf}
 use Rattle.cep_ground.specs.Refusals.{IsPlainRule, IsBuilt}
 use Rattle.cep_machine.specs.declared.stepped.Which.{Which}
@@ -26,26 +28,27 @@ use Rattle.cep_machine.specs.declared.stepped.Which.TheVariants as which
 use Rattle.cep_machine.specs.Configuration.{Configuration}
 use Rattle.cep_machine.specs.Asking.{asked_offers, IsAskedIn}
 use Rattle.cep_machine.specs.Passing.{IsTooLarge, IsFirstTooLarge, IsTooFull}
-use Rattle.cep_machine.specs.Stepping as machine
-use Rattle.cep_machine.specs.Stepping.{IsNext, Passes}
+use Rattle.cep_machine.specs.Stepping.{IsAskedAt, IsNext, Passes}
 use Rattle.cep_play.specs.declared.choice.Choice.{Choice}
-use Rattle.cep_play.specs.declared.choice.Choice.TheVariants.{Place}
-use Rattle.cep_play.specs.declared.dialogue.EndWord.{EndWord}
-use Rattle.cep_play.specs.declared.dialogue.EndWord.TheVariants.{Quiet, Offers, Atom, State, Input, Turns, Typed}
+use Rattle.cep_play.specs.declared.choice.Choice.TheVariants.{Place, NoMore, NoRoom}
+use Rattle.cep_play.specs.declared.ending.EndWord.{EndWord}
+use Rattle.cep_play.specs.declared.ending.EndWord.TheVariants.{Quiet, Offers, Atom, State, Input, Typed}
+use Rattle.cep_play.specs.declared.settings.Settings.{Settings}
 use Rattle.cep_play.specs.declared.turn.Turned.{Turned}
 use Rattle.cep_play.specs.declared.turn.Turned.TheVariants.{Done, Over}
 use Rattle.cep_play.specs.Choice.{Hears}
-use Rattle.cep_play.specs.Lines.{question, step_line, step_lines, next_line}
-use Rattle.cep_play.specs.Dialogue as dialogue
-use Rattle.cep_play.specs.Dialogue.{Position, position_after, Ending, Ends, AreAsked, IsQuestion, IsChosen, MakesFit, IsStop, Talk}
-use Rattle.cep_play.specs.Turn.{position_of, AsksPlayer, Acts, PassesLimit, IsTooMuch, limit_word, IsActed, IsTurn, IsLastTurn, IsTurned}
+use Rattle.cep_play.specs.Deciding.{Heard, IsPlayers, Decides}
+use Rattle.cep_play.specs.Lines.{question, step_line, step_lines, by_lines, next_line}
+use Rattle.cep_play.specs.Run.{Position, Question, Turn, IsQuestion, IsChosen, IsTurn, PassesLimit, EndsAt}
+use Rattle.cep_play.specs.Dialogue.{turn_events, question_events}
+use Rattle.cep_play.specs.Turn.{position_of, undrawn, IsPlayed, AsksPlayer, IsPlaced, Acts, WouldPass, limit_word, IsActed, DoesTurn, Stops, IsTurned}
 use Rattle.cep_play.proofs.Did.{did_then}
 
 none_some : {A B : Type 0} (x : A) → ◌≡◌ {A = Option A} None (Some x) → B
 none_some x e = cc
 
 -- what holds of all items holds of the one at a place
-all_at : {A : Type 0} (P : A → Type 0) (xs : List A) → AllByRecursion P xs → (k : ℕ) (x : A) → slice_get xs k ≡ Some x → P x
+pub all_at : {A : Type 0} (P : A → Type 0) (xs : List A) → AllByRecursion P xs → (k : ℕ) (x : A) → slice_get xs k ≡ Some x → P x
 all_at P [] all k x is = none_some x is
 all_at P (y ∷ xs) all zero x is = subst P (let same : Some y ≡ Some x = is in cc) all.0
 all_at P (y ∷ xs) all (suc k) x is = all_at P xs all.1 k x is
@@ -69,15 +72,36 @@ module _ (program : Parts) (height : ℕ) (state : Multiset) (group : ℕ) (offe
       let applies = (are.no_other offer (k, h, get_or_default offers k offer d h)).applies in
       subst (λ o. IsSomeAnd o (λ rule. AreValues program.signature.cons rule.kinds offer.values)) (sym applies.numbered) applies.values
 
+-- What a stage asks, where its offers are not too many.
+pub record IsAskedHere (program : Parts) (settings : Settings) (at : Position) (group : ℕ) (offers : List Offer) : Type 0 where
+  pub asked : IsAsked program settings.height at.spot.state at.spot.stage group
+  pub offered : AreOffers program settings.height at.spot.state group offers
+  pub players : IsPlayers program at.spot.stage group (length offers)
+
+-- a rule that leaves no stage is in no group of those that do
+stays_or_leaves : {X : Type 0} (next : Option ℕ) (group stage : ℕ) → next ≡ None → (IsSome next ↔ (group % 2 ≡ 1)) → group ≡ 2 * stage + 1 → X
+stays_or_leaves next group stage none iff is = absurd (subst (λ o. IsSome o) none (iff.1 (omega (arith, is))))
+
+-- where no rule leaves a stage, each stage asks its own group
+own_asked : (program : Parts) (height : ℕ) (state : Multiset) (stage group : ℕ) → IsProgram program → IsBuilt program → IsAsked program height state stage group → group ≡ own_group stage
+own_asked program height state stage group kept built (inl own) = own.0
+own_asked program height state stage group kept built (inr leaving) =
+    let offer = leaving.2.0 in
+    let in_group = leaving.2.1.in_group in
+    let plain = all_at IsPlainRule program.rules built.rules offer.rule in_group.rule in_group.numbered in
+    let grouped = all_at _ program.rules kept.grouped offer.rule in_group.rule in_group.numbered in
+    stays_or_leaves in_group.rule.next in_group.rule.group stage plain.next grouped.leaves (in_group.grouped ∙ leaving.0)
+
 -- the lists of a matcher are the offers of the group that is asked
-pub are_asked : {M : Type 0} (program : Parts) (group height : ℕ) (held : Multiset) (lists : List (List Offer)) (config : Configuration M)
-    → height ≡ DEFAULT_HEIGHT → held ≡ config.state → AreListed program height held lists → group < length lists → IsAsked program height config.state config.stage group
-    → AreAsked program DEFAULT_HEIGHT (position_of config) (offers_of lists group)
-are_asked program group height held lists config high same are listed asked = record {
-  group = group;
+pub asked_here : {M : Type 0} (is_of : Parts → M → Type 0) (height_held : M → ℕ) (program : Parts) (settings : Settings) (group height : ℕ) (held : Multiset) (lists : List (List Offer)) (config : Configuration M)
+    → IsProgram program → IsBuilt program → IsPlayed is_of height_held program settings config
+    → height ≡ settings.height → held ≡ config.state → AreListed program height held lists → group < length lists → IsAsked program height config.state config.stage group
+    → IsAskedHere program settings (position_of config) group (offers_of lists group)
+asked_here is_of height_held program settings group height held lists config kept built played high same are listed asked = record {
   asked = subst (λ h. IsAsked program h config.state config.stage group) high asked;
   offered = subst (λ h. AreOffers program h config.state group (offers_of lists group)) high
       (subst (λ s. AreOffers program height s group (offers_of lists group)) same (are.each group listed));
+  players = (played.interactive, inl (own_asked program height config.state config.stage group kept built asked));
 }
 
 -- the group that is asked has a list
@@ -112,14 +136,9 @@ too_full : (state : Multiset) (number : ℕ) → IsTooFull state number → Fits
 too_full state number (inl full) fits = let copies = fits.copies in omega arith
 too_full state number (inr full) fits = let nodes = fits.nodes in omega arith
 
-passes : (which : Which) (offer : Offer) (rule : Rule) (state : Multiset) (number : ℕ) → Passes rule offer.values state which number → IsTooMuch (limit_word which) offer rule state
-passes which.Atom offer rule state number large = first_too_large (full_instances offer.values rule.right) number large
-passes which.State offer rule state number full = (full.0, (full.1.0, full.1.1, too_full full.1.0 number full.1.2))
-
--- no stage is named where the rule leads to none
-same_lines : (program : Parts) (offer : Offer) (rule : Rule) → rule.next ≡ None → step_line program offer ≡ step_lines program offer rule
-unfolding step_lines
-same_lines program offer rule none = sym (ap (λ next. step_line program offer ++ next_line program next) none ∙ append-nil (step_line program offer))
+passes : (program : Parts) (which : Which) (values : List Tree) (rule : Rule) (state : Multiset) (number : ℕ) → Passes rule values state which number → PassesLimit program rule values state (limit_word which)
+passes program which.Atom values rule state number large = first_too_large (full_instances values rule.right) number large
+passes program which.State values rule state number full = (full.0, (full.1.0, full.1.1, too_full full.1.0 number full.1.2))
 
 module _ {M : Type 0} (program : Parts) (height : ℕ) (held : Multiset) (group : ℕ) (lists : List (List Offer)) (offers : List Offer) (place i : ℕ) (offer : Offer) (old : Configuration M)
     (built : IsBuilt program) (are : AreOffers program height held group offers) (at : slice_get offers i ≡ Some offer) (placed : i ≡ place - 1) (asked : offers ≡ asked_offers lists old.stage) where
@@ -130,121 +149,156 @@ module _ {M : Type 0} (program : Parts) (height : ℕ) (held : Multiset) (group 
   unfolding rule_of is_offer
   numbered = (is_offer program height held group offers are i offer at).applies.numbered
 
-  chosen_there : machine.IsChosen program lists old.stage i rule_of offer.values
+  chosen_there : IsAskedAt program lists old.stage i rule_of offer.values
   chosen_there = record { number = offer.rule; offered = subst (λ xs. slice_get xs i ≡ Some offer) asked at; numbered = numbered }
 
-  chosen : IsChosen program offers place offer rule_of
-  chosen = record { at_place = subst (λ n. slice_get offers n ≡ Some offer) placed at; of_rule = numbered }
+  is_placed : IsPlaced program offers place offer rule_of
+  is_placed = record { at_place = subst (λ n. slice_get offers n ≡ Some offer) placed at; of_rule = numbered }
 
   stays : rule_of.next ≡ None
   stays = (all_at IsPlainRule program.rules built.rules offer.rule rule_of numbered).next
 
   -- the step was done
-  pub step_acts : (new : Configuration M) (bytes : List ℕ) → ((rule : Rule) (values : List Tree) → machine.IsChosen program lists old.stage i rule values → IsNext rule values old new) → bytes ≡ step_line program offer
+  pub step_acts : (new : Configuration M) (bytes : List ℕ) → ((rule : Rule) (values : List Tree) → IsAskedAt program lists old.stage i rule values → IsNext rule values old new) → bytes ≡ step_line program offer
       → (come : List ℕ) (events : List Event) (rest : List ℕ) → (events ≡ outs bytes) × (rest ≡ come) → Acts program offers place (position_of old) (position_of new) come events rest
   step_acts new bytes stepped line come events rest put =
       let next = stepped rule_of offer.values chosen_there in
-      let stage = next.stage in
-      let turns = next.turns in
       record {
         offer = offer;
         rule = rule_of;
-        chosen = chosen;
-        fit = next.fit;
-        step = next.step;
-        fits = next.fits;
-        after = λ j. record { stage = stage j; state = new.state; turns = turns j };
-        written = put.0 ∙ ap outs (line ∙ same_lines program offer rule_of stays);
+        placed = is_placed;
+        steps = record { fit = next.fit; step = next.step; fits = next.fits; stage = next.stage };
+        written = put.0 ∙ ap outs line;
         untaken = put.1;
       }
 
-  pub one_turn_more : (new : Configuration M) → ((rule : Rule) (values : List Tree) → machine.IsChosen program lists old.stage i rule values → IsNext rule values old new) → new.turns ≡ old.turns + 1
+  pub one_turn_more : (new : Configuration M) → ((rule : Rule) (values : List Tree) → IsAskedAt program lists old.stage i rule values → IsNext rule values old new) → new.turns ≡ old.turns + 1
   one_turn_more new stepped = (stepped rule_of offer.values chosen_there).turns
 
+  -- the stage stays
+  pub same_stage : (new : Configuration M) → ((rule : Rule) (values : List Tree) → IsAskedAt program lists old.stage i rule values → IsNext rule values old new) → new.stage ≡ old.stage
+  same_stage new stepped = (stepped rule_of offer.values chosen_there).stage ∙ ap (λ next. unwrap_or next old.stage) stays
+
   -- the step would pass a limit
-  pub step_fails : (last : Configuration M) (which : Which) (number : ℕ) → ((rule : Rule) (values : List Tree) → machine.IsChosen program lists old.stage i rule values → (last ≡ old) × Passes rule values old.state which number)
-      → (come : List ℕ) (events : List Event) (rest : List ℕ) → (events ≡ []) × (rest ≡ come) → PassesLimit program offers place (limit_word which) (position_of old) come events rest
+  pub step_fails : (last : Configuration M) (which : Which) (number : ℕ) → ((rule : Rule) (values : List Tree) → IsAskedAt program lists old.stage i rule values → (last ≡ old) × Passes rule values old.state which number)
+      → (come : List ℕ) (events : List Event) (rest : List ℕ) → (events ≡ []) × (rest ≡ come) → WouldPass program offers place (limit_word which) (position_of old) come events rest
   step_fails last which number stepped come events rest same = record {
     offer = offer;
     rule = rule_of;
-    chosen = chosen;
-    too_much = passes which offer rule_of old.state number (stepped rule_of offer.values chosen_there).1;
+    placed = is_placed;
+    too_much = passes program which offer.values rule_of old.state number (stepped rule_of offer.values chosen_there).1;
     unwritten = same.0;
     untaken = same.1;
   }
 
-  pub left_alone : (last : Configuration M) (which : Which) (number : ℕ) → ((rule : Rule) (values : List Tree) → machine.IsChosen program lists old.stage i rule values → (last ≡ old) × Passes rule values old.state which number) → last ≡ old
+  pub left_alone : (last : Configuration M) (which : Which) (number : ℕ) → ((rule : Rule) (values : List Tree) → IsAskedAt program lists old.stage i rule values → (last ≡ old) × Passes rule values old.state which number) → last ≡ old
   left_alone last which number stepped = (stepped rule_of offer.values chosen_there).0
 
 -- Turns
 
-module _ (program : Parts) (at : Position) (taken : ℕ) where
+-- no derivations are written, and no stage is named, where a rule has no backward premise and leads to no stage
+plain_lines : (program : Parts) (offer : Offer) (rule : Rule) → rule.next ≡ None → step_line program offer ≡ step_lines program offer rule []
+unfolding step_lines by_lines
+plain_lines program offer rule none = sym (ap (λ next. step_line program offer ++ next_line program next) none ∙ append-nil (step_line program offer))
+
+no_proofs : (program : Parts) (height : ℕ) (values : List Tree) (backs : List AtomTree) → backs ≡ [] → AreProofs program height [] (full_instances values backs)
+no_proofs program height values backs none = subst (λ atoms. AreProofs program height [] (full_instances values atoms)) (sym none) tt
+
+module _ (program : Parts) (settings : Settings) (at : Position) (taken : ℕ) where
   -- no rule applies
-  pub quiet_turn : (come : List ℕ) (events : List Event) → IsQuiet program DEFAULT_HEIGHT at.state at.stage → events ≡ [] → IsLastTurn program DEFAULT_HEIGHT Quiet at taken come events
-  quiet_turn come events is none limit last ending remain ends =
-      subst (λ es. Talk program DEFAULT_HEIGHT limit at come taken (es ++ last) ending) (sym none) (dialogue.quiet is ends)
+  pub quiet_turn : (come : List ℕ) (events : List Event) (rest : List ℕ) → IsQuiet program settings.height at.spot.state at.spot.stage → (events ≡ []) × (rest ≡ come) → Stops program settings at taken Quiet taken come events rest
+  quiet_turn come events rest is same = record {
+    asked = None;
+    ends = (is, ap (λ bytes. undrawn bytes taken) same.1);
+    written = same.0;
+  }
 
-  -- the offers are too many
-  pub crowded_turn : (offers : List Offer) (come : List ℕ) (events : List Event) → AreAsked program DEFAULT_HEIGHT at offers → MOST_OFFERS < length offers → events ≡ [] → IsLastTurn program DEFAULT_HEIGHT Offers at taken come events
-  crowded_turn offers come events are many none limit last ending remain ends =
-      subst (λ es. Talk program DEFAULT_HEIGHT limit at come taken (es ++ last) ending) (sym none) (dialogue.crowded offers are many remain ends)
-
-  asked : (offers : List Offer) (limit : ℕ) → AreAsked program DEFAULT_HEIGHT at offers → length offers ≤ MOST_OFFERS → at.turns < limit → IsQuestion program DEFAULT_HEIGHT limit at offers
-  asked offers limit are few remain = record { are = are; few = few; remain = remain }
-
-  regrouped : (first second q heard others : List Event) → first ≡ q ++ heard → (first ++ second) ++ others ≡ q ++ (heard ++ (second ++ others))
-  regrouped first second q heard others e = rw e (simp append_assoc)
-
-  module _ (offers : List Offer) (are : AreAsked program DEFAULT_HEIGHT at offers) (few : length offers ≤ MOST_OFFERS) where
-    -- the choice is not made
-    pub unchosen_turn : (taken' : ℕ) (come rest : List ℕ) (events : List Event) (choice : Choice) (word : EndWord) → AsksPlayer program offers come taken events choice rest taken' → IsStop choice word → IsLastTurn program DEFAULT_HEIGHT word at taken come events
-    unchosen_turn taken' come rest events choice word asks stops limit last ending remain ends =
-        dialogue.unchosen offers choice word rest taken' asks.heard last (asked offers limit are few remain) asks.hears stops ends
-        (ap (λ xs. xs ++ last) asks.whole ∙ append_assoc (outs (question program offers)) asks.heard last)
-
-    module _ (taken' place : ℕ) (come between rest : List ℕ) (first second : List Event) (asks : AsksPlayer program offers come taken first (Place place) between taken') where
-      -- one turn is done
-      pub done_turn : (new : Position) → Acts program offers place at new between second rest → IsTurn program DEFAULT_HEIGHT at taken new taken' come (first ++ second) rest
-      done_turn new acts limit others ending remain talk =
-          dialogue.turn offers place acts.offer acts.rule new.state between taken' asks.heard others (asked offers limit are few remain) asks.hears acts.chosen acts.fit acts.step acts.fits
-          (subst (λ bytes. Talk program DEFAULT_HEIGHT limit (position_after at acts.rule new.state) bytes taken' others ending) acts.untaken
-          (subst (λ next. Talk program DEFAULT_HEIGHT limit next rest taken' others ending) acts.after talk))
-          (regrouped first second (outs (question program offers)) asks.heard others asks.whole
-          ∙ ap (λ step. outs (question program offers) ++ (asks.heard ++ (step ++ others))) acts.written)
-
-      unwritten : (last : List Event) → second ≡ [] → (first ++ second) ++ last ≡ outs (question program offers) ++ (asks.heard ++ last)
-      unwritten last none =
-          regrouped first second (outs (question program offers)) asks.heard last asks.whole
-          ∙ ap (λ step. outs (question program offers) ++ (asks.heard ++ (step ++ last))) none
-
-      -- the step passes a limit
-      pub failed_turn : (word : EndWord) → PassesLimit program offers place word at between second rest → IsLastTurn program DEFAULT_HEIGHT word at taken come (first ++ second)
-      failed_turn Atom fails limit last ending remain ends =
-          dialogue.unfit offers place fails.offer fails.rule between taken' asks.heard last (asked offers limit are few remain) asks.hears fails.chosen fails.too_much ends (unwritten last fails.unwritten)
-      failed_turn State fails limit last ending remain ends =
-          let full = fails.too_much in
-          dialogue.overfull offers place fails.offer fails.rule full.1.0 between taken' asks.heard last (asked offers limit are few remain) asks.hears fails.chosen full.0 full.1.1 full.1.2 ends (unwritten last fails.unwritten)
-      failed_turn Quiet fails limit last ending remain ends = absurd fails.too_much
-      failed_turn Input fails limit last ending remain ends = absurd fails.too_much
-      failed_turn Turns fails limit last ending remain ends = absurd fails.too_much
-      failed_turn Offers fails limit last ending remain ends = absurd fails.too_much
-      failed_turn Typed fails limit last ending remain ends = absurd fails.too_much
-
--- the offers are written, and the choice is heard
-pub asks_after : (program : Parts) (offers : List Offer) (text written come middle rest : List ℕ) (taken taken' : ℕ) (first others : List Event) (choice : Choice) → written ≡ text → text ≡ [] ++ question program offers → (first ≡ outs written) × (middle ≡ come) → Hears (length offers) middle taken others choice rest taken' → AsksPlayer program offers come taken (first ++ others) choice rest taken'
-asks_after program offers text written come middle rest taken taken' first others choice e f put hears =
-    record {
-      heard = others;
-      hears = subst (λ bytes. Hears (length offers) bytes taken others choice rest taken') put.1 hears;
-      whole = ap (λ es. es ++ others) (put.0 ∙ ap outs (e ∙ f));
+  module _ (group : ℕ) (offers : List Offer) (here : IsAskedHere program settings at group offers) (remain : at.turns < settings.limit) where
+    -- the offers are too many
+    pub crowded_turn : MOST_OFFERS < length offers → (come : List ℕ) (events : List Event) (rest : List ℕ) → (events ≡ []) × (rest ≡ come) → Stops program settings at taken Offers taken come events rest
+    crowded_turn many come events rest same = record {
+      asked = None;
+      ends = ((remain, (group, offers, here.asked, here.offered, many)), ap (λ bytes. undrawn bytes taken) same.1);
+      written = same.0;
     }
 
--- a choice was made, and what came of it is a turn
-pub chosen_turn : {C M : Type 0} (talk : C → Option (List Event)) (left : C → Option (List ℕ)) (old between new : C) (program : Parts) (config : Configuration M) (taken taken' place : ℕ) (offers : List Offer) (turned : Turned M)
-    → AreAsked program DEFAULT_HEIGHT (position_of config) offers → length offers ≤ MOST_OFFERS
-    → Did talk left old between (λ come events rest. AsksPlayer program offers come taken events (Place place) rest taken')
-    → IsActed talk left between new program offers place config turned → IsTurned talk left old new program config taken taken' turned
-chosen_turn talk left old between new program config taken taken' place offers (Done next) are few asks acted =
-    (did_then talk left old between new _ _ _ (λ come first middle others rest asks acts. done_turn program (position_of config) taken offers are few taken' place come middle rest first others asks (position_of next) acts) asks acted.0, acted.1)
-chosen_turn talk left old between new program config taken taken' place offers (Over last) are few asks acted =
-    (did_then talk left old between new _ _ _ (λ come first middle others rest asks fails. failed_turn program (position_of config) taken offers are few taken' place come middle rest first others asks last.word fails) asks acted.0, acted.1)
+    module _ (few : length offers ≤ MOST_OFFERS) where
+      -- a question that the player answered
+      abbrev answered : Choice → List Event → Question
+      answered choice heard = record { group = group; offers = offers; how = Heard heard; choice = choice }
+
+      is_answered : (taken' : ℕ) (come rest : List ℕ) (choice : Choice) (heard : List Event) → Hears (length offers) come taken heard choice rest taken' → IsQuestion program settings at (undrawn come taken) (answered choice heard) (undrawn rest taken')
+      is_answered taken' come rest choice heard hears = record { remain = remain; asked = here.asked; offered = here.offered; few = few; decided = (here.players, hears, refl) }
+
+      -- the choice is not made
+      pub no_more_turn : (taken' : ℕ) (come : List ℕ) (events : List Event) (rest : List ℕ) → AsksPlayer program offers come taken events NoMore rest taken' → Stops program settings at taken Input taken' come events rest
+      no_more_turn taken' come events rest asks = record {
+        asked = Some (answered NoMore asks.heard);
+        ends = (is_answered taken' come rest NoMore asks.heard asks.hears, refl);
+        written = asks.whole;
+      }
+
+      pub no_room_turn : (taken' : ℕ) (come : List ℕ) (events : List Event) (rest : List ℕ) → AsksPlayer program offers come taken events NoRoom rest taken' → Stops program settings at taken Typed taken' come events rest
+      no_room_turn taken' come events rest asks = record {
+        asked = Some (answered NoRoom asks.heard);
+        ends = (is_answered taken' come rest NoRoom asks.heard asks.hears, refl);
+        written = asks.whole;
+      }
+
+      module _ (taken' place : ℕ) (come between rest : List ℕ) (first second : List Event) (asks : AsksPlayer program offers come taken first (Place place) between taken') where
+        untaken_hears : rest ≡ between → Hears (length offers) come taken asks.heard (Place place) rest taken'
+        untaken_hears same = subst (λ bytes. Hears (length offers) come taken asks.heard (Place place) bytes taken') (sym same) asks.hears
+
+        is_chosen : (offer : Offer) (rule : Rule) → IsPlaced program offers place offer rule → IsChosen program (answered (Place place) asks.heard) offer rule
+        is_chosen offer rule placed = record { place = place; chosen = refl; at_place = placed.at_place; of_rule = placed.of_rule }
+
+        -- one turn is done
+        pub done_turn : IsBuilt program → (new : Position) → new.turns ≡ at.turns + 1 → Acts program offers place at new between second rest → DoesTurn program settings at taken new taken' come (first ++ second) rest
+        done_turn built new counted acts =
+            let plain = all_at IsPlainRule program.rules built.rules acts.offer.rule acts.rule acts.placed.of_rule in
+            record {
+              turn = record { before = at; question = answered (Place place) asks.heard; offer = acts.offer; rule = acts.rule; proofs = []; after = new; left = undrawn rest taken' };
+              is = record {
+                here = refl;
+                asks = is_answered taken' come rest (Place place) asks.heard (untaken_hears acts.untaken);
+                chosen = is_chosen acts.offer acts.rule acts.placed;
+                proved = no_proofs program settings.height acts.offer.values acts.rule.backs plain.backs;
+                steps = acts.steps;
+                counted = counted;
+              };
+              after = refl;
+              left = refl;
+              written = ap (λ es. es ++ second) asks.whole ∙ ap (λ es. (outs (question program offers) ++ asks.heard) ++ es) (acts.written ∙ ap outs (plain_lines program acts.offer acts.rule plain.next));
+            }
+
+        -- the step passes a limit
+        pub failed_turn : (word : EndWord) → WouldPass program offers place word at between second rest → Stops program settings at taken word taken' come (first ++ second) rest
+        failed_turn word fails = record {
+          asked = Some (answered (Place place) asks.heard);
+          ends = (is_answered taken' come rest (Place place) asks.heard (untaken_hears fails.untaken), (fails.offer, fails.rule, is_chosen fails.offer fails.rule fails.placed, fails.too_much));
+          written = ap (λ es. first ++ es) fails.unwritten ∙ append-nil first ∙ asks.whole;
+        }
+
+-- the text of the offers and the question was put, and then a choice was heard
+pub asks_after : (program : Parts) (offers : List Offer) (made bytes come middle rest : List ℕ) (taken taken' : ℕ) (first others : List Event) (choice : Choice)
+    → bytes ≡ made → made ≡ question program offers → (first ≡ outs bytes) × (middle ≡ come) → Hears (length offers) middle taken others choice rest taken'
+    → AsksPlayer program offers come taken (first ++ others) choice rest taken'
+asks_after program offers made bytes come middle rest taken taken' first others choice same is put hears = record {
+  heard = others;
+  hears = subst (λ from. Hears (length offers) from taken others choice rest taken') put.1 hears;
+  whole = ap (λ es. es ++ others) (put.0 ∙ ap outs (same ∙ is));
+}
+
+-- what the choice of a place comes to is what the turn comes to
+module _ {C M : Type 0} (talk : C → Option (List Event)) (left : C → Option (List ℕ)) (old between new : C) (program : Parts) (settings : Settings) (config : Configuration M) (taken taken' place group : ℕ) (offers : List Offer)
+    (built : IsBuilt program) (here : IsAskedHere program settings (position_of config) group offers) (remain : config.turns < settings.limit) (few : length offers ≤ MOST_OFFERS)
+    (heard : Did talk left old between (λ come events rest. AsksPlayer program offers come taken events (Place place) rest taken')) where
+  pub chosen_turn : (turned : Turned M) → IsActed talk left between new program offers place config turned → IsTurned talk left old new program settings config taken taken' turned
+  chosen_turn (Done next) acted = (
+    did_then talk left old between new _ _ _ (λ come first middle others rest asks acts. done_turn program settings (position_of config) taken group offers here remain few taken' place come middle rest first others asks built (position_of next) acted.1 acts) heard acted.0,
+    acted.1,
+  )
+  chosen_turn (Over last) acted = (
+    did_then talk left old between new _ _ _ (λ come first middle others rest asks fails. failed_turn program settings (position_of config) taken group offers here remain few taken' place come middle rest first others asks last.word fails) heard acted.0,
+    acted.1,
+  )

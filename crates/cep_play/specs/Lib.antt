@@ -1,6 +1,9 @@
 pub mod Choice
 pub mod Typed
 pub mod Lines
+pub mod Deciding
+pub mod Run
 pub mod Dialogue
 pub mod Turn
 pub mod Command
+pub mod Outcome

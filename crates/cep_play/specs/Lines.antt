@@ -9,9 +9,10 @@ use Rattle.cep_rule.specs.declared.rule.Rule.{Rule}
 use Rattle.cep_rule.specs.declared.parts.Stage.{Stage}
 use Rattle.cep_rule.specs.declared.parts.Parts.{Parts}
 use Rattle.cep_rule.specs.declared.offer.Offer.{Offer}
-use Rattle.cep_text.specs.Texts.{atom_text, offer_text}
-use Rattle.cep_play.specs.declared.dialogue.EndWord.{EndWord}
-use Rattle.cep_play.specs.declared.dialogue.EndWord.TheVariants.{Quiet, Input, Turns, Offers, Typed, Atom, State}
+use Rattle.cep_rule.specs.Derivations.{ProofTree}
+use Rattle.cep_text.specs.Texts.{atom_text, offer_text, proof_text}
+use Rattle.cep_play.specs.declared.ending.EndWord.{EndWord}
+use Rattle.cep_play.specs.declared.ending.EndWord.TheVariants.{Quiet, Input, Turns, Offers, Typed, Atom, State}
 
 -- a text and the LF that ends its line
 abbrev pub line : List ℕ → List ℕ
@@ -34,7 +35,7 @@ unfoldable pub offer_lines : Parts → ℕ → List Offer → List ℕ
 offer_lines program place [] = []
 offer_lines program place (offer ∷ offers) = offer_line program place offer ++ offer_lines program (place + 1) offers
 
--- what is written before a choice
+-- what is written before the player chooses
 unfoldable pub question : Parts → List Offer → List ℕ
 question program offers = offer_lines program 1 offers ++ line (codes "? choose")
 
@@ -55,9 +56,13 @@ next_line program (Some stage) = stage_line program stage
 unfoldable pub step_line : Parts → Offer → List ℕ
 step_line program offer = line (codes "step " ++ offer_text program offer)
 
--- what is written of a step by an offer of a rule: its line, and that of the next stage where the rule leads to one
-unfoldable pub step_lines : Parts → Offer → Rule → List ℕ
-step_lines program offer rule = step_line program offer ++ next_line program rule.next
+-- `by DERIVATION`, for each backward premise
+unfoldable pub by_lines : Parts → List ProofTree → List ℕ
+by_lines program proofs = flat_map (λ proof. line (codes "by " ++ proof_text program proof)) proofs
+
+-- what is written of a step: its line, what proves the backward premises, and the next stage where the rule leads to one
+unfoldable pub step_lines : Parts → Offer → Rule → List ProofTree → List ℕ
+step_lines program offer rule proofs = step_line program offer ++ (by_lines program proofs ++ next_line program rule.next)
 
 abbrev pub ending_word : EndWord → List ℕ
 ending_word Quiet = codes "quiet"

@@ -4,13 +4,16 @@ ghost use Rattle.cep_base.specs.Talk.{Did, ConsoleCause};
 ghost use Rattle.cep_base.specs.Faults.{Rose};
 ghost use Rattle.std.specs.Prelude.{OnOk, ◌++◌};
 ghost use Rattle.cep_play.specs.Lines.{line};
-ghost use Rattle.cep_play.specs.Command.{IsPlay, OfFile, Plays, RefusesFile, Writes, IsFinished, IsLimited, OfText, OfRun, OfWords, CountsFaults, Adds, AsksFile, AskedAsSaid, AsksFor, OfPlay, IsNoForm, usage, no_program, refusal_text, code_of, status_of};
+ghost use Rattle.cep_play.specs.Command.{OfPlay, OfNames, OfFile, HaveNoForm, AskFor, Play, Adds, Plays, Refuses, Writes, IsFinished, IsLimited, usage, no_program, refusal_text};
+ghost use Rattle.cep_play.specs.Outcome.{OfText, OfRun, OfWords, CountsFaults, AsksFile, AskedAsSaid, code_of, status_of};
 
-use crate::dialogue::{EndWord, play};
+use crate::dialogue::play;
+use crate::ending::EndWord;
 use cep_base::limits::MOST_TEXT;
 use cep_base::{Console, ConsoleFault, Shelf, ShelfFault, Steps, Text};
-use cep_ground::accept;
-use cep_infer::Refusal;
+use cep_ground::laws::{no_program_is_refused, one_program};
+use cep_ground::{accept, too_long};
+use cep_refusal::Refusal;
 use cep_scratch::Scratch;
 use std::alloc::{AllocError, Global};
 use std::sync::ledger::Ledger;
@@ -102,6 +105,8 @@ fn play_text<C: Console, L: Ledger>(
     ensures counted { steps.old ≤ steps.new }
     ensures cause { ConsoleCause (C.faults console.old) (C.faults console.new) result }
 {
+    one_program();
+    no_program_is_refused();
     match accept(alloc, text)? {
         Ok(program) => {
             let word = play::<Scratch, C, L>(alloc, &program, console, steps)?;
@@ -132,7 +137,7 @@ fn play_file<C: Console, H: Shelf, L: Ledger>(
     match shelf.load(alloc, file, MOST_TEXT) {
         Ok(text) => play_text(alloc, &text, console, steps),
         Err(ShelfFault::TooLong) => {
-            console.put(b"refused 1:1 19 TooLong\n")?;
+            refuse(alloc, too_long(), console)?;
             Ok(Status::Refused)
         }
         Err(ShelfFault::Failed) => {
@@ -145,7 +150,7 @@ fn play_file<C: Console, H: Shelf, L: Ledger>(
 
 /// The file that the words name, if they are `play` and one further word.
 fn file_of(words: &[String]) -> Option<&String>
-    ensures { MatchOption result (IsNoForm (map string_bytes words.now)) (λ file. IsPlay (map string_bytes words.now) (string_bytes file.now)) }
+    ensures { MatchOption result (HaveNoForm (map string_bytes words.now)) (λ file. AskFor (map string_bytes words.now) (Play (string_bytes file.now))) }
 {
     match words {
         [play, file] if play.as_str() == "play" => Some(file),
@@ -198,15 +203,15 @@ pub fn ceptre<C: Console, H: Shelf, L: Ledger>(
     shelf: &mut H,
     steps: &mut Steps<L>,
 ) -> u8
-    // A run that ended is a dialogue of the program that the file's text spells.
+    // A run that ended is the dialogue of the program that the file's text spells.
     ensures ended { result ≡ 0 → OfPlay (map string_bytes words.now) (λ name. OfFile (H.files shelf.old) name (λ text.
         Plays C.talk C.left console.old console.new text IsFinished)) }
     ensures limited { result ≡ 4 → OfPlay (map string_bytes words.now) (λ name. OfFile (H.files shelf.old) name (λ text.
         Plays C.talk C.left console.old console.new text IsLimited)) }
 
-    // What is not played is refused with its one line.
-    ensures usage { result ≡ 2 → IsNoForm (map string_bytes words.now) × Writes C.talk C.left console.old console.new usage }
-    ensures refused { result ≡ 3 → OfPlay (map string_bytes words.now) (RefusesFile C.talk C.left console.old console.new (H.files shelf.old)) }
+    // What is not played is refused with its one line: a text that spells a program is not.
+    ensures usage { result ≡ 2 → HaveNoForm (map string_bytes words.now) × Writes C.talk C.left console.old console.new usage }
+    ensures refused { result ≡ 3 → OfPlay (map string_bytes words.now) (λ name. OfFile (H.files shelf.old) name (Refuses C.talk C.left console.old console.new)) }
     ensures unread { result ≡ 7 → OfPlay (map string_bytes words.now) (λ name. Writes C.talk C.left console.old console.new no_program) }
 
     // There is no further status, so each of these comes exactly where its case holds, but for faults and want of memory.
@@ -219,8 +224,8 @@ pub fn ceptre<C: Console, H: Shelf, L: Ledger>(
     ensures console_fails { C.faults console.old < C.faults console.new → result ≡ 6 }
 
     // The shelf is asked for the program alone, once.
-    ensures asked { result ≢ 9 → AsksFor (map string_bytes words.now) (Adds (H.asked shelf.old) (H.asked shelf.new)) }
-    ensures asked_at_most { result ≡ 9 → AsksFor (map string_bytes words.now) (Adds (H.asked shelf.old) (H.asked shelf.new)) ⊎ (H.asked shelf.new ≡ H.asked shelf.old) }
+    ensures asked { result ≢ 9 → OfNames (map string_bytes words.now) (Adds (H.asked shelf.old) (H.asked shelf.new)) }
+    ensures asked_at_most { result ≡ 9 → OfNames (map string_bytes words.now) (Adds (H.asked shelf.old) (H.asked shelf.new)) ⊎ (H.asked shelf.new ≡ H.asked shelf.old) }
     ensures files { H.files shelf.new ≡ H.files shelf.old }
 
     // The counter of matching steps never falls.

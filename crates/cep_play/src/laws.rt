@@ -1,15 +1,50 @@
-// Laws of the definitions that the contracts cite: no code calls them.
-ghost use Rattle.std.specs.Prelude.{◌≡◌, ℕ, List};
+//! Laws of runs and dialogues. Each function computes nothing, and its contract is the law.
+ghost use Rattle.std.specs.Prelude.{◌≡◌, ℕ, ◌+◌, List, [], length, map};
+ghost use Rattle.std.specs.List.{AllByRecursion};
 ghost use Rattle.cep_base.specs.declared.console.Event.{Event};
 ghost use Rattle.cep_rule.specs.declared.parts.Parts.{Parts};
-ghost use Rattle.cep_play.specs.Dialogue.{Ending, Dialogue};
+ghost use Rattle.cep_rule.specs.Steps.{IsMachineStep};
+ghost use Rattle.cep_play.specs.declared.settings.Settings.{Settings};
+ghost use Rattle.cep_play.specs.Deciding.{Supply};
+ghost use Rattle.cep_play.specs.Run.{Position, Turn, Ending, IsTurn, AreTurns, Run, bare};
+ghost use Rattle.cep_play.specs.Dialogue.{Dialogue};
 
 use cep_rule::laws::{one_list_of_offers, one_state_after_a_step};
 
-/// What is typed determines the whole dialogue: every event, and how the run ends.
-pub fn one_dialogue()
-    ensures { (program : Parts) (height limit : ℕ) (come : List ℕ) (one other : List Event) (end end' : Ending) → Dialogue program height limit come one end → Dialogue program height limit come other end' → (one ≡ other) × (end ≡ end') }
+/// From a position, what is typed and the seed determine the run: its turns, but for the derivations
+/// that they carry, how it ends, and what is left of the supply.
+pub fn one_run()
+    ensures { (program : Parts) (settings : Settings) (at : Position) (from : Supply) (turns turns' : List Turn) (ending ending' : Ending) (to to' : Supply)
+        → Run program settings at from turns ending to
+        → Run program settings at from turns' ending' to'
+        → (map bare turns ≡ map bare turns') × (ending ≡ ending') × (to ≡ to') }
 {
     one_list_of_offers();
     one_state_after_a_step();
 }
+
+/// What is typed determines the whole dialogue, event by event, how it ends, and what is left, where
+/// no rule has a backward premise.
+pub fn one_dialogue()
+    ensures { (program : Parts) (settings : Settings) (come : List ℕ) (turns turns' : List Turn) (ending ending' : Ending) (events events' : List Event) (rest rest' : List ℕ)
+        → AllByRecursion (λ rule. rule.backs ≡ []) program.rules
+        → Dialogue program settings come turns ending events rest
+        → Dialogue program settings come turns' ending' events' rest'
+        → (events ≡ events') × (ending ≡ ending') × (rest ≡ rest') }
+{
+    one_run();
+}
+
+/// Each turn of a run is a step of the machine, which can be checked without what was typed.
+pub fn turns_are_steps()
+    ensures { (program : Parts) (settings : Settings) (at : Position) (from : Supply) (turn : Turn)
+        → IsTurn program settings at from turn
+        → IsMachineStep program settings.height at.spot turn.after.spot turn.offer turn.rule turn.proofs }
+{}
+
+/// As many turns are done as the last position counts more than the first.
+pub fn turns_are_counted()
+    ensures { (program : Parts) (settings : Settings) (at : Position) (from : Supply) (turns : List Turn) (last : Position) (to : Supply)
+        → AreTurns program settings at from turns last to
+        → last.turns ≡ at.turns + length turns }
+{}

@@ -5,8 +5,10 @@
 mod choice;
 mod command;
 mod dialogue;
+mod ending;
 mod laws;
 mod lines;
+mod settings;
 mod turn;
 mod typed;
 

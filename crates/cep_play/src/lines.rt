@@ -6,7 +6,7 @@ ghost use Rattle.cep_rule.specs.Matching.{offers_of};
 ghost use Rattle.cep_text.specs.Texts.{IsTypedGround, IsOfferOf};
 ghost use Rattle.cep_play.specs.Lines.{have_line, listing, offer_line, question, stage_line, step_line, end_lines, header};
 
-use crate::dialogue::EndWord;
+use crate::ending::EndWord;
 use cep_base::Text;
 use cep_rule::{Matcher, Offer, Program};
 use cep_term::laws::bags_are_lawful;

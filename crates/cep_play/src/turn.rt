@@ -4,6 +4,7 @@ ghost use Rattle.cep_base.specs.declared.limits.TheConstants.{MOST_OFFERS, MOST_
 ghost use Rattle.cep_base.specs.Talk.{Did, ConsoleCause};
 ghost use Rattle.cep_rule.specs.Matching.{offers_of};
 ghost use Rattle.cep_text.specs.Texts.{IsOfferOf};
+ghost use Rattle.cep_rule.specs.Program.{IsProgram};
 ghost use Rattle.cep_ground.specs.Refusals.{IsBuilt};
 ghost use Rattle.cep_machine.specs.Asking.{asked_offers};
 ghost use Rattle.cep_play.specs.declared.turn.Turned.TheVariants.{Over};
@@ -11,8 +12,9 @@ ghost use Rattle.cep_play.specs.Choice.{IsChoiceWithin};
 ghost use Rattle.cep_play.specs.Turn.{AsksPlayer, IsPlayed, IsActed, IsTurned, config_left, limit_word};
 
 use crate::choice::{Choice, choose};
-use crate::dialogue::EndWord;
+use crate::ending::EndWord;
 use crate::lines::{put_question, put_step};
+use crate::settings::Settings;
 use cep_base::limits::MOST_TYPED;
 use cep_base::{Console, ConsoleFault, Steps, Text};
 use cep_machine::{Config, Stepped, Which};
@@ -73,13 +75,14 @@ fn ask<C: Console, M: Matcher>(
 fn act<C: Console, M: Matcher, L: Ledger>(
     alloc: Global,
     program: &Program,
+    settings: Settings,
     config: Config<M>,
     group: u32,
     place: u32,
     console: &mut C,
     steps: &mut Steps<L>,
 ) -> Result<Turned<M>, ConsoleFault>
-    requires played { IsPlayed M.is_of M.height_held program.now config }
+    requires played { IsPlayed M.is_of M.height_held program.now settings config }
     requires built { IsBuilt program.now }
     requires listed { group < length (M.offers_held config.matcher) }
     requires asked { offers_of (M.offers_held config.matcher) group ≡ asked_offers (M.offers_held config.matcher) config.stage }
@@ -87,7 +90,7 @@ fn act<C: Console, M: Matcher, L: Ledger>(
     requires within { place ≤ length (offers_of (M.offers_held config.matcher) group) }
     requires turns { config.turns < MOST_TURNS }
     ensures acted { IfOk result (IsActed C.talk C.left console.old console.new program.now (offers_of (M.offers_held config.matcher) group) place config) }
-    ensures played { IfOk result (λ turned. IsPlayed M.is_of M.height_held program.now (config_left turned)) }
+    ensures played { IfOk result (λ turned. IsPlayed M.is_of M.height_held program.now settings (config_left turned)) }
     ensures counted { steps.old ≤ steps.new }
     ensures cause { ConsoleCause (C.faults console.old) (C.faults console.new) result }
 {
@@ -113,21 +116,24 @@ fn word_of(which: Which) -> EndWord
     }
 }
 
-/// Does one turn, unless the run ends before its step.
+/// Does one turn, unless the run ends before its step. Some turns remain.
 pub fn turn<C: Console, M: Matcher, L: Ledger>(
     alloc: Global,
     program: &Program,
+    settings: Settings,
     config: Config<M>,
     console: &mut C,
     taken: &mut u64,
     steps: &mut Steps<L>,
 ) -> Result<Turned<M>, ConsoleFault>
-    requires played { IsPlayed M.is_of M.height_held program.now config }
+    requires played { IsPlayed M.is_of M.height_held program.now settings config }
+    requires kept { IsProgram program.now }
     requires built { IsBuilt program.now }
-    requires turns { config.turns < MOST_TURNS }
+    requires limit { settings.limit ≤ MOST_TURNS }
+    requires remain { config.turns < settings.limit }
     requires within { taken.old ≤ MOST_TYPED }
-    ensures turned { IfOk result (IsTurned C.talk C.left console.old console.new program.now config taken.old taken.new) }
-    ensures played { IfOk result (λ turned. IsPlayed M.is_of M.height_held program.now (config_left turned)) }
+    ensures turned { IfOk result (IsTurned C.talk C.left console.old console.new program.now settings config taken.old taken.new) }
+    ensures played { IfOk result (λ turned. IsPlayed M.is_of M.height_held program.now settings (config_left turned)) }
     ensures within { taken.new ≤ MOST_TYPED }
     ensures counted { steps.old ≤ steps.new }
     ensures cause { ConsoleCause (C.faults console.old) (C.faults console.new) result }
@@ -139,7 +145,9 @@ pub fn turn<C: Console, M: Matcher, L: Ledger>(
         return Ok(over(config, EndWord::Offers));
     }
     match ask(alloc, program, config.matcher(), group, console, taken)? {
-        Choice::Place(place) => act(alloc, program, config, group, place, console, steps),
+        Choice::Place(place) => act(
+            alloc, program, settings, config, group, place, console, steps,
+        ),
         Choice::NoMore => Ok(over(config, EndWord::Input)),
         Choice::NoRoom => Ok(over(config, EndWord::Typed)),
     }

@@ -13,3 +13,4 @@ pub mod Stages
 pub mod Matching
 pub mod Program
 pub mod TypeLaws
+pub mod Steps

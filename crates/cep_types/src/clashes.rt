@@ -2,17 +2,17 @@
 ghost use Rattle.std.specs.Prelude.{◌≡◌, ◌++◌, ◌∷◌, [], IfOk};
 ghost use Rattle.std.specs.List.{flat_map};
 ghost use Rattle.std.specs.Option.{option_map};
-ghost use Rattle.cep_names.specs.First.{first_in, IsFirstOrNone};
+ghost use Rattle.cep_refusal.specs.First.{first_in, IsFirstOrNone};
 ghost use Rattle.cep_names.specs.Items.{said};
-ghost use Rattle.cep_names.specs.Uses.{atoms_in, atoms_of};
+ghost use Rattle.cep_parse.specs.Raw.{atoms_in, atoms_of};
 ghost use Rattle.cep_types.specs.Clashes.{type_at, clash_of, atom_clashes, scope_clashes, item_scopes};
 ghost use Rattle.cep_types.specs.Met.{type_met};
 ghost use Rattle.cep_types.specs.Sites.{Mistyped};
 
 use crate::declarations::Declarations;
 use crate::variables::Variables;
-use cep_names::{Fault, Reason};
-use cep_parse::{RawAtom, RawElem, RawItem, RawKind, RawNode, RawRule, RawStart, Span};
+use cep_parse::{RawAtom, RawElem, RawItem, RawKind, RawNode, RawRule, Span};
+use cep_refusal::{Fault, FirstFault, Reason};
 use std::alloc::AllocError;
 
 impl<'a> Declarations<'a> {
@@ -48,13 +48,13 @@ impl<'a> Declarations<'a> {
     fn atom_clash(&self, variables: &Variables, atom: &RawAtom) -> Result<Option<Fault>, AllocError>
         ensures { IfOk result (λ first. first ≡ first_in (atom_clashes self.now (type_met self.now variables.now.firsts) atom.now)) }
     {
-        let mut first = None;
+        let mut first = FirstFault::none();
         let mut pending = self.pending(atom.name)?;
         for node in atom.nodes.as_slice() {
             let wants = self.site(&mut pending, node)?;
-            first = Fault::first_of(first, self.clash(variables, node, wants));
+            first.note(self.clash(variables, node, wants));
         }
-        Ok(first)
+        Ok(first.found())
     }
 
     // The first one of atoms that share these variables.
@@ -65,19 +65,19 @@ impl<'a> Declarations<'a> {
     ) -> Result<Option<Fault>, AllocError>
         ensures { IfOk result (λ first. first ≡ first_in (flat_map (atom_clashes self.now (type_met self.now variables.now.firsts)) atoms.now)) }
     {
-        let mut first = None;
+        let mut first = FirstFault::none();
         for atom in atoms {
-            first = Fault::first_of(first, self.atom_clash(variables, atom)?);
+            first.note(self.atom_clash(variables, atom)?);
         }
-        Ok(first)
+        Ok(first.found())
     }
 
     fn elem_clash(&self, variables: &Variables, elem: &RawElem) -> Result<Option<Fault>, AllocError>
         ensures { IfOk result (λ first. first ≡ first_in (flat_map (atom_clashes self.now (type_met self.now variables.now.firsts)) (atoms_in elem.now))) }
     {
-        match elem {
-            RawElem::Atom { atom, .. } => self.atom_clash(variables, atom),
-            RawElem::Qui(_) | RawElem::Stage(_) => Ok(None),
+        match elem.atom() {
+            Some(atom) => self.atom_clash(variables, atom),
+            None => Ok(None),
         }
     }
 
@@ -89,44 +89,38 @@ impl<'a> Declarations<'a> {
     ) -> Result<Option<Fault>, AllocError>
         ensures { IfOk result (λ first. first ≡ first_in (flat_map (atom_clashes self.now (type_met self.now variables.now.firsts)) (atoms_of side.now))) }
     {
-        let mut first = None;
+        let mut first = FirstFault::none();
         for elem in side {
-            first = Fault::first_of(first, self.elem_clash(variables, elem)?);
+            first.note(self.elem_clash(variables, elem)?);
         }
-        Ok(first)
+        Ok(first.found())
     }
 
     // The first one of a rule.
     fn rule_clash(&self, rule: &RawRule) -> Result<Option<Fault>, AllocError>
         ensures { IfOk result (λ first. first ≡ first_in (scope_clashes self.now (atoms_of rule.now.left ++ atoms_of rule.now.right))) }
     {
-        let left = rule.left.as_slice();
-        let right = rule.right.as_slice();
-        let mut variables = Variables::new(self.alloc());
-        variables.meet_side(self, left)?;
-        variables.meet_side(self, right)?;
-        let first = self.side_clash(&variables, left)?;
-        let other = self.side_clash(&variables, right)?;
+        let variables = Variables::of_rule(self, rule)?;
+        let first = self.side_clash(&variables, rule.left.as_slice())?;
+        let other = self.side_clash(&variables, rule.right.as_slice())?;
         Ok(Fault::first_of(first, other))
     }
 
     fn rules_clash(&self, rules: &[RawRule]) -> Result<Option<Fault>, AllocError>
         ensures { IfOk result (λ first. first ≡ first_in (flat_map (λ rule. scope_clashes self.now (atoms_of rule.left ++ atoms_of rule.right)) rules.now)) }
     {
-        let mut first = None;
+        let mut first = FirstFault::none();
         for rule in rules {
-            first = Fault::first_of(first, self.rule_clash(rule)?);
+            first.note(self.rule_clash(rule)?);
         }
-        Ok(first)
+        Ok(first.found())
     }
 
     // The first one of a clause.
     fn clause_clash(&self, head: &RawAtom, goals: &[RawAtom]) -> Result<Option<Fault>, AllocError>
         ensures { IfOk result (λ first. first ≡ first_in (scope_clashes self.now (head.now ∷ goals.now))) }
     {
-        let mut variables = Variables::new(self.alloc());
-        variables.meet_atom(self, head)?;
-        variables.meet_atoms(self, goals)?;
+        let variables = Variables::of_clause(self, head, goals)?;
         let first = self.atom_clash(&variables, head)?;
         let other = self.clash_among(&variables, goals)?;
         Ok(Fault::first_of(first, other))
@@ -145,11 +139,11 @@ impl<'a> Declarations<'a> {
     fn states_clash(&self, atoms: &[RawAtom]) -> Result<Option<Fault>, AllocError>
         ensures { IfOk result (λ first. first ≡ first_in (flat_map (λ atom. scope_clashes self.now (atom ∷ [])) atoms.now)) }
     {
-        let mut first = None;
+        let mut first = FirstFault::none();
         for atom in atoms {
-            first = Fault::first_of(first, self.state_clash(atom)?);
+            first.note(self.state_clash(atom)?);
         }
-        Ok(first)
+        Ok(first.found())
     }
 
     // The first one of an item. A clause with a label and no goals has a head without terms.
@@ -161,10 +155,7 @@ impl<'a> Declarations<'a> {
             RawItem::Stage { rules, .. } => self.rules_clash(rules.as_slice()),
             RawItem::Clause { head, goals, .. } => self.clause_clash(head, goals.as_slice()),
             RawItem::Context { atoms, .. } => self.states_clash(atoms.as_slice()),
-            RawItem::Trace { start, .. } => match start {
-                RawStart::Named(_) => Ok(None),
-                RawStart::Listed(atoms) => self.states_clash(atoms.as_slice()),
-            },
+            RawItem::Trace { start, .. } => self.states_clash(start.listed()),
             _ => Ok(None),
         }
     }
@@ -173,11 +164,11 @@ impl<'a> Declarations<'a> {
     fn items_clash(&self) -> Result<Option<Fault>, AllocError>
         ensures { IfOk result (λ first. first ≡ first_in (flat_map (λ item. flat_map (scope_clashes self.now) (item_scopes item)) self.now.file)) }
     {
-        let mut first = None;
+        let mut first = FirstFault::none();
         for item in self.items() {
-            first = Fault::first_of(first, self.item_clash(item)?);
+            first.note(self.item_clash(item)?);
         }
-        Ok(first)
+        Ok(first.found())
     }
 
     /// The first term of the text that is of another type than is wanted, or none.

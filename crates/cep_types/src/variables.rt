@@ -1,16 +1,15 @@
 // The variables of atoms that share them: those of a rule, of a clause, or of an atom of a state.
 ghost use Rattle.std.specs.Prelude.{◌≡◌, ◌∷◌, ◌++◌, [], map, IfOk, OnOk, ◌+◌, codes, decimal};
 ghost use Rattle.cep_names.specs.Items.{said};
-ghost use Rattle.cep_names.specs.Uses.{atoms_in, atoms_of};
+ghost use Rattle.cep_parse.specs.Raw.{atoms_in, atoms_of};
 ghost use Rattle.cep_types.specs.Heads.{variable_of, head_at};
 ghost use Rattle.cep_types.specs.Met.{none_met, met_site, AreMet, names_seen, kinds_met, head_by};
 
 use crate::declarations::Declarations;
 use crate::firsts::Firsts;
-use cep_base::Text;
+use cep_base::{List, Text};
 use cep_names::Space;
-use cep_parse::{RawAtom, RawElem, RawKind, RawNode, Span};
-use cep_rule::Kinds;
+use cep_parse::{RawAtom, RawElem, RawKind, RawNode, RawRule, Span};
 use std::alloc::{AllocError, Global};
 
 /// The variables that were met so far, each with the type that is wanted where it occurs first,
@@ -100,9 +99,9 @@ impl Variables {
     fn meet_elem(&mut self, declared: &Declarations, elem: &RawElem) -> Result<(), AllocError>
         ensures { OnOk result (AreMet declared.now (atoms_in elem.now) self.old self.new) }
     {
-        match elem {
-            RawElem::Atom { atom, .. } => self.meet_atom(declared, atom),
-            RawElem::Qui(_) | RawElem::Stage(_) => Ok(()),
+        match elem.atom() {
+            Some(atom) => self.meet_atom(declared, atom),
+            None => Ok(()),
         }
     }
 
@@ -148,8 +147,32 @@ impl Variables {
         }
     }
 
+    /// The variables of a rule.
+    pub fn of_rule(declared: &Declarations, rule: &RawRule) -> Result<Variables, AllocError>
+        ensures { IfOk result (λ variables. AreMet declared.now (atoms_of rule.now.left ++ atoms_of rule.now.right) none_met variables) }
+    {
+        let mut variables = Variables::new(declared.alloc());
+        variables.meet_side(declared, rule.left.as_slice())?;
+        variables.meet_side(declared, rule.right.as_slice())?;
+        Ok(variables)
+    }
+
+    /// The variables of a clause.
+    pub fn of_clause(
+        declared: &Declarations,
+        head: &RawAtom,
+        goals: &[RawAtom],
+    ) -> Result<Variables, AllocError>
+        ensures { IfOk result (λ variables. AreMet declared.now (head.now ∷ goals.now) none_met variables) }
+    {
+        let mut variables = Variables::new(declared.alloc());
+        variables.meet_atom(declared, head)?;
+        variables.meet_atoms(declared, goals)?;
+        Ok(variables)
+    }
+
     /// The types of the variables, by their numbers.
-    pub fn kinds(&self, declared: &Declarations) -> Result<Kinds, AllocError>
+    pub fn kinds(&self, declared: &Declarations) -> Result<List<u32>, AllocError>
         ensures { IfOk result (λ kinds. kinds ≡ kinds_met declared.now self.now.firsts) }
     {
         let types = self.firsts.types(declared.alloc())?;

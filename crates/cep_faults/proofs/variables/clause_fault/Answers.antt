@@ -2,7 +2,7 @@ use Rattle.std.proofs.Common.{List, sym, ap, ◌∙◌, ◌-◌, Ok}
 use Rattle.std.specs.List.{slice_get}
 use Rattle.cep_parse.specs.declared.raw.RawNode.{RawNode}
 use Rattle.cep_base.specs.declared.limits.TheConstants.{MOST_VARIABLES}
-use Rattle.cep_names.specs.Variables.{raw_nodes}
+use Rattle.cep_parse.specs.Raw.{raw_nodes}
 use Rattle.cep_faults.specs.Seen.{new_in, met_all}
 use Rattle.cep_faults.proofs.SeenLaws.{clause_found, clause_rest}
 use Rattle.cep_faults.proofs.variables.clause_fault.Goals as goal

@@ -1,8 +1,7 @@
 use Rattle.std.proofs.Common.{◌≡◌, ◌≤◌, take}
 use Rattle.std.specs.List.{flat_map}
 use Rattle.cep_base.specs.declared.limits.TheConstants.{MOST_VARIABLES}
-use Rattle.cep_names.specs.Uses.{atoms_in}
-use Rattle.cep_names.specs.Variables.{raw_nodes}
+use Rattle.cep_parse.specs.Raw.{atoms_in, raw_nodes}
 use Rattle.cep_faults.specs.Seen.{unseen, met_all}
 use Rattle.cep_faults.proofs.variables.side_past.Given as goal
 

@@ -1,4 +1,4 @@
-use Rattle.cep_names.specs.Uses.{atoms_in}
+use Rattle.cep_parse.specs.Raw.{atoms_in}
 use Rattle.cep_types.specs.Met.{names_seen}
 use Rattle.cep_infer.proofs.Building.{part_built}
 use Rattle.cep_infer.proofs.atoms.push_side.Goals as goal

@@ -1,5 +1,5 @@
 use Rattle.std.proofs.Common.{take}
-use Rattle.cep_names.specs.Uses.{atoms_of}
+use Rattle.cep_parse.specs.Raw.{atoms_of}
 use Rattle.cep_types.specs.Met.{names_seen}
 use Rattle.cep_infer.specs.Built.{AreBuilt}
 use Rattle.cep_infer.proofs.atoms.push_side.Given as goal

@@ -3,7 +3,7 @@ use Rattle.cep_parse.specs.declared.raw.RawAtom.{RawAtom}
 use Rattle.cep_parse.specs.declared.raw.RawElem.{RawElem}
 use Rattle.cep_names.specs.Misnamed.{is_declared}
 use Rattle.cep_names.specs.Spaces.{back_of}
-use Rattle.cep_names.specs.Uses.{atoms_of}
+use Rattle.cep_parse.specs.Raw.{atoms_of}
 use Rattle.cep_infer.specs.declared.listing.RuleRef.{RuleRef}
 use Rattle.cep_infer.specs.Listed.{rule_item}
 use Rattle.cep_infer.specs.Places.{IsReached, ArePlaces, backs_at}

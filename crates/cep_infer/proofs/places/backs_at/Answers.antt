@@ -2,7 +2,7 @@ use Rattle.std.proofs.Common.{true, option_to_list, sym, append-nil}
 use Rattle.cep_parse.specs.declared.raw.RawAtom.{RawAtom}
 use Rattle.cep_names.specs.Misnamed.{is_declared}
 use Rattle.cep_names.specs.Spaces.{back_of}
-use Rattle.cep_names.specs.Uses.{atoms_in}
+use Rattle.cep_parse.specs.Raw.{atoms_in}
 use Rattle.cep_infer.proofs.Unbound.{kept_more}
 use Rattle.cep_infer.proofs.places.backs_at.Goals as goal
 use Rattle.cep_infer.proofs.places.backs_at.Goals.{in-Some+in_ok-push, in_default}

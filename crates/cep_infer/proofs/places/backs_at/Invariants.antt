@@ -1,7 +1,7 @@
 use Rattle.std.proofs.Common.{◌≡◌, true, map, filter, take}
 use Rattle.cep_names.specs.Misnamed.{is_declared}
 use Rattle.cep_names.specs.Spaces.{back_of}
-use Rattle.cep_names.specs.Uses.{atoms_of}
+use Rattle.cep_parse.specs.Raw.{atoms_of}
 use Rattle.cep_infer.proofs.places.backs_at.Given as goal
 
 abbrev pub invariant-loop-elem : goal.invariant-loop-elem

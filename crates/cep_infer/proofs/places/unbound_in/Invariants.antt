@@ -1,6 +1,6 @@
 use Rattle.std.proofs.Common.{◌≡◌, ◌++◌, not, drop}
-use Rattle.cep_names.specs.Uses.{atoms_of}
-use Rattle.cep_names.specs.Variables.{raw_nodes, occurrences_from}
+use Rattle.cep_parse.specs.Raw.{atoms_of, raw_nodes}
+use Rattle.cep_names.specs.Variables.{occurrences_from}
 use Rattle.cep_types.specs.Met.{is_met}
 use Rattle.cep_infer.proofs.Unbound.{places_of}
 use Rattle.cep_infer.proofs.places.unbound_in.Given as goal

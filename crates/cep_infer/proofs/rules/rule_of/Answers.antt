@@ -1,7 +1,7 @@
 use Rattle.std.proofs.Common.{List, subst}
 use Rattle.cep_parse.specs.declared.raw.RawElem.{RawElem}
 use Rattle.cep_names.specs.Spaces.{rule_name}
-use Rattle.cep_names.specs.Uses.{atoms_of}
+use Rattle.cep_parse.specs.Raw.{atoms_of}
 use Rattle.cep_types.specs.Met.{names_seen}
 use Rattle.cep_infer.specs.Built.{AreBuilt, IsLeftBuilt}
 use Rattle.cep_infer.specs.Listed.{rule_item}

@@ -1,8 +1,11 @@
 use Rattle.std.proofs.lemmas.Result.{IfOk-weaker}
-use Rattle.cep_play.proofs.Commands.{file_read}
+use Rattle.cep_play.proofs.Commands.{file_read, longer_file, text_refused}
 use Rattle.cep_play.proofs.command.play_file.Goals as goal
 
 pub returns-in-Ok-clause-outcome : goal.returns-in-Ok-clause-outcome
 returns-in-Ok-clause-outcome g c =
-    IfOk-weaker c.play_text.result _ _ (λ status of. file_read g.C.Console.talk g.C.Console.left c.args.console.now c.play_text.new.console (g.H.Shelf.files c.args.shelf.now) c.args.file.now c.in-Ok.text.items status c.in-Ok.ensures.whole c.in-Ok.ensures.within of)
+    IfOk-weaker c.play_text.result _ _ (λ status of. file_read g.C.Console.talk g.C.Console.left c.args.console.now c.play_text.new.console (g.H.Shelf.files c.args.shelf.now) c.args.file.now c.in-Ok.text.items status c.in-Ok.ensures.whole of)
     (rw c.deref.ensures.value at c.play_text.ensures.outcome)
+
+pub returns-in_ok-refuse-in-TooLong-clause-outcome : goal.returns-in_ok-refuse-in-TooLong-clause-outcome
+returns-in_ok-refuse-in-TooLong-clause-outcome g c = ?

@@ -1,7 +1,7 @@
 use Rattle.std.proofs.Common.{subst, sym}
 use Rattle.cep_ground.specs.Refusals.{IsAccepted}
-use Rattle.cep_play.specs.Command.{OfText}
-use Rattle.cep_play.proofs.Commands.{text_played}
+use Rattle.cep_play.specs.Outcome.{OfText}
+use Rattle.cep_play.proofs.Commands.{text_played, text_refused}
 use Rattle.cep_play.proofs.command.play_text.Goals as goal
 
 pub returns-in_ok-word-in-Ok-clause-outcome : goal.returns-in_ok-word-in-Ok-clause-outcome
@@ -9,4 +9,10 @@ returns-in_ok-word-in-Ok-clause-outcome g c =
     let text = c.args.text.now in
     let accepted = subst (λ answer. IsAccepted text answer) c.in-Ok.is c.in_ok-program.ensures in
     subst (λ status. OfText g.C.Console.talk g.C.Console.left c.args.console.now c.play.new.console text status) (sym c.status_of.ensures)
-    (text_played g.C.Console.talk g.C.Console.left c.args.console.now c.play.new.console text c.in-Ok.program c.in_ok-word-in-Ok.word accepted.0 accepted.1 c.in_ok-word-in-Ok.ensures.said)
+    (text_played g.C.Console.talk g.C.Console.left c.args.console.now c.play.new.console text c.in-Ok.program c.in_ok-word-in-Ok.word (c.one_program.ensures text) accepted.0 accepted.1 c.in_ok-word-in-Ok.ensures.said)
+
+pub returns-in_ok-refuse-in-Err-clause-outcome : goal.returns-in_ok-refuse-in-Err-clause-outcome
+returns-in_ok-refuse-in-Err-clause-outcome g c =
+    let text = c.args.text.now in
+    text_refused g.C.Console.talk g.C.Console.left c.args.console.now c.refuse.new.console text c.in-Err.refusal c.no_program_is_refused.ensures
+    (subst (λ answer. IsAccepted text answer) c.in-Err.is c.in_ok-program.ensures) c.in_ok-refuse-in-Err.ensures.told

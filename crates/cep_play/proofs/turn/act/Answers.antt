@@ -1,11 +1,13 @@
-use Rattle.std.proofs.Common.{refl, sym, subst, ap, ◌++◌, ◌-◌, ◌∙◌}
+use Rattle.std.proofs.Common.{◌≡◌, refl, sym, subst, ap, ◌++◌, ◌-◌, ◌∙◌, true}
+use Rattle.std.specs.Prelude.{slice_get, IsSomeAnd}
 use Rattle.cep_rule.specs.Matching.{offers_of}
-use Rattle.cep_machine.specs.Stepping.{IsStepped}
+use Rattle.cep_machine.specs.Configuration.{IsConfigurationOf}
+use Rattle.cep_machine.specs.Stepping.{IsStepped, config_after}
 use Rattle.cep_play.specs.declared.turn.Turned.TheVariants.{Over}
 use Rattle.cep_play.specs.Lines.{step_line}
 use Rattle.cep_play.specs.Turn.{IsActed}
 use Rattle.cep_play.proofs.Did.{did_same, did_put, did_map}
-use Rattle.cep_play.proofs.Turns.{offer_has_text, step_acts, step_fails, one_turn_more, left_alone}
+use Rattle.cep_play.proofs.Turns.{offer_has_text, step_acts, step_fails, one_turn_more, same_stage, left_alone}
 use Rattle.cep_play.proofs.turn.act.Goals as goal
 
 pub put_step-requires : goal.put_step-requires
@@ -62,3 +64,21 @@ returns-clause-acted g c =
           c.requires.built are (rw c.matcher.ensures.matcher at c.offer.ensures) refl c.requires.asked last c.in-Limit.which c.in-Limit.number
           (λ rule values h. subst (λ s. IsStepped rule values old s) c.in-Limit.is (c.in_ok-config.ensures.stepped rule values h)),
     ))
+
+pub returns-in-Done-clause-played : goal.returns-in-Done-clause-played
+returns-in-Done-clause-played g c =
+    let program = c.args.program.now in
+    let old = c.args.config in
+    let new = c.in-Done.config in
+    let matcher = old.matcher in
+    let lists = g.M.Matcher.offers_held matcher in
+    let offers = offers_of lists c.args.group in
+    let are = (g.met.M.Matcher.exact program matcher c.requires.played.of_program.matcher).each c.args.group c.requires.listed in
+    let stage = same_stage program (g.M.Matcher.height_held matcher) (g.M.Matcher.state_held matcher) c.args.group lists offers c.args.place (c.args.place - 1) c.offer.result.now old
+    c.requires.built are (rw c.matcher.ensures.matcher at c.offer.ensures) refl c.requires.asked new
+    (λ rule values h. subst (λ s. IsStepped rule values old s) c.in-Done.is (c.in_ok-config.ensures.stepped rule values h)) in
+    record {
+      of_program = subst (λ s. IsConfigurationOf g.M.Matcher.is_of program (config_after s)) c.in-Done.is c.in_ok-config.ensures.of_program;
+      height = subst (λ s. g.M.Matcher.height_held (config_after s).matcher ≡ g.M.Matcher.height_held matcher) c.in-Done.is c.in_ok-config.ensures.same_height ∙ c.requires.played.height;
+      interactive = subst (λ n. IsSomeAnd (slice_get program.stages n) (λ it. it.interactive ≡ true)) (sym stage) c.requires.played.interactive;
+    }

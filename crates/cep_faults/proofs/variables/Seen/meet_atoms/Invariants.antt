@@ -1,6 +1,6 @@
 use Rattle.std.proofs.Common.{◌≡◌, ◌≤◌, take}
 use Rattle.cep_base.specs.declared.limits.TheConstants.{MOST_VARIABLES}
-use Rattle.cep_names.specs.Variables.{raw_nodes}
+use Rattle.cep_parse.specs.Raw.{raw_nodes}
 use Rattle.cep_faults.specs.Seen.{met_all}
 use Rattle.cep_faults.proofs.variables.Seen.meet_atoms.Given as goal
 

@@ -1,6 +1,7 @@
 use Rattle.std.proofs.Common.{◌≡◌, drop}
 use Rattle.std.specs.List.{flat_map}
-use Rattle.cep_names.specs.Filling.{all_declared, item_rules, rules_in_turn}
+use Rattle.cep_parse.specs.Raw.{item_rules}
+use Rattle.cep_names.specs.Filling.{all_declared, rules_in_turn}
 use Rattle.cep_names.proofs.entries.Tabled.declare_all_rules.Given as goal
 
 abbrev pub invariant-loop-item : goal.invariant-loop-item

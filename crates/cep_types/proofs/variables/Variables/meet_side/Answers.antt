@@ -1,4 +1,4 @@
-use Rattle.cep_names.specs.Uses.{atoms_in}
+use Rattle.cep_parse.specs.Raw.{atoms_in}
 use Rattle.cep_types.proofs.Meeting.{part_is_met}
 use Rattle.cep_types.proofs.variables.Variables.meet_side.Goals as goal
 

@@ -1,5 +1,5 @@
 use Rattle.std.proofs.Common.{take}
-use Rattle.cep_names.specs.Uses.{atoms_of}
+use Rattle.cep_parse.specs.Raw.{atoms_of}
 use Rattle.cep_types.specs.Met.{AreMet}
 use Rattle.cep_types.proofs.variables.Variables.meet_side.Given as goal
 

@@ -1,0 +1,85 @@
+-- Private.
+-- What the parts of the command come to, by its status.
+use Rattle.std.specs.Prelude.{◌≡◌, ◌⊎◌, ℕ, List, [], ◌∷◌, Option, Result, Ok, Err}
+use Rattle.cep_base.specs.declared.console.Event.{Event}
+use Rattle.cep_base.specs.declared.console.ConsoleFault.{ConsoleFault}
+use Rattle.cep_base.specs.declared.console.ConsoleFault.TheVariants as faults
+use Rattle.cep_base.specs.Files.{Files}
+use Rattle.cep_base.specs.Faults.{Rose}
+use Rattle.cep_play.specs.declared.command.Status.{Status}
+use Rattle.cep_play.specs.declared.command.Status.TheVariants.{Ended, Usage, Refused, Limited, Console, Unread, Memory}
+use Rattle.cep_play.specs.declared.ending.EndWord.{EndWord}
+use Rattle.cep_play.specs.declared.ending.EndWord.TheVariants.{Quiet, Input, Turns, Offers, Typed, Atom, State}
+use Rattle.cep_play.specs.Command.{OfPlay, OfNames, OfFile, HaveNoForm, Adds, Writes, Plays, Refuses, IsFinished, IsLimited, usage, no_program}
+
+-- the status of a run that ended with this word
+abbrev pub status_of : EndWord → Status
+status_of Quiet = Ended
+status_of Input = Ended
+status_of Turns = Limited
+status_of Offers = Limited
+status_of Typed = Limited
+status_of Atom = Limited
+status_of State = Limited
+
+-- what a status says of a text
+abbrev pub OfText : {C : Type 0} → (C → Option (List Event)) → (C → Option (List ℕ)) → C → C → List ℕ → Status → Type 0
+OfText talk left old new text Ended = Plays talk left old new text IsFinished
+OfText talk left old new text Limited = Plays talk left old new text IsLimited
+OfText talk left old new text Refused = Refuses talk left old new text
+OfText talk left old new text Usage = ⊥
+OfText talk left old new text Console = ⊥
+OfText talk left old new text Unread = ⊥
+OfText talk left old new text Memory = ⊥
+
+-- what a status says of a file
+abbrev pub OfRun : {C : Type 0} → (C → Option (List Event)) → (C → Option (List ℕ)) → C → C → Option Files → List ℕ → Status → Type 0
+OfRun talk left old new files name Ended = OfFile files name (λ text. Plays talk left old new text IsFinished)
+OfRun talk left old new files name Limited = OfFile files name (λ text. Plays talk left old new text IsLimited)
+OfRun talk left old new files name Refused = OfFile files name (Refuses talk left old new)
+OfRun talk left old new files name Unread = Writes talk left old new no_program
+OfRun talk left old new files name Usage = ⊥
+OfRun talk left old new files name Console = ⊥
+OfRun talk left old new files name Memory = ⊥
+
+-- the shelf's count of faults rose where the file could not be read, and stays where it could
+abbrev pub CountsFaults : ℕ → ℕ → Status → Type 0
+CountsFaults before after Unread = Rose before after
+CountsFaults before after Ended = after ≡ before
+CountsFaults before after Limited = after ≡ before
+CountsFaults before after Refused = after ≡ before
+CountsFaults before after Usage = after ≡ before
+CountsFaults before after Console = Unit {0}
+CountsFaults before after Memory = Unit {0}
+
+-- what a status says of the words
+abbrev pub OfWords : {C : Type 0} → (C → Option (List Event)) → (C → Option (List ℕ)) → C → C → Option Files → List (List ℕ) → Status → Type 0
+OfWords talk left old new files words Usage = HaveNoForm words × Writes talk left old new usage
+OfWords talk left old new files words Ended = OfPlay words (λ name. OfRun talk left old new files name Ended)
+OfWords talk left old new files words Limited = OfPlay words (λ name. OfRun talk left old new files name Limited)
+OfWords talk left old new files words Refused = OfPlay words (λ name. OfRun talk left old new files name Refused)
+OfWords talk left old new files words Unread = OfPlay words (λ name. OfRun talk left old new files name Unread)
+OfWords talk left old new files words Console = ⊥
+OfWords talk left old new files words Memory = ⊥
+
+-- the file was asked for, but for want of memory perhaps
+abbrev pub AsksFile : Option (List (List ℕ)) → List ℕ → Option (List (List ℕ)) → Result Status ConsoleFault → Type 0
+AsksFile before name after (Ok status) = Adds before after (name ∷ [])
+AsksFile before name after (Err faults.Failed) = Adds before after (name ∷ [])
+AsksFile before name after (Err (faults.Memory error)) = Adds before after (name ∷ []) ⊎ (after ≡ before)
+
+-- what the words ask for was asked for, but for want of memory perhaps
+abbrev pub AskedAsSaid : Option (List (List ℕ)) → List (List ℕ) → Option (List (List ℕ)) → Result Status ConsoleFault → Type 0
+AskedAsSaid before words after (Ok status) = OfNames words (Adds before after)
+AskedAsSaid before words after (Err faults.Failed) = OfNames words (Adds before after)
+AskedAsSaid before words after (Err (faults.Memory error)) = OfNames words (Adds before after) ⊎ (after ≡ before)
+
+-- the status of the process
+abbrev pub code_of : Status → ℕ
+code_of Ended = 0
+code_of Usage = 2
+code_of Refused = 3
+code_of Limited = 4
+code_of Console = 6
+code_of Unread = 7
+code_of Memory = 9

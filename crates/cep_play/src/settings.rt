@@ -1,0 +1,31 @@
+ghost use Rattle.std.specs.Prelude.{◌≡◌, ◌≤◌};
+ghost use Rattle.cep_base.specs.declared.limits.TheConstants.{MOST_TURNS};
+ghost use Rattle.cep_rule.specs.Program.{IsProgram};
+ghost use Rattle.cep_play.specs.Command.{settings_of};
+
+use cep_base::limits::{DEFAULT_HEIGHT, DEFAULT_SEED, DEFAULT_TURNS};
+use cep_rule::Program;
+
+/// What holds for a whole run: how many levels a derivation may have, how many turns are done at
+/// most, and the seed of what nobody chooses.
+#[derive(Clone, Copy, Debug, PartialEq, Eq)]
+pub struct Settings {
+    pub height: u32,
+    pub limit: u32,
+    pub seed: u64,
+}
+
+impl Settings {
+    /// Those of a run of the program for which the words ask nothing else.
+    pub fn of(program: &Program) -> Settings
+        ensures settings { result ≡ settings_of program.now }
+        ensures few { result.limit ≤ MOST_TURNS }
+        ensures kept { IsProgram program.now }
+    {
+        Settings {
+            height: DEFAULT_HEIGHT,
+            limit: program.parts().turns.unwrap_or(DEFAULT_TURNS),
+            seed: DEFAULT_SEED,
+        }
+    }
+}
