@@ -20,7 +20,7 @@ use Rattle.cep_names.specs.declared.space.Space.TheVariants as space
 use Rattle.cep_names.specs.declared.space.Role.{Role}
 use Rattle.cep_names.specs.declared.space.Role.TheVariants as role
 use Rattle.cep_names.specs.Items.{ConItem, ClauseItem, TraceItem, preds_in, traces_in}
-use Rattle.cep_parse.specs.Raw.{start_listed, item_rules}
+use Rattle.cep_parse.specs.Raw.{item_rules, listed_atoms}
 use Rattle.cep_names.specs.Uses.{Placed, Use, placed, node_uses, con_uses, own_uses, rule_atoms, clause_atoms}
 use Rattle.cep_names.specs.Misnamed.{wrong, is_declared, is_qui, is_stage}
 use Rattle.cep_faults.specs.Looks.{Looks, says, is_anywhere, names_context, cons_by, clauses_by}
