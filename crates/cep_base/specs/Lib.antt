@@ -1,4 +1,6 @@
 pub mod Spelling
+pub mod Bounds
+pub mod Foremost
 pub mod Faults
 pub mod Talk
 pub mod Files

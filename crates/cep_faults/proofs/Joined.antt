@@ -2,9 +2,9 @@
 use Rattle.std.proofs.Common.{◌≡◌, ℕ, ◌⊎◌, inl, inr, ⊎_elim, List, ◌++◌, Option, Some, None, refl, ap, sym, ◌∙◌, subst}
 use Rattle.std.specs.List.{flat_map, Contains}
 use Rattle.cep_parse.specs.declared.raw.RawItem.{RawItem}
-use Rattle.cep_names.specs.declared.fault.Fault.{Fault}
+use Rattle.cep_refusal.specs.declared.fault.Fault.{Fault}
 use Rattle.cep_faults.specs.declared.sizes.Size.{Size}
-use Rattle.cep_names.specs.First.{IsFirstOrNone, first_of, first_in}
+use Rattle.cep_refusal.specs.First.{standing, IsFirstOrNone, first_of, first_in}
 use Rattle.cep_names.specs.Items.{Source, contexts_in, traces_in}
 use Rattle.cep_names.specs.Misnamed.{Misnamed, IsTwice}
 use Rattle.cep_names.specs.Misnamed.Misnamed.{twice}
@@ -12,14 +12,14 @@ use Rattle.cep_names.specs.Tables.{Tables, AreTablesOf}
 use Rattle.cep_faults.specs.Looks.{Looks, looks_of, looks_in}
 use Rattle.cep_faults.specs.Faults.{item_faults}
 use Rattle.cep_faults.specs.Totals.{item_unfit_faults, item_variable_faults, all_count_faults, traces_faults, first_size, all_faults}
-use Rattle.cep_faults.proofs.Firsts.{first_union, first_same, first_among, first_in-append}
+use Rattle.cep_base.proofs.Foremost.{foremost_union, foremost_same, foremost_among, foremost_append}
 use Rattle.cep_base.proofs.Members.{to_contains, from_contains}
 use Rattle.cep_faults.proofs.SourceLooks.{looks_is}
 use Rattle.cep_faults.proofs.SoundItems.{all_sound}
 use Rattle.cep_faults.proofs.Complete.{complete}
 
 followed : (faults more : List Fault) (one rest both : Option Fault) → one ≡ first_in faults → rest ≡ first_in more → both ≡ first_of one rest → both ≡ first_in (faults ++ more)
-followed faults more one rest both a b is = is ∙ ap (λ (o : Option Fault). first_of o rest) a ∙ ap (first_of (first_in faults)) b ∙ sym (first_in-append faults more)
+followed faults more one rest both a b is = is ∙ ap (λ (o : Option Fault). first_of o rest) a ∙ ap (first_of (first_in faults)) b ∙ sym (foremost_append standing faults more)
 
 -- the five passes
 pub all_first : (looks : Looks) (items : List RawItem) (sizes : List ℕ → Option Size) (counts traces totals variables two fits three each four : Option Fault)
@@ -41,10 +41,10 @@ pub named_first : (source : Source) (tables : Tables) (first other answer : Opti
 named_first source tables first other answer are again others is =
     let found : other ≡ first_in (all_faults (looks_of source) source.file) = others ∙ ap (λ (looks : Looks). first_in (all_faults looks source.file)) (looks_is source tables are) in
     subst (IsFirstOrNone (Misnamed source)) (sym (is ∙ ap (first_of first) found))
-    (first_same (λ fault. IsTwice source fault ⊎ Contains (all_faults (looks_of source) source.file) fault) (Misnamed source) (first_of first (first_in (all_faults (looks_of source) source.file)))
+    (foremost_same standing (λ fault. IsTwice source fault ⊎ Contains (all_faults (looks_of source) source.file) fault) (Misnamed source) (first_of first (first_in (all_faults (looks_of source) source.file)))
     (λ fault. ⊎_elim (λ h. twice h) (λ k. all_sound source fault (from_contains (all_faults (looks_of source) source.file) fault k)))
     (λ fault h. ⊎_elim (λ k. inl k) (λ k. inr (to_contains (all_faults (looks_of source) source.file) fault k)) (complete source fault h))
-    (first_union (IsTwice source) (Contains (all_faults (looks_of source) source.file)) first (first_in (all_faults (looks_of source) source.file)) again (first_among (all_faults (looks_of source) source.file))))
+    (foremost_union standing (IsTwice source) (Contains (all_faults (looks_of source) source.file)) first (first_in (all_faults (looks_of source) source.file)) again (foremost_among standing (all_faults (looks_of source) source.file))))
 
 -- where there is no first fault, none of the two parts has one
 pub none_before : (first other : Option Fault) → first_of first other ≡ None → first ≡ None

@@ -1,6 +1,4 @@
-pub mod TableEntries
 pub mod Firsts
-pub mod FirstLoops
 pub mod Nths
 pub mod SizeTables
 pub mod TraceSteps

@@ -4,8 +4,8 @@ use Rattle.std.specs.List.{flat_map, slice_get}
 use Rattle.std.proofs.lemmas.Grind.{common_steps, flat_map-append}
 use Rattle.std.proofs.lemmas.List.{take_more, take-append-drop}
 use Rattle.std.proofs.lemmas.Option.{slice_get_past}
-use Rattle.cep_names.specs.declared.fault.Fault.{Fault}
-use Rattle.cep_names.specs.First.{first_in}
+use Rattle.cep_refusal.specs.declared.fault.Fault.{Fault}
+use Rattle.cep_refusal.specs.First.{first_in}
 use Rattle.cep_faults.specs.Faults.{past}
 
 pub slice_get_at : {X : Type 0} (xs : List X) (y : X) (ys : List X) (n : ℕ) → n ≡ length xs → slice_get (xs ++ y ∷ ys) n ≡ Some y

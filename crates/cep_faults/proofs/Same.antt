@@ -38,7 +38,7 @@ use Rattle.cep_faults.specs.Looks.{Looks, looks_of, says}
 use Rattle.cep_faults.specs.Faults.{place_if, premise_places, atom_places}
 use Rattle.cep_faults.specs.Totals.{places_in, cut, most_counted, written_size, size_or_none, first_size, listed_size, start_size, is_large}
 use Rattle.cep_base.proofs.Members.{map-flat_map}
-use Rattle.cep_faults.proofs.SizeTables.{bytes_eq_sym}
+use Rattle.cep_base.proofs.Bytes.{bytes_eq_sym}
 use Rattle.cep_faults.proofs.SourceLooks.{cons_by_is, clauses_by_is}
 
 abbrev pub atom_at : RawAtom → ℕ

@@ -10,8 +10,8 @@ use Rattle.cep_parse.specs.declared.raw.RawNode.{RawNode}
 use Rattle.cep_parse.specs.Symbols.{slice_of}
 use Rattle.cep_faults.specs.declared.variables.Seen.{Seen}
 use Rattle.cep_base.specs.declared.limits.TheConstants.{MOST_VARIABLES}
-use Rattle.cep_names.specs.declared.fault.Fault.{Fault}
-use Rattle.cep_names.specs.First.{first_in}
+use Rattle.cep_refusal.specs.declared.fault.Fault.{Fault}
+use Rattle.cep_refusal.specs.First.{first_in}
 use Rattle.cep_faults.specs.Faults.{past}
 use Rattle.cep_names.specs.Filling.{plain}
 use Rattle.cep_names.specs.Tables.{has_name}

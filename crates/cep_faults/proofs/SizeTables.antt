@@ -1,11 +1,10 @@
 -- Tables of sizes, one context after another.
 use Rattle.std.proofs.Common.{◌≡◌, ℕ, ◌+◌, ◌<◌, Bool, true, false, if◌then◌else◌, List, [], ◌∷◌, ◌++◌, length, get_or, take, Option, None, Some, is_some, refl, ap, sym, ◌∙◌, subst}
-use Rattle.std.proofs.lemmas.Bool.{false≢true}
 use Rattle.std.specs.List.{flat_map, find}
 use Rattle.std.specs.Map.{lookup}
 use Rattle.std.specs.Option.{option_map}
 use Rattle.std.specs.Str.{bytes_eq}
-use Rattle.std.proofs.lemmas.Slice.Eq.{bytes_eq-Decides}
+use Rattle.cep_base.proofs.Bytes.{bytes_eq_sym}
 use Rattle.cep_parse.specs.declared.raw.RawItem.{RawItem}
 use Rattle.cep_parse.specs.Symbols.{slice_of}
 use Rattle.cep_faults.specs.declared.sizes.Size.{Size}
@@ -24,17 +23,6 @@ or_else_none (Some size) = refl
 or_else_assoc : (a b c : Option Size) → or_else (or_else a b) c ≡ or_else a (or_else b c)
 or_else_assoc None b c = refl
 or_else_assoc (Some size) b c = refl
-
-not_true : (b : Bool) → (b ≡ true → b ≡ false) → b ≡ false
-not_true true h = h refl
-not_true false h = refl
-
-same_or_not : (a b : List ℕ) (v : Bool) → bytes_eq a b ≡ v → bytes_eq b a ≡ v
-same_or_not a b true e = (bytes_eq-Decides b a).1 (sym ((bytes_eq-Decides a b).0 e))
-same_or_not a b false e = not_true (bytes_eq b a) (λ other. absurd (false≢true (sym e ∙ (bytes_eq-Decides a b).1 (sym ((bytes_eq-Decides b a).0 other)))))
-
-pub bytes_eq_sym : (a b : List ℕ) → bytes_eq a b ≡ bytes_eq b a
-bytes_eq_sym a b = sym (same_or_not a b (bytes_eq a b) refl)
 
 lookup_push : (test : List ℕ → Bool) (table : List (List ℕ × Size)) (name : List ℕ) (size : Size) → lookup test (table ++ (name, size) ∷ []) ≡ or_else (lookup test table) (if test name then Some size else None)
 lookup_push test [] name size = refl

@@ -5,13 +5,14 @@ use Rattle.std.proofs.lemmas.Bool.{eqb-false}
 use Rattle.cep_parse.specs.declared.raw.Span.{Span}
 use Rattle.cep_parse.specs.declared.raw.RawKind.{RawKind}
 use Rattle.cep_parse.specs.declared.raw.RawKind.TheVariants as kind
-use Rattle.cep_names.specs.declared.fault.Fault.{Fault}
-use Rattle.cep_names.specs.declared.reason.Reason.TheVariants.{WrongArity, VarInContext}
+use Rattle.cep_refusal.specs.declared.fault.Fault.{Fault}
+use Rattle.cep_refusal.specs.declared.reason.Reason.TheVariants.{WrongArity, VarInContext}
 use Rattle.cep_names.specs.declared.space.Space.TheVariants as space
 use Rattle.cep_names.specs.declared.space.Role.{Role}
 use Rattle.cep_names.specs.declared.space.Role.TheVariants as role
 use Rattle.cep_names.specs.Items.{Source, said}
-use Rattle.cep_names.specs.Misnamed.{Misnamed, IsOfState, ComesToState, IsOpen, is_somewhere, wrong}
+use Rattle.cep_names.specs.Misnamed.{Misnamed, IsOfState, ComesToState, IsOpen, is_somewhere}
+use Rattle.cep_refusal.specs.First.{wrong}
 use Rattle.cep_names.specs.Misnamed.Misnamed.{unknown, wrong_kind, wrong_arity, variable_in_state, backward_in_state, linear_in_clause}
 use Rattle.cep_names.specs.Misnamed.IsOfState.{listed, start}
 use Rattle.cep_names.specs.Misnamed.ComesToState.{made}

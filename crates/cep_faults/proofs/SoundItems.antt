@@ -9,15 +9,16 @@ use Rattle.cep_parse.specs.declared.raw.RawRule.{RawRule}
 use Rattle.cep_parse.specs.declared.raw.RawItem.{RawItem}
 use Rattle.cep_parse.specs.declared.raw.RawItem.TheVariants as item
 use Rattle.cep_faults.specs.declared.sizes.Size.{Size}
-use Rattle.cep_rule.specs.Limits.{IsTurnLimit}
+use Rattle.cep_base.specs.Bounds.{IsTurnLimit}
 use Rattle.cep_base.specs.declared.limits.TheConstants.{MOST_ARGUMENTS, MOST_BACKS, MOST_CLAUSES, MOST_CONS, MOST_COPIES, MOST_DEPTH, MOST_GOALS, MOST_NODES, MOST_PREDS, MOST_PREMISES, MOST_RIGHT, MOST_RULES, MOST_STATE_NODES, MOST_TURNS, MOST_VARIABLES}
-use Rattle.cep_names.specs.declared.fault.Fault.{Fault}
-use Rattle.cep_names.specs.declared.reason.Reason.TheVariants.{OverLimit, BadQui, TwoTraces}
+use Rattle.cep_refusal.specs.declared.fault.Fault.{Fault}
+use Rattle.cep_refusal.specs.declared.reason.Reason.TheVariants.{OverLimit, BadQui, TwoTraces}
 use Rattle.cep_names.specs.declared.space.Space.TheVariants as space
 use Rattle.cep_faults.specs.declared.counts.Counted.TheVariants as counted
 use Rattle.cep_names.specs.Items.{Source, PredItem, ConItem, ClauseItem, RuleItem, TraceItem, said, cons_in, cons_of, preds_in, preds_of, clauses_in, clauses_of, rules_of, traces_in, traces_of, contexts_of}
-use Rattle.cep_parse.specs.Raw.{item_rules, atoms_of, raw_nodes, listed_atoms}
-use Rattle.cep_names.specs.Misnamed.{Misnamed, IsOver, IsOfState, IsQuiRule, wrong, arguments_of, linear_of, backward_of, is_qui, is_stage}
+use Rattle.cep_parse.specs.Raw.{atoms_of, raw_nodes, item_rules, listed_atoms}
+use Rattle.cep_names.specs.Misnamed.{Misnamed, IsOver, IsOfState, IsQuiRule, arguments_of, linear_of, backward_of, is_qui, is_stage}
+use Rattle.cep_refusal.specs.First.{wrong}
 use Rattle.cep_names.specs.Misnamed.Misnamed.{bad_qui, no_trace, two_traces, over}
 use Rattle.cep_names.specs.Misnamed.IsOfState.{listed, start}
 use Rattle.cep_names.specs.Spaces.{names_in}

@@ -1,19 +1,15 @@
 -- The declarations of a text and their tables answer alike.
-use Rattle.std.proofs.Common.{◌≡◌, ℕ, Bool, ◌||◌, List, [], ◌∷◌, map, refl, ap, sym, ◌∙◌}
-use Rattle.std.specs.List.{list_any}
+use Rattle.std.proofs.Common.{◌≡◌, ℕ, List, [], map, refl, ap, sym, ◌∙◌}
 use Rattle.std.specs.Str.{bytes_eq}
 use Rattle.cep_parse.specs.declared.raw.Span.{Span}
 use Rattle.cep_parse.specs.declared.raw.RawItem.{RawItem}
 use Rattle.cep_parse.specs.declared.raw.RawItem.TheVariants as item
+use Rattle.cep_base.proofs.Bytes.{any_map}
 use Rattle.cep_names.specs.declared.space.Space.TheVariants as space
 use Rattle.cep_names.specs.Items.{Source, said, sorts_of, preds_of, is_said, is_labelled, bare, con_or_none, clause_or_none, cons_in, clauses_in}
 use Rattle.cep_names.specs.Spaces.{named, is_in}
 use Rattle.cep_names.specs.Tables.{Tables, AreTablesOf}
 use Rattle.cep_faults.specs.Looks.{looks_of, looks_in, labels, cons_by, clauses_by}
-
-any_map : {X Y : Type 0} (test : Y → Bool) (f : X → Y) (xs : List X) → list_any test (map f xs) ≡ list_any (λ x. test (f x)) xs
-any_map test f [] = refl
-any_map test f (x ∷ xs) = ap (λ (rest : Bool). test (f x) || rest) (any_map test f xs)
 
 sorts_said : (source : Source) (name : List ℕ) → is_in source space.Sorts name ≡ is_said source (sorts_of source) name
 sorts_said source name = any_map (λ other. bytes_eq other.name name) (named source) (sorts_of source)

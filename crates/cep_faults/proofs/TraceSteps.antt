@@ -3,15 +3,14 @@ use Rattle.std.proofs.Common.{◌≡◌, ℕ, ◌+◌, ◌<◌, Bool, true, fals
 use Rattle.std.specs.List.{flat_map}
 use Rattle.std.proofs.lemmas.List.{map-append}
 use Rattle.cep_parse.specs.declared.raw.RawItem.{RawItem}
-use Rattle.cep_names.specs.declared.fault.Fault.{Fault}
-use Rattle.cep_names.specs.declared.reason.Reason.TheVariants.{TwoTraces}
+use Rattle.cep_refusal.specs.declared.fault.Fault.{Fault}
+use Rattle.cep_refusal.specs.declared.reason.Reason.TheVariants.{TwoTraces}
 use Rattle.cep_faults.specs.declared.sizes.Size.{Size}
-use Rattle.cep_names.specs.First.{first_of, first_in}
+use Rattle.cep_refusal.specs.First.{first_of, first_in, wrong}
 use Rattle.cep_names.specs.Items.{TraceItem, traces_in}
-use Rattle.cep_names.specs.Misnamed.{wrong}
 use Rattle.cep_faults.specs.Looks.{Looks}
 use Rattle.cep_faults.specs.Totals.{start_faults, trace_step, after_trace}
-use Rattle.cep_faults.proofs.FirstLoops.{first_in_append}
+use Rattle.cep_faults.proofs.Firsts.{first_in_append}
 use Rattle.cep_faults.proofs.Nths.{given_more}
 
 abbrev two : TraceItem → Fault

@@ -14,15 +14,16 @@ use Rattle.cep_parse.specs.declared.raw.RawItem.{RawItem}
 use Rattle.cep_parse.specs.declared.raw.RawItem.TheVariants as item
 use Rattle.cep_parse.specs.Symbols.{slice_of}
 use Rattle.cep_base.specs.declared.limits.TheConstants.{MOST_ARGUMENTS, MOST_BACKS, MOST_GOALS, MOST_PREMISES, MOST_RIGHT, MOST_TURNS}
-use Rattle.cep_names.specs.declared.fault.Fault.{Fault}
-use Rattle.cep_names.specs.declared.reason.Reason.TheVariants.{Unknown, WrongKind, WrongArity, VarInContext, BwdInState, LinearInClause, BadQui, OverLimit}
+use Rattle.cep_refusal.specs.declared.fault.Fault.{Fault}
+use Rattle.cep_refusal.specs.declared.reason.Reason.TheVariants.{Unknown, WrongKind, WrongArity, VarInContext, BwdInState, LinearInClause, BadQui, OverLimit}
 use Rattle.cep_names.specs.declared.space.Space.TheVariants as space
 use Rattle.cep_names.specs.declared.space.Role.{Role}
 use Rattle.cep_names.specs.declared.space.Role.TheVariants as role
 use Rattle.cep_names.specs.Items.{ConItem, ClauseItem, TraceItem, preds_in, traces_in}
 use Rattle.cep_parse.specs.Raw.{item_rules, listed_atoms}
 use Rattle.cep_names.specs.Uses.{Placed, Use, placed, node_uses, con_uses, own_uses, rule_atoms, clause_atoms}
-use Rattle.cep_names.specs.Misnamed.{wrong, is_declared, is_qui, is_stage}
+use Rattle.cep_refusal.specs.First.{wrong}
+use Rattle.cep_names.specs.Misnamed.{is_declared, is_qui, is_stage}
 use Rattle.cep_faults.specs.Looks.{Looks, says, is_anywhere, names_context, cons_by, clauses_by}
 
 -- a name that its space has not, where some space has it or none

@@ -10,15 +10,15 @@ use Rattle.cep_parse.specs.declared.raw.RawStart.TheVariants as start
 use Rattle.cep_parse.specs.declared.raw.RawItem.{RawItem}
 use Rattle.cep_parse.specs.Symbols.{slice_of}
 use Rattle.cep_base.specs.declared.limits.TheConstants.{MOST_CLAUSES, MOST_CONS, MOST_COPIES, MOST_DEPTH, MOST_NODES, MOST_PREDS, MOST_RULES, MOST_STATE_NODES, MOST_VARIABLES}
-use Rattle.cep_names.specs.declared.fault.Fault.{Fault}
-use Rattle.cep_names.specs.declared.reason.Reason.TheVariants.{NoTrace, TwoTraces, OverLimit}
+use Rattle.cep_refusal.specs.declared.fault.Fault.{Fault}
+use Rattle.cep_refusal.specs.declared.reason.Reason.TheVariants.{NoTrace, TwoTraces, OverLimit}
 use Rattle.cep_names.specs.declared.space.Role.TheVariants as role
 use Rattle.cep_faults.specs.declared.counts.Counted.{Counted}
 use Rattle.cep_faults.specs.declared.counts.Counted.TheVariants as counted
 use Rattle.cep_faults.specs.declared.sizes.Size.{Size}
 use Rattle.cep_names.specs.Items.{ContextItem, TraceItem, preds_in, contexts_in, traces_in}
-use Rattle.cep_parse.specs.Raw.{item_rules, raw_nodes, atoms_of, listed_atoms}
-use Rattle.cep_names.specs.Misnamed.{wrong}
+use Rattle.cep_parse.specs.Raw.{atoms_of, raw_nodes, item_rules, listed_atoms}
+use Rattle.cep_refusal.specs.First.{wrong}
 use Rattle.cep_faults.specs.Seen.{unseen, new_in}
 use Rattle.cep_names.specs.Starts.{nodes_written, depth_written}
 use Rattle.cep_faults.specs.Looks.{Looks, says, names_context, cons_by, clauses_by}

@@ -1,15 +1,16 @@
 // The atoms of a file, by where they stand.
 ghost use Rattle.std.specs.Prelude.{◌≡◌, ◌++◌, map};
 ghost use Rattle.std.specs.List.{flat_map};
-ghost use Rattle.cep_names.specs.First.{first_in};
+ghost use Rattle.cep_refusal.specs.First.{first_in};
 ghost use Rattle.cep_faults.specs.Looks.{looks_in, names_context};
 ghost use Rattle.cep_parse.specs.Raw.{atoms_in, atoms_of};
 ghost use Rattle.cep_names.specs.Uses.{placed};
 ghost use Rattle.cep_faults.specs.Faults.{pred_faults, open_faults, back_faults, linear_faults, state_faults, role_faults, placed_faults};
 
 use crate::uses::{nodes_fault, use_fault};
-use cep_names::{Fault, Names, Reason, Role, Space, said};
+use cep_names::{Names, Role, Space, said};
 use cep_parse::{RawAtom, RawElem, RawKind, RawNode, Span};
+use cep_refusal::{Fault, FirstFault, Reason};
 
 // Whether an atom stands for the atoms of a context.
 pub(crate) fn names_context(names: &Names, text: &[u8], role: Role, name: Span, args: u32) -> bool
@@ -49,11 +50,11 @@ fn open_fault(node: &RawNode) -> Option<Fault>
 fn first_open(nodes: &[RawNode]) -> Option<Fault>
     ensures { result ≡ first_in (flat_map open_faults nodes.now) }
 {
-    let mut first = None;
+    let mut first = FirstFault::none();
     for node in nodes {
-        first = Fault::first_of(first, open_fault(node));
+        first.note(open_fault(node));
     }
-    first
+    first.found()
 }
 
 // A backward predicate where an atom becomes part of a state.
@@ -83,7 +84,7 @@ fn linear_fault(back: Option<bool>, at: u32) -> Option<Fault>
 }
 
 // The first fault of an atom of a state, apart from the names that it uses.
-#[tactic(auto, using(crate::proofs::FirstLoops::first_in_append))]
+#[tactic(auto, using(crate::proofs::Firsts::first_in_append))]
 fn state_fault(names: &Names, text: &[u8], name: Span, nodes: &[RawNode]) -> Option<Fault>
     ensures { result ≡ first_in (state_faults (looks_in text.now names.now) name nodes.now) }
 {
@@ -112,7 +113,7 @@ fn role_fault(
 }
 
 // The first fault of an atom: of the names that it uses, and of its role.
-#[tactic(auto, using(crate::proofs::FirstLoops::first_in_append))]
+#[tactic(auto, using(crate::proofs::Firsts::first_in_append))]
 pub(crate) fn placed_fault(
     names: &Names,
     text: &[u8],
@@ -152,11 +153,11 @@ pub(crate) fn atoms_fault(
 ) -> Option<Fault>
     ensures { result ≡ first_in (flat_map (placed_faults (looks_in text.now names.now)) (map (placed role) atoms.now)) }
 {
-    let mut first = None;
+    let mut first = FirstFault::none();
     for atom in atoms {
-        first = Fault::first_of(first, atom_fault(names, text, role, atom));
+        first.note(atom_fault(names, text, role, atom));
     }
-    first
+    first.found()
 }
 
 fn elem_fault(names: &Names, text: &[u8], role: Role, elem: &RawElem) -> Option<Fault>
@@ -172,9 +173,9 @@ fn elem_fault(names: &Names, text: &[u8], role: Role, elem: &RawElem) -> Option<
 pub(crate) fn side_fault(names: &Names, text: &[u8], role: Role, side: &[RawElem]) -> Option<Fault>
     ensures { result ≡ first_in (flat_map (placed_faults (looks_in text.now names.now)) (map (placed role) (atoms_of side.now))) }
 {
-    let mut first = None;
+    let mut first = FirstFault::none();
     for elem in side {
-        first = Fault::first_of(first, elem_fault(names, text, role, elem));
+        first.note(elem_fault(names, text, role, elem));
     }
-    first
+    first.found()
 }

@@ -1,8 +1,8 @@
 // The public call that joins the tables and the faults.
 ghost use Rattle.std.specs.Prelude.{◌≡◌, ◌≤◌, length, MatchResult, IfOk};
 ghost use Rattle.cep_base.specs.declared.limits.TheConstants.{MOST_TEXT};
-ghost use Rattle.cep_names.specs.declared.fault.Fault.{Fault};
-ghost use Rattle.cep_names.specs.First.{IsFirst, first_in};
+ghost use Rattle.cep_refusal.specs.declared.fault.Fault.{Fault};
+ghost use Rattle.cep_refusal.specs.First.{IsFirst, first_in};
 ghost use Rattle.cep_names.specs.Misnamed.{Misnamed};
 ghost use Rattle.cep_faults.specs.Looks.{looks_in};
 ghost use Rattle.cep_names.specs.Tables.{AreTablesOf, AreWhole};
@@ -15,8 +15,9 @@ use crate::items::items_fault;
 use crate::sizes::Sizes;
 use crate::traces::traces_fault;
 use crate::variables::variables_fault;
-use cep_names::{Fault, Names};
+use cep_names::Names;
 use cep_parse::{RawFile, RawItem};
+use cep_refusal::Fault;
 use std::alloc::{AllocError, Global};
 
 // The first fault of a file, but for names that are declared again.

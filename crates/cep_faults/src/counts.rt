@@ -1,14 +1,15 @@
 // How many there are of what a file declares.
 ghost use Rattle.std.specs.Prelude.{◌≡◌, ◌≢◌, ◌++◌, length, slice_get, option_to_list};
 ghost use Rattle.std.specs.List.{flat_map};
-ghost use Rattle.cep_names.specs.First.{first_in};
+ghost use Rattle.cep_refusal.specs.First.{first_in};
 ghost use Rattle.cep_faults.specs.Looks.{looks_in};
 ghost use Rattle.cep_faults.specs.Totals.{places_in, count_faults, all_count_faults};
 
 use crate::rules::past;
 use cep_base::limits::{MOST_CLAUSES, MOST_CONS, MOST_PREDS, MOST_RULES};
-use cep_names::{Fault, Names};
+use cep_names::Names;
 use cep_parse::RawItem;
+use cep_refusal::Fault;
 
 /// What there may not be too many of.
 #[derive(Clone, Copy)]
@@ -89,7 +90,7 @@ fn count_past(
 }
 
 // The first of all that is one too many.
-#[tactic(auto, using(crate::proofs::FirstLoops::first_in_append))]
+#[tactic(auto, using(crate::proofs::Firsts::first_in_append))]
 pub(crate) fn counts_fault(names: &Names, text: &[u8], items: &[RawItem]) -> Option<Fault>
     ensures { result ≡ first_in (all_count_faults (looks_in text.now names.now) items.now) }
 {

@@ -2,14 +2,14 @@
 ghost use Rattle.std.specs.Prelude.{◌≡◌, ◌≤◌, ◌<◌, ◌+◌, ◌^◌, [], ◌∷◌, ◌++◌, Some, None, map, nat_le, max, IfOk, OnOk, IfSome, IfNone};
 ghost use Rattle.cep_base.specs.declared.limits.TheConstants.{MOST_DEPTH};
 ghost use Rattle.std.specs.List.{flat_map, repeat};
-ghost use Rattle.cep_names.specs.First.{first_in};
+ghost use Rattle.cep_refusal.specs.First.{first_in};
 ghost use Rattle.cep_faults.specs.Levels.{pending, is_shallow};
 ghost use Rattle.cep_names.specs.Starts.{levels, greatest};
 ghost use Rattle.cep_faults.specs.Totals.{is_fit, unfit_faults, item_unfit_faults};
 
 use cep_base::limits::{MOST_DEPTH, MOST_NODES};
-use cep_names::{Fault, Reason};
 use cep_parse::{RawAtom, RawItem, RawNode};
+use cep_refusal::{Fault, FirstFault, Reason};
 use std::alloc::{AllocError, Global};
 
 /// Terms of one level that are still to come: one, and so many more.
@@ -95,20 +95,20 @@ fn unfit_fault(alloc: Global, atom: &RawAtom) -> Result<Option<Fault>, AllocErro
 fn atoms_fault(alloc: Global, atoms: &[RawAtom]) -> Result<Option<Fault>, AllocError>
     ensures { IfOk result (λ first. first ≡ first_in (flat_map unfit_faults atoms.now)) }
 {
-    let mut first = None;
+    let mut first = FirstFault::none();
     for atom in atoms {
-        first = Fault::first_of(first, unfit_fault(alloc, atom)?);
+        first.note(unfit_fault(alloc, atom)?);
     }
-    Ok(first)
+    Ok(first.found())
 }
 
 // The first atom of a state that may not be kept there.
 pub(crate) fn fitness_fault(alloc: Global, items: &[RawItem]) -> Result<Option<Fault>, AllocError>
     ensures { IfOk result (λ first. first ≡ first_in (flat_map item_unfit_faults items.now)) }
 {
-    let mut first = None;
+    let mut first = FirstFault::none();
     for item in items {
-        first = Fault::first_of(first, atoms_fault(alloc, item.listed())?);
+        first.note(atoms_fault(alloc, item.listed())?);
     }
-    Ok(first)
+    Ok(first.found())
 }

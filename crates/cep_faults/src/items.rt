@@ -3,7 +3,7 @@ ghost use Rattle.std.specs.Prelude.{◌≡◌, ◌≤◌};
 ghost use Rattle.std.specs.List.{flat_map};
 ghost use Rattle.std.specs.Char.{digit_value};
 ghost use Rattle.std.specs.Str.Parse.{digits_value};
-ghost use Rattle.cep_names.specs.First.{first_in};
+ghost use Rattle.cep_refusal.specs.First.{first_in};
 ghost use Rattle.cep_faults.specs.Looks.{looks_in};
 ghost use Rattle.cep_names.specs.Uses.{start_uses};
 ghost use Rattle.cep_faults.specs.Faults.{use_faults, argument_faults, con_faults, turns_faults, item_faults, is_turn_limit};
@@ -14,8 +14,9 @@ use crate::rules::{
 };
 use crate::uses::{sorts_fault, use_fault};
 use cep_base::limits::{MOST_ARGUMENTS, MOST_TURNS};
-use cep_names::{Fault, Names, Reason, Role, Space, said};
+use cep_names::{Names, Role, Space, said};
 use cep_parse::{RawItem, RawRule, RawStart, Span, Spans};
+use cep_refusal::{Fault, FirstFault};
 
 // The first argument of a declaration that is one too many.
 fn argument_past(args: &[Span]) -> Option<Fault>
@@ -26,7 +27,7 @@ fn argument_past(args: &[Span]) -> Option<Fault>
 }
 
 // The first fault of a constructor's declaration.
-#[tactic(auto, using(crate::proofs::FirstLoops::first_in_append))]
+#[tactic(auto, using(crate::proofs::Firsts::first_in_append))]
 fn con_fault(names: &Names, text: &[u8], left: Span, args: &[Span], right: Span) -> Option<Fault>
     ensures { result ≡ first_in (con_faults (looks_in text.now names.now) (record { name = left; args = args.now; sort = right })) }
 {
@@ -38,7 +39,7 @@ fn con_fault(names: &Names, text: &[u8], left: Span, args: &[Span], right: Span)
 }
 
 // The first fault of a predicate's declaration.
-#[tactic(auto, using(crate::proofs::FirstLoops::first_in_append))]
+#[tactic(auto, using(crate::proofs::Firsts::first_in_append))]
 fn pred_fault(names: &Names, text: &[u8], name: Span, args: &Spans, back: bool) -> Option<Fault>
     ensures { result ≡ first_in (item_faults (looks_in text.now names.now) (RawItem.Pred name args.now back)) }
 {
@@ -58,7 +59,7 @@ fn colon_fault(names: &Names, text: &[u8], left: Span, args: &Spans, right: Span
 }
 
 // The first fault of a rule outside of stages, but for its variables.
-#[tactic(auto, using(crate::proofs::FirstLoops::first_in_append))]
+#[tactic(auto, using(crate::proofs::Firsts::first_in_append))]
 fn outer_fault(names: &Names, text: &[u8], rule: &RawRule) -> Option<Fault>
     ensures { result ≡ first_in (item_faults (looks_in text.now names.now) (RawItem.Outer rule.now)) }
 {
@@ -117,7 +118,7 @@ fn turns_fault(text: &[u8], limit: Option<Span>) -> Option<Fault>
 }
 
 // The first fault of a trace, but for its number among others and the size of its start state.
-#[tactic(auto, using(crate::proofs::FirstLoops::first_in_append))]
+#[tactic(auto, using(crate::proofs::Firsts::first_in_append))]
 fn trace_fault(
     names: &Names,
     text: &[u8],
@@ -166,9 +167,9 @@ fn item_fault(names: &Names, text: &[u8], item: &RawItem) -> Option<Fault>
 pub(crate) fn items_fault(names: &Names, text: &[u8], items: &[RawItem]) -> Option<Fault>
     ensures { result ≡ first_in (flat_map (item_faults (looks_in text.now names.now)) items.now) }
 {
-    let mut first = None;
+    let mut first = FirstFault::none();
     for item in items {
-        first = Fault::first_of(first, item_fault(names, text, item));
+        first.note(item_fault(names, text, item));
     }
-    first
+    first.found()
 }

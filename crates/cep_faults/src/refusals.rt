@@ -1,8 +1,8 @@
 use crate::named;
 use cep_base::limits::MOST_TEXT;
 use cep_lex::lex;
-use cep_names::{Fault, Reason};
 use cep_parse::parse;
+use cep_refusal::{Fault, Reason};
 use std::alloc::Global;
 use std::test::Fail;
 

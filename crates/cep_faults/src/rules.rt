@@ -1,19 +1,19 @@
 // The rules and the clauses of a file.
 ghost use Rattle.std.specs.Prelude.{◌≡◌, [], ◌++◌, ◌≤◌, Some, map, count_by, length, slice_get, option_to_list};
 ghost use Rattle.std.specs.List.{flat_map};
-ghost use Rattle.cep_names.specs.First.{first_in};
+ghost use Rattle.cep_refusal.specs.First.{first_in};
 ghost use Rattle.cep_names.specs.Items.{bare};
 ghost use Rattle.cep_names.specs.Misnamed.{is_declared, is_qui, is_stage};
 ghost use Rattle.cep_faults.specs.Looks.{looks_in};
-ghost use Rattle.cep_parse.specs.Raw.{atoms_of};
 ghost use Rattle.cep_names.specs.Uses.{rule_atoms, elem_uses, clause_atoms};
 ghost use Rattle.cep_faults.specs.Faults.{use_faults, placed_faults, past, places, premise_places, atom_places, size_faults, rule_faults, is_qui_rule, qui_faults, clause_faults};
 
 use crate::atoms::{atom_fault, atoms_fault, placed_fault, side_fault};
 use crate::uses::use_fault;
 use cep_base::limits::{MOST_BACKS, MOST_GOALS, MOST_PREMISES, MOST_RIGHT};
-use cep_names::{Fault, Names, Reason, Role, Space, said};
+use cep_names::{Names, Role, Space, said};
 use cep_parse::{RawAtom, RawElem, RawRule, Span};
+use cep_refusal::{Fault, FirstFault, Reason};
 
 // The fault of the first one too many.
 pub(crate) fn past(at: Option<u32>) -> Option<Fault>
@@ -99,7 +99,7 @@ fn atom_past(side: &[RawElem], most: usize) -> Option<Fault>
 }
 
 // The first of what is too many in a rule.
-#[tactic(auto, using(crate::proofs::FirstLoops::first_in_append))]
+#[tactic(auto, using(crate::proofs::Firsts::first_in_append))]
 fn size_fault(names: &Names, text: &[u8], rule: &RawRule) -> Option<Fault>
     ensures { result ≡ first_in (size_faults (looks_in text.now names.now) rule.now) }
 {
@@ -112,7 +112,7 @@ fn size_fault(names: &Names, text: &[u8], rule: &RawRule) -> Option<Fault>
 }
 
 // The first fault of the atoms of a rule.
-#[tactic(auto, using(crate::proofs::FirstLoops::first_in_parts))]
+#[tactic(auto, using(crate::proofs::Firsts::first_in_parts))]
 fn rule_atoms_fault(names: &Names, text: &[u8], rule: &RawRule) -> Option<Fault>
     ensures { result ≡ first_in (flat_map (placed_faults (looks_in text.now names.now)) (rule_atoms rule.now)) }
 {
@@ -123,7 +123,7 @@ fn rule_atoms_fault(names: &Names, text: &[u8], rule: &RawRule) -> Option<Fault>
 }
 
 // The first fault of a rule, but for its variables.
-#[tactic(auto, using(crate::proofs::FirstLoops::first_in_append))]
+#[tactic(auto, using(crate::proofs::Firsts::first_in_append))]
 pub(crate) fn rule_fault(names: &Names, text: &[u8], rule: &RawRule) -> Option<Fault>
     ensures { result ≡ first_in (rule_faults (looks_in text.now names.now) rule.now) }
 {
@@ -137,11 +137,11 @@ pub(crate) fn rule_fault(names: &Names, text: &[u8], rule: &RawRule) -> Option<F
 pub(crate) fn rules_fault(names: &Names, text: &[u8], rules: &[RawRule]) -> Option<Fault>
     ensures { result ≡ first_in (flat_map (rule_faults (looks_in text.now names.now)) rules.now) }
 {
-    let mut first = None;
+    let mut first = FirstFault::none();
     for rule in rules {
-        first = Fault::first_of(first, rule_fault(names, text, rule));
+        first.note(rule_fault(names, text, rule));
     }
-    first
+    first.found()
 }
 
 fn is_qui(elem: &RawElem) -> bool
@@ -196,11 +196,11 @@ fn elem_fault(names: &Names, text: &[u8], elem: &RawElem) -> Option<Fault>
 pub(crate) fn stages_fault(names: &Names, text: &[u8], side: &[RawElem]) -> Option<Fault>
     ensures { result ≡ first_in (flat_map (use_faults (looks_in text.now names.now)) (flat_map elem_uses side.now)) }
 {
-    let mut first = None;
+    let mut first = FirstFault::none();
     for elem in side {
-        first = Fault::first_of(first, elem_fault(names, text, elem));
+        first.note(elem_fault(names, text, elem));
     }
-    first
+    first.found()
 }
 
 // The first goal that is one too many.
@@ -212,7 +212,7 @@ fn goal_past(goals: &[RawAtom]) -> Option<Fault>
 }
 
 // The first fault of a clause, but for its variables.
-#[tactic(auto, using(crate::proofs::FirstLoops::first_in_append))]
+#[tactic(auto, using(crate::proofs::Firsts::first_in_append))]
 pub(crate) fn clause_fault(
     names: &Names,
     text: &[u8],
@@ -229,7 +229,7 @@ pub(crate) fn clause_fault(
 }
 
 // The first fault of a clause that is a predicate without arguments.
-#[tactic(auto, using(crate::proofs::FirstLoops::first_in_append))]
+#[tactic(auto, using(crate::proofs::Firsts::first_in_append))]
 pub(crate) fn bare_fault(names: &Names, text: &[u8], name: Span) -> Option<Fault>
     ensures { result ≡ first_in (clause_faults (looks_in text.now names.now) (record { head = bare name; goals = [] })) }
 {

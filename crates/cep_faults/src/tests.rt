@@ -1,7 +1,8 @@
 use cep_base::limits::MOST_TEXT;
 use cep_lex::lex;
-use cep_names::{Fault, Names, Reason, Space, Tabled};
+use cep_names::{Names, Space, Tabled};
 use cep_parse::{RawFile, parse};
+use cep_refusal::{Fault, Reason};
 use std::alloc::Global;
 use std::test::Fail;
 

@@ -2,15 +2,16 @@
 ghost use Rattle.std.specs.Prelude.{◌≡◌, ◌≤◌, ◌++◌, List, ℕ, Option, Bool, length};
 ghost use Rattle.cep_base.specs.declared.limits.TheConstants.{MOST_TEXT};
 ghost use Rattle.std.specs.List.{flat_map};
-ghost use Rattle.cep_names.specs.First.{first_in};
+ghost use Rattle.cep_refusal.specs.First.{first_in};
 ghost use Rattle.cep_names.specs.Items.{traces_in};
 ghost use Rattle.cep_faults.specs.Looks.{looks_in};
 ghost use Rattle.cep_faults.specs.Totals.{is_large, size_under, start_faults, traces_faults, trace_step, after_trace};
 
 use crate::sizes::{Size, Sizes};
 use cep_base::limits::{MOST_COPIES, MOST_STATE_NODES};
-use cep_names::{Fault, Names, Reason};
+use cep_names::Names;
 use cep_parse::{RawItem, RawStart};
+use cep_refusal::{Fault, FirstFault, Reason};
 
 // The fault of a start state that is too large.
 fn start_fault(
@@ -75,14 +76,14 @@ pub(crate) fn traces_fault(
     requires { length text.now ≤ MOST_TEXT }
     ensures { result ≡ first_in (traces_faults (looks_in text.now names.now) (size_under sizes.now) (flat_map traces_in items.now)) }
 {
-    let mut first = None;
+    let mut first = FirstFault::none();
     let mut seen = false;
     for item in items {
-        first = Fault::first_of(first, trace_fault(names, text, sizes, seen, item));
+        first.note(trace_fault(names, text, sizes, seen, item));
         seen = after_trace(seen, item);
     }
     if seen {
-        return first;
+        return first.found();
     }
     Some(Fault {
         reason: Reason::NoTrace,

@@ -1,13 +1,14 @@
 // The uses of names.
 ghost use Rattle.std.specs.Prelude.{◌≡◌, ◌<◌, ◌^◌, ◌++◌, map};
 ghost use Rattle.std.specs.List.{flat_map};
-ghost use Rattle.cep_names.specs.First.{first_in};
+ghost use Rattle.cep_refusal.specs.First.{first_in};
 ghost use Rattle.cep_faults.specs.Looks.{looks_in, is_anywhere, says};
 ghost use Rattle.cep_names.specs.Uses.{use_in};
 ghost use Rattle.cep_faults.specs.Faults.{lack_faults, arity_faults, use_faults, node_faults};
 
-use cep_names::{Fault, Names, Reason, Space, said};
+use cep_names::{Names, Space, said};
 use cep_parse::{RawKind, RawNode, Span};
+use cep_refusal::{Fault, FirstFault, Reason};
 
 // Whether some space has the name.
 fn is_anywhere(names: &Names, text: &[u8], name: &[u8]) -> bool
@@ -54,7 +55,7 @@ fn arity_fault(arity: Option<usize>, args: u32, at: u32) -> Option<Fault>
 }
 
 // The first fault of a use of a name with so many arguments.
-#[tactic(auto, using(crate::proofs::FirstLoops::first_in_append))]
+#[tactic(auto, using(crate::proofs::Firsts::first_in_append))]
 pub(crate) fn use_fault(
     names: &Names,
     text: &[u8],
@@ -71,15 +72,15 @@ pub(crate) fn use_fault(
 }
 
 // The first fault of the types that these spans name.
-#[tactic(auto, using(crate::proofs::FirstLoops::first_in_append))]
+#[tactic(auto, using(crate::proofs::Firsts::first_in_append))]
 pub(crate) fn sorts_fault(names: &Names, text: &[u8], sorts: &[Span]) -> Option<Fault>
     ensures { result ≡ first_in (flat_map (use_faults (looks_in text.now names.now)) (map (use_in Space.Sorts) sorts.now)) }
 {
-    let mut first = None;
+    let mut first = FirstFault::none();
     for sort in sorts {
-        first = Fault::first_of(first, use_fault(names, text, Space::Sorts, *sort, 0));
+        first.note(use_fault(names, text, Space::Sorts, *sort, 0));
     }
-    first
+    first.found()
 }
 
 // The first fault of a node's constructor.
@@ -93,13 +94,13 @@ fn node_fault(names: &Names, text: &[u8], node: &RawNode) -> Option<Fault>
 }
 
 // The first fault of the constructors at nodes.
-#[tactic(auto, using(crate::proofs::FirstLoops::first_in_append))]
+#[tactic(auto, using(crate::proofs::Firsts::first_in_append))]
 pub(crate) fn nodes_fault(names: &Names, text: &[u8], nodes: &[RawNode]) -> Option<Fault>
     ensures { result ≡ first_in (flat_map (node_faults (looks_in text.now names.now)) nodes.now) }
 {
-    let mut first = None;
+    let mut first = FirstFault::none();
     for node in nodes {
-        first = Fault::first_of(first, node_fault(names, text, node));
+        first.note(node_fault(names, text, node));
     }
-    first
+    first.found()
 }

@@ -1,7 +1,7 @@
 // The variables of rules and clauses.
 ghost use Rattle.std.specs.Prelude.{◌≡◌, ◌≤◌, ◌+◌, [], ◌∷◌, ◌++◌, Some, None, not, ◌-◌, if◌then◌else◌, Ok, slice_get, codes, decimal, IfOk, OnOk};
 ghost use Rattle.std.specs.List.{flat_map};
-ghost use Rattle.cep_names.specs.First.{first_in};
+ghost use Rattle.cep_refusal.specs.First.{first_in};
 ghost use Rattle.cep_faults.specs.Faults.{past};
 ghost use Rattle.cep_faults.specs.Looks.{looks_in};
 ghost use Rattle.cep_names.specs.Tables.{has_name};
@@ -12,8 +12,9 @@ ghost use Rattle.cep_faults.specs.Seen.{unseen, met, new_at, blank_name, met_kin
 use crate::rules::past;
 use cep_base::Text;
 use cep_base::limits::MOST_VARIABLES;
-use cep_names::{Fault, Names, Shape, Table, said};
+use cep_names::{Names, Shape, Table, said};
 use cep_parse::{RawAtom, RawElem, RawItem, RawKind, RawNode, RawRule};
+use cep_refusal::{Fault, FirstFault};
 use std::alloc::{AllocError, Global};
 
 /// The names of the variables that were met so far, their number, and the number of blanks. Each
@@ -150,11 +151,11 @@ fn rule_fault(alloc: Global, text: &[u8], rule: &RawRule) -> Result<Option<Fault
 fn rules_fault(alloc: Global, text: &[u8], rules: &[RawRule]) -> Result<Option<Fault>, AllocError>
     ensures { IfOk result (λ first. first ≡ first_in (flat_map (λ rule. variable_faults text.now (atoms_of rule.left)) rules.now)) }
 {
-    let mut first = None;
+    let mut first = FirstFault::none();
     for rule in rules {
-        first = Fault::first_of(first, rule_fault(alloc, text, rule)?);
+        first.note(rule_fault(alloc, text, rule)?);
     }
-    Ok(first)
+    Ok(first.found())
 }
 
 // The first variable of a clause that is one too many.
@@ -198,9 +199,9 @@ pub(crate) fn variables_fault(
 ) -> Result<Option<Fault>, AllocError>
     ensures { IfOk result (λ first. first ≡ first_in (flat_map (item_variable_faults (looks_in text.now names.now)) items.now)) }
 {
-    let mut first = None;
+    let mut first = FirstFault::none();
     for item in items {
-        first = Fault::first_of(first, item_fault(alloc, names, text, item)?);
+        first.note(item_fault(alloc, names, text, item)?);
     }
-    Ok(first)
+    Ok(first.found())
 }

@@ -16,17 +16,19 @@ use Rattle.cep_term.specs.Multiset.{gathered}
 use Rattle.cep_rule.specs.declared.rule.Rule.{Rule}
 use Rattle.cep_rule.specs.declared.parts.Parts.{Parts}
 use Rattle.cep_rule.specs.Patterns.{PremiseTree, ClauseTree}
-use Rattle.cep_names.specs.declared.reason.Reason.TheVariants.{NoTrace}
+use Rattle.cep_refusal.specs.declared.reason.Reason.TheVariants.{NoTrace}
 use Rattle.cep_names.specs.declared.space.Space.TheVariants as space
 use Rattle.cep_names.specs.Items.{Source, ClauseItem, RuleItem, TraceItem, said, stages_of, clauses_of, rules_of, traces_of}
 use Rattle.cep_names.specs.Spaces.{Named, names_in, rule_names_from, unlabelled_behind}
 use Rattle.cep_parse.specs.Raw.{atoms_of, raw_nodes}
 use Rattle.cep_names.specs.Variables.{blanks_behind}
 use Rattle.cep_names.specs.Starts.{start_atoms}
-use Rattle.cep_names.specs.Misnamed.{wrong, number_said}
+use Rattle.cep_refusal.specs.First.{wrong}
+use Rattle.cep_names.specs.Misnamed.{number_said}
 use Rattle.cep_names.specs.Misnamed.Misnamed.{no_trace}
 use Rattle.cep_types.specs.Sites.{rule_scope, clause_scope}
-use Rattle.cep_types.specs.Heads.{Head, var, con, argument_count, heads_of, heads_among, number_of, variable_of, head_at, heads_from, blanks_after, IsAtomBy, AreAtomsBy}
+use Rattle.cep_types.specs.Heads.{Head, var, con, number_of, variable_of, head_at, heads_from, blanks_after}
+use Rattle.cep_infer.specs.Heads.{argument_count, heads_of, heads_among, IsAtomBy, AreAtomsBy}
 use Rattle.cep_infer.specs.Meaning.{signature_of, stage_by, names_of, kinds_of, is_back, ArePremisesBy, group_of, next_of, IsRuleBy, AreRulesBy, IsClauseBy, AreClausesBy, AreParts}
 use Rattle.cep_ground.specs.Texts.{IsClean}
 use Rattle.cep_base.proofs.Elements.{contains_first, contains_behind}

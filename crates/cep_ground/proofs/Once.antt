@@ -15,7 +15,8 @@ use Rattle.cep_rule.specs.Patterns.{PremiseTree, ClauseTree}
 use Rattle.cep_names.specs.Items.{Source, ClauseItem, RuleItem, TraceItem, said}
 use Rattle.cep_parse.specs.Raw.{atoms_of, raw_nodes}
 use Rattle.cep_types.specs.Sites.{clause_scope}
-use Rattle.cep_types.specs.Heads.{number_of, blanks_after, heads_among, IsAtomBy, AreAtomsBy}
+use Rattle.cep_types.specs.Heads.{number_of, blanks_after}
+use Rattle.cep_infer.specs.Heads.{heads_among, IsAtomBy, AreAtomsBy}
 use Rattle.cep_infer.specs.Meaning.{is_back, ArePremisesBy, IsRuleBy, AreRulesBy, IsClauseBy, AreClausesBy, IsStartBy, AreParts}
 use Rattle.cep_ground.proofs.HeadLaws.{terms_once}
 

@@ -19,19 +19,21 @@ use Rattle.cep_rule.specs.declared.parts.Parts.{Parts}
 use Rattle.cep_rule.specs.Patterns.{PremiseTree, ClauseTree}
 use Rattle.cep_rule.specs.Names.{AreNames, IsVariableName}
 use Rattle.cep_rule.specs.Binding.{IsBoundRule, IsBoundClause}
-use Rattle.cep_rule.specs.Limits.{IsSmallPattern, IsSmallSignature, IsSmallRule, IsSmallClause, IsTurnLimit}
+use Rattle.cep_rule.specs.Limits.{IsSmallPattern, IsSmallSignature, IsSmallRule, IsSmallClause}
+use Rattle.cep_base.specs.Bounds.{IsTurnLimit}
 use Rattle.cep_rule.specs.Groundness.{Calls, IsBad, IsGrounded, nothing, known_after_all}
 use Rattle.cep_rule.specs.Binding.{needed_of}
 use Rattle.cep_rule.specs.State.{IsState}
 use Rattle.cep_rule.specs.Program.{AreSorts, AreNumbersDeclared, IsTypedRule, IsTypedClause, IsDividedRule, IsDividedClause, IsGroupedRule, IsProgram}
-use Rattle.cep_names.specs.declared.reason.Reason.TheVariants.{OverLimit}
+use Rattle.cep_refusal.specs.declared.reason.Reason.TheVariants.{OverLimit}
 use Rattle.cep_names.specs.declared.space.Space.TheVariants as space
 use Rattle.cep_names.specs.Items.{Source, PredItem, ConItem, ClauseItem, RuleItem, TraceItem, said, sorts_in, sorts_of, preds_of, cons_of, stages_in, stages_of, clauses_of, rules_of, traces_in, traces_of}
 use Rattle.cep_names.specs.Spaces.{Named, named, names_in}
 use Rattle.cep_parse.specs.Raw.{atoms_of, raw_nodes}
 use Rattle.cep_names.specs.Uses.{use_in, own_uses, start_uses}
 use Rattle.cep_names.specs.Variables.{Occurrence, variables_of}
-use Rattle.cep_names.specs.Misnamed.{wrong, number_said}
+use Rattle.cep_refusal.specs.First.{wrong}
+use Rattle.cep_names.specs.Misnamed.{number_said}
 use Rattle.cep_names.specs.Misnamed.Misnamed.{over}
 use Rattle.cep_names.specs.Misnamed.{IsOver as overs}
 use Rattle.cep_types.specs.Sites.{rule_scope, clause_scope}

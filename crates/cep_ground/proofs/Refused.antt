@@ -13,13 +13,13 @@ use Rattle.cep_parse.specs.declared.raw.RawItem.{RawItem}
 use Rattle.cep_parse.specs.Symbols.{symbols_of}
 use Rattle.cep_parse.specs.Files.{IsUnexpected, IsNested, IsParsed}
 use Rattle.cep_rule.specs.declared.parts.Parts.{Parts}
-use Rattle.cep_names.specs.declared.fault.Fault.{Fault}
-use Rattle.cep_names.specs.declared.reason.Reason.{Reason}
-use Rattle.cep_names.specs.declared.reason.Reason.TheVariants.{BadByte, NameLong, Unexpected, Nested, Unbound, TooLong, NotBuilt}
+use Rattle.cep_refusal.specs.declared.fault.Fault.{Fault}
+use Rattle.cep_refusal.specs.declared.reason.Reason.{Reason}
+use Rattle.cep_refusal.specs.declared.reason.Reason.TheVariants.{BadByte, NameLong, Unexpected, Nested, Unbound, TooLong, NotBuilt}
 use Rattle.cep_names.specs.Items.{Source, RuleItem, rules_of}
 use Rattle.cep_names.specs.Variables.{Occurrence}
-use Rattle.cep_names.specs.First.{IsFirst, IsNoLater}
-use Rattle.cep_names.specs.Misnamed.{wrong, Misnamed}
+use Rattle.cep_refusal.specs.First.{IsFirst, IsNoLater, wrong, IsToldFirst}
+use Rattle.cep_names.specs.Misnamed.{Misnamed}
 use Rattle.cep_names.specs.Misnamed.{Misnamed as misnamed_}
 use Rattle.cep_types.specs.Sites.{Mistyped}
 use Rattle.cep_types.specs.Sites.{Mistyped as mistyped_}
@@ -27,7 +27,8 @@ use Rattle.cep_infer.specs.Shapes.{IsSource}
 use Rattle.cep_infer.specs.Meaning.{AreParts}
 use Rattle.cep_infer.specs.Places.{unbound_of}
 use Rattle.cep_ground.specs.Texts.{IsClean, IsBound}
-use Rattle.cep_ground.specs.Refusals.{IsBuilt, phase, IsWrong, IsToldFirst, IsRefusedFor}
+use Rattle.cep_ground.specs.Refusals.{IsBuilt, IsWrong, IsRefusedFor}
+use Rattle.cep_refusal.specs.Reasons.{phase}
 use Rattle.cep_ground.specs.Refusals.IsWrong.{too_long, bad_byte, name_long, unexpected, nested, misnamed, mistyped, unbound, not_built}
 use Rattle.cep_ground.proofs.OneProgram.{LexedOnce, FileOnce, tokens_once, source_once}
 use Rattle.cep_base.proofs.Elements.{contains_none, all_at}

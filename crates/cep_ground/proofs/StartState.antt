@@ -25,7 +25,7 @@ use Rattle.cep_term.specs.Multiset.{Multiset, count_of, with_count, gathered, co
 use Rattle.cep_rule.specs.declared.signature.PredDecl.{PredDecl}
 use Rattle.cep_rule.specs.Typing.{IsTyped, IsLinear}
 use Rattle.cep_rule.specs.State.{IsStateAtom, IsState, Fits}
-use Rattle.cep_names.specs.declared.reason.Reason.TheVariants.{OverLimit, VarInContext, BwdInState}
+use Rattle.cep_refusal.specs.declared.reason.Reason.TheVariants.{OverLimit, VarInContext, BwdInState}
 use Rattle.cep_names.specs.declared.space.Role.{Role}
 use Rattle.cep_names.specs.declared.space.Role.TheVariants as role
 use Rattle.cep_names.specs.Items.{Source, TraceItem, ContextItem, said, contexts_in, contexts_of, traces_in, traces_of}
@@ -35,7 +35,8 @@ use Rattle.cep_names.specs.Uses.{placed, placed_of, own_atoms, is_context}
 use Rattle.cep_names.specs.declared.space.Space.TheVariants as space
 use Rattle.cep_names.specs.Variables.{Occurrence, firsts, occurrences_from, blanks_behind}
 use Rattle.cep_names.specs.Starts.{listed_in, listed_or, start_atoms, nodes_written, IsFitWritten}
-use Rattle.cep_names.specs.Misnamed.{wrong, IsOfState}
+use Rattle.cep_refusal.specs.First.{wrong}
+use Rattle.cep_names.specs.Misnamed.{IsOfState}
 use Rattle.cep_names.specs.Misnamed.{IsOfState as of_state}
 use Rattle.cep_names.specs.Misnamed.{ComesToState as comes}
 use Rattle.cep_names.specs.Misnamed.{IsOpen as opens}
@@ -43,7 +44,8 @@ use Rattle.cep_names.specs.Misnamed.Misnamed.{over, variable_in_state, backward_
 use Rattle.cep_names.specs.Misnamed.IsOver.{unfit, copies, nodes}
 use Rattle.cep_types.specs.Sites.{type_of}
 use Rattle.cep_types.specs.Sites.{IsScope as scopes}
-use Rattle.cep_types.specs.Heads.{number_of, blanks_after, IsAtomBy, AreAtomsBy}
+use Rattle.cep_types.specs.Heads.{number_of, blanks_after}
+use Rattle.cep_infer.specs.Heads.{IsAtomBy, AreAtomsBy}
 use Rattle.cep_infer.specs.Meaning.{signature_of, names_of, kinds_of, IsStartBy}
 use Rattle.cep_ground.specs.Texts.{IsClean}
 use Rattle.cep_base.proofs.Elements.{contains_none, contains_first, contains_behind, contains_cases, contains_map, flat_cases, all_of}

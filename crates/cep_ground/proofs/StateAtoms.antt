@@ -13,7 +13,8 @@ use Rattle.cep_term.specs.Tree.{Tree, Trees, AtomTree, variable, node, none, mor
 use Rattle.cep_names.specs.Items.{Source}
 use Rattle.cep_names.specs.Variables.{blanks_behind}
 use Rattle.cep_names.specs.Starts.{levels, greatest, depth_written}
-use Rattle.cep_types.specs.Heads.{Head, var, con, argument_count, heads_of, heads_among, head_at, heads_from, IsAtomBy}
+use Rattle.cep_types.specs.Heads.{Head, var, con, head_at, heads_from}
+use Rattle.cep_infer.specs.Heads.{argument_count, heads_of, heads_among, IsAtomBy}
 use Rattle.cep_ground.proofs.HeadLaws.{IsClosed, terms_ground}
 
 -- each node is a constructor

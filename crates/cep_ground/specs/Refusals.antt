@@ -10,15 +10,15 @@ use Rattle.cep_parse.specs.Symbols.{symbols_of}
 use Rattle.cep_parse.specs.Files.{IsUnexpected, IsNested}
 use Rattle.cep_rule.specs.declared.rule.Rule.{Rule}
 use Rattle.cep_rule.specs.declared.parts.Parts.{Parts}
-use Rattle.cep_names.specs.declared.fault.Fault.{Fault}
-use Rattle.cep_names.specs.declared.reason.Reason.{Reason}
-use Rattle.cep_names.specs.declared.reason.Reason.TheVariants.{BadByte, NameLong, Unexpected, Nested, TypeClash, Unbound, Ungrounded, TooLong, NotBuilt}
+use Rattle.cep_refusal.specs.declared.fault.Fault.{Fault}
+use Rattle.cep_refusal.specs.declared.reason.Reason.{Reason}
+use Rattle.cep_refusal.specs.declared.reason.Reason.TheVariants.{BadByte, NameLong, Unexpected, Nested, TypeClash, Unbound, Ungrounded, TooLong, NotBuilt}
 use Rattle.cep_names.specs.Items.{Source, RuleItem, rules_of}
 use Rattle.cep_names.specs.Variables.{Occurrence}
-use Rattle.cep_names.specs.First.{IsNoLater}
-use Rattle.cep_names.specs.Misnamed.{wrong, Misnamed}
+use Rattle.cep_refusal.specs.First.{IsNoLater, wrong}
+use Rattle.cep_names.specs.Misnamed.{Misnamed}
 use Rattle.cep_types.specs.Sites.{Mistyped}
-use Rattle.cep_infer.specs.declared.draft.Refusal.{Refusal}
+use Rattle.cep_refusal.specs.declared.refusal.Refusal.{Refusal}
 use Rattle.cep_infer.specs.Shapes.{IsSource}
 use Rattle.cep_infer.specs.Meaning.{AreParts}
 use Rattle.cep_infer.specs.Places.{unbound_of}
@@ -38,19 +38,6 @@ pub record IsBuilt (parts : Parts) : Type 0 where
   pub rules : AllByRecursion IsPlainRule parts.rules
   pub interactive : IsInteractive parts
 
--- the phase in which a reason is judged
-abbrev pub phase : Reason → ℕ
-phase TooLong = 1
-phase BadByte = 2
-phase NameLong = 2
-phase Unexpected = 3
-phase Nested = 3
-phase TypeClash = 5
-phase Unbound = 6
-phase Ungrounded = 7
-phase NotBuilt = 8
-phase _ = 4
-
 -- What is wrong with a text.
 pub data IsWrong (text : List ℕ) (fault : Fault) : Type 0 where
   -- it is longer than a text may be
@@ -69,10 +56,6 @@ pub data IsWrong (text : List ℕ) (fault : Fault) : Type 0 where
   -- nothing of that is wrong, but what it declares cannot be played yet
   not_built : (source : Source) (parts : Parts) → source.text ≡ text → IsClean source → IsBound source → AreParts source parts → ¬ (IsBuilt parts) → fault ≡ wrong NotBuilt 0 → IsWrong text fault
 
--- The fault is told no later than the other: it is of an earlier phase, or of the same one and stands no later.
-abbrev pub IsToldFirst : Fault → Fault → Type 0
-IsToldFirst fault other = (phase fault.reason < phase other.reason) ⊎ ((phase fault.reason ≡ phase other.reason) × IsNoLater fault other)
-
 -- The text is refused for this fault: it is wrong, and told no later than all else that is wrong.
 pub record IsRefusedFor (text : List ℕ) (fault : Fault) : Type 0 where
   pub holds : IsWrong text fault
@@ -81,11 +64,6 @@ pub record IsRefusedFor (text : List ℕ) (fault : Fault) : Type 0 where
 -- A line and a column stand before others: the line is less, or it is the same and the column is less.
 abbrev pub StandsBefore : Pos → Pos → Type 0
 StandsBefore one other = (one.line < other.line) ⊎ ((one.line ≡ other.line) × (one.col < other.col))
-
--- The refusal tells of the fault, at the line and the column of its place.
-pub record Tells (text : List ℕ) (fault : Fault) (refusal : Refusal) : Type 0 where
-  pub reason : refusal.reason ≡ fault.reason
-  pub pos : IsPlaceBehind (take fault.at text) refusal.pos
 
 -- What is answered of a text: the program that it spells, if it can be played today, or the refusal that tells of the fault for which it is refused.
 abbrev pub IsAccepted : List ℕ → Result Parts Refusal → Type 0

@@ -4,7 +4,7 @@ use Rattle.std.specs.List.{AllByRecursion}
 use Rattle.cep_base.specs.declared.limits.TheConstants.{MOST_TEXT}
 use Rattle.cep_rule.specs.declared.parts.Parts.{Parts}
 use Rattle.cep_rule.specs.Groundness.{IsGrounded}
-use Rattle.cep_names.specs.declared.fault.Fault.{Fault}
+use Rattle.cep_refusal.specs.declared.fault.Fault.{Fault}
 use Rattle.cep_names.specs.Items.{Source, rules_of}
 use Rattle.cep_names.specs.Misnamed.{Misnamed}
 use Rattle.cep_types.specs.Sites.{Mistyped}

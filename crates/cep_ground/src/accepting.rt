@@ -1,13 +1,13 @@
 ghost use Rattle.std.specs.Prelude.{IfOk};
 ghost use Rattle.cep_ground.specs.Refusals.{IsAccepted};
 
-use cep_base::limits::MOST_TEXT;
-use crate::refusals::{of_grammar, of_tokens, tell_at_front};
+use crate::refusals::{of_grammar, of_tokens};
 use crate::sealing::judged;
-use cep_infer::{Refusal, resolve};
+use cep_base::limits::MOST_TEXT;
+use cep_infer::resolve;
 use cep_lex::{lex, lexed_once};
-use cep_names::Reason;
 use cep_parse::{one_raw_file, parse, parsed_once};
+use cep_refusal::{Fault, Reason, Refusal};
 use cep_rule::Program;
 use std::alloc::{AllocError, Global};
 
@@ -23,7 +23,11 @@ pub fn accept(alloc: Global, text: &[u8]) -> Result<Result<Program, Refusal>, Al
     one_raw_file();
     parsed_once();
     if text.len() > MOST_TEXT {
-        return Ok(Err(tell_at_front(text, Reason::TooLong)));
+        let too_long = Fault {
+            reason: Reason::TooLong,
+            at: 0,
+        };
+        return Ok(Err(Refusal::of(text, too_long)));
     }
     let tokens = match lex(alloc, text)? {
         Ok(tokens) => tokens,

@@ -4,7 +4,7 @@ ghost use Rattle.std.specs.List.{AllByRecursion};
 ghost use Rattle.cep_rule.specs.declared.parts.Parts.{Parts};
 ghost use Rattle.cep_rule.specs.Groundness.{IsGrounded};
 ghost use Rattle.cep_rule.specs.Program.{IsProgram};
-ghost use Rattle.cep_names.specs.declared.fault.Fault.{Fault};
+ghost use Rattle.cep_refusal.specs.declared.fault.Fault.{Fault};
 ghost use Rattle.cep_names.specs.Items.{Source};
 ghost use Rattle.cep_infer.specs.Meaning.{AreParts};
 ghost use Rattle.cep_ground.specs.Texts.{IsClean, IsBound, Spells};

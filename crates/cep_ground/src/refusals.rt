@@ -1,36 +1,12 @@
-ghost use Rattle.std.specs.Prelude.{◌≡◌, ◌≤◌, length, take, Err};
+ghost use Rattle.std.specs.Prelude.{◌≤◌, length, Err};
 ghost use Rattle.cep_lex.specs.Cuts.{AreTokens, IsLexed};
 ghost use Rattle.cep_parse.specs.Files.{IsParsed};
-ghost use Rattle.cep_names.specs.Misnamed.{wrong};
-ghost use Rattle.cep_ground.specs.Refusals.{Tells, IsAccepted};
+ghost use Rattle.cep_ground.specs.Refusals.{IsAccepted};
 
 use cep_base::limits::MOST_TEXT;
-use cep_infer::Refusal;
-use cep_lex::{LexFault, Tokens, lexed_once, place};
-use cep_names::Reason;
+use cep_lex::{LexFault, Tokens, lexed_once};
 use cep_parse::{ParseFault, parsed_once};
-
-// Tells of what is wrong at a place, in bytes from the front of the text.
-pub(crate) fn tell(text: &[u8], reason: Reason, at: u32) -> Refusal
-    requires { length text.now ≤ MOST_TEXT }
-    ensures { Tells text.now (wrong reason at) result }
-{
-    let at = at.min(text.len() as u32);
-    Refusal {
-        pos: place(text, at),
-        reason,
-    }
-}
-
-// Tells of what is wrong with a text as a whole: at its first line and column.
-pub(crate) fn tell_at_front(text: &[u8], reason: Reason) -> Refusal
-    ensures { Tells text.now (wrong reason 0) result }
-{
-    Refusal {
-        pos: place(&text[..0], 0),
-        reason,
-    }
-}
+use cep_refusal::{Fault, Reason, Refusal};
 
 // The refusal of a text whose tokens have a fault.
 pub(crate) fn of_tokens(text: &[u8], fault: LexFault) -> Refusal
@@ -40,8 +16,20 @@ pub(crate) fn of_tokens(text: &[u8], fault: LexFault) -> Refusal
 {
     lexed_once();
     match fault {
-        LexFault::BadByte { at } => tell(text, Reason::BadByte, at),
-        LexFault::NameLong { at } => tell(text, Reason::NameLong, at),
+        LexFault::BadByte { at } => Refusal::of(
+            text,
+            Fault {
+                reason: Reason::BadByte,
+                at,
+            },
+        ),
+        LexFault::NameLong { at } => Refusal::of(
+            text,
+            Fault {
+                reason: Reason::NameLong,
+                at,
+            },
+        ),
     }
 }
 
@@ -55,7 +43,19 @@ pub(crate) fn of_grammar(text: &[u8], tokens: &Tokens, fault: ParseFault) -> Ref
     lexed_once();
     parsed_once();
     match fault {
-        ParseFault::Unexpected { at } => tell(text, Reason::Unexpected, at),
-        ParseFault::Nested { at } => tell(text, Reason::Nested, at),
+        ParseFault::Unexpected { at } => Refusal::of(
+            text,
+            Fault {
+                reason: Reason::Unexpected,
+                at,
+            },
+        ),
+        ParseFault::Nested { at } => Refusal::of(
+            text,
+            Fault {
+                reason: Reason::Nested,
+                at,
+            },
+        ),
     }
 }

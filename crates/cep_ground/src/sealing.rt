@@ -7,12 +7,17 @@ ghost use Rattle.cep_ground.specs.Refusals.{IsPlainRule, IsInteractive, IsAccept
 
 use crate::laws::clean_parts_are_a_program;
 use crate::places::earliest_of_all;
-use crate::refusals::tell;
-use cep_infer::{Draft, Refusal};
+use cep_infer::Draft;
 use cep_lex::lexed_once;
-use cep_names::Reason;
 use cep_parse::{RawFile, one_raw_file, parsed_once};
+use cep_refusal::{Fault, Reason, Refusal};
 use cep_rule::{Parts, Program, Rule, Rules};
+
+// Why a program without fault is refused that cannot be played today.
+const NOT_BUILT: Fault = Fault {
+    reason: Reason::NotBuilt,
+    at: 0,
+};
 
 // Whether the rule can be played today.
 fn is_plain(rule: &Rule) -> bool
@@ -63,13 +68,13 @@ fn sealed(text: &[u8], file: &RawFile, parts: Parts) -> Result<Program, Refusal>
     one_raw_file();
     parsed_once();
     if !are_plain(&parts.rules) {
-        return Err(tell(text, Reason::NotBuilt, 0));
+        return Err(Refusal::of(text, NOT_BUILT));
     }
     let program = Program::seal(parts);
     if is_asked(&program) {
         Ok(program)
     } else {
-        Err(tell(text, Reason::NotBuilt, 0))
+        Err(Refusal::of(text, NOT_BUILT))
     }
 }
 

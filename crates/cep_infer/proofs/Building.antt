@@ -14,7 +14,8 @@ use Rattle.cep_rule.specs.Patterns.{PremiseTree, ClauseTree}
 use Rattle.cep_names.specs.Items.{Source, ClauseItem, RuleItem}
 use Rattle.cep_parse.specs.Raw.{atoms_in, atoms_of, raw_nodes}
 use Rattle.cep_types.specs.declared.variables.Variables.{Variables}
-use Rattle.cep_types.specs.Heads.{IsAtomBy, AreAtomsBy, blanks_after}
+use Rattle.cep_infer.specs.Heads.{IsAtomBy, AreAtomsBy}
+use Rattle.cep_types.specs.Heads.{blanks_after}
 use Rattle.cep_types.specs.Met.{AreMet, none_met, names_seen, kinds_met}
 use Rattle.cep_infer.specs.declared.left.LeftSide.{LeftSide}
 use Rattle.cep_infer.specs.Meaning.{ArePremisesBy, is_back, IsClauseBy, AreClausesBy, IsRuleBy, AreRulesBy}

@@ -6,12 +6,13 @@ use Rattle.std.specs.Prelude.{Option, Some, None}
 use Rattle.std.specs.Option.{IsSome, ForSome}
 use Rattle.cep_base.specs.declared.place.Pos.{Pos}
 use Rattle.cep_rule.specs.declared.rule.Rule.{Rule}
-use Rattle.cep_rule.specs.Limits.{IsTurnLimit}
-use Rattle.cep_names.specs.declared.reason.Reason.TheVariants.{NoTrace, OverLimit}
+use Rattle.cep_base.specs.Bounds.{IsTurnLimit}
+use Rattle.cep_refusal.specs.declared.reason.Reason.TheVariants.{NoTrace, OverLimit}
 use Rattle.cep_names.specs.declared.space.Space.TheVariants as space
 use Rattle.cep_names.specs.Items.{Source, RuleItem, TraceItem, rules_of, traces_of}
 use Rattle.cep_names.specs.Spaces.{names_in, rule_names_from}
-use Rattle.cep_names.specs.Misnamed.{wrong, number_said}
+use Rattle.cep_refusal.specs.First.{wrong}
+use Rattle.cep_names.specs.Misnamed.{number_said}
 use Rattle.cep_names.specs.Misnamed.{Misnamed as misnamed}
 use Rattle.cep_names.specs.Misnamed.{IsOver as overs}
 use Rattle.cep_infer.specs.declared.listing.RuleRef.{RuleRef}

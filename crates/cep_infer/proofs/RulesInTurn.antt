@@ -15,7 +15,8 @@ use Rattle.cep_names.specs.Spaces.{Named, rule_name, unlabelled_behind, rule_nam
 use Rattle.cep_parse.specs.Raw.{atoms_of, raw_nodes}
 use Rattle.cep_types.specs.declared.variables.Variables.{Variables}
 use Rattle.cep_types.specs.Sites.{rule_scope}
-use Rattle.cep_types.specs.Heads.{AreAtomsBy, blanks_after, number_of}
+use Rattle.cep_infer.specs.Heads.{AreAtomsBy}
+use Rattle.cep_types.specs.Heads.{blanks_after, number_of}
 use Rattle.cep_types.specs.Met.{AreMet, none_met, names_seen, kinds_met}
 use Rattle.cep_infer.specs.declared.left.LeftSide.{LeftSide}
 use Rattle.cep_infer.specs.declared.listing.RuleRef.{RuleRef}

@@ -6,7 +6,8 @@ use Rattle.cep_term.specs.Tree.{AtomTree}
 use Rattle.cep_rule.specs.Patterns.{PremiseTree}
 use Rattle.cep_names.specs.Items.{Source}
 use Rattle.cep_parse.specs.Raw.{atoms_of, raw_nodes}
-use Rattle.cep_types.specs.Heads.{AreAtomsBy, blanks_after}
+use Rattle.cep_infer.specs.Heads.{AreAtomsBy}
+use Rattle.cep_types.specs.Heads.{blanks_after}
 use Rattle.cep_infer.specs.declared.left.LeftSide.{LeftSide}
 use Rattle.cep_infer.specs.Meaning.{ArePremisesBy, is_back}
 

@@ -1,4 +1,5 @@
 pub mod Shapes
+pub mod Heads
 pub mod Meaning
 pub mod Places
 pub mod Listed

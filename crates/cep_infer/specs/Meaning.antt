@@ -23,7 +23,8 @@ use Rattle.cep_names.specs.Variables.{variables_of}
 use Rattle.cep_names.specs.Starts.{start_atoms}
 use Rattle.cep_names.specs.Misnamed.{number_said}
 use Rattle.cep_types.specs.Sites.{type_of, rule_scope, clause_scope}
-use Rattle.cep_types.specs.Heads.{number_of, sorts_said, IsAtomBy, AreAtomsBy, blanks_after}
+use Rattle.cep_types.specs.Heads.{number_of, sorts_said, blanks_after}
+use Rattle.cep_infer.specs.Heads.{IsAtomBy, AreAtomsBy}
 
 -- a constructor and a predicate
 abbrev pub con_by : Source → ConItem → Con

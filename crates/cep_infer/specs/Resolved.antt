@@ -1,13 +1,13 @@
 -- What a text comes to: a draft, or why it is refused.
-use Rattle.std.specs.Prelude.{◌≡◌, ◌⊎◌, Result, Ok, Err, take}
-use Rattle.cep_lex.specs.Places.{IsPlaceBehind}
-use Rattle.cep_names.specs.declared.fault.Fault.{Fault}
+use Rattle.std.specs.Prelude.{◌≡◌, ◌⊎◌, Result, Ok, Err}
+use Rattle.cep_refusal.specs.declared.fault.Fault.{Fault}
 use Rattle.cep_names.specs.Items.{Source}
-use Rattle.cep_names.specs.First.{IsFirst}
+use Rattle.cep_refusal.specs.First.{IsFirst}
 use Rattle.cep_names.specs.Misnamed.{Misnamed}
 use Rattle.cep_types.specs.Sites.{Mistyped}
 use Rattle.cep_infer.specs.declared.draft.Draft.{Draft}
-use Rattle.cep_infer.specs.declared.draft.Refusal.{Refusal}
+use Rattle.cep_refusal.specs.declared.refusal.Refusal.{Refusal}
+use Rattle.cep_refusal.specs.Told.{Tells}
 use Rattle.cep_infer.specs.Places.{IsDraft}
 
 -- Nothing is wrong with the names of a text.
@@ -22,8 +22,7 @@ IsFirstFault source fault = IsFirst (Misnamed source) fault ⊎ (IsWellNamed sou
 pub record IsRefused (source : Source) (refusal : Refusal) : Type 0 where
   pub fault : Fault
   pub first : IsFirstFault source fault
-  pub reason_is : refusal.reason ≡ fault.reason
-  pub pos_is : IsPlaceBehind (take fault.at source.text) refusal.pos
+  pub told : Tells source.text fault refusal
 
 -- What a text without wrong names comes to: a draft, or the first fault of its types.
 abbrev pub IsTypedDraft : Source → Result Draft Fault → Type 0

@@ -2,7 +2,7 @@
 ghost use Rattle.std.specs.Prelude.{◌≡◌, ◌++◌, ◌∷◌, [], map, option_to_list, List, IfOk, OnOk};
 ghost use Rattle.cep_names.specs.Items.{clauses_in, clauses_of};
 ghost use Rattle.cep_rule.specs.Patterns.{ClauseTree, clause_of};
-ghost use Rattle.cep_types.specs.Heads.{AreAtomsBy};
+ghost use Rattle.cep_infer.specs.Heads.{AreAtomsBy};
 ghost use Rattle.cep_types.specs.Met.{names_seen};
 ghost use Rattle.cep_infer.specs.Meaning.{IsClauseBy, AreClausesBy};
 

@@ -1,13 +1,5 @@
 use cep_base::{List, Pos};
-use cep_names::Reason;
 use cep_rule::Parts;
-
-/// Why a text is refused, and where.
-#[derive(Clone, Copy, Debug, PartialEq, Eq)]
-pub struct Refusal {
-    pub pos: Pos,
-    pub reason: Reason,
-}
 
 /// Some places, in written order.
 pub type Places = List<Pos>;

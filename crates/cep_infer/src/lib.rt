@@ -15,8 +15,8 @@ mod signature;
 mod start;
 mod terms;
 
-pub use cep_names::Reason;
-pub use draft::{Draft, PlaceLists, Places, Refusal};
+pub use cep_refusal::{Reason, Refusal};
+pub use draft::{Draft, PlaceLists, Places};
 pub use resolving::resolve;
 
 #[cfg(test)]

@@ -3,8 +3,7 @@ ghost use Rattle.cep_base.specs.declared.limits.TheConstants.{MOST_TEXT};
 ghost use Rattle.std.specs.Option.{ForSome, option_map};
 ghost use Rattle.std.specs.Char.{digit_value};
 ghost use Rattle.std.specs.Str.Parse.{digits_value};
-ghost use Rattle.cep_lex.specs.Places.{IsPlaceBehind};
-ghost use Rattle.cep_rule.specs.Limits.{IsTurnLimit};
+ghost use Rattle.cep_base.specs.Bounds.{IsTurnLimit};
 ghost use Rattle.cep_names.specs.Items.{rules_of, traces_of};
 ghost use Rattle.cep_names.specs.Misnamed.{number_said};
 ghost use Rattle.cep_names.specs.Named.{AreNamedRight};
@@ -15,32 +14,19 @@ ghost use Rattle.cep_infer.specs.Listed.{rule_item, IsFirstTrace};
 ghost use Rattle.cep_infer.specs.Resolved.{IsWellNamed, IsResolved, IsTypedDraft};
 
 use crate::clauses::read_clauses;
-use crate::draft::{Draft, Refusal};
+use crate::draft::Draft;
 use crate::listing::{RuleRef, TraceRef, first_trace, rule_refs};
 use crate::places::{back_places, right_places};
 use crate::rules::read_rules;
 use crate::signature::{read_signature, read_stages};
 use crate::start::read_start;
 use cep_faults::named;
-use cep_lex::place;
-use cep_names::{Fault, Names, Space};
+use cep_names::{Names, Space};
 use cep_parse::{RawFile, Span};
+use cep_refusal::{Fault, Refusal};
 use cep_rule::Parts;
 use cep_types::Declarations;
 use std::alloc::{AllocError, Global};
-
-// The refusal of a text for a fault. A place behind the end is the end.
-fn refusal(text: &[u8], fault: Fault) -> Refusal
-    requires { length text.now ≤ MOST_TEXT }
-    ensures reason { result.reason ≡ fault.reason }
-    ensures pos { IsPlaceBehind (take fault.at text.now) result.pos }
-{
-    let end = text.len() as u32;
-    Refusal {
-        pos: place(text, fault.at.min(end)),
-        reason: fault.reason,
-    }
-}
 
 // The value of a digit.
 fn digit_value(byte: u8) -> u32
@@ -147,10 +133,10 @@ pub fn resolve(
 {
     let names = match named(alloc, text, file)? {
         Ok(names) => names,
-        Err(fault) => return Ok(Err(refusal(text, fault))),
+        Err(fault) => return Ok(Err(Refusal::of(text, fault))),
     };
     match typed(alloc, text, file, &names)? {
         Ok(draft) => Ok(Ok(draft)),
-        Err(fault) => Ok(Err(refusal(text, fault))),
+        Err(fault) => Ok(Err(Refusal::of(text, fault))),
     }
 }

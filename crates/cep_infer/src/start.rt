@@ -9,7 +9,7 @@ ghost use Rattle.cep_names.specs.declared.space.Role.TheVariants as role;
 ghost use Rattle.cep_names.specs.Items.{traces_of};
 ghost use Rattle.cep_names.specs.Starts.{listed_or, start_atoms};
 ghost use Rattle.cep_names.specs.Uses.{placed, is_context};
-ghost use Rattle.cep_types.specs.Heads.{AreAtomsBy};
+ghost use Rattle.cep_infer.specs.Heads.{AreAtomsBy};
 ghost use Rattle.cep_types.specs.Met.{names_seen};
 ghost use Rattle.cep_infer.specs.Meaning.{IsStartBy};
 ghost use Rattle.cep_infer.specs.Built.{AreBuilt};

@@ -2,7 +2,8 @@
 ghost use Rattle.std.specs.Prelude.{◌≡◌, ◌++◌, ◌≤◌, ◌<◌, length, drop, IfOk, OnOk};
 ghost use Rattle.cep_term.specs.Tree.{atom_of, tree_of, trees_of};
 ghost use Rattle.cep_names.specs.Variables.{blanks_behind};
-ghost use Rattle.cep_types.specs.Heads.{IsAtomBy, heads_of, heads_among, heads_from, argument_count, blanks_after};
+ghost use Rattle.cep_infer.specs.Heads.{IsAtomBy, heads_of, heads_among, argument_count};
+ghost use Rattle.cep_types.specs.Heads.{heads_from, blanks_after};
 ghost use Rattle.cep_types.specs.Met.{names_seen};
 
 use cep_names::Space;

@@ -10,14 +10,14 @@ use Rattle.std.proofs.lemmas.List.Sums.{fold-append}
 use Rattle.std.proofs.lemmas.Slice.Eq.{bytes_eq-Decides}
 use Rattle.std.proofs.lemmas.Simd.{map-map}
 use Rattle.cep_names.specs.declared.space.Space.{Space}
-use Rattle.cep_names.specs.declared.fault.Fault.{Fault}
-use Rattle.cep_names.specs.declared.reason.Reason.TheVariants.{Twice}
+use Rattle.cep_refusal.specs.declared.fault.Fault.{Fault}
+use Rattle.cep_refusal.specs.declared.reason.Reason.TheVariants.{Twice}
 use Rattle.cep_names.specs.Items.{Source}
 use Rattle.cep_names.specs.Spaces.{Named}
-use Rattle.cep_names.specs.First.{IsFirstOrNone, first_of}
-use Rattle.cep_names.specs.Misnamed.{wrong, IsTwice}
+use Rattle.cep_refusal.specs.First.{standing, IsFirstOrNone, first_of, wrong}
+use Rattle.cep_names.specs.Misnamed.{IsTwice}
 use Rattle.cep_names.specs.Filling.{Declaration, declared, all_declared}
-use Rattle.cep_names.proofs.Firsts.{first_union, first_same, first_alone}
+use Rattle.cep_base.proofs.Foremost.{foremost_union, foremost_same, foremost_alone}
 use Rattle.cep_names.proofs.Growing.{same, same_self, same_is, in_space, nothing, has_declared}
 use Rattle.cep_names.proofs.Declaring.{all, named_of, named_all}
 use Rattle.cep_names.proofs.Telling.{first_after, firsts_after}
@@ -40,21 +40,21 @@ one_more P before d first =
     rw (fold-append declared nothing before (d ∷ []), firsts_after old d, has_declared before d.space d.name) (cases (is_again before d) refl) where
       cases : (again : Bool) → is_again before d ≡ again → IsFirstOrNone (λ fault. P fault ⊎ ((again ≡ true) × (fault ≡ wrong Twice d.at))) (first_after again (all_declared nothing before).first d)
       cases true e =
-          first_same (λ fault. P fault ⊎ (fault ≡ wrong Twice d.at)) (λ fault. P fault ⊎ ((true ≡ true) × (fault ≡ wrong Twice d.at))) (first_of (all_declared nothing before).first (Some (wrong Twice d.at)))
+          foremost_same standing (λ fault. P fault ⊎ (fault ≡ wrong Twice d.at)) (λ fault. P fault ⊎ ((true ≡ true) × (fault ≡ wrong Twice d.at))) (first_of (all_declared nothing before).first (Some (wrong Twice d.at)))
           (λ fault. ⊎_elim (λ h. inl h) (λ is. inr (refl, is))) (λ fault. ⊎_elim (λ h. inl h) (λ both. inr both.1))
-          (first_union P (λ fault. fault ≡ wrong Twice d.at) (all_declared nothing before).first (Some (wrong Twice d.at)) first (first_alone (wrong Twice d.at)))
+          (foremost_union standing P (λ fault. fault ≡ wrong Twice d.at) (all_declared nothing before).first (Some (wrong Twice d.at)) first (foremost_alone standing (wrong Twice d.at)))
       cases false e =
-          first_same P (λ fault. P fault ⊎ ((false ≡ true) × (fault ≡ wrong Twice d.at))) (all_declared nothing before).first
+          foremost_same standing P (λ fault. P fault ⊎ ((false ≡ true) × (fault ≡ wrong Twice d.at))) (all_declared nothing before).first
           (λ fault h. inl h) (λ fault. ⊎_elim (λ h. h) (λ both. absurd (false≢true both.0))) first
 
 many_more : (P : Fault → Type 0) (before ds : List Declaration) → IsFirstOrNone P (all_declared nothing before).first → IsFirstOrNone (λ fault. P fault ⊎ IsAgain before ds fault) (all_declared nothing (before ++ ds)).first
 many_more P before [] first =
-    rw (append-nil before) (first_same P (λ fault. P fault ⊎ ⊥) (all_declared nothing before).first (λ fault h. inl h) (λ fault. ⊎_elim (λ h. h) (λ h. absurd h)) first)
+    rw (append-nil before) (foremost_same standing P (λ fault. P fault ⊎ ⊥) (all_declared nothing before).first (λ fault h. inl h) (λ fault. ⊎_elim (λ h. h) (λ h. absurd h)) first)
 many_more P before (d ∷ ds) first =
     let Q : Fault → Type 0 = λ fault. (is_again before d ≡ true) × (fault ≡ wrong Twice d.at) in
     let R : Fault → Type 0 = IsAgain (before ++ d ∷ []) ds in
     rw (← append_assoc before (d ∷ []) ds)
-    (first_same (λ fault. (P fault ⊎ Q fault) ⊎ R fault) (λ fault. P fault ⊎ (Q fault ⊎ R fault)) (all_declared nothing ((before ++ d ∷ []) ++ ds)).first
+    (foremost_same standing (λ fault. (P fault ⊎ Q fault) ⊎ R fault) (λ fault. P fault ⊎ (Q fault ⊎ R fault)) (all_declared nothing ((before ++ d ∷ []) ++ ds)).first
     (λ fault. ⊎_elim (⊎_elim (λ h. inl h) (λ h. inr (inl h))) (λ h. inr (inr h)))
     (λ fault. ⊎_elim (λ h. inl (inl h)) (⊎_elim (λ h. inl (inr h)) (λ h. inr h)))
     (many_more (λ fault. P fault ⊎ Q fault) (before ++ d ∷ []) ds (one_more P before d first)))
@@ -149,7 +149,7 @@ module _ (source : Source) where
 
   pub first_twice : IsFirstOrNone (IsTwice source) (all_declared nothing (all source)).first
   first_twice =
-      first_same (λ fault. ⊥ ⊎ IsAgain [] (all source) fault) (IsTwice source) (all_declared nothing (all source)).first
+      foremost_same standing (λ fault. ⊥ ⊎ IsAgain [] (all source) fault) (IsTwice source) (all_declared nothing (all source)).first
       (λ fault. ⊎_elim (λ h. absurd h) (again_is_twice [] (all source) fault refl))
       (λ fault h. inr (twice_is_again fault h))
       (many_more (λ fault. ⊥) [] (all source) (λ fault h. h))

@@ -6,13 +6,13 @@ use Rattle.std.specs.Str.{bytes_eq}
 use Rattle.std.proofs.lemmas.Bool.{false≢true}
 use Rattle.std.proofs.lemmas.Map.Made.{is_some-lookup}
 use Rattle.std.proofs.lemmas.Slice.Eq.{bytes_eq-Decides}
+use Rattle.cep_base.proofs.Bytes.{bytes_eq_sym, any_map}
 use Rattle.cep_names.specs.declared.space.Space.{Space}
 use Rattle.cep_names.specs.declared.space.Space.TheVariants.{Sorts, Constructors, Predicates, Stages, Contexts, Rules}
 use Rattle.cep_names.specs.declared.table.Shape.{Shape}
 use Rattle.cep_names.specs.declared.entries.Tabled.{Tabled}
-use Rattle.cep_names.specs.declared.reason.Reason.TheVariants.{Twice}
-use Rattle.cep_names.specs.First.{first_of}
-use Rattle.cep_names.specs.Misnamed.{wrong}
+use Rattle.cep_refusal.specs.declared.reason.Reason.TheVariants.{Twice}
+use Rattle.cep_refusal.specs.First.{first_of, wrong}
 use Rattle.cep_names.specs.Tables.{Tables, table_in, has_in, has_name, listed_under}
 use Rattle.cep_names.specs.Filling.{Declaration, with_entry, declared, all_declared}
 
@@ -67,18 +67,6 @@ in_space s ds = filter (λ d. same d.space s) ds
 
 -- ---- look-ups
 
-pub any_map : {X Y : Type 0} (test : Y → Bool) (f : X → Y) (xs : List X) → list_any test (map f xs) ≡ list_any (λ x. test (f x)) xs
-any_map test f [] = refl
-any_map test f (x ∷ xs) = ap (λ (rest : Bool). test (f x) || rest) (any_map test f xs)
-
-pub flip : (a b : List ℕ) → bytes_eq a b ≡ bytes_eq b a
-flip a b = cases (bytes_eq a b) (bytes_eq b a) refl refl where
-  cases : (x y : Bool) → bytes_eq a b ≡ x → bytes_eq b a ≡ y → x ≡ y
-  cases true true e f = refl
-  cases false false e f = refl
-  cases true false e f = sym ((bytes_eq-Decides b a).1 (sym ((bytes_eq-Decides a b).0 e))) ∙ f
-  cases false true e f = sym e ∙ (bytes_eq-Decides a b).1 (sym ((bytes_eq-Decides b a).0 f))
-
 pub some_under : (table : List (List ℕ × Shape)) (name : List ℕ) → is_some (listed_under table name) ≡ has_name table name
 some_under table name = is_some-lookup (λ other. bytes_eq name other) table ∙ any_map (λ other. bytes_eq name other) (λ entry. entry.0) table
 
@@ -105,7 +93,7 @@ first_shape-append name (d ∷ ds) more = cases (bytes_eq name d.name) (first_sh
 
 first_shape_some : (name : List ℕ) (ds : List Declaration) → is_some (first_shape name ds) ≡ list_any (λ d. bytes_eq d.name name) ds
 first_shape_some name [] = refl
-first_shape_some name (d ∷ ds) = rw (← flip name d.name) (cases (bytes_eq name d.name) (first_shape_some name ds)) where
+first_shape_some name (d ∷ ds) = rw (← bytes_eq_sym name d.name) (cases (bytes_eq name d.name) (first_shape_some name ds)) where
   cases : (here : Bool) → is_some (first_shape name ds) ≡ list_any (λ d. bytes_eq d.name name) ds
       → is_some (if here then Some d.shape else first_shape name ds) ≡ (here || list_any (λ d. bytes_eq d.name name) ds)
   cases true e = refl
@@ -121,7 +109,7 @@ under_push (entry ∷ table) name other shape = cases (bytes_eq name entry.0) (u
 
 -- ---- one declaration, and all
 
--- a name that is there keeps what is listed_under it
+-- a name that is there keeps what is under it
 kept : (table : List (List ℕ × Shape)) (name other : List ℕ) (shape : Shape) → has_name table other ≡ true → listed_under table name ≡ option_or (listed_under table name) (if bytes_eq name other then Some shape else None)
 kept table name other shape there = cases (bytes_eq name other) refl where
   cases : (here : Bool) → bytes_eq name other ≡ here → listed_under table name ≡ option_or (listed_under table name) (if here then Some shape else None)

@@ -1,8 +1,7 @@
-pub mod TableEntries
 pub mod RuleNames
 pub mod SpaceNames
-pub mod Firsts
 pub mod Growing
 pub mod Declaring
+pub mod Different
 pub mod Telling
 pub mod Again

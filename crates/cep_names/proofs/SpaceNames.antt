@@ -5,7 +5,7 @@ use Rattle.cep_parse.specs.declared.raw.Span.{Span}
 use Rattle.cep_names.specs.declared.space.Space.TheVariants as space
 use Rattle.cep_names.specs.Items.{Source, said, sorts_of, preds_of, is_said, is_labelled}
 use Rattle.cep_names.specs.Spaces.{named, is_in}
-use Rattle.cep_names.proofs.Growing.{any_map}
+use Rattle.cep_base.proofs.Bytes.{any_map}
 use Rattle.cep_names.specs.Tables.{Tables, AreTablesOf, is_labelled_in}
 
 sorts_said : (source : Source) (name : List ℕ) → is_in source space.Sorts name ≡ is_said source (sorts_of source) name

@@ -13,23 +13,24 @@ use Rattle.cep_parse.specs.declared.raw.RawItem.TheVariants as item
 use Rattle.cep_names.specs.declared.space.Space.{Space}
 use Rattle.cep_names.specs.declared.space.Space.TheVariants.{Sorts, Constructors, Predicates}
 use Rattle.cep_names.specs.declared.table.Shape.{Shape}
-use Rattle.cep_names.specs.declared.fault.Fault.{Fault}
+use Rattle.cep_refusal.specs.declared.fault.Fault.{Fault}
 use Rattle.cep_names.specs.declared.entries.Tabled.{Tabled}
-use Rattle.cep_names.specs.declared.reason.Reason.TheVariants.{Twice}
+use Rattle.cep_refusal.specs.declared.reason.Reason.TheVariants.{Twice}
 use Rattle.cep_names.specs.Items.{Source, said, sorts_of, preds_of, cons_of, is_said, is_labelled}
 use Rattle.cep_names.specs.Spaces.{is_in, arity_of, pred_named, con_named}
-use Rattle.cep_names.specs.First.{first_of}
-use Rattle.cep_names.specs.Misnamed.{wrong}
+use Rattle.cep_refusal.specs.First.{first_of, wrong}
 use Rattle.cep_names.specs.Tables.{Tables, AreTablesOf, AreWhole, table_in, has_in, listed_under, arity_in, is_labelled_in}
 use Rattle.cep_names.specs.Filling.{Declaration, with_entry, declared, all_declared, con_unless, others_in}
-use Rattle.cep_names.proofs.Growing.{same, same_is, in_space, any_map, flip, first_shape, after, names_after, put_same, put_other, nothing, none_yet, under_declared, has_declared}
+use Rattle.cep_names.proofs.Different.{different_told}
+use Rattle.cep_base.proofs.Bytes.{any_map, bytes_eq_sym}
+use Rattle.cep_names.proofs.Growing.{same, same_is, in_space, first_shape, after, names_after, put_same, put_other, nothing, none_yet, under_declared, has_declared}
 use Rattle.cep_names.proofs.Declaring.{all, basics, others, rules, sort_declared, pred_declared, con_declared, named_of, basic_sorts, basic_preds, declared_cons, declared_preds, named_all}
 
 -- ---- what the tables say
 
 shape_found : {X : Type 0} (declare : X → Declaration) (name : List ℕ) (xs : List X) → first_shape name (map declare xs) ≡ option_map (λ x. (declare x).shape) (find (λ x. bytes_eq (declare x).name name) xs)
 shape_found declare name [] = refl
-shape_found declare name (x ∷ xs) = rw (flip name (declare x).name) (cases (bytes_eq (declare x).name name) (shape_found declare name xs)) where
+shape_found declare name (x ∷ xs) = rw (bytes_eq_sym name (declare x).name) (cases (bytes_eq (declare x).name name) (shape_found declare name xs)) where
   cases : (here : Bool) → first_shape name (map declare xs) ≡ option_map (λ x. (declare x).shape) (find (λ x. bytes_eq (declare x).name name) xs)
       → (if here then Some (declare x).shape else first_shape name (map declare xs)) ≡ option_map (λ x. (declare x).shape) (if here then Some x else find (λ x. bytes_eq (declare x).name name) xs)
   cases true e = refl
@@ -62,6 +63,7 @@ module _ (source : Source) where
 
   pub are_tables : AreTablesOf source tables
   are_tables = record {
+    different = different_told source;
     names = names_told;
     arities = arities_told;
     backs = λ name. ap (option_map (λ shape. shape.back)) (pred_shape name) ∙ twice_mapped (λ shape. shape.back) (λ pred. (pred_declared source pred).shape) (pred_named source name);

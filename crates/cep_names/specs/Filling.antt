@@ -5,15 +5,14 @@ use Rattle.cep_parse.specs.declared.raw.RawRule.{RawRule}
 use Rattle.cep_parse.specs.declared.raw.RawItem.{RawItem}
 use Rattle.cep_parse.specs.declared.raw.RawItem.TheVariants as item
 use Rattle.cep_parse.specs.Symbols.{slice_of}
-use Rattle.cep_names.specs.declared.reason.Reason.TheVariants.{Twice}
+use Rattle.cep_refusal.specs.declared.reason.Reason.TheVariants.{Twice}
 use Rattle.cep_names.specs.declared.space.Space.{Space}
 use Rattle.cep_names.specs.declared.space.Space.TheVariants as space
 use Rattle.cep_names.specs.declared.table.Shape.{Shape}
 use Rattle.cep_names.specs.declared.entries.Tabled.{Tabled}
 use Rattle.cep_names.specs.Items.{Source}
 use Rattle.cep_names.specs.Spaces.{rule_name, unlabelled_behind}
-use Rattle.cep_names.specs.First.{first_of}
-use Rattle.cep_names.specs.Misnamed.{wrong}
+use Rattle.cep_refusal.specs.First.{first_of, wrong}
 use Rattle.cep_names.specs.Tables.{Tables, has_in}
 
 -- A declaration of a name in a space, with its place and what is asked of the name later.

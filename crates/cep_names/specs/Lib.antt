@@ -3,7 +3,6 @@ pub mod Spaces
 pub mod Uses
 pub mod Variables
 pub mod Starts
-pub mod First
 pub mod Tables
 pub mod Misnamed
 pub mod Filling

@@ -1,9 +1,9 @@
 -- What the names of a text come to.
 use Rattle.std.specs.Prelude.{Result, Ok, Err}
-use Rattle.cep_names.specs.declared.fault.Fault.{Fault}
+use Rattle.cep_refusal.specs.declared.fault.Fault.{Fault}
 use Rattle.cep_names.specs.Items.{Source}
 use Rattle.cep_names.specs.Tables.{Tables, AreTablesOf, AreWhole}
-use Rattle.cep_names.specs.First.{IsFirst}
+use Rattle.cep_refusal.specs.First.{IsFirst}
 use Rattle.cep_names.specs.Misnamed.{Misnamed}
 
 -- Nothing is wrong with the names of a text, and these are their tables.

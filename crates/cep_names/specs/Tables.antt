@@ -1,5 +1,5 @@
 -- Tables of the names of each space, each with what is asked of it later. In place of all declarations of a name they have the first.
-use Rattle.std.specs.Prelude.{◌≡◌, ℕ, ◌==◌, Bool, ◌&&◌, not, List, Option, None, map, length, position}
+use Rattle.std.specs.Prelude.{◌≡◌, ℕ, ◌==◌, Bool, ◌&&◌, not, if◌then◌else◌, List, [], ◌∷◌, ◌++◌, Option, None, map, length, position}
 use Rattle.std.specs.Option.{option_map}
 use Rattle.std.specs.Str.{bytes_eq}
 use Rattle.std.specs.List.{list_any}
@@ -20,7 +20,7 @@ has_name table name = list_any (λ entry. bytes_eq name entry.0) table
 abbrev pub number_listed : List (List ℕ × Shape) → List ℕ → Option ℕ
 number_listed table name = position (λ entry. bytes_eq name entry.0) table
 
--- what stands listed_under the name
+-- what stands under the name
 abbrev pub listed_under : List (List ℕ × Shape) → List ℕ → Option Shape
 listed_under table name = lookup (λ other. bytes_eq name other) table
 
@@ -54,7 +54,10 @@ number_in tables space name = number_listed (table_in tables space) name
 abbrev pub arity_in : Tables → Space → List ℕ → Option ℕ
 arity_in tables space.Constructors name = option_map (λ shape. shape.args) (listed_under tables.constructors name)
 arity_in tables space.Predicates name = option_map (λ shape. shape.args) (listed_under tables.predicates name)
-arity_in tables _ name = None
+arity_in tables space.Sorts name = None
+arity_in tables space.Stages name = None
+arity_in tables space.Contexts name = None
+arity_in tables space.Rules name = None
 
 -- whether clauses define the predicate of this name
 abbrev pub back_in : Tables → List ℕ → Option Bool
@@ -65,8 +68,18 @@ abbrev pub is_labelled_in : Tables → List ℕ → List Span → Span → Bool
 is_labelled_in tables text args right =
     (length args == 0) && (not (has_in tables space.Sorts (slice_of text right.from right.to)) && has_in tables space.Predicates (slice_of text right.from right.to))
 
--- The tables say of each name what the first declaration of it in its space says.
+-- the different ones of some names that are not among those seen before, each where it stands first
+abbrev pub unseen_names : List (List ℕ) → List (List ℕ) → List (List ℕ)
+unseen_names seen [] = []
+unseen_names seen (name ∷ names) = if list_any (λ other. bytes_eq name other) seen then unseen_names seen names else name ∷ unseen_names (seen ++ name ∷ []) names
+
+-- the different names of a space, in the order of their first declarations
+abbrev pub different_names : Source → Space → List (List ℕ)
+different_names source space = unseen_names [] (map (λ named. named.name) (names_in source space))
+
+-- The tables have the different names of each space in the order of their first declarations, and say of each name what the first declaration of it says.
 pub record AreTablesOf (source : Source) (tables : Tables) : Type 0 where
+  pub different : (space : Space) → map (λ entry. entry.0) (table_in tables space) ≡ different_names source space
   pub names : (space : Space) (name : List ℕ) → has_in tables space name ≡ is_in source space name
   pub arities : (space : Space) (name : List ℕ) → arity_in tables space name ≡ arity_of source space name
   pub backs : (name : List ℕ) → back_in tables name ≡ option_map (λ pred. pred.back) (pred_named source name)

@@ -24,7 +24,8 @@ occurrence_at source blanks span kind.App = []
 -- how many blanks there are behind a node, where there were so many before it
 abbrev pub blanks_behind : ℕ → RawKind → ℕ
 blanks_behind blanks kind.Blank = blanks + 1
-blanks_behind blanks _ = blanks
+blanks_behind blanks kind.Var = blanks
+blanks_behind blanks kind.App = blanks
 
 -- the occurrences among nodes in written order, where so many blanks stand before them
 abbrev pub occurrences_from : Source → ℕ → List RawNode → List Occurrence

@@ -1,20 +1,19 @@
 ghost use Rattle.std.specs.Prelude.{◌≡◌, ◌+◌, ◌++◌, codes, decimal, IfOk, OnOk, None};
 ghost use Rattle.std.specs.List.{flat_map};
-ghost use Rattle.cep_names.specs.First.{IsFirstOrNone};
+ghost use Rattle.cep_refusal.specs.First.{IsFirstOrNone};
 ghost use Rattle.cep_parse.specs.Raw.{item_rules};
 ghost use Rattle.cep_names.specs.Filling.{all_declared, basics_in, declared, others_in, plain, rule_declaration, rules_in_turn, unlabelled_after};
 ghost use Rattle.cep_names.specs.Misnamed.{IsTwice};
 ghost use Rattle.cep_names.specs.Spaces.{unlabelled_behind};
 ghost use Rattle.cep_names.specs.Tables.{AreTablesOf, AreWhole, is_labelled_in};
 
-use crate::fault::Fault;
 use crate::names::Names;
-use crate::reason::Reason;
 use crate::space::Space;
 use crate::table::Shape;
 use crate::text::said;
 use cep_base::Text;
 use cep_parse::{RawFile, RawItem, RawRule, Span};
+use cep_refusal::{Fault, Reason};
 use std::alloc::{AllocError, Global};
 
 /// The names of a text, and the first of the names that are declared again.

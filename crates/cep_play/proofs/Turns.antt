@@ -130,7 +130,7 @@ module _ {M : Type 0} (program : Parts) (height : ℕ) (held : Multiset) (group 
   unfolding rule_of is_offer
   numbered = (is_offer program height held group offers are i offer at).applies.numbered
 
-  chosen_there : machine.IsChosen program lists old.stage i rule_of offer.values
+  chosen_there : machine.IsAskedAt program lists old.stage i rule_of offer.values
   chosen_there = record { number = offer.rule; offered = subst (λ xs. slice_get xs i ≡ Some offer) asked at; numbered = numbered }
 
   chosen : IsChosen program offers place offer rule_of
@@ -140,7 +140,7 @@ module _ {M : Type 0} (program : Parts) (height : ℕ) (held : Multiset) (group 
   stays = (all_at IsPlainRule program.rules built.rules offer.rule rule_of numbered).next
 
   -- the step was done
-  pub step_acts : (new : Configuration M) (bytes : List ℕ) → ((rule : Rule) (values : List Tree) → machine.IsChosen program lists old.stage i rule values → IsNext rule values old new) → bytes ≡ step_line program offer
+  pub step_acts : (new : Configuration M) (bytes : List ℕ) → ((rule : Rule) (values : List Tree) → machine.IsAskedAt program lists old.stage i rule values → IsNext rule values old new) → bytes ≡ step_line program offer
       → (come : List ℕ) (events : List Event) (rest : List ℕ) → (events ≡ outs bytes) × (rest ≡ come) → Acts program offers place (position_of old) (position_of new) come events rest
   step_acts new bytes stepped line come events rest put =
       let next = stepped rule_of offer.values chosen_there in
@@ -158,11 +158,11 @@ module _ {M : Type 0} (program : Parts) (height : ℕ) (held : Multiset) (group 
         untaken = put.1;
       }
 
-  pub one_turn_more : (new : Configuration M) → ((rule : Rule) (values : List Tree) → machine.IsChosen program lists old.stage i rule values → IsNext rule values old new) → new.turns ≡ old.turns + 1
+  pub one_turn_more : (new : Configuration M) → ((rule : Rule) (values : List Tree) → machine.IsAskedAt program lists old.stage i rule values → IsNext rule values old new) → new.turns ≡ old.turns + 1
   one_turn_more new stepped = (stepped rule_of offer.values chosen_there).turns
 
   -- the step would pass a limit
-  pub step_fails : (last : Configuration M) (which : Which) (number : ℕ) → ((rule : Rule) (values : List Tree) → machine.IsChosen program lists old.stage i rule values → (last ≡ old) × Passes rule values old.state which number)
+  pub step_fails : (last : Configuration M) (which : Which) (number : ℕ) → ((rule : Rule) (values : List Tree) → machine.IsAskedAt program lists old.stage i rule values → (last ≡ old) × Passes rule values old.state which number)
       → (come : List ℕ) (events : List Event) (rest : List ℕ) → (events ≡ []) × (rest ≡ come) → PassesLimit program offers place (limit_word which) (position_of old) come events rest
   step_fails last which number stepped come events rest same = record {
     offer = offer;
@@ -173,7 +173,7 @@ module _ {M : Type 0} (program : Parts) (height : ℕ) (held : Multiset) (group 
     untaken = same.1;
   }
 
-  pub left_alone : (last : Configuration M) (which : Which) (number : ℕ) → ((rule : Rule) (values : List Tree) → machine.IsChosen program lists old.stage i rule values → (last ≡ old) × Passes rule values old.state which number) → last ≡ old
+  pub left_alone : (last : Configuration M) (which : Which) (number : ℕ) → ((rule : Rule) (values : List Tree) → machine.IsAskedAt program lists old.stage i rule values → (last ≡ old) × Passes rule values old.state which number) → last ≡ old
   left_alone last which number stepped = (stepped rule_of offer.values chosen_there).0
 
 -- Turns

@@ -8,11 +8,12 @@ use Rattle.cep_base.specs.Faults.{Rose}
 use Rattle.cep_base.specs.declared.console.ConsoleFault.{ConsoleFault}
 use Rattle.cep_base.specs.declared.console.ConsoleFault.TheVariants as faults
 use Rattle.cep_rule.specs.declared.parts.Parts.{Parts}
-use Rattle.cep_names.specs.declared.fault.Fault.{Fault}
-use Rattle.cep_names.specs.First.{number, reason_name}
-use Rattle.cep_infer.specs.declared.draft.Refusal.{Refusal}
+use Rattle.cep_refusal.specs.declared.fault.Fault.{Fault}
+use Rattle.cep_refusal.specs.Reasons.{number, reason_name}
+use Rattle.cep_refusal.specs.declared.refusal.Refusal.{Refusal}
 use Rattle.cep_ground.specs.Texts.{Spells}
-use Rattle.cep_ground.specs.Refusals.{IsBuilt, IsRefusedFor, Tells}
+use Rattle.cep_ground.specs.Refusals.{IsBuilt, IsRefusedFor}
+use Rattle.cep_refusal.specs.Told.{Tells}
 use Rattle.cep_play.specs.declared.command.Status.{Status}
 use Rattle.cep_play.specs.declared.command.Status.TheVariants.{Ended, Usage, Refused, Limited, Console, Unread, Memory}
 use Rattle.cep_play.specs.declared.dialogue.EndWord.{EndWord}

@@ -10,7 +10,7 @@ use cep_base::limits::MOST_TEXT;
 use crate::dialogue::{EndWord, play};
 use cep_base::{Console, ConsoleFault, Shelf, ShelfFault, Steps, Text};
 use cep_ground::accept;
-use cep_infer::Refusal;
+use cep_refusal::Refusal;
 use cep_scratch::Scratch;
 use std::alloc::{AllocError, Global};
 use std::sync::ledger::Ledger;

@@ -2,7 +2,8 @@
 use Rattle.std.specs.Prelude.{ℕ, ◌≤◌, length, IfSome}
 use Rattle.std.specs.List.{AllByRecursion}
 use Rattle.cep_term.specs.Tree.{AtomTree, atom_nodes}
-use Rattle.cep_base.specs.declared.limits.TheConstants.{MOST_ARGUMENTS, MOST_BACKS, MOST_CLAUSES, MOST_CONS, MOST_GOALS, MOST_PATTERN_NODES, MOST_PREDS, MOST_PREMISES, MOST_RIGHT, MOST_RULES, MOST_SORTS, MOST_STAGES, MOST_TURNS, MOST_VARIABLES}
+use Rattle.cep_base.specs.declared.limits.TheConstants.{MOST_ARGUMENTS, MOST_BACKS, MOST_CLAUSES, MOST_CONS, MOST_GOALS, MOST_PATTERN_NODES, MOST_PREDS, MOST_PREMISES, MOST_RIGHT, MOST_RULES, MOST_SORTS, MOST_STAGES, MOST_VARIABLES}
+use Rattle.cep_base.specs.Bounds.{IsTurnLimit}
 use Rattle.cep_rule.specs.declared.signature.Signature.{Signature}
 use Rattle.cep_rule.specs.declared.rule.Rule.{Rule}
 use Rattle.cep_rule.specs.declared.parts.Parts.{Parts}
@@ -36,11 +37,6 @@ pub record IsSmallClause (clause : ClauseTree) : Type 0 where
   pub goals : length clause.goals ≤ MOST_GOALS
   pub head_nodes : IsSmallPattern clause.head
   pub goal_nodes : AllByRecursion IsSmallPattern clause.goals
-
--- A number of turns that a program may ask for: at least one, and not too many.
-pub record IsTurnLimit (turns : ℕ) : Type 0 where
-  pub some : 1 ≤ turns
-  pub few : turns ≤ MOST_TURNS
 
 -- All parts are within the limits.
 pub record IsSmall (parts : Parts) : Type 0 where

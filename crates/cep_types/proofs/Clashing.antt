@@ -7,15 +7,15 @@ use Rattle.cep_parse.specs.declared.raw.RawKind.{RawKind}
 use Rattle.cep_parse.specs.declared.raw.RawKind.TheVariants as kind
 use Rattle.cep_parse.specs.declared.raw.RawNode.{RawNode}
 use Rattle.cep_parse.specs.declared.raw.RawAtom.{RawAtom}
-use Rattle.cep_names.specs.declared.fault.Fault.{Fault}
+use Rattle.cep_refusal.specs.declared.fault.Fault.{Fault}
 use Rattle.cep_names.specs.Items.{Source, said}
-use Rattle.cep_names.specs.First.{first_of, first_in}
+use Rattle.cep_refusal.specs.First.{standing, first_of, first_in}
 use Rattle.cep_types.specs.declared.variables.Variables.{Variables}
 use Rattle.cep_types.specs.Sites.{Site, sites_from, sites_in, type_of}
 use Rattle.cep_types.specs.Clashes.{type_at, clash_if, clash_of, atom_clashes, scope_clashes}
 use Rattle.cep_types.specs.Met.{type_met, none_met, AreMet}
-use Rattle.cep_types.proofs.FirstFaults.{first_of_three}
-use Rattle.cep_types.proofs.FirstLoops.{first_in_append, first_in_parts}
+use Rattle.cep_base.proofs.Foremost.{foremost_append, foremost_of_three}
+use Rattle.cep_base.proofs.ForemostLoops.{foremost_parts}
 use Rattle.cep_types.proofs.Meeting.{no_sites, both_are_met}
 use Rattle.cep_types.proofs.FirstOccurrences.{types_met}
 
@@ -32,8 +32,8 @@ clash_more source f all nodes i d next later wants old item new h site was is_it
     let rest = first_in (flat_map f (sites_from source later (drop (i + 1) nodes))) in
     let sites : sites_from source next (drop i nodes) ≡ record { node = get_or nodes i d; wants = wants } ∷ sites_from source later (drop (i + 1) nodes) = ap (sites_from source next) (drop_more nodes i d h) ∙ site in
     was ∙ ap (λ ss. first_of old (first_in (flat_map f ss))) sites
-    ∙ ap (first_of old) (first_in_append (f (record { node = get_or nodes i d; wants = wants })) (flat_map f (sites_from source later (drop (i + 1) nodes))))
-    ∙ first_of_three old (first_in (f (record { node = get_or nodes i d; wants = wants }))) rest
+    ∙ ap (first_of old) (foremost_append standing (f (record { node = get_or nodes i d; wants = wants })) (flat_map f (sites_from source later (drop (i + 1) nodes))))
+    ∙ foremost_of_three standing old (first_in (f (record { node = get_or nodes i d; wants = wants }))) rest
     ∙ ap (λ o. first_of (first_of old o) rest) (sym is_item) ∙ ap (λ o. first_of o rest) (sym is_new)
 
 pub clash_over : (source : Source) (f : Site → List Fault) (all : Option Fault) (nodes : List RawNode) (i : ℕ) (next : List (List ℕ)) (old : Option Fault) → length nodes ≤ i
@@ -75,4 +75,4 @@ pub two_found : (source : Source) (one two : List RawAtom) (start middle variabl
 two_found source one two start middle variables first other both is before behind first_is other_is both_is =
     let clashes = atom_clashes source (type_met source variables.firsts) in
     both_is ∙ ap (λ o. first_of o other) first_is ∙ ap (first_of (first_in (flat_map clashes one))) other_is
-    ∙ sym (first_in_parts clashes one two) ∙ ap first_in (found_from source (one ++ two) start variables is (both_are_met source one two start middle variables before behind))
+    ∙ sym (foremost_parts standing clashes one two) ∙ ap first_in (found_from source (one ++ two) start variables is (both_are_met source one two start middle variables before behind))

@@ -11,7 +11,7 @@ use Rattle.cep_names.specs.Items.{Source, said}
 use Rattle.cep_types.specs.declared.variables.Variables.{Variables}
 use Rattle.cep_types.specs.Sites.{Wanted, sites_of, wanted_from, type_of}
 use Rattle.cep_types.specs.Met.{met_under, type_met, none_met, wanted_in, further, AreMet}
-use Rattle.cep_types.proofs.Lookups.{bytes_eq_sym}
+use Rattle.cep_base.proofs.Bytes.{bytes_eq_sym}
 
 -- whether the name is that of a wanted one
 abbrev has_wanted : List Wanted → List ℕ → Bool

@@ -1,9 +1,6 @@
-pub mod Entries
 pub mod Lookups
 pub mod Meeting
 pub mod FirstOccurrences
-pub mod FirstFaults
-pub mod FirstLoops
 pub mod Clashing
 pub mod ScopesInItems
 pub mod Mistaken

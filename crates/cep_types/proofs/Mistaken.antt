@@ -7,16 +7,15 @@ use Rattle.std.proofs.lemmas.Slice.Eq.{bytes_eq-Decides}
 use Rattle.cep_parse.specs.declared.raw.RawKind.{RawKind}
 use Rattle.cep_parse.specs.declared.raw.RawKind.TheVariants as kind
 use Rattle.cep_parse.specs.declared.raw.RawAtom.{RawAtom}
-use Rattle.cep_names.specs.declared.fault.Fault.{Fault}
-use Rattle.cep_names.specs.declared.reason.Reason.TheVariants.{TypeClash}
-use Rattle.cep_names.specs.First.{IsFirstOrNone, first_in}
+use Rattle.cep_refusal.specs.declared.fault.Fault.{Fault}
+use Rattle.cep_refusal.specs.declared.reason.Reason.TheVariants.{TypeClash}
+use Rattle.cep_refusal.specs.First.{standing, IsFirstOrNone, first_in, wrong}
 use Rattle.cep_names.specs.Items.{Source, ConItem, said}
-use Rattle.cep_names.specs.Misnamed.{wrong}
 use Rattle.cep_names.specs.Spaces.{con_named, pred_named}
 use Rattle.cep_types.specs.Sites.{Site, pred_types, sites_from, sites_in, sites_of, type_of, IsScope, Mistyped}
 use Rattle.cep_types.specs.Sites.Mistyped.{constructor, variable}
 use Rattle.cep_types.specs.Clashes.{type_at, clash_if, clash_of, atom_clashes, scope_clashes, item_scopes}
-use Rattle.cep_types.proofs.FirstFaults.{first_among, first_same}
+use Rattle.cep_base.proofs.Foremost.{foremost_among, foremost_same}
 use Rattle.cep_types.proofs.Meeting.{no_sites}
 use Rattle.cep_base.proofs.Members.{In, here, in_nil, in_one, in_same, through, via, to_contains, from_contains}
 use Rattle.cep_types.proofs.ScopesInItems.{IsFound, scope_is, scope_found_in}
@@ -117,7 +116,7 @@ module _ (source : Source) (fault : Fault) where
 pub first_mistyped : (source : Source) (first : Option Fault) → first ≡ first_in (clashes_of source) → IsFirstOrNone (Mistyped source) first
 first_mistyped source first is =
     subst (IsFirstOrNone (Mistyped source)) (sym is)
-    (first_same _ (Mistyped source) (first_in (clashes_of source))
+    (foremost_same standing _ (Mistyped source) (first_in (clashes_of source))
     (λ fault h. sound source fault (from_contains (clashes_of source) fault h))
     (λ fault h. to_contains (clashes_of source) fault (complete source fault h))
-    (first_among (clashes_of source)))
+    (foremost_among standing (clashes_of source)))

@@ -8,14 +8,15 @@ use Rattle.cep_parse.specs.declared.raw.RawKind.{RawKind}
 use Rattle.cep_parse.specs.declared.raw.RawKind.TheVariants as kind
 use Rattle.cep_parse.specs.declared.raw.RawNode.{RawNode}
 use Rattle.cep_parse.specs.declared.raw.RawAtom.{RawAtom}
-use Rattle.cep_names.specs.declared.fault.Fault.{Fault}
-use Rattle.cep_names.specs.declared.reason.Reason.TheVariants.{TypeClash}
+use Rattle.cep_refusal.specs.declared.fault.Fault.{Fault}
+use Rattle.cep_refusal.specs.declared.reason.Reason.TheVariants.{TypeClash}
 use Rattle.cep_names.specs.Items.{Source, PredItem, ConItem, ClauseItem, RuleItem, said, clauses_of, rules_of}
 use Rattle.cep_names.specs.Spaces.{pred_named, con_named}
 use Rattle.cep_names.specs.Variables.{occurrence_at, blanks_behind}
 use Rattle.cep_parse.specs.Raw.{atoms_of}
 use Rattle.cep_names.specs.Uses.{Placed, placed_of}
-use Rattle.cep_names.specs.Misnamed.{wrong, IsOfState}
+use Rattle.cep_refusal.specs.First.{wrong}
+use Rattle.cep_names.specs.Misnamed.{IsOfState}
 
 -- A term by its node, and the name of the type that is wanted of it.
 pub record Site : Type 0 where
@@ -34,7 +35,8 @@ pred_types source None = []
 -- the types that a node wants of its arguments
 abbrev pub node_types : Source → RawKind → Span → List (List ℕ)
 node_types source kind.App span = con_types source (con_named source (said source span))
-node_types source _ span = []
+node_types source kind.Blank span = []
+node_types source kind.Var span = []
 
 -- Each node with the type wanted of it, where the next terms are to be of these types: the first of them is the node's, and then come those of its arguments.
 abbrev pub sites_from : Source → List (List ℕ) → List RawNode → List Site

@@ -2,7 +2,7 @@
 ghost use Rattle.std.specs.Prelude.{◌≡◌, ◌++◌, ◌∷◌, [], IfOk};
 ghost use Rattle.std.specs.List.{flat_map};
 ghost use Rattle.std.specs.Option.{option_map};
-ghost use Rattle.cep_names.specs.First.{first_in, IsFirstOrNone};
+ghost use Rattle.cep_refusal.specs.First.{first_in, IsFirstOrNone};
 ghost use Rattle.cep_names.specs.Items.{said};
 ghost use Rattle.cep_parse.specs.Raw.{atoms_in, atoms_of};
 ghost use Rattle.cep_types.specs.Clashes.{type_at, clash_of, atom_clashes, scope_clashes, item_scopes};
@@ -11,8 +11,8 @@ ghost use Rattle.cep_types.specs.Sites.{Mistyped};
 
 use crate::declarations::Declarations;
 use crate::variables::Variables;
-use cep_names::{Fault, Reason};
-use cep_parse::{RawAtom, RawElem, RawItem, RawKind, RawNode, RawRule, Span};
+use cep_parse::{RawAtom, RawElem, RawItem, RawKind, RawNode, RawRule, RawStart, Span};
+use cep_refusal::{Fault, FirstFault, Reason};
 use std::alloc::AllocError;
 
 impl<'a> Declarations<'a> {
@@ -48,13 +48,13 @@ impl<'a> Declarations<'a> {
     fn atom_clash(&self, variables: &Variables, atom: &RawAtom) -> Result<Option<Fault>, AllocError>
         ensures { IfOk result (λ first. first ≡ first_in (atom_clashes self.now (type_met self.now variables.now.firsts) atom.now)) }
     {
-        let mut first = None;
+        let mut first = FirstFault::none();
         let mut pending = self.pending(atom.name)?;
         for node in atom.nodes.as_slice() {
             let wants = self.site(&mut pending, node)?;
-            first = Fault::first_of(first, self.clash(variables, node, wants));
+            first.note(self.clash(variables, node, wants));
         }
-        Ok(first)
+        Ok(first.found())
     }
 
     // The first one of atoms that share these variables.
@@ -65,11 +65,11 @@ impl<'a> Declarations<'a> {
     ) -> Result<Option<Fault>, AllocError>
         ensures { IfOk result (λ first. first ≡ first_in (flat_map (atom_clashes self.now (type_met self.now variables.now.firsts)) atoms.now)) }
     {
-        let mut first = None;
+        let mut first = FirstFault::none();
         for atom in atoms {
-            first = Fault::first_of(first, self.atom_clash(variables, atom)?);
+            first.note(self.atom_clash(variables, atom)?);
         }
-        Ok(first)
+        Ok(first.found())
     }
 
     fn elem_clash(&self, variables: &Variables, elem: &RawElem) -> Result<Option<Fault>, AllocError>
@@ -89,11 +89,11 @@ impl<'a> Declarations<'a> {
     ) -> Result<Option<Fault>, AllocError>
         ensures { IfOk result (λ first. first ≡ first_in (flat_map (atom_clashes self.now (type_met self.now variables.now.firsts)) (atoms_of side.now))) }
     {
-        let mut first = None;
+        let mut first = FirstFault::none();
         for elem in side {
-            first = Fault::first_of(first, self.elem_clash(variables, elem)?);
+            first.note(self.elem_clash(variables, elem)?);
         }
-        Ok(first)
+        Ok(first.found())
     }
 
     // The first one of a rule.
@@ -113,11 +113,11 @@ impl<'a> Declarations<'a> {
     fn rules_clash(&self, rules: &[RawRule]) -> Result<Option<Fault>, AllocError>
         ensures { IfOk result (λ first. first ≡ first_in (flat_map (λ rule. scope_clashes self.now (atoms_of rule.left ++ atoms_of rule.right)) rules.now)) }
     {
-        let mut first = None;
+        let mut first = FirstFault::none();
         for rule in rules {
-            first = Fault::first_of(first, self.rule_clash(rule)?);
+            first.note(self.rule_clash(rule)?);
         }
-        Ok(first)
+        Ok(first.found())
     }
 
     // The first one of a clause.
@@ -145,11 +145,11 @@ impl<'a> Declarations<'a> {
     fn states_clash(&self, atoms: &[RawAtom]) -> Result<Option<Fault>, AllocError>
         ensures { IfOk result (λ first. first ≡ first_in (flat_map (λ atom. scope_clashes self.now (atom ∷ [])) atoms.now)) }
     {
-        let mut first = None;
+        let mut first = FirstFault::none();
         for atom in atoms {
-            first = Fault::first_of(first, self.state_clash(atom)?);
+            first.note(self.state_clash(atom)?);
         }
-        Ok(first)
+        Ok(first.found())
     }
 
     // The first one of an item. A clause with a label and no goals has a head without terms.
@@ -170,11 +170,11 @@ impl<'a> Declarations<'a> {
     fn items_clash(&self) -> Result<Option<Fault>, AllocError>
         ensures { IfOk result (λ first. first ≡ first_in (flat_map (λ item. flat_map (scope_clashes self.now) (item_scopes item)) self.now.file)) }
     {
-        let mut first = None;
+        let mut first = FirstFault::none();
         for item in self.items() {
-            first = Fault::first_of(first, self.item_clash(item)?);
+            first.note(self.item_clash(item)?);
         }
-        Ok(first)
+        Ok(first.found())
     }
 
     /// The first term of the text that is of another type than is wanted, or none.

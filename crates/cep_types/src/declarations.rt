@@ -11,9 +11,9 @@ ghost use Rattle.cep_names.specs.Tables.{AreTablesOf, AreWhole};
 ghost use Rattle.cep_types.specs.Heads.{number_of, sorts_said};
 ghost use Rattle.cep_types.specs.Kept.{con_item, pred_item, context_item};
 
+use cep_base::List;
 use cep_names::{Names, Space, said};
 use cep_parse::{RawAtom, RawFile, RawItem, Span};
-use cep_rule::Kinds;
 use std::alloc::{AllocError, Global};
 use std::marker::Model;
 
@@ -293,10 +293,10 @@ impl<'a> Declarations<'a> {
     }
 
     /// The numbers of types by their names.
-    pub fn kinds(&self, names: &[Span]) -> Result<Kinds, AllocError>
+    pub fn kinds(&self, names: &[Span]) -> Result<List<u32>, AllocError>
         ensures { IfOk result (λ kinds. kinds ≡ sorts_said self.now names.now) }
     {
-        let mut kinds = Kinds::new(self.alloc);
+        let mut kinds = List::new(self.alloc);
         for name in names {
             kinds.push(self.number(Space::Sorts, *name)?)?;
         }

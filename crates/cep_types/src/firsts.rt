@@ -2,9 +2,8 @@
 ghost use Rattle.std.specs.Prelude.{◌≡◌, [], ◌∷◌, ◌++◌, IfOk, OnOk, map};
 ghost use Rattle.cep_types.specs.Met.{is_met, met_number, met_under, added, names_seen};
 
-use cep_base::Name;
+use cep_base::{List, Name};
 use cep_parse::Span;
-use cep_rule::Names;
 use indexmap::IndexMap;
 use std::alloc::{AllocError, Global};
 use std::marker::Model;
@@ -68,10 +67,10 @@ impl Firsts {
     }
 
     /// All names.
-    pub fn names(&self, alloc: Global) -> Result<Names, AllocError>
+    pub fn names(&self, alloc: Global) -> Result<List<Name>, AllocError>
         ensures { IfOk result (λ names. names ≡ names_seen self.now) }
     {
-        let mut names = Names::new(alloc);
+        let mut names = List::new(alloc);
         for (name, _) in &self.entries {
             names.push(Name::new(alloc, name)?)?;
         }

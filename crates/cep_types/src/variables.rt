@@ -7,10 +7,9 @@ ghost use Rattle.cep_types.specs.Met.{none_met, met_site, AreMet, names_seen, ki
 
 use crate::declarations::Declarations;
 use crate::firsts::Firsts;
-use cep_base::Text;
+use cep_base::{List, Text};
 use cep_names::Space;
 use cep_parse::{RawAtom, RawElem, RawKind, RawNode, Span};
-use cep_rule::Kinds;
 use std::alloc::{AllocError, Global};
 
 /// The variables that were met so far, each with the type that is wanted where it occurs first,
@@ -149,7 +148,7 @@ impl Variables {
     }
 
     /// The types of the variables, by their numbers.
-    pub fn kinds(&self, declared: &Declarations) -> Result<Kinds, AllocError>
+    pub fn kinds(&self, declared: &Declarations) -> Result<List<u32>, AllocError>
         ensures { IfOk result (λ kinds. kinds ≡ kinds_met declared.now self.now.firsts) }
     {
         let types = self.firsts.types(declared.alloc())?;

@@ -1,6 +1,6 @@
 use Rattle.std.proofs.Common.{List, ap, sym, ◌∙◌, subst}
 use Rattle.cep_parse.specs.declared.raw.RawItem.{RawItem}
-use Rattle.cep_names.specs.First.{IsFirstOrNone, first_in}
+use Rattle.cep_refusal.specs.First.{IsFirstOrNone, first_in}
 use Rattle.cep_names.specs.Misnamed.{Misnamed}
 use Rattle.cep_faults.specs.Looks.{looks_in}
 use Rattle.cep_faults.specs.Totals.{all_faults}

@@ -2,7 +2,7 @@ use Rattle.cep_names.specs.declared.space.Space.TheVariants as space
 use Rattle.cep_faults.specs.Looks.{looks_in}
 use Rattle.cep_names.specs.Uses.{use_in}
 use Rattle.cep_faults.specs.Faults.{use_faults, argument_faults}
-use Rattle.cep_faults.proofs.FirstLoops.{first_with_end}
+use Rattle.cep_faults.proofs.Firsts.{first_with_end}
 use Rattle.cep_faults.proofs.items.con_fault.Goals as goal
 
 pub returns : goal.returns

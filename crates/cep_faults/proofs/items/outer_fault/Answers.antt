@@ -1,10 +1,10 @@
 use Rattle.std.proofs.Common.{ap, ◌∙◌}
 use Rattle.std.specs.List.{flat_map}
-use Rattle.cep_names.specs.First.{first_in}
+use Rattle.cep_refusal.specs.First.{first_in}
 use Rattle.cep_faults.specs.Looks.{looks_in}
 use Rattle.cep_names.specs.Uses.{elem_uses}
 use Rattle.cep_faults.specs.Faults.{use_faults, rule_faults, qui_faults}
-use Rattle.cep_faults.proofs.FirstLoops.{first_with_sides}
+use Rattle.cep_faults.proofs.Firsts.{first_with_sides}
 use Rattle.cep_faults.proofs.items.outer_fault.Goals as goal
 
 pub returns : goal.returns

@@ -1,6 +1,6 @@
 use Rattle.std.proofs.Common.{◌≡◌, take}
 use Rattle.std.specs.List.{flat_map}
-use Rattle.cep_names.specs.First.{first_in}
+use Rattle.cep_refusal.specs.First.{first_in}
 use Rattle.cep_faults.specs.Looks.{looks_in}
 use Rattle.cep_faults.specs.Faults.{node_faults}
 use Rattle.cep_faults.proofs.uses.nodes_fault.Given as goal

@@ -4,11 +4,11 @@ use Rattle.cep_parse.specs.declared.raw.RawNode.{RawNode}
 use Rattle.cep_parse.specs.declared.raw.RawElem.{RawElem}
 use Rattle.cep_parse.specs.declared.raw.RawAtom.{RawAtom}
 use Rattle.cep_base.specs.declared.limits.TheConstants.{MOST_VARIABLES}
-use Rattle.cep_names.specs.First.{first_in}
+use Rattle.cep_refusal.specs.First.{first_in}
 use Rattle.cep_faults.specs.Faults.{past}
 use Rattle.cep_parse.specs.Raw.{atoms_in, raw_nodes}
 use Rattle.cep_faults.specs.Seen.{unseen, new_in}
-use Rattle.cep_faults.proofs.FirstLoops.{flat_map-flat_map}
+use Rattle.cep_base.proofs.ForemostLoops.{flat_map-flat_map}
 use Rattle.cep_faults.proofs.variables.rule_fault.Goals as goal
 
 pub returns : goal.returns

@@ -1,8 +1,8 @@
 use Rattle.std.proofs.Common.{subst, refl}
 use Rattle.std.specs.List.{flat_map}
 use Rattle.cep_parse.specs.Symbols.{symbols_of}
-use Rattle.cep_names.specs.declared.reason.Reason.TheVariants.{Unbound}
-use Rattle.cep_names.specs.Misnamed.{wrong}
+use Rattle.cep_refusal.specs.declared.reason.Reason.TheVariants.{Unbound}
+use Rattle.cep_refusal.specs.First.{wrong}
 use Rattle.cep_ground.specs.Earliest.{IsEarliest}
 use Rattle.cep_ground.proofs.Refused.{refused_unbound}
 use Rattle.cep_ground.proofs.Unbound.{first_unbound, all_bound}

@@ -1,8 +1,8 @@
 use Rattle.std.proofs.Common.{subst, refl, sym, ◌≡◌}
 use Rattle.std.specs.List.{AllByRecursion}
 use Rattle.cep_parse.specs.Symbols.{symbols_of}
-use Rattle.cep_names.specs.declared.reason.Reason.TheVariants.{NotBuilt}
-use Rattle.cep_names.specs.Misnamed.{wrong}
+use Rattle.cep_refusal.specs.declared.reason.Reason.TheVariants.{NotBuilt}
+use Rattle.cep_refusal.specs.First.{wrong}
 use Rattle.cep_rule.specs.declared.parts.Parts.{Parts}
 use Rattle.cep_rule.specs.Groundness.{IsGrounded}
 use Rattle.cep_infer.specs.Meaning.{AreParts}
@@ -17,7 +17,7 @@ returns-then-not-are_plain c =
       wrong NotBuilt 0,
       refused_not_built c.lexed_once.ensures c.args.text.now c.parsed_once.ensures (λ text tokens one other. c.one_raw_file.ensures (symbols_of text tokens) one other)
           (record { text = c.args.text.now; file = c.args.file.now }) refl c.requires.clean.short c.requires.clean.is_source c.requires.clean c.requires.bound c.args.parts c.requires.declared (λ built. not_plain built.rules),
-      c.tell.ensures,
+      c.of.ensures,
     )
 
 pub seal-program-requires : goal.seal-program-requires
@@ -55,5 +55,5 @@ returns-else-is_asked c =
       refused_not_built c.lexed_once.ensures c.args.text.now c.parsed_once.ensures (λ text tokens one other. c.one_raw_file.ensures (symbols_of text tokens) one other)
           (record { text = c.args.text.now; file = c.args.file.now }) refl c.requires.clean.short c.requires.clean.is_source c.requires.clean c.requires.bound c.args.parts c.requires.declared
           (λ built. not_asked (subst IsInteractive (sym same) built.interactive)),
-      c.tell-else-is_asked.ensures,
+      c.of-else-is_asked.ensures,
     )

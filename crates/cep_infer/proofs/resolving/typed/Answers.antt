@@ -1,5 +1,5 @@
 use Rattle.std.proofs.Common.{sym, subst}
-use Rattle.cep_names.specs.First.{IsFirstOrNone}
+use Rattle.cep_refusal.specs.First.{IsFirstOrNone}
 use Rattle.cep_names.specs.Items.{Source}
 use Rattle.cep_types.specs.Sites.{Mistyped}
 use Rattle.cep_infer.specs.Places.{IsDraft}

@@ -2,7 +2,7 @@ use Rattle.std.proofs.Common.{◌≡◌, ℕ, List, Bool, false, ◌∙◌, sym,
 use Rattle.std.specs.List.{list_any}
 use Rattle.std.specs.Str.{bytes_eq}
 use Rattle.cep_faults.specs.declared.sizes.Size.{Size}
-use Rattle.cep_faults.proofs.TableEntries.{has_seen, lookup_seen, pushed}
+use Rattle.cep_base.proofs.Entries.{has_seen, lookup_seen, pushed}
 use Rattle.cep_faults.proofs.SizeTables.{kept, entered}
 use Rattle.cep_faults.proofs.sizes.Sizes.enter.Goals as goal
 

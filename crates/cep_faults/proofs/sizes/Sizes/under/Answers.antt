@@ -1,5 +1,5 @@
 use Rattle.std.proofs.Common.{◌∙◌}
-use Rattle.cep_faults.proofs.TableEntries.{lookup_seen}
+use Rattle.cep_base.proofs.Entries.{lookup_seen}
 use Rattle.cep_faults.proofs.sizes.Sizes.under.Goals as goal
 
 pub returns : goal.returns

@@ -1,6 +1,6 @@
 use Rattle.std.proofs.Common.{◌≡◌, ◌∙◌, None, ap, sym, subst}
 use Rattle.cep_names.specs.Items.{Source}
-use Rattle.cep_names.specs.First.{IsFirstOrNone}
+use Rattle.cep_refusal.specs.First.{IsFirstOrNone}
 use Rattle.cep_names.specs.Misnamed.{IsTwice}
 use Rattle.cep_names.specs.Tables.{AreTablesOf, AreWhole}
 use Rattle.cep_names.specs.Filling.{all_declared}

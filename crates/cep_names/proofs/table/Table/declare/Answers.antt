@@ -1,6 +1,6 @@
 use Rattle.std.proofs.Common.{◌≡◌, ◌∙◌, ap, sym, not, false, refl}
 use Rattle.cep_names.specs.Tables.{has_name}
-use Rattle.cep_names.proofs.TableEntries.{has_seen, pushed}
+use Rattle.cep_base.proofs.Entries.{has_seen, pushed}
 use Rattle.cep_names.proofs.table.Table.declare.Goals as goal
 
 pub returns-then-contains_key-clause-added : goal.returns-then-contains_key-clause-added

@@ -1,5 +1,5 @@
 use Rattle.std.proofs.Common.{◌∙◌}
-use Rattle.cep_names.proofs.TableEntries.{has_seen}
+use Rattle.cep_base.proofs.Entries.{has_seen}
 use Rattle.cep_names.proofs.table.Table.has.Goals as goal
 
 pub returns : goal.returns

@@ -1,5 +1,5 @@
 use Rattle.std.proofs.Common.{◌∙◌}
-use Rattle.cep_names.proofs.TableEntries.{position_seen}
+use Rattle.cep_base.proofs.Entries.{position_seen}
 use Rattle.cep_names.proofs.table.Table.number.Goals as goal
 
 pub returns : goal.returns

@@ -1,5 +1,5 @@
 use Rattle.std.proofs.Common.{◌∙◌}
-use Rattle.cep_names.proofs.TableEntries.{lookup_seen}
+use Rattle.cep_base.proofs.Entries.{lookup_seen}
 use Rattle.cep_names.proofs.table.Table.shape.Goals as goal
 
 pub returns : goal.returns

@@ -1,7 +1,7 @@
 use Rattle.std.proofs.Common.{List, ◌∙◌, ◌+◌, map, drop, ap}
 use Rattle.cep_parse.specs.declared.raw.RawNode.{RawNode}
 use Rattle.cep_names.specs.Items.{said}
-use Rattle.cep_names.specs.First.{first_in}
+use Rattle.cep_refusal.specs.First.{first_in}
 use Rattle.std.specs.List.{flat_map}
 use Rattle.cep_names.specs.Spaces.{pred_named}
 use Rattle.cep_types.specs.Sites.{sites_from, pred_types}
@@ -15,8 +15,8 @@ loop-node-preserved c =
     let source = c.args.self.now in
     let f = clash_of source (type_met source c.args.variables.now.firsts) in
     let nodes = c.as_slice-node-items.result.now in
-    clash_more source f _ nodes c.loop-node.node-index _ (map (said source) c.loop-node.pending) (map (said source) c.site.new.pending) (said source c.in_ok-wants.wants) c.loop-node.first c.clash.result c.first_of-first.result c.loop-node-test.true
-    (c.in_ok-wants.ensures (drop (c.loop-node.node-index + 1) nodes)) c.loop-node.invariant c.clash.ensures c.first_of-first.ensures
+    clash_more source f _ nodes c.loop-node.node-index _ (map (said source) c.loop-node.pending) (map (said source) c.site.new.pending) (said source c.in_ok-wants.wants) c.loop-node.first c.clash.result c.note.new.first c.loop-node-test.true
+    (c.in_ok-wants.ensures (drop (c.loop-node.node-index + 1) nodes)) c.loop-node.invariant c.clash.ensures c.note.ensures
 
 pub returns : goal.returns
 returns c =

@@ -1,6 +1,6 @@
 use Rattle.std.proofs.Common.{◌≡◌, map, drop}
 use Rattle.std.specs.List.{flat_map}
-use Rattle.cep_names.specs.First.{first_in, first_of}
+use Rattle.cep_refusal.specs.First.{first_in, first_of}
 use Rattle.cep_names.specs.Items.{said}
 use Rattle.cep_types.specs.Sites.{sites_from}
 use Rattle.cep_types.specs.Clashes.{clash_of}

@@ -1,6 +1,6 @@
 use Rattle.std.proofs.Common.{◌≡◌, take}
 use Rattle.std.specs.List.{flat_map}
-use Rattle.cep_names.specs.First.{first_in}
+use Rattle.cep_refusal.specs.First.{first_in}
 use Rattle.cep_types.specs.Clashes.{atom_clashes}
 use Rattle.cep_types.specs.Met.{type_met}
 use Rattle.cep_types.proofs.declarations.Declarations.clash_among.Given as goal

@@ -1,5 +1,5 @@
 use Rattle.std.proofs.Common.{[], ◌∷◌, ◌∙◌, sym, ap, append-nil}
-use Rattle.cep_names.specs.First.{first_in}
+use Rattle.cep_refusal.specs.First.{first_in}
 use Rattle.cep_types.specs.Clashes.{atom_clashes}
 use Rattle.cep_types.specs.Met.{type_met}
 use Rattle.cep_types.proofs.Clashing.{two_found}

@@ -7,8 +7,8 @@ use Rattle.cep_parse.specs.declared.raw.RawAtom.{RawAtom}
 use Rattle.cep_parse.specs.declared.raw.RawItem.{RawItem}
 use Rattle.cep_parse.specs.declared.raw.RawItem.TheVariants as item
 use Rattle.cep_parse.specs.declared.raw.RawStart.{RawStart}
-use Rattle.cep_names.specs.declared.fault.Fault.{Fault}
-use Rattle.cep_names.specs.First.{first_in}
+use Rattle.cep_refusal.specs.declared.fault.Fault.{Fault}
+use Rattle.cep_refusal.specs.First.{first_in}
 use Rattle.cep_parse.specs.Raw.{atoms_of}
 use Rattle.cep_types.specs.Clashes.{scope_clashes, item_scopes}
 use Rattle.cep_types.proofs.declarations.Declarations.item_clash.Goals as goal

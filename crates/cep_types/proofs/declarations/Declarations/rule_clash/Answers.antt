@@ -1,7 +1,7 @@
 use Rattle.std.proofs.Common.{List, ◌∙◌, ap, subst}
 use Rattle.std.specs.List.{flat_map}
 use Rattle.cep_parse.specs.declared.raw.RawElem.{RawElem}
-use Rattle.cep_names.specs.First.{first_in}
+use Rattle.cep_refusal.specs.First.{first_in}
 use Rattle.cep_parse.specs.Raw.{atoms_of}
 use Rattle.cep_types.specs.Clashes.{atom_clashes}
 use Rattle.cep_types.specs.Met.{AreMet, type_met}

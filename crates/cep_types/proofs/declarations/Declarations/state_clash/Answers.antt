@@ -1,7 +1,7 @@
 use Rattle.std.proofs.Common.{List, ◌≡◌, subst}
 use Rattle.std.specs.Prelude.{IfOk}
-use Rattle.cep_names.specs.declared.fault.Fault.{Fault}
-use Rattle.cep_names.specs.First.{first_in}
+use Rattle.cep_refusal.specs.declared.fault.Fault.{Fault}
+use Rattle.cep_refusal.specs.First.{first_in}
 use Rattle.cep_types.proofs.Clashing.{one_found}
 use Rattle.cep_types.proofs.declarations.Declarations.state_clash.Goals as goal
 

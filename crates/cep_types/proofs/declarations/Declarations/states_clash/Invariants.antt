@@ -1,6 +1,6 @@
 use Rattle.std.proofs.Common.{◌≡◌, ◌∷◌, [], take}
 use Rattle.std.specs.List.{flat_map}
-use Rattle.cep_names.specs.First.{first_in}
+use Rattle.cep_refusal.specs.First.{first_in}
 use Rattle.cep_types.specs.Clashes.{scope_clashes}
 use Rattle.cep_types.proofs.declarations.Declarations.states_clash.Given as goal
 

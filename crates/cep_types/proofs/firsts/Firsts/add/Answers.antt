@@ -1,6 +1,6 @@
 use Rattle.std.proofs.Common.{◌≡◌, ◌∙◌, sym, false, refl}
 use Rattle.cep_types.specs.Met.{is_met}
-use Rattle.cep_types.proofs.Entries.{has_seen, pushed}
+use Rattle.cep_base.proofs.Entries.{has_seen, pushed}
 use Rattle.cep_types.proofs.firsts.Firsts.add.Goals as goal
 
 pub returns-then-contains_key : goal.returns-then-contains_key

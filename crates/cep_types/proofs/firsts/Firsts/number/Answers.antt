@@ -1,5 +1,5 @@
 use Rattle.std.proofs.Common.{◌∙◌}
-use Rattle.cep_types.proofs.Entries.{position_seen}
+use Rattle.cep_base.proofs.Entries.{position_seen}
 use Rattle.cep_types.proofs.firsts.Firsts.number.Goals as goal
 
 pub returns : goal.returns

@@ -1,5 +1,5 @@
 ghost use Rattle.std.specs.Prelude.{◌≡◌};
-ghost use Rattle.cep_names.specs.First.{first_of, is_no_later};
+ghost use Rattle.cep_refusal.specs.First.{first_of, is_no_later};
 
 use crate::reason::Reason;
 

@@ -1,5 +1,5 @@
 ghost use Rattle.std.specs.Prelude.{◌≡◌};
-ghost use Rattle.cep_names.specs.First.{number, reason_name};
+ghost use Rattle.cep_refusal.specs.Reasons.{number, reason_name};
 
 /// Why a text is refused. The reasons are numbered from 1 in this order, and all of them, with
 /// their numbers, are this profile's.
