@@ -16,7 +16,7 @@ use Rattle.cep_refusal.specs.declared.reason.Reason.TheVariants.{OverLimit, BadQ
 use Rattle.cep_names.specs.declared.space.Space.TheVariants as space
 use Rattle.cep_faults.specs.declared.counts.Counted.TheVariants as counted
 use Rattle.cep_names.specs.Items.{Source, PredItem, ConItem, ClauseItem, RuleItem, TraceItem, said, cons_in, cons_of, preds_in, preds_of, clauses_in, clauses_of, rules_of, traces_in, traces_of, contexts_of}
-use Rattle.cep_parse.specs.Raw.{atoms_of, raw_nodes, item_rules, listed_atoms}
+use Rattle.cep_parse.specs.Raw.{item_rules, atoms_of, raw_nodes, listed_atoms}
 use Rattle.cep_names.specs.Misnamed.{Misnamed, IsOver, IsOfState, IsQuiRule, arguments_of, linear_of, backward_of, is_qui, is_stage}
 use Rattle.cep_refusal.specs.First.{wrong}
 use Rattle.cep_names.specs.Misnamed.Misnamed.{bad_qui, no_trace, two_traces, over}

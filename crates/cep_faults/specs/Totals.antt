@@ -17,7 +17,7 @@ use Rattle.cep_faults.specs.declared.counts.Counted.{Counted}
 use Rattle.cep_faults.specs.declared.counts.Counted.TheVariants as counted
 use Rattle.cep_faults.specs.declared.sizes.Size.{Size}
 use Rattle.cep_names.specs.Items.{ContextItem, TraceItem, preds_in, contexts_in, traces_in}
-use Rattle.cep_parse.specs.Raw.{atoms_of, raw_nodes, item_rules, listed_atoms}
+use Rattle.cep_parse.specs.Raw.{item_rules, raw_nodes, atoms_of, listed_atoms}
 use Rattle.cep_refusal.specs.First.{wrong}
 use Rattle.cep_faults.specs.Seen.{unseen, new_in}
 use Rattle.cep_names.specs.Starts.{nodes_written, depth_written}

@@ -11,7 +11,7 @@ ghost use Rattle.cep_types.specs.Sites.{Mistyped};
 
 use crate::declarations::Declarations;
 use crate::variables::Variables;
-use cep_parse::{RawAtom, RawElem, RawItem, RawKind, RawNode, RawRule, RawStart, Span};
+use cep_parse::{RawAtom, RawElem, RawItem, RawKind, RawNode, RawRule, Span};
 use cep_refusal::{Fault, FirstFault, Reason};
 use std::alloc::AllocError;
 
