@@ -5,3 +5,4 @@ pub mod Holdings
 pub mod Foremost
 pub mod ForemostLoops
 pub mod Entries
+pub mod FirstNamed

@@ -21,6 +21,7 @@ use Rattle.cep_types.specs.Heads.{number_of}
 use Rattle.cep_types.specs.Met.{names_seen, kinds_met, none_met, further, AreMet}
 use Rattle.cep_infer.specs.Meaning.{names_of, kinds_of}
 use Rattle.cep_base.proofs.Bytes.{bytes_eq_sym}
+use Rattle.cep_base.proofs.FirstNamed.{found, or_found, found_both, found_kept}
 use Rattle.cep_infer.proofs.Meeting.{nodes_at}
 
 -- whether a name is among names
@@ -86,78 +87,38 @@ wanted_names source blanks (site ∷ sites) = by_kind site.node.kind site.node.a
     by_kind kind.Var at rest = ap (λ names. said source at ∷ names) rest
     by_kind kind.Blank at rest = ap (λ names. (codes "_" ++ decimal (blanks + 1)) ∷ names) rest
 
--- ---- what is found under a name
-
-abbrev found : List Wanted → List ℕ → Option Wanted
-found ws name = find (λ (w : Wanted). bytes_eq w.name name) ws
-
-abbrev or_found : Option Wanted → Option Wanted → Option Wanted
-or_found (Some w) other = Some w
-or_found None other = other
-
-found_both : (one two : List Wanted) (name : List ℕ) → found (one ++ two) name ≡ or_found (found one name) (found two name)
-found_both [] two name = refl
-found_both (w ∷ one) two name = cases (bytes_eq w.name name) (found_both one two name) where
-  cases : (b : Bool) → found (one ++ two) name ≡ or_found (found one name) (found two name) → cond b (Some w) (found (one ++ two) name) ≡ or_found (cond b (Some w) (found one name)) (found two name)
-  cases true rest = refl
-  cases false rest = rest
-
--- a name that is there is found, so that a later one of it does not count
-found_there : (acc : List Wanted) (w : Wanted) (name : List ℕ) → has_wanted acc w.name ≡ true → found (acc ++ w ∷ []) name ≡ found acc name
-found_there [] w name there = absurd cc
-found_there (v ∷ acc) w name there = cases (bytes_eq v.name name) refl (bytes_eq w.name v.name) refl there (λ any. found_there acc w name any) where
-  is_v : bytes_eq v.name name ≡ false → bytes_eq w.name v.name ≡ true → found (acc ++ w ∷ []) name ≡ found acc name
-  is_v differs is =
-      found_both acc (w ∷ []) name ∙ ap (or_found (found acc name)) (ap (λ b. cond b (Some w) None) (ap (λ n. bytes_eq n name) ((bytes_eq-Decides w.name v.name).0 is) ∙ differs)) ∙ none (found acc name) where
-        none : (o : Option Wanted) → or_found o None ≡ o
-        none (Some w) = refl
-        none None = refl
-
-  cases : (b : Bool) → bytes_eq v.name name ≡ b → (here : Bool) → bytes_eq w.name v.name ≡ here → (here || has_wanted acc w.name) ≡ true → (has_wanted acc w.name ≡ true → found (acc ++ w ∷ []) name ≡ found acc name) → cond b (Some v) (found (acc ++ w ∷ []) name) ≡ cond b (Some v) (found acc name)
-  cases true e here h any rest = refl
-  cases false e true h any rest = is_v e h
-  cases false e false h any rest = rest any
-
-found_met : (acc ws : List Wanted) (name : List ℕ) → found (fold further acc ws) name ≡ found (acc ++ ws) name
-found_met acc [] name = ap (λ vs. found vs name) (sym (append-nil acc))
-found_met acc (w ∷ ws) name = cases (has_wanted acc w.name) refl (found_met acc ws name) (found_met (acc ++ w ∷ []) ws name) where
-  split : found (acc ++ w ∷ ws) name ≡ or_found (found (acc ++ w ∷ []) name) (found ws name)
-  split = ap (λ vs. found vs name) (sym (append_assoc acc (w ∷ []) ws)) ∙ found_both (acc ++ w ∷ []) ws name
-
-  cases : (b : Bool) → has_wanted acc w.name ≡ b → found (fold further acc ws) name ≡ found (acc ++ ws) name → found (fold further (acc ++ w ∷ []) ws) name ≡ found ((acc ++ w ∷ []) ++ ws) name
-      → found (fold further (if b then acc else acc ++ w ∷ []) ws) name ≡ found (acc ++ w ∷ ws) name
-  cases true e old new = old ∙ found_both acc ws name ∙ ap (λ o. or_found o (found ws name)) (sym (found_there acc w name e)) ∙ sym split
-  cases false e old new = new ∙ ap (λ vs. found vs name) (append_assoc acc (w ∷ []) ws)
+abbrev name_of : Wanted → List ℕ
+name_of w = w.name
 
 -- each of what is met is found under its own name
 abbrev AreFound : List Wanted → List Wanted → Type 0
-AreFound all ws = map (λ (w : Wanted). found all w.name) ws ≡ map (λ (w : Wanted). Some w) ws
+AreFound all ws = map (λ (w : Wanted). found name_of all w.name) ws ≡ map (λ (w : Wanted). Some w) ws
 
 still_found : (all more ws : List Wanted) → AreFound all ws → AreFound (all ++ more) ws
 still_found all more [] are = refl
 still_found all more (w ∷ ws) are =
-    let head : found all w.name ≡ Some w = cc in
+    let head : found name_of all w.name ≡ Some w = cc in
     let tail : AreFound all ws = cc in
-    let here : found (all ++ more) w.name ≡ Some w = found_both all more w.name ∙ ap (λ o. or_found o (found more w.name)) head in
-    ap (λ o. o ∷ map (λ (v : Wanted). found (all ++ more) v.name) ws) here ∙ ap (λ os. Some w ∷ os) (still_found all more ws tail)
+    let here : found name_of (all ++ more) w.name ≡ Some w = found_both name_of all more w.name ∙ ap (λ o. or_found name_of o (found name_of more w.name)) head in
+    ap (λ o. o ∷ map (λ (v : Wanted). found name_of (all ++ more) v.name) ws) here ∙ ap (λ os. Some w ∷ os) (still_found all more ws tail)
 
-not_found : (acc : List Wanted) (name : List ℕ) → has_wanted acc name ≡ false → found acc name ≡ None
+not_found : (acc : List Wanted) (name : List ℕ) → has_wanted acc name ≡ false → found name_of acc name ≡ None
 not_found [] name none = refl
 not_found (v ∷ acc) name none = cases (bytes_eq name v.name) refl none (λ any. not_found acc name any) where
-  cases : (b : Bool) → bytes_eq name v.name ≡ b → (b || has_wanted acc name) ≡ false → (has_wanted acc name ≡ false → found acc name ≡ None) → cond (bytes_eq v.name name) (Some v) (found acc name) ≡ None
+  cases : (b : Bool) → bytes_eq name v.name ≡ b → (b || has_wanted acc name) ≡ false → (has_wanted acc name ≡ false → found name_of acc name ≡ None) → cond (bytes_eq v.name name) (Some v) (found name_of acc name) ≡ None
   cases true e any rest = absurd cc
-  cases false e any rest = ap (λ b. cond b (Some v) (found acc name)) (bytes_eq_sym v.name name ∙ e) ∙ rest any
+  cases false e any rest = ap (λ b. cond b (Some v) (found name_of acc name)) (bytes_eq_sym v.name name ∙ e) ∙ rest any
 
 all_found : (acc ws : List Wanted) → AreFound acc acc → AreFound (fold further acc ws) (fold further acc ws)
 all_found acc [] are = are
 all_found acc (w ∷ ws) are = cases (has_wanted acc w.name) refl (all_found acc ws are) (λ h. all_found (acc ++ w ∷ []) ws h) where
   end : has_wanted acc w.name ≡ false → AreFound (acc ++ w ∷ []) (acc ++ w ∷ [])
   end e =
-      map-append (λ (v : Wanted). found (acc ++ w ∷ []) v.name) acc (w ∷ []) ∙ ap (λ os. os ++ found (acc ++ w ∷ []) w.name ∷ []) (still_found acc (w ∷ []) acc are)
+      map-append (λ (v : Wanted). found name_of (acc ++ w ∷ []) v.name) acc (w ∷ []) ∙ ap (λ os. os ++ found name_of (acc ++ w ∷ []) w.name ∷ []) (still_found acc (w ∷ []) acc are)
       ∙ ap (λ o. map (λ (v : Wanted). Some v) acc ++ o ∷ []) last ∙ sym (map-append (λ (v : Wanted). Some v) acc (w ∷ []))
     where
-      last : found (acc ++ w ∷ []) w.name ≡ Some w
-      last = found_both acc (w ∷ []) w.name ∙ ap (λ o. or_found o (found (w ∷ []) w.name)) (not_found acc w.name e) ∙ ap (λ b. cond b (Some w) None) ((bytes_eq-Decides w.name w.name).1 refl)
+      last : found name_of (acc ++ w ∷ []) w.name ≡ Some w
+      last = found_both name_of acc (w ∷ []) w.name ∙ ap (λ o. or_found name_of o (found name_of (w ∷ []) w.name)) (not_found acc w.name e) ∙ ap (λ b. cond b (Some w) None) ((bytes_eq-Decides w.name w.name).1 refl)
 
   cases : (b : Bool) → has_wanted acc w.name ≡ b → AreFound (fold further acc ws) (fold further acc ws) → (AreFound (acc ++ w ∷ []) (acc ++ w ∷ []) → AreFound (fold further (acc ++ w ∷ []) ws) (fold further (acc ++ w ∷ []) ws))
       → AreFound (fold further (if b then acc else acc ++ w ∷ []) ws) (fold further (if b then acc else acc ++ w ∷ []) ws)
@@ -186,18 +147,18 @@ module _ (source : Source) (atoms : List RawAtom) (variables : Variables) (met :
   abbrev kind_found : Option Wanted → ℕ
   kind_found o = kind_of (option_map (λ (w : Wanted). w.wants) o)
 
-  each_kind : (ws : List Wanted) → map (λ (name : List ℕ). kind_of (type_of source atoms name)) (wanted_names_of ws) ≡ map (λ (w : Wanted). kind_found (found firsts w.name)) ws
+  each_kind : (ws : List Wanted) → map (λ (name : List ℕ). kind_of (type_of source atoms name)) (wanted_names_of ws) ≡ map (λ (w : Wanted). kind_found (found name_of firsts w.name)) ws
   each_kind [] = refl
   each_kind (w ∷ ws) =
-      ap (λ k. k ∷ map (λ (name : List ℕ). kind_of (type_of source atoms name)) (wanted_names_of ws)) (ap kind_found (sym (found_met [] all w.name)))
-      ∙ ap (λ ks. kind_found (found firsts w.name) ∷ ks) (each_kind ws)
+      ap (λ k. k ∷ map (λ (name : List ℕ). kind_of (type_of source atoms name)) (wanted_names_of ws)) (ap kind_found (sym (found_kept name_of [] all w.name)))
+      ∙ ap (λ ks. kind_found (found name_of firsts w.name) ∷ ks) (each_kind ws)
 
   pub kinds_are_met : kinds_met source variables.firsts ≡ kinds_of source atoms
   kinds_are_met =
       sym (map-map (λ (w : Wanted). number_of source space.Sorts w.wants) (λ (e : List ℕ × Span). record { name = e.0; wants = said source e.1 }) variables.firsts)
       ∙ ap (map (λ (w : Wanted). number_of source space.Sorts w.wants)) met.firsts
       ∙ sym (map-map kind_found (λ (w : Wanted). Some w) firsts) ∙ ap (map kind_found) (sym (all_found [] all refl))
-      ∙ map-map kind_found (λ (w : Wanted). found firsts w.name) firsts
+      ∙ map-map kind_found (λ (w : Wanted). found name_of firsts w.name) firsts
       ∙ sym (each_kind firsts)
       ∙ ap (map (λ (name : List ℕ). kind_of (type_of source atoms name)))
       (met_names [] [] all (λ name. refl) ∙ ap (new_names []) (wanted_names source 0 (sites_of source atoms) ∙ ap (λ nodes. occurring (occurrences_from source 0 nodes)) met.covered) ∙ sym (firsts_names [] (occurrences_from source 0 (raw_nodes atoms))))

@@ -16,9 +16,7 @@ use std::alloc::AllocError;
 fn clause(declared: &Declarations, head: &RawAtom, goals: &[RawAtom]) -> Result<Clause, AllocError>
     ensures { IfOk result (λ clause. IsClauseBy declared.now (record { head = head.now; goals = goals.now }) (clause_of clause)) }
 {
-    let mut variables = Variables::new(declared.alloc());
-    variables.meet_atom(declared, head)?;
-    variables.meet_atoms(declared, goals)?;
+    let variables = Variables::of_clause(declared, head, goals)?;
     let mut blanks = 0;
     let head = read_atom(declared, &variables, &mut blanks, head)?;
     let mut atoms = AtomList::new(declared.alloc());

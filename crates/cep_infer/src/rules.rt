@@ -15,7 +15,7 @@ use crate::listing::RuleRef;
 use crate::signature::name;
 use cep_base::{Name, Text};
 use cep_names::Space;
-use cep_parse::{RawElem, RawRule, Span};
+use cep_parse::{RawElem, Span};
 use cep_rule::{AtomList, Rule, Rules};
 use cep_types::{Declarations, Variables};
 use std::alloc::AllocError;
@@ -101,16 +101,6 @@ fn rule_name(
     Name::new(declared.alloc(), name.bytes())
 }
 
-// The variables of a rule.
-fn rule_variables(declared: &Declarations, raw: &RawRule) -> Result<Variables, AllocError>
-    ensures { IfOk result (λ variables. AreMet declared.now (atoms_of raw.now.left ++ atoms_of raw.now.right) none_met variables) }
-{
-    let mut variables = Variables::new(declared.alloc());
-    variables.meet_side(declared, raw.left.as_slice())?;
-    variables.meet_side(declared, raw.right.as_slice())?;
-    Ok(variables)
-}
-
 // A rule with these variables and atoms.
 fn rule_from(
     declared: &Declarations,
@@ -176,7 +166,7 @@ fn rule_of(
 fn rule(declared: &Declarations, unlabelled: u64, item: &RuleRef) -> Result<Rule, AllocError>
     ensures { IfOk result (λ rule. IsRuleBy declared.now (rule_name declared.now unlabelled item.now.raw.now.label) (rule_item item.now) rule) }
 {
-    let variables = rule_variables(declared, item.raw)?;
+    let variables = Variables::of_rule(declared, item.raw)?;
     rule_of(declared, &variables, unlabelled, item)
 }
 

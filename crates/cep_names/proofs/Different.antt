@@ -58,4 +58,4 @@ pub different_told : (source : Source) (s : Space) → keys s (all_declared noth
 different_told source s =
     all_more s nothing (all source)
     ∙ ap (λ (table : List (List ℕ × Shape)). behind (map (λ entry. entry.0) table) (names_at s (all source))) (none_yet s)
-    ∙ ap (unseen_names []) (sym (map-map (λ (named : Named). named.name) named_of (in_space s (all source))) ∙ ap (map (λ (named : Named). named.name)) (named_all source s))
+    ∙ ap (unseen_names []) (sym (map-map (λ (named : Named). named.name) (named_of source) (in_space s (all source))) ∙ ap (map (λ (named : Named). named.name)) (named_all source s))

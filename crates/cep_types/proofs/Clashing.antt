@@ -16,7 +16,7 @@ use Rattle.cep_types.specs.Clashes.{type_at, clash_if, clash_of, atom_clashes, s
 use Rattle.cep_types.specs.Met.{type_met, none_met, AreMet}
 use Rattle.cep_base.proofs.Foremost.{foremost_append, foremost_of_three}
 use Rattle.cep_base.proofs.ForemostLoops.{foremost_parts}
-use Rattle.cep_types.proofs.Meeting.{no_sites, both_are_met}
+use Rattle.cep_types.proofs.Meeting.{no_sites}
 use Rattle.cep_types.proofs.FirstOccurrences.{types_met}
 
 pub first_none : (first : Option Fault) → first_of first None ≡ first
@@ -69,10 +69,10 @@ found_from source atoms start variables is met = scope_found source atoms variab
 pub one_found : (source : Source) (atom : RawAtom) (start variables : Variables) → start ≡ none_met → AreMet source (atom ∷ []) start variables → atom_clashes source (type_met source variables.firsts) atom ≡ scope_clashes source (atom ∷ [])
 one_found source atom start variables is met = sym (append-nil (atom_clashes source (type_met source variables.firsts) atom)) ∙ found_from source (atom ∷ []) start variables is met
 
-pub two_found : (source : Source) (one two : List RawAtom) (start middle variables : Variables) (first other both : Option Fault) → start ≡ none_met → AreMet source one start middle → AreMet source two middle variables
+pub two_found : (source : Source) (one two : List RawAtom) (variables : Variables) (first other both : Option Fault) → AreMet source (one ++ two) none_met variables
     → first ≡ first_in (flat_map (atom_clashes source (type_met source variables.firsts)) one) → other ≡ first_in (flat_map (atom_clashes source (type_met source variables.firsts)) two) → both ≡ first_of first other
     → both ≡ first_in (scope_clashes source (one ++ two))
-two_found source one two start middle variables first other both is before behind first_is other_is both_is =
+two_found source one two variables first other both met first_is other_is both_is =
     let clashes = atom_clashes source (type_met source variables.firsts) in
     both_is ∙ ap (λ o. first_of o other) first_is ∙ ap (first_of (first_in (flat_map clashes one))) other_is
-    ∙ sym (foremost_parts standing clashes one two) ∙ ap first_in (found_from source (one ++ two) start variables is (both_are_met source one two start middle variables before behind))
+    ∙ sym (foremost_parts standing clashes one two) ∙ ap first_in (scope_found source (one ++ two) variables met)

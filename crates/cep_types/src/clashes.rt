@@ -100,13 +100,9 @@ impl<'a> Declarations<'a> {
     fn rule_clash(&self, rule: &RawRule) -> Result<Option<Fault>, AllocError>
         ensures { IfOk result (λ first. first ≡ first_in (scope_clashes self.now (atoms_of rule.now.left ++ atoms_of rule.now.right))) }
     {
-        let left = rule.left.as_slice();
-        let right = rule.right.as_slice();
-        let mut variables = Variables::new(self.alloc());
-        variables.meet_side(self, left)?;
-        variables.meet_side(self, right)?;
-        let first = self.side_clash(&variables, left)?;
-        let other = self.side_clash(&variables, right)?;
+        let variables = Variables::of_rule(self, rule)?;
+        let first = self.side_clash(&variables, rule.left.as_slice())?;
+        let other = self.side_clash(&variables, rule.right.as_slice())?;
         Ok(Fault::first_of(first, other))
     }
 
@@ -124,9 +120,7 @@ impl<'a> Declarations<'a> {
     fn clause_clash(&self, head: &RawAtom, goals: &[RawAtom]) -> Result<Option<Fault>, AllocError>
         ensures { IfOk result (λ first. first ≡ first_in (scope_clashes self.now (head.now ∷ goals.now))) }
     {
-        let mut variables = Variables::new(self.alloc());
-        variables.meet_atom(self, head)?;
-        variables.meet_atoms(self, goals)?;
+        let variables = Variables::of_clause(self, head, goals)?;
         let first = self.atom_clash(&variables, head)?;
         let other = self.clash_among(&variables, goals)?;
         Ok(Fault::first_of(first, other))

@@ -9,7 +9,7 @@ use crate::declarations::Declarations;
 use crate::firsts::Firsts;
 use cep_base::{List, Text};
 use cep_names::Space;
-use cep_parse::{RawAtom, RawElem, RawKind, RawNode, Span};
+use cep_parse::{RawAtom, RawElem, RawKind, RawNode, RawRule, Span};
 use std::alloc::{AllocError, Global};
 
 /// The variables that were met so far, each with the type that is wanted where it occurs first,
@@ -145,6 +145,30 @@ impl Variables {
                 self.number(name.bytes())
             }
         }
+    }
+
+    /// The variables of a rule.
+    pub fn of_rule(declared: &Declarations, rule: &RawRule) -> Result<Variables, AllocError>
+        ensures { IfOk result (λ variables. AreMet declared.now (atoms_of rule.now.left ++ atoms_of rule.now.right) none_met variables) }
+    {
+        let mut variables = Variables::new(declared.alloc());
+        variables.meet_side(declared, rule.left.as_slice())?;
+        variables.meet_side(declared, rule.right.as_slice())?;
+        Ok(variables)
+    }
+
+    /// The variables of a clause.
+    pub fn of_clause(
+        declared: &Declarations,
+        head: &RawAtom,
+        goals: &[RawAtom],
+    ) -> Result<Variables, AllocError>
+        ensures { IfOk result (λ variables. AreMet declared.now (head.now ∷ goals.now) none_met variables) }
+    {
+        let mut variables = Variables::new(declared.alloc());
+        variables.meet_atom(declared, head)?;
+        variables.meet_atoms(declared, goals)?;
+        Ok(variables)
     }
 
     /// The types of the variables, by their numbers.

@@ -7,5 +7,5 @@ use Rattle.cep_types.proofs.declarations.Declarations.clause_clash.Goals as goal
 
 pub returns : goal.returns
 returns c =
-    two_found c.args.self.now (c.args.head.now ∷ []) c.args.goals.now c.new-variables.result c.meet_atom.new.self c.meet_atoms.new.self c.in_ok-first.first c.in_ok-other.other c.first_of.result c.new-variables.ensures c.in_ok-meet_atom.ensures c.in_ok-meet_atoms.ensures
-    (c.in_ok-first.ensures ∙ ap first_in (sym (append-nil (atom_clashes c.args.self.now (type_met c.args.self.now c.meet_atoms.new.self.firsts) c.args.head.now)))) c.in_ok-other.ensures c.first_of.ensures
+    two_found c.args.self.now (c.args.head.now ∷ []) c.args.goals.now c.in_ok-variables.variables c.in_ok-first.first c.in_ok-other.other c.first_of.result c.in_ok-variables.ensures
+    (c.in_ok-first.ensures ∙ ap first_in (sym (append-nil (atom_clashes c.args.self.now (type_met c.args.self.now c.in_ok-variables.variables.firsts) c.args.head.now)))) c.in_ok-other.ensures c.first_of.ensures

@@ -1,17 +1,16 @@
-use Rattle.std.proofs.Common.{◌++◌, subst}
+use Rattle.std.proofs.Common.{List, ◌++◌, subst}
 use Rattle.cep_parse.specs.declared.raw.RawElem.{RawElem}
-use Rattle.std.proofs.Common.{List}
 use Rattle.cep_parse.specs.Raw.{atoms_of}
 use Rattle.cep_types.specs.declared.variables.Variables.{Variables}
 use Rattle.cep_types.specs.Met.{AreMet}
-use Rattle.cep_infer.proofs.Meeting.{both_are_met}
-use Rattle.cep_infer.proofs.rules.rule_variables.Goals as goal
+use Rattle.cep_types.proofs.Meeting.{both_are_met}
+use Rattle.cep_types.proofs.variables.Variables.of_rule.Goals as goal
 
 pub returns : goal.returns
 returns c =
     let source = c.args.declared.now in
-    let raw = c.args.raw.now in
-    subst (λ (v : Variables). AreMet source (atoms_of raw.left ++ atoms_of raw.right) v c.meet_side-2.new.self) c.new-variables.ensures
-    (both_are_met source (atoms_of raw.left) (atoms_of raw.right) c.new-variables.result c.meet_side.new.self c.meet_side-2.new.self
+    let rule = c.args.rule.now in
+    subst (λ (v : Variables). AreMet source (atoms_of rule.left ++ atoms_of rule.right) v c.meet_side-2.new.self) c.new-variables.ensures
+    (both_are_met source (atoms_of rule.left) (atoms_of rule.right) c.new-variables.result c.meet_side.new.self c.meet_side-2.new.self
     (subst (λ (side : List RawElem). AreMet source (atoms_of side) c.new-variables.result c.meet_side.new.self) c.as_slice.ensures c.in_ok-meet_side.ensures)
     (subst (λ (side : List RawElem). AreMet source (atoms_of side) c.meet_side.new.self c.meet_side-2.new.self) c.as_slice-2.ensures c.in_ok-meet_side-2.ensures))
