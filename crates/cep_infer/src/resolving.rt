@@ -58,6 +58,7 @@ fn parts_from(
 
 // The draft of a text without wrong names that starts as the first trace says.
 fn draft_from(declared: &Declarations, trace: &TraceRef) -> Result<Draft, AllocError>
+    requires short { length declared.now.text ≤ MOST_TEXT }
     requires named { IsWellNamed declared.now }
     requires first { IsFirstTrace (traces_of declared.now) (Some trace.now) }
     ensures { IfOk result (λ draft. IsDraft declared.now draft) }
@@ -77,7 +78,8 @@ fn typed(
     file: &RawFile,
     names: &Names,
 ) -> Result<Result<Draft, Fault>, AllocError>
-    requires { AreNamedRight (record { text = text.now; file = file.now }) names.now }
+    requires short { length text.now ≤ MOST_TEXT }
+    requires sound { AreNamedRight (record { text = text.now; file = file.now }) names.now }
     ensures { IfOk result (λ answer. IsTypedDraft (record { text = text.now; file = file.now }) answer) }
 {
     let declared = Declarations::of(alloc, text, file, names)?;
