@@ -20,7 +20,7 @@ use Rattle.cep_names.specs.declared.space.Space.TheVariants as space
 use Rattle.cep_names.specs.declared.space.Role.{Role}
 use Rattle.cep_names.specs.declared.space.Role.TheVariants as role
 use Rattle.cep_names.specs.Items.{ConItem, ClauseItem, TraceItem, preds_in, traces_in}
-use Rattle.cep_parse.specs.Raw.{listed_atoms, item_rules}
+use Rattle.cep_parse.specs.Raw.{item_rules, listed_atoms}
 use Rattle.cep_names.specs.Uses.{Placed, Use, placed, node_uses, con_uses, own_uses, rule_atoms, clause_atoms}
 use Rattle.cep_refusal.specs.First.{wrong}
 use Rattle.cep_names.specs.Misnamed.{is_declared, is_qui, is_stage}

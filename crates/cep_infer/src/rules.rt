@@ -1,7 +1,7 @@
 // The rules of a text.
 ghost use Rattle.std.specs.Prelude.{◌≡◌, ◌++◌, ◌∷◌, [], map, IfOk, OnOk, option_to_list};
 ghost use Rattle.cep_names.specs.Spaces.{rule_name, rule_names_from, unlabelled_behind};
-ghost use Rattle.cep_parse.specs.Raw.{atoms_of, raw_nodes};
+ghost use Rattle.cep_parse.specs.Raw.{atoms_of};
 ghost use Rattle.cep_infer.specs.Heads.{AreAtomsBy};
 ghost use Rattle.cep_types.specs.Heads.{blanks_after};
 ghost use Rattle.cep_types.specs.Met.{none_met, AreMet, names_seen, kinds_met};
