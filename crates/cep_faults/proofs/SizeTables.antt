@@ -4,6 +4,7 @@ use Rattle.std.specs.List.{flat_map, find}
 use Rattle.std.specs.Map.{lookup}
 use Rattle.std.specs.Option.{option_map}
 use Rattle.std.specs.Str.{bytes_eq}
+use Rattle.std.proofs.lemmas.Slice.Eq.{bytes_eq-Decides}
 use Rattle.cep_base.proofs.Bytes.{bytes_eq_sym}
 use Rattle.cep_parse.specs.declared.raw.RawItem.{RawItem}
 use Rattle.cep_parse.specs.Symbols.{slice_of}

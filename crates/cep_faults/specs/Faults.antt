@@ -20,7 +20,7 @@ use Rattle.cep_names.specs.declared.space.Space.TheVariants as space
 use Rattle.cep_names.specs.declared.space.Role.{Role}
 use Rattle.cep_names.specs.declared.space.Role.TheVariants as role
 use Rattle.cep_names.specs.Items.{ConItem, ClauseItem, TraceItem, preds_in, traces_in}
-use Rattle.cep_parse.specs.Raw.{start_listed, item_rules}
+use Rattle.cep_parse.specs.Raw.{item_rules, listed_atoms}
 use Rattle.cep_names.specs.Uses.{Placed, Use, placed, node_uses, con_uses, own_uses, rule_atoms, clause_atoms}
 use Rattle.cep_refusal.specs.First.{wrong}
 use Rattle.cep_names.specs.Misnamed.{is_declared, is_qui, is_stage}
@@ -54,7 +54,8 @@ node_faults looks node = flat_map (use_faults looks) (node_uses node)
 -- a variable or a blank in a state
 abbrev pub open_by : RawKind → ℕ → List Fault
 open_by kind.App at = []
-open_by _ at = wrong VarInContext at ∷ []
+open_by kind.Blank at = wrong VarInContext at ∷ []
+open_by kind.Var at = wrong VarInContext at ∷ []
 
 abbrev pub open_faults : RawNode → List Fault
 open_faults node = open_by node.kind node.at.from
@@ -62,11 +63,13 @@ open_faults node = open_by node.kind node.at.from
 -- a backward predicate where an atom becomes part of a state, and a linear one in a clause
 abbrev pub back_faults : Option Bool → ℕ → List Fault
 back_faults (Some true) at = wrong BwdInState at ∷ []
-back_faults _ at = []
+back_faults (Some false) at = []
+back_faults None at = []
 
 abbrev pub linear_faults : Option Bool → ℕ → List Fault
 linear_faults (Some false) at = wrong LinearInClause at ∷ []
-linear_faults _ at = []
+linear_faults (Some true) at = []
+linear_faults None at = []
 
 -- an atom by its role
 abbrev pub state_faults : Looks → Span → List RawNode → List Fault
@@ -108,12 +111,14 @@ place_if false at = []
 
 abbrev pub premise_places : Looks → Bool → RawElem → List ℕ
 premise_places looks back (elem.Atom kept atom) = place_if (is_declared back (looks.back (says looks atom.name))) atom.name.from
-premise_places looks back _ = []
+premise_places looks back (elem.Qui span) = []
+premise_places looks back (elem.Stage name) = []
 
 -- the place of an element that is an atom
 abbrev pub atom_places : RawElem → List ℕ
 atom_places (elem.Atom kept atom) = atom.name.from ∷ []
-atom_places _ = []
+atom_places (elem.Qui span) = []
+atom_places (elem.Stage name) = []
 
 -- a rule's numbers of premises and right atoms
 abbrev pub size_faults : Looks → RawRule → List Fault
@@ -151,7 +156,14 @@ trace_faults looks trace = turns_faults looks.text trace.limit
 -- the rules outside of stages
 abbrev pub outers_in : RawItem → List RawRule
 outers_in (item.Outer rule) = rule ∷ []
-outers_in _ = []
+outers_in (item.Sort name) = []
+outers_in (item.Pred name args back) = []
+outers_in (item.Colon left args right) = []
+outers_in (item.Clause label head goals) = []
+outers_in (item.Stage name rules) = []
+outers_in (item.Context name atoms) = []
+outers_in (item.Interactive name) = []
+outers_in (item.Trace at limit stage start) = []
 
 abbrev pub state_role : RawItem → Role
 state_role (item.Trace at limit stage start) = role.Start

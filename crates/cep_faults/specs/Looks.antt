@@ -50,10 +50,23 @@ names_context looks role name args =
 -- the constructor of an item
 abbrev pub cons_by : Looks → RawItem → List ConItem
 cons_by looks (item.Colon left args right) = con_or_none (labels looks args right) (record { name = left; args = args; sort = right })
-cons_by looks _ = []
+cons_by looks (item.Sort name) = []
+cons_by looks (item.Pred name args back) = []
+cons_by looks (item.Clause label head goals) = []
+cons_by looks (item.Outer rule) = []
+cons_by looks (item.Stage name rules) = []
+cons_by looks (item.Context name atoms) = []
+cons_by looks (item.Interactive name) = []
+cons_by looks (item.Trace at limit stage start) = []
 
 -- the clause of an item
 abbrev pub clauses_by : Looks → RawItem → List ClauseItem
 clauses_by looks (item.Clause label head goals) = record { head = head; goals = goals } ∷ []
 clauses_by looks (item.Colon left args right) = clause_or_none (labels looks args right) (record { head = bare right; goals = [] })
-clauses_by looks _ = []
+clauses_by looks (item.Sort name) = []
+clauses_by looks (item.Pred name args back) = []
+clauses_by looks (item.Outer rule) = []
+clauses_by looks (item.Stage name rules) = []
+clauses_by looks (item.Context name atoms) = []
+clauses_by looks (item.Interactive name) = []
+clauses_by looks (item.Trace at limit stage start) = []

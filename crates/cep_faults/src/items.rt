@@ -1,8 +1,8 @@
 // The items of a file.
 ghost use Rattle.std.specs.Prelude.{◌≡◌, ◌≤◌};
 ghost use Rattle.std.specs.List.{flat_map};
-ghost use Rattle.std.specs.Char.{digit_value};
 ghost use Rattle.std.specs.Str.Parse.{digits_value};
+ghost use Rattle.cep_parse.specs.Symbols.{slice_of};
 ghost use Rattle.cep_refusal.specs.First.{first_in};
 ghost use Rattle.cep_faults.specs.Looks.{looks_in};
 ghost use Rattle.cep_names.specs.Uses.{start_uses};
@@ -14,7 +14,7 @@ use crate::rules::{
 };
 use crate::uses::{sorts_fault, use_fault};
 use cep_base::limits::{MOST_ARGUMENTS, MOST_TURNS};
-use cep_names::{Names, Role, Space, said};
+use cep_names::{Names, Role, Space, number_said};
 use cep_parse::{RawItem, RawRule, RawStart, Span, Spans};
 use cep_refusal::{Fault, FirstFault};
 
@@ -81,29 +81,14 @@ fn start_fault(names: &Names, text: &[u8], start: &RawStart) -> Option<Fault>
     }
 }
 
-// The value of a digit.
-fn digit_value(byte: u8) -> u64
-    ensures value { result ≡ digit_value byte }
-    ensures small { result ≤ 36 }
+// Whether digits say a number of turns that a program may ask for.
+fn is_turn_limit(text: &[u8], digits: Span) -> bool
+    ensures { result ≡ is_turn_limit (digits_value 10 (slice_of text.now digits.from digits.to)) }
 {
-    match byte {
-        b'0'..=b'9' => (byte - b'0') as u64,
-        b'A'..=b'Z' => (byte - b'A') as u64 + 10,
-        b'a'..=b'z' => (byte - b'a') as u64 + 10,
-        _ => 36,
+    match number_said(text, digits) {
+        Some(turns) => turns >= 1 && turns <= MOST_TURNS,
+        None => false,
     }
-}
-
-// Whether digits say a number of turns that a program may ask for. What passes the limit is cut.
-fn is_turn_limit(digits: &[u8]) -> bool
-    ensures { result ≡ is_turn_limit (digits_value 10 digits.now) }
-{
-    let most = MOST_TURNS as u64;
-    let mut turns: u64 = 0;
-    for digit in digits {
-        turns = (turns * 10 + digit_value(*digit)).min(most + 1);
-    }
-    turns >= 1 && turns <= most
 }
 
 // The fault of a number of turns.
@@ -111,7 +96,7 @@ fn turns_fault(text: &[u8], limit: Option<Span>) -> Option<Fault>
     ensures { result ≡ first_in (turns_faults text.now limit) }
 {
     let number = limit?;
-    if is_turn_limit(said(text, number)) {
+    if is_turn_limit(text, number) {
         return None;
     }
     past(Some(number.from))

@@ -5,7 +5,6 @@ ghost use Rattle.cep_refusal.specs.First.{first_in};
 ghost use Rattle.cep_names.specs.Items.{bare};
 ghost use Rattle.cep_names.specs.Misnamed.{is_declared, is_qui, is_stage};
 ghost use Rattle.cep_faults.specs.Looks.{looks_in};
-ghost use Rattle.cep_parse.specs.Raw.{atoms_of};
 ghost use Rattle.cep_names.specs.Uses.{rule_atoms, elem_uses, clause_atoms};
 ghost use Rattle.cep_faults.specs.Faults.{use_faults, placed_faults, past, places, premise_places, atom_places, size_faults, rule_faults, is_qui_rule, qui_faults, clause_faults};
 

@@ -33,7 +33,7 @@ use Rattle.cep_infer.specs.Meaning.{signature_of, stage_by, names_of, kinds_of, 
 use Rattle.cep_ground.specs.Texts.{IsClean}
 use Rattle.cep_base.proofs.Elements.{contains_first, contains_behind}
 use Rattle.cep_ground.proofs.RuleScopes.{AtomsMade, left_here, right_here, clause_here, atom_of_tokens}
-use Rattle.cep_ground.proofs.StartState.{start_listed_all}
+use Rattle.cep_ground.proofs.StartState.{StartLaws}
 
 -- terms, so many in front and so many behind
 record AreSplit (front back : ℕ) (ts : Trees) : Type 0 where
@@ -131,7 +131,7 @@ names_from : (source : Source) (unlabelled : ℕ) (rules : List RuleItem) → le
 names_from source unlabelled [] = refl
 names_from source unlabelled (rule ∷ rules) = ap suc (names_from source (unlabelled_behind unlabelled rule.raw.label) rules)
 
-module _ (source : Source) (clean : IsClean source) (made : AtomsMade source) where
+module _ (source : Source) (clean : IsClean source) (made : AtomsMade source) (starts : StartLaws) where
   record HasRule (name : List ℕ) (item : RuleItem) : Type 0 where
     rule : Rule
     by : IsRuleBy source name item rule
@@ -187,7 +187,7 @@ module _ (source : Source) (clean : IsClean source) (made : AtomsMade source) wh
   parts_from [] is = absurd (clean.names (wrong NoTrace (length source.text)) (no_trace is refl))
   parts_from (trace ∷ rest) is =
       let there : Contains (traces_of source) trace = subst (λ ts. Contains ts trace) (sym is) (contains_first trace rest) in
-      let start = has_atoms source [] 0 (start_atoms source trace.start) (λ raw inside. let listed = start_listed_all source trace raw there inside in (atom_of_tokens source clean made listed.role raw listed.there).filled) in
+      let start = has_atoms source [] 0 (start_atoms source trace.start) (λ raw inside. let listed = starts.written source trace raw there inside in (atom_of_tokens source clean made listed.role raw listed.there).filled) in
       let names = map (λ (n : Named). n.name) (names_in source space.Rules) in
       let rules = has_rules names (rules_of source) (length-map (names_in source space.Rules) (λ (n : Named). n.name) ∙ names_from source 0 (rules_of source)) (λ item inside. inside) in
       let clauses = has_clauses (clauses_of source) (λ item inside. inside) in (

@@ -49,29 +49,6 @@ mutual
       let g = length-append (heads_of t) (heads_among rest) in
       omega (arith, e, f, g)
 
--- a constructor is no variable
-abbrev pub IsClosed : Head → Type 0
-IsClosed (var v) = ⊥
-IsClosed (con c args) = Unit {0}
-
-left_all : (xs ys : List Head) → AllByRecursion IsClosed (xs ++ ys) → AllByRecursion IsClosed xs
-left_all [] ys all = tt
-left_all (x ∷ xs) ys all = (all.0, left_all xs ys all.1)
-
-right_all : (xs ys : List Head) → AllByRecursion IsClosed (xs ++ ys) → AllByRecursion IsClosed ys
-right_all [] ys all = all
-right_all (x ∷ xs) ys all = right_all xs ys all.1
-
--- where no node is a variable, the terms are ground
-mutual
-  pub term_ground : (t : Tree) → AllByRecursion IsClosed (heads_of t) → IsGround t
-  term_ground (variable v) all = absurd all.0
-  term_ground (node c args) all = terms_ground args all.1
-
-  pub terms_ground : (ts : Trees) → AllByRecursion IsClosed (heads_among ts) → AreGround ts
-  terms_ground none all = tt
-  terms_ground (more t rest) all = (term_ground t (left_all (heads_of t) (heads_among rest) all), terms_ground rest (right_all (heads_of t) (heads_among rest) all))
-
 -- a variable among the nodes occurs in the terms
 mutual
   pub term_occurs : (t : Tree) (v : ℕ) → Contains (heads_of t) (var v) → Occurs v t

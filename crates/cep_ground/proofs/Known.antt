@@ -67,14 +67,7 @@ pred_in_item (item.Pred name args back) pred span there inside =
     contains_map (use_in space.Sorts) args span (subst (λ (one : PredItem). Contains one.args span) (sym same) inside))
     (λ later. absurd (contains_none pred later))
     (contains_cases (record { name = name; args = args; back = back }) [] pred there)
-pred_in_item (item.Sort name) pred span there inside = absurd (contains_none pred there)
-pred_in_item (item.Colon left args right) pred span there inside = absurd (contains_none pred there)
-pred_in_item (item.Clause label head goals) pred span there inside = absurd (contains_none pred there)
-pred_in_item (item.Outer rule) pred span there inside = absurd (contains_none pred there)
-pred_in_item (item.Stage name rules) pred span there inside = absurd (contains_none pred there)
-pred_in_item (item.Context name atoms) pred span there inside = absurd (contains_none pred there)
-pred_in_item (item.Interactive name) pred span there inside = absurd (contains_none pred there)
-pred_in_item (item.Trace at limit stage start) pred span there inside = absurd (contains_none pred there)
+pred_in_item _ pred span there inside = absurd (contains_none pred there)
 
 -- and those of a predicate's
 pub pred_item_uses : (source : Source) (pred : PredItem) (span : Span) → Contains (preds_of source) pred → Contains pred.args span → Contains (uses_of source) (use_in space.Sorts span)

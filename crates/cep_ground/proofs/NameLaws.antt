@@ -85,36 +85,15 @@ module _ (source : Source) (clean : IsClean source) (items : AllByRecursion (IsI
 
   sort_at : (item_ : RawItem) (span : Span) → IsItemOf clean.is_source.tokens item_ → Contains (sorts_in item_) span → IsNameAt clean.is_source.tokens span
   sort_at (item.Sort name) span is there = ⊎_elim (λ (same : name ≡ span). subst (IsNameAt clean.is_source.tokens) same is) (λ later. absurd (contains_none span later)) (contains_cases name [] span there)
-  sort_at (item.Pred name args back) span is there = absurd (contains_none span there)
-  sort_at (item.Colon left args right) span is there = absurd (contains_none span there)
-  sort_at (item.Clause label head goals) span is there = absurd (contains_none span there)
-  sort_at (item.Outer rule) span is there = absurd (contains_none span there)
-  sort_at (item.Stage name rules) span is there = absurd (contains_none span there)
-  sort_at (item.Context name atoms) span is there = absurd (contains_none span there)
-  sort_at (item.Interactive name) span is there = absurd (contains_none span there)
-  sort_at (item.Trace at limit stage start) span is there = absurd (contains_none span there)
+  sort_at _ span is there = absurd (contains_none span there)
 
   stage_at : (item_ : RawItem) (span : Span) → IsItemOf clean.is_source.tokens item_ → Contains (stages_in item_) span → IsNameAt clean.is_source.tokens span
   stage_at (item.Stage name rules) span is there = ⊎_elim (λ (same : name ≡ span). subst (IsNameAt clean.is_source.tokens) same is.0) (λ later. absurd (contains_none span later)) (contains_cases name [] span there)
-  stage_at (item.Sort name) span is there = absurd (contains_none span there)
-  stage_at (item.Pred name args back) span is there = absurd (contains_none span there)
-  stage_at (item.Colon left args right) span is there = absurd (contains_none span there)
-  stage_at (item.Clause label head goals) span is there = absurd (contains_none span there)
-  stage_at (item.Outer rule) span is there = absurd (contains_none span there)
-  stage_at (item.Context name atoms) span is there = absurd (contains_none span there)
-  stage_at (item.Interactive name) span is there = absurd (contains_none span there)
-  stage_at (item.Trace at limit stage start) span is there = absurd (contains_none span there)
+  stage_at _ span is there = absurd (contains_none span there)
 
   pred_at : (item_ : RawItem) (pred : PredItem) → IsItemOf clean.is_source.tokens item_ → Contains (preds_in item_) pred → IsNameAt clean.is_source.tokens pred.name
   pred_at (item.Pred name args back) pred is there = ⊎_elim (λ (same : record { name = name; args = args; back = back } ≡ pred). subst (λ (p : PredItem). IsNameAt clean.is_source.tokens p.name) same is.0) (λ later. absurd (contains_none pred later)) (contains_cases (record { name = name; args = args; back = back }) [] pred there)
-  pred_at (item.Sort name) pred is there = absurd (contains_none pred there)
-  pred_at (item.Colon left args right) pred is there = absurd (contains_none pred there)
-  pred_at (item.Clause label head goals) pred is there = absurd (contains_none pred there)
-  pred_at (item.Outer rule) pred is there = absurd (contains_none pred there)
-  pred_at (item.Stage name rules) pred is there = absurd (contains_none pred there)
-  pred_at (item.Context name atoms) pred is there = absurd (contains_none pred there)
-  pred_at (item.Interactive name) pred is there = absurd (contains_none pred there)
-  pred_at (item.Trace at limit stage start) pred is there = absurd (contains_none pred there)
+  pred_at _ pred is there = absurd (contains_none pred there)
 
   con_by_label : (labelled : Bool) (one con : ConItem) → IsNameAt clean.is_source.tokens one.name → Contains (con_or_none labelled one) con → IsNameAt clean.is_source.tokens con.name
   con_by_label true one con is there = absurd (contains_none con there)
@@ -122,14 +101,7 @@ module _ (source : Source) (clean : IsClean source) (items : AllByRecursion (IsI
 
   con_at : (item_ : RawItem) (con : ConItem) → IsItemOf clean.is_source.tokens item_ → Contains (cons_in source item_) con → IsNameAt clean.is_source.tokens con.name
   con_at (item.Colon left args right) con is there = con_by_label (is_labelled source args right) (record { name = left; args = args; sort = right }) con is.0 there
-  con_at (item.Sort name) con is there = absurd (contains_none con there)
-  con_at (item.Pred name args back) con is there = absurd (contains_none con there)
-  con_at (item.Clause label head goals) con is there = absurd (contains_none con there)
-  con_at (item.Outer rule) con is there = absurd (contains_none con there)
-  con_at (item.Stage name rules) con is there = absurd (contains_none con there)
-  con_at (item.Context name atoms) con is there = absurd (contains_none con there)
-  con_at (item.Interactive name) con is there = absurd (contains_none con there)
-  con_at (item.Trace at limit stage start) con is there = absurd (contains_none con there)
+  con_at _ con is there = absurd (contains_none con there)
 
   item_made : (item_ : RawItem) → Contains source.file item_ → IsItemOf clean.is_source.tokens item_
   item_made item_ there = all_at (IsItemOf clean.is_source.tokens) source.file item_ items there

@@ -50,7 +50,7 @@ use Rattle.cep_ground.proofs.RuleScopes.{AtomsMade, AreHere, rule_here, clause_h
 use Rattle.cep_ground.proofs.RuleParts.{IsJudged, judged_premises, judged_atoms, back_part, linear_count, back_count, atoms_count, all_follow, rule_typed, rule_divided, clause_typed, clause_divided}
 use Rattle.cep_ground.proofs.BoundVariables.{bound_vars, rule_bound, clause_bound}
 use Rattle.cep_ground.proofs.VariableKinds.{in_range, con_sort_known, con_args_known, pred_args_known, kinds_in_range, variable_names}
-use Rattle.cep_ground.proofs.StartState.{start_good}
+use Rattle.cep_ground.proofs.StartState.{StartLaws, start_good}
 use Rattle.cep_ground.proofs.StateAtoms.{not_greater}
 use Rattle.cep_ground.proofs.NameLaws.{rule_names_size, rules_few, sort_names, stage_names, con_names, pred_names, rule_names}
 use Rattle.cep_ground.proofs.GroupLaws.{used_stage, rule_grouped, rule_next}
@@ -70,25 +70,11 @@ flat_few f (x ∷ xs) one =
 
 one_sort : (item_ : RawItem) → length (sorts_in item_) ≤ 1
 one_sort (item.Sort name) = omega arith
-one_sort (item.Pred name args back) = omega arith
-one_sort (item.Colon left args right) = omega arith
-one_sort (item.Clause label head goals) = omega arith
-one_sort (item.Outer rule) = omega arith
-one_sort (item.Stage name rules) = omega arith
-one_sort (item.Context name atoms) = omega arith
-one_sort (item.Interactive name) = omega arith
-one_sort (item.Trace at limit stage start) = omega arith
+one_sort _ = omega arith
 
 one_stage : (item_ : RawItem) → length (stages_in item_) ≤ 1
-one_stage (item.Sort name) = omega arith
-one_stage (item.Pred name args back) = omega arith
-one_stage (item.Colon left args right) = omega arith
-one_stage (item.Clause label head goals) = omega arith
-one_stage (item.Outer rule) = omega arith
 one_stage (item.Stage name rules) = omega arith
-one_stage (item.Context name atoms) = omega arith
-one_stage (item.Interactive name) = omega arith
-one_stage (item.Trace at limit stage start) = omega arith
+one_stage _ = omega arith
 
 trace_use : (item_ : RawItem) (trace : TraceItem) → Contains (traces_in item_) trace → Contains (own_uses item_) (use_in space.Stages trace.stage)
 trace_use (item.Trace at limit stage start) trace there =
@@ -96,21 +82,14 @@ trace_use (item.Trace at limit stage start) trace there =
     (λ (same : record { at = at; limit = limit; stage = stage; start = start } ≡ trace). subst (λ (t : TraceItem). Contains (use_in space.Stages stage ∷ start_uses start) (use_in space.Stages t.stage)) same (contains_first (use_in space.Stages stage) (start_uses start)))
     (λ later. absurd (contains_none trace later))
     (contains_cases (record { at = at; limit = limit; stage = stage; start = start }) [] trace there)
-trace_use (item.Sort name) trace there = absurd (contains_none trace there)
-trace_use (item.Pred name args back) trace there = absurd (contains_none trace there)
-trace_use (item.Colon left args right) trace there = absurd (contains_none trace there)
-trace_use (item.Clause label head goals) trace there = absurd (contains_none trace there)
-trace_use (item.Outer rule) trace there = absurd (contains_none trace there)
-trace_use (item.Stage name rules) trace there = absurd (contains_none trace there)
-trace_use (item.Context name atoms) trace there = absurd (contains_none trace there)
-trace_use (item.Interactive name) trace there = absurd (contains_none trace there)
+trace_use _ trace there = absurd (contains_none trace there)
 
 -- the same of numbers that are sorts
 sorts_in_range : (source : Source) (spans : List Span) (most : ℕ) → AllByRecursion (λ name. number_of source space.Sorts name < most) (map (said source) spans) → AllByRecursion (λ sort. sort < most) (sorts_said source spans)
 sorts_in_range source [] most all = tt
 sorts_in_range source (span ∷ spans) most all = (all.0, sorts_in_range source spans most all.1)
 
-module _ (source : Source) (clean : IsClean source) (made : AtomsMade source) (items : AllByRecursion (IsItemOf clean.is_source.tokens) source.file) (few : length source.file ≤ length clean.is_source.tokens) (laws : BagLaws) (bound : IsBound source) where
+module _ (source : Source) (clean : IsClean source) (made : AtomsMade source) (items : AllByRecursion (IsItemOf clean.is_source.tokens) source.file) (few : length source.file ≤ length clean.is_source.tokens) (starts : StartLaws) (laws : BagLaws) (bound : IsBound source) where
   file_few : length source.file ≤ 1048576
   file_few = let tokens = tokens_few source clean.is_source in let s = clean.short in omega (arith, few, tokens, s)
 
@@ -247,7 +226,7 @@ module _ (source : Source) (clean : IsClean source) (made : AtomsMade source) (i
       let each_rule : (P : Rule → Type 0) → ((name : List ℕ) (item_ : RuleItem) (rule : Rule) → Contains (rules_of source) item_ → IsRuleBy source name item_ rule → P rule) → AllByRecursion P parts.rules = λ P each. all_rules P rule_names_ (rules_of source) parts.rules each are.rules_are in
       let each_clause : (P : ClauseTree → Type 0) → ((item_ : ClauseItem) (clause : ClauseTree) → Contains (clauses_of source) item_ → IsClauseBy source item_ clause → P clause) → AllByRecursion P parts.clauses = λ P each. all_clauses P (clauses_of source) parts.clauses each are.clauses_are in
       let trace_there : Contains (traces_of source) are.trace = subst (λ ts. Contains ts are.trace) (sym are.first) (contains_first are.trace are.rest) in
-      let start = start_good source clean made laws are.trace are.rest parts.start are.first are.start_is in
+      let start = start_good source clean made starts laws are.trace are.rest parts.start are.first are.start_is in
       let stage_size : length parts.stages ≡ length (stages_of source) = ap length are.stages_are ∙ length-map (stages_of source) (stage_by source) in
       let sort_size : length parts.signature.sorts ≡ length (sorts_of source) = ap (λ (s : Signature). length s.sorts) are.signature_is ∙ length-map (sorts_of source) (said source) in
       record {

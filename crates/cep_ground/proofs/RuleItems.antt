@@ -33,13 +33,7 @@ rule_in (item.Outer raw) stages rule there =
 rule_in (item.Stage name rules) stages rule there =
     let is = map_cases (λ raw. record { home = Some stages; raw = raw }) rules rule there in
     subst (λ (one : RuleItem). StandsIn stages one (item.Stage name rules)) is.same (in_stage name rules refl is.there)
-rule_in (item.Sort name) stages rule there = absurd (contains_none rule there)
-rule_in (item.Pred name args back) stages rule there = absurd (contains_none rule there)
-rule_in (item.Colon left args right) stages rule there = absurd (contains_none rule there)
-rule_in (item.Clause label head goals) stages rule there = absurd (contains_none rule there)
-rule_in (item.Context name atoms) stages rule there = absurd (contains_none rule there)
-rule_in (item.Interactive name) stages rule there = absurd (contains_none rule there)
-rule_in (item.Trace at limit stage start) stages rule there = absurd (contains_none rule there)
+rule_in _ stages rule there = absurd (contains_none rule there)
 
 -- behind an item there are as many stages more as it declares
 behind_is : (item_ : RawItem) (stages : ℕ) → stages_behind stages item_ ≡ stages + length (stages_in item_)

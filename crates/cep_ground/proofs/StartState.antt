@@ -47,6 +47,8 @@ use Rattle.cep_types.specs.Sites.{IsScope as scopes}
 use Rattle.cep_types.specs.Heads.{number_of, blanks_after}
 use Rattle.cep_infer.specs.Heads.{IsAtomBy, AreAtomsBy}
 use Rattle.cep_infer.specs.Meaning.{signature_of, names_of, kinds_of, IsStartBy}
+use Rattle.cep_infer.specs.Resolved.{IsWellNamed}
+use Rattle.cep_infer.specs.States.{IsStateWritten, AreClosed}
 use Rattle.cep_ground.specs.Texts.{IsClean}
 use Rattle.cep_base.proofs.Elements.{contains_none, contains_first, contains_behind, contains_cases, contains_map, flat_cases, all_at, all_of}
 use Rattle.cep_ground.proofs.Finds.{found_in}
@@ -54,72 +56,13 @@ use Rattle.cep_ground.proofs.Known.{own_placed, pred_known}
 use Rattle.cep_ground.proofs.Scopes.{IsHere, typed_atoms}
 use Rattle.cep_ground.proofs.RuleScopes.{AtomsMade, AreHere, atom_of_tokens, words, short, back_known}
 use Rattle.cep_ground.proofs.RuleParts.{atom_size, pred_at}
-use Rattle.cep_ground.proofs.StateAtoms.{AreClosed, atom_ground, atom_alike, raw_depth, not_greater}
+use Rattle.cep_ground.proofs.StateAtoms.{atom_alike, raw_depth, not_greater}
 
--- An atom of the start state: it stands in a context or in the braces of a trace, and stands for itself.
-pub record IsListed (source : Source) (raw : RawAtom) : Type 0 where
-  pub role : Role
-  pub there : Contains (placed_of source) (placed role raw)
-  pub of_state : IsOfState role
-  pub plain : is_context source (placed role raw) ≡ false
-
-context_item : (item_ : RawItem) (context : ContextItem) (raw : RawAtom) → Contains (contexts_in item_) context → Contains context.atoms raw → Contains (own_atoms item_) (placed role.Listed raw)
-context_item (item.Context name atoms) context raw there inside =
-    ⊎_elim
-    (λ (same : record { name = name; atoms = atoms } ≡ context). contains_map (placed role.Listed) atoms raw (subst (λ (c : ContextItem). Contains c.atoms raw) (sym same) inside))
-    (λ later. absurd (contains_none context later))
-    (contains_cases (record { name = name; atoms = atoms }) [] context there)
-context_item (item.Sort name) context raw there inside = absurd (contains_none context there)
-context_item (item.Pred name args back) context raw there inside = absurd (contains_none context there)
-context_item (item.Colon left args right) context raw there inside = absurd (contains_none context there)
-context_item (item.Clause label head goals) context raw there inside = absurd (contains_none context there)
-context_item (item.Outer rule) context raw there inside = absurd (contains_none context there)
-context_item (item.Stage name rules) context raw there inside = absurd (contains_none context there)
-context_item (item.Interactive name) context raw there inside = absurd (contains_none context there)
-context_item (item.Trace at limit stage start_) context raw there inside = absurd (contains_none context there)
-
-trace_item : (item_ : RawItem) (trace : TraceItem) (raw : RawAtom) → Contains (traces_in item_) trace → Contains (start_listed trace.start) raw → Contains (own_atoms item_) (placed role.Start raw)
-trace_item (item.Trace at limit stage start_) trace raw there inside =
-    ⊎_elim
-    (λ (same : record { at = at; limit = limit; stage = stage; start = start_ } ≡ trace). contains_map (placed role.Start) (start_listed start_) raw (subst (λ (t : TraceItem). Contains (start_listed t.start) raw) (sym same) inside))
-    (λ later. absurd (contains_none trace later))
-    (contains_cases (record { at = at; limit = limit; stage = stage; start = start_ }) [] trace there)
-trace_item (item.Sort name) trace raw there inside = absurd (contains_none trace there)
-trace_item (item.Pred name args back) trace raw there inside = absurd (contains_none trace there)
-trace_item (item.Colon left args right) trace raw there inside = absurd (contains_none trace there)
-trace_item (item.Clause label head goals) trace raw there inside = absurd (contains_none trace there)
-trace_item (item.Outer rule) trace raw there inside = absurd (contains_none trace there)
-trace_item (item.Stage name rules) trace raw there inside = absurd (contains_none trace there)
-trace_item (item.Context name atoms) trace raw there inside = absurd (contains_none trace there)
-trace_item (item.Interactive name) trace raw there inside = absurd (contains_none trace there)
-
-module _ (source : Source) where
-  context_listed : (found : Option ContextItem) (name : List ℕ) (raw : RawAtom) → context_named source name ≡ found → Contains (listed_in found) raw → IsListed source raw
-  context_listed None name raw is there = absurd (contains_none raw there)
-  context_listed (Some context) name raw is there =
-      let found = found_in (λ (c : ContextItem). bytes_eq (said source c.name) name) (contexts_of source) context is in
-      let from = flat_cases contexts_in source.file context found.there in
-      record { role = role.Listed; there = own_placed source from.from (placed role.Listed raw) from.there (context_item from.from context raw from.inside there); of_state = of_state.listed; plain = refl }
-
-  atom_listed : (trace : TraceItem) (atoms : List RawAtom) (atom raw : RawAtom) (b : Bool) → Contains (traces_of source) trace → trace.start ≡ start.Listed atoms → Contains atoms atom → is_context source (placed role.Start atom) ≡ b → Contains (listed_or b source atom) raw → IsListed source raw
-  atom_listed trace atoms atom raw true there is inside context listed = context_listed (context_named source (said source atom.name)) (said source atom.name) raw refl listed
-  atom_listed trace atoms atom raw false there is inside context listed =
-      ⊎_elim
-      (λ (same : atom ≡ raw).
-      let from = flat_cases traces_in source.file trace there in
-      let in_ : Contains (start_listed trace.start) atom = subst (λ s. Contains (start_listed s) atom) (sym is) inside in
-      subst (IsListed source) same (record { role = role.Start; there = own_placed source from.from (placed role.Start atom) from.there (trace_item from.from trace atom from.inside in_); of_state = of_state.start; plain = context }))
-      (λ later. absurd (contains_none raw later))
-      (contains_cases atom [] raw listed)
-
-  start_by : (trace : TraceItem) (start_ : RawStart) (raw : RawAtom) → Contains (traces_of source) trace → trace.start ≡ start_ → Contains (start_atoms source start_) raw → IsListed source raw
-  start_by trace (start.Named name) raw there is listed = context_listed (context_named source (said source name)) (said source name) raw refl listed
-  start_by trace (start.Listed atoms) raw there is listed =
-      let from = flat_cases (λ atom. listed_or (is_context source (placed role.Start atom)) source atom) atoms raw listed in
-      atom_listed trace atoms from.from raw (is_context source (placed role.Start from.from)) there is from.there refl from.inside
-
-  pub start_listed_all : (trace : TraceItem) (raw : RawAtom) → Contains (traces_of source) trace → Contains (start_atoms source trace.start) raw → IsListed source raw
-  start_listed_all trace raw there listed = start_by trace trace.start raw there refl listed
+-- the laws of start states that are needed
+pub record StartLaws : Type 0 where
+  pub written : (source : Source) (trace : TraceItem) (raw : RawAtom) → Contains (traces_of source) trace → Contains (start_atoms source trace.start) raw → IsStateWritten source raw
+  pub closed : (source : Source) (raw : RawAtom) → IsWellNamed source → IsStateWritten source raw → AreClosed raw.nodes
+  pub ground : (source : Source) (vars : List (List ℕ)) (blanks : ℕ) (raw : RawAtom) (atom : AtomTree) → IsAtomBy source vars blanks raw atom → AreClosed raw.nodes → IsGroundAtom atom
 
 -- without open nodes there are no variables
 no_occurrences : (source : Source) (blanks : ℕ) (nodes_ : List RawNode) → AreClosed nodes_ → occurrences_from source blanks nodes_ ≡ []
@@ -131,26 +74,21 @@ no_occurrences source blanks (node ∷ nodes_) all = by_kind node.kind node.at a
     by_kind kind.Var at is rest = absurd cc
     by_kind kind.Blank at is rest = absurd cc
 
-module _ (source : Source) (clean : IsClean source) (made : AtomsMade source) where
-  closed_by : (raw : RawAtom) (listed : IsListed source raw) (at : Span) (shape : RawKind) (args : ℕ) → Contains raw.nodes (record { at = at; kind = shape; args = args }) → shape ≡ kind.App
-  closed_by raw listed at kind.App args there = refl
-  closed_by raw listed at kind.Var args there = absurd (clean.names (wrong VarInContext at.from) (variable_in_state (placed listed.role raw) (record { at = at; kind = kind.Var; args = args }) listed.there listed.of_state there (opens.variable at args) refl))
-  closed_by raw listed at kind.Blank args there = absurd (clean.names (wrong VarInContext at.from) (variable_in_state (placed listed.role raw) (record { at = at; kind = kind.Blank; args = args }) listed.there listed.of_state there (opens.blank at args) refl))
+module _ (source : Source) (clean : IsClean source) (made : AtomsMade source) (starts : StartLaws) where
+  listed_closed : (raw : RawAtom) → IsStateWritten source raw → AreClosed raw.nodes
+  listed_closed raw listed = starts.closed source raw clean.names listed
 
-  pub listed_closed : (raw : RawAtom) → IsListed source raw → AreClosed raw.nodes
-  listed_closed raw listed = all_of (λ (node : RawNode). node.kind ≡ kind.App) raw.nodes (λ node there. closed_by raw listed node.at node.kind node.args there)
-
-  listed_here : (raw : RawAtom) → IsListed source raw → IsHere source raw
+  listed_here : (raw : RawAtom) → IsStateWritten source raw → IsHere source raw
   listed_here raw listed = record { role = listed.role; there = listed.there; plain = listed.plain; filled = (atom_of_tokens source clean made listed.role raw listed.there).filled }
 
-  alone_here : (raw : RawAtom) → IsListed source raw → AreHere source clean made (raw ∷ [])
+  alone_here : (raw : RawAtom) → IsStateWritten source raw → AreHere source clean made (raw ∷ [])
   alone_here raw listed = record {
     scope = scopes.state (placed listed.role raw) listed.there listed.of_state refl;
     here = λ other there. ⊎_elim (λ (same : raw ≡ other). subst (IsHere source) same (listed_here raw listed)) (λ later. absurd (contains_none other later)) (contains_cases raw [] other there);
     few = omega arith;
   }
 
-  no_kinds : (raw : RawAtom) → IsListed source raw → kinds_of source (raw ∷ []) ≡ []
+  no_kinds : (raw : RawAtom) → IsStateWritten source raw → kinds_of source (raw ∷ []) ≡ []
   no_kinds raw listed =
       let nodes_are : raw_nodes (raw ∷ []) ≡ raw.nodes = append-nil raw.nodes in
       let none : occurrences_from source 0 (raw_nodes (raw ∷ [])) ≡ [] = ap (occurrences_from source 0) nodes_are ∙ no_occurrences source 0 raw.nodes (listed_closed raw listed) in
@@ -159,7 +97,7 @@ module _ (source : Source) (clean : IsClean source) (made : AtomsMade source) wh
       none_by : (os : List Occurrence) → os ≡ [] → map (λ (o : Occurrence). number_of source space.Sorts (unwrap_or (type_of source (raw ∷ []) o.name) [])) (firsts os) ≡ []
       none_by os e = rw e refl
 
-  listed_typed : (raw : RawAtom) (blanks : ℕ) (atom : AtomTree) (listed : IsListed source raw) → IsAtomBy source [] blanks raw atom → IsTyped (signature_of source) [] atom
+  listed_typed : (raw : RawAtom) (blanks : ℕ) (atom : AtomTree) (listed : IsStateWritten source raw) → IsAtomBy source [] blanks raw atom → IsTyped (signature_of source) [] atom
   listed_typed raw blanks atom listed by =
       let all = alone_here raw listed in
       let scope = raw ∷ [] in
@@ -168,7 +106,7 @@ module _ (source : Source) (clean : IsClean source) (made : AtomsMade source) wh
       (λ site inside. inside) (λ wanted inside. inside) (same, tt) in
       subst (λ ks. IsTyped (signature_of source) ks atom) (no_kinds raw listed) typed.0
 
-  listed_linear : (raw : RawAtom) (blanks : ℕ) (atom : AtomTree) (listed : IsListed source raw) → IsAtomBy source [] blanks raw atom → IsLinear (signature_of source) atom
+  listed_linear : (raw : RawAtom) (blanks : ℕ) (atom : AtomTree) (listed : IsStateWritten source raw) → IsAtomBy source [] blanks raw atom → IsLinear (signature_of source) atom
   listed_linear raw blanks atom listed by =
       let here = listed_here raw listed in
       let known = back_known source clean made raw here in
@@ -181,7 +119,7 @@ module _ (source : Source) (clean : IsClean source) (made : AtomsMade source) wh
       no_back true never = absurd (never refl)
       no_back false never = refl
 
-  listed_fit : (raw : RawAtom) (blanks : ℕ) (atom : AtomTree) (listed : IsListed source raw) → IsAtomBy source [] blanks raw atom → IsFit atom
+  listed_fit : (raw : RawAtom) (blanks : ℕ) (atom : AtomTree) (listed : IsStateWritten source raw) → IsAtomBy source [] blanks raw atom → IsFit atom
   listed_fit raw blanks atom listed by =
       let fits : (¬ IsFitWritten raw) → ⊥ = λ not_fit. clean.names (wrong OverLimit raw.name.from) (over raw.name.from (unfit (placed listed.role raw) listed.there listed.of_state not_fit refl) refl) in
       let size = atom_size source [] blanks raw atom by in
@@ -191,15 +129,15 @@ module _ (source : Source) (clean : IsClean source) (made : AtomsMade source) wh
         depth = not_greater _ _ (λ more_. fits (λ fit. let d = fit.depth in omega (arith, d, deep, more_)));
       }
 
-  pub listed_state_atom : (raw : RawAtom) (blanks : ℕ) (atom : AtomTree) → IsListed source raw → IsAtomBy source [] blanks raw atom → IsStateAtom (signature_of source) atom
+  pub listed_state_atom : (raw : RawAtom) (blanks : ℕ) (atom : AtomTree) → IsStateWritten source raw → IsAtomBy source [] blanks raw atom → IsStateAtom (signature_of source) atom
   listed_state_atom raw blanks atom listed by = record {
-    ground = atom_ground source [] blanks raw atom by (listed_closed raw listed);
+    ground = starts.ground source [] blanks raw atom by (listed_closed raw listed);
     typed = listed_typed raw blanks atom listed by;
     linear = listed_linear raw blanks atom listed by;
     fit = listed_fit raw blanks atom listed by;
   }
 
-  pub listed_state_atoms : (raws : List RawAtom) (blanks : ℕ) (list : List AtomTree) → ((raw : RawAtom) → Contains raws raw → IsListed source raw) → AreAtomsBy source [] blanks raws list → AllByRecursion (IsStateAtom (signature_of source)) list
+  pub listed_state_atoms : (raws : List RawAtom) (blanks : ℕ) (list : List AtomTree) → ((raw : RawAtom) → Contains raws raw → IsStateWritten source raw) → AreAtomsBy source [] blanks raws list → AllByRecursion (IsStateAtom (signature_of source)) list
   listed_state_atoms [] blanks [] all by = tt
   listed_state_atoms [] blanks (atom ∷ list) all by = absurd by
   listed_state_atoms (raw ∷ raws) blanks [] all by = absurd by
@@ -223,11 +161,11 @@ pub record IsGoodStart (source : Source) (start_ : Multiset) : Type 0 where
   pub state : IsState (signature_of source) start_
   pub fits : Fits start_
 
-pub start_good : (source : Source) (clean : IsClean source) (made : AtomsMade source) (laws : BagLaws) (trace : TraceItem) (rest : List TraceItem) (start_ : Multiset) → traces_of source ≡ trace ∷ rest → IsStartBy source trace start_ → IsGoodStart source start_
-start_good source clean made laws trace rest start_ first by =
+pub start_good : (source : Source) (clean : IsClean source) (made : AtomsMade source) (starts : StartLaws) (laws : BagLaws) (trace : TraceItem) (rest : List TraceItem) (start_ : Multiset) → traces_of source ≡ trace ∷ rest → IsStartBy source trace start_ → IsGoodStart source start_
+start_good source clean made starts laws trace rest start_ first by =
     let there : Contains (traces_of source) trace = subst (λ ts. Contains ts trace) (sym first) (contains_first trace rest) in
-    let is_state = listed_state_atoms source clean made (start_atoms source trace.start) 0 by.atoms (λ raw listed. start_listed_all source trace raw there listed) by.atoms_are in
-    let sizes = list_sizes source clean made (start_atoms source trace.start) 0 by.atoms by.atoms_are in
+    let is_state = listed_state_atoms source clean made starts (start_atoms source trace.start) 0 by.atoms (λ raw listed. starts.written source trace raw there listed) by.atoms_are in
+    let sizes = list_sizes source clean made starts (start_atoms source trace.start) 0 by.atoms by.atoms_are in
     let copies_are = laws.gathered_copies by.atoms in
     let nodes_are = laws.gathered_nodes by.atoms in
     let few_copies : length (start_atoms source trace.start) ≤ 100000 = not_greater _ _ (λ more_. clean.names (wrong OverLimit trace.at) (over trace.at (copies trace rest first more_ refl) refl)) in

@@ -15,23 +15,7 @@ use Rattle.cep_names.specs.Variables.{blanks_behind}
 use Rattle.cep_names.specs.Starts.{levels, greatest, depth_written}
 use Rattle.cep_types.specs.Heads.{Head, var, con, head_at, heads_from}
 use Rattle.cep_infer.specs.Heads.{argument_count, heads_of, heads_among, IsAtomBy}
-use Rattle.cep_ground.proofs.HeadLaws.{IsClosed, terms_ground}
-
--- each node is a constructor
-abbrev pub AreClosed : List RawNode → Type 0
-AreClosed nodes = AllByRecursion (λ node. node.kind ≡ kind.App) nodes
-
-head_closed : (source : Source) (vars : List (List ℕ)) (blanks : ℕ) (shape : RawKind) (at : Span) (args : ℕ) → shape ≡ kind.App → IsClosed (head_at source vars blanks shape at args)
-head_closed source vars blanks kind.App at args is = tt
-head_closed source vars blanks kind.Var at args is = absurd cc
-head_closed source vars blanks kind.Blank at args is = absurd cc
-
-heads_closed : (source : Source) (vars : List (List ℕ)) (blanks : ℕ) (nodes : List RawNode) → AreClosed nodes → AllByRecursion IsClosed (heads_from source vars blanks nodes)
-heads_closed source vars blanks [] all = tt
-heads_closed source vars blanks (first ∷ nodes) all = (head_closed source vars blanks first.kind first.at first.args all.0, heads_closed source vars (blanks_behind blanks first.kind) nodes all.1)
-
-pub atom_ground : (source : Source) (vars : List (List ℕ)) (blanks : ℕ) (raw : RawAtom) (atom : AtomTree) → IsAtomBy source vars blanks raw atom → AreClosed raw.nodes → IsGroundAtom atom
-atom_ground source vars blanks raw atom by all = terms_ground atom.args (subst (AllByRecursion IsClosed) (sym by.heads) (heads_closed source vars blanks raw.nodes all))
+use Rattle.cep_infer.specs.States.{AreClosed}
 
 -- such nodes do not depend on variables
 head_alike : (source : Source) (vars others : List (List ℕ)) (blanks more_ : ℕ) (shape : RawKind) (at : Span) (args : ℕ) → shape ≡ kind.App → head_at source vars blanks shape at args ≡ head_at source others more_ shape at args

@@ -1,21 +1,20 @@
 -- What is wrong with a text, case by case, and what of it is told.
-use Rattle.std.specs.Prelude.{◌≡◌, ◌⊎◌, ℕ, ◌<◌, ◌≤◌, true, List, [], length, take, None, IsSomeAnd, slice_get, Contains, Result, Ok, Err}
+use Rattle.std.specs.Prelude.{◌≡◌, ◌⊎◌, ℕ, ◌<◌, ◌≤◌, true, List, [], length, None, IsSomeAnd, slice_get, Contains, Result, Ok, Err}
 use Rattle.std.specs.List.{AllByRecursion}
 use Rattle.cep_base.specs.declared.place.Pos.{Pos}
 use Rattle.cep_lex.specs.declared.token.Token.{Token}
 use Rattle.cep_base.specs.declared.limits.TheConstants.{MOST_TEXT}
 use Rattle.cep_lex.specs.Cuts.{AreTokens, IsBadByte, IsNameLong}
-use Rattle.cep_lex.specs.Places.{IsPlaceBehind}
 use Rattle.cep_parse.specs.Symbols.{symbols_of}
 use Rattle.cep_parse.specs.Files.{IsUnexpected, IsNested}
 use Rattle.cep_rule.specs.declared.rule.Rule.{Rule}
 use Rattle.cep_rule.specs.declared.parts.Parts.{Parts}
 use Rattle.cep_refusal.specs.declared.fault.Fault.{Fault}
-use Rattle.cep_refusal.specs.declared.reason.Reason.{Reason}
-use Rattle.cep_refusal.specs.declared.reason.Reason.TheVariants.{BadByte, NameLong, Unexpected, Nested, TypeClash, Unbound, Ungrounded, TooLong, NotBuilt}
+use Rattle.cep_refusal.specs.declared.reason.Reason.TheVariants.{BadByte, NameLong, Unexpected, Nested, Unbound, TooLong, NotBuilt}
 use Rattle.cep_names.specs.Items.{Source, RuleItem, rules_of}
 use Rattle.cep_names.specs.Variables.{Occurrence}
-use Rattle.cep_refusal.specs.First.{IsNoLater, wrong}
+use Rattle.cep_refusal.specs.First.{wrong, IsToldFirst}
+use Rattle.cep_refusal.specs.Told.{Tells}
 use Rattle.cep_names.specs.Misnamed.{Misnamed}
 use Rattle.cep_types.specs.Sites.{Mistyped}
 use Rattle.cep_refusal.specs.declared.refusal.Refusal.{Refusal}

@@ -10,7 +10,7 @@ ghost use Rattle.cep_infer.specs.Meaning.{AreParts};
 ghost use Rattle.cep_ground.specs.Texts.{IsClean, IsBound, Spells};
 ghost use Rattle.cep_ground.specs.Refusals.{IsBuilt, IsWrong};
 
-use cep_infer::laws::atoms_are_made_of_tokens;
+use cep_infer::laws::{atoms_are_made_of_tokens, start_atoms_are_ground};
 use cep_lex::lexed_once;
 use cep_parse::{items_are_made_of_tokens, one_raw_file, parsed_once};
 use cep_term::laws::bags_are_lawful;
@@ -27,6 +27,7 @@ pub fn clean_parts_are_a_program()
 {
     items_are_made_of_tokens();
     atoms_are_made_of_tokens();
+    start_atoms_are_ground();
     bags_are_lawful();
 }
 
@@ -47,6 +48,7 @@ pub fn a_text_in_order_declares()
     ensures { (source : Source) → IsClean source → (parts : Parts) × AreParts source parts }
 {
     atoms_are_made_of_tokens();
+    start_atoms_are_ground();
 }
 
 /// Nothing is wrong with a text that spells a program which can be played today, so a text is a

@@ -64,7 +64,7 @@ module _ (tokens : List Token) where
   own_placed (item.Stage name rules) is = rules_placed rules is.1
   own_placed (item.Context name atoms) is = placed_all _ atoms is.1
   own_placed (item.Interactive name) is = tt
-  own_placed (item.Trace at limit stage start_) is = placed_all _ (start_listed start_) (start_all start_ is.1)
+  own_placed (item.Trace at limit stage start_) is = placed_all _ (start_listed start_) (start_all start_ is.3)
 
   labelled_placed : (labelled : Bool) (right : Span) → IsNameAt tokens right → AllByRecursion IsWell (flat_map clause_atoms (clause_or_none labelled (record { head = bare right; goals = [] })))
   labelled_placed true right is = (record { name = is; filled = tt; few = (let e = is.there.1 in omega arith); nodes = tt }, tt)
@@ -74,7 +74,7 @@ module _ (tokens : List Token) where
   clause_placed source (item.Sort name) is = tt
   clause_placed source (item.Pred name args back) is = tt
   clause_placed source (item.Colon left args right) is = labelled_placed (is_labelled source args right) right is.2
-  clause_placed source (item.Clause label head goals) is = both_all IsWell (clause_atoms (record { head = head; goals = goals })) [] (placed_all role.Clause (head ∷ goals) is) tt
+  clause_placed source (item.Clause label head goals) is = both_all IsWell (clause_atoms (record { head = head; goals = goals })) [] (placed_all role.Clause (head ∷ goals) is.1) tt
   clause_placed source (item.Outer rule) is = tt
   clause_placed source (item.Stage name rules) is = tt
   clause_placed source (item.Context name atoms) is = tt

@@ -15,7 +15,6 @@ use Rattle.cep_parse.specs.declared.raw.RawItem.{RawItem}
 use Rattle.cep_parse.specs.declared.raw.RawItem.TheVariants as item
 use Rattle.cep_term.specs.Tree.{Tree, Trees, AtomTree, variable, node, none, more, AreGround, IsGround, IsGroundAtom}
 use Rattle.cep_refusal.specs.declared.reason.Reason.TheVariants.{VarInContext}
-use Rattle.cep_names.specs.declared.space.Role.{Role}
 use Rattle.cep_names.specs.declared.space.Role.TheVariants as role
 use Rattle.cep_names.specs.Items.{Source, TraceItem, ContextItem, said, contexts_in, contexts_of, traces_in, traces_of}
 use Rattle.cep_names.specs.Spaces.{context_named}
@@ -24,17 +23,17 @@ use Rattle.cep_names.specs.Uses.{Placed, placed, placed_of, own_atoms, item_atom
 use Rattle.cep_names.specs.Variables.{blanks_behind}
 use Rattle.cep_names.specs.Starts.{listed_in, listed_or, start_atoms}
 use Rattle.cep_refusal.specs.First.{wrong}
-use Rattle.cep_names.specs.Misnamed.{IsOfState}
 use Rattle.cep_names.specs.Misnamed.{IsOfState as of_state}
 use Rattle.cep_names.specs.Misnamed.{IsOpen as opens}
 use Rattle.cep_names.specs.Misnamed.Misnamed.{variable_in_state}
 use Rattle.cep_types.specs.Heads.{Head, var, con, head_at, heads_from, blanks_after}
 use Rattle.cep_infer.specs.Heads.{heads_of, heads_among, IsAtomBy, AreAtomsBy}
 use Rattle.cep_infer.specs.Resolved.{IsWellNamed}
+use Rattle.cep_infer.specs.States.{IsStateWritten, AreClosed}
 use Rattle.cep_base.proofs.Elements.{contains_none, contains_first, contains_behind, contains_cases, contains_map, contains_flat, flat_cases, all_of}
 
 -- a constructor is no variable
-abbrev pub IsClosed : Head → Type 0
+abbrev IsClosed : Head → Type 0
 IsClosed (var v) = ⊥
 IsClosed (con c args) = Unit {0}
 
@@ -56,10 +55,6 @@ mutual
   terms_ground none all = tt
   terms_ground (more t rest) all = (term_ground t (left_all (heads_of t) (heads_among rest) all), terms_ground rest (right_all (heads_of t) (heads_among rest) all))
 
--- each node is a constructor
-abbrev pub AreClosed : List RawNode → Type 0
-AreClosed nodes = AllByRecursion (λ node. node.kind ≡ kind.App) nodes
-
 head_closed : (source : Source) (vars : List (List ℕ)) (blanks : ℕ) (shape : RawKind) (at : Span) (args : ℕ) → shape ≡ kind.App → IsClosed (head_at source vars blanks shape at args)
 head_closed source vars blanks kind.App at args is = tt
 head_closed source vars blanks kind.Var at args is = absurd cc
@@ -69,7 +64,7 @@ heads_closed : (source : Source) (vars : List (List ℕ)) (blanks : ℕ) (nodes 
 heads_closed source vars blanks [] all = tt
 heads_closed source vars blanks (first ∷ nodes) all = (head_closed source vars blanks first.kind first.at first.args all.0, heads_closed source vars (blanks_behind blanks first.kind) nodes all.1)
 
-atom_ground : (source : Source) (vars : List (List ℕ)) (blanks : ℕ) (raw : RawAtom) (atom : AtomTree) → IsAtomBy source vars blanks raw atom → AreClosed raw.nodes → IsGroundAtom atom
+pub atom_ground : (source : Source) (vars : List (List ℕ)) (blanks : ℕ) (raw : RawAtom) (atom : AtomTree) → IsAtomBy source vars blanks raw atom → AreClosed raw.nodes → IsGroundAtom atom
 atom_ground source vars blanks raw atom by all = terms_ground atom.args (subst (AllByRecursion IsClosed) (sym by.heads) (heads_closed source vars blanks raw.nodes all))
 
 atoms_ground : (source : Source) (vars : List (List ℕ)) (blanks : ℕ) (raws : List RawAtom) (atoms : List AtomTree) → ((raw : RawAtom) → Contains raws raw → AreClosed raw.nodes) → AreAtomsBy source vars blanks raws atoms
@@ -93,12 +88,6 @@ found_there : {Y : Type 0} (p : Y → Bool) (ys : List Y) (y : Y) → find p ys 
 found_there p [] y found = absurd cc
 found_there p (z ∷ ys) y found = found_first p (p z) z y ys (find p ys) found (λ later. found_there p ys y later)
 
--- An atom of a start state stands in a context or in the braces of a trace.
-record IsListed (source : Source) (raw : RawAtom) : Type 0 where
-  role : Role
-  there : Contains (placed_of source) (placed role raw)
-  of_state : IsOfState role
-
 own_placed : (source : Source) (item_ : RawItem) (p : Placed) → Contains source.file item_ → Contains (own_atoms item_) p → Contains (placed_of source) p
 own_placed source item_ p there inside = contains_flat (item_atoms source) source.file item_ p there (Contains-append_left (own_atoms item_) _ p inside)
 
@@ -108,14 +97,7 @@ context_item (item.Context name atoms) context raw there inside =
     (λ (same : record { name = name; atoms = atoms } ≡ context). contains_map (placed role.Listed) atoms raw (subst (λ (c : ContextItem). Contains c.atoms raw) (sym same) inside))
     (λ later. absurd (contains_none context later))
     (contains_cases (record { name = name; atoms = atoms }) [] context there)
-context_item (item.Sort name) context raw there inside = absurd (contains_none context there)
-context_item (item.Pred name args back) context raw there inside = absurd (contains_none context there)
-context_item (item.Colon left args right) context raw there inside = absurd (contains_none context there)
-context_item (item.Clause label head goals) context raw there inside = absurd (contains_none context there)
-context_item (item.Outer rule) context raw there inside = absurd (contains_none context there)
-context_item (item.Stage name rules) context raw there inside = absurd (contains_none context there)
-context_item (item.Interactive name) context raw there inside = absurd (contains_none context there)
-context_item (item.Trace at limit stage start_) context raw there inside = absurd (contains_none context there)
+context_item _ context raw there inside = absurd (contains_none context there)
 
 trace_item : (item_ : RawItem) (trace : TraceItem) (raw : RawAtom) → Contains (traces_in item_) trace → Contains (start_listed trace.start) raw → Contains (own_atoms item_) (placed role.Start raw)
 trace_item (item.Trace at limit stage start_) trace raw there inside =
@@ -123,49 +105,45 @@ trace_item (item.Trace at limit stage start_) trace raw there inside =
     (λ (same : record { at = at; limit = limit; stage = stage; start = start_ } ≡ trace). contains_map (placed role.Start) (start_listed start_) raw (subst (λ (t : TraceItem). Contains (start_listed t.start) raw) (sym same) inside))
     (λ later. absurd (contains_none trace later))
     (contains_cases (record { at = at; limit = limit; stage = stage; start = start_ }) [] trace there)
-trace_item (item.Sort name) trace raw there inside = absurd (contains_none trace there)
-trace_item (item.Pred name args back) trace raw there inside = absurd (contains_none trace there)
-trace_item (item.Colon left args right) trace raw there inside = absurd (contains_none trace there)
-trace_item (item.Clause label head goals) trace raw there inside = absurd (contains_none trace there)
-trace_item (item.Outer rule) trace raw there inside = absurd (contains_none trace there)
-trace_item (item.Stage name rules) trace raw there inside = absurd (contains_none trace there)
-trace_item (item.Context name atoms) trace raw there inside = absurd (contains_none trace there)
-trace_item (item.Interactive name) trace raw there inside = absurd (contains_none trace there)
+trace_item _ trace raw there inside = absurd (contains_none trace there)
 
 module _ (source : Source) where
-  context_listed : (found : Option ContextItem) (name : List ℕ) (raw : RawAtom) → context_named source name ≡ found → Contains (listed_in found) raw → IsListed source raw
+  context_listed : (found : Option ContextItem) (name : List ℕ) (raw : RawAtom) → context_named source name ≡ found → Contains (listed_in found) raw → IsStateWritten source raw
   context_listed None name raw is there = absurd (contains_none raw there)
   context_listed (Some context) name raw is there =
       let found = found_there (λ (c : ContextItem). bytes_eq (said source c.name) name) (contexts_of source) context is in
       let from = flat_cases contexts_in source.file context found in
-      record { role = role.Listed; there = own_placed source from.from (placed role.Listed raw) from.there (context_item from.from context raw from.inside there); of_state = of_state.listed }
+      record { role = role.Listed; there = own_placed source from.from (placed role.Listed raw) from.there (context_item from.from context raw from.inside there); of_state = of_state.listed; plain = refl }
 
-  atom_listed : (trace : TraceItem) (atoms : List RawAtom) (atom raw : RawAtom) (b : Bool) → Contains (traces_of source) trace → trace.start ≡ start.Listed atoms → Contains atoms atom → Contains (listed_or b source atom) raw → IsListed source raw
-  atom_listed trace atoms atom raw true there is inside listed = context_listed (context_named source (said source atom.name)) (said source atom.name) raw refl listed
-  atom_listed trace atoms atom raw false there is inside listed =
+  atom_listed : (trace : TraceItem) (atoms : List RawAtom) (atom raw : RawAtom) (b : Bool) → Contains (traces_of source) trace → trace.start ≡ start.Listed atoms → Contains atoms atom → is_context source (placed role.Start atom) ≡ b → Contains (listed_or b source atom) raw → IsStateWritten source raw
+  atom_listed trace atoms atom raw true there is inside context listed = context_listed (context_named source (said source atom.name)) (said source atom.name) raw refl listed
+  atom_listed trace atoms atom raw false there is inside context listed =
       ⊎_elim
       (λ (same : atom ≡ raw).
       let from = flat_cases traces_in source.file trace there in
       let in_ : Contains (start_listed trace.start) atom = subst (λ s. Contains (start_listed s) atom) (sym is) inside in
-      subst (IsListed source) same (record { role = role.Start; there = own_placed source from.from (placed role.Start atom) from.there (trace_item from.from trace atom from.inside in_); of_state = of_state.start }))
+      subst (IsStateWritten source) same (record { role = role.Start; there = own_placed source from.from (placed role.Start atom) from.there (trace_item from.from trace atom from.inside in_); of_state = of_state.start; plain = context }))
       (λ later. absurd (contains_none raw later))
       (contains_cases atom [] raw listed)
 
-  start_by : (trace : TraceItem) (start_ : RawStart) (raw : RawAtom) → Contains (traces_of source) trace → trace.start ≡ start_ → Contains (start_atoms source start_) raw → IsListed source raw
+  start_by : (trace : TraceItem) (start_ : RawStart) (raw : RawAtom) → Contains (traces_of source) trace → trace.start ≡ start_ → Contains (start_atoms source start_) raw → IsStateWritten source raw
   start_by trace (start.Named name) raw there is listed = context_listed (context_named source (said source name)) (said source name) raw refl listed
   start_by trace (start.Listed atoms) raw there is listed =
       let from = flat_cases (λ atom. listed_or (is_context source (placed role.Start atom)) source atom) atoms raw listed in
-      atom_listed trace atoms from.from raw (is_context source (placed role.Start from.from)) there is from.there from.inside
+      atom_listed trace atoms from.from raw (is_context source (placed role.Start from.from)) there is from.there refl from.inside
+
+  pub state_written : (trace : TraceItem) (raw : RawAtom) → Contains (traces_of source) trace → Contains (start_atoms source trace.start) raw → IsStateWritten source raw
+  state_written trace raw there listed = start_by trace trace.start raw there refl listed
 
   -- so none of its nodes is a variable or a blank
-  closed_by : (named : IsWellNamed source) (raw : RawAtom) (listed : IsListed source raw) (at : Span) (shape : RawKind) (args : ℕ) → Contains raw.nodes (record { at = at; kind = shape; args = args }) → shape ≡ kind.App
+  closed_by : (named : IsWellNamed source) (raw : RawAtom) (listed : IsStateWritten source raw) (at : Span) (shape : RawKind) (args : ℕ) → Contains raw.nodes (record { at = at; kind = shape; args = args }) → shape ≡ kind.App
   closed_by named raw listed at kind.App args there = refl
   closed_by named raw listed at kind.Var args there = absurd (named (wrong VarInContext at.from) (variable_in_state (placed listed.role raw) (record { at = at; kind = kind.Var; args = args }) listed.there listed.of_state there (opens.variable at args) refl))
   closed_by named raw listed at kind.Blank args there = absurd (named (wrong VarInContext at.from) (variable_in_state (placed listed.role raw) (record { at = at; kind = kind.Blank; args = args }) listed.there listed.of_state there (opens.blank at args) refl))
 
-  listed_closed : IsWellNamed source → (raw : RawAtom) → IsListed source raw → AreClosed raw.nodes
+  pub listed_closed : IsWellNamed source → (raw : RawAtom) → IsStateWritten source raw → AreClosed raw.nodes
   listed_closed named raw listed = all_of (λ (node : RawNode). node.kind ≡ kind.App) raw.nodes (λ node there. closed_by named raw listed node.at node.kind node.args there)
 
   pub start_ground : (trace : TraceItem) (atoms : List AtomTree) → IsWellNamed source → Contains (traces_of source) trace → AreAtomsBy source [] 0 (start_atoms source trace.start) atoms → AllByRecursion IsGroundAtom atoms
   start_ground trace atoms named there by =
-      atoms_ground source [] 0 (start_atoms source trace.start) atoms (λ raw listed. listed_closed named raw (start_by trace trace.start raw there refl listed)) by
+      atoms_ground source [] 0 (start_atoms source trace.start) atoms (λ raw listed. listed_closed named raw (state_written trace raw there listed)) by

@@ -2,6 +2,7 @@ pub mod Shapes
 pub mod Heads
 pub mod Meaning
 pub mod Places
+pub mod States
 pub mod Listed
 pub mod Resolved
 pub mod Built

@@ -70,7 +70,8 @@ ArePremisesBy source vars blanks (elem.Atom kept raw ∷ elems) (p ∷ premises)
 -- the stages that a side names
 abbrev pub stages_in_elem : RawElem → List Span
 stages_in_elem (elem.Stage name) = name ∷ []
-stages_in_elem _ = []
+stages_in_elem (elem.Atom kept atom) = []
+stages_in_elem (elem.Qui span) = []
 
 -- the number of the first stage that a side names
 abbrev pub first_stage : Source → List Span → ℕ

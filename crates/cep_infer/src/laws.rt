@@ -1,9 +1,15 @@
 //! Laws of what a text declares. Each function computes nothing, and its contract is the law.
-ghost use Rattle.std.specs.Prelude.{Contains};
+ghost use Rattle.std.specs.Prelude.{ℕ, List, Contains};
+ghost use Rattle.cep_parse.specs.declared.raw.RawAtom.{RawAtom};
 ghost use Rattle.cep_parse.specs.Written.{IsAtomOf};
-ghost use Rattle.cep_names.specs.Items.{Source};
+ghost use Rattle.cep_term.specs.Tree.{AtomTree, IsGroundAtom};
+ghost use Rattle.cep_names.specs.Items.{Source, TraceItem, traces_of};
+ghost use Rattle.cep_names.specs.Starts.{start_atoms};
 ghost use Rattle.cep_names.specs.Uses.{Placed, placed_of};
+ghost use Rattle.cep_infer.specs.Heads.{IsAtomBy};
+ghost use Rattle.cep_infer.specs.Resolved.{IsWellNamed};
 ghost use Rattle.cep_infer.specs.Shapes.{IsSource, AreFilled};
+ghost use Rattle.cep_infer.specs.States.{IsStateWritten, AreClosed};
 
 use cep_parse::items_are_made_of_tokens;
 
@@ -16,3 +22,20 @@ pub fn atoms_are_made_of_tokens()
 {
     items_are_made_of_tokens();
 }
+
+/// The atoms of a trace's start state stand in contexts or in its braces; in a text without wrong
+/// names none of their nodes is a variable or a blank; and such an atom is ground.
+pub fn start_atoms_are_ground()
+    ensures written { (source : Source) (trace : TraceItem) (raw : RawAtom)
+        → Contains (traces_of source) trace
+        → Contains (start_atoms source trace.start) raw
+        → IsStateWritten source raw }
+    ensures closed { (source : Source) (raw : RawAtom)
+        → IsWellNamed source
+        → IsStateWritten source raw
+        → AreClosed raw.nodes }
+    ensures ground { (source : Source) (vars : List (List ℕ)) (blanks : ℕ) (raw : RawAtom) (atom : AtomTree)
+        → IsAtomBy source vars blanks raw atom
+        → AreClosed raw.nodes
+        → IsGroundAtom atom }
+{}

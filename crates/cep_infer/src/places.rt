@@ -1,5 +1,6 @@
 // The lines and columns of many places.
-ghost use Rattle.std.specs.Prelude.{◌≡◌, ◌≤◌, ◌+◌, ◌++◌, ◌∷◌, [], ℕ, List, length, take, true, not, if◌then◌else◌, map, filter, option_to_list, IfOk, OnOk};
+ghost use Rattle.std.specs.Prelude.{◌≡◌, ◌<◌, ◌≤◌, ◌+◌, ◌^◌, ◌++◌, ◌∷◌, [], ℕ, List, length, take, true, not, if◌then◌else◌, map, filter, option_to_list, IfOk, OnOk};
+ghost use Rattle.cep_base.specs.declared.limits.TheConstants.{MOST_TEXT};
 ghost use Rattle.cep_lex.specs.Places.{IsPlaceBehind};
 ghost use Rattle.cep_names.specs.Misnamed.{is_declared};
 ghost use Rattle.cep_names.specs.Spaces.{back_of};
@@ -30,38 +31,37 @@ const FRONT: Reached = Reached {
     pos: Pos { line: 1, col: 1 },
 };
 
-// One more line or column.
-fn one_more(count: u32) -> Result<u32, AllocError>
-    ensures { IfOk result (λ more. more ≡ count + 1) }
-{
-    // No text within the limit has so many lines or bytes.
-    count.checked_add(1).ok_or(AllocError)
-}
-
 // One byte further.
-fn passed(pos: Pos, byte: u8) -> Result<Pos, AllocError>
-    ensures { IfOk result (λ next. (before : List ℕ) → IsPlaceBehind before pos → IsPlaceBehind (before ++ byte ∷ []) next) }
+fn passed(pos: Pos, byte: u8) -> Pos
+    requires line { pos.line + 1 < 2 ^ 32 }
+    requires col { pos.col + 1 < 2 ^ 32 }
+    ensures next { (before : List ℕ) → IsPlaceBehind before pos → IsPlaceBehind (before ++ byte ∷ []) result }
+    ensures line { result.line ≤ pos.line + 1 }
+    ensures col { result.col ≤ pos.col + 1 }
 {
     if byte == b'\n' {
-        let line = one_more(pos.line)?;
-        return Ok(Pos { line, col: 1 });
+        return Pos {
+            line: pos.line + 1,
+            col: 1,
+        };
     }
-    let col = one_more(pos.col)?;
-    Ok(Pos {
+    Pos {
         line: pos.line,
-        col,
-    })
+        col: pos.col + 1,
+    }
 }
 
 // Some bytes further.
-fn passed_all(pos: Pos, bytes: &[u8]) -> Result<Pos, AllocError>
-    ensures { IfOk result (λ next. (before : List ℕ) → IsPlaceBehind before pos → IsPlaceBehind (before ++ bytes.now) next) }
+fn passed_all(pos: Pos, bytes: &[u8]) -> Pos
+    requires line { pos.line + length bytes.now < 2 ^ 32 }
+    requires col { pos.col + length bytes.now < 2 ^ 32 }
+    ensures { (before : List ℕ) → IsPlaceBehind before pos → IsPlaceBehind (before ++ bytes.now) result }
 {
     let mut behind = pos;
     for byte in bytes {
-        behind = passed(behind, *byte)?;
+        behind = passed(behind, *byte);
     }
-    Ok(behind)
+    behind
 }
 
 // From where a place is looked for: from one that was reached, or from the front where it lies
@@ -74,15 +74,16 @@ fn start_before(from: Reached, to: usize) -> Reached
 }
 
 // The line and column of a place, from one that was reached.
-fn reach(text: &[u8], from: Reached, at: u32) -> Result<Reached, AllocError>
-    requires { IsReached text.now from }
-    ensures reached { IfOk result (λ reached. IsReached text.now reached) }
-    ensures there { IfOk result (λ reached. IsPlaceBehind (take at text.now) reached.pos) }
+fn reach(text: &[u8], from: Reached, at: u32) -> Reached
+    requires short { length text.now ≤ MOST_TEXT }
+    requires reached { IsReached text.now from }
+    ensures reached { IsReached text.now result }
+    ensures there { IsPlaceBehind (take at text.now) result.pos }
 {
     let to = (at as usize).min(text.len());
     let start = start_before(from, to);
-    let pos = passed_all(start.pos, &text[start.at..to])?;
-    Ok(Reached { at: to, pos })
+    let pos = passed_all(start.pos, &text[start.at..to]);
+    Reached { at: to, pos }
 }
 
 // The lines and columns of places.
@@ -92,13 +93,14 @@ fn place_all(
     reached: &mut Reached,
     ats: &[u32],
 ) -> Result<Places, AllocError>
-    requires { IsReached text.now reached.old }
+    requires short { length text.now ≤ MOST_TEXT }
+    requires reached { IsReached text.now reached.old }
     ensures places { IfOk result (λ places. ArePlaces text.now ats.now places) }
     ensures reached { OnOk result (IsReached text.now reached.new) }
 {
     let mut places = Places::new(alloc);
     for at in ats {
-        *reached = reach(text, *reached, *at)?;
+        *reached = reach(text, *reached, *at);
         places.push(reached.pos)?;
     }
     Ok(places)
@@ -220,6 +222,7 @@ pub(crate) fn back_places(
     declared: &Declarations,
     rules: &[RuleRef],
 ) -> Result<PlaceLists, AllocError>
+    requires { length declared.now.text ≤ MOST_TEXT }
     ensures { IfOk result (λ lists. ArePlaceLists declared.now.text (map (λ rule. backs_at declared.now (rule_item rule)) rules.now) lists) }
 {
     let mut reached = FRONT;
@@ -236,6 +239,7 @@ pub(crate) fn right_places(
     declared: &Declarations,
     rules: &[RuleRef],
 ) -> Result<PlaceLists, AllocError>
+    requires { length declared.now.text ≤ MOST_TEXT }
     ensures { IfOk result (λ lists. ArePlaceLists declared.now.text (map (λ rule. unbound_at declared.now (rule_item rule)) rules.now) lists) }
 {
     let mut reached = FRONT;

@@ -1,8 +1,6 @@
-ghost use Rattle.std.specs.Prelude.{◌≡◌, ◌<◌, ◌≤◌, ◌^◌, Some, length, map, take, IfOk};
+ghost use Rattle.std.specs.Prelude.{◌≡◌, ◌≤◌, Some, length, map, take, IfOk};
 ghost use Rattle.cep_base.specs.declared.limits.TheConstants.{MOST_TEXT};
 ghost use Rattle.std.specs.Option.{ForSome, option_map};
-ghost use Rattle.std.specs.Char.{digit_value};
-ghost use Rattle.std.specs.Str.Parse.{digits_value};
 ghost use Rattle.cep_base.specs.Bounds.{IsTurnLimit};
 ghost use Rattle.cep_names.specs.Items.{rules_of, traces_of};
 ghost use Rattle.cep_names.specs.Misnamed.{number_said};
@@ -21,46 +19,19 @@ use crate::rules::read_rules;
 use crate::signature::{read_signature, read_stages};
 use crate::start::read_start;
 use cep_faults::named;
-use cep_names::{Names, Space};
+use cep_names::{Names, Space, number_said};
 use cep_parse::{RawFile, Span};
 use cep_refusal::{Fault, Refusal};
 use cep_rule::Parts;
 use cep_types::Declarations;
 use std::alloc::{AllocError, Global};
 
-// The value of a digit.
-fn digit_value(byte: u8) -> u32
-    ensures { result ≡ digit_value byte }
-{
-    match byte {
-        b'0'..=b'9' => (byte - b'0') as u32,
-        b'A'..=b'Z' => (byte - b'A') as u32 + 10,
-        b'a'..=b'z' => (byte - b'a') as u32 + 10,
-        _ => 36,
-    }
-}
-
-// The number that digits say.
-fn number_said(digits: &[u8]) -> u32
-    requires { digits_value 10 digits.now < 2 ^ 32 }
-    ensures { result ≡ digits_value 10 digits.now }
-{
-    let mut number = 0;
-    for digit in digits {
-        number = number * 10 + digit_value(*digit);
-    }
-    number
-}
-
 // The number of turns.
 fn turns(declared: &Declarations, limit: Option<Span>) -> Option<u32>
     requires { ForSome limit (λ digits. IsTurnLimit (number_said declared.now digits)) }
     ensures { result ≡ option_map (number_said declared.now) limit }
 {
-    match limit {
-        None => None,
-        Some(digits) => Some(number_said(declared.said(digits))),
-    }
+    number_said(declared.text(), limit?)
 }
 
 // The parts of a program, where these are its rules, and it starts as the first trace says.
@@ -87,6 +58,7 @@ fn parts_from(
 
 // The draft of a text without wrong names that starts as the first trace says.
 fn draft_from(declared: &Declarations, trace: &TraceRef) -> Result<Draft, AllocError>
+    requires short { length declared.now.text ≤ MOST_TEXT }
     requires named { IsWellNamed declared.now }
     requires first { IsFirstTrace (traces_of declared.now) (Some trace.now) }
     ensures { IfOk result (λ draft. IsDraft declared.now draft) }
@@ -106,7 +78,8 @@ fn typed(
     file: &RawFile,
     names: &Names,
 ) -> Result<Result<Draft, Fault>, AllocError>
-    requires { AreNamedRight (record { text = text.now; file = file.now }) names.now }
+    requires short { length text.now ≤ MOST_TEXT }
+    requires sound { AreNamedRight (record { text = text.now; file = file.now }) names.now }
     ensures { IfOk result (λ answer. IsTypedDraft (record { text = text.now; file = file.now }) answer) }
 {
     let declared = Declarations::of(alloc, text, file, names)?;

@@ -1,7 +1,7 @@
 // The rules of a text.
-ghost use Rattle.std.specs.Prelude.{◌≡◌, ◌++◌, ◌∷◌, [], map, IfOk, OnOk, option_to_list};
+ghost use Rattle.std.specs.Prelude.{◌≡◌, ◌<◌, ◌≤◌, ◌+◌, ◌^◌, ◌++◌, ◌∷◌, [], map, IfOk, OnOk, option_to_list};
 ghost use Rattle.cep_names.specs.Spaces.{rule_name, rule_names_from, unlabelled_behind};
-ghost use Rattle.cep_parse.specs.Raw.{atoms_of, raw_nodes};
+ghost use Rattle.cep_parse.specs.Raw.{atoms_of};
 ghost use Rattle.cep_infer.specs.Heads.{AreAtomsBy};
 ghost use Rattle.cep_types.specs.Heads.{blanks_after};
 ghost use Rattle.cep_types.specs.Met.{none_met, AreMet, names_seen, kinds_met};
@@ -21,13 +21,14 @@ use cep_types::{Declarations, Variables};
 use std::alloc::AllocError;
 
 // How many rules without a label there are behind one with this label.
-fn unlabelled_behind(unlabelled: u64, label: Option<Span>) -> Result<u64, AllocError>
-    ensures { IfOk result (λ behind. behind ≡ unlabelled_behind unlabelled label) }
+fn unlabelled_behind(unlabelled: u64, label: Option<Span>) -> u64
+    requires { unlabelled + 1 < 2 ^ 64 }
+    ensures behind { result ≡ unlabelled_behind unlabelled label }
+    ensures few { result ≤ unlabelled + 1 }
 {
     match label {
-        Some(_) => Ok(unlabelled),
-        // No memory holds so many rules that the count ends.
-        None => unlabelled.checked_add(1).ok_or(AllocError),
+        Some(_) => unlabelled,
+        None => unlabelled + 1,
     }
 }
 
@@ -89,6 +90,7 @@ fn rule_name(
     unlabelled: u64,
     label: Option<Span>,
 ) -> Result<Name, AllocError>
+    requires { unlabelled + 1 < 2 ^ 64 }
     ensures { IfOk result (λ name. name ≡ rule_name declared.now unlabelled label) }
 {
     if let Some(label) = label {
@@ -96,8 +98,7 @@ fn rule_name(
     }
     let mut name = Text::new(declared.alloc());
     name.append(b"qui/")?;
-    // No memory holds so many rules that the count ends.
-    name.number(unlabelled.checked_add(1).ok_or(AllocError)?)?;
+    name.number(unlabelled + 1)?;
     Name::new(declared.alloc(), name.bytes())
 }
 
@@ -110,6 +111,7 @@ fn rule_from(
     left: LeftSide,
     right: AtomList,
 ) -> Result<Rule, AllocError>
+    requires { unlabelled + 1 < 2 ^ 64 }
     ensures name { IfOk result (λ rule. rule.name ≡ rule_name declared.now unlabelled item.now.raw.now.label) }
     ensures group { IfOk result (λ rule. rule.group ≡ group_of declared.now item.now.home item.now.raw.now.left) }
     ensures vars { IfOk result (λ rule. rule.vars ≡ names_seen variables.now.firsts) }
@@ -139,7 +141,8 @@ fn rule_of(
     unlabelled: u64,
     item: &RuleRef,
 ) -> Result<Rule, AllocError>
-    requires { AreMet declared.now (rule_scope (rule_item item.now)) none_met variables.now }
+    requires few { unlabelled + 1 < 2 ^ 64 }
+    requires met { AreMet declared.now (rule_scope (rule_item item.now)) none_met variables.now }
     ensures { IfOk result (λ rule. IsRuleBy declared.now (rule_name declared.now unlabelled item.now.raw.now.label) (rule_item item.now) rule) }
 {
     let raw = item.raw;
@@ -164,6 +167,7 @@ fn rule_of(
 }
 
 fn rule(declared: &Declarations, unlabelled: u64, item: &RuleRef) -> Result<Rule, AllocError>
+    requires { unlabelled + 1 < 2 ^ 64 }
     ensures { IfOk result (λ rule. IsRuleBy declared.now (rule_name declared.now unlabelled item.now.raw.now.label) (rule_item item.now) rule) }
 {
     let variables = Variables::of_rule(declared, item.raw)?;
@@ -178,7 +182,7 @@ pub(crate) fn read_rules(declared: &Declarations, items: &[RuleRef]) -> Result<R
     let mut unlabelled = 0;
     for item in items {
         rules.push(rule(declared, unlabelled, item)?)?;
-        unlabelled = unlabelled_behind(unlabelled, item.raw.label)?;
+        unlabelled = unlabelled_behind(unlabelled, item.raw.label);
     }
     Ok(rules)
 }

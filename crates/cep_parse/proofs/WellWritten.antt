@@ -1,7 +1,7 @@
 -- What the grammar says of each item: the nodes of its atoms are their arguments, and its names and variables are tokens of these kinds.
 use Rattle.std.proofs.Common.{◌≡◌, ℕ, suc, ◌+◌, ◌≤◌, Bool, List, [], ◌∷◌, ◌++◌, length, refl, sym, subst, arith, append_assoc, length-append, Contains, if◌then◌else◌, true, false}
 use Rattle.std.proofs.lemmas.List.{append-nil, length-map}
-use Rattle.std.specs.Prelude.{Option, codes, bytes_eq}
+use Rattle.std.specs.Prelude.{Option, None, codes, bytes_eq}
 use Rattle.std.specs.List.{AllByRecursion}
 use Rattle.cep_lex.specs.declared.token.Token.{Token}
 use Rattle.cep_lex.specs.declared.token.TokenKind.{TokenKind}
@@ -17,8 +17,8 @@ use Rattle.cep_parse.specs.declared.symbol.Word.{Word}
 use Rattle.cep_parse.specs.declared.symbol.Word.TheVariants as word
 use Rattle.cep_parse.specs.Symbols.{symbol_of, symbols_of, word_of, slice_of, directive_word}
 use Rattle.cep_parse.specs.Grammar as grammar
-use Rattle.cep_parse.specs.Grammar.{Side, at, names}
-use Rattle.cep_parse.specs.Written.{IsTokenAt, IsNameAt, Fill, IsWrittenAt, IsAtomOf, IsElemOf, IsLabelOf, IsRuleOf, IsItemOf}
+use Rattle.cep_parse.specs.Grammar.{Side, at, place_of, names}
+use Rattle.cep_parse.specs.Written.{IsTokenAt, IsTokenFrom, IsNameAt, Fill, IsWrittenAt, IsAtomOf, IsElemOf, IsLabelOf, IsBegunAt, IsRuleOf, IsLimitOf, IsItemOf}
 
 -- what holds of two lists holds of both, one behind the other
 both_all : {A : Type 0} (P : A → Type 0) (xs ys : List A) → AllByRecursion P xs → AllByRecursion P ys → AllByRecursion P (xs ++ ys)
@@ -35,11 +35,33 @@ rest_all P [] ys all = all
 rest_all P (x ∷ xs) ys all = rest_all P xs ys all.1
 
 module _ (tokens : List Token) where
-  -- what is said of a symbol that is a name, and of one that is a variable
+  -- what is said of a symbol: it is a token of its word's kind
   abbrev IsSaid : Word → Span → Type 0
-  IsSaid word.Name span = IsNameAt tokens span
+  IsSaid word.Name span = IsTokenAt tokens token.Name span
   IsSaid word.Variable span = IsTokenAt tokens token.Variable span
-  IsSaid _ span = Unit {0}
+  IsSaid word.Blank span = IsTokenAt tokens token.Blank span
+  IsSaid word.Number span = IsTokenAt tokens token.Number span
+  IsSaid word.Colon span = IsTokenAt tokens token.Colon span
+  IsSaid word.Dot span = IsTokenAt tokens token.Dot span
+  IsSaid word.Comma span = IsTokenAt tokens token.Comma span
+  IsSaid word.Star span = IsTokenAt tokens token.Star span
+  IsSaid word.Dollar span = IsTokenAt tokens token.Dollar span
+  IsSaid word.Equals span = IsTokenAt tokens token.Equals span
+  IsSaid word.Open span = IsTokenAt tokens token.Open span
+  IsSaid word.Close span = IsTokenAt tokens token.Close span
+  IsSaid word.OpenBrace span = IsTokenAt tokens token.OpenBrace span
+  IsSaid word.CloseBrace span = IsTokenAt tokens token.CloseBrace span
+  IsSaid word.Lolli span = IsTokenAt tokens token.Lolli span
+  IsSaid word.Back span = IsTokenAt tokens token.Back span
+  IsSaid word.Type span = IsTokenAt tokens token.KwType span
+  IsSaid word.Pred span = IsTokenAt tokens token.KwPred span
+  IsSaid word.Bwd span = IsTokenAt tokens token.KwBwd span
+  IsSaid word.Stage span = IsTokenAt tokens token.KwStage span
+  IsSaid word.Context span = IsTokenAt tokens token.KwContext span
+  IsSaid word.Qui span = IsTokenAt tokens token.KwQui span
+  IsSaid word.Interactive span = IsTokenAt tokens token.Directive span
+  IsSaid word.Trace span = IsTokenAt tokens token.Directive span
+  IsSaid word.Other span = Unit {0}
 
   abbrev AllSaid : List Symbol → Type 0
   AllSaid symbols = AllByRecursion (λ symbol. IsSaid symbol.word symbol.at) symbols
@@ -104,13 +126,13 @@ module _ (tokens : List Token) where
     arg_nodes : (symbols : List Symbol) (nodes : List RawNode) → grammar.Arg symbols nodes → AreSaid symbols → AreNodes nodes
     arg_nodes _ _ (grammar.Arg.arg_name a) said = (said.all.0, tt)
     arg_nodes _ _ (grammar.Arg.arg_variable a) said = (said.all.0, tt)
-    arg_nodes _ _ (grammar.Arg.arg_blank a) said = (tt, tt)
+    arg_nodes _ _ (grammar.Arg.arg_blank a) said = (said.all.0, tt)
     arg_nodes _ _ (grammar.Arg.arg_term open_ close symbols nodes term) said = term_nodes symbols nodes term (front symbols _ (next _ _ said))
 
     term_nodes : (symbols : List Symbol) (nodes : List RawNode) → grammar.Term symbols nodes → AreSaid symbols → AreNodes nodes
     term_nodes _ _ (grammar.Term.applied a symbols args nodes all) said = (said.all.0, args_nodes symbols args nodes all (next _ _ said))
     term_nodes _ _ (grammar.Term.variable a) said = (said.all.0, tt)
-    term_nodes _ _ (grammar.Term.blank a) said = (tt, tt)
+    term_nodes _ _ (grammar.Term.blank a) said = (said.all.0, tt)
     term_nodes _ _ (grammar.Term.nested open_ close symbols nodes term) said = term_nodes symbols nodes term (front symbols _ (next _ _ said))
 
     args_nodes : (symbols : List Symbol) (args : ℕ) (nodes : List RawNode) → grammar.Args symbols args nodes → AreSaid symbols → AreNodes nodes
@@ -156,7 +178,7 @@ module _ (tokens : List Token) where
   elem_well _ _ _ (grammar.Elem.unit side open_ close) said = tt
   elem_well _ _ _ (grammar.Elem.atom side symbols a is) said = (atom_well symbols a is said, tt)
   elem_well _ _ _ (grammar.Elem.kept outer dollar symbols a is) said = (atom_well symbols a is (next _ _ said), tt)
-  elem_well _ _ _ (grammar.Elem.qui a) said = (tt, tt)
+  elem_well _ _ _ (grammar.Elem.qui a) said = (said.all.0, tt)
   elem_well _ _ _ (grammar.Elem.stage right stage_ a) said = ((next _ _ said).all.0, tt)
 
   stars_well : (side : Side) (symbols : List Symbol) (elems : List RawElem) → grammar.Stars side symbols elems → AreSaid symbols → AreElems elems
@@ -174,11 +196,36 @@ module _ (tokens : List Token) where
     elems_well _ after right is' (front after _ (next _ _ (back before _ said))),
   )
 
+  -- where a token begins
+  begun_at : (kind : TokenKind) (span : Span) → IsTokenAt tokens kind span → IsTokenFrom tokens kind span.from
+  begun_at kind span is = record { token = is.token; there = is.there; kind_is = is.kind_is; from_is = is.from_is }
+
+  elem_begun : (side : Side) (symbols : List Symbol) (elems : List RawElem) (rest more : List Symbol) → grammar.Elem side symbols elems → AreSaid symbols → IsBegunAt tokens None (place_of ((symbols ++ rest) ++ more))
+  elem_begun _ _ _ rest more (grammar.Elem.unit side open_ close) said = (token.Open, begun_at token.Open open_ said.all.0)
+  elem_begun _ _ _ rest more (grammar.Elem.atom side _ _ (grammar.Atom.atom a symbols args nodes all)) said = (token.Name, begun_at token.Name a said.all.0)
+  elem_begun _ _ _ rest more (grammar.Elem.kept outer dollar symbols a is) said = (token.Dollar, begun_at token.Dollar dollar said.all.0)
+  elem_begun _ _ _ rest more (grammar.Elem.qui a) said = (token.KwQui, begun_at token.KwQui a said.all.0)
+  elem_begun _ _ _ rest more (grammar.Elem.stage right stage_ a) said = (token.KwStage, begun_at token.KwStage stage_ said.all.0)
+
+  -- a rule without a label begins with its left side
+  sides_begun : (outer : Bool) (symbols : List Symbol) (left right : List RawElem) → grammar.Sides outer symbols left right → AreSaid symbols → IsBegunAt tokens None (place_of symbols)
+  sides_begun _ _ _ _ (grammar.Sides.sides outer arrow dot _ after _ right (grammar.Elems.elems side first rest elems others is further) is') said =
+      elem_begun side first elems rest (at word.Lolli arrow ∷ (after ++ at word.Dot dot ∷ [])) is (front first rest (front (first ++ rest) _ said))
+
+  outer_begun : (before symbols : List Symbol) (label : Option Span) (left right : List RawElem) → grammar.Label before label → grammar.Sides true symbols left right → AreSaid (before ++ symbols) → IsBegunAt tokens label (place_of (before ++ symbols))
+  outer_begun _ symbols _ left right grammar.Label.none is said = sides_begun true symbols left right is said
+  outer_begun _ symbols _ left right (grammar.Label.named a colon) is said = refl
+
+  -- the turns of a trace
+  limit_well : (mark : Symbol) (limit : Option Span) → grammar.Limit mark limit → IsSaid mark.word mark.at → IsLimitOf tokens limit
+  limit_well _ _ (grammar.Limit.blank a) said = tt
+  limit_well _ _ (grammar.Limit.number a) said = said
+
   rules_well : (symbols : List Symbol) (rules : List RawRule) → grammar.Rules symbols rules → AreSaid symbols → AreRules rules
   rules_well _ _ grammar.Rules.none said = tt
   rules_well _ _ (grammar.Rules.more a colon symbols rest left right rules is further) said =
       let sides = sides_well false symbols left right is (front symbols rest (next _ _ (next _ _ said))) in
-      (record { label = said.all.0; left = sides.0; right = sides.1 }, rules_well rest rules further (back symbols rest (next _ _ (next _ _ said))))
+      (record { begun = refl; label = said.all.0; left = sides.0; right = sides.1 }, rules_well rest rules further (back symbols rest (next _ _ (next _ _ said))))
 
   goals_well : (symbols : List Symbol) (goals : List RawAtom) → grammar.Goals symbols goals → AreSaid symbols → AreAtoms goals
   goals_well _ _ grammar.Goals.none said = tt
@@ -212,32 +259,44 @@ module _ (tokens : List Token) where
   item_well _ _ (grammar.Item.pred a colon pred_ dot args) said = (said.all.0, (names_well args _ (next _ _ said)).0)
   item_well _ _ (grammar.Item.back a colon bwd dot args) said = (said.all.0, (names_well args _ (next _ _ said)).0)
   item_well _ _ (grammar.Item.colon a colon_ b dot args) said = let spans = names_well args _ (next _ _ said) in (said.all.0, spans.0, (next _ _ spans.1).all.0)
-  item_well _ _ (grammar.Item.bare_clause dot symbols head is) said = (atom_well symbols head is (front symbols _ said), tt)
-  item_well _ _ (grammar.Item.labelled a colon_ dot symbols head is some) said = (atom_well symbols head is (front symbols _ (next _ _ (next _ _ said))), tt)
+  item_well _ _ (grammar.Item.bare_clause dot symbols head is) said = (tt, (atom_well symbols head is (front symbols _ said), tt))
+  item_well _ _ (grammar.Item.labelled a colon_ dot symbols head is some) said = (said.all.0, (atom_well symbols head is (front symbols _ (next _ _ (next _ _ said))), tt))
   item_well _ _ (grammar.Item.clause arrow dot before symbols first rest label head goal goals labelled is is' further) said =
-      let behind = (label_well before _ label labelled said).1 in
-      let later = next _ _ (back symbols _ behind) in (
-        atom_well symbols head is (front symbols _ behind),
+      let behind = label_well before _ label labelled said in
+      let later = next _ _ (back symbols _ behind.1) in (
+        behind.0,
         (
-          atom_well first goal is' (front first _ later),
-          goals_well rest goals further (front rest _ (back first _ later)),
+          atom_well symbols head is (front symbols _ behind.1),
+          (
+            atom_well first goal is' (front first _ later),
+            goals_well rest goals further (front rest _ (back first _ later)),
+          ),
         ),
       )
   item_well _ _ (grammar.Item.outer before symbols label left right labelled is) said =
       let behind = label_well before symbols label labelled said in
       let sides = sides_well true symbols left right is behind.1 in
-      record { label = behind.0; left = sides.0; right = sides.1 }
+      record { begun = outer_begun before symbols label left right labelled is said; label = behind.0; left = sides.0; right = sides.1 }
   item_well _ _ (grammar.Item.unnamed blank colon_ symbols left right is) said =
       let sides = sides_well true symbols left right is (next _ _ (next _ _ said)) in
-      record { label = tt; left = sides.0; right = sides.1 }
+      record { begun = (token.Blank, begun_at token.Blank blank said.all.0); label = tt; left = sides.0; right = sides.1 }
   item_well _ _ (grammar.Item.stage stage_ a equals open_ close symbols ending rules is dot_is) said =
       ((next _ _ said).all.0, rules_well symbols rules is (front symbols _ (next _ _ (next _ _ (next _ _ (next _ _ said))))))
   item_well _ _ (grammar.Item.context context_ a equals open_ symbols ending atoms is dot_is) said =
       ((next _ _ said).all.0, bag_well symbols atoms is (front symbols _ (next _ _ (next _ _ (next _ _ (next _ _ said))))))
   item_well _ _ (grammar.Item.interactive directive a dot) said = (next _ _ said).all.0
-  item_well _ _ (grammar.Item.trace_named directive stage_ a dot mark limit is) said = ((next _ _ (next _ _ said)).all.0, (next _ _ (next _ _ (next _ _ said))).all.0)
-  item_well _ _ (grammar.Item.trace_listed directive stage_ open_ dot mark limit symbols atoms is bag) said =
-      ((next _ _ (next _ _ said)).all.0, bag_well symbols atoms bag (front symbols _ (next _ _ (next _ _ (next _ _ (next _ _ said))))))
+  item_well _ _ (grammar.Item.trace_named directive stage_ a dot mark limit is) said = (
+    begun_at token.Directive directive said.all.0,
+    limit_well mark limit is (next _ _ said).all.0,
+    (next _ _ (next _ _ said)).all.0,
+    (next _ _ (next _ _ (next _ _ said))).all.0,
+  )
+  item_well _ _ (grammar.Item.trace_listed directive stage_ open_ dot mark limit symbols atoms is bag) said = (
+    begun_at token.Directive directive said.all.0,
+    limit_well mark limit is (next _ _ said).all.0,
+    (next _ _ (next _ _ said)).all.0,
+    bag_well symbols atoms bag (front symbols _ (next _ _ (next _ _ (next _ _ (next _ _ said))))),
+  )
 
   file_well : (symbols : List Symbol) (items : List RawItem) → grammar.File symbols items → AreSaid symbols → AreItems items
   file_well _ _ grammar.File.none said = tt
@@ -245,40 +304,40 @@ module _ (tokens : List Token) where
       (item_well first item_ is (front first rest said), file_well rest items further (back first rest said))
 
   -- what a directive is
-  directive_said : (bytes : List ℕ) (span : Span) → IsSaid (directive_word bytes) span
-  directive_said bytes span = first (bytes_eq bytes (codes "#interactive")) (bytes_eq bytes (codes "#trace"))
+  directive_said : (bytes : List ℕ) (span : Span) → IsTokenAt tokens token.Directive span → IsSaid (directive_word bytes) span
+  directive_said bytes span is = first (bytes_eq bytes (codes "#interactive")) (bytes_eq bytes (codes "#trace"))
     where
       first : (one other : Bool) → IsSaid (if one then word.Interactive else (if other then word.Trace else word.Other)) span
-      first true other = tt
-      first false true = tt
+      first true other = is
+      first false true = is
       first false false = tt
 
   -- a token as a symbol
   token_said : (bytes : List ℕ) (kind : TokenKind) (span : Span) → IsTokenAt tokens kind span → IsSaid (word_of kind bytes) span
+  token_said bytes token.Directive span is = directive_said bytes span is
+  token_said bytes token.KwFact span is = tt
   token_said bytes token.Name span is = is
   token_said bytes token.Variable span is = is
-  token_said bytes token.Directive span is = directive_said bytes span
-  token_said bytes token.Blank span is = tt
-  token_said bytes token.Number span is = tt
-  token_said bytes token.Colon span is = tt
-  token_said bytes token.Dot span is = tt
-  token_said bytes token.Comma span is = tt
-  token_said bytes token.Star span is = tt
-  token_said bytes token.Dollar span is = tt
-  token_said bytes token.Equals span is = tt
-  token_said bytes token.Open span is = tt
-  token_said bytes token.Close span is = tt
-  token_said bytes token.OpenBrace span is = tt
-  token_said bytes token.CloseBrace span is = tt
-  token_said bytes token.Lolli span is = tt
-  token_said bytes token.Back span is = tt
-  token_said bytes token.KwType span is = tt
-  token_said bytes token.KwPred span is = tt
-  token_said bytes token.KwBwd span is = tt
-  token_said bytes token.KwFact span is = tt
-  token_said bytes token.KwStage span is = tt
-  token_said bytes token.KwContext span is = tt
-  token_said bytes token.KwQui span is = tt
+  token_said bytes token.Blank span is = is
+  token_said bytes token.Number span is = is
+  token_said bytes token.Colon span is = is
+  token_said bytes token.Dot span is = is
+  token_said bytes token.Comma span is = is
+  token_said bytes token.Star span is = is
+  token_said bytes token.Dollar span is = is
+  token_said bytes token.Equals span is = is
+  token_said bytes token.Open span is = is
+  token_said bytes token.Close span is = is
+  token_said bytes token.OpenBrace span is = is
+  token_said bytes token.CloseBrace span is = is
+  token_said bytes token.Lolli span is = is
+  token_said bytes token.Back span is = is
+  token_said bytes token.KwType span is = is
+  token_said bytes token.KwPred span is = is
+  token_said bytes token.KwBwd span is = is
+  token_said bytes token.KwStage span is = is
+  token_said bytes token.KwContext span is = is
+  token_said bytes token.KwQui span is = is
 
   -- tokens among these as symbols
   symbols_said : (text : List ℕ) (some : List Token) → ((one : Token) → Contains some one → Contains tokens one) → AllSaid (symbols_of text some)

@@ -15,8 +15,10 @@ pub fn one_raw_file()
     ensures { (symbols : List Symbol) (one : List RawItem) (other : List RawItem) → File symbols one → File symbols other → one ≡ other }
 {}
 
-/// The items of a raw file are made of its tokens: names stand at names and variables at variables,
-/// and the nodes of each atom are its arguments. There are no more items than tokens.
+/// The items of a raw file are made of its tokens: names stand at names, variables at variables,
+/// blanks at `_`, `qui` at `qui`, and the number of a trace at a number; rules and traces are where
+/// one of the tokens begins; and the nodes of each atom are its arguments. There are no more items
+/// than tokens.
 pub fn items_are_made_of_tokens()
     ensures made { (text : List ℕ) (tokens : List Token) (file : List RawItem)
         → File (symbols_of text tokens) file

@@ -72,4 +72,5 @@ pub record AreMet (source : Source) (atoms : List RawAtom) (old new : Variables)
 -- the head of a node by its number
 abbrev pub head_by : RawKind → ℕ → ℕ → Head
 head_by kind.App number args = con number args
-head_by _ number args = var number
+head_by kind.Var number args = var number
+head_by kind.Blank number args = var number

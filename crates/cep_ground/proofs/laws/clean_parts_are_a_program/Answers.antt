@@ -7,5 +7,6 @@ returns c source parts clean bound are none =
     (c.atoms_are_made_of_tokens.ensures.made source)
     (c.items_are_made_of_tokens.ensures.made source.text clean.is_source.tokens source.file clean.is_source.parsed)
     (c.items_are_made_of_tokens.ensures.few source.text clean.is_source.tokens source.file clean.is_source.parsed)
+    (record { written = c.start_atoms_are_ground.ensures.written; closed = c.start_atoms_are_ground.ensures.closed; ground = c.start_atoms_are_ground.ensures.ground })
     c.bags_are_lawful.ensures
     bound parts are none

@@ -3,6 +3,6 @@ use Rattle.cep_infer.proofs.places.place_all.Goals as goal
 
 pub loop-at-preserved : goal.loop-at-preserved
 loop-at-preserved c = record {
-  reached = c.in_ok-reached.ensures.reached;
-  places = places_more c.args.text.now c.args.ats.now c.loop-at.at-index 0 c.loop-at.places c.push.new.self c.in_ok-reached.field-0.pos c.loop-at-test.true c.loop-at.invariant.places c.in_ok-reached.ensures.there c.in_ok-push.ensures.ok;
+  reached = c.reach.ensures.reached;
+  places = places_more c.args.text.now c.args.ats.now c.loop-at.at-index 0 c.loop-at.places c.push.new.self c.reach.result.pos c.loop-at-test.true c.loop-at.invariant.places c.reach.ensures.there c.in_ok-push.ensures.ok;
 }

@@ -3,11 +3,11 @@ use Rattle.cep_infer.proofs.places.reach.Goals as goal
 
 pub returns-clause-reached : goal.returns-clause-reached
 returns-clause-reached c =
-    reached_is c.args.text.now c.start_before-start.result c.args.at c.min-to.result c.in_ok-pos.pos c.min-to.ensures c.start_before-start.ensures.before
-    (c.start_before-start.ensures.reached c.args.text.now c.requires) c.in_ok-pos.ensures
+    reached_is c.args.text.now c.start_before-start.result c.args.at c.min-to.result c.passed_all-pos.result c.min-to.ensures c.start_before-start.ensures.before
+    (c.start_before-start.ensures.reached c.args.text.now c.requires.reached) c.passed_all-pos.ensures
 
 pub returns-clause-there : goal.returns-clause-there
 returns-clause-there c =
-    place_there c.args.text.now c.args.at c.min-to.result c.in_ok-pos.pos c.min-to.ensures
-    (reached_is c.args.text.now c.start_before-start.result c.args.at c.min-to.result c.in_ok-pos.pos c.min-to.ensures c.start_before-start.ensures.before
-    (c.start_before-start.ensures.reached c.args.text.now c.requires) c.in_ok-pos.ensures)
+    place_there c.args.text.now c.args.at c.min-to.result c.passed_all-pos.result c.min-to.ensures
+    (reached_is c.args.text.now c.start_before-start.result c.args.at c.min-to.result c.passed_all-pos.result c.min-to.ensures c.start_before-start.ensures.before
+    (c.start_before-start.ensures.reached c.args.text.now c.requires.reached) c.passed_all-pos.ensures)

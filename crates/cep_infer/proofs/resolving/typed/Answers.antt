@@ -1,4 +1,4 @@
-use Rattle.std.proofs.Common.{sym, subst}
+use Rattle.std.proofs.Common.{◌≤◌, length, sym, subst}
 use Rattle.cep_refusal.specs.First.{IsFirstOrNone}
 use Rattle.cep_names.specs.Items.{Source}
 use Rattle.cep_types.specs.Sites.{Mistyped}
@@ -13,10 +13,10 @@ returns-in-Some c =
     (subst (λ (s : Source). IsFirstOrNone (Mistyped s) c.in_ok-fault.field-0) c.in_ok-declared.ensures c.in_ok-fault.ensures)
 
 pub unwrap-trace-requires : goal.unwrap-trace-requires
-unwrap-trace-requires c = some_trace c.in_ok-declared.declared (subst IsWellNamed (sym c.in_ok-declared.ensures) c.requires.sound) c.first_trace.result c.first_trace.ensures
+unwrap-trace-requires c = some_trace c.in_ok-declared.declared (subst IsWellNamed (sym c.in_ok-declared.ensures) c.requires.sound.sound) c.first_trace.result c.first_trace.ensures
 
 pub draft_from-requires-clause-named : goal.draft_from-requires-clause-named
-draft_from-requires-clause-named c = subst IsWellNamed (sym c.in_ok-declared.ensures) c.requires.sound
+draft_from-requires-clause-named c = subst IsWellNamed (sym c.in_ok-declared.ensures) c.requires.sound.sound
 
 pub returns : goal.returns
 returns c =
@@ -24,3 +24,6 @@ returns c =
       subst (IsFirstOrNone (Mistyped source)) c.in_default.is (subst (λ (s : Source). IsFirstOrNone (Mistyped s) c.in_ok-fault.field-0) c.in_ok-declared.ensures c.in_ok-fault.ensures),
       subst (λ (s : Source). IsDraft s c.in_ok-draft_from.field-0) c.in_ok-declared.ensures c.in_ok-draft_from.ensures,
     )
+
+pub draft_from-requires-clause-short : goal.draft_from-requires-clause-short
+draft_from-requires-clause-short c = subst (λ (s : Source). length s.text ≤ 1048576) (sym c.in_ok-declared.ensures) c.requires.short

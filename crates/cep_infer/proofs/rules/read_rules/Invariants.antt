@@ -1,4 +1,4 @@
-use Rattle.std.proofs.Common.{◌≡◌, map, take}
+use Rattle.std.proofs.Common.{◌≡◌, ◌≤◌, map, take}
 use Rattle.cep_names.specs.Spaces.{rule_names_from}
 use Rattle.cep_infer.specs.Meaning.{AreRulesBy}
 use Rattle.cep_infer.specs.Listed.{rule_item}
@@ -9,4 +9,5 @@ abbrev pub invariant-loop-item : goal.invariant-loop-item
 invariant-loop-item l = record {
   rules : AreRulesBy l.declared (map (λ named. named.name) (rule_names_from l.declared 0 (map rule_item (take l.item-index l.items)))) (map rule_item (take l.item-index l.items)) l.rules;
   unlabelled : l.unlabelled ≡ unlabelled_over 0 (map rule_item (take l.item-index l.items));
+  few : l.unlabelled ≤ l.item-index;
 }

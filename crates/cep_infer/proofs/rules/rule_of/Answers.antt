@@ -14,7 +14,7 @@ returns c =
     let item = c.args.item.now in
     let variables = c.args.variables.now in
     rule_answered source (rule_name source c.args.unlabelled item.raw.now.label) (rule_item item) variables c.rule_from.result c.push_left.new.blanks c.push_side.new.blanks c.new-left.result c.push_left.new.left c.new-right.result c.push_side.new.atoms
-    c.requires c.rule_from.ensures.vars c.rule_from.ensures.kinds c.rule_from.ensures.name c.rule_from.ensures.group c.rule_from.ensures.next c.new-left.ensures.none c.new-left.ensures.none_back
+    c.requires.met c.rule_from.ensures.vars c.rule_from.ensures.kinds c.rule_from.ensures.name c.rule_from.ensures.group c.rule_from.ensures.next c.new-left.ensures.none c.new-left.ensures.none_back
     (subst (λ (side : List RawElem). IsLeftBuilt source (names_seen variables.firsts) side 0 c.push_left.new.blanks c.new-left.result c.push_left.new.left) c.as_slice.ensures c.in_ok-push_left.ensures)
     c.rule_from.ensures.premises c.rule_from.ensures.backs c.new-right.ensures
     (subst (λ (side : List RawElem). AreBuilt source (names_seen variables.firsts) (atoms_of side) c.push_left.new.blanks c.push_side.new.blanks c.new-right.result c.push_side.new.atoms) c.as_slice-2.ensures c.in_ok-push_side.ensures)

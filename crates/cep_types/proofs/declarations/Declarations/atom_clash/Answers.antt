@@ -15,7 +15,7 @@ loop-node-preserved c =
     let source = c.args.self.now in
     let f = clash_of source (type_met source c.args.variables.now.firsts) in
     let nodes = c.as_slice-node-items.result.now in
-    clash_more source f _ nodes c.loop-node.node-index _ (map (said source) c.loop-node.pending) (map (said source) c.site.new.pending) (said source c.in_ok-wants.wants) c.loop-node.first c.clash.result c.note.new.first c.loop-node-test.true
+    clash_more source f _ nodes c.loop-node.node-index _ (map (said source) c.loop-node.pending) (map (said source) c.site.new.pending) (said source c.in_ok-wants.wants) c.loop-node.first c.clash.result c.note.new.self c.loop-node-test.true
     (c.in_ok-wants.ensures (drop (c.loop-node.node-index + 1) nodes)) c.loop-node.invariant c.clash.ensures c.note.ensures
 
 pub returns : goal.returns
@@ -23,6 +23,6 @@ returns c =
     let source = c.args.self.now in
     let f = clash_of source (type_met source c.args.variables.now.firsts) in
     let nodes = c.as_slice-node-items.result.now in
-    clash_over source f (first_in (flat_map f (sites_from source (map (said source) c.in_ok-pending.pending) nodes))) nodes c.loop-node.node-index (map (said source) c.loop-node.pending) c.loop-node.first c.loop-node-test.false c.loop-node.invariant
+    c.found.ensures ∙ clash_over source f (first_in (flat_map f (sites_from source (map (said source) c.in_ok-pending.pending) nodes))) nodes c.loop-node.node-index (map (said source) c.loop-node.pending) c.loop-node.first c.loop-node-test.false c.loop-node.invariant
     ∙ ap (λ types. first_in (flat_map f (sites_from source types nodes))) c.in_ok-pending.ensures
     ∙ ap (λ (ns : List RawNode). first_in (flat_map f (sites_from source (pred_types source (pred_named source (said source c.args.atom.now.name))) ns))) c.as_slice-node-items.ensures

@@ -5,11 +5,9 @@ use Rattle.std.proofs.lemmas.List.Folds.{flat_map-map}
 use Rattle.cep_parse.specs.declared.raw.RawRule.{RawRule}
 use Rattle.cep_parse.specs.declared.raw.RawAtom.{RawAtom}
 use Rattle.cep_parse.specs.declared.raw.RawItem.{RawItem}
-use Rattle.cep_parse.specs.declared.raw.RawItem.TheVariants as item
-use Rattle.cep_parse.specs.declared.raw.RawStart.{RawStart}
 use Rattle.cep_refusal.specs.declared.fault.Fault.{Fault}
 use Rattle.cep_refusal.specs.First.{first_in}
-use Rattle.cep_parse.specs.Raw.{atoms_of}
+use Rattle.cep_parse.specs.Raw.{atoms_of, start_listed}
 use Rattle.cep_types.specs.Clashes.{scope_clashes, item_scopes}
 use Rattle.cep_types.proofs.declarations.Declarations.item_clash.Goals as goal
 
@@ -31,12 +29,11 @@ returns-in-Context c =
     ∙ ap (λ (x : RawItem). flat_map (scope_clashes source) (item_scopes x)) (sym c.in-Context.is))
     c.states_clash.ensures
 
-pub returns-in-Listed : goal.returns-in-Listed
-returns-in-Listed c =
+pub returns-in-Trace : goal.returns-in-Trace
+returns-in-Trace c =
     let source = c.args.self.now in
     let scope = λ (atom : RawAtom). atom ∷ [] in
-    subst (λ (fs : List Fault). IfOk c.states_clash-in-Listed.result (λ first. first ≡ first_in fs))
-    (ap (flat_map (λ atom. scope_clashes source (scope atom))) c.as_slice-in-Listed.ensures ∙ sym (flat_map-map (scope_clashes source) scope c.in-Listed.atoms)
-    ∙ ap (λ (start : RawStart). flat_map (scope_clashes source) (item_scopes (item.Trace c.in-Trace.at c.in-Trace.limit c.in-Trace.stage start))) (sym c.in-Listed.is)
+    subst (λ (fs : List Fault). IfOk c.states_clash-in-Trace.result (λ first. first ≡ first_in fs))
+    (ap (flat_map (λ atom. scope_clashes source (scope atom))) c.listed.ensures ∙ sym (flat_map-map (scope_clashes source) scope (start_listed c.in-Trace.start))
     ∙ ap (λ (x : RawItem). flat_map (scope_clashes source) (item_scopes x)) (sym c.in-Trace.is))
-    c.states_clash-in-Listed.ensures
+    c.states_clash-in-Trace.ensures

@@ -1,6 +1,0 @@
-use Rattle.std.proofs.Common.{◌≡◌, take, min}
-use Rattle.std.specs.Str.Parse.{digits_value}
-use Rattle.cep_faults.proofs.items.is_turn_limit.Given as goal
-
-abbrev pub invariant-loop-digit : goal.invariant-loop-digit
-invariant-loop-digit l = l.turns ≡ min (digits_value 10 (take l.digit-index l.digits)) 1000001
