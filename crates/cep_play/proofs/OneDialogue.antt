@@ -12,7 +12,7 @@ use Rattle.cep_rule.specs.Steps.{AreProofs}
 use Rattle.cep_play.specs.declared.settings.Settings.{Settings}
 use Rattle.cep_play.specs.Deciding.{Supply}
 use Rattle.cep_play.specs.Lines.{header}
-use Rattle.cep_play.specs.Run.{Position, start_of, whole_supply, Turn, Ending, IsTurn, AreTurns, Run, bare}
+use Rattle.cep_play.specs.Run.{Position, start_of, whole_supply, Turn, Ending, IsTurn, AreTurns, Run, unproved}
 use Rattle.cep_play.specs.Dialogue.{events_of, Dialogue}
 use Rattle.cep_play.proofs.Turns.{all_at}
 
@@ -24,19 +24,19 @@ no_proofs program height (proof ∷ proofs) are = absurd are
 -- that one run is there, told for any two
 abbrev pub IsOneRun : Parts → Settings → Type 0
 IsOneRun program settings =
-    (at : Position) (from : Supply) (turns turns' : List Turn) (ending ending' : Ending) (to to' : Supply) → Run program settings at from turns ending to → Run program settings at from turns' ending' to' → (map bare turns ≡ map bare turns') × (ending ≡ ending') × (to ≡ to')
+    (at : Position) (from : Supply) (turns turns' : List Turn) (ending ending' : Ending) (to to' : Supply) → Run program settings at from turns ending to → Run program settings at from turns' ending' to' → (map unproved turns ≡ map unproved turns') × (ending ≡ ending') × (to ≡ to')
 
 module _ (program : Parts) (settings : Settings) (one : IsOneRun program settings) where
   module _ (plain : AllByRecursion (λ rule. rule.backs ≡ []) program.rules) where
     -- a turn has no derivations
-    bare_turn : (at : Position) (from : Supply) (turn : Turn) → IsTurn program settings at from turn → bare turn ≡ turn
+    bare_turn : (at : Position) (from : Supply) (turn : Turn) → IsTurn program settings at from turn → unproved turn ≡ turn
     bare_turn at from turn is =
         let none = all_at (λ rule. rule.backs ≡ []) program.rules plain turn.offer.rule turn.rule is.chosen.of_rule in
         let proofs = no_proofs program settings.height turn.proofs (subst (λ atoms. AreProofs program settings.height turn.proofs (full_instances turn.offer.values atoms)) none is.proved) in
         let same = sym proofs in
         λ i. record turn { proofs = same i }
 
-    bare_turns : (at : Position) (from : Supply) (turns : List Turn) (last : Position) (to : Supply) → AreTurns program settings at from turns last to → map bare turns ≡ turns
+    bare_turns : (at : Position) (from : Supply) (turns : List Turn) (last : Position) (to : Supply) → AreTurns program settings at from turns last to → map unproved turns ≡ turns
     bare_turns at from [] last to done = refl
     bare_turns at from (turn ∷ turns) last to done =
         let first = bare_turn at from turn done.0 in

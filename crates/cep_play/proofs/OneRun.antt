@@ -18,7 +18,7 @@ use Rattle.cep_play.specs.declared.ending.EndWord.{EndWord}
 use Rattle.cep_play.specs.declared.ending.EndWord.TheVariants.{Quiet, Turns, Offers, Atom, State}
 use Rattle.cep_play.specs.declared.settings.Settings.{Settings}
 use Rattle.cep_play.specs.Deciding.{Supply, How, Heard, Lone, Drawn, Decides}
-use Rattle.cep_play.specs.Run.{Position, Question, Turn, Ending, IsQuestion, IsChosen, IsTurn, AreTurns, PassesLimit, EndsUnasked, LeadsNowhere, EndsAt, Run, bare}
+use Rattle.cep_play.specs.Run.{Position, Question, Turn, Ending, IsQuestion, IsChosen, IsTurn, AreTurns, PassesLimit, EndsUnasked, LeadsNowhere, EndsAt, Run, unproved}
 use Rattle.cep_play.proofs.OneReading.{one_hearing}
 
 -- a stage asks one group
@@ -112,7 +112,7 @@ module _ (one_list : (program : Parts) (height : ℕ) (state : Multiset) (group 
 
   -- one turn is done at a position, but for its derivations
   pub record SameTurn (turn turn' : Turn) : Type 0 where
-    pub turns : bare turn ≡ bare turn'
+    pub turns : unproved turn ≡ unproved turn'
     pub afters : turn.after ≡ turn'.after
     pub lefts : turn.left ≡ turn'.left
 
@@ -218,7 +218,7 @@ module _ (one_list : (program : Parts) (height : ℕ) (state : Multiset) (group 
 
   -- what is there after two runs is the same
   pub record SameRun (turns turns' : List Turn) (last last' : Position) (word word' : EndWord) (asked asked' : Option Question) (to to' : Supply) : Type 0 where
-    pub turns_are : map bare turns ≡ map bare turns'
+    pub turns_are : map unproved turns ≡ map unproved turns'
     pub lasts : last ≡ last'
     pub end : SameEnd word word' asked asked' to to'
 
@@ -249,7 +249,7 @@ module _ (one_list : (program : Parts) (height : ℕ) (state : Multiset) (group 
       record { turns_are = λ i. first i ∷ others i; lasts = later.lasts; end = later.end }
 
   -- one run: the same turns but for derivations, the same ending, and the same supply left
-  pub one_run : (at : Position) (from : Supply) (turns turns' : List Turn) (ending ending' : Ending) (to to' : Supply) → Run program settings at from turns ending to → Run program settings at from turns' ending' to' → (map bare turns ≡ map bare turns') × (ending ≡ ending') × (to ≡ to')
+  pub one_run : (at : Position) (from : Supply) (turns turns' : List Turn) (ending ending' : Ending) (to to' : Supply) → Run program settings at from turns ending to → Run program settings at from turns' ending' to' → (map unproved turns ≡ map unproved turns') × (ending ≡ ending') × (to ≡ to')
   one_run at from turns turns' ending ending' to to' run run' =
       let same = one_run_of at from turns turns' run.last run'.last run.between run'.between ending.word ending'.word ending.question ending'.question to to' run.done run'.done run.ends run'.ends in
       let words = same.end.words in

@@ -14,7 +14,7 @@ use Rattle.cep_play.specs.Deciding.{Supply}
 use Rattle.cep_play.specs.Lines.{end_lines, header}
 use Rattle.cep_play.specs.Run.{Position, start_of, whole_supply, Turn, Ending, IsTurn, AreTurns, EndsAt}
 use Rattle.cep_play.specs.Dialogue.{turn_events, last_events, Dialogue}
-use Rattle.cep_play.specs.Turn.{undrawn, DoesTurn, Stops, SoFar, Runs}
+use Rattle.cep_play.specs.Turn.{undrawn, DoesTurn, Stops, SoFar, IsWholeRun}
 
 -- one more turn behind others
 turns_behind : (program : Parts) (settings : Settings) (at : Position) (from : Supply) (turns : List Turn) (last : Position) (between : Supply) (turn : Turn) → AreTurns program settings at from turns last between → IsTurn program settings last between turn → AreTurns program settings at from (turns ++ turn ∷ []) turn.after turn.left
@@ -38,7 +38,7 @@ module _ (program : Parts) (settings : Settings) (start : Position) where
     }
 
     -- the run ends within a turn
-    pub run_stops : (word : EndWord) (taken' : ℕ) (come : List ℕ) (first : List Event) (between : List ℕ) (second : List Event) (rest : List ℕ) → SoFar program settings start at taken come first between → Stops program settings at taken word taken' between second rest → Runs program settings word start at come (first ++ second) rest
+    pub run_stops : (word : EndWord) (taken' : ℕ) (come : List ℕ) (first : List Event) (between : List ℕ) (second : List Event) (rest : List ℕ) → SoFar program settings start at taken come first between → Stops program settings at taken word taken' between second rest → IsWholeRun program settings word start at come (first ++ second) rest
     run_stops word taken' come first between second rest so stop = record {
       turns = so.turns;
       between = undrawn between taken;
@@ -50,7 +50,7 @@ module _ (program : Parts) (settings : Settings) (start : Position) where
       rest_is = refl;
     }
 
-    run_over : (word : EndWord) (come : List ℕ) (events : List Event) (rest : List ℕ) → EndsAt program settings at (undrawn rest taken) word None (undrawn rest taken) → SoFar program settings start at taken come events rest → Runs program settings word start at come events rest
+    run_over : (word : EndWord) (come : List ℕ) (events : List Event) (rest : List ℕ) → EndsAt program settings at (undrawn rest taken) word None (undrawn rest taken) → SoFar program settings start at taken come events rest → IsWholeRun program settings word start at come events rest
     run_over word come events rest ends so = record {
       turns = so.turns;
       between = undrawn rest taken;
@@ -63,11 +63,11 @@ module _ (program : Parts) (settings : Settings) (start : Position) where
     }
 
     -- the run is quiet after its last turn
-    pub run_quiets : (come : List ℕ) (events : List Event) (rest : List ℕ) → IsQuiet program settings.height at.spot.state at.spot.stage → SoFar program settings start at taken come events rest → Runs program settings Quiet start at come events rest
+    pub run_quiets : (come : List ℕ) (events : List Event) (rest : List ℕ) → IsQuiet program settings.height at.spot.state at.spot.stage → SoFar program settings start at taken come events rest → IsWholeRun program settings Quiet start at come events rest
     run_quiets come events rest is so = run_over Quiet come events rest (is, refl) so
 
     -- all turns are done
-    pub run_is_over : (group : ℕ) (come : List ℕ) (events : List Event) (rest : List ℕ) → IsAsked program settings.height at.spot.state at.spot.stage group → at.turns ≡ settings.limit → SoFar program settings start at taken come events rest → Runs program settings Turns start at come events rest
+    pub run_is_over : (group : ℕ) (come : List ℕ) (events : List Event) (rest : List ℕ) → IsAsked program settings.height at.spot.state at.spot.stage group → at.turns ≡ settings.limit → SoFar program settings start at taken come events rest → IsWholeRun program settings Turns start at come events rest
     run_is_over group come events rest asked all so = run_over Turns come events rest (((group, asked), all), refl) so
 
 -- all turns and the end, from some bytes to come
@@ -75,7 +75,7 @@ pub record RunFrom (program : Parts) (settings : Settings) (word : EndWord) (sta
   pub turns : List Event
   pub end : List Event
   pub whole : events ≡ turns ++ end
-  pub runs : Runs program settings word start last come turns rest
+  pub runs : IsWholeRun program settings word start last come turns rest
   pub ends : end ≡ outs (end_lines program.signature word last.spot.state)
 
 -- a dialogue with its end word
@@ -86,8 +86,8 @@ pub record IsTold (program : Parts) (settings : Settings) (word : EndWord) (come
   pub word_is : ending.word ≡ word
 
 module _ (program : Parts) (settings : Settings) (word : EndWord) (start last : Position) where
-  pub run_ends : (come late rest : List ℕ) (second third : List Event) → Runs program settings word start last come second late → (third ≡ outs (end_lines program.signature word last.spot.state)) × (rest ≡ late) → RunFrom program settings word start last come (second ++ third) rest
-  run_ends come late rest second third runs ends = record { turns = second; end = third; whole = refl; runs = subst (λ bytes. Runs program settings word start last come second bytes) (sym ends.1) runs; ends = ends.0 }
+  pub run_ends : (come late rest : List ℕ) (second third : List Event) → IsWholeRun program settings word start last come second late → (third ≡ outs (end_lines program.signature word last.spot.state)) × (rest ≡ late) → RunFrom program settings word start last come (second ++ third) rest
+  run_ends come late rest second third runs ends = record { turns = second; end = third; whole = refl; runs = subst (λ bytes. IsWholeRun program settings word start last come second bytes) (sym ends.1) runs; ends = ends.0 }
 
   -- The header, all turns and the end are a dialogue.
   pub whole_dialogue : (come middle rest : List ℕ) (first others : List Event) → start ≡ start_of program → (first ≡ outs (header program settings.height)) × (middle ≡ come) → RunFrom program settings word start last middle others rest → IsTold program settings word come (first ++ others) rest

@@ -42,7 +42,7 @@ use Rattle.cep_play.specs.Lines.{question, step_line, step_lines, by_lines, next
 use Rattle.cep_play.specs.Run.{Position, Question, Turn, IsQuestion, IsChosen, IsTurn, PassesLimit, EndsAt}
 use Rattle.cep_play.specs.Dialogue.{turn_events, question_events}
 use Rattle.cep_play.specs.Turn.{position_of, undrawn, IsPlayed, AsksPlayer, IsPlaced, Acts, WouldPass, limit_word, IsActed, DoesTurn, Stops, IsTurned}
-use Rattle.cep_play.proofs.Did.{did_then}
+use Rattle.cep_play.proofs.Did.{did_same, did_map, did_then}
 
 none_some : {A B : Type 0} (x : A) → ◌≡◌ {A = Option A} None (Some x) → B
 none_some x e = cc
@@ -302,3 +302,53 @@ module _ {C M : Type 0} (talk : C → Option (List Event)) (left : C → Option 
     did_then talk left old between new _ _ _ (λ come first middle others rest asks fails. failed_turn program settings (position_of config) taken group offers here remain few taken' place come middle rest first others asks last.word fails) heard acted.0,
     acted.1,
   )
+
+-- What a configuration asks, by its matcher: the lists that are held are those of the group, whatever view of the matcher they are taken from.
+module _ {M : Type 0} (is_of : Parts → M → Type 0) (height_held : M → ℕ) (state_held : M → Multiset) (offers_held : M → List (List Offer)) (program : Parts) (settings : Settings) (config : Configuration M) (group : ℕ)
+    (kept : IsProgram program) (built : IsBuilt program) (played : IsPlayed is_of height_held program settings config)
+    (lists : AreListed program (height_held config.matcher) (state_held config.matcher) (offers_held config.matcher)) (same_state : state_held config.matcher ≡ config.state)
+    (low : 2 * config.stage + 1 < length (offers_held config.matcher)) (asked_in : IsAskedIn (offers_held config.matcher) config.stage group)
+    (asked : IsAsked program (height_held config.matcher) config.state config.stage group) where
+  pub asks_here : IsAskedHere program settings (position_of config) group (offers_of (offers_held config.matcher) group)
+  asks_here = asked_here is_of height_held program settings group (height_held config.matcher) (state_held config.matcher) (offers_held config.matcher) config kept built played played.height same_state lists (group_listed (offers_held config.matcher) config.stage group asked_in low) asked
+
+  module _ (remain : config.turns < settings.limit) {C : Type 0} (talk : C → Option (List Event)) (left : C → Option (List ℕ)) (console : C) (taken : ℕ) where
+    -- the offers are too many, as this view of the matcher has it
+    pub crowds_here : (seen : M) → seen ≡ config.matcher → (ok : Bool) → (IsTrue ok ↔ (length (offers_of (offers_held seen) group) ≤ MOST_OFFERS)) → ok ≡ false → (turned : Turned M) → turned ≡ Over (record { config = config; word = Offers }) → IsTurned talk left console console program settings config taken taken turned
+    crowds_here seen view ok iff not turned is =
+        let many : MOST_OFFERS < length (offers_of (offers_held config.matcher) group) = subst (λ m. MOST_OFFERS < length (offers_of (offers_held m) group)) view (too_many ok _ MOST_OFFERS iff not) in
+        subst (λ t. IsTurned talk left console console program settings config taken taken t) (sym is) (
+          did_map talk left console console _ _ (λ come events rest same. crowded_turn program settings (position_of config) taken group (offers_of (offers_held config.matcher) group) asks_here remain many come events rest same) (did_same talk left console console refl refl),
+          refl,
+        )
+
+    -- the player was asked, as this view of the matcher has it
+    module _ (heard_on : C) (taken' : ℕ) (few_seen seen : M) (few_view : few_seen ≡ config.matcher) (view : seen ≡ config.matcher) (few : length (offers_of (offers_held few_seen) group) ≤ MOST_OFFERS) where
+      few_here : length (offers_of (offers_held config.matcher) group) ≤ MOST_OFFERS
+      few_here = subst (λ m. length (offers_of (offers_held m) group) ≤ MOST_OFFERS) few_view few
+
+      heard_here : (choice choice' : Choice) → choice ≡ choice' → Did talk left console heard_on (λ come events rest. AsksPlayer program (offers_of (offers_held seen) group) come taken events choice rest taken')
+          → Did talk left console heard_on (λ come events rest. AsksPlayer program (offers_of (offers_held config.matcher) group) come taken events choice' rest taken')
+      heard_here choice choice' same heard = subst (λ m. Did talk left console heard_on (λ come events rest. AsksPlayer program (offers_of (offers_held m) group) come taken events choice' rest taken')) view
+          (subst (λ (it : Choice). Did talk left console heard_on (λ come events rest. AsksPlayer program (offers_of (offers_held seen) group) come taken events it rest taken')) same heard)
+
+      pub no_more_here : (choice : Choice) → choice ≡ NoMore → Did talk left console heard_on (λ come events rest. AsksPlayer program (offers_of (offers_held seen) group) come taken events choice rest taken')
+          → (turned : Turned M) → turned ≡ Over (record { config = config; word = Input }) → IsTurned talk left console heard_on program settings config taken taken' turned
+      no_more_here choice same heard turned is =
+          subst (λ t. IsTurned talk left console heard_on program settings config taken taken' t) (sym is) (
+            did_map talk left console heard_on _ _ (λ come events rest asks. no_more_turn program settings (position_of config) taken group (offers_of (offers_held config.matcher) group) asks_here remain few_here taken' come events rest asks) (heard_here choice NoMore same heard),
+            refl,
+          )
+
+      pub no_room_here : (choice : Choice) → choice ≡ NoRoom → Did talk left console heard_on (λ come events rest. AsksPlayer program (offers_of (offers_held seen) group) come taken events choice rest taken')
+          → (turned : Turned M) → turned ≡ Over (record { config = config; word = Typed }) → IsTurned talk left console heard_on program settings config taken taken' turned
+      no_room_here choice same heard turned is =
+          subst (λ t. IsTurned talk left console heard_on program settings config taken taken' t) (sym is) (
+            did_map talk left console heard_on _ _ (λ come events rest asks. no_room_turn program settings (position_of config) taken group (offers_of (offers_held config.matcher) group) asks_here remain few_here taken' come events rest asks) (heard_here choice NoRoom same heard),
+            refl,
+          )
+
+      pub chosen_here : (place : ℕ) (choice : Choice) → choice ≡ Place place → Did talk left console heard_on (λ come events rest. AsksPlayer program (offers_of (offers_held seen) group) come taken events choice rest taken')
+          → (new : C) (turned : Turned M) → IsActed talk left heard_on new program (offers_of (offers_held config.matcher) group) place config turned → IsTurned talk left console new program settings config taken taken' turned
+      chosen_here place choice same heard new turned acted =
+          chosen_turn talk left console heard_on new program settings config taken taken' place group (offers_of (offers_held config.matcher) group) built asks_here remain few_here (heard_here choice (Place place) same heard) turned acted

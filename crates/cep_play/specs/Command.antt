@@ -32,8 +32,8 @@ abbrev pub HaveNoForm : List (List ℕ) → Type 0
 HaveNoForm words = (request : Request) → AskFor words request → ⊥
 
 -- the files that are asked of the shelf for a request
-abbrev pub files_of : Request → List (List ℕ)
-files_of (Play file) = file ∷ []
+abbrev pub names_asked : Request → List (List ℕ)
+names_asked (Play file) = file ∷ []
 
 -- the words ask for the program in a file to be played, and P holds of the file's name
 abbrev pub OfPlay : List (List ℕ) → (List ℕ → Type 0) → Type 0
@@ -41,7 +41,7 @@ OfPlay words P = (file : List ℕ) × AskFor words (Play file) × P file
 
 -- P holds of the names that the words ask of the shelf: none, where they have no form
 abbrev pub OfNames : List (List ℕ) → (List (List ℕ) → Type 0) → Type 0
-OfNames words P = ((request : Request) × AskFor words request × P (files_of request)) ⊎ (HaveNoForm words × P [])
+OfNames words P = ((request : Request) × AskFor words request × P (names_asked request)) ⊎ (HaveNoForm words × P [])
 
 -- P holds of the text of a file: of the one that is there, where the files are told
 abbrev pub OfFile : Option Files → List ℕ → (List ℕ → Type 0) → Type 0

@@ -50,8 +50,8 @@ pub record Turn : Type 0 where
   pub left : Supply
 
 -- the turn without its derivations
-abbrev pub bare : Turn → Turn
-bare turn = record turn { proofs = [] }
+abbrev pub unproved : Turn → Turn
+unproved turn = record turn { proofs = [] }
 
 -- How a run ended: the word, the last state, and the last question where it led to no step.
 pub record Ending : Type 0 where

@@ -112,7 +112,7 @@ pub record SoFar (program : Parts) (settings : Settings) (start here : Position)
   pub written : events ≡ flat_map (turn_events program) turns
 
 -- All turns of a run are done from the start to here, and what was said is their events and what comes before the end.
-pub record Runs (program : Parts) (settings : Settings) (word : EndWord) (start last : Position) (come : List ℕ) (events : List Event) (rest : List ℕ) : Type 0 where
+pub record IsWholeRun (program : Parts) (settings : Settings) (word : EndWord) (start last : Position) (come : List ℕ) (events : List Event) (rest : List ℕ) : Type 0 where
   pub turns : List Turn
   pub between : Supply
   pub left : Supply

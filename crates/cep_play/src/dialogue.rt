@@ -6,7 +6,7 @@ ghost use Rattle.cep_rule.specs.Program.{IsProgram};
 ghost use Rattle.cep_rule.specs.State.{IsState};
 ghost use Rattle.cep_ground.specs.Refusals.{IsBuilt};
 ghost use Rattle.cep_play.specs.Lines.{end_lines, header};
-ghost use Rattle.cep_play.specs.Turn.{position_of, IsPlayed, Runs};
+ghost use Rattle.cep_play.specs.Turn.{position_of, IsPlayed, IsWholeRun};
 ghost use Rattle.cep_play.specs.Command.{Says};
 
 use crate::ending::EndWord;
@@ -36,7 +36,7 @@ fn all_turns<C: Console, M: Matcher, L: Ledger>(
     requires begins { start.turns ≡ 0 }
     requires limit { settings.limit ≤ MOST_TURNS }
     ensures said { IfOk result (λ end. Did C.talk C.left console.old console.new
-        (Runs program.now settings end.word (position_of start) (position_of end.config))) }
+        (IsWholeRun program.now settings end.word (position_of start) (position_of end.config))) }
     ensures played { IfOk result (λ end. IsPlayed M.is_of M.height_held program.now settings end.config) }
     ensures counted { steps.old ≤ steps.new }
     ensures cause { ConsoleCause (C.faults console.old) (C.faults console.new) result }

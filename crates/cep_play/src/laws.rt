@@ -6,7 +6,7 @@ ghost use Rattle.cep_rule.specs.declared.parts.Parts.{Parts};
 ghost use Rattle.cep_rule.specs.Steps.{IsMachineStep};
 ghost use Rattle.cep_play.specs.declared.settings.Settings.{Settings};
 ghost use Rattle.cep_play.specs.Deciding.{Supply};
-ghost use Rattle.cep_play.specs.Run.{Position, Turn, Ending, IsTurn, AreTurns, Run, bare};
+ghost use Rattle.cep_play.specs.Run.{Position, Turn, Ending, IsTurn, AreTurns, Run, unproved};
 ghost use Rattle.cep_play.specs.Dialogue.{Dialogue};
 
 use cep_rule::laws::{one_list_of_offers, one_state_after_a_step};
@@ -17,7 +17,7 @@ pub fn one_run()
     ensures { (program : Parts) (settings : Settings) (at : Position) (from : Supply) (turns turns' : List Turn) (ending ending' : Ending) (to to' : Supply)
         → Run program settings at from turns ending to
         → Run program settings at from turns' ending' to'
-        → (map bare turns ≡ map bare turns') × (ending ≡ ending') × (to ≡ to') }
+        → (map unproved turns ≡ map unproved turns') × (ending ≡ ending') × (to ≡ to') }
 {
     one_list_of_offers();
     one_state_after_a_step();

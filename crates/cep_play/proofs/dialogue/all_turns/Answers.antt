@@ -1,7 +1,7 @@
 use Rattle.std.proofs.Common.{◌≡◌, ◌+◌, ◌<◌, ◌++◌, refl, sym, subst, ap, ◌∙◌, arith}
 use Rattle.std.specs.Prelude.{IsNone}
 use Rattle.cep_rule.specs.Stages.{IsAsked, IsQuiet}
-use Rattle.cep_play.specs.Turn.{position_of, IsPlayed, IsTurned, config_left, Runs}
+use Rattle.cep_play.specs.Turn.{position_of, IsPlayed, IsTurned, config_left, IsWholeRun}
 use Rattle.cep_play.proofs.Did.{did_same, did_map, did_then}
 use Rattle.cep_play.proofs.Runs.{run_begins, run_goes_on, run_stops, run_quiets, run_is_over}
 use Rattle.cep_play.proofs.dialogue.all_turns.Goals as goal
@@ -55,7 +55,7 @@ returns-in-Over-clause-said g c =
     let end = c.in-Over.end in
     let turned = subst (λ t. IsTurned talk left c.loop-done.console c.turn.new.console program settings config c.loop-done.taken c.turn.new.taken t) c.in-Over.is c.in_ok-next.ensures.turned in
     did_then talk left c.args.console.now c.loop-done.console c.turn.new.console _ _ _ (λ come first between second rest so stop.
-    subst (λ last. Runs program settings end.word (position_of c.args.start) (position_of last) come (first ++ second) rest) (sym turned.1)
+    subst (λ last. IsWholeRun program settings end.word (position_of c.args.start) (position_of last) come (first ++ second) rest) (sym turned.1)
     (run_stops program settings (position_of c.args.start) (position_of config) c.loop-done.taken end.word c.turn.new.taken come first between second rest so stop))
     before.so_far turned.0
 

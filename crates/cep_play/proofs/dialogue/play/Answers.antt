@@ -6,7 +6,7 @@ use Rattle.cep_rule.specs.Program.{IsProgram}
 use Rattle.cep_play.specs.declared.settings.Settings.{Settings}
 use Rattle.cep_play.specs.Lines.{end_lines, header}
 use Rattle.cep_play.specs.Run.{start_of}
-use Rattle.cep_play.specs.Turn.{position_of, Runs}
+use Rattle.cep_play.specs.Turn.{position_of, IsWholeRun}
 use Rattle.cep_play.specs.Command.{settings_of, IsSaid}
 use Rattle.cep_play.proofs.Did.{did_then, did_map}
 use Rattle.cep_play.proofs.Runs.{RunFrom, IsTold, run_ends, whole_dialogue}
