@@ -3,8 +3,7 @@ use Rattle.std.proofs.Common.{◌≡◌, ◌≢◌, ◌⊎◌, inl, inr, ⊎_eli
 use Rattle.std.proofs.Math.Nat.{suc-mul}
 use Rattle.std.proofs.lemmas.List.Sums.{sum_by-cons}
 use Rattle.std.proofs.lemmas.List.{append-nil}
-use Rattle.std.specs.Prelude.{Option, Some, None, sum_by, IsSomeAnd, unwrap_or}
-use Rattle.std.specs.Str.{bytes_eq}
+use Rattle.std.specs.Prelude.{Some, sum_by, IsSomeAnd, unwrap_or}
 use Rattle.std.specs.declared.cmp.Ordering.{Ordering}
 use Rattle.std.specs.declared.cmp.Ordering.TheVariants.{Less, Equal, Greater}
 use Rattle.std.specs.Cmp.{IsTotalOrder, tied_itself}
@@ -15,32 +14,23 @@ use Rattle.cep_parse.specs.declared.raw.RawKind.{RawKind}
 use Rattle.cep_parse.specs.declared.raw.RawKind.TheVariants as kind
 use Rattle.cep_parse.specs.declared.raw.RawNode.{RawNode}
 use Rattle.cep_parse.specs.declared.raw.RawAtom.{RawAtom}
-use Rattle.cep_parse.specs.declared.raw.RawStart.{RawStart}
-use Rattle.cep_parse.specs.declared.raw.RawStart.TheVariants as start
-use Rattle.cep_parse.specs.declared.raw.RawItem.{RawItem}
-use Rattle.cep_parse.specs.declared.raw.RawItem.TheVariants as item
 use Rattle.cep_term.specs.Tree.{AtomTree, IsGroundAtom, atom_nodes, IsFit}
 use Rattle.cep_term.specs.BagLaws.{BagLaws}
 use Rattle.cep_term.specs.Multiset.{Multiset, count_of, with_count, gathered, copies_in, nodes_in_all, IsBag}
 use Rattle.cep_rule.specs.declared.signature.PredDecl.{PredDecl}
 use Rattle.cep_rule.specs.Typing.{IsTyped, IsLinear}
 use Rattle.cep_rule.specs.State.{IsStateAtom, IsState, Fits}
-use Rattle.cep_refusal.specs.declared.reason.Reason.TheVariants.{OverLimit, VarInContext, BwdInState}
-use Rattle.cep_names.specs.declared.space.Role.{Role}
-use Rattle.cep_names.specs.declared.space.Role.TheVariants as role
-use Rattle.cep_names.specs.Items.{Source, TraceItem, ContextItem, said, contexts_in, contexts_of, traces_in, traces_of}
-use Rattle.cep_names.specs.Spaces.{context_named}
-use Rattle.cep_parse.specs.Raw.{start_listed, raw_nodes}
-use Rattle.cep_names.specs.Uses.{placed, placed_of, own_atoms, is_context}
+use Rattle.cep_refusal.specs.declared.reason.Reason.TheVariants.{OverLimit, BwdInState}
+use Rattle.cep_names.specs.Items.{Source, TraceItem, traces_of}
+use Rattle.cep_parse.specs.Raw.{raw_nodes}
+use Rattle.cep_names.specs.Uses.{placed}
 use Rattle.cep_names.specs.declared.space.Space.TheVariants as space
 use Rattle.cep_names.specs.Variables.{Occurrence, firsts, occurrences_from, blanks_behind}
-use Rattle.cep_names.specs.Starts.{listed_in, listed_or, start_atoms, nodes_written, IsFitWritten}
+use Rattle.cep_names.specs.Starts.{start_atoms, nodes_written, IsFitWritten}
 use Rattle.cep_refusal.specs.First.{wrong}
-use Rattle.cep_names.specs.Misnamed.{IsOfState}
 use Rattle.cep_names.specs.Misnamed.{IsOfState as of_state}
 use Rattle.cep_names.specs.Misnamed.{ComesToState as comes}
-use Rattle.cep_names.specs.Misnamed.{IsOpen as opens}
-use Rattle.cep_names.specs.Misnamed.Misnamed.{over, variable_in_state, backward_in_state}
+use Rattle.cep_names.specs.Misnamed.Misnamed.{over, backward_in_state}
 use Rattle.cep_names.specs.Misnamed.IsOver.{unfit, copies, nodes}
 use Rattle.cep_types.specs.Sites.{type_of}
 use Rattle.cep_types.specs.Sites.{IsScope as scopes}
@@ -50,9 +40,8 @@ use Rattle.cep_infer.specs.Meaning.{signature_of, names_of, kinds_of, IsStartBy}
 use Rattle.cep_infer.specs.Resolved.{IsWellNamed}
 use Rattle.cep_infer.specs.States.{IsStateWritten, AreClosed}
 use Rattle.cep_ground.specs.Texts.{IsClean}
-use Rattle.cep_base.proofs.Elements.{contains_none, contains_first, contains_behind, contains_cases, contains_map, flat_cases, all_at, all_of}
-use Rattle.cep_ground.proofs.Finds.{found_in}
-use Rattle.cep_ground.proofs.Known.{own_placed, pred_known}
+use Rattle.cep_base.proofs.Elements.{contains_none, contains_first, contains_behind, contains_cases, all_at}
+use Rattle.cep_ground.proofs.Known.{pred_known}
 use Rattle.cep_ground.proofs.Scopes.{IsHere, typed_atoms}
 use Rattle.cep_ground.proofs.RuleScopes.{AtomsMade, AreHere, atom_of_tokens, words, short, back_known}
 use Rattle.cep_ground.proofs.RuleParts.{atom_size, pred_at}
