@@ -41,6 +41,15 @@ impl Binding {
         Ok(Binding { values })
     }
 
+    /// The same values once more. Only want of memory is refused.
+    pub fn copy(&self, alloc: Global) -> Result<Binding, AllocError>
+        ensures { IfOk result (λ binding. binding ≡ self.now) }
+    {
+        Ok(Binding {
+            values: copy_values(alloc, &self.values)?,
+        })
+    }
+
     /// How many variables there are.
     pub fn len(&self) -> usize
         ensures value { result ≡ length self.now }
@@ -65,6 +74,27 @@ impl Binding {
         ensures { self.new ≡ slice_set self.old v (Some (tree_of t)) }
     {
         self.values[v as usize] = Some(t);
+    }
+}
+
+// The same values once more.
+fn copy_values(alloc: Global, values: &[Option<Term>]) -> Result<Vec<Option<Term>>, AllocError>
+    ensures { IfOk result (λ copies. values_of copies.items ≡ values_of values.now) }
+{
+    let mut copies = Vec::new(alloc);
+    for value in values {
+        copies.push(copy_value(alloc, value)?)?;
+    }
+    Ok(copies)
+}
+
+// The same value once more, where there is one.
+fn copy_value(alloc: Global, value: &Option<Term>) -> Result<Option<Term>, AllocError>
+    ensures { IfOk result (λ copy. option_map tree_of copy ≡ option_map tree_of value.now) }
+{
+    match value {
+        Some(t) => Ok(Some(copy_term(alloc, t)?)),
+        None => Ok(None),
     }
 }
 

@@ -5,10 +5,10 @@ ghost use Rattle.cep_rule.specs.Program.{IsProgram};
 ghost use Rattle.cep_text.specs.Reads.{IsProofText};
 ghost use Rattle.cep_text.specs.Reading.{Gives, clause_at, begin_at, proofs_at, node_at, proof_at, proof_read, small_at};
 
-use cep_base::limits::MOST_HEIGHT;
 use crate::read_offers::givens;
 use crate::stop::Stop;
 use crate::words::{literal, name_len, numbered};
+use cep_base::limits::MOST_HEIGHT;
 use cep_rule::{Clause, Derivation, Derivations, Program, Terms};
 use std::alloc::{AllocError, Global};
 

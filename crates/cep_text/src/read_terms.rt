@@ -4,10 +4,10 @@ ghost use Rattle.cep_rule.specs.Program.{IsProgram};
 ghost use Rattle.cep_text.specs.Reads.{IsTermText, IsAtomText};
 ghost use Rattle.cep_text.specs.Reading.{Gives, pred_at, term_read, atom_read};
 
-use cep_base::limits::{MOST_DEPTH, MOST_NODES};
 use crate::stop::Stop;
 use crate::values::{arguments, left_after_all, small_value};
 use crate::words::{find, name_len};
+use cep_base::limits::{MOST_DEPTH, MOST_NODES};
 use cep_rule::{Kinds, Program};
 use cep_term::{Atom, Term};
 use std::alloc::{AllocError, Global};

@@ -2,9 +2,9 @@ ghost use Rattle.std.specs.Prelude.{◌≡◌, ◌≤◌, ◌<◌, ◌-◌, leng
 ghost use Rattle.cep_term.specs.Tree.{tree_of, trees_of, term_nodes, argument_nodes};
 ghost use Rattle.cep_text.specs.Reading.{Gives, con_at, bare_at, argument_at, arguments_at, inside_at, enclosed_at, value_at, small_at};
 
-use cep_base::limits::{MOST_DEPTH, MOST_NODES};
 use crate::stop::Stop;
 use crate::words::{find, literal, name_len, strip};
+use cep_base::limits::{MOST_DEPTH, MOST_NODES};
 use cep_rule::{Kinds, Program};
 use cep_term::{Args, Term};
 use std::alloc::Global;

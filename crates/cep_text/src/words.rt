@@ -3,8 +3,7 @@ ghost use Rattle.cep_base.specs.Spelling.{is_name_byte};
 ghost use Rattle.cep_text.specs.Reading.{Gives, literal_at, name_len, number_among, numbered_by};
 
 use crate::stop::Stop;
-use cep_base::Name;
-use cep_base::List;
+use cep_base::{List, Name};
 use cep_rule::{Con, PredDecl, Rule};
 use itoa::Buffer;
 
