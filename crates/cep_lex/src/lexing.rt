@@ -2,11 +2,11 @@ ghost use Rattle.std.specs.Prelude.{◌≤◌, length, IfOk};
 ghost use Rattle.cep_lex.specs.Cuts.{IsLexed};
 ghost use Rattle.cep_lex.specs.Fronts.{Stands};
 
-use cep_base::limits::MOST_TEXT;
 use crate::fault::LexFault;
 use crate::gaps::gap_len;
 use crate::token::{Token, Tokens};
 use crate::words::{front, is_too_long};
+use cep_base::limits::MOST_TEXT;
 use std::alloc::{AllocError, Global};
 
 // What stands at a place of a text.

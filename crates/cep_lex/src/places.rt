@@ -1,8 +1,8 @@
 ghost use Rattle.std.specs.Prelude.{◌≤◌, length, take};
 ghost use Rattle.cep_lex.specs.Places.{IsPlaceBehind};
 
-use cep_base::limits::MOST_TEXT;
 use cep_base::Pos;
+use cep_base::limits::MOST_TEXT;
 
 /// The line and the column of a place in a text. Both count from 1, columns count bytes, and LF
 /// ends a line.

@@ -1,5 +1,5 @@
-use cep_base::limits::MOST_TEXT;
 use crate::{LexFault, lex, place};
+use cep_base::limits::MOST_TEXT;
 use std::alloc::Global;
 use std::test::Fail;
 

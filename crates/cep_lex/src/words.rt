@@ -4,8 +4,8 @@ ghost use Rattle.std.specs.List.{prefix_len};
 ghost use Rattle.cep_lex.specs.Words.{SpellsToken, BeginsNoToken};
 ghost use Rattle.cep_lex.specs.Fronts.{class, passes, BeginsWith, HasSecond, IsLetters, IsFront, IsLongLength, IsShortLength};
 
-use cep_base::limits::MOST_NAME;
 use crate::token::TokenKind;
+use cep_base::limits::MOST_NAME;
 
 /// What the first byte of a token says of it.
 #[derive(Clone, Copy, Debug, PartialEq, Eq)]

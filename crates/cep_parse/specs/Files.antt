@@ -21,7 +21,29 @@ pub record Begins (symbols : List Symbol) : Type 0 where
 abbrev pub open_behind : Word → ℕ → ℕ
 open_behind word.Open open_ = open_ + 1
 open_behind word.Close open_ = open_ - 1
-open_behind _ open_ = open_
+open_behind word.Name open_ = open_
+open_behind word.Variable open_ = open_
+open_behind word.Blank open_ = open_
+open_behind word.Number open_ = open_
+open_behind word.Interactive open_ = open_
+open_behind word.Trace open_ = open_
+open_behind word.Colon open_ = open_
+open_behind word.Dot open_ = open_
+open_behind word.Comma open_ = open_
+open_behind word.Star open_ = open_
+open_behind word.Dollar open_ = open_
+open_behind word.Equals open_ = open_
+open_behind word.Lolli open_ = open_
+open_behind word.Back open_ = open_
+open_behind word.OpenBrace open_ = open_
+open_behind word.CloseBrace open_ = open_
+open_behind word.Type open_ = open_
+open_behind word.Pred open_ = open_
+open_behind word.Bwd open_ = open_
+open_behind word.Stage open_ = open_
+open_behind word.Context open_ = open_
+open_behind word.Qui open_ = open_
+open_behind word.Other open_ = open_
 
 -- how many parentheses are open behind the symbols, where so many were open before them
 abbrev pub open_from : ℕ → List Symbol → ℕ
