@@ -1,6 +1,6 @@
 -- Private.
 -- What a part of a run does: words for the functions that do it.
-use Rattle.std.specs.Prelude.{◌≡◌, ℕ, ◌<◌, List, [], ◌∷◌, ◌++◌, Option, None, Some, length, true, IsSomeAnd, slice_get}
+use Rattle.std.specs.Prelude.{◌≡◌, ℕ, ◌+◌, ◌-◌, List, ◌++◌, Option, length, true, IsSomeAnd, slice_get}
 use Rattle.std.specs.List.{flat_map}
 use Rattle.cep_base.specs.declared.console.Event.{Event}
 use Rattle.cep_base.specs.Talk.{outs, Did}

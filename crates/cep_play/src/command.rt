@@ -134,6 +134,7 @@ fn play_file<C: Console, H: Shelf, L: Ledger>(
     ensures files { H.files shelf.new ≡ H.files shelf.old }
     ensures counted { steps.old ≤ steps.new }
 {
+    no_program_is_refused();
     match shelf.load(alloc, file, MOST_TEXT) {
         Ok(text) => play_text(alloc, &text, console, steps),
         Err(ShelfFault::TooLong) => {

@@ -1,4 +1,6 @@
+use Rattle.std.proofs.Common.{refl}
 use Rattle.std.proofs.lemmas.Result.{IfOk-weaker}
+use Rattle.cep_base.specs.declared.limits.TheConstants.{MOST_TEXT}
 use Rattle.cep_play.proofs.Commands.{file_read, longer_file, text_refused}
 use Rattle.cep_play.proofs.command.play_file.Goals as goal
 
@@ -8,4 +10,6 @@ returns-in-Ok-clause-outcome g c =
     (rw c.deref.ensures.value at c.play_text.ensures.outcome)
 
 pub returns-in_ok-refuse-in-TooLong-clause-outcome : goal.returns-in_ok-refuse-in-TooLong-clause-outcome
-returns-in_ok-refuse-in-TooLong-clause-outcome g c = ?
+returns-in_ok-refuse-in-TooLong-clause-outcome g c =
+    let some = longer_file (g.H.Shelf.files c.args.shelf.now) c.args.file.now MOST_TEXT (c.in-TooLong.ensures.longer refl) in
+    (some.0, some.1, text_refused g.C.Console.talk g.C.Console.left c.args.console.now c.refuse.new.console some.0 c.too_long.result c.no_program_is_refused.ensures (c.too_long.ensures some.0 some.2) c.in_ok-refuse-in-TooLong.ensures.told)

@@ -1,13 +1,9 @@
-use Rattle.std.proofs.Common.{◌≡◌, ap, sym, ◌∙◌, subst, [], ◌∷◌}
-use Rattle.std.specs.List.{AllByRecursion}
+use Rattle.std.proofs.Common.{◌≡◌, true, sym, subst}
+use Rattle.std.specs.Prelude.{slice_get, IsSomeAnd}
 use Rattle.cep_base.specs.Talk.{outs, Did}
-use Rattle.cep_rule.specs.declared.rule.Rule.{Rule}
-use Rattle.cep_rule.specs.Program.{IsProgram}
-use Rattle.cep_play.specs.declared.settings.Settings.{Settings}
-use Rattle.cep_play.specs.Lines.{end_lines, header}
+use Rattle.cep_play.specs.Lines.{end_lines}
 use Rattle.cep_play.specs.Run.{start_of}
-use Rattle.cep_play.specs.Turn.{position_of, IsWholeRun}
-use Rattle.cep_play.specs.Command.{settings_of, IsSaid}
+use Rattle.cep_play.specs.Turn.{position_of}
 use Rattle.cep_play.proofs.Did.{did_then, did_map}
 use Rattle.cep_play.proofs.Runs.{RunFrom, IsTold, run_ends, whole_dialogue}
 use Rattle.cep_play.proofs.Commands.{is_said}
@@ -20,7 +16,7 @@ all_turns-requires-clause-played g c =
     record {
       of_program = begun.of_program;
       height = begun.height;
-      interactive = ?;
+      interactive = subst (λ n. IsSomeAnd (slice_get program.stages n) (λ it. it.interactive ≡ true)) (sym begun.stage) c.requires.interactive;
     }
 
 pub returns-clause-said : goal.returns-clause-said
