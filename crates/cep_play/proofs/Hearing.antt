@@ -1,23 +1,30 @@
 -- Lines that are read until one chooses a place.
-use Rattle.std.proofs.Common.{◌≡◌, ℕ, ◌+◌, List, [], ◌∷◌, ◌++◌, append_assoc, Option, refl, sym, ap, ◌∙◌, subst}
+use Rattle.std.proofs.Common.{◌≡◌, ℕ, ◌+◌, List, [], ◌∷◌, ◌++◌, append_assoc, take, Option, refl, sym, ap, ◌∙◌, subst}
 use Rattle.cep_base.specs.declared.console.Event.{Event}
 use Rattle.cep_base.specs.Talk.{outs, GoesOn, Did}
 use Rattle.cep_play.specs.declared.choice.Said.TheVariants as said
 use Rattle.cep_play.specs.declared.choice.Choice.{Choice}
 use Rattle.cep_play.specs.declared.choice.Choice.TheVariants as choice
-use Rattle.cep_play.specs.Choice.{ReadsLine, Hears, chosen, again, no_more, no_room, room_after, no_line}
+use Rattle.cep_play.specs.Choice.{ReadsLine, Hears, chosen, again, no_more, no_room, room_after, no_line, IsCutShort, HearsFront, line_cut, answer_cut, behind_bad}
 use Rattle.cep_play.proofs.Did.{did_same, did_put, did_then, did_map}
 use Rattle.cep_play.proofs.LineRead.{ReadsSaid}
 
 -- whatever comes of the choice from now on comes of it from the start, behind what was said so far
 pub record Awaits (n start taken : ℕ) (come : List ℕ) (events : List Event) (rest : List ℕ) : Type 0 where
   pub goes_on : {later : List Event} {result : Choice} {end : List ℕ} {all : ℕ} → Hears n rest taken later result end all → Hears n come start (events ++ later) result end all
+  pub goes_short : {later : List Event} {end : List ℕ} → HearsFront n rest taken later end → HearsFront n come start (events ++ later) end
 
 -- a line was read that chooses nothing, and that was said
 record AfterBad (n room more : ℕ) (come : List ℕ) (events : List Event) (rest : List ℕ) : Type 0 where
   first : List Event
   read : ReadsSaid n room said.Bad more come first rest
   answered : events ≡ first ++ outs no_line
+
+-- the same, but the answer was cut short
+record AnsweredShort (n room more size : ℕ) (come : List ℕ) (events : List Event) (rest : List ℕ) : Type 0 where
+  first : List Event
+  read : ReadsSaid n room said.Bad more come first rest
+  answered : events ≡ first ++ outs (take size no_line)
 
 no_line-bytes : no_line ≡ 63 ∷ 32 ∷ 110 ∷ 111 ∷ 10 ∷ []
 unfolding no_line
@@ -32,6 +39,15 @@ written_behind {n} {room} {more} {come} {first} bad put = record {
   answered = ap (λ written. first ++ written) (put.0 ∙ ap outs (sym no_line-bytes));
 }
 
+written_short : {n room more size : ℕ} {come : List ℕ} {first : List Event} {middle : List ℕ} {others : List Event} {rest : List ℕ}
+    → ReadsSaid n room said.Bad more come first middle
+    → (others ≡ outs (take size (63 ∷ 32 ∷ 110 ∷ 111 ∷ 10 ∷ []))) × (rest ≡ middle) → AnsweredShort n room more size come (first ++ others) rest
+written_short {n} {room} {more} {size} {come} {first} bad put = record {
+  first = first;
+  read = subst (ReadsSaid n room said.Bad more come first) (sym put.1) bad;
+  answered = ap (λ written. first ++ written) (put.0 ∙ ap (λ bytes. outs (take size bytes)) (sym no_line-bytes));
+}
+
 -- One line behind what was said
 
 module _ {n start taken : ℕ} {come : List ℕ} {first : List Event} {middle : List ℕ} (before : Awaits n start taken come first middle) where
@@ -42,7 +58,21 @@ module _ {n start taken : ℕ} {come : List ℕ} {first : List Event} {middle : 
         let line = bad.read in
         let heard = before.goes_on (again line.0 line.2.0 rest more bad.first later line.1 line.2.1 line.2.2 hears written) in
         subst (λ said. Hears n come start said result end all) (sym (append_assoc first others later)) heard;
+    goes_short = λ {later} {end} hears.
+        let written = ap (λ said. said ++ later) bad.answered ∙ append_assoc bad.first (outs no_line) later in
+        let line = bad.read in
+        let heard = before.goes_short (behind_bad line.0 line.2.0 rest more bad.first later line.1 line.2.1 line.2.2 hears written) in
+        subst (λ said. HearsFront n come start said end) (sym (append_assoc first others later)) heard;
   }
+
+  -- the reading of a further line is cut short, or its answer is
+  short_behind : {others : List Event} {rest : List ℕ} → IsCutShort (room_after taken) middle others rest → HearsFront n come start (first ++ others) rest
+  short_behind short = before.goes_short (line_cut short)
+
+  answer_behind : {more size : ℕ} {others : List Event} {rest : List ℕ} → AnsweredShort n (room_after taken) more size middle others rest → HearsFront n come start (first ++ others) rest
+  answer_behind {more} {size} bad =
+      let line = bad.read in
+      before.goes_short (answer_cut line.0 line.2.0 more size bad.first line.1 line.2.1 line.2.2 bad.answered)
 
   place_behind : {more place : ℕ} {others : List Event} {rest : List ℕ} → ReadsSaid n (room_after taken) (said.Number place) more middle others rest
       → Hears n come start (first ++ others) (choice.Place place) rest (taken + more)
@@ -61,6 +91,9 @@ nothing_before n start come events rest same = record {
   goes_on = λ {later} {result} {end} {all} hears.
       let from = subst (λ bytes. Hears n bytes start later result end all) same.1 hears in
       subst (λ said. Hears n come start (said ++ later) result end all) (sym same.0) from;
+  goes_short = λ {later} {end} hears.
+      let from = subst (λ bytes. HearsFront n bytes start later end) same.1 hears in
+      subst (λ said. HearsFront n come start (said ++ later) end) (sym same.0) from;
 }
 
 -- What the console did
@@ -92,3 +125,14 @@ module _ {C : Type 0} (talk : C → Option (List Event)) (left : C → Option (L
         → Did talk left old new (λ come events rest. Hears n come start events choice.NoRoom rest (taken + more))
     end_no_room read =
         did_then talk left old between new (Awaits n start taken) (ReadsSaid n (room_after taken) said.Limit more) _ (λ come first middle others rest before one. limit_behind before one) so_far read
+
+    pub end_short : Did talk left between new (IsCutShort (room_after taken)) → Did talk left old new (λ come events rest. HearsFront n come start events rest)
+    end_short read = did_then talk left old between new (Awaits n start taken) (IsCutShort (room_after taken)) _ (λ come first middle others rest before short. short_behind before short) so_far read
+
+    pub end_answer_short : (middle : C) (size : ℕ) → Did talk left between middle (ReadsSaid n (room_after taken) said.Bad more)
+        → GoesOn (talk middle) (outs (take size (63 ∷ 32 ∷ 110 ∷ 111 ∷ 10 ∷ []))) (talk new) → left new ≡ left middle
+        → Did talk left old new (λ come events rest. HearsFront n come start events rest)
+    end_answer_short middle size read went kept =
+        let put = did_put talk left middle new (take size (63 ∷ 32 ∷ 110 ∷ 111 ∷ 10 ∷ [])) went kept in
+        let bad = did_then talk left between middle new (ReadsSaid n (room_after taken) said.Bad more) _ (AnsweredShort n (room_after taken) more size) (λ come first middle others rest bad put. written_short bad put) read put in
+        did_then talk left old between new (Awaits n start taken) (AnsweredShort n (room_after taken) more size) _ (λ come first middle others rest before one. answer_behind before one) so_far bad

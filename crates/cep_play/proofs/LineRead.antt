@@ -9,7 +9,7 @@ use Rattle.cep_play.specs.declared.choice.Said.{Said}
 use Rattle.cep_play.specs.declared.choice.Said.TheVariants as said
 use Rattle.cep_play.specs.declared.typed.Typed.{Typed}
 use Rattle.cep_play.specs.declared.typed.Typed.TheVariants as typed
-use Rattle.cep_play.specs.Choice.{Cut, Ended, Last, Nothing, Full, ReadsLine, IsLine, IsHeardAs}
+use Rattle.cep_play.specs.Choice.{Cut, Ended, Last, Nothing, Full, ReadsLine, IsLine, IsHeardAs, IsCutShort}
 use Rattle.cep_play.specs.Typed.{Reads, SaysOf}
 use Rattle.cep_play.proofs.Did.{did_same, did_hear, did_end, did_then, did_map}
 
@@ -128,3 +128,15 @@ module _ {C : Type 0} (talk : C → Option (List Event)) (left : C → Option (L
         did_map talk left old between (HasRead n now taken) (ReadsSaid n room said.Limit room)
         (λ come events rest before. (Full before.bytes, (before.first, before.unbroken, before.all ∙ full, before.said, refl), (before.bytes, refl)))
         so_far
+
+    pub read_short : (room : ℕ) → talk new ≡ talk between → left new ≡ left between → taken < room → Did talk left old new (IsCutShort room)
+    read_short room quiet kept below =
+        did_then talk left old between new (HasRead n now taken) _ (IsCutShort room)
+        (λ come first middle others rest before same. record {
+          bytes = before.bytes;
+          first = before.first ∙ ap (λ after. before.bytes ++ after) (sym same.1);
+          unbroken = before.unbroken;
+          short = let all = before.all in omega arith;
+          said = ap (λ es. first ++ es) same.0 ∙ append-nil first ∙ before.said;
+        })
+        so_far (did_same talk left between new quiet kept)

@@ -1,5 +1,5 @@
 -- What is typed for one choice: a line is read, and while it chooses nothing, a further one.
-use Rattle.std.specs.Prelude.{◌≡◌, ◌≢◌, ◌⊎◌, ℕ, ◌+◌, ◌-◌, ◌<◌, ◌≤◌, List, [], ◌∷◌, ◌++◌, length, codes, decimal}
+use Rattle.std.specs.Prelude.{◌≡◌, ◌≢◌, ◌⊎◌, ℕ, ◌+◌, ◌-◌, ◌<◌, ◌≤◌, List, [], ◌∷◌, ◌++◌, length, take, codes, decimal}
 use Rattle.std.specs.List.{AllByRecursion}
 use Rattle.cep_base.specs.Spelling.{IsUnbroken}
 use Rattle.cep_base.specs.declared.console.Event.{Event}
@@ -96,3 +96,23 @@ pub data Hears (n : ℕ) : List ℕ → ℕ → List Event → Choice → List �
   no_room : {come rest : List ℕ} {taken taken' : ℕ} {events : List Event} (bytes : List ℕ) (more : ℕ)
       → ReadsLine (room_after taken) come events (Full bytes) rest more → taken' ≡ taken + more
       → Hears n come taken events choice.NoRoom rest taken'
+
+-- The reading of a line was cut short: some bytes were taken, fewer than might be, and no LF among them.
+pub record IsCutShort (room : ℕ) (come : List ℕ) (events : List Event) (rest : List ℕ) : Type 0 where
+  pub bytes : List ℕ
+  pub first : come ≡ bytes ++ rest
+  pub unbroken : IsUnbroken bytes
+  pub short : length bytes < room
+  pub said : events ≡ ins bytes
+
+-- The events of one choice among n that was cut short: in the reading of a line, or in the answer to a line that chooses nothing.
+pub data HearsFront (n : ℕ) : List ℕ → ℕ → List Event → List ℕ → Type 0 where
+  line_cut : {come rest : List ℕ} {taken : ℕ} {events : List Event} → IsCutShort (room_after taken) come events rest → HearsFront n come taken events rest
+  answer_cut : {come rest : List ℕ} {taken : ℕ} {events : List Event} (cut : Cut) (line : List ℕ) (more size : ℕ) (first : List Event)
+      → ReadsLine (room_after taken) come first cut rest more → IsLine cut line → ChoosesNone n line → events ≡ first ++ outs (take size no_line)
+      → HearsFront n come taken events rest
+  -- before that a line chose nothing, and was answered
+  behind_bad : {come rest : List ℕ} {taken : ℕ} {events : List Event} (cut : Cut) (line : List ℕ) (between : List ℕ) (more : ℕ) (first others : List Event)
+      → ReadsLine (room_after taken) come first cut between more → IsLine cut line → ChoosesNone n line
+      → HearsFront n between (taken + more) others rest → events ≡ first ++ (outs no_line ++ others)
+      → HearsFront n come taken events rest

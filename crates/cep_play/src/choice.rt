@@ -1,8 +1,8 @@
 // One choice of the player, read from a console byte by byte.
-ghost use Rattle.std.specs.Prelude.{◌≡◌, ℕ, ◌<◌, ◌≤◌, IfOk};
+ghost use Rattle.std.specs.Prelude.{◌≡◌, ℕ, ◌<◌, ◌≤◌, IfOk, OnErr};
 ghost use Rattle.cep_base.specs.Talk.{Did, ConsoleCause};
 ghost use Rattle.cep_play.specs.declared.choice.Said.{Said};
-ghost use Rattle.cep_play.specs.Choice.{Cut, ReadsLine, IsHeardAs, TakesSome, IsPlaceWithin, IsChoiceWithin, Hears};
+ghost use Rattle.cep_play.specs.Choice.{Cut, ReadsLine, IsHeardAs, TakesSome, IsPlaceWithin, IsChoiceWithin, Hears, IsCutShort, HearsFront};
 
 use crate::typed::Typed;
 use cep_base::limits::MOST_TYPED;
@@ -39,10 +39,12 @@ pub enum Choice {
     NoRoom,
 }
 
-/// Reads one line, of at most `room` bytes, and says which place among `n` it chooses.
+/// Reads one line, of at most `room` bytes, and says which place among `n` it chooses. A refused
+/// call took some bytes of the line.
 pub fn read_choice<C: Console>(console: &mut C, n: u32, room: u64) -> Result<Heard, ConsoleFault>
     ensures line { IfOk result (λ heard. Did C.talk C.left console.old console.new (λ come events rest.
         (cut : Cut) × ReadsLine room come events cut rest heard.taken × IsHeardAs n cut heard.said)) }
+    ensures cut_short { OnErr result (Did C.talk C.left console.old console.new (IsCutShort room)) }
     ensures within { IfOk result (λ heard. heard.taken ≤ room) }
     ensures some { IfOk result (λ heard. TakesSome heard.said heard.taken) }
     ensures place { IfOk result (λ heard. IsPlaceWithin n heard.said) }
@@ -72,11 +74,13 @@ pub fn read_choice<C: Console>(console: &mut C, n: u32, room: u64) -> Result<Hea
     })
 }
 
-/// Reads lines until one chooses a place among `n`. `taken` is the number of bytes of the run.
+/// Reads lines until one chooses a place among `n`. `taken` is the number of bytes of the run. A
+/// refused call heard a front of what it had to.
 pub fn choose<C: Console>(console: &mut C, n: u32, taken: &mut u64) -> Result<Choice, ConsoleFault>
     requires { taken.old ≤ MOST_TYPED }
     ensures heard { IfOk result (λ choice. Did C.talk C.left console.old console.new (λ come events rest.
         Hears n come taken.old events choice rest taken.new)) }
+    ensures cut_short { OnErr result (Did C.talk C.left console.old console.new (λ come events rest. HearsFront n come taken.old events rest)) }
     ensures place { IfOk result (λ choice. IsChoiceWithin n choice) }
     ensures within { taken.new ≤ MOST_TYPED }
     ensures cause { ConsoleCause (C.faults console.old) (C.faults console.new) result }
