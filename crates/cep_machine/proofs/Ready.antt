@@ -241,7 +241,7 @@ module _ (laws : StepLaws) (program : Parts) (state : Multiset) (rule : Rule) (v
       }))
 
   -- what the change leads to is the configuration after the step
-  pub is_next : {M : Type 0} (old new : Configuration M) (left added : List AtomTree) → old.state ≡ state → left ≡ full_instances values (needed_of rule) → added ≡ added_by rule values → new.state ≡ state_after old.state (gathered left) added → new.stage ≡ unwrap_or rule.next old.stage → new.turns ≡ old.turns + 1 → IsNext rule values old new
+  pub is_next : {M : Type 0} (old new : Configuration M) (left added : List AtomTree) → old.state ≡ state → left ≡ full_instances values (needed_of rule) → added ≡ added_by rule values → new.state ≡ state_after old.state (gathered left) added → new.stage ≡ unwrap_or rule.next old.stage → new.turns ≡ old.turns + 1 → IsNext program rule values old new
   is_next old new left added same same_left same_added after stage turns =
       let state' : new.state ≡ next_state rule values state =
       after
@@ -249,11 +249,13 @@ module _ (laws : StepLaws) (program : Parts) (state : Multiset) (rule : Rule) (v
       ∙ ap (λ (atoms : List AtomTree). state_after state (gathered atoms) added) same_left
       ∙ ap (λ (atoms : List AtomTree). state_after state (left_of rule values) atoms) same_added in
       record {
-        fit = weighed.0;
-        step =
-            subst (λ (bag : Multiset). Step rule values bag new.state) (sym same)
-            (subst (λ (bag : Multiset). Step rule values state bag) (sym state') (laws.edit program.signature rule values state is.typed is.are is_state.bag is.contained));
-        fits = subst Fits (sym state') weighed.1;
-        stage = stage;
+        steps = record {
+          fit = weighed.0;
+          step =
+              subst (λ (bag : Multiset). Step rule values bag new.state) (sym same)
+              (subst (λ (bag : Multiset). Step rule values state bag) (sym state') (laws.edit program.signature rule values state is.typed is.are is_state.bag is.contained));
+          fits = subst Fits (sym state') weighed.1;
+          stage = stage;
+        };
         turns = turns;
       }

@@ -8,6 +8,7 @@ use Rattle.cep_base.specs.declared.limits.TheConstants.{MOST_STAGES}
 use Rattle.cep_rule.specs.declared.parts.Parts.{Parts}
 use Rattle.cep_rule.specs.State.{IsState, Fits}
 use Rattle.cep_rule.specs.Stages.{leaving_group}
+use Rattle.cep_rule.specs.Steps.{Spot}
 
 -- A configuration: the stage, the state, how many turns are done, and the matcher of the state.
 pub record Configuration (M : Type 0) : Type 0 where
@@ -15,6 +16,10 @@ pub record Configuration (M : Type 0) : Type 0 where
   pub state : Multiset
   pub turns : ℕ
   pub matcher : M
+
+-- where the configuration stands
+abbrev pub spot_of : {M : Type 0} → Configuration M → Spot
+spot_of config = record { stage = config.stage; state = config.state }
 
 -- A configuration is of a program where its matcher is, its stage is one of the program's, and its state is a state of the program that fits.
 pub record IsConfigurationOf {M : Type 0} (is_of : Parts → M → Type 0) (program : Parts) (config : Configuration M) : Type 0 where

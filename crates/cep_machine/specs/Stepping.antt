@@ -1,20 +1,19 @@
 -- What a step of a configuration comes to.
-use Rattle.std.specs.Prelude.{◌≡◌, ℕ, ◌+◌, List, ◌++◌, Some, slice_get, unwrap_or}
-use Rattle.std.specs.List.{AllByRecursion}
-use Rattle.cep_term.specs.Tree.{Tree, AtomTree, IsFit}
+use Rattle.std.specs.Prelude.{◌≡◌, ℕ, ◌+◌, List, ◌++◌, Some, slice_get}
+use Rattle.cep_term.specs.Tree.{Tree, AtomTree}
 use Rattle.cep_term.specs.Multiset.{Multiset}
 use Rattle.cep_rule.specs.declared.rule.Rule.{Rule}
 use Rattle.cep_rule.specs.declared.parts.Parts.{Parts}
 use Rattle.cep_rule.specs.declared.offer.Offer.{Offer}
-use Rattle.cep_rule.specs.State.{Fits}
 use Rattle.cep_rule.specs.Instances.{full_instances, kept_of}
 use Rattle.cep_rule.specs.Step.{Step}
+use Rattle.cep_rule.specs.Steps.{MakesFit, StepsTo}
 use Rattle.cep_rule.specs.Matching.{RoseBy}
 use Rattle.cep_machine.specs.declared.stepped.Which.{Which}
 use Rattle.cep_machine.specs.declared.stepped.Which.TheVariants.{Atom, State}
 use Rattle.cep_machine.specs.declared.stepped.Stepped.{Stepped}
 use Rattle.cep_machine.specs.declared.stepped.Stepped.TheVariants.{Done, Limit}
-use Rattle.cep_machine.specs.Configuration.{Configuration}
+use Rattle.cep_machine.specs.Configuration.{Configuration, spot_of}
 use Rattle.cep_machine.specs.Asking.{asked_offers}
 use Rattle.cep_machine.specs.Passing.{IsFirstTooLarge, IsTooFull}
 
@@ -28,23 +27,20 @@ pub record IsAskedAt (program : Parts) (lists : List (List Offer)) (stage place 
 abbrev pub added_by : Rule → List Tree → List AtomTree
 added_by rule values = full_instances values (rule.right ++ kept_of rule)
 
--- The configuration after a step: all right atoms are fit, the state is the one after the step and fits, the stage is the one that the rule names where it names one, and one more turn is done.
-pub record IsNext {M : Type 0} (rule : Rule) (values : List Tree) (old new : Configuration M) : Type 0 where
-  pub fit : AllByRecursion IsFit (full_instances values rule.right)
-  pub step : Step rule values old.state new.state
-  pub fits : Fits new.state
-  pub stage : new.stage ≡ unwrap_or rule.next old.stage
+-- The configuration after a step: the step leads to where it stands, and one more turn is done.
+pub record IsNext {M : Type 0} (program : Parts) (rule : Rule) (values : List Tree) (old new : Configuration M) : Type 0 where
+  pub steps : StepsTo program rule values (spot_of old) (spot_of new)
   pub turns : new.turns ≡ old.turns + 1
 
 -- A step passes a limit by a number: that of an atom, by its first right atom that is not fit; or that of a state, where all are fit and the state after it does not fit.
 abbrev pub Passes : Rule → List Tree → Multiset → Which → ℕ → Type 0
 Passes rule values state Atom number = IsFirstTooLarge (full_instances values rule.right) number
-Passes rule values state State number = AllByRecursion IsFit (full_instances values rule.right) × ((new : Multiset) × Step rule values state new × IsTooFull new number)
+Passes rule values state State number = MakesFit rule values × ((new : Multiset) × Step rule values state new × IsTooFull new number)
 
 -- What a step comes to: the configuration after it, or the old one with the limit that the step would pass.
-abbrev pub IsStepped : {M : Type 0} → Rule → List Tree → Configuration M → Stepped M → Type 0
-IsStepped rule values old (Done new) = IsNext rule values old new
-IsStepped rule values old (Limit config which number) = (config ≡ old) × Passes rule values old.state which number
+abbrev pub IsStepped : {M : Type 0} → Parts → Rule → List Tree → Configuration M → Stepped M → Type 0
+IsStepped program rule values old (Done new) = IsNext program rule values old new
+IsStepped program rule values old (Limit config which number) = (config ≡ old) × Passes rule values old.state which number
 
 -- the configuration that is there after a step, whatever it came to
 abbrev pub config_after : {M : Type 0} → Stepped M → Configuration M

@@ -37,7 +37,7 @@ impl<M: Matcher> Config<M> {
         requires turns { self.turns < MOST_TURNS }
         ensures stepped { (rule : Rule) (values : List Tree)
             → IsAskedAt program.now (M.offers_held self.matcher) self.stage i rule values
-            → IfOk result (IsStepped rule values self) }
+            → IfOk result (IsStepped program.now rule values self) }
         ensures ticked { (rule : Rule) (values : List Tree)
             → IsAskedAt program.now (M.offers_held self.matcher) self.stage i rule values
             → IfOk result (λ stepped. RoseIfDone (M.may_edit program.now self.state (M.height_held self.matcher) (left_of rule values) (added_by rule values)) stepped steps.old steps.new) }

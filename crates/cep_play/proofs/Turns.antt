@@ -159,7 +159,7 @@ module _ {M : Type 0} (program : Parts) (height : ℕ) (held : Multiset) (group 
   stays = (all_at IsPlainRule program.rules built.rules offer.rule rule_of numbered).next
 
   -- the step was done
-  pub step_acts : (new : Configuration M) (bytes : List ℕ) → ((rule : Rule) (values : List Tree) → IsAskedAt program lists old.stage i rule values → IsNext rule values old new) → bytes ≡ step_line program offer
+  pub step_acts : (new : Configuration M) (bytes : List ℕ) → ((rule : Rule) (values : List Tree) → IsAskedAt program lists old.stage i rule values → IsNext program rule values old new) → bytes ≡ step_line program offer
       → (come : List ℕ) (events : List Event) (rest : List ℕ) → (events ≡ outs bytes) × (rest ≡ come) → Acts program offers place (position_of old) (position_of new) come events rest
   step_acts new bytes stepped line come events rest put =
       let next = stepped rule_of offer.values chosen_there in
@@ -167,17 +167,17 @@ module _ {M : Type 0} (program : Parts) (height : ℕ) (held : Multiset) (group 
         offer = offer;
         rule = rule_of;
         placed = is_placed;
-        steps = record { fit = next.fit; step = next.step; fits = next.fits; stage = next.stage };
+        steps = next.steps;
         written = put.0 ∙ ap outs line;
         untaken = put.1;
       }
 
-  pub one_turn_more : (new : Configuration M) → ((rule : Rule) (values : List Tree) → IsAskedAt program lists old.stage i rule values → IsNext rule values old new) → new.turns ≡ old.turns + 1
+  pub one_turn_more : (new : Configuration M) → ((rule : Rule) (values : List Tree) → IsAskedAt program lists old.stage i rule values → IsNext program rule values old new) → new.turns ≡ old.turns + 1
   one_turn_more new stepped = (stepped rule_of offer.values chosen_there).turns
 
   -- the stage stays
-  pub same_stage : (new : Configuration M) → ((rule : Rule) (values : List Tree) → IsAskedAt program lists old.stage i rule values → IsNext rule values old new) → new.stage ≡ old.stage
-  same_stage new stepped = (stepped rule_of offer.values chosen_there).stage ∙ ap (λ next. unwrap_or next old.stage) stays
+  pub same_stage : (new : Configuration M) → ((rule : Rule) (values : List Tree) → IsAskedAt program lists old.stage i rule values → IsNext program rule values old new) → new.stage ≡ old.stage
+  same_stage new stepped = (stepped rule_of offer.values chosen_there).steps.stage ∙ ap (λ next. unwrap_or next old.stage) stays
 
   -- the step would pass a limit
   pub step_fails : (last : Configuration M) (which : Which) (number : ℕ) → ((rule : Rule) (values : List Tree) → IsAskedAt program lists old.stage i rule values → (last ≡ old) × Passes rule values old.state which number)

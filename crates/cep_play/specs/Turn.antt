@@ -11,7 +11,7 @@ use Rattle.cep_rule.specs.Program.{IsProgram}
 use Rattle.cep_rule.specs.Steps.{StepsTo}
 use Rattle.cep_machine.specs.declared.stepped.Which.{Which}
 use Rattle.cep_machine.specs.declared.stepped.Which.TheVariants as which
-use Rattle.cep_machine.specs.Configuration.{Configuration, IsConfigurationOf}
+use Rattle.cep_machine.specs.Configuration.{Configuration, spot_of, IsConfigurationOf}
 use Rattle.cep_play.specs.declared.choice.Choice.{Choice}
 use Rattle.cep_play.specs.declared.ending.EndWord.{EndWord}
 use Rattle.cep_play.specs.declared.ending.EndWord.TheVariants.{Atom, State}
@@ -26,7 +26,7 @@ use Rattle.cep_play.specs.Dialogue.{turn_events, last_events}
 
 -- where a configuration stands
 abbrev pub position_of : {M : Type 0} → Configuration M → Position
-position_of config = record { spot = record { stage = config.stage; state = config.state }; turns = config.turns }
+position_of config = record { spot = spot_of config; turns = config.turns }
 
 -- what is left of the supply behind so many bytes, where no word was drawn
 abbrev pub undrawn : List ℕ → ℕ → Supply

@@ -32,12 +32,12 @@ returns-in-Done-clause-acted g c =
       did_map talk left c.args.console.now c.put.new.self _ _
           (step_acts program (g.M.Matcher.height_held matcher) (g.M.Matcher.state_held matcher) c.args.group lists offers c.args.place (c.args.place - 1) offer old
           c.requires.built are (rw c.matcher.ensures.matcher at c.offer.ensures) refl c.requires.asked c.in-Done.config c.bytes.result.now
-          (λ rule values h. subst (λ s. IsStepped rule values old s) c.in-Done.is (c.in_ok-config.ensures.stepped rule values h))
+          (λ rule values h. subst (λ s. IsStepped c.args.program.now rule values old s) c.in-Done.is (c.in_ok-config.ensures.stepped rule values h))
           (c.bytes.ensures ∙ (c.in_ok-put_step.ensures ∙ ap (λ xs. xs ++ step_line program offer) c.new-line.ensures)))
           (did_put talk left c.args.console.now c.put.new.self c.bytes.result.now c.in_ok-put-in-Done.ensures.written c.in_ok-put-in-Done.ensures.left),
       one_turn_more program (g.M.Matcher.height_held matcher) (g.M.Matcher.state_held matcher) c.args.group lists offers c.args.place (c.args.place - 1) offer old
           c.requires.built are (rw c.matcher.ensures.matcher at c.offer.ensures) refl c.requires.asked c.in-Done.config
-          (λ rule values h. subst (λ s. IsStepped rule values old s) c.in-Done.is (c.in_ok-config.ensures.stepped rule values h)),
+          (λ rule values h. subst (λ s. IsStepped c.args.program.now rule values old s) c.in-Done.is (c.in_ok-config.ensures.stepped rule values h)),
     )
 
 pub returns-clause-acted : goal.returns-clause-acted
@@ -58,11 +58,11 @@ returns-clause-acted g c =
       did_map talk left console console _ _
           (step_fails program (g.M.Matcher.height_held matcher) (g.M.Matcher.state_held matcher) c.args.group lists offers c.args.place (c.args.place - 1) offer old
           c.requires.built are (rw c.matcher.ensures.matcher at c.offer.ensures) refl c.requires.asked last c.in-Limit.which c.in-Limit.number
-          (λ rule values h. subst (λ s. IsStepped rule values old s) c.in-Limit.is (c.in_ok-config.ensures.stepped rule values h)))
+          (λ rule values h. subst (λ s. IsStepped c.args.program.now rule values old s) c.in-Limit.is (c.in_ok-config.ensures.stepped rule values h)))
           (did_same talk left console console refl refl),
       left_alone program (g.M.Matcher.height_held matcher) (g.M.Matcher.state_held matcher) c.args.group lists offers c.args.place (c.args.place - 1) offer old
           c.requires.built are (rw c.matcher.ensures.matcher at c.offer.ensures) refl c.requires.asked last c.in-Limit.which c.in-Limit.number
-          (λ rule values h. subst (λ s. IsStepped rule values old s) c.in-Limit.is (c.in_ok-config.ensures.stepped rule values h)),
+          (λ rule values h. subst (λ s. IsStepped c.args.program.now rule values old s) c.in-Limit.is (c.in_ok-config.ensures.stepped rule values h)),
     ))
 
 pub returns-in-Done-clause-played : goal.returns-in-Done-clause-played
@@ -76,7 +76,7 @@ returns-in-Done-clause-played g c =
     let are = (g.met.M.Matcher.exact program matcher c.requires.played.of_program.matcher).each c.args.group c.requires.listed in
     let stage = same_stage program (g.M.Matcher.height_held matcher) (g.M.Matcher.state_held matcher) c.args.group lists offers c.args.place (c.args.place - 1) c.offer.result.now old
     c.requires.built are (rw c.matcher.ensures.matcher at c.offer.ensures) refl c.requires.asked new
-    (λ rule values h. subst (λ s. IsStepped rule values old s) c.in-Done.is (c.in_ok-config.ensures.stepped rule values h)) in
+    (λ rule values h. subst (λ s. IsStepped c.args.program.now rule values old s) c.in-Done.is (c.in_ok-config.ensures.stepped rule values h)) in
     record {
       of_program = subst (λ s. IsConfigurationOf g.M.Matcher.is_of program (config_after s)) c.in-Done.is c.in_ok-config.ensures.of_program;
       height = subst (λ s. g.M.Matcher.height_held (config_after s).matcher ≡ g.M.Matcher.height_held matcher) c.in-Done.is c.in_ok-config.ensures.same_height ∙ c.requires.played.height;

@@ -89,6 +89,6 @@ returns-in_ok-changed-in-Within-clause-stepped g c =
     c.in_ok-changed-in-Within.ensures.stage ∙ c.unwrap_or.ensures
     ∙ ap (λ (config : Configuration g.row.M.Denot). unwrap_or c.get-rule.result.now.next config.stage) c.self.view_is in
     chosen_once c.args.program.now (g.M.Matcher.offers_held c.args.self.matcher) c.args.self.stage c.args.i (offers_of (g.M.Matcher.offers_held c.args.self.matcher) c.unwrap-group.result) c.offer-offer.result.now c.get-rule.result.now offers placed numbered
-    (λ (rule : Rule) (values : List Tree). IsNext rule values c.args.self new)
+    (λ (rule : Rule) (values : List Tree). IsNext c.args.program.now rule values c.args.self new)
     (is_next c.steps_are_lawful.ensures c.args.program.now c.self.inside.state c.get-rule.result.now c.offer-offer.result.now.values is own.is_state own.fits c.in-Within.nodes weighed c.args.self new c.in_ok-left_atoms-in-Within.field-0 c.in_ok-added_atoms-in-Within.field-0
     (sym same) c.in_ok-left_atoms-in-Within.ensures c.in_ok-added_atoms-in-Within.ensures c.in_ok-changed-in-Within.ensures.state stage c.in_ok-changed-in-Within.ensures.turns)
