@@ -1,0 +1,207 @@
+// The tokens of texts, and the lines and columns of places.
+use crate::repeated::{push_times, times};
+use cep_base::limits::MOST_TEXT;
+use cep_lex::{LexFault, lex, place};
+use std::alloc::Global;
+use std::test::Fail;
+
+// Texts, each under the line of its tokens.
+fn lexed_texts() -> &'static str {
+    "
+
+=
+
+ \t\r
+
+=
+
+% a comment\r% ; still
+=
+Name 0-1;Name 4-5;
+a%b
+c
+=
+Dot 5-6;
+%
+%;
+.
+=
+KwType 0-4;KwPred 5-9;KwBwd 10-13;
+type pred bwd
+=
+KwFact 0-4;KwStage 5-10;
+fact stage
+=
+KwContext 0-7;KwQui 8-11;
+context qui
+=
+Name 0-5;Name 6-9;
+typed typ
+=
+Name 0-8;Variable 9-11;Variable 12-16;
+meet/two L' Type
+=
+Name 0-6;
+a_1'/Z
+=
+Blank 0-1;Name 1-4;
+_x_1
+=
+Blank 0-1;Number 1-2;
+_1
+=
+Blank 0-1;Variable 1-2;
+_X
+=
+Number 0-2;Name 2-4;
+01a2
+=
+Directive 0-6;Directive 6-8;Number 8-9;
+#trace#a1
+=
+Name 0-1;Lolli 1-3;Name 4-5;
+a-o b
+=
+Lolli 0-2;Name 2-3;Back 3-5;Name 5-6;
+-ob<-c
+=
+Colon 0-1;Dot 1-2;Comma 2-3;Star 3-4;
+:.,*
+=
+Dollar 0-1;Equals 1-2;Open 2-3;Close 3-4;
+$=()
+=
+OpenBrace 0-1;CloseBrace 1-2;
+{}
+=
+bad byte at 2
+d ; u.
+=
+bad byte at 2
+a -
+=
+bad byte at 2
+a < -o
+=
+bad byte at 0
+# trace
+=
+bad byte at 1
+_'"
+}
+
+// Bytes that are no text, each line under the line of its tokens. In a comment each byte may stand.
+fn lexed_bytes() -> (&'static [u8], &'static [u8]) {
+    (b"a\xffb", b"% \xff;\n;")
+}
+
+// The tokens of a text, or its fault, in words.
+fn shown(alloc: Global, text: &[u8]) -> Result<String, Fail> {
+    if text.len() > MOST_TEXT {
+        return Ok(format!(in alloc; "too long")?);
+    }
+    match lex(alloc, text)? {
+        Ok(tokens) => {
+            let mut words = String::new(alloc);
+            for token in tokens.as_slice() {
+                let word = format!(in alloc; "{:?} {}-{};", token.kind, token.from, token.to)?;
+                words.push_str(word.as_str())?;
+            }
+            Ok(words)
+        }
+        Err(LexFault::BadByte { at }) => Ok(format!(in alloc; "bad byte at {at}")?),
+        Err(LexFault::NameLong { at }) => Ok(format!(in alloc; "long name at {at}")?),
+    }
+}
+
+#[test]
+fn texts_have_these_tokens(rt: HostRuntime) -> Result<(), Fail> {
+    let alloc = rt.alloc();
+    for entry in lexed_texts().split("\n=\n") {
+        let (words, text) = entry.split_once('\n').ok_or("no text")?;
+        assert_eq!(rt;
+            shown(alloc, text.as_bytes())?.as_str(),
+            words,
+            "at {}",
+            text
+        );
+    }
+    Ok(())
+}
+
+#[test]
+fn in_a_comment_each_byte_may_stand(rt: HostRuntime) -> Result<(), Fail> {
+    let alloc = rt.alloc();
+    let (bare, in_comment) = lexed_bytes();
+    assert_eq!(rt; shown(alloc, bare)?.as_str(), "bad byte at 1");
+    assert_eq!(rt; shown(alloc, in_comment)?.as_str(), "bad byte at 5");
+    Ok(())
+}
+
+// The tokens of a text in which a part stands so many times.
+fn shown_times(
+    alloc: Global,
+    before: &str,
+    part: &str,
+    count: usize,
+    behind: &str,
+) -> Result<String, Fail> {
+    let mut text = String::from_str(alloc, before)?;
+    push_times(&mut text, part, count)?;
+    text.push_str(behind)?;
+    shown(alloc, text.as_bytes())
+}
+
+#[test]
+fn a_name_has_at_most_255_bytes(rt: HostRuntime) -> Result<(), Fail> {
+    for (before, part, count, behind, words) in [
+        ("", "a", 255, "", "Name 0-255;"),
+        ("", "a", 255, "_", "long name at 0"),
+        ("", "7", 300, "", "Number 0-300;"),
+        ("#", "a", 254, "", "Directive 0-255;"),
+        ("#", "a", 255, " ;", "long name at 0"),
+        ("; #", "a", 255, "", "bad byte at 0"),
+    ] {
+        let tokens = shown_times(rt.alloc(), before, part, count, behind)?;
+        assert_eq!(rt; tokens.as_str(), words);
+    }
+    Ok(())
+}
+
+#[test]
+fn a_largest_text_is_lexed(rt: HostRuntime) -> Result<(), Fail> {
+    let mut text = times(rt.alloc(), "%", 48_576)?;
+    text.push_str(times(rt.alloc(), "\n.", 500_000)?.as_str())?;
+    if text.len() > MOST_TEXT {
+        return Err(Fail::from("long"));
+    }
+    let tokens = lex(rt.alloc(), text.as_bytes())?;
+    let count = tokens.map_or(0, |tokens| tokens.len());
+    assert_eq!(rt; count, 500_000);
+    Ok(())
+}
+
+// A text of lines that end in different ways, and of a letter of two bytes.
+fn lines() -> &'static [u8] {
+    b"a\n\nb\xc3\xa9c\r\nd"
+}
+
+#[test]
+fn places_count_lines_and_bytes(rt: HostRuntime) {
+    let text = lines();
+    for (at, line, col) in [
+        (0, 1, 1),
+        (1, 1, 2),
+        (2, 2, 1),
+        (3, 3, 1),
+        (6, 3, 4),
+        (8, 3, 6),
+        (9, 4, 1),
+        (10, 4, 2),
+    ] {
+        if at as usize <= text.len() && text.len() <= MOST_TEXT {
+            let pos = place(text, at);
+            assert_eq!(rt; (pos.line, pos.col), (line, col));
+        }
+    }
+}

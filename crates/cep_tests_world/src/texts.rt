@@ -1,0 +1,210 @@
+// The canonical texts of terms, atoms, offers and derivations, which are read and written again, and
+// texts that are of nothing.
+use crate::repeated::push_times;
+use crate::sample::numbers;
+use cep_base::Text;
+use cep_rule::Program;
+use cep_text::{
+    put_atom, put_offer, put_proof, put_term, read_atom, read_offer, read_proof, read_term,
+};
+use std::alloc::{AllocError, Global};
+use std::process::Abort;
+use std::test::Fail;
+
+// For each kind of text, texts of it, one on each line.
+fn texts() -> [(&'static str, &'static str); 4] {
+    [
+        ("term", "z\n(s z)"),
+        ("atom", "num (s z)\nplus z (s (s z)) z"),
+        ("offer", "r N=(s z)"),
+        ("proof", "[1 N=z]\n[2 M=z N=z P=(s z) [1 N=(s z)]]"),
+    ]
+}
+
+// For each kind of text, texts that are of nothing of this kind, one on each line.
+fn other_texts() -> [(&'static str, &'static str); 4] {
+    [
+        (
+            "term",
+            "\ns\ns z\n(s  z)\n((s z))\n(z)\n(s z\n(s z) \nnum\nN",
+        ),
+        ("atom", "\nnum\nnum s z\n(num z)\nnum  z\nnum z z\nnu z"),
+        ("offer", "\nr\nr M=z\nr N=s\nr  N=z\nr N=z N=z\nq N=z"),
+        (
+            "proof",
+            "\n[0 N=z]\n[01 N=z]\n[+1 N=z]\n[3 N=z]\n[1 N=z\n[1 N=z [1 N=z]]\n[2 M=z N=z P=z]",
+        ),
+    ]
+}
+
+// Whether the bytes are the text of a natural number, which is written.
+fn term_again(
+    alloc: Global,
+    program: &Program,
+    bytes: &[u8],
+    out: &mut Text,
+) -> Result<bool, AllocError> {
+    match read_term(alloc, program, 0, bytes)? {
+        Some(term) => {
+            put_term(program, &term, out)?;
+            Ok(true)
+        }
+        None => Ok(false),
+    }
+}
+
+// Whether the bytes are the text of an atom, which is written.
+fn atom_again(
+    alloc: Global,
+    program: &Program,
+    bytes: &[u8],
+    out: &mut Text,
+) -> Result<bool, AllocError> {
+    match read_atom(alloc, program, bytes)? {
+        Some(atom) => {
+            put_atom(program, &atom, out)?;
+            Ok(true)
+        }
+        None => Ok(false),
+    }
+}
+
+// Whether the bytes are the text of an offer, which is written.
+fn offer_again(
+    alloc: Global,
+    program: &Program,
+    bytes: &[u8],
+    out: &mut Text,
+) -> Result<bool, AllocError> {
+    match read_offer(alloc, program, bytes)? {
+        Some(offer) => {
+            put_offer(program, &offer, out)?;
+            Ok(true)
+        }
+        None => Ok(false),
+    }
+}
+
+// Whether the bytes are the text of a derivation, which is written.
+fn proof_again(
+    alloc: Global,
+    program: &Program,
+    bytes: &[u8],
+    out: &mut Text,
+) -> Result<bool, AllocError> {
+    match read_proof(alloc, program, bytes)? {
+        Some(derivation) => {
+            put_proof(program, &derivation, out)?;
+            Ok(true)
+        }
+        None => Ok(false),
+    }
+}
+
+// Whether the text is one of this kind, and then it is written again byte for byte.
+fn is_text(alloc: Global, program: &Program, kind: &str, text: &str) -> Result<bool, Fail> {
+    let bytes = text.as_bytes();
+    let mut out = Text::new(alloc);
+    let read = match kind {
+        "term" => term_again(alloc, program, bytes, &mut out)?,
+        "atom" => atom_again(alloc, program, bytes, &mut out)?,
+        "offer" => offer_again(alloc, program, bytes, &mut out)?,
+        _ => proof_again(alloc, program, bytes, &mut out)?,
+    };
+    if read && out.bytes() != bytes {
+        return Err(Fail::from("written otherwise"));
+    }
+    Ok(read)
+}
+
+// Whether the lines are texts of this kind, or none of them is.
+fn expect_texts(
+    rt: &impl Abort,
+    alloc: Global,
+    program: &Program,
+    (kind, lines): (&str, &str),
+    are_texts: bool,
+) -> Result<(), Fail> {
+    for line in lines.split('\n') {
+        assert_eq!(rt;
+            is_text(alloc, program, kind, line)?,
+            are_texts,
+            "at {}",
+            line
+        );
+    }
+    Ok(())
+}
+
+#[test]
+fn what_is_read_is_written_again(rt: HostRuntime) -> Result<(), Fail> {
+    let alloc = rt.alloc();
+    let program = numbers(alloc)?;
+    for case in texts() {
+        expect_texts(&rt, alloc, &program, case, true)?;
+    }
+    Ok(())
+}
+
+#[test]
+fn other_texts_are_of_nothing(rt: HostRuntime) -> Result<(), Fail> {
+    let alloc = rt.alloc();
+    let program = numbers(alloc)?;
+    for case in other_texts() {
+        expect_texts(&rt, alloc, &program, case, false)?;
+    }
+    assert!(rt; read_term(alloc, &program, 1, b"z")?.is_none());
+    Ok(())
+}
+
+// A text with so many levels: each but the innermost begins and ends so.
+fn nested(
+    alloc: Global,
+    levels: usize,
+    begin: &str,
+    inner: &str,
+    end: &str,
+) -> Result<String, AllocError> {
+    let mut text = String::new(alloc);
+    push_times(&mut text, begin, levels.saturating_sub(1))?;
+    text.push_str(inner)?;
+    push_times(&mut text, end, levels.saturating_sub(1))?;
+    Ok(text)
+}
+
+// How a derivation by the second clause begins, which has one goal.
+fn goal() -> &'static str {
+    "[2 M=z N=z P=z "
+}
+
+// Whether there is a text of this kind with so many levels.
+fn has_levels(
+    alloc: Global,
+    program: &Program,
+    kind: &str,
+    levels: usize,
+    (begin, inner, end): (&str, &str, &str),
+) -> Result<bool, Fail> {
+    let text = nested(alloc, levels, begin, inner, end)?;
+    is_text(alloc, program, kind, text.as_str())
+}
+
+#[test]
+fn a_term_has_at_most_512_levels(rt: HostRuntime) -> Result<(), Fail> {
+    let alloc = rt.alloc();
+    let program = numbers(alloc)?;
+    let parts = ("(s ", "z", ")");
+    assert!(rt; has_levels(alloc, &program, "term", 512, parts)?);
+    assert!(rt; !has_levels(alloc, &program, "term", 513, parts)?);
+    Ok(())
+}
+
+#[test]
+fn a_derivation_has_at_most_512_open_brackets(rt: HostRuntime) -> Result<(), Fail> {
+    let alloc = rt.alloc();
+    let program = numbers(alloc)?;
+    let parts = (goal(), "[1 N=z]", "]");
+    assert!(rt; has_levels(alloc, &program, "proof", 512, parts)?);
+    assert!(rt; !has_levels(alloc, &program, "proof", 513, parts)?);
+    Ok(())
+}
