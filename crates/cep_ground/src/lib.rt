@@ -8,6 +8,3 @@ mod refusals;
 mod sealing;
 
 pub use accepting::accept;
-
-#[cfg(test)]
-mod acceptance_tests;

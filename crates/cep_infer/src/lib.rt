@@ -18,6 +18,3 @@ mod terms;
 pub use cep_names::Reason;
 pub use draft::{Draft, PlaceLists, Places, Refusal};
 pub use resolving::resolve;
-
-#[cfg(test)]
-mod tests;

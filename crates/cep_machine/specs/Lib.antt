@@ -7,4 +7,3 @@ pub mod Weighing
 pub mod Changing
 pub mod BagLaws
 pub mod StepLaws
-pub mod Sample

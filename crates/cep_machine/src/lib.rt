@@ -16,8 +16,6 @@ mod sides;
 mod size;
 mod stepped;
 mod stepping;
-#[cfg(test)]
-mod tests;
 mod weighing;
 
 pub use config::Config;

@@ -5,4 +5,3 @@ pub mod StepLaws
 pub mod InstanceLaws
 pub mod SideLaws
 pub mod GroundLaws
-pub mod Sample

@@ -21,8 +21,6 @@ mod program;
 mod rule;
 mod signature;
 mod terms;
-#[cfg(test)]
-mod tests;
 
 pub use atoms::AtomList;
 pub use clause::{Clause, Clauses};

@@ -7,4 +7,3 @@ pub mod Values
 pub mod RuleMatches
 pub mod Collecting
 pub mod Editing
-pub mod Sample

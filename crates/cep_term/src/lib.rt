@@ -25,6 +25,3 @@ pub use entries::Missing;
 pub use matching::meet;
 pub use measure::{depth, nodes};
 pub use term::{Args, Atom, Term};
-
-#[cfg(test)]
-mod tests;
