@@ -13,8 +13,3 @@ mod uses;
 mod variables;
 
 pub use checking::named;
-
-#[cfg(test)]
-mod refusals;
-#[cfg(test)]
-mod tests;

@@ -10,6 +10,3 @@ mod sealing;
 
 pub use accepting::accept;
 pub use length::too_long;
-
-#[cfg(test)]
-mod acceptance_tests;

@@ -18,6 +18,3 @@ mod terms;
 pub use cep_refusal::{Reason, Refusal};
 pub use draft::{Draft, PlaceLists, Places};
 pub use resolving::resolve;
-
-#[cfg(test)]
-mod tests;

@@ -14,6 +14,3 @@ pub use laws::lexed_once;
 pub use lexing::lex;
 pub use places::place;
 pub use token::{Token, TokenKind, Tokens};
-
-#[cfg(test)]
-mod tests;

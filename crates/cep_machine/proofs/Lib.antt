@@ -4,5 +4,4 @@ pub mod Premises
 pub mod Weights
 pub mod Ranges
 pub mod Ready
-pub mod Sample
 pub mod Entries

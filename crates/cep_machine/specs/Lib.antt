@@ -6,4 +6,3 @@ pub mod Sizes
 pub mod Weighing
 pub mod Changing
 pub mod StepLaws
-pub mod Sample

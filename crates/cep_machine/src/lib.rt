@@ -15,8 +15,6 @@ mod sides;
 mod size;
 mod stepped;
 mod stepping;
-#[cfg(test)]
-mod tests;
 mod weighing;
 
 pub use config::Config;

@@ -20,6 +20,3 @@ pub use raw::{
     RawAtom, RawAtoms, RawElem, RawFile, RawItem, RawKind, RawNode, RawNodes, RawRule, RawRules,
     RawSide, RawStart, Span, Spans,
 };
-
-#[cfg(test)]
-mod tests;

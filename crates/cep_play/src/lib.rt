@@ -14,8 +14,3 @@ mod typed;
 
 pub use command::ceptre;
 pub use laws::one_dialogue;
-
-#[cfg(test)]
-mod limit_tests;
-#[cfg(test)]
-mod tests;

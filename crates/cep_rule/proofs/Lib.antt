@@ -6,4 +6,3 @@ pub mod InstanceLaws
 pub mod TypedAtoms
 pub mod SideLaws
 pub mod GroundLaws
-pub mod Sample

@@ -19,8 +19,6 @@ mod parts;
 mod program;
 mod rule;
 mod signature;
-#[cfg(test)]
-mod tests;
 
 pub use cep_term::{AtomList, Terms};
 pub use clause::{Clause, Clauses};

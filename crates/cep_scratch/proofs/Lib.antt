@@ -6,4 +6,3 @@ pub mod Ordered
 pub mod Values
 pub mod RuleMatches
 pub mod Collecting
-pub mod Sample

@@ -1,4 +1,3 @@
 pub mod Partial
 pub mod Groups
 pub mod Scratch
-pub mod Sample

@@ -10,7 +10,5 @@ mod groups;
 mod partial;
 mod scratch;
 mod search;
-#[cfg(test)]
-mod tests;
 
 pub use scratch::Scratch;

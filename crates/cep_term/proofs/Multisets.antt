@@ -1,6 +1,6 @@
 -- Laws of multisets: what their edits, sums and differences do to counts, copies and nodes.
 use Rattle.std.proofs.Common.{◌≡◌, ℕ, ◌+◌, ◌-◌, ◌*◌, ◌<◌, ◌≤◌, Bool, true, false, cond, ◌==◌, ◌≢◌, List, [], ◌∷◌, ◌++◌, Option, Some, None, unwrap_or, refl, sym, ap, subst, ◌∙◌, arith}
-use Rattle.std.specs.Prelude.{fold, sum_by, Result, Ok, Err, OnOk}
+use Rattle.std.specs.Prelude.{fold, sum_by}
 use Rattle.std.specs.List.{AllByRecursion}
 use Rattle.std.proofs.lemmas.Bool.{eqb-true}
 use Rattle.std.proofs.lemmas.List.Sums.{sum_by-cons}
@@ -194,10 +194,6 @@ nodes_sum bag other = worth_sum (λ a n. n * atom_nodes a) no_nodes (λ a n m. a
 -- what one copy more makes of the copies
 pub copies_with_one : (bag : Multiset) (a : AtomTree) → copies_in (with_count bag a (count_of bag a + 1)) ≡ copies_in bag + 1
 copies_with_one bag a = omega (arith, copies_set_count bag a (count_of bag a + 1))
-
-pub copies_on_ok : {E : Type 0} (r : Result (Unit {0}) E) (old new : Multiset) (a : AtomTree) → OnOk r (new ≡ with_count old a (count_of old a + 1)) → OnOk r (copies_in new ≡ copies_in old + 1)
-copies_on_ok (Ok x) old new a e = ap (λ bag. copies_in bag) e ∙ copies_with_one old a
-copies_on_ok (Err error) old new a e = tt
 
 -- sums may be taken in any order and grouping
 pub sum_commutes : (bag other : Multiset) → IsBag bag → IsBag other → sum_of bag other ≡ sum_of other bag

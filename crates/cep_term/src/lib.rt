@@ -29,6 +29,3 @@ pub use matching::meet;
 pub use measure::{depth, nodes};
 pub use term::{Args, Atom, Term};
 pub use terms::Terms;
-
-#[cfg(test)]
-mod tests;

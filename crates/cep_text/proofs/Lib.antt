@@ -17,4 +17,3 @@ pub mod ProofsFound
 pub mod ProofsAgain
 pub mod ProofTexts
 pub mod OneText
-pub mod Sample

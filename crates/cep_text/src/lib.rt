@@ -12,8 +12,6 @@ mod read_proofs;
 mod read_terms;
 mod stop;
 mod terms;
-#[cfg(test)]
-mod tests;
 mod values;
 mod words;
 
