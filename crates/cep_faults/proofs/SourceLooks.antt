@@ -11,16 +11,13 @@ use Rattle.cep_names.specs.Spaces.{named, is_in}
 use Rattle.cep_names.specs.Tables.{Tables, AreTablesOf}
 use Rattle.cep_faults.specs.Looks.{looks_of, looks_in, labels, cons_by, clauses_by}
 
-sorts_said : (source : Source) (name : List ℕ) → is_in source space.Sorts name ≡ is_said source (sorts_of source) name
-sorts_said source name = any_map (λ other. bytes_eq other.name name) (named source) (sorts_of source)
-
 preds_said : (source : Source) (name : List ℕ) → is_in source space.Predicates name ≡ is_said source (map (λ pred. pred.name) (preds_of source)) name
 preds_said source name =
     any_map (λ other. bytes_eq other.name name) (λ pred. named source pred.name) (preds_of source)
     ∙ sym (any_map (λ span. bytes_eq (said source span) name) (λ pred. pred.name) (preds_of source))
 
 labels_is : (source : Source) (args : List Span) (right : Span) → labels (looks_of source) args right ≡ is_labelled source args right
-labels_is source args right = rw (sorts_said source (said source right), preds_said source (said source right)) refl
+labels_is source args right = rw (any_map (λ other. bytes_eq other.name (said source right)) (named source) (sorts_of source), preds_said source (said source right)) refl
 
 pub cons_by_is : (source : Source) (item : RawItem) → cons_by (looks_of source) item ≡ cons_in source item
 cons_by_is source (item.Colon left args right) = ap (λ b. con_or_none b (record { name = left; args = args; sort = right })) (labels_is source args right)

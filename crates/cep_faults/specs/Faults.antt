@@ -1,3 +1,4 @@
+-- Private.
 -- The faults of each part of a file, by what is looked up of its names.
 use Rattle.std.specs.Prelude.{ℕ, ◌==◌, Bool, true, false, ◌&&◌, if◌then◌else◌, List, [], ◌∷◌, ◌++◌, Option, Some, None, map, nat_le, count_by, slice_get}
 use Rattle.std.specs.List.{flat_map}

@@ -1,3 +1,4 @@
+-- Private.
 -- The terms that are still to come within an atom, by their levels.
 use Rattle.std.specs.Prelude.{ℕ, Bool, List, [], ◌∷◌, ◌++◌, nat_le}
 use Rattle.std.specs.List.{repeat}

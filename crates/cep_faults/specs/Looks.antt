@@ -1,3 +1,4 @@
+-- Private.
 -- What is looked up of a name, by the declarations of a text or by their tables.
 use Rattle.std.specs.Prelude.{ℕ, ◌==◌, Bool, not, ◌||◌, ◌&&◌, List, [], ◌∷◌, Option, length}
 use Rattle.std.specs.Option.{option_map}

@@ -1,3 +1,4 @@
+-- Private.
 -- The variables that were met so far, node by node.
 use Rattle.std.specs.Prelude.{ℕ, ◌+◌, if◌then◌else◌, List, [], ◌∷◌, ◌++◌, codes, decimal}
 use Rattle.cep_parse.specs.declared.raw.Span.{Span}

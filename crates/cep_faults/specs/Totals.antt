@@ -1,3 +1,4 @@
+-- Private.
 -- The faults of a whole file: of its numbers of declarations, of the variables of its rules and clauses, of the sizes of its atoms, and of its traces.
 use Rattle.std.specs.Prelude.{ℕ, Bool, true, false, ◌||◌, ◌&&◌, if◌then◌else◌, List, [], ◌∷◌, ◌++◌, Option, Some, None, map, length, ◌^◌, ◌-◌, min, nat_lt, nat_le, sum_by, slice_get}
 use Rattle.std.specs.List.{flat_map, find}

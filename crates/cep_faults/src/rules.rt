@@ -87,13 +87,12 @@ fn atom_past(side: &[RawElem], most: usize) -> Option<Fault>
 {
     let mut before = 0;
     for elem in side {
-        let Some(at) = atom_place(elem) else {
-            continue;
-        };
-        if before == most {
-            return past(Some(at));
+        if let Some(at) = atom_place(elem) {
+            if before == most {
+                return past(Some(at));
+            }
+            before += 1;
         }
-        before += 1;
     }
     None
 }

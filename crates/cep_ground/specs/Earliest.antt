@@ -1,3 +1,4 @@
+-- Private.
 -- The earliest of some places.
 use Rattle.std.specs.Prelude.{◌≡◌, List, [], Option, Some, None, Contains}
 use Rattle.cep_base.specs.declared.place.Pos.{Pos}

@@ -1,3 +1,4 @@
+-- Private.
 -- Atoms and premises that are built one after another, behind others.
 use Rattle.std.specs.Prelude.{◌≡◌, ℕ, not, List, ◌++◌, map, filter}
 use Rattle.cep_parse.specs.declared.raw.RawAtom.{RawAtom}

@@ -1,3 +1,4 @@
+-- Private.
 -- The rules and traces of a file, as they are kept at hand.
 use Rattle.std.specs.Prelude.{◌≡◌, ℕ, List, [], ◌∷◌, Option, Some, None}
 use Rattle.cep_parse.specs.declared.raw.RawRule.{RawRule}

@@ -1,3 +1,4 @@
+-- Private.
 -- What bytes begin with: a gap, or a token that the first byte tells. The public clauses speak of none of this.
 use Rattle.std.specs.Prelude.{◌≡◌, ◌≢◌, ◌⊎◌, ℕ, ◌<◌, ◌≤◌, ◌==◌, Bool, if◌then◌else◌, IsTrue, List, [], ◌∷◌, ◌++◌, length, take, drop, Err}
 use Rattle.std.specs.Char.{is_ascii_alphabetic, is_ascii_digit}

@@ -1,3 +1,4 @@
+-- Private.
 -- Changes of a configuration.
 use Rattle.std.specs.Prelude.{◌≡◌, ◌<◌, ◌≤◌, length}
 use Rattle.std.specs.List.{AllByRecursion}

@@ -1,3 +1,4 @@
+-- Private.
 -- Sizes of instances, by the sizes of the values.
 use Rattle.std.specs.Prelude.{◌+◌, ◌<◌, ◌≤◌, ◌^◌, List, length, max, slice_index_or}
 use Rattle.cep_base.specs.declared.limits.TheConstants.{MOST_NODES}

@@ -1,3 +1,4 @@
+-- Private.
 -- The laws of rules that the proofs of this crate rest on.
 use Rattle.std.specs.Prelude.{List}
 use Rattle.cep_term.specs.Tree.{Tree}

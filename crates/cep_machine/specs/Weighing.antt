@@ -1,3 +1,4 @@
+-- Private.
 -- What a step would pass, told from sizes.
 use Rattle.std.specs.Prelude.{◌≡◌, ◌≤◌, not, List, length, map, filter}
 use Rattle.std.specs.List.{AllByRecursion}

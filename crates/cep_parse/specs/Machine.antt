@@ -1,3 +1,4 @@
+-- Private.
 -- The states of a reading from left to right, and what a symbol does. The public clauses speak of none of this.
 use Rattle.std.specs.Prelude.{ℕ, ◌+◌, ◌==◌, Bool, true, false, if◌then◌else◌, List, [], ◌∷◌, ◌++◌, length, map, not, ◌&&◌, zero, suc, Option, None, Some, is_some, is_none}
 use Rattle.cep_parse.specs.declared.raw.Span.{Span}

@@ -1,3 +1,4 @@
+-- Private.
 -- What the bytes of a line spell so far, for a choice among n.
 use Rattle.std.specs.Prelude.{◌≡◌, ℕ, ◌<◌, ◌≤◌, List, [], ◌∷◌, ◌++◌, decimal}
 use Rattle.cep_play.specs.declared.typed.Typed.{Typed}

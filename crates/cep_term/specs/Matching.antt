@@ -1,3 +1,4 @@
+-- Private.
 -- Matching as it goes from left to right: each variable takes the first term that it meets, and later meets no other.
 use Rattle.std.specs.Prelude.{ℕ, Bool, ◌==◌, if◌then◌else◌, List, [], ◌∷◌, Option, Some, None, slice_set, option_and_then}
 use Rattle.std.specs.Ordering.{is_eq}

@@ -1,5 +1,4 @@
 // What the items of texts say, or the first fault of their grammar.
-use crate::repeated::times;
 use cep_base::limits::MOST_TEXT;
 use cep_lex::{lex, place};
 use cep_parse::{
@@ -362,9 +361,9 @@ fn first_faults_stand_here(rt: HostRuntime) -> Result<(), Fail> {
 // What a text says of so many open parentheses, a name, and as many that close.
 fn nested(alloc: Global, depth: usize) -> Result<String, Fail> {
     let mut text = String::from_str(alloc, "p ")?;
-    text.push_str(times(alloc, "(", depth)?.as_str())?;
+    text.push_str("(".repeat(alloc, depth)?.as_str())?;
     text.push_str("a")?;
-    text.push_str(times(alloc, ")", depth)?.as_str())?;
+    text.push_str(")".repeat(alloc, depth)?.as_str())?;
     text.push_str(".")?;
     shown(alloc, text.as_str())
 }
@@ -389,10 +388,10 @@ fn counts(alloc: Global, text: &str) -> Result<(usize, usize), Fail> {
 #[test]
 fn largest_texts_are_parsed(rt: HostRuntime) -> Result<(), Fail> {
     let alloc = rt.alloc();
-    let mut long = times(alloc, "a ", 300_000)?;
+    let mut long = "a ".repeat(alloc, 300_000)?;
     long.push_str("X.")?;
     assert_eq!(rt; counts(alloc, long.as_str())?, (1, 300_000));
-    let many = times(alloc, "a.", 300_000)?;
+    let many = "a.".repeat(alloc, 300_000)?;
     assert_eq!(rt; counts(alloc, many.as_str())?, (300_000, 0));
     Ok(())
 }

@@ -11,6 +11,4 @@ mod names;
 #[cfg(test)]
 mod programs;
 #[cfg(test)]
-mod repeated;
-#[cfg(test)]
 mod tokens;

@@ -1,5 +1,4 @@
 // What is told of texts: that they are accepted, or the first fault.
-use crate::repeated::push_times;
 use cep_ground::accept;
 use std::alloc::{AllocError, Global};
 use std::test::Fail;
@@ -404,9 +403,9 @@ const LONG: [Long; 23] = [
 
 fn long_text(alloc: Global, long: &Long) -> Result<String, AllocError> {
     let mut text = String::from_str(alloc, long.before)?;
-    push_times(&mut text, long.open, long.times)?;
+    text.push_str(long.open.repeat(alloc, long.times)?.as_str())?;
     text.push_str(long.middle)?;
-    push_times(&mut text, long.close, long.times)?;
+    text.push_str(long.close.repeat(alloc, long.times)?.as_str())?;
     text.push_str(long.after)?;
     Ok(text)
 }

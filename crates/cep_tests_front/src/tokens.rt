@@ -1,5 +1,4 @@
 // The tokens of texts, and the lines and columns of places.
-use crate::repeated::{push_times, times};
 use cep_base::limits::MOST_TEXT;
 use cep_lex::{LexFault, lex, place};
 use std::alloc::Global;
@@ -147,7 +146,7 @@ fn shown_times(
     behind: &str,
 ) -> Result<String, Fail> {
     let mut text = String::from_str(alloc, before)?;
-    push_times(&mut text, part, count)?;
+    text.push_str(part.repeat(alloc, count)?.as_str())?;
     text.push_str(behind)?;
     shown(alloc, text.as_bytes())
 }
@@ -170,8 +169,8 @@ fn a_name_has_at_most_255_bytes(rt: HostRuntime) -> Result<(), Fail> {
 
 #[test]
 fn a_largest_text_is_lexed(rt: HostRuntime) -> Result<(), Fail> {
-    let mut text = times(rt.alloc(), "%", 48_576)?;
-    text.push_str(times(rt.alloc(), "\n.", 500_000)?.as_str())?;
+    let mut text = "%".repeat(rt.alloc(), 48_576)?;
+    text.push_str("\n.".repeat(rt.alloc(), 500_000)?.as_str())?;
     if text.len() > MOST_TEXT {
         return Err(Fail::from("long"));
     }

@@ -160,22 +160,7 @@ stage walk = { meet/two : $at C L * $at D L -o met C D. }
 context init = { at alice park, at bob park, at carol tower }.
 #trace _ walk init.
 ",
-        "
-ceptre 1
-height 128
-stage walk
-have 1 at alice park
-have 1 at bob park
-have 1 at carol tower
-? 1 meet/two C=alice L=park D=bob
-? 2 meet/two C=bob L=park D=alice
-? choose
-end input
-have 1 at alice park
-have 1 at bob park
-have 1 at carol tower
-=
-2/
+        "2/
 ceptre 1
 height 128
 stage walk

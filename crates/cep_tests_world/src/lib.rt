@@ -9,8 +9,6 @@ mod limits;
 #[cfg(test)]
 mod outside;
 #[cfg(test)]
-mod repeated;
-#[cfg(test)]
 mod sample;
 #[cfg(test)]
 mod steps;

@@ -1,6 +1,5 @@
 // Runs that end by a limit on offers, atoms or states.
 use crate::outside::play;
-use crate::repeated::{push_times, times};
 use std::alloc::{AllocError, Global};
 use std::test::Fail;
 
@@ -81,7 +80,7 @@ stage main = { g : p X -o p (f X X). }
 #[test]
 fn a_run_ends_before_an_atom_grows_too_large(rt: HostRuntime) -> Result<(), Fail> {
     let alloc = rt.alloc();
-    let typed = times(alloc, "1\n", 16)?;
+    let typed = "1\n".repeat(alloc, 16)?;
     let outcome = play(alloc, doubling().as_bytes(), typed.as_bytes())?;
     assert_eq!(rt; outcome.status, 4);
     // the header and an atom, fifteen turns of three lines, an offer, the question, the end and an atom
@@ -94,9 +93,9 @@ fn a_run_ends_before_an_atom_grows_too_large(rt: HostRuntime) -> Result<(), Fail
 fn a_run_ends_before_a_state_grows_too_large(rt: HostRuntime) -> Result<(), Fail> {
     let alloc = rt.alloc();
     let mut text = String::from_str(alloc, "a : pred. stage main = { r : () -o a")?;
-    push_times(&mut text, " * a", 31)?;
+    text.push_str(" * a".repeat(alloc, 31)?.as_str())?;
     text.push_str(". } #interactive main. #trace _ main {}.\n")?;
-    let typed = times(alloc, "1\n", 3_126)?;
+    let typed = "1\n".repeat(alloc, 3_126)?;
     let outcome = play(alloc, text.as_bytes(), typed.as_bytes())?;
     assert_eq!(rt; outcome.status, 4);
     assert_eq!(rt;

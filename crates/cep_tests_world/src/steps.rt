@@ -3,7 +3,6 @@ ghost use Rattle.std.specs.Prelude.{◌≡◌, ◌<◌, IfOk};
 ghost use Rattle.cep_machine.specs.Configuration.{IsConfigurationOf};
 ghost use Rattle.cep_machine.specs.Stepping.{config_after};
 
-use crate::repeated::push_times;
 use crate::sample::{program_of, staged};
 use cep_base::Steps;
 use cep_base::limits::MOST_TURNS;
@@ -26,9 +25,9 @@ stage main = { double : p X -o p (f X X). raise : p X -o p (s X). }
 #interactive main.
 #trace _ main { p ",
     )?;
-    push_times(&mut text, "(s ", levels)?;
+    text.push_str("(s ".repeat(alloc, levels)?.as_str())?;
     text.push_str("z")?;
-    push_times(&mut text, ")", levels)?;
+    text.push_str(")".repeat(alloc, levels)?.as_str())?;
     text.push_str(" }.\n")?;
     program_of(alloc, text.as_str())
 }

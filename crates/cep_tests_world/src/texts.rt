@@ -1,6 +1,5 @@
 // The canonical texts of terms, atoms, offers and derivations, which are read and written again, and
 // texts that are of nothing.
-use crate::repeated::push_times;
 use crate::sample::numbers;
 use cep_base::Text;
 use cep_rule::Program;
@@ -166,9 +165,9 @@ fn nested(
     end: &str,
 ) -> Result<String, AllocError> {
     let mut text = String::new(alloc);
-    push_times(&mut text, begin, levels.saturating_sub(1))?;
+    text.push_str(begin.repeat(alloc, levels.saturating_sub(1))?.as_str())?;
     text.push_str(inner)?;
-    push_times(&mut text, end, levels.saturating_sub(1))?;
+    text.push_str(end.repeat(alloc, levels.saturating_sub(1))?.as_str())?;
     Ok(text)
 }
 

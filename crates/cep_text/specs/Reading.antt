@@ -1,3 +1,4 @@
+-- Private.
 -- Reading canonical texts from left to right, on lists alone: each reading gives what stands at the front of the bytes, and the bytes behind it. Only functions inside this crate are described by it.
 use Rattle.std.specs.Prelude.{◌≡◌, ℕ, zero, suc, ◌==◌, ◌-◌, if◌then◌else◌, List, [], ◌∷◌, ◌++◌, length, take, drop, map, codes, decimal, Option, Some, None, Result, Ok, Err, slice_get, nat_le, bytes_eq}
 use Rattle.std.specs.List.{prefix_len}
