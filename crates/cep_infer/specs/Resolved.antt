@@ -1,5 +1,5 @@
 -- What a text comes to: a draft, or why it is refused.
-use Rattle.std.specs.Prelude.{◌≡◌, ◌⊎◌, Result, Ok, Err}
+use Rattle.std.specs.Prelude.{◌⊎◌, Result, Ok, Err}
 use Rattle.cep_refusal.specs.declared.fault.Fault.{Fault}
 use Rattle.cep_names.specs.Items.{Source}
 use Rattle.cep_refusal.specs.First.{IsFirst}

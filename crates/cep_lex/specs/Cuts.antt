@@ -1,6 +1,5 @@
 -- What the tokens of a text are, and which text has none.
 use Rattle.std.specs.Prelude.{◌≡◌, ◌⊎◌, ℕ, ◌+◌, ◌≢◌, ◌==◌, ◌||◌, Bool, IsTrue, List, [], ◌∷◌, ◌++◌, length, Result, Ok, Err}
-use Rattle.std.specs.List.{AllByRecursion}
 use Rattle.cep_base.specs.Spelling.{IsUnbroken}
 use Rattle.cep_lex.specs.Words.{SpellsToken, IsLongest, BeginsNoToken, IsShort, IsTooLong}
 use Rattle.cep_lex.specs.declared.fault.LexFault.{LexFault}

@@ -1,5 +1,5 @@
 -- The limits of a program.
-use Rattle.std.specs.Prelude.{ℕ, ◌≤◌, length, IfSome}
+use Rattle.std.specs.Prelude.{◌≤◌, length, IfSome}
 use Rattle.std.specs.List.{AllByRecursion}
 use Rattle.cep_term.specs.Tree.{AtomTree, atom_nodes}
 use Rattle.cep_base.specs.declared.limits.TheConstants.{MOST_ARGUMENTS, MOST_BACKS, MOST_CLAUSES, MOST_CONS, MOST_GOALS, MOST_PATTERN_NODES, MOST_PREDS, MOST_PREMISES, MOST_RIGHT, MOST_RULES, MOST_SORTS, MOST_STAGES, MOST_VARIABLES}

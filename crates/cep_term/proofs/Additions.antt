@@ -1,15 +1,15 @@
 -- Atoms and whole multisets that are added to a multiset and taken from it one by one.
-use Rattle.std.proofs.Common.{◌≡◌, ℕ, ◌+◌, ◌-◌, ◌≤◌, Bool, true, false, cond, List, [], ◌∷◌, ◌++◌, length, take, Some, Result, Ok, Err, ◌↔◌, refl, sym, ap, subst, ◌∙◌, arith}
+use Rattle.std.proofs.Common.{◌≡◌, ℕ, ◌+◌, ◌-◌, ◌≤◌, Bool, true, false, cond, List, [], ◌∷◌, take, Some, Result, Ok, Err, ◌↔◌, refl, sym, ap, subst, ◌∙◌, arith}
 use Rattle.std.specs.Prelude.{slice_get, fold, OnOk, OnErr, IsErr}
 use Rattle.std.specs.List.{AllByRecursion}
-use Rattle.std.specs.Ordering.{is_eq, eq_by_cmp}
+use Rattle.std.specs.Ordering.{eq_by_cmp}
 use Rattle.std.specs.Cmp.{Equal-is}
 use Rattle.std.specs.FinMap as finite
 use Rattle.std.proofs.lemmas.List.{take_all}
 use Rattle.cep_base.proofs.Lists.{holds_at, all_taken, take_next, fold_more}
 use Rattle.cep_term.specs.Tree.{AtomTree, IsGroundAtom}
 use Rattle.cep_term.specs.Order.{atom_cmp}
-use Rattle.cep_term.specs.Multiset.{Multiset, count_of, with_count, with_one, without_one, gathered, sum_of, difference_of, copies_in, IsEntry, IsBag}
+use Rattle.cep_term.specs.Multiset.{Multiset, count_of, with_count, with_one, without_one, gathered, sum_of, difference_of, IsEntry, IsBag}
 use Rattle.cep_term.proofs.OrderLaws.{atom_cmp_ties}
 use Rattle.cep_term.proofs.Places.{Counted}
 use Rattle.cep_term.proofs.Multisets.{entries_empty, bag_empty, count_empty, count_set, count_set_own, bag_set_count, bag_sum, count_sum, same_counts, sum_commutes, sum_groups, sum_with_one, bag_gathered, gathered-append}

@@ -1,5 +1,5 @@
 -- The multiset of a list of atoms: its copies, its nodes, and which atoms are there.
-use Rattle.std.proofs.Common.{◌≡◌, ⊎_elim, ℕ, suc, ◌+◌, ◌*◌, ◌<◌, Bool, true, false, cond, List, [], ◌∷◌, length, Contains, ◌↔◌, refl, sym, ap, subst, ◌∙◌, arith}
+use Rattle.std.proofs.Common.{◌≡◌, ⊎_elim, ◌+◌, ◌<◌, Bool, true, false, cond, List, [], ◌∷◌, length, Contains, ◌↔◌, refl, sym, subst, arith}
 use Rattle.std.specs.Prelude.{sum_by}
 use Rattle.std.specs.Ordering.{eq_by_cmp}
 use Rattle.std.proofs.Math.Nat.{add-mul}

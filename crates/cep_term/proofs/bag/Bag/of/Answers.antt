@@ -1,4 +1,4 @@
-use Rattle.std.proofs.Common.{◌+◌, ◌∙◌, ap, arith}
+use Rattle.std.proofs.Common.{◌∙◌, ap, arith}
 use Rattle.cep_term.specs.Multiset.{Multiset, gathered, sum_of, copies_in}
 use Rattle.cep_term.proofs.Multisets.{copies_empty, bag_gathered}
 use Rattle.cep_term.proofs.Additions.{sum_alone}
