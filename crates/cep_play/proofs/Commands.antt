@@ -1,10 +1,12 @@
 -- What the statuses of the command say.
-use Rattle.std.proofs.Common.{◌≡◌, ℕ, ◌+◌, ◌<◌, ◌≤◌, List, [], ◌∷◌, length, get_or, refl, sym, ◌∙◌, ap, subst, inl, inr, lit<, arith, Option, None, Some}
+use Rattle.std.proofs.Common.{◌≡◌, ℕ, ◌+◌, ◌<◌, ◌≤◌, List, [], ◌∷◌, length, get_or, refl, sym, subst, inl, inr, lit<, arith, Option, None, Some}
+use Rattle.std.proofs.lemmas.List.{length-replicate}
 use Rattle.std.specs.Prelude.{Contains, replicate}
 use Rattle.std.specs.Option.{IsSomeAnd}
 use Rattle.std.specs.List.{AllByRecursion}
-use Rattle.cep_base.specs.declared.limits.TheConstants.{MOST_TEXT}
 use Rattle.cep_base.specs.declared.console.Event.{Event}
+use Rattle.cep_base.specs.declared.console.ConsoleFault.{ConsoleFault}
+use Rattle.cep_base.specs.declared.console.ConsoleFault.TheVariants as faults
 use Rattle.cep_base.specs.Files.{Files, HasFile, HasLongerFile}
 use Rattle.cep_rule.specs.declared.rule.Rule.{Rule}
 use Rattle.cep_rule.specs.declared.parts.Parts.{Parts}
@@ -12,7 +14,7 @@ use Rattle.cep_refusal.specs.declared.refusal.Refusal.{Refusal}
 use Rattle.cep_refusal.specs.declared.fault.Fault.{Fault}
 use Rattle.cep_ground.specs.Texts.{Spells}
 use Rattle.cep_ground.specs.Refusals.{IsPlainRule, IsBuilt, IsWrong, IsAccepted}
-use Rattle.std.specs.Prelude.{Err}
+use Rattle.std.specs.Prelude.{Result, Ok, Err}
 use Rattle.cep_play.specs.declared.command.Status.{Status}
 use Rattle.cep_play.specs.declared.command.Status.TheVariants.{Ended, Usage, Refused, Limited, Console, Unread, Memory}
 use Rattle.cep_play.specs.declared.ending.EndWord.{EndWord}
@@ -20,8 +22,8 @@ use Rattle.cep_play.specs.declared.ending.EndWord.TheVariants.{Quiet, Input, Tur
 use Rattle.cep_play.specs.declared.settings.Settings.{Settings}
 use Rattle.cep_play.specs.Run.{Turn, Ending}
 use Rattle.cep_play.specs.Dialogue.{Dialogue}
-use Rattle.cep_play.specs.Command.{settings_of, IsSaid, Says, OfFile, HaveNoForm, Writes, Refuses, refusal_text, usage}
-use Rattle.cep_play.specs.Outcome.{OfText, OfRun, OfWords, code_of, status_of}
+use Rattle.cep_play.specs.Command.{Play, AskFor, settings_of, IsSaid, Says, HaveNoForm, Writes, Refuses, refusal_text, usage}
+use Rattle.cep_play.specs.Outcome.{AsksFile, AskedAsSaid, OfText, OfRun, OfWords, code_of, status_of}
 use Rattle.cep_play.proofs.Did.{did_map}
 use Rattle.cep_play.proofs.Runs.{IsTold}
 
@@ -97,6 +99,14 @@ module _ {C : Type 0} (talk : C → Option (List Event)) (left : C → Option (L
   file_read files name text Console has of = of
   file_read files name text Unread has of = absurd of
   file_read files name text Memory has of = of
+
+-- the file that was asked for is the one that the words name
+pub said_of_file : (before : Option (List (List ℕ))) (words : List (List ℕ)) (name : List ℕ) (after : Option (List (List ℕ))) (result : Result Status ConsoleFault)
+    → AskFor words (Play name) → AsksFile before name after result → AskedAsSaid before words after result
+said_of_file before words name after (Ok status) ask adds = inl (Play name, ask, adds)
+said_of_file before words name after (Err faults.Failed) ask adds = inl (Play name, ask, adds)
+said_of_file before words name after (Err (faults.Memory error)) ask (inl adds) = inl (inl (Play name, ask, adds))
+said_of_file before words name after (Err (faults.Memory error)) ask (inr same) = inr same
 
 -- a text that is too long, for a shelf that tells none
 long_text : (n : ℕ) → (text : List ℕ) × (n < length text)

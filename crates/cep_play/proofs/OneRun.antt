@@ -1,7 +1,5 @@
 -- What is typed, and the seed, determine the run.
-use Rattle.std.proofs.Common.{◌≡◌, ℕ, ◌+◌, ◌<◌, ◌≤◌, ◌^◌, List, [], ◌∷◌, ◌++◌, length, map, inl, inr, refl, sym, ap, ◌∙◌, subst, arith, Option, None, Some}
-use Rattle.std.specs.Prelude.{slice_get}
-use Rattle.cep_base.specs.declared.limits.TheConstants.{MOST_OFFERS}
+use Rattle.std.proofs.Common.{◌≡◌, ℕ, ◌<◌, ◌^◌, List, [], ◌∷◌, length, map, inl, inr, refl, sym, ap, ◌∙◌, subst, arith, Option, None, Some}
 use Rattle.cep_term.specs.Tree.{Tree}
 use Rattle.cep_term.specs.Multiset.{Multiset}
 use Rattle.cep_rule.specs.declared.rule.Rule.{Rule}
@@ -11,7 +9,7 @@ use Rattle.cep_rule.specs.State.{Fits}
 use Rattle.cep_rule.specs.Offers.{AreOffers}
 use Rattle.cep_rule.specs.Stages.{HasOffer, IsAsked, IsQuiet}
 use Rattle.cep_rule.specs.Step.{Step}
-use Rattle.cep_rule.specs.Steps.{Spot, MakesFit, StepsTo}
+use Rattle.cep_rule.specs.Steps.{Spot, StepsTo}
 use Rattle.cep_play.specs.declared.choice.Choice.{Choice}
 use Rattle.cep_play.specs.declared.choice.Choice.TheVariants.{Place, NoMore, NoRoom}
 use Rattle.cep_play.specs.declared.ending.EndWord.{EndWord}

@@ -1,5 +1,5 @@
 -- Each way through a turn is a turn of a run, or the end of one.
-use Rattle.std.proofs.Common.{◌≡◌, ℕ, zero, suc, ◌+◌, ◌-◌, ◌*◌, ◌<◌, ◌≤◌, ◌%◌, List, [], ◌∷◌, ◌++◌, length, get_or, inl, inr, refl, sym, ap, ◌∙◌, subst, arith, append_assoc, Option, None, Some, Bool, true, false}
+use Rattle.std.proofs.Common.{◌≡◌, ℕ, zero, suc, ◌+◌, ◌-◌, ◌*◌, ◌<◌, ◌≤◌, ◌%◌, List, [], ◌∷◌, ◌++◌, length, get_or, inl, inr, refl, sym, ap, ◌∙◌, subst, arith, Option, None, Some, Bool, true, false}
 use Rattle.std.specs.Prelude.{slice_get, All, IsSome, IsSomeAnd, IsTrue, ◌↔◌, nat_lt, unwrap_or}
 use borrow.Author.Tests.{ltb-true, ltb-false}
 use Rattle.std.specs.List.{AllByRecursion}
@@ -16,7 +16,7 @@ use Rattle.cep_rule.specs.declared.offer.Offer.{Offer}
 use Rattle.cep_rule.specs.State.{Fits}
 use Rattle.cep_rule.specs.Instances.{full_instances}
 use Rattle.cep_rule.specs.Offers.{AreOffers, IsOffer}
-use Rattle.cep_rule.specs.Stages.{IsAsked, IsQuiet, own_group, leaving_group, HasOffer}
+use Rattle.cep_rule.specs.Stages.{IsAsked, IsQuiet, own_group}
 use Rattle.cep_rule.specs.Steps.{AreProofs}
 use Rattle.cep_rule.specs.Typing.{AreValues}
 use Rattle.cep_rule.specs.Matching.{offers_of, AreListed}
@@ -32,15 +32,14 @@ use Rattle.cep_machine.specs.Stepping.{IsAskedAt, IsNext, Passes}
 use Rattle.cep_play.specs.declared.choice.Choice.{Choice}
 use Rattle.cep_play.specs.declared.choice.Choice.TheVariants.{Place, NoMore, NoRoom}
 use Rattle.cep_play.specs.declared.ending.EndWord.{EndWord}
-use Rattle.cep_play.specs.declared.ending.EndWord.TheVariants.{Quiet, Offers, Atom, State, Input, Typed}
+use Rattle.cep_play.specs.declared.ending.EndWord.TheVariants.{Quiet, Offers, Input, Typed}
 use Rattle.cep_play.specs.declared.settings.Settings.{Settings}
 use Rattle.cep_play.specs.declared.turn.Turned.{Turned}
 use Rattle.cep_play.specs.declared.turn.Turned.TheVariants.{Done, Over}
 use Rattle.cep_play.specs.Choice.{Hears}
-use Rattle.cep_play.specs.Deciding.{Heard, IsPlayers, Decides}
+use Rattle.cep_play.specs.Deciding.{Heard, IsPlayers}
 use Rattle.cep_play.specs.Lines.{question, step_line, step_lines, by_lines, next_line}
-use Rattle.cep_play.specs.Run.{Position, Question, Turn, IsQuestion, IsChosen, IsTurn, PassesLimit, EndsAt}
-use Rattle.cep_play.specs.Dialogue.{turn_events, question_events}
+use Rattle.cep_play.specs.Run.{Position, Question, IsQuestion, IsChosen, PassesLimit}
 use Rattle.cep_play.specs.Turn.{position_of, undrawn, IsPlayed, AsksPlayer, IsPlaced, Acts, WouldPass, limit_word, IsActed, DoesTurn, Stops, IsTurned}
 use Rattle.cep_play.proofs.Did.{did_same, did_map, did_then}
 
@@ -78,9 +77,12 @@ pub record IsAskedHere (program : Parts) (settings : Settings) (at : Position) (
   pub offered : AreOffers program settings.height at.spot.state group offers
   pub players : IsPlayers program at.spot.stage group (length offers)
 
+true_false : {A : Type 0} → false ≡ true → A
+true_false e = cc
+
 -- a rule that leaves no stage is in no group of those that do
 stays_or_leaves : {X : Type 0} (next : Option ℕ) (group stage : ℕ) → next ≡ None → (IsSome next ↔ (group % 2 ≡ 1)) → group ≡ 2 * stage + 1 → X
-stays_or_leaves next group stage none iff is = absurd (subst (λ o. IsSome o) none (iff.1 (omega (arith, is))))
+stays_or_leaves next group stage none iff is = true_false (subst (λ o. IsSome o) none (iff.1 (omega (arith, is))))
 
 -- where no rule leaves a stage, each stage asks its own group
 own_asked : (program : Parts) (height : ℕ) (state : Multiset) (stage group : ℕ) → IsProgram program → IsBuilt program → IsAsked program height state stage group → group ≡ own_group stage
@@ -108,9 +110,6 @@ asked_here is_of height_held program settings group height held lists config kep
 pub group_listed : (lists : List (List Offer)) (stage group : ℕ) → IsAskedIn lists stage group → 2 * stage + 1 < length lists → group < length lists
 group_listed lists stage group (inl own) low = let same = own.0 in omega arith
 group_listed lists stage group (inr leaving) low = let same = leaving.0 in omega arith
-
-true_false : {A : Type 0} → false ≡ true → A
-true_false e = cc
 
 -- there are too many, or there are not
 pub too_many : (ok : Bool) (n most : ℕ) → (IsTrue ok ↔ (n ≤ most)) → ok ≡ false → most < n

@@ -1,13 +1,12 @@
 -- Private.
 -- What a part of a run does: words for the functions that do it.
-use Rattle.std.specs.Prelude.{◌≡◌, ℕ, ◌+◌, ◌-◌, List, ◌++◌, Option, length, true, IsSomeAnd, slice_get}
+use Rattle.std.specs.Prelude.{◌≡◌, ℕ, ◌+◌, ◌-◌, List, [], ◌++◌, Option, Some, length, true, IsSomeAnd, slice_get}
 use Rattle.std.specs.List.{flat_map}
 use Rattle.cep_base.specs.declared.console.Event.{Event}
 use Rattle.cep_base.specs.Talk.{outs, Did}
 use Rattle.cep_rule.specs.declared.parts.Parts.{Parts}
 use Rattle.cep_rule.specs.declared.offer.Offer.{Offer}
 use Rattle.cep_rule.specs.declared.rule.Rule.{Rule}
-use Rattle.cep_rule.specs.Program.{IsProgram}
 use Rattle.cep_rule.specs.Steps.{StepsTo}
 use Rattle.cep_machine.specs.declared.stepped.Which.{Which}
 use Rattle.cep_machine.specs.declared.stepped.Which.TheVariants as which
@@ -19,9 +18,9 @@ use Rattle.cep_play.specs.declared.settings.Settings.{Settings}
 use Rattle.cep_play.specs.declared.turn.Turned.{Turned}
 use Rattle.cep_play.specs.declared.turn.Turned.TheVariants.{Done, Over}
 use Rattle.cep_play.specs.Choice.{Hears}
-use Rattle.cep_play.specs.Deciding.{Supply, How, Heard}
+use Rattle.cep_play.specs.Deciding.{Supply}
 use Rattle.cep_play.specs.Lines.{question, step_line}
-use Rattle.cep_play.specs.Run.{Position, Question, Turn, Ending, IsTurn, AreTurns, PassesLimit, EndsAt}
+use Rattle.cep_play.specs.Run.{Position, Question, Turn, IsTurn, AreTurns, PassesLimit, EndsAt}
 use Rattle.cep_play.specs.Dialogue.{turn_events, last_events}
 
 -- where a configuration stands

@@ -1,4 +1,5 @@
 use Rattle.std.proofs.Common.{refl, ◌∙◌, arith}
+use Rattle.cep_play.proofs.Did.{on_err}
 use Rattle.cep_play.proofs.Hearing.{await_first, await_next, end_chosen, end_no_more, end_no_room, end_short, end_answer_short}
 use Rattle.cep_play.proofs.choice.choose.Goals as goal
 
@@ -35,10 +36,12 @@ returns-in-Limit-clause-heard g c =
 
 pub returns-in_err-heard-clause-cut_short : goal.returns-in_err-heard-clause-cut_short
 returns-in_err-heard-clause-cut_short g c =
-    end_short g.C.Console.talk g.C.Console.left c.args.n c.args.taken.now c.loop-heard.taken 0 c.args.console.now c.loop-heard.console c.read_choice.new.console c.loop-heard.invariant.so_far
-    c.in_err-heard.ensures.cut_short
+    on_err c.from_residual.result _
+    (end_short g.C.Console.talk g.C.Console.left c.args.n c.args.taken.now c.loop-heard.taken 0 c.args.console.now c.loop-heard.console c.read_choice.new.console c.loop-heard.invariant.so_far
+    c.in_err-heard.ensures.cut_short)
 
 pub returns-in_err-put-in-Bad-clause-cut_short : goal.returns-in_err-put-in-Bad-clause-cut_short
 returns-in_err-put-in-Bad-clause-cut_short g c =
-    end_answer_short g.C.Console.talk g.C.Console.left c.args.n c.args.taken.now c.loop-heard.taken c.in_ok-heard.heard.taken c.args.console.now c.loop-heard.console c.put.new.self c.loop-heard.invariant.so_far
-    c.read_choice.new.console c.in_err-put-in-Bad.ensures.part.0 (rw c.in-Bad.is at c.in_ok-heard.ensures.line) c.in_err-put-in-Bad.ensures.part.1 c.in_err-put-in-Bad.ensures.left
+    on_err c.from_residual-in_err-put-in-Bad.result _
+    (end_answer_short g.C.Console.talk g.C.Console.left c.args.n c.args.taken.now c.loop-heard.taken c.in_ok-heard.heard.taken c.args.console.now c.loop-heard.console c.put.new.self c.loop-heard.invariant.so_far
+    c.read_choice.new.console c.in_err-put-in-Bad.ensures.part.0 (rw c.in-Bad.is at c.in_ok-heard.ensures.line) c.in_err-put-in-Bad.ensures.part.1 c.in_err-put-in-Bad.ensures.left)

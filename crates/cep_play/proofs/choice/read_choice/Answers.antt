@@ -1,4 +1,5 @@
 use Rattle.std.proofs.Common.{Some, refl, ap, ◌∙◌, arith}
+use Rattle.cep_play.proofs.Did.{on_err}
 use Rattle.cep_play.proofs.LineRead.{read_none, read_byte, read_line, read_last_line, read_end, read_all, read_short}
 use Rattle.cep_play.proofs.choice.read_choice.Goals as goal
 
@@ -49,5 +50,6 @@ returns-clause-line g c =
 
 pub returns-in_err-next-clause-cut_short : goal.returns-in_err-next-clause-cut_short
 returns-in_err-next-clause-cut_short g c =
-    read_short g.C.Console.talk g.C.Console.left c.args.n c.loop-taken.taken c.loop-taken.typed c.args.console.now c.loop-taken.console c.next.new.self c.loop-taken.invariant.so_far
-    c.args.room c.in_err-next.ensures.unheard c.in_err-next.ensures.untaken (omega arith)
+    on_err c.from_residual.result _
+    (read_short g.C.Console.talk g.C.Console.left c.args.n c.loop-taken.taken c.loop-taken.typed c.args.console.now c.loop-taken.console c.next.new.self c.loop-taken.invariant.so_far
+    c.args.room c.in_err-next.ensures.unheard c.in_err-next.ensures.untaken (omega arith))

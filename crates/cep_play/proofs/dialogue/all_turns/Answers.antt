@@ -1,4 +1,4 @@
-use Rattle.std.proofs.Common.{◌≡◌, ◌+◌, ◌<◌, ◌++◌, refl, sym, subst, ap, ◌∙◌, arith}
+use Rattle.std.proofs.Common.{◌≡◌, ◌+◌, ◌++◌, refl, sym, subst, ap, ◌∙◌, arith}
 use Rattle.std.specs.Prelude.{IsNone}
 use Rattle.cep_rule.specs.Stages.{IsAsked, IsQuiet}
 use Rattle.cep_play.specs.Turn.{position_of, IsPlayed, IsTurned, config_left, IsWholeRun}

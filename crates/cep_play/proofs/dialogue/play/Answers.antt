@@ -28,7 +28,7 @@ returns-clause-said g c =
     let start = position_of c.in_ok-config.config in
     let end = c.in_ok-end.end in
     let last = position_of end.config in
-    let settings = c.of.result in
+    let settings = c.of-settings.result in
     let started : start ≡ start_of program = λ i. record { spot = record { stage = begun.stage i; state = begun.state i }; turns = begun.turns i } in
     let told : Did talk left c.all_turns.new.console c.finish.new.console (λ come events rest. (events ≡ outs (end_lines program.signature end.word last.spot.state)) × (rest ≡ come)) =
     subst (λ state. Did talk left c.all_turns.new.console c.finish.new.console (λ come events rest. (events ≡ outs (end_lines program.signature end.word state)) × (rest ≡ come))) c.state.ensures c.in_ok-finish.ensures.told in
@@ -39,4 +39,4 @@ returns-clause-said g c =
     (did_then talk left c.begin-2.new.console c.all_turns.new.console c.finish.new.console _ _ (RunFrom program settings end.word start last)
     (λ come second late third rest turns ends. run_ends program settings end.word start last come late rest second third turns ends)
     c.in_ok-end.ensures.said told) in
-    did_map talk left c.args.console.now c.finish.new.console _ _ (λ come events rest is. is_said program settings end.word c.one_dialogue.ensures c.requires c.of.ensures.settings come events rest is) whole
+    did_map talk left c.args.console.now c.finish.new.console _ _ (λ come events rest is. is_said program settings end.word c.one_dialogue.ensures c.requires c.of-settings.ensures.settings come events rest is) whole

@@ -5,7 +5,7 @@ use Rattle.cep_machine.specs.Configuration.{IsConfigurationOf}
 use Rattle.cep_machine.specs.Stepping.{IsStepped, config_after}
 use Rattle.cep_play.specs.declared.turn.Turned.TheVariants.{Over}
 use Rattle.cep_play.specs.Lines.{step_line}
-use Rattle.cep_play.specs.Turn.{IsActed}
+use Rattle.cep_play.specs.Turn.{IsActed, IsPlayed, config_left}
 use Rattle.cep_play.proofs.Did.{did_same, did_put, did_map}
 use Rattle.cep_play.proofs.Turns.{offer_has_text, step_acts, step_fails, one_turn_more, same_stage, left_alone}
 use Rattle.cep_play.proofs.turn.act.Goals as goal
@@ -82,3 +82,18 @@ returns-in-Done-clause-played g c =
       height = subst (λ s. g.M.Matcher.height_held (config_after s).matcher ≡ g.M.Matcher.height_held matcher) c.in-Done.is c.in_ok-config.ensures.same_height ∙ c.requires.played.height;
       interactive = subst (λ n. IsSomeAnd (slice_get program.stages n) (λ it. it.interactive ≡ true)) (sym stage) c.requires.played.interactive;
     }
+
+pub returns-clause-played : goal.returns-clause-played
+returns-clause-played g c =
+    let program = c.args.program.now in
+    let old = c.args.config in
+    let matcher = old.matcher in
+    let lists = g.M.Matcher.offers_held matcher in
+    let offers = offers_of lists c.args.group in
+    let are = (g.met.M.Matcher.exact program matcher c.requires.played.of_program.matcher).each c.args.group c.requires.listed in
+    let last = c.in-Limit.config in
+    let same : last ≡ old = left_alone program (g.M.Matcher.height_held matcher) (g.M.Matcher.state_held matcher) c.args.group lists offers c.args.place (c.args.place - 1) c.offer.result.now old
+    c.requires.built are (rw c.matcher.ensures.matcher at c.offer.ensures) refl c.requires.asked last c.in-Limit.which c.in-Limit.number
+    (λ rule values h. subst (λ s. IsStepped c.args.program.now rule values old s) c.in-Limit.is (c.in_ok-config.ensures.stepped rule values h)) in
+    subst (λ t. IsPlayed g.M.Matcher.is_of g.M.Matcher.height_held program c.args.settings (config_left t)) (sym c.over.ensures)
+    (subst (λ config. IsPlayed g.M.Matcher.is_of g.M.Matcher.height_held program c.args.settings config) (sym same) c.requires.played)
