@@ -1,3 +1,4 @@
+pub mod Adding
 pub mod Did
 pub mod Hearing
 pub mod LineBytes

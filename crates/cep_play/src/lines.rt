@@ -1,9 +1,10 @@
 // Writes the lines of a transcript at the end of a text.
-ghost use Rattle.std.specs.Prelude.{◌≡◌, ◌<◌, ◌++◌, length, All, OnOk};
+ghost use Rattle.std.specs.Prelude.{◌≡◌, ◌<◌, ◌++◌, length, All, OnOk, OnErr};
 ghost use Rattle.cep_term.specs.Tree.{atom_of};
 ghost use Rattle.cep_rule.specs.State.{IsState};
 ghost use Rattle.cep_rule.specs.Matching.{offers_of};
 ghost use Rattle.cep_text.specs.Texts.{IsTypedGround, IsOfferOf};
+ghost use Rattle.cep_text.specs.Writing.{IsBegun};
 ghost use Rattle.cep_play.specs.Lines.{have_line, listing, offer_line, question, stage_line, step_line, end_lines, header};
 
 use crate::ending::EndWord;
@@ -17,7 +18,8 @@ use std::alloc::AllocError;
 #[tactic(auto, using(std::proofs::Common::append_assoc), unfolding(crate::specs::Lines::have_line))]
 fn put_have(out: &mut Text, program: &Program, atom: &Atom, copies: u32) -> Result<(), AllocError>
     requires { IsTypedGround program.now.signature (atom_of atom.now) }
-    ensures { OnOk result (out.new ≡ out.old ++ have_line program.now.signature (atom_of atom.now, copies)) }
+    ensures ok { OnOk result (out.new ≡ out.old ++ have_line program.now.signature (atom_of atom.now, copies)) }
+    ensures err { OnErr result (IsBegun out.old (have_line program.now.signature (atom_of atom.now, copies)) out.new) }
 {
     out.append(b"have ")?;
     out.number(u64::from(copies))?;
@@ -28,7 +30,8 @@ fn put_have(out: &mut Text, program: &Program, atom: &Atom, copies: u32) -> Resu
 
 fn put_listing(out: &mut Text, program: &Program, state: &Bag) -> Result<(), AllocError>
     requires { IsState program.now.signature state.now }
-    ensures { OnOk result (out.new ≡ out.old ++ listing program.now.signature state.now) }
+    ensures ok { OnOk result (out.new ≡ out.old ++ listing program.now.signature state.now) }
+    ensures err { OnErr result (IsBegun out.old (listing program.now.signature state.now) out.new) }
 {
     bags_are_lawful();
     for i in 0..state.len() {
@@ -46,7 +49,8 @@ fn put_offer_line(
     offer: &Offer,
 ) -> Result<(), AllocError>
     requires { IsOfferOf program.now offer.now }
-    ensures { OnOk result (out.new ≡ out.old ++ offer_line program.now place offer.now) }
+    ensures ok { OnOk result (out.new ≡ out.old ++ offer_line program.now place offer.now) }
+    ensures err { OnErr result (IsBegun out.old (offer_line program.now place offer.now) out.new) }
 {
     out.append(b"? ")?;
     out.number(place as u64)?;
@@ -64,7 +68,8 @@ pub fn put_question<M: Matcher>(
 ) -> Result<(), AllocError>
     requires listed { group < length (M.offers_held matcher.now) }
     requires offers { All (IsOfferOf program.now) (offers_of (M.offers_held matcher.now) group) }
-    ensures { OnOk result (out.new ≡ out.old ++ question program.now (offers_of (M.offers_held matcher.now) group)) }
+    ensures ok { OnOk result (out.new ≡ out.old ++ question program.now (offers_of (M.offers_held matcher.now) group)) }
+    ensures err { OnErr result (IsBegun out.old (question program.now (offers_of (M.offers_held matcher.now) group)) out.new) }
 {
     for i in 0..matcher.count(group) {
         put_offer_line(out, program, i + 1, matcher.offer(group, i))?;
@@ -76,7 +81,8 @@ pub fn put_question<M: Matcher>(
 #[tactic(auto, using(std::proofs::Common::append_assoc), unfolding(crate::specs::Lines::step_line))]
 pub fn put_step(out: &mut Text, program: &Program, offer: &Offer) -> Result<(), AllocError>
     requires { IsOfferOf program.now offer.now }
-    ensures { OnOk result (out.new ≡ out.old ++ step_line program.now offer.now) }
+    ensures ok { OnOk result (out.new ≡ out.old ++ step_line program.now offer.now) }
+    ensures err { OnErr result (IsBegun out.old (step_line program.now offer.now) out.new) }
 {
     out.append(b"step ")?;
     put_offer(program, offer, out)?;
@@ -92,7 +98,8 @@ pub fn put_end(
     state: &Bag,
 ) -> Result<(), AllocError>
     requires { IsState program.now.signature state.now }
-    ensures { OnOk result (out.new ≡ out.old ++ end_lines program.now.signature word state.now) }
+    ensures ok { OnOk result (out.new ≡ out.old ++ end_lines program.now.signature word state.now) }
+    ensures err { OnErr result (IsBegun out.old (end_lines program.now.signature word state.now) out.new) }
 {
     out.append(b"end ")?;
     out.append(word.text())?;
@@ -103,7 +110,8 @@ pub fn put_end(
 #[tactic(auto, using(std::proofs::Common::append_assoc), unfolding(crate::specs::Lines::stage_line))]
 fn put_stage(out: &mut Text, program: &Program, stage: u32) -> Result<(), AllocError>
     requires { stage < length program.now.stages }
-    ensures { OnOk result (out.new ≡ out.old ++ stage_line program.now stage) }
+    ensures ok { OnOk result (out.new ≡ out.old ++ stage_line program.now stage) }
+    ensures err { OnErr result (IsBegun out.old (stage_line program.now stage) out.new) }
 {
     let stages = &program.parts().stages;
     out.append(b"stage ")?;
@@ -113,7 +121,8 @@ fn put_stage(out: &mut Text, program: &Program, stage: u32) -> Result<(), AllocE
 
 /// The first lines, and the listing of the start state.
 pub fn put_header(out: &mut Text, program: &Program, height: u32) -> Result<(), AllocError>
-    ensures { OnOk result (out.new ≡ out.old ++ header program.now height) }
+    ensures ok { OnOk result (out.new ≡ out.old ++ header program.now height) }
+    ensures err { OnErr result (IsBegun out.old (header program.now height) out.new) }
 {
     out.append(b"ceptre 1\nheight ")?;
     out.number(u64::from(height))?;

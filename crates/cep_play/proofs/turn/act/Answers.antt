@@ -33,7 +33,7 @@ returns-in-Done-clause-acted g c =
           (step_acts program (g.M.Matcher.height_held matcher) (g.M.Matcher.state_held matcher) c.args.group lists offers c.args.place (c.args.place - 1) offer old
           c.requires.built are (rw c.matcher.ensures.matcher at c.offer.ensures) refl c.requires.asked c.in-Done.config c.bytes.result.now
           (λ rule values h. subst (λ s. IsStepped c.args.program.now rule values old s) c.in-Done.is (c.in_ok-config.ensures.stepped rule values h))
-          (c.bytes.ensures ∙ (c.in_ok-put_step.ensures ∙ ap (λ xs. xs ++ step_line program offer) c.new-line.ensures)))
+          (c.bytes.ensures ∙ (c.in_ok-put_step.ensures.ok ∙ ap (λ xs. xs ++ step_line program offer) c.new-line.ensures)))
           (did_put talk left c.args.console.now c.put.new.self c.bytes.result.now c.in_ok-put-in-Done.ensures.written c.in_ok-put-in-Done.ensures.left),
       one_turn_more program (g.M.Matcher.height_held matcher) (g.M.Matcher.state_held matcher) c.args.group lists offers c.args.place (c.args.place - 1) offer old
           c.requires.built are (rw c.matcher.ensures.matcher at c.offer.ensures) refl c.requires.asked c.in-Done.config

@@ -15,4 +15,4 @@ returns-clause-heard g c =
     let put = did_put talk left c.args.console.now c.put.new.self c.bytes.result.now c.in_ok-put.ensures.written c.in_ok-put.ensures.left in
     IfOk-weaker c.choose.result _ _ (λ choice hears. did_then talk left c.args.console.now c.put.new.self c.choose.new.console _ _ _
     (λ come first middle others rest put hears. asks_after program offers c.put_question.new.out c.bytes.result.now come middle rest c.args.taken.now c.choose.new.taken first others choice
-    c.bytes.ensures (c.in_ok-put_question.ensures ∙ ap (λ xs. xs ++ question program offers) c.new-question.ensures) put (rw c.count.ensures at hears)) put hears) c.choose.ensures.heard
+    c.bytes.ensures (c.in_ok-put_question.ensures.ok ∙ ap (λ xs. xs ++ question program offers) c.new-question.ensures) put (rw c.count.ensures at hears)) put hears) c.choose.ensures.heard
