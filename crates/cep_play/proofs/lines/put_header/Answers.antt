@@ -24,7 +24,7 @@ returns-in_err-put_stage-clause-err c =
     on_err c.from_residual-in_err-put_stage.result _
     (adding_breaks c.args.out.now (header c.args.program.now c.args.height) c.append-2.new.self _ (stage_line c.args.program.now c.args.program.now.start_stage) _ c.put_stage.new.out
     (header_with_line c.args.program.now c.args.height c.args.out.now c.append.new.self c.number.new.self c.append-2.new.self
-        c.in_ok-append.ensures.ok (rw c.from.ensures at c.in_ok-number.ensures.ok) c.in_ok-append-2.ensures.ok)
+    c.in_ok-append.ensures.ok (rw c.from.ensures at c.in_ok-number.ensures.ok) c.in_ok-append-2.ensures.ok)
     refl (rw c.parts-parts.ensures.parts at c.in_err-put_stage.ensures.err))
 
 pub returns-clause-ok : goal.returns-clause-ok
@@ -33,10 +33,10 @@ returns-clause-ok c =
     let listed = listing program.signature program.start in
     on_ok_weaker c.put_listing.result
     (λ e. adding_done c.args.out.now (header program c.args.height) c.put_listing.new.out []
-        (adding_next c.args.out.now (header program c.args.height) c.put_stage.new.out c.put_listing.new.out listed listed []
-            (header_with_stage program c.args.height c.args.out.now c.append.new.self c.number.new.self c.append-2.new.self c.put_stage.new.out
-            c.in_ok-append.ensures.ok (rw c.from.ensures at c.in_ok-number.ensures.ok) c.in_ok-append-2.ensures.ok (rw c.parts-parts.ensures.parts at c.in_ok-put_stage.ensures.ok))
-        (sym (append-nil listed)) (rw c.parts-parts.ensures.parts at e)) refl)
+    (adding_next c.args.out.now (header program c.args.height) c.put_stage.new.out c.put_listing.new.out listed listed []
+    (header_with_stage program c.args.height c.args.out.now c.append.new.self c.number.new.self c.append-2.new.self c.put_stage.new.out
+    c.in_ok-append.ensures.ok (rw c.from.ensures at c.in_ok-number.ensures.ok) c.in_ok-append-2.ensures.ok (rw c.parts-parts.ensures.parts at c.in_ok-put_stage.ensures.ok))
+    (sym (append-nil listed)) (rw c.parts-parts.ensures.parts at e)) refl)
     c.put_listing.ensures.ok
 
 pub returns-clause-err : goal.returns-clause-err
@@ -45,7 +45,7 @@ returns-clause-err c =
     let listed = listing program.signature program.start in
     on_err_weaker c.put_listing.result
     (λ begun. adding_breaks c.args.out.now (header program c.args.height) c.put_stage.new.out listed listed [] c.put_listing.new.out
-        (header_with_stage program c.args.height c.args.out.now c.append.new.self c.number.new.self c.append-2.new.self c.put_stage.new.out
-        c.in_ok-append.ensures.ok (rw c.from.ensures at c.in_ok-number.ensures.ok) c.in_ok-append-2.ensures.ok (rw c.parts-parts.ensures.parts at c.in_ok-put_stage.ensures.ok))
+    (header_with_stage program c.args.height c.args.out.now c.append.new.self c.number.new.self c.append-2.new.self c.put_stage.new.out
+    c.in_ok-append.ensures.ok (rw c.from.ensures at c.in_ok-number.ensures.ok) c.in_ok-append-2.ensures.ok (rw c.parts-parts.ensures.parts at c.in_ok-put_stage.ensures.ok))
     (sym (append-nil listed)) (rw c.parts-parts.ensures.parts at begun))
     c.put_listing.ensures.err
