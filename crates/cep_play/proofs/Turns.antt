@@ -21,7 +21,7 @@ use Rattle.cep_rule.specs.Steps.{AreProofs}
 use Rattle.cep_rule.specs.Typing.{AreValues}
 use Rattle.cep_rule.specs.Matching.{offers_of, AreListed}
 use Rattle.cep_rule.specs.Program.{IsProgram}
-use Rattle.cep_text.specs.Texts.{IsOfferOf}
+use Rattle.cep_rule.specs.Shapes.{IsOfferOf}
 use Rattle.cep_ground.specs.Refusals.{IsPlainRule, IsBuilt}
 use Rattle.cep_machine.specs.declared.stepped.Which.{Which}
 use Rattle.cep_machine.specs.declared.stepped.Which.TheVariants as which

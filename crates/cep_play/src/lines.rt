@@ -3,7 +3,8 @@ ghost use Rattle.std.specs.Prelude.{◌≡◌, ◌<◌, ◌++◌, length, All, O
 ghost use Rattle.cep_term.specs.Tree.{atom_of};
 ghost use Rattle.cep_rule.specs.State.{IsState};
 ghost use Rattle.cep_rule.specs.Matching.{offers_of};
-ghost use Rattle.cep_text.specs.Texts.{IsTypedGround, IsOfferOf};
+ghost use Rattle.cep_rule.specs.Shapes.{IsOfferOf};
+ghost use Rattle.cep_text.specs.Texts.{IsTypedGround};
 ghost use Rattle.cep_text.specs.Writing.{IsBegun};
 ghost use Rattle.cep_play.specs.Lines.{have_line, listing, offer_line, question, stage_line, step_line, end_lines, header};
 

@@ -3,8 +3,8 @@ ghost use Rattle.std.specs.Prelude.{◌≡◌, ◌⊎◌, ◌<◌, ◌≤◌, le
 ghost use Rattle.cep_base.specs.declared.limits.TheConstants.{MOST_OFFERS, MOST_TURNS};
 ghost use Rattle.cep_base.specs.Talk.{Did, ConsoleCause};
 ghost use Rattle.cep_rule.specs.Matching.{offers_of};
-ghost use Rattle.cep_text.specs.Texts.{IsOfferOf};
 ghost use Rattle.cep_rule.specs.Program.{IsProgram};
+ghost use Rattle.cep_rule.specs.Shapes.{IsOfferOf};
 ghost use Rattle.cep_ground.specs.Refusals.{IsBuilt};
 ghost use Rattle.cep_machine.specs.Asking.{asked_offers};
 ghost use Rattle.cep_play.specs.declared.turn.Turned.TheVariants.{Over};

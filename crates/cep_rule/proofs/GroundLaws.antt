@@ -2,7 +2,7 @@
 use Rattle.std.proofs.Common.{◌≡◌, inl, inr, ⊎_elim, ℕ, zero, suc, Bool, true, false, ◌&&◌, ◌||◌, List, [], ◌∷◌, refl}
 use Rattle.cep_term.specs.Tree.{Tree, Trees, AtomTree, variable, node, none, more}
 use Rattle.cep_rule.specs.Patterns.{ClauseTree}
-use Rattle.cep_rule.specs.Groundness.{Known, is_known, are_known, occurs, positions_known, known_at, known_after, known_after_all, Calls, LeavesUnknown, SomeFails, IsBadInRound, IsBad}
+use Rattle.cep_rule.specs.Groundness.{Known, is_known, are_known, occurs, positions_known, known_at, known_after, known_after_all, CallsAt, Calls, LeavesUnknown, SomeFails, IsBadInRound, IsBad}
 use Rattle.cep_rule.specs.Groundness.{occurs_among}
 
 -- What is known by the one is known by the other.
@@ -61,13 +61,15 @@ after_all_within (goal ∷ goals) few many within = after_all_within goals (know
 abbrev IsDownward : (ℕ → Known → Type 0) → Type 0
 IsDownward pairs = (pred : ℕ) (few many : Known) → IsWithin few many → pairs pred many → pairs pred few
 
+calls_at_within : (pairs : ℕ → Known → Type 0) → IsDownward pairs → (goals : List AtomTree) (few many : Known) (i : ℕ) → IsWithin few many → CallsAt pairs many goals i → CallsAt pairs few goals i
+calls_at_within pairs down [] few many i within calls = calls
+calls_at_within pairs down (goal ∷ goals) few many zero within calls =
+    down goal.pred (positions_known few goal.args) (positions_known many goal.args) (positions_within few many within goal.args) calls
+calls_at_within pairs down (goal ∷ goals) few many (suc i) within calls =
+    calls_at_within pairs down goals (known_after few goal) (known_after many goal) i (after_within few many goal within) calls
+
 calls_within : (pairs : ℕ → Known → Type 0) → IsDownward pairs → (goals : List AtomTree) (few many : Known) → IsWithin few many → Calls pairs many goals → Calls pairs few goals
-calls_within pairs down [] few many within calls = calls
-calls_within pairs down (goal ∷ goals) few many within calls =
-    ⊎_elim
-    (λ now. inl (down goal.pred (positions_known few goal.args) (positions_known many goal.args) (positions_within few many within goal.args) now))
-    (λ later. inr (calls_within pairs down goals (known_after few goal) (known_after many goal) (after_within few many goal within) later))
-    calls
+calls_within pairs down goals few many within calls = (calls.0, calls_at_within pairs down goals few many calls.0 within calls.1)
 
 not_known : (a b : Bool) → (a ≡ true → b ≡ true) → b ≡ false → a ≡ false
 not_known true b f e = let g : b ≡ true = f refl in cc

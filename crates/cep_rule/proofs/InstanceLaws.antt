@@ -9,7 +9,7 @@ use Rattle.cep_rule.specs.Typing.{HasSort, HaveSorts, IsTyped, IsValue, AreValue
 use Rattle.cep_rule.specs.Instances.{given, full_instance}
 
 -- what follows for each value follows for the value that there is
-for_some : {X : Type 0} (o : Option X) (P Q : X → Type 0) → ((x : X) → P x → Q x) → IsSomeAnd o P → IsSomeAnd o Q
+pub for_some : {X : Type 0} (o : Option X) (P Q : X → Type 0) → ((x : X) → P x → Q x) → IsSomeAnd o P → IsSomeAnd o Q
 for_some None P Q f h = h
 for_some (Some x) P Q f h = f x h
 

@@ -7,6 +7,7 @@ pub mod Groundness
 pub mod State
 pub mod Instances
 pub mod Derivations
+pub mod Shapes
 pub mod Offers
 pub mod Step
 pub mod Stages

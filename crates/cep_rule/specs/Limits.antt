@@ -1,13 +1,18 @@
 -- The limits of a program.
-use Rattle.std.specs.Prelude.{◌≤◌, length, IfSome}
+use Rattle.std.specs.Prelude.{ℕ, ◌≤◌, length, IfSome}
 use Rattle.std.specs.List.{AllByRecursion}
 use Rattle.cep_term.specs.Tree.{AtomTree, atom_nodes}
-use Rattle.cep_base.specs.declared.limits.TheConstants.{MOST_ARGUMENTS, MOST_BACKS, MOST_CLAUSES, MOST_CONS, MOST_GOALS, MOST_PATTERN_NODES, MOST_PREDS, MOST_PREMISES, MOST_RIGHT, MOST_RULES, MOST_SORTS, MOST_STAGES, MOST_VARIABLES}
+use Rattle.cep_base.specs.declared.limits.TheConstants.{MOST_ARGUMENTS, MOST_BACKS, MOST_CLAUSES, MOST_CONS, MOST_GOALS, MOST_HEIGHT, MOST_PATTERN_NODES, MOST_PREDS, MOST_PREMISES, MOST_RIGHT, MOST_RULES, MOST_SORTS, MOST_STAGES, MOST_VARIABLES}
 use Rattle.cep_base.specs.Bounds.{IsTurnLimit}
 use Rattle.cep_rule.specs.declared.signature.Signature.{Signature}
 use Rattle.cep_rule.specs.declared.rule.Rule.{Rule}
 use Rattle.cep_rule.specs.declared.parts.Parts.{Parts}
 use Rattle.cep_rule.specs.Patterns.{ClauseTree}
+
+-- A height within which backward premises may be derived.
+pub record IsHeight (height : ℕ) : Type 0 where
+  pub some : 1 ≤ height
+  pub low : height ≤ MOST_HEIGHT
 
 -- An atom of a rule or a clause has not too many nodes.
 abbrev pub IsSmallPattern : AtomTree → Type 0

@@ -29,7 +29,7 @@ stage_after rule stage = unwrap_or rule.next stage
 -- A step of the machine by a rule with values for its variables: all atoms that it makes are fit, the state is the one after the step and fits, and the stage is the one after the rule.
 pub record StepsTo (program : Parts) (rule : Rule) (values : List Tree) (old new : Spot) : Type 0 where
   pub fit : MakesFit rule values
-  pub step : Step rule values old.state new.state
+  pub step : Step program.signature rule values old.state new.state
   pub fits : Fits new.state
   pub stage : new.stage ≡ stage_after rule old.stage
 

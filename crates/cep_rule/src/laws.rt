@@ -1,9 +1,10 @@
 //! Laws of what programs mean, for the crates that rest on them. Each function computes nothing, and
 //! its contract is the law.
-ghost use Rattle.std.specs.Prelude.{◌≡◌, ◌↔◌, ℕ, List, [], ◌++◌, true};
+ghost use Rattle.std.specs.Prelude.{◌≡◌, ◌↔◌, ℕ, List, ◌++◌, true};
 ghost use Rattle.std.specs.declared.cmp.Ordering.TheVariants.{Equal};
 ghost use Rattle.std.specs.Cmp.{IsTotalOrder};
-ghost use Rattle.cep_term.specs.Tree.{Tree, AtomTree, IsGroundAtom};
+ghost use Rattle.std.specs.List.{AllByRecursion};
+ghost use Rattle.cep_term.specs.Tree.{Tree, AtomTree};
 ghost use Rattle.cep_term.specs.Multiset.{Multiset, IsContained, IsBag};
 ghost use Rattle.cep_rule.specs.declared.signature.Signature.{Signature};
 ghost use Rattle.cep_rule.specs.declared.rule.Rule.{Rule};
@@ -12,11 +13,14 @@ ghost use Rattle.cep_rule.specs.declared.offer.Offer.{Offer};
 ghost use Rattle.cep_rule.specs.Patterns.{ClauseTree};
 ghost use Rattle.cep_rule.specs.Typing.{AreValues};
 ghost use Rattle.cep_rule.specs.Groundness.{Known, IsBad};
-ghost use Rattle.cep_rule.specs.Instances.{full_instance, full_instances, kept_of, left_of, right_of};
-ghost use Rattle.cep_rule.specs.Offers.{offer_cmp, AreOffers};
+ghost use Rattle.cep_rule.specs.Instances.{full_instances, kept_of, left_of, right_of};
+ghost use Rattle.cep_rule.specs.Offers.{offer_cmp, Applies, AreOffers};
+ghost use Rattle.cep_rule.specs.Derivations.{ProofTree, Proves};
+ghost use Rattle.cep_rule.specs.Shapes.{IsProofOf, IsSmallTerm, HasSmallValues};
+ghost use Rattle.cep_rule.specs.State.{IsState};
 ghost use Rattle.cep_rule.specs.Step.{Step, StepsByCounts};
 ghost use Rattle.cep_rule.specs.Matching.{state_after};
-ghost use Rattle.cep_rule.specs.Program.{IsTypedRule};
+ghost use Rattle.cep_rule.specs.Program.{IsTypedRule, IsProgram};
 ghost use Rattle.cep_rule.specs.TypeLaws.{TypeLaws};
 
 use cep_term::laws::{bags_are_lawful, order_is_total};
@@ -42,12 +46,12 @@ pub fn offers_have_one_order()
 /// A step by a rule with values for its variables leads from a state to one state, and leaves one
 /// rest alone.
 pub fn one_state_after_a_step()
-    ensures state { (rule : Rule) (values : List Tree) (old one other : Multiset)
-        → Step rule values old one
-        → Step rule values old other
+    ensures state { (signature : Signature) (rule : Rule) (values : List Tree) (old one other : Multiset)
+        → Step signature rule values old one
+        → Step signature rule values old other
         → one ≡ other }
-    ensures rest { (rule : Rule) (values : List Tree) (old one other : Multiset)
-        (step : Step rule values old one) (step' : Step rule values old other)
+    ensures rest { (signature : Signature) (rule : Rule) (values : List Tree) (old one other : Multiset)
+        (step : Step signature rule values old one) (step' : Step signature rule values old other)
         → step.rest ≡ step'.rest }
 {
     bags_are_lawful();
@@ -56,11 +60,11 @@ pub fn one_state_after_a_step()
 /// A step can be told by counts alone: it is there exactly where the left side is, and what it does
 /// to the count of each atom says which one it is.
 pub fn steps_can_be_told_by_counts()
-    ensures { (rule : Rule) (values : List Tree) (old new : Multiset)
-        → IsBag (left_of rule values)
+    ensures { (signature : Signature) (rule : Rule) (values : List Tree) (old new : Multiset)
+        → IsBag (left_of signature rule values)
         → IsBag old
         → IsBag new
-        → (Step rule values old new ↔ StepsByCounts rule values old new) }
+        → (Step signature rule values old new ↔ StepsByCounts signature rule values old new) }
 {
     bags_are_lawful();
 }
@@ -72,8 +76,8 @@ pub fn edits_are_steps()
         → IsTypedRule signature rule
         → AreValues signature.cons rule.kinds values
         → IsBag state
-        → IsContained (left_of rule values) state
-        → Step rule values state (state_after state (left_of rule values) (full_instances values (rule.right ++ kept_of rule))) }
+        → IsContained (left_of signature rule values) state
+        → Step signature rule values state (state_after signature state (left_of signature rule values) (full_instances values (rule.right ++ kept_of rule))) }
 {
     sides_are_bags();
     bags_are_lawful();
@@ -90,11 +94,34 @@ pub fn sides_are_bags()
     ensures left { (signature : Signature) (rule : Rule) (values : List Tree)
         → IsTypedRule signature rule
         → AreValues signature.cons rule.kinds values
-        → IsBag (left_of rule values) }
+        → IsBag (left_of signature rule values) }
     ensures right { (signature : Signature) (rule : Rule) (values : List Tree)
         → IsTypedRule signature rule
         → AreValues signature.cons rule.kinds values
-        → IsBag (right_of rule values) }
+        → IsBag (right_of signature rule values) }
+{
+    bags_are_lawful();
+}
+
+/// A derivation that proves an atom has the program's shape: so it can be written.
+pub fn derivations_have_shape()
+    ensures { (program : Parts) (proof : ProofTree) (a : AtomTree)
+        → Proves program proof a
+        → IsProofOf program proof }
+{}
+
+/// The values of an instance of a rule that applies to a state are small, and so are those of a
+/// derivation that proves an atom: so they can be read back.
+pub fn values_are_small()
+    ensures offers { (program : Parts) (height : ℕ) (state : Multiset) (offer : Offer)
+        → IsProgram program
+        → IsState program.signature state
+        → Applies program height state offer
+        → AllByRecursion IsSmallTerm offer.values }
+    ensures derivations { (program : Parts) (proof : ProofTree) (a : AtomTree)
+        → IsProgram program
+        → Proves program proof a
+        → HasSmallValues proof }
 {
     bags_are_lawful();
 }

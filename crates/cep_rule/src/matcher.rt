@@ -3,6 +3,7 @@ ghost use Rattle.cep_term.specs.Tree.{AtomTree};
 ghost use Rattle.cep_term.specs.Multiset.{Multiset, IsContained};
 ghost use Rattle.cep_rule.specs.declared.parts.Parts.{Parts};
 ghost use Rattle.cep_rule.specs.declared.offer.Offer.{Offer};
+ghost use Rattle.cep_rule.specs.Limits.{IsHeight};
 ghost use Rattle.cep_rule.specs.State.{IsState, Fits};
 ghost use Rattle.cep_rule.specs.Matching.{offers_of, AreListed, state_after, RoseBy};
 
@@ -48,8 +49,7 @@ pub trait Matcher: Sized + Drop {
         height: u32,
         steps: &mut Steps<L>,
     ) -> Result<Self, AllocError>
-        requires some_height { 1 ≤ height }
-        requires low { height ≤ 512 }
+        requires height { IsHeight height }
         requires is_state { IsState program.now.signature state.now }
         requires fits { Fits state.now }
         ensures of_program { IfOk result (λ matcher. is_of program.now matcher) }
@@ -71,10 +71,10 @@ pub trait Matcher: Sized + Drop {
     ) -> Result<Self, AllocError>
         requires of_program { is_of program.now self }
         requires contained { IsContained taken.now (state_held self) }
-        requires is_state { IsState program.now.signature (state_after (state_held self) taken.now added.now) }
-        requires fits { Fits (state_after (state_held self) taken.now added.now) }
+        requires is_state { IsState program.now.signature (state_after program.now.signature (state_held self) taken.now added.now) }
+        requires fits { Fits (state_after program.now.signature (state_held self) taken.now added.now) }
         ensures of_program { IfOk result (λ matcher. is_of program.now matcher) }
-        ensures new_state { IfOk result (λ matcher. state_held matcher ≡ state_after (state_held self) taken.now added.now) }
+        ensures new_state { IfOk result (λ matcher. state_held matcher ≡ state_after program.now.signature (state_held self) taken.now added.now) }
         ensures same_height { IfOk result (λ matcher. height_held matcher ≡ height_held self) }
         ensures ticked { IfOk result (λ matcher. RoseBy (may_edit program.now (state_held self) (height_held self) taken.now added.now) steps.old steps.new) }
         ensures never_falls { steps.old ≤ steps.new };
@@ -97,6 +97,11 @@ pub trait Matcher: Sized + Drop {
     {
         self.count(group) <= MOST_OFFERS
     }
+
+    /// The height of a matcher of a program is one.
+    ghost low: { (program : Parts) (matcher : Self)
+        → is_of program matcher
+        → IsHeight (height_held matcher) };
 
     /// The lists of a matcher of a program are its offers in the state, within the height.
     ghost exact: { (program : Parts) (matcher : Self)

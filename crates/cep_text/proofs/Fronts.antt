@@ -1,6 +1,6 @@
 -- Fronts of a text that is added piece by piece.
 use Rattle.std.proofs.Common.{◌≡◌, ℕ, List, [], ◌∷◌, ◌++◌, append_assoc, sym, ap, subst, ◌∙◌}
-use Rattle.std.specs.Prelude.{Result, Ok, Err, OnErr, Some, slice_get}
+use Rattle.std.specs.Prelude.{Result, OnErr, Some, slice_get}
 use Rattle.cep_base.proofs.Outcomes.{on_err}
 use Rattle.cep_term.specs.Tree.{Tree, Trees, node, more}
 use Rattle.cep_rule.specs.declared.signature.Con.{Con}

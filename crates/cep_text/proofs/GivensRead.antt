@@ -5,8 +5,8 @@ use Rattle.cep_term.specs.Tree.{Tree, term_depth}
 use Rattle.cep_rule.specs.declared.signature.Signature.{Signature}
 use Rattle.cep_rule.specs.Names.{AreNames}
 use Rattle.cep_rule.specs.Typing.{AreValues}
+use Rattle.cep_rule.specs.Shapes.{IsSmallTerm}
 use Rattle.cep_text.specs.Texts.{term_text, all_given_text}
-use Rattle.cep_text.specs.Reads.{IsSmallTerm}
 use Rattle.cep_text.specs.Reading.{Reader, literal_at, con_names, value_at, small_at, given_at, givens_at}
 use Rattle.cep_text.proofs.Literals.{literal_again, literal_found}
 use Rattle.cep_text.proofs.Numbers.{by_bind, some_is}

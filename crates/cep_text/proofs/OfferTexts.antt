@@ -10,8 +10,9 @@ use Rattle.cep_rule.specs.declared.parts.Parts.{Parts}
 use Rattle.cep_rule.specs.Names.{IsName, AreNames}
 use Rattle.cep_rule.specs.Typing.{AreValues}
 use Rattle.cep_rule.specs.Program.{IsProgram, IsTypedRule}
-use Rattle.cep_text.specs.Texts.{offer_name, rule_vars, all_given_text, offer_text, IsOfferOf}
-use Rattle.cep_text.specs.Reads.{IsSmallTerm, IsOfferText}
+use Rattle.cep_rule.specs.Shapes.{IsOfferOf, IsSmallTerm}
+use Rattle.cep_text.specs.Texts.{offer_name, rule_vars, all_given_text, offer_text}
+use Rattle.cep_text.specs.Reads.{IsOfferText}
 use Rattle.cep_text.specs.Reading.{Reader, name_len, front_name, behind_name, number_among, rule_names, small_at, whole, givens_at, rule_at, offer_read}
 use Rattle.cep_text.proofs.Numbers.{by_bind, some_is, none_is, all_at, number_is, number_found, item_name}
 use Rattle.cep_text.proofs.Heads.{IsApart, name_bytes, front_is, behind_is}

@@ -9,7 +9,8 @@ use Rattle.cep_rule.specs.declared.offer.Offer.{Offer}
 use Rattle.cep_rule.specs.Typing.{HasSort, IsValue}
 use Rattle.cep_rule.specs.Derivations.{ProofTree, proof_height}
 use Rattle.cep_rule.specs.Program.{IsProgram}
-use Rattle.cep_text.specs.Texts.{con_name, pred_name, term_text, args_text, atom_text, offer_text, proof_text, IsGroundTerm, IsTypedGround, IsOfferOf, IsProofOf}
+use Rattle.cep_rule.specs.Shapes.{IsOfferOf, IsProofOf}
+use Rattle.cep_text.specs.Texts.{con_name, pred_name, term_text, args_text, atom_text, offer_text, proof_text, IsGroundTerm, IsTypedGround}
 use Rattle.cep_text.specs.Reading.{◌>>=◌, literal_at, front_name, number_among, con_names, pred_names, pred_at, arguments_at, value_at, offer_read, proof_read}
 use Rattle.cep_text.proofs.Numbers.{some_is, all_at, number_found, item_name}
 use Rattle.cep_text.proofs.ValuesAgain.{con_of, value_again, arguments_again, args_apart}

@@ -6,8 +6,9 @@ use Rattle.cep_rule.specs.Patterns.{ClauseTree}
 use Rattle.cep_rule.specs.Typing.{AreValues}
 use Rattle.cep_rule.specs.Derivations.{ProofTree, ProofTrees, by_clause, no_goal, goal_by, proof_height}
 use Rattle.cep_rule.specs.Program.{IsProgram}
-use Rattle.cep_text.specs.Texts.{proof_text, AreAsMany, IsProofOf, AreProofsOf}
-use Rattle.cep_text.specs.Reads.{HasSmallValues, HaveSmallValues, IsProofText}
+use Rattle.cep_rule.specs.Shapes.{AreAsMany, IsProofOf, AreProofsOf, HasSmallValues, HaveSmallValues}
+use Rattle.cep_text.specs.Texts.{proof_text}
+use Rattle.cep_text.specs.Reads.{IsProofText}
 use Rattle.cep_base.specs.declared.limits.TheConstants.{MOST_HEIGHT}
 use Rattle.cep_text.specs.Reading.{Reader, value_at, small_at, proof_at, proof_read}
 use Rattle.cep_text.proofs.Numbers.{by_bind, none_is}

@@ -13,7 +13,8 @@ use Rattle.cep_base.specs.Spelling.{is_name_byte}
 use Rattle.cep_rule.specs.Patterns.{ClauseTree}
 use Rattle.cep_rule.specs.Derivations.{ProofTree, ProofTrees, by_clause, no_goal, goal_by, proof_height, greatest_height}
 use Rattle.cep_rule.specs.Program.{IsProgram}
-use Rattle.cep_text.specs.Texts.{clause_vars, all_given_text, begin_text, proof_text, proofs_text, AreAsMany}
+use Rattle.cep_rule.specs.Shapes.{AreAsMany}
+use Rattle.cep_text.specs.Texts.{clause_vars, all_given_text, begin_text, proof_text, proofs_text}
 use Rattle.cep_text.specs.Reading.{Reader, clause_at, begin_at, proofs_at, node_at, proof_at}
 use Rattle.cep_text.proofs.Literals.{literal_again}
 use Rattle.cep_text.proofs.Heads.{IsApart, AreNameBytes, front_is, behind_is}

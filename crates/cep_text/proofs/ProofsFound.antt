@@ -8,8 +8,8 @@ use Rattle.cep_rule.specs.Patterns.{ClauseTree}
 use Rattle.cep_rule.specs.Typing.{AreValues}
 use Rattle.cep_rule.specs.Derivations.{ProofTree, ProofTrees, by_clause, no_goal, goal_by, proof_height, greatest_height}
 use Rattle.cep_rule.specs.Program.{IsProgram, IsTypedClause}
-use Rattle.cep_text.specs.Texts.{clause_vars, all_given_text, begin_text, proof_text, proofs_text, AreAsMany, IsProofOf, AreProofsOf}
-use Rattle.cep_text.specs.Reads.{IsSmallTerm, HasSmallValues, HaveSmallValues}
+use Rattle.cep_rule.specs.Shapes.{AreAsMany, IsProofOf, AreProofsOf, IsSmallTerm, HasSmallValues, HaveSmallValues}
+use Rattle.cep_text.specs.Texts.{clause_vars, all_given_text, begin_text, proof_text, proofs_text}
 use Rattle.cep_text.specs.Reading.{Reader, literal_at, name_len, front_name, behind_name, numbered_by, small_at, givens_at, clause_at, begin_at, proofs_at, node_at, proof_at}
 use Rattle.cep_text.proofs.Literals.{literal_found}
 use Rattle.cep_text.proofs.Numbers.{by_bind, some_is, all_at}

@@ -10,8 +10,9 @@ use Rattle.cep_rule.specs.declared.parts.Parts.{Parts}
 use Rattle.cep_rule.specs.Names.{AreNames}
 use Rattle.cep_rule.specs.Typing.{HasSort, HaveSorts, IsValue}
 use Rattle.cep_rule.specs.Program.{IsProgram}
+use Rattle.cep_rule.specs.Shapes.{IsSmallTerm}
 use Rattle.cep_text.specs.Texts.{pred_name, term_text, args_text}
-use Rattle.cep_text.specs.Reads.{IsSmallTerm, IsTermText, IsAtomText}
+use Rattle.cep_text.specs.Reads.{IsTermText, IsAtomText}
 use Rattle.cep_text.specs.Reading.{◌>>=◌, con_names, pred_names, pred_at, arguments_at, value_at, small_at, whole, term_read, atom_read}
 use Rattle.cep_text.proofs.Numbers.{by_bind, guard_some, none_is, all_at}
 use Rattle.cep_text.proofs.Heads.{IsApart, pred_found, pred_again}

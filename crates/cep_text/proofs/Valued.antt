@@ -10,7 +10,8 @@ use Rattle.cep_rule.specs.declared.offer.Offer.{Offer}
 use Rattle.cep_rule.specs.Patterns.{ClauseTree}
 use Rattle.cep_rule.specs.Typing.{AreValues}
 use Rattle.cep_rule.specs.Program.{IsProgram, IsTypedRule, IsTypedClause}
-use Rattle.cep_text.specs.Texts.{HasNames, IsOfferOf, IsNodeOf}
+use Rattle.cep_rule.specs.Shapes.{IsOfferOf, IsNodeOf}
+use Rattle.cep_text.specs.Texts.{HasNames}
 use Rattle.cep_text.proofs.Named.{has_names}
 
 as_many : (cons : List Con) (kinds : List ℕ) (values : List Tree) → AreValues cons kinds values → length kinds ≡ length values

@@ -1,18 +1,14 @@
 -- Of which values the bytes are the canonical text, within the sizes that are read.
 use Rattle.std.specs.Prelude.{◌≡◌, ℕ, ◌≤◌, List}
 use Rattle.std.specs.List.{AllByRecursion}
-use Rattle.cep_base.specs.declared.limits.TheConstants.{MOST_DEPTH, MOST_HEIGHT, MOST_NODES}
-use Rattle.cep_term.specs.Tree.{Tree, AtomTree, IsFit, term_nodes, term_depth}
+use Rattle.cep_base.specs.declared.limits.TheConstants.{MOST_HEIGHT}
+use Rattle.cep_term.specs.Tree.{Tree, AtomTree, IsFit}
 use Rattle.cep_rule.specs.declared.parts.Parts.{Parts}
 use Rattle.cep_rule.specs.declared.offer.Offer.{Offer}
 use Rattle.cep_rule.specs.Typing.{IsValue}
-use Rattle.cep_rule.specs.Derivations.{ProofTree, ProofTrees, by_clause, no_goal, goal_by, proof_height}
-use Rattle.cep_text.specs.Texts.{term_text, atom_text, offer_text, proof_text, IsTypedGround, IsOfferOf, IsProofOf}
-
--- A term is small enough to be read: the limits are those of an atom that is kept.
-pub record IsSmallTerm (t : Tree) : Type 0 where
-  pub nodes : term_nodes t ≤ MOST_NODES
-  pub depth : term_depth t ≤ MOST_DEPTH
+use Rattle.cep_rule.specs.Derivations.{ProofTree, proof_height}
+use Rattle.cep_rule.specs.Shapes.{IsOfferOf, IsProofOf, IsSmallTerm, HasSmallValues}
+use Rattle.cep_text.specs.Texts.{term_text, atom_text, offer_text, proof_text, IsTypedGround}
 
 -- The bytes are the text of a value of the type, which is small enough.
 pub record IsTermText (program : Parts) (sort : ℕ) (bytes : List ℕ) (t : Tree) : Type 0 where
@@ -31,15 +27,6 @@ pub record IsOfferText (program : Parts) (bytes : List ℕ) (offer : Offer) : Ty
   pub of_rule : IsOfferOf program offer
   pub small : AllByRecursion IsSmallTerm offer.values
   pub text : bytes ≡ offer_text program offer
-
--- All values of a derivation, and of derivations, are small enough.
-abbrev mutual
-  pub HasSmallValues : ProofTree → Type 0
-  HasSmallValues (by_clause number values subs) = AllByRecursion IsSmallTerm values × HaveSmallValues subs
-
-  pub HaveSmallValues : ProofTrees → Type 0
-  HaveSmallValues no_goal = Unit {0}
-  HaveSmallValues (goal_by proof proofs) = HasSmallValues proof × HaveSmallValues proofs
 
 -- The bytes are the text of a derivation of the program's shape, with values that are small enough, and not too many brackets are open at once: it is as high.
 pub record IsProofText (program : Parts) (bytes : List ℕ) (proof : ProofTree) : Type 0 where

@@ -8,7 +8,7 @@ use Rattle.cep_rule.specs.declared.rule.Rule.{Rule}
 use Rattle.cep_rule.specs.declared.parts.Parts.{Parts}
 use Rattle.cep_rule.specs.declared.offer.Offer.{Offer}
 use Rattle.cep_rule.specs.Patterns.{ClauseTree}
-use Rattle.cep_rule.specs.Typing.{IsTyped, IsValue, AreValues}
+use Rattle.cep_rule.specs.Typing.{IsTyped, IsValue}
 use Rattle.cep_rule.specs.Derivations.{ProofTree, ProofTrees, by_clause, no_goal, goal_by}
 
 -- the name of a constructor
@@ -100,33 +100,6 @@ pub record IsGroundTerm (signature : Signature) (t : Tree) : Type 0 where
 pub record IsTypedGround (signature : Signature) (a : AtomTree) : Type 0 where
   pub is_ground : IsGroundAtom a
   pub typed : IsTyped signature [] a
-
--- The offer has a rule of the program, and one value for each variable of the rule, of its type.
-abbrev pub IsOfferOf : Parts → Offer → Type 0
-IsOfferOf program offer = IsSomeAnd (slice_get program.rules offer.rule) (λ rule. AreValues program.signature.cons rule.kinds offer.values)
-
--- There is one derivation for each goal.
-abbrev pub AreAsMany : {A : Type 0} → ProofTrees → List A → Type 0
-AreAsMany no_goal [] = Unit {0}
-AreAsMany no_goal (goal ∷ goals) = ⊥
-AreAsMany (goal_by proof proofs) [] = ⊥
-AreAsMany (goal_by proof proofs) (goal ∷ goals) = AreAsMany proofs goals
-
--- The clause is one of the program, and there is one value for each variable of the clause, of its type.
-abbrev pub IsNodeOf : Parts → ℕ → List Tree → Type 0
-IsNodeOf program number values = IsSomeAnd (slice_get program.clauses number) (λ clause. AreValues program.signature.cons clause.kinds values)
-
--- A derivation has the program's shape: each node has a clause of the program with values for its variables, and one derivation for each goal. What the derivations of the goals prove is left open.
-abbrev mutual
-  pub IsProofOf : Parts → ProofTree → Type 0
-  IsProofOf program (by_clause number values subs) =
-      IsNodeOf program number values
-      × IsSomeAnd (slice_get program.clauses number) (λ clause. AreAsMany subs clause.goals)
-      × AreProofsOf program subs
-
-  pub AreProofsOf : Parts → ProofTrees → Type 0
-  AreProofsOf program no_goal = Unit {0}
-  AreProofsOf program (goal_by proof proofs) = IsProofOf program proof × AreProofsOf program proofs
 
 -- Each node of a term or of arguments is a constructor that is declared.
 abbrev mutual

@@ -1,6 +1,7 @@
 ghost use Rattle.std.specs.Prelude.{◌≡◌, ◌++◌, OnOk, OnErr};
 ghost use Rattle.cep_rule.specs.Derivations.{proof_of, proofs_of};
-ghost use Rattle.cep_text.specs.Texts.{begin_text, begin_of, proof_text, proofs_text, IsNodeOf, IsProofOf, AreProofsOf};
+ghost use Rattle.cep_rule.specs.Shapes.{IsNodeOf, IsProofOf, AreProofsOf};
+ghost use Rattle.cep_text.specs.Texts.{begin_text, begin_of, proof_text, proofs_text};
 ghost use Rattle.cep_text.specs.Writing.{IsBegun};
 
 use crate::offers::put_values;

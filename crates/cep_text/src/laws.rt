@@ -6,7 +6,8 @@ ghost use Rattle.cep_rule.specs.declared.parts.Parts.{Parts};
 ghost use Rattle.cep_rule.specs.declared.offer.Offer.{Offer};
 ghost use Rattle.cep_rule.specs.Derivations.{ProofTree};
 ghost use Rattle.cep_rule.specs.Program.{IsProgram};
-ghost use Rattle.cep_text.specs.Texts.{term_text, atom_text, offer_text, proof_text, IsGroundTerm, IsTypedGround, IsOfferOf, IsProofOf};
+ghost use Rattle.cep_rule.specs.Shapes.{IsOfferOf, IsProofOf};
+ghost use Rattle.cep_text.specs.Texts.{term_text, atom_text, offer_text, proof_text, IsGroundTerm, IsTypedGround};
 
 /// No text is the text of two values: of two well-typed ground terms, two such atoms, two offers,
 /// or two derivations.

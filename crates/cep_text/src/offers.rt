@@ -1,7 +1,8 @@
 ghost use Rattle.std.specs.Prelude.{◌≡◌, ◌++◌, length, OnOk, OnErr};
 ghost use Rattle.std.specs.List.{AllByRecursion};
+ghost use Rattle.cep_rule.specs.Shapes.{IsOfferOf};
 ghost use Rattle.cep_term.specs.Tree.{tree_of};
-ghost use Rattle.cep_text.specs.Texts.{given_text, all_given_text, offer_text, IsOfferOf, HasNames};
+ghost use Rattle.cep_text.specs.Texts.{given_text, all_given_text, offer_text, HasNames};
 ghost use Rattle.cep_text.specs.Writing.{IsBegun};
 
 use crate::terms::put_value;

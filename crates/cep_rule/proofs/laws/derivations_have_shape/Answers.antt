@@ -1,0 +1,5 @@
+use Rattle.cep_rule.proofs.ShapeLaws.{proof_shaped}
+use Rattle.cep_rule.proofs.laws.derivations_have_shape.Goals as goal
+
+pub returns : goal.returns
+returns c = proof_shaped
