@@ -1,5 +1,5 @@
 -- What is known of a rule with values that apply to a state.
-use Rattle.std.proofs.Common.{◌≡◌, ℕ, zero, suc, ◌+◌, ◌<◌, true, false, cond, List, [], ◌∷◌, ◌++◌, length, Option, Some, None, unwrap_or, refl, sym, ap, subst, ◌∙◌, arith}
+use Rattle.std.proofs.Common.{◌≡◌, ℕ, zero, suc, ◌+◌, ◌<◌, true, false, cond, List, [], ◌∷◌, length, Option, Some, None, unwrap_or, refl, sym, ap, subst, ◌∙◌, arith}
 use Rattle.std.specs.Prelude.{slice_get, slice_index_or, filter, IfSome}
 use Rattle.std.specs.List.{AllByRecursion}
 use Rattle.std.proofs.lemmas.List.{map-append, length-map}
@@ -13,12 +13,13 @@ use Rattle.cep_rule.specs.declared.parts.Parts.{Parts}
 use Rattle.cep_rule.specs.declared.offer.Offer.{Offer}
 use Rattle.cep_rule.specs.Typing.{IsTyped, IsLinear, AreValues}
 use Rattle.cep_rule.specs.Limits.{IsSmallRule, IsSmallPattern}
-use Rattle.cep_rule.specs.Binding.{needed_of, IsBoundRule, OccursInSome}
+use Rattle.cep_rule.specs.Binding.{needed_of}
 use Rattle.cep_rule.specs.State.{IsStateAtom, IsState, Fits}
-use Rattle.cep_rule.specs.Instances.{full_instance, full_instances, kept_of, left_of}
+use Rattle.cep_rule.specs.Instances.{full_instance, full_instances, kept_of}
 use Rattle.cep_rule.specs.Patterns.{PremiseTree}
 use Rattle.cep_rule.specs.Program.{IsTypedRule, IsDividedRule, IsProgram}
 use Rattle.cep_rule.specs.Offers.{Applies}
+use Rattle.cep_rule.specs.Shapes.{IsSmallTerm}
 use Rattle.cep_rule.specs.Matching.{offers_of, AreListed, state_after}
 use Rattle.cep_rule.specs.Step.{Step}
 use Rattle.cep_machine.specs.declared.stepped.Which.{Which}
@@ -29,12 +30,12 @@ use Rattle.cep_machine.specs.Changing.{CanChange}
 use Rattle.cep_machine.specs.Asking.{asked_offers}
 use Rattle.cep_machine.specs.Stepping.{added_by, IsAskedAt, Passes, IsNext}
 use Rattle.cep_machine.specs.Sizes.{IsSmallValue, IsMeasurable}
-use Rattle.cep_machine.specs.Weighing.{premise_atoms, next_state, CanWeigh, IsWeighed}
+use Rattle.cep_machine.specs.Weighing.{premise_atoms, needs_of, next_state, CanWeigh, IsWeighed}
 use Rattle.cep_machine.specs.StepLaws.{StepLaws}
 use Rattle.cep_base.proofs.Elements.{both_all, all_at, all_of}
 use Rattle.cep_base.proofs.Lists.{none_some, some_same, holds_at, all_weaker}
 use Rattle.cep_machine.proofs.SizesOf.{IsBelow, instance_bounded}
-use Rattle.cep_machine.proofs.Premises.{kept_in, nothing_more}
+use Rattle.cep_machine.proofs.Premises.{kept_in}
 use Rattle.cep_machine.proofs.Ranges.{small_values}
 
 -- A rule with values that apply to a state.
@@ -42,11 +43,10 @@ pub record IsReady (program : Parts) (state : Multiset) (rule : Rule) (values : 
   pub typed : IsTypedRule program.signature rule
   pub divided : IsDividedRule program.signature rule
   pub small : IsSmallRule rule
-  pub bound : IsBoundRule rule
-  pub alone : rule.backs ≡ []
   pub next : IfSome rule.next (λ stage. stage < length program.stages)
   pub are : AreValues program.signature.cons rule.kinds values
-  pub contained : IsContained (left_of rule values) state
+  pub small_values : AllByRecursion IsSmallTerm values
+  pub contained : IsContained (needs_of rule values) state
 
 same_some : {A : Type 0} (o : Option A) (x y : A) → o ≡ Some x → o ≡ Some y → x ≡ y
 same_some o x y e f = cc
@@ -68,19 +68,18 @@ offer_applies program height held state lists group place offer are same is =
     subst (λ s. Applies program height s offer) same
     ((are.each group (group_listed lists group place offer is)).no_other offer (place, (slice_get_within (offers_of lists group) place offer is), (at_place (offers_of lists group) place offer is))).applies
 
-pub ready : (program : Parts) (height : ℕ) (state : Multiset) (offer : Offer) (rule : Rule) → IsProgram program → Applies program height state offer → slice_get program.rules offer.rule ≡ Some rule → IsReady program state rule offer.values
-ready program height state offer rule kept applies numbered =
+pub ready : StepLaws → (program : Parts) (height : ℕ) (state : Multiset) (offer : Offer) (rule : Rule) → IsProgram program → IsState program.signature state → Applies program height state offer → slice_get program.rules offer.rule ≡ Some rule → IsReady program state rule offer.values
+ready laws program height state offer rule kept is_state applies numbered =
     let n = offer.rule in
     let same : applies.rule ≡ rule = same_some (slice_get program.rules n) applies.rule rule applies.numbered numbered in
     record {
       typed = holds_at (IsTypedRule program.signature) program.rules n rule kept.typed_rules numbered;
       divided = holds_at (IsDividedRule program.signature) program.rules n rule kept.divided_rules numbered;
       small = holds_at IsSmallRule program.rules n rule kept.small.each_rule numbered;
-      bound = holds_at IsBoundRule program.rules n rule kept.bound_rules numbered;
-      alone = holds_at (λ (r : Rule). r.backs ≡ []) program.rules n rule kept.no_backs numbered;
       next = holds_at (λ (r : Rule). IfSome r.next (λ stage. stage < length program.stages)) program.rules n rule kept.in_range.next_stages numbered;
       are = subst (λ (r : Rule). AreValues program.signature.cons r.kinds offer.values) same applies.values;
-      contained = subst (λ (r : Rule). IsContained (left_of r offer.values) state) same applies.contained;
+      small_values = laws.small program height state offer kept is_state applies;
+      contained = subst (λ (r : Rule). IsContained (needs_of r offer.values) state) same applies.contained;
     }
 
 -- the stage after a step is one of the program's
@@ -140,12 +139,7 @@ module _ (laws : StepLaws) (program : Parts) (state : Multiset) (rule : Rule) (v
   many_values = laws.types.as_many program.signature.cons rule.kinds values is.are
 
   all_small : AllByRecursion IsSmallValue values
-  all_small = small_values program.signature.cons rule.kinds values (needed_of rule) is.are
-      (λ v within.
-      let many = many_values in
-      let vars = is.typed.kinds in
-      subst (OccursInSome v) (ap (λ (backs : List AtomTree). needed_of rule ++ backs) is.alone ∙ nothing_more (needed_of rule)) (is.bound v (omega arith)))
-      needed_fit
+  all_small = small_values program.signature.cons rule.kinds values is.are is.small_values
 
   pub needed_in_range : AllByRecursion (IsAtomInRange (length values)) (needed_of rule)
   needed_in_range = all_weaker (IsTyped program.signature rule.kinds) (IsAtomInRange (length values)) (needed_of rule)
@@ -188,16 +182,16 @@ module _ (laws : StepLaws) (program : Parts) (state : Multiset) (rule : Rule) (v
 
   pub next_state_atoms : AllByRecursion IsFit (full_instances values rule.right) → IsState program.signature (next_state rule values state)
   next_state_atoms fit = record {
-    bag = laws.bags.sum_kept (difference_of state (left_of rule values)) (gathered (added_by rule values))
-        (laws.bags.difference_kept state (left_of rule values) is_state.bag (laws.left_bag program.signature rule values is.typed is.are))
+    bag = laws.bags.sum_kept (difference_of state (needs_of rule values)) (gathered (added_by rule values))
+        (laws.bags.difference_kept state (needs_of rule values) is_state.bag (laws.left_bag program.signature rule values is.typed is.are))
         (laws.bags.gathered_kept (added_by rule values) (added_ground fit));
     each = λ a some. by a some (count_of state a) refl;
   }
     where
       by : (a : AtomTree) → 0 < count_of (next_state rule values state) a → (n : ℕ) → count_of state a ≡ n → IsStateAtom program.signature a
       by a some zero none =
-          let sum = laws.bags.sum (difference_of state (left_of rule values)) (gathered (added_by rule values)) a in
-          let less = laws.bags.difference state (left_of rule values) a in
+          let sum = laws.bags.sum (difference_of state (needs_of rule values)) (gathered (added_by rule values)) a in
+          let less = laws.bags.difference state (needs_of rule values) a in
           all_at (IsStateAtom program.signature) (added_by rule values) a (added_state_atoms fit) ((laws.bags.gathered_there (added_by rule values) a).0 (omega arith))
       by a some (suc n) is_there = is_state.each a (omega arith)
 
@@ -209,18 +203,18 @@ chosen_once program lists stage place offers offer rule same is numbered P holds
     subst (λ (r : Rule). P r values) rules (subst (P rule) (ap (λ (o : Offer). o.values) one) holds)
 
 -- a limit that is told from sizes is passed by a step
-pub passes : (rule : Rule) (values : List Tree) (state : Multiset) (which : Which) (number : ℕ) → Step rule values state (next_state rule values state) → IsWeighed rule values state (TooMuch which number) → Passes rule values state which number
-passes rule values state Atom number step weighed = weighed
-passes rule values state State number step weighed = (weighed.0, (next_state rule values state, step, weighed.1))
+pub passes : (signature : Signature) (rule : Rule) (values : List Tree) (state : Multiset) (which : Which) (number : ℕ) → Step signature rule values state (next_state rule values state) → IsWeighed rule values state (TooMuch which number) → Passes signature rule values state which number
+passes signature rule values state Atom number step weighed = weighed
+passes signature rule values state State number step weighed = (weighed.0, (next_state rule values state, step, weighed.1))
 
 -- what holds of the group that is asked
 pub of_asked : (Q : ℕ → Type 0) (o : Option ℕ) (group : ℕ) → IfSome o Q → o ≡ Some group → Q group
 of_asked Q None group all is = none_some group is
 of_asked Q (Some other) group all is = subst Q (some_same other group is) all
 
-pub ready_offer : (program parts : Parts) (height : ℕ) (held state : Multiset) (lists : List (List Offer)) (group place : ℕ) (offer : Offer) (rule : Rule) → IsProgram program → parts ≡ program → AreListed program height held lists → held ≡ state → slice_get (offers_of lists group) place ≡ Some offer → slice_get parts.rules offer.rule ≡ Some rule → IsReady program state rule offer.values
-ready_offer program parts height held state lists group place offer rule kept whole are same is numbered =
-    ready program height state offer rule kept (offer_applies program height held state lists group place offer are same is) (ap (λ (p : Parts). slice_get p.rules offer.rule) (sym whole) ∙ numbered)
+pub ready_offer : StepLaws → (program parts : Parts) (height : ℕ) (held state : Multiset) (lists : List (List Offer)) (group place : ℕ) (offer : Offer) (rule : Rule) → IsState program.signature state → IsProgram program → parts ≡ program → AreListed program height held lists → held ≡ state → slice_get (offers_of lists group) place ≡ Some offer → slice_get parts.rules offer.rule ≡ Some rule → IsReady program state rule offer.values
+ready_offer laws program parts height held state lists group place offer rule is_state kept whole are same is numbered =
+    ready laws program height state offer rule kept is_state (offer_applies program height held state lists group place offer are same is) (ap (λ (p : Parts). slice_get p.rules offer.rule) (sym whole) ∙ numbered)
 
 module _ (laws : StepLaws) (program : Parts) (state : Multiset) (rule : Rule) (values : List Tree) (is : IsReady program state rule values) (is_state : IsState program.signature state) (fits : Fits state) (nodes : ℕ) (weighed : IsWeighed rule values state (Within nodes)) where
   -- the change of a step that is within the limits can be made
@@ -241,19 +235,19 @@ module _ (laws : StepLaws) (program : Parts) (state : Multiset) (rule : Rule) (v
       }))
 
   -- what the change leads to is the configuration after the step
-  pub is_next : {M : Type 0} (old new : Configuration M) (left added : List AtomTree) → old.state ≡ state → left ≡ full_instances values (needed_of rule) → added ≡ added_by rule values → new.state ≡ state_after old.state (gathered left) added → new.stage ≡ unwrap_or rule.next old.stage → new.turns ≡ old.turns + 1 → IsNext program rule values old new
+  pub is_next : {M : Type 0} (old new : Configuration M) (left added : List AtomTree) → old.state ≡ state → left ≡ full_instances values (needed_of rule) → added ≡ added_by rule values → new.state ≡ state_after program.signature old.state (gathered left) added → new.stage ≡ unwrap_or rule.next old.stage → new.turns ≡ old.turns + 1 → IsNext program rule values old new
   is_next old new left added same same_left same_added after stage turns =
       let state' : new.state ≡ next_state rule values state =
       after
-      ∙ ap (λ (bag : Multiset). state_after bag (gathered left) added) same
-      ∙ ap (λ (atoms : List AtomTree). state_after state (gathered atoms) added) same_left
-      ∙ ap (λ (atoms : List AtomTree). state_after state (left_of rule values) atoms) same_added in
+      ∙ ap (λ (bag : Multiset). state_after program.signature bag (gathered left) added) same
+      ∙ ap (λ (atoms : List AtomTree). state_after program.signature state (gathered atoms) added) same_left
+      ∙ ap (λ (atoms : List AtomTree). state_after program.signature state (needs_of rule values) atoms) same_added in
       record {
         steps = record {
           fit = weighed.0;
           step =
-              subst (λ (bag : Multiset). Step rule values bag new.state) (sym same)
-              (subst (λ (bag : Multiset). Step rule values state bag) (sym state') (laws.edit program.signature rule values state is.typed is.are is_state.bag is.contained));
+              subst (λ (bag : Multiset). Step program.signature rule values bag new.state) (sym same)
+              (subst (λ (bag : Multiset). Step program.signature rule values state bag) (sym state') (laws.edit program.signature rule values state is.typed is.are is_state.bag is.contained));
           fits = subst Fits (sym state') weighed.1;
           stage = stage;
         };

@@ -1,10 +1,10 @@
 -- The sizes of instances are those that are told from the sizes of the values, and they are bounded.
-use Rattle.std.proofs.Common.{◌≡◌, ⊎_elim, ℕ, zero, suc, ◌+◌, ◌*◌, ◌≤◌, ◌<◌, ◌^◌, List, [], ◌∷◌, ◌++◌, map, take, max, Some, None, unwrap_or, refl, sym, ap, ◌∙◌, arith}
+use Rattle.std.proofs.Common.{◌≡◌, ℕ, zero, suc, ◌+◌, ◌*◌, ◌≤◌, ◌<◌, ◌^◌, List, [], ◌∷◌, ◌++◌, map, take, max, Some, None, unwrap_or, refl, sym, ap, ◌∙◌, arith}
 use Rattle.std.specs.Prelude.{slice_index_or, slice_get}
 use Rattle.std.specs.List.{AllByRecursion}
 use Rattle.std.proofs.Math.Nat.{add-mul}
-use Rattle.cep_term.specs.Tree.{Tree, Trees, AtomTree, variable, node, none, more, term_nodes, argument_nodes, atom_nodes, term_depth, argument_depth, IsGround, AreGround, IsInRange, AreInRange, Occurs, OccursAmong, OccursIn}
-use Rattle.cep_term.specs.Values.{value_of, term_instance, argument_instances}
+use Rattle.cep_term.specs.Tree.{Tree, Trees, AtomTree, variable, node, none, more, term_nodes, argument_nodes, atom_nodes, term_depth, argument_depth, IsGround, AreGround, IsInRange, AreInRange}
+use Rattle.cep_term.specs.Values.{term_instance, argument_instances}
 use Rattle.cep_rule.specs.Instances.{given, full_instance}
 use Rattle.cep_machine.specs.declared.size.Size.{Size}
 use Rattle.cep_machine.specs.Sizes.{size_of, size_by, size_among, IsSmallValue, IsMeasurable}
@@ -97,25 +97,6 @@ instance_bounded most values some all a =
     let rest = bounded_all most values some all a.args in
     let split = add-mul 1 (argument_nodes a.args) most in
     omega (arith, split)
-
-mutual
-  value_within : (values : List Tree) (v : ℕ) (u : Tree) → value_of (given values) v ≡ Some u → (t : Tree) → Occurs v t → term_nodes u ≤ term_nodes (term_instance (given values) t)
-  value_within values v u is (variable w) occurs =
-      let here : unwrap_or (value_of (given values) w) (variable w) ≡ u = ap (λ o. unwrap_or o (variable w)) (ap (value_of (given values)) (sym occurs) ∙ is) in
-      let same : term_nodes (unwrap_or (value_of (given values) w) (variable w)) ≡ term_nodes u = ap term_nodes here in
-      omega (arith, same)
-  value_within values v u is (node c args) occurs = let rest = value_among values v u is args occurs in omega arith
-
-  value_among : (values : List Tree) (v : ℕ) (u : Tree) → value_of (given values) v ≡ Some u → (args : Trees) → OccursAmong v args → term_nodes u ≤ argument_nodes (argument_instances (given values) args)
-  value_among values v u is none occurs = absurd occurs
-  value_among values v u is (more t rest) occurs = ⊎_elim
-      (λ here. let first = value_within values v u is t here in omega arith)
-      (λ later. let others = value_among values v u is rest later in omega arith)
-      occurs
-
--- a value is no larger than an instance in which its variable occurs
-pub value_in_instance : (values : List Tree) (v : ℕ) (u : Tree) → value_of (given values) v ≡ Some u → (a : AtomTree) → OccursIn v a → term_nodes u ≤ atom_nodes (full_instance values a)
-value_in_instance values v u is a occurs = let rest = value_among values v u is a.args occurs in omega arith
 
 module _ (values : List Tree) (sizes : List Size) (a : AtomTree) (same : sizes ≡ map size_of values) where
   -- the nodes and the levels of an instance, but for its predicate

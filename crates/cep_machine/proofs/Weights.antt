@@ -9,12 +9,12 @@ use Rattle.cep_term.specs.Tree.{Tree, AtomTree, atom_nodes, atom_depth, IsFit}
 use Rattle.cep_term.specs.Multiset.{Multiset, gathered, difference_of, copies_in, nodes_in_all}
 use Rattle.cep_rule.specs.declared.rule.Rule.{Rule}
 use Rattle.cep_rule.specs.Binding.{needed_of}
-use Rattle.cep_rule.specs.Instances.{full_instance, full_instances, kept_of, left_of}
+use Rattle.cep_rule.specs.Instances.{full_instance, full_instances, kept_of}
 use Rattle.cep_rule.specs.Patterns.{PremiseTree}
 use Rattle.cep_machine.specs.declared.size.Size.{Size}
 use Rattle.cep_machine.specs.Passing.{IsTooLarge, IsFirstTooLarge}
 use Rattle.cep_machine.specs.Stepping.{added_by}
-use Rattle.cep_machine.specs.Weighing.{used_of, next_state, CanWeigh}
+use Rattle.cep_machine.specs.Weighing.{used_of, needs_of, next_state, CanWeigh}
 use Rattle.cep_term.specs.BagLaws.{BagLaws}
 use Rattle.cep_base.proofs.Elements.{both_all}
 use Rattle.cep_base.proofs.Lists.{none_some, some_same, take_next}
@@ -70,23 +70,23 @@ first_at values (x ∷ atoms) zero a number fit is over = inl (subst (λ y. IsTo
 first_at values (x ∷ atoms) (suc n) a number fit is over = inr (fit.0, (first_at values atoms n a number fit.1 is over))
 
 module _ (laws : BagLaws) (rule : Rule) (values : List Tree) (state : Multiset) (can : CanWeigh rule values state) where
-  parted_copies : copies_in state ≡ copies_in (difference_of state (left_of rule values)) + copies_in (left_of rule values)
+  parted_copies : copies_in state ≡ copies_in (difference_of state (needs_of rule values)) + copies_in (needs_of rule values)
   parted_copies =
-      ap (λ (bag : Multiset). copies_in bag) (sym (laws.taken_and_added state (left_of rule values) can.bag can.left_bag can.contained))
-      ∙ laws.sum_copies (difference_of state (left_of rule values)) (left_of rule values)
+      ap (λ (bag : Multiset). copies_in bag) (sym (laws.taken_and_added state (needs_of rule values) can.bag can.left_bag can.contained))
+      ∙ laws.sum_copies (difference_of state (needs_of rule values)) (needs_of rule values)
 
-  parted_nodes : nodes_in_all state ≡ nodes_in_all (difference_of state (left_of rule values)) + nodes_in_all (left_of rule values)
+  parted_nodes : nodes_in_all state ≡ nodes_in_all (difference_of state (needs_of rule values)) + nodes_in_all (needs_of rule values)
   parted_nodes =
-      ap (λ (bag : Multiset). nodes_in_all bag) (sym (laws.taken_and_added state (left_of rule values) can.bag can.left_bag can.contained))
-      ∙ laws.sum_nodes (difference_of state (left_of rule values)) (left_of rule values)
+      ap (λ (bag : Multiset). nodes_in_all bag) (sym (laws.taken_and_added state (needs_of rule values) can.bag can.left_bag can.contained))
+      ∙ laws.sum_nodes (difference_of state (needs_of rule values)) (needs_of rule values)
 
-  left_copies : copies_in (left_of rule values) ≡ length (kept_in rule.premises) + length (used_of rule.premises)
+  left_copies : copies_in (needs_of rule values) ≡ length (kept_in rule.premises) + length (used_of rule.premises)
   left_copies =
       laws.gathered_copies (full_instances values (needed_of rule))
       ∙ length-map (needed_of rule) (full_instance values)
       ∙ count_parted rule.premises
 
-  left_nodes : nodes_in_all (left_of rule values) ≡ nodes_by values (kept_in rule.premises) + nodes_by values (used_of rule.premises)
+  left_nodes : nodes_in_all (needs_of rule values) ≡ nodes_by values (kept_in rule.premises) + nodes_by values (used_of rule.premises)
   left_nodes = laws.gathered_nodes (full_instances values (needed_of rule)) ∙ nodes_parted values rule.premises
 
   added_copies : copies_in (gathered (added_by rule values)) ≡ length rule.right + length (kept_in rule.premises)
@@ -106,7 +106,7 @@ module _ (laws : BagLaws) (rule : Rule) (values : List Tree) (state : Multiset) 
       let before = parted_copies in
       let left = left_copies in
       let added = added_copies in
-      let after = laws.sum_copies (difference_of state (left_of rule values)) (gathered (added_by rule values)) in
+      let after = laws.sum_copies (difference_of state (needs_of rule values)) (gathered (added_by rule values)) in
       omega arith
 
   pub next_nodes : nodes_in_all (next_state rule values state) + nodes_by values (used_of rule.premises) ≡ nodes_in_all state + nodes_by values rule.right
@@ -114,5 +114,5 @@ module _ (laws : BagLaws) (rule : Rule) (values : List Tree) (state : Multiset) 
       let before = parted_nodes in
       let left = left_nodes in
       let added = added_nodes in
-      let after = laws.sum_nodes (difference_of state (left_of rule values)) (gathered (added_by rule values)) in
+      let after = laws.sum_nodes (difference_of state (needs_of rule values)) (gathered (added_by rule values)) in
       omega arith

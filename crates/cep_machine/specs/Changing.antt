@@ -18,6 +18,6 @@ pub record CanChange (program : Parts) (state : Multiset) (change : Change) : Ty
   pub added : AllByRecursion IsGroundAtom change.added
   pub few : length change.left ≤ MOST_PREMISES
   pub contained : IsContained (gathered change.left) state
-  pub is_state : IsState program.signature (state_after state (gathered change.left) change.added)
-  pub fits : Fits (state_after state (gathered change.left) change.added)
-  pub nodes : change.nodes ≡ nodes_in_all (state_after state (gathered change.left) change.added)
+  pub is_state : IsState program.signature (state_after program.signature state (gathered change.left) change.added)
+  pub fits : Fits (state_after program.signature state (gathered change.left) change.added)
+  pub nodes : change.nodes ≡ nodes_in_all (state_after program.signature state (gathered change.left) change.added)

@@ -2,6 +2,7 @@
 use Rattle.std.specs.Prelude.{◌≡◌, ℕ, ◌+◌, List, ◌++◌, Some, slice_get}
 use Rattle.cep_term.specs.Tree.{Tree, AtomTree}
 use Rattle.cep_term.specs.Multiset.{Multiset}
+use Rattle.cep_rule.specs.declared.signature.Signature.{Signature}
 use Rattle.cep_rule.specs.declared.rule.Rule.{Rule}
 use Rattle.cep_rule.specs.declared.parts.Parts.{Parts}
 use Rattle.cep_rule.specs.declared.offer.Offer.{Offer}
@@ -33,14 +34,14 @@ pub record IsNext {M : Type 0} (program : Parts) (rule : Rule) (values : List Tr
   pub turns : new.turns ≡ old.turns + 1
 
 -- A step passes a limit by a number: that of an atom, by its first right atom that is not fit; or that of a state, where all are fit and the state after it does not fit.
-abbrev pub Passes : Rule → List Tree → Multiset → Which → ℕ → Type 0
-Passes rule values state Atom number = IsFirstTooLarge (full_instances values rule.right) number
-Passes rule values state State number = MakesFit rule values × ((new : Multiset) × Step rule values state new × IsTooFull new number)
+abbrev pub Passes : Signature → Rule → List Tree → Multiset → Which → ℕ → Type 0
+Passes signature rule values state Atom number = IsFirstTooLarge (full_instances values rule.right) number
+Passes signature rule values state State number = MakesFit rule values × ((new : Multiset) × Step signature rule values state new × IsTooFull new number)
 
 -- What a step comes to: the configuration after it, or the old one with the limit that the step would pass.
 abbrev pub IsStepped : {M : Type 0} → Parts → Rule → List Tree → Configuration M → Stepped M → Type 0
 IsStepped program rule values old (Done new) = IsNext program rule values old new
-IsStepped program rule values old (Limit config which number) = (config ≡ old) × Passes rule values old.state which number
+IsStepped program rule values old (Limit config which number) = (config ≡ old) × Passes program.signature rule values old.state which number
 
 -- the configuration that is there after a step, whatever it came to
 abbrev pub config_after : {M : Type 0} → Stepped M → Configuration M

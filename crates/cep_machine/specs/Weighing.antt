@@ -3,14 +3,13 @@
 use Rattle.std.specs.Prelude.{◌≡◌, ◌≤◌, not, List, length, map, filter}
 use Rattle.std.specs.List.{AllByRecursion}
 use Rattle.cep_term.specs.Tree.{Tree, AtomTree, IsFit}
-use Rattle.cep_term.specs.Multiset.{Multiset, nodes_in_all, IsContained, IsBag}
+use Rattle.cep_term.specs.Multiset.{Multiset, gathered, sum_of, difference_of, nodes_in_all, IsContained, IsBag}
 use Rattle.cep_rule.specs.declared.rule.Rule.{Rule}
 use Rattle.cep_base.specs.declared.limits.TheConstants.{MOST_PREMISES, MOST_RIGHT}
 use Rattle.cep_rule.specs.State.{Fits}
 use Rattle.cep_rule.specs.Binding.{needed_of}
-use Rattle.cep_rule.specs.Instances.{full_instances, left_of}
+use Rattle.cep_rule.specs.Instances.{full_instances}
 use Rattle.cep_rule.specs.Patterns.{PremiseTree}
-use Rattle.cep_rule.specs.Matching.{state_after}
 use Rattle.cep_machine.specs.declared.stepped.Which.TheVariants.{Atom, State}
 use Rattle.cep_machine.specs.declared.weighing.Weighed.{Weighed}
 use Rattle.cep_machine.specs.declared.weighing.Weighed.TheVariants.{TooMuch, Within}
@@ -26,9 +25,13 @@ premise_atoms premises = map (λ premise. premise.atom) premises
 abbrev pub used_of : List PremiseTree → List AtomTree
 used_of premises = map (λ premise. premise.atom) (filter (λ premise. not premise.kept) premises)
 
+-- what a step needs: the instances of all linear premises, gathered
+abbrev pub needs_of : Rule → List Tree → Multiset
+needs_of rule values = gathered (full_instances values (needed_of rule))
+
 -- the state after a step
 abbrev pub next_state : Rule → List Tree → Multiset → Multiset
-next_state rule values state = state_after state (left_of rule values) (added_by rule values)
+next_state rule values state = sum_of (difference_of state (needs_of rule values)) (gathered (added_by rule values))
 
 -- What must be known to weigh a step.
 pub record CanWeigh (rule : Rule) (values : List Tree) (state : Multiset) : Type 0 where
@@ -39,9 +42,9 @@ pub record CanWeigh (rule : Rule) (values : List Tree) (state : Multiset) : Type
   pub few_premises : length rule.premises ≤ MOST_PREMISES
   pub few_right : length rule.right ≤ MOST_RIGHT
   pub bag : IsBag state
-  pub left_bag : IsBag (left_of rule values)
+  pub left_bag : IsBag (needs_of rule values)
   pub fits : Fits state
-  pub contained : IsContained (left_of rule values) state
+  pub contained : IsContained (needs_of rule values) state
 
 -- What weighing a step comes to: the limit that it passes and by how much, or the nodes of the state after it.
 abbrev pub IsWeighed : Rule → List Tree → Multiset → Weighed → Type 0

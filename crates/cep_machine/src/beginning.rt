@@ -1,5 +1,6 @@
 ghost use Rattle.std.specs.Prelude.{◌≡◌, ◌≤◌, IfOk};
 ghost use Rattle.cep_term.specs.Multiset.{nodes_in_all};
+ghost use Rattle.cep_rule.specs.Limits.{IsHeight};
 ghost use Rattle.cep_rule.specs.State.{Fits};
 ghost use Rattle.cep_rule.specs.Matching.{RoseBy};
 ghost use Rattle.cep_machine.specs.Configuration.{IsConfigurationOf};
@@ -20,8 +21,7 @@ impl<M: Matcher> Config<M> {
         height: u32,
         steps: &mut Steps<L>,
     ) -> Result<Config<M>, AllocError>
-        requires some_height { 1 ≤ height }
-        requires low { height ≤ 512 }
+        requires height { IsHeight height }
         ensures of_program { IfOk result (IsConfigurationOf M.is_of program.now) }
         ensures stage { IfOk result (λ config. config.stage ≡ program.now.start_stage) }
         ensures state { IfOk result (λ config. config.state ≡ program.now.start) }

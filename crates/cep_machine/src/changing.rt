@@ -1,4 +1,4 @@
-ghost use Rattle.std.specs.Prelude.{◌≡◌, ◌+◌, ◌<◌, ◌≤◌, length, IfOk};
+ghost use Rattle.std.specs.Prelude.{◌≡◌, ◌+◌, ◌<◌, ◌≤◌, IfOk};
 ghost use Rattle.cep_base.specs.declared.limits.TheConstants.{MOST_TURNS};
 ghost use Rattle.cep_term.specs.Multiset.{gathered};
 ghost use Rattle.cep_rule.specs.Matching.{state_after, RoseBy};
@@ -37,7 +37,7 @@ impl<M: Matcher> Config<M> {
         requires turns { self.turns < MOST_TURNS }
         ensures of_program { IfOk result (IsConfigurationOf M.is_of program.now) }
         ensures stage { IfOk result (λ config. config.stage ≡ change.now.stage) }
-        ensures state { IfOk result (λ config. config.state ≡ state_after self.state (gathered change.now.left) change.now.added) }
+        ensures state { IfOk result (λ config. config.state ≡ state_after program.now.signature self.state (gathered change.now.left) change.now.added) }
         ensures turns { IfOk result (λ config. config.turns ≡ self.turns + 1) }
         ensures same_height { IfOk result (λ config. M.height_held config.matcher ≡ M.height_held self.matcher) }
         ensures ticked { IfOk result (λ _. RoseBy (M.may_edit program.now self.state (M.height_held self.matcher) (gathered change.now.left) change.now.added) steps.old steps.new) }

@@ -1,15 +1,16 @@
 // The laws that the proofs of this crate rest on, gathered. The function computes nothing.
 ghost use Rattle.cep_machine.specs.StepLaws.{StepLaws};
 
-use cep_rule::laws::{edits_are_steps, sides_are_bags, types_are_lawful};
+use cep_rule::laws::{edits_are_steps, sides_are_bags, types_are_lawful, values_are_small};
 use cep_term::laws::bags_are_lawful;
 
-// What instances of rules are, and that edits are steps.
+// What instances of rules are, that values of those that apply are small, and that edits are steps.
 pub(crate) fn steps_are_lawful()
     ensures { StepLaws }
 {
     bags_are_lawful();
     types_are_lawful();
+    values_are_small();
     sides_are_bags();
     edits_are_steps();
 }

@@ -40,7 +40,7 @@ impl<M: Matcher> Config<M> {
             → IfOk result (IsStepped program.now rule values self) }
         ensures ticked { (rule : Rule) (values : List Tree)
             → IsAskedAt program.now (M.offers_held self.matcher) self.stage i rule values
-            → IfOk result (λ stepped. RoseIfDone (M.may_edit program.now self.state (M.height_held self.matcher) (left_of rule values) (added_by rule values)) stepped steps.old steps.new) }
+            → IfOk result (λ stepped. RoseIfDone (M.may_edit program.now self.state (M.height_held self.matcher) (left_of program.now.signature rule values) (added_by rule values)) stepped steps.old steps.new) }
         ensures of_program { IfOk result (λ stepped. IsConfigurationOf M.is_of program.now (config_after stepped)) }
         ensures same_height { IfOk result (λ stepped. M.height_held (config_after stepped).matcher ≡ M.height_held self.matcher) }
         ensures never_falls { steps.old ≤ steps.new }

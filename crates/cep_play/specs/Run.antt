@@ -91,7 +91,7 @@ AreTurns program settings at from (turn ∷ turns) last to = IsTurn program sett
 -- A step by the offer passes a limit: an atom that its rule makes is not fit; or all are, and the state after it does not fit.
 abbrev pub PassesLimit : Parts → Rule → List Tree → Multiset → EndWord → Type 0
 PassesLimit program rule values state Atom = ¬ MakesFit rule values
-PassesLimit program rule values state State = MakesFit rule values × ((next : Multiset) × Step rule values state next × ¬ Fits next)
+PassesLimit program rule values state State = MakesFit rule values × ((next : Multiset) × Step program.signature rule values state next × ¬ Fits next)
 PassesLimit program rule values state Quiet = ⊥
 PassesLimit program rule values state Input = ⊥
 PassesLimit program rule values state Turns = ⊥

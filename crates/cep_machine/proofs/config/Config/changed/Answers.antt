@@ -27,13 +27,13 @@ invariant_of-result g c =
     let left = c.args.change.now.left in
     let added = c.args.change.now.added in
     let view : c.self.inside.state ≡ c.args.self.state = ap (λ (config : Configuration g.row.M.Denot). config.state) c.self.view_is in
-    let new : c.add_all.new.self ≡ state_after c.args.self.state (gathered left) added =
+    let new : c.add_all.new.self ≡ state_after c.args.program.now.signature c.args.self.state (gathered left) added =
     c.in_ok-add_all.ensures.ok
     ∙ ap (λ (bag : Multiset). sum_of bag (gathered added)) (taken_is c.self.inside.state c.args.self.state c.in_ok-taken.taken c.take_all.new.self left c.take_all.ensures view c.in_ok-taken.ensures) in
-    let held : g.M.Matcher.state_held c.in_ok-matcher.matcher ≡ state_after c.args.self.state (gathered left) added =
+    let held : g.M.Matcher.state_held c.in_ok-matcher.matcher ≡ state_after c.args.program.now.signature c.args.self.state (gathered left) added =
     c.in_ok-matcher.ensures.new_state
-    ∙ ap (λ (bag : Multiset). state_after bag c.in_ok-taken.taken added) (c.self.invariant.same_state ∙ view)
-    ∙ ap (λ (bag : Multiset). state_after c.args.self.state bag added) c.in_ok-taken.ensures in
+    ∙ ap (λ (bag : Multiset). state_after c.args.program.now.signature bag c.in_ok-taken.taken added) (c.self.invariant.same_state ∙ view)
+    ∙ ap (λ (bag : Multiset). state_after c.args.program.now.signature c.args.self.state bag added) c.in_ok-taken.ensures in
     record {
       same_state = held ∙ sym new;
       same_nodes = c.requires.can.nodes ∙ ap (λ (bag : Multiset). nodes_in_all bag) (sym new);

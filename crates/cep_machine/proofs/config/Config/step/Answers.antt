@@ -24,31 +24,31 @@ get-rule-requires g c =
 pub weigh-requires-clause-can : goal.weigh-requires-clause-can
 weigh-requires-clause-can g c =
     let own = subst (IsConfigurationOf g.M.Matcher.is_of c.args.program.now) (sym c.self.view_is) c.requires.of_program in
-    let is = ready_offer c.args.program.now c.parts.result.now (g.M.Matcher.height_held c.self.inside.matcher) (g.M.Matcher.state_held c.self.inside.matcher) c.self.inside.state (g.M.Matcher.offers_held c.self.inside.matcher) c.unwrap-group.result c.args.i c.offer-offer.result.now c.get-rule.result.now c.parts.ensures.kept c.parts.ensures.parts (g.met.M.Matcher.exact c.args.program.now c.self.inside.matcher own.matcher) c.self.invariant.same_state c.offer-offer.ensures c.get-rule.ensures in
+    let is = ready_offer c.steps_are_lawful.ensures c.args.program.now c.parts.result.now (g.M.Matcher.height_held c.self.inside.matcher) (g.M.Matcher.state_held c.self.inside.matcher) c.self.inside.state (g.M.Matcher.offers_held c.self.inside.matcher) c.unwrap-group.result c.args.i c.offer-offer.result.now c.get-rule.result.now own.is_state c.parts.ensures.kept c.parts.ensures.parts (g.met.M.Matcher.exact c.args.program.now c.self.inside.matcher own.matcher) c.self.invariant.same_state c.offer-offer.ensures c.get-rule.ensures in
     can_weigh c.steps_are_lawful.ensures c.args.program.now c.self.inside.state c.get-rule.result.now c.offer-offer.result.now.values is own.is_state own.fits
 
 pub left_atoms-requires : goal.left_atoms-requires
 left_atoms-requires g c =
     let own = subst (IsConfigurationOf g.M.Matcher.is_of c.args.program.now) (sym c.self.view_is) c.requires.of_program in
-    let is = ready_offer c.args.program.now c.parts.result.now (g.M.Matcher.height_held c.self.inside.matcher) (g.M.Matcher.state_held c.self.inside.matcher) c.self.inside.state (g.M.Matcher.offers_held c.self.inside.matcher) c.unwrap-group.result c.args.i c.offer-offer.result.now c.get-rule.result.now c.parts.ensures.kept c.parts.ensures.parts (g.met.M.Matcher.exact c.args.program.now c.self.inside.matcher own.matcher) c.self.invariant.same_state c.offer-offer.ensures c.get-rule.ensures in
+    let is = ready_offer c.steps_are_lawful.ensures c.args.program.now c.parts.result.now (g.M.Matcher.height_held c.self.inside.matcher) (g.M.Matcher.state_held c.self.inside.matcher) c.self.inside.state (g.M.Matcher.offers_held c.self.inside.matcher) c.unwrap-group.result c.args.i c.offer-offer.result.now c.get-rule.result.now own.is_state c.parts.ensures.kept c.parts.ensures.parts (g.met.M.Matcher.exact c.args.program.now c.self.inside.matcher own.matcher) c.self.invariant.same_state c.offer-offer.ensures c.get-rule.ensures in
     needed_in_range c.steps_are_lawful.ensures c.args.program.now c.self.inside.state c.get-rule.result.now c.offer-offer.result.now.values is own.is_state own.fits
 
 pub added_atoms-requires-clause-right : goal.added_atoms-requires-clause-right
 added_atoms-requires-clause-right g c =
     let own = subst (IsConfigurationOf g.M.Matcher.is_of c.args.program.now) (sym c.self.view_is) c.requires.of_program in
-    let is = ready_offer c.args.program.now c.parts.result.now (g.M.Matcher.height_held c.self.inside.matcher) (g.M.Matcher.state_held c.self.inside.matcher) c.self.inside.state (g.M.Matcher.offers_held c.self.inside.matcher) c.unwrap-group.result c.args.i c.offer-offer.result.now c.get-rule.result.now c.parts.ensures.kept c.parts.ensures.parts (g.met.M.Matcher.exact c.args.program.now c.self.inside.matcher own.matcher) c.self.invariant.same_state c.offer-offer.ensures c.get-rule.ensures in
+    let is = ready_offer c.steps_are_lawful.ensures c.args.program.now c.parts.result.now (g.M.Matcher.height_held c.self.inside.matcher) (g.M.Matcher.state_held c.self.inside.matcher) c.self.inside.state (g.M.Matcher.offers_held c.self.inside.matcher) c.unwrap-group.result c.args.i c.offer-offer.result.now c.get-rule.result.now own.is_state c.parts.ensures.kept c.parts.ensures.parts (g.met.M.Matcher.exact c.args.program.now c.self.inside.matcher own.matcher) c.self.invariant.same_state c.offer-offer.ensures c.get-rule.ensures in
     right_in_range c.steps_are_lawful.ensures c.args.program.now c.self.inside.state c.get-rule.result.now c.offer-offer.result.now.values is own.is_state own.fits
 
 pub added_atoms-requires-clause-needed : goal.added_atoms-requires-clause-needed
 added_atoms-requires-clause-needed g c =
     let own = subst (IsConfigurationOf g.M.Matcher.is_of c.args.program.now) (sym c.self.view_is) c.requires.of_program in
-    let is = ready_offer c.args.program.now c.parts.result.now (g.M.Matcher.height_held c.self.inside.matcher) (g.M.Matcher.state_held c.self.inside.matcher) c.self.inside.state (g.M.Matcher.offers_held c.self.inside.matcher) c.unwrap-group.result c.args.i c.offer-offer.result.now c.get-rule.result.now c.parts.ensures.kept c.parts.ensures.parts (g.met.M.Matcher.exact c.args.program.now c.self.inside.matcher own.matcher) c.self.invariant.same_state c.offer-offer.ensures c.get-rule.ensures in
+    let is = ready_offer c.steps_are_lawful.ensures c.args.program.now c.parts.result.now (g.M.Matcher.height_held c.self.inside.matcher) (g.M.Matcher.state_held c.self.inside.matcher) c.self.inside.state (g.M.Matcher.offers_held c.self.inside.matcher) c.unwrap-group.result c.args.i c.offer-offer.result.now c.get-rule.result.now own.is_state c.parts.ensures.kept c.parts.ensures.parts (g.met.M.Matcher.exact c.args.program.now c.self.inside.matcher own.matcher) c.self.invariant.same_state c.offer-offer.ensures c.get-rule.ensures in
     needed_in_range c.steps_are_lawful.ensures c.args.program.now c.self.inside.state c.get-rule.result.now c.offer-offer.result.now.values is own.is_state own.fits
 
 pub changed-requires-clause-can : goal.changed-requires-clause-can
 changed-requires-clause-can g c =
     let own = subst (IsConfigurationOf g.M.Matcher.is_of c.args.program.now) (sym c.self.view_is) c.requires.of_program in
-    let is = ready_offer c.args.program.now c.parts.result.now (g.M.Matcher.height_held c.self.inside.matcher) (g.M.Matcher.state_held c.self.inside.matcher) c.self.inside.state (g.M.Matcher.offers_held c.self.inside.matcher) c.unwrap-group.result c.args.i c.offer-offer.result.now c.get-rule.result.now c.parts.ensures.kept c.parts.ensures.parts (g.met.M.Matcher.exact c.args.program.now c.self.inside.matcher own.matcher) c.self.invariant.same_state c.offer-offer.ensures c.get-rule.ensures in
+    let is = ready_offer c.steps_are_lawful.ensures c.args.program.now c.parts.result.now (g.M.Matcher.height_held c.self.inside.matcher) (g.M.Matcher.state_held c.self.inside.matcher) c.self.inside.state (g.M.Matcher.offers_held c.self.inside.matcher) c.unwrap-group.result c.args.i c.offer-offer.result.now c.get-rule.result.now own.is_state c.parts.ensures.kept c.parts.ensures.parts (g.met.M.Matcher.exact c.args.program.now c.self.inside.matcher own.matcher) c.self.invariant.same_state c.offer-offer.ensures c.get-rule.ensures in
     let same : c.self.inside.state ≡ c.args.self.state = ap (λ (config : Configuration g.row.M.Denot). config.state) c.self.view_is in
     let weighed = subst (λ (w : Weighed). IsWeighed c.get-rule.result.now c.offer-offer.result.now.values c.self.inside.state w) c.in-Within.is c.in_ok-which.ensures in
     let within = subst (λ stage. stage < length c.args.program.now.stages) (sym c.unwrap_or.ensures) (stage_in_range (length c.args.program.now.stages) c.self.inside.stage c.get-rule.result.now.next own.stage is.next) in
@@ -60,25 +60,25 @@ changed-requires-clause-can g c =
 pub returns-in-TooMuch-clause-stepped : goal.returns-in-TooMuch-clause-stepped
 returns-in-TooMuch-clause-stepped g c =
     let own = subst (IsConfigurationOf g.M.Matcher.is_of c.args.program.now) (sym c.self.view_is) c.requires.of_program in
-    let is = ready_offer c.args.program.now c.parts.result.now (g.M.Matcher.height_held c.self.inside.matcher) (g.M.Matcher.state_held c.self.inside.matcher) c.self.inside.state (g.M.Matcher.offers_held c.self.inside.matcher) c.unwrap-group.result c.args.i c.offer-offer.result.now c.get-rule.result.now c.parts.ensures.kept c.parts.ensures.parts (g.met.M.Matcher.exact c.args.program.now c.self.inside.matcher own.matcher) c.self.invariant.same_state c.offer-offer.ensures c.get-rule.ensures in
+    let is = ready_offer c.steps_are_lawful.ensures c.args.program.now c.parts.result.now (g.M.Matcher.height_held c.self.inside.matcher) (g.M.Matcher.state_held c.self.inside.matcher) c.self.inside.state (g.M.Matcher.offers_held c.self.inside.matcher) c.unwrap-group.result c.args.i c.offer-offer.result.now c.get-rule.result.now own.is_state c.parts.ensures.kept c.parts.ensures.parts (g.met.M.Matcher.exact c.args.program.now c.self.inside.matcher own.matcher) c.self.invariant.same_state c.offer-offer.ensures c.get-rule.ensures in
     let same : c.self.inside.state ≡ c.args.self.state = ap (λ (config : Configuration g.row.M.Denot). config.state) c.self.view_is in
     let weighed = subst (λ (w : Weighed). IsWeighed c.get-rule.result.now c.offer-offer.result.now.values c.self.inside.state w) c.in-TooMuch.is c.in_ok-which.ensures in
     let offers = of_asked (λ group. offers_of (g.M.Matcher.offers_held c.args.self.matcher) group ≡ asked_offers (g.M.Matcher.offers_held c.args.self.matcher) c.args.self.stage) c.asked.result c.unwrap-group.result c.asked.ensures.offers c.unwrap-group.ensures in
     let placed = subst (λ (config : Configuration g.row.M.Denot). slice_get (offers_of (g.M.Matcher.offers_held config.matcher) c.unwrap-group.result) c.args.i ≡ Some c.offer-offer.result.now) c.self.view_is c.offer-offer.ensures in
     let numbered : slice_get c.args.program.now.rules c.offer-offer.result.now.rule ≡ Some c.get-rule.result.now = ap (λ (parts : Parts). slice_get parts.rules c.offer-offer.result.now.rule) (sym c.parts.ensures.parts) ∙ c.get-rule.ensures in
     let values = c.offer-offer.result.now.values in
-    let passed : Passes c.get-rule.result.now values c.args.self.state c.in-TooMuch.which c.in-TooMuch.number =
-    subst (λ (state : Multiset). Passes c.get-rule.result.now values state c.in-TooMuch.which c.in-TooMuch.number) same
-    (passes c.get-rule.result.now values c.self.inside.state c.in-TooMuch.which c.in-TooMuch.number
+    let passed : Passes c.args.program.now.signature c.get-rule.result.now values c.args.self.state c.in-TooMuch.which c.in-TooMuch.number =
+    subst (λ (state : Multiset). Passes c.args.program.now.signature c.get-rule.result.now values state c.in-TooMuch.which c.in-TooMuch.number) same
+    (passes c.args.program.now.signature c.get-rule.result.now values c.self.inside.state c.in-TooMuch.which c.in-TooMuch.number
     (c.steps_are_lawful.ensures.edit c.args.program.now.signature c.get-rule.result.now values c.self.inside.state is.typed is.are own.is_state.bag is.contained) weighed) in
     chosen_once c.args.program.now (g.M.Matcher.offers_held c.args.self.matcher) c.args.self.stage c.args.i (offers_of (g.M.Matcher.offers_held c.args.self.matcher) c.unwrap-group.result) c.offer-offer.result.now c.get-rule.result.now offers placed numbered
-    (λ (rule : Rule) (values : List Tree). (c.args.self ≡ c.args.self) × Passes rule values c.args.self.state c.in-TooMuch.which c.in-TooMuch.number)
+    (λ (rule : Rule) (values : List Tree). (c.args.self ≡ c.args.self) × Passes c.args.program.now.signature rule values c.args.self.state c.in-TooMuch.which c.in-TooMuch.number)
     (refl, passed)
 
 pub returns-in_ok-changed-in-Within-clause-stepped : goal.returns-in_ok-changed-in-Within-clause-stepped
 returns-in_ok-changed-in-Within-clause-stepped g c =
     let own = subst (IsConfigurationOf g.M.Matcher.is_of c.args.program.now) (sym c.self.view_is) c.requires.of_program in
-    let is = ready_offer c.args.program.now c.parts.result.now (g.M.Matcher.height_held c.self.inside.matcher) (g.M.Matcher.state_held c.self.inside.matcher) c.self.inside.state (g.M.Matcher.offers_held c.self.inside.matcher) c.unwrap-group.result c.args.i c.offer-offer.result.now c.get-rule.result.now c.parts.ensures.kept c.parts.ensures.parts (g.met.M.Matcher.exact c.args.program.now c.self.inside.matcher own.matcher) c.self.invariant.same_state c.offer-offer.ensures c.get-rule.ensures in
+    let is = ready_offer c.steps_are_lawful.ensures c.args.program.now c.parts.result.now (g.M.Matcher.height_held c.self.inside.matcher) (g.M.Matcher.state_held c.self.inside.matcher) c.self.inside.state (g.M.Matcher.offers_held c.self.inside.matcher) c.unwrap-group.result c.args.i c.offer-offer.result.now c.get-rule.result.now own.is_state c.parts.ensures.kept c.parts.ensures.parts (g.met.M.Matcher.exact c.args.program.now c.self.inside.matcher own.matcher) c.self.invariant.same_state c.offer-offer.ensures c.get-rule.ensures in
     let same : c.self.inside.state ≡ c.args.self.state = ap (λ (config : Configuration g.row.M.Denot). config.state) c.self.view_is in
     let weighed = subst (λ (w : Weighed). IsWeighed c.get-rule.result.now c.offer-offer.result.now.values c.self.inside.state w) c.in-Within.is c.in_ok-which.ensures in
     let offers = of_asked (λ group. offers_of (g.M.Matcher.offers_held c.args.self.matcher) group ≡ asked_offers (g.M.Matcher.offers_held c.args.self.matcher) c.args.self.stage) c.asked.result c.unwrap-group.result c.asked.ensures.offers c.unwrap-group.ensures in
