@@ -22,7 +22,7 @@ use Rattle.cep_rule.specs.Names.{AreNames, IsVariableName}
 use Rattle.cep_rule.specs.Binding.{IsBoundRule, IsBoundClause}
 use Rattle.cep_rule.specs.Limits.{IsSmallPattern, IsSmallSignature, IsSmallRule, IsSmallClause}
 use Rattle.cep_base.specs.Bounds.{IsTurnLimit}
-use Rattle.cep_rule.specs.Groundness.{Calls, IsBad, IsGrounded, nothing, known_after_all}
+use Rattle.cep_rule.specs.Groundness.{CallsAt, IsBad, IsGrounded, nothing, known_after_all}
 use Rattle.cep_rule.specs.Binding.{needed_of}
 use Rattle.cep_rule.specs.State.{IsState}
 use Rattle.cep_rule.specs.Program.{AreSorts, AreNumbersDeclared, IsTypedRule, IsTypedClause, IsDividedRule, IsDividedClause, IsGroupedRule, IsProgram}
@@ -218,7 +218,7 @@ module _ (source : Source) (clean : IsClean source) (made : AtomsMade source) (i
 
   -- no rule without backward premises calls a bad pair
   grounded : (clauses : List ClauseTree) (rules : List Rule) → AllByRecursion (λ (rule : Rule). rule.backs ≡ []) rules → AllByRecursion (IsGrounded clauses) rules
-  grounded clauses rules none = all_follow (λ (rule : Rule). rule.backs ≡ []) (IsGrounded clauses) rules (λ rule empty calls. subst (λ backs. Calls (IsBad clauses) (known_after_all nothing (needed_of rule)) backs) empty calls) none
+  grounded clauses rules none = all_follow (λ (rule : Rule). rule.backs ≡ []) (IsGrounded clauses) rules (λ rule empty i calls. subst (λ backs. CallsAt (IsBad clauses) (known_after_all nothing (needed_of rule)) backs i) empty calls) none
 
   pub is_program : (parts : Parts) → AreParts source parts → AllByRecursion (λ (rule : Rule). rule.backs ≡ []) parts.rules → IsProgram parts
   is_program parts are none =

@@ -20,7 +20,8 @@ use Rattle.cep_play.specs.declared.command.Status.TheVariants.{Ended, Usage, Ref
 use Rattle.cep_play.specs.declared.ending.EndWord.{EndWord}
 use Rattle.cep_play.specs.declared.ending.EndWord.TheVariants.{Quiet, Input, Turns, Offers, Typed, Atom, State}
 use Rattle.cep_play.specs.declared.settings.Settings.{Settings}
-use Rattle.cep_play.specs.Run.{Turn, Ending}
+use Rattle.cep_play.specs.Deciding.{Supply}
+use Rattle.cep_play.specs.Run.{Position, start_of, whole_supply, Turn, Ending, AreTurns, AreMachineSteps}
 use Rattle.cep_play.specs.Dialogue.{Dialogue}
 use Rattle.cep_play.specs.Command.{Play, AskFor, settings_of, IsSaid, Says, HaveNoForm, Writes, Refuses, refusal_text, usage}
 use Rattle.cep_play.specs.Outcome.{AsksFile, AskedAsSaid, OfText, OfRun, OfWords, code_of, status_of}
@@ -47,22 +48,35 @@ IsOneDialogue =
     → Dialogue program settings come turns ending events rest → Dialogue program settings come turns' ending' events' rest'
     → (events ≡ events') × (ending ≡ ending') × (rest ≡ rest')
 
+-- that turns are steps of the machine, and that they are counted, told for any
+abbrev pub AreAllSteps : Type 0
+AreAllSteps =
+    (program : Parts) (settings : Settings) (at : Position) (from : Supply) (turns : List Turn) (last : Position) (to : Supply) → AreTurns program settings at from turns last to → AreMachineSteps program settings.height turns
+
+abbrev pub AreAllCounted : Type 0
+AreAllCounted =
+    (program : Parts) (settings : Settings) (at : Position) (from : Supply) (turns : List Turn) (last : Position) (to : Supply) → AreTurns program settings at from turns last to → last.turns ≡ at.turns + length turns
+
 -- what is told is what is said, and what is typed allows no other
-pub is_said : (program : Parts) (settings : Settings) (word : EndWord) → IsOneDialogue → IsBuilt program → settings ≡ settings_of program → (come : List ℕ) (events : List Event) (rest : List ℕ) → IsTold program settings word come events rest → IsSaid program (λ end. end ≡ word) come events rest
-is_said program settings word one built same come events rest told =
+pub is_said : (program : Parts) (settings : Settings) (word : EndWord) → IsOneDialogue → AreAllSteps → AreAllCounted → IsBuilt program → settings ≡ settings_of program → (come : List ℕ) (events : List Event) (rest : List ℕ) → IsTold program settings word come events rest → IsSaid program (λ end. end ≡ word) come events rest
+is_said program settings word one steps counted built same come events rest told =
     let dialogue = subst (λ s. Dialogue program s come told.turns told.ending events rest) same told.dialogue in
     record {
       turns = told.turns;
       ending = told.ending;
       dialogue = dialogue;
       word = told.word_is;
+      steps = steps program (settings_of program) (start_of program) (whole_supply come) told.turns dialogue.run.last dialogue.run.between dialogue.run.done;
+      counted =
+          let last = counted program (settings_of program) (start_of program) (whole_supply come) told.turns dialogue.run.last dialogue.run.between dialogue.run.done in
+          omega (arith, last);
       only = λ turns' ending' events' rest' other. one program (settings_of program) come turns' told.turns ending' told.ending events' events rest' rest (no_backs program.rules built.rules) other dialogue;
     }
 
 module _ {C : Type 0} (talk : C → Option (List Event)) (left : C → Option (List ℕ)) (old new : C) where
   says_word : (program : Parts) (word : EndWord) (P : EndWord → Type 0) → P word → Says talk left old new program (λ end. end ≡ word) → Says talk left old new program P
   says_word program word P holds says =
-      did_map talk left old new _ _ (λ come events rest said. record { turns = said.turns; ending = said.ending; dialogue = said.dialogue; word = subst P (sym said.word) holds; only = said.only }) says
+      did_map talk left old new _ _ (λ come events rest said. record { turns = said.turns; ending = said.ending; dialogue = said.dialogue; word = subst P (sym said.word) holds; steps = said.steps; counted = said.counted; only = said.only }) says
 
   -- a played text
   pub text_played : (text : List ℕ) (program : Parts) (word : EndWord) → ((one other : Parts) → Spells text one → Spells text other → one ≡ other) → Spells text program → IsBuilt program → Says talk left old new program (λ end. end ≡ word) → OfText talk left old new text (status_of word)

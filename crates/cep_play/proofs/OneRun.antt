@@ -2,6 +2,7 @@
 use Rattle.std.proofs.Common.{◌≡◌, ℕ, ◌<◌, ◌^◌, List, [], ◌∷◌, length, map, inl, inr, refl, sym, ap, ◌∙◌, subst, arith, Option, None, Some}
 use Rattle.cep_term.specs.Tree.{Tree}
 use Rattle.cep_term.specs.Multiset.{Multiset}
+use Rattle.cep_rule.specs.declared.signature.Signature.{Signature}
 use Rattle.cep_rule.specs.declared.rule.Rule.{Rule}
 use Rattle.cep_rule.specs.declared.parts.Parts.{Parts}
 use Rattle.cep_rule.specs.declared.offer.Offer.{Offer}
@@ -78,7 +79,7 @@ pub record SameQuestion (question question' : Question) (to to' : Supply) : Type
   pub supplies : to ≡ to'
 
 module _ (one_list : (program : Parts) (height : ℕ) (state : Multiset) (group : ℕ) (one other : List Offer) → AreOffers program height state group one → AreOffers program height state group other → one ≡ other)
-    (one_step : (rule : Rule) (values : List Tree) (old one other : Multiset) → Step rule values old one → Step rule values old other → one ≡ other)
+    (one_step : (signature : Signature) (rule : Rule) (values : List Tree) (old one other : Multiset) → Step signature rule values old one → Step signature rule values old other → one ≡ other)
     (program : Parts) (settings : Settings) where
   -- the offers of what is asked are one list
   one_asked : (at : Position) (group group' : ℕ) (offers offers' : List Offer)
@@ -104,7 +105,7 @@ module _ (one_list : (program : Parts) (height : ℕ) (state : Multiset) (group 
   -- a step leads to one spot
   one_spot : (rule : Rule) (values : List Tree) (old one other : Spot) → StepsTo program rule values old one → StepsTo program rule values old other → one ≡ other
   one_spot rule values old one other is is' =
-      let states = one_step rule values old.state one.state other.state is.step is'.step in
+      let states = one_step program.signature rule values old.state one.state other.state is.step is'.step in
       let stages = is.stage ∙ sym is'.stage in
       λ i. record { stage = stages i; state = states i }
 
@@ -142,7 +143,7 @@ module _ (one_list : (program : Parts) (height : ℕ) (state : Multiset) (group 
   -- a step that is done passes no limit
   done_or_passes : {X : Type 0} (rule : Rule) (values : List Tree) (old new : Spot) (word : EndWord) → StepsTo program rule values old new → PassesLimit program rule values old.state word → X
   done_or_passes rule values old new Atom is passes = absurd (passes is.fit)
-  done_or_passes rule values old new State is passes = absurd (passes.1.2 (subst Fits (one_step rule values old.state new.state passes.1.0 is.step passes.1.1) is.fits))
+  done_or_passes rule values old new State is passes = absurd (passes.1.2 (subst Fits (one_step program.signature rule values old.state new.state passes.1.0 is.step passes.1.1) is.fits))
   done_or_passes rule values old new _ is passes = absurd passes
 
   -- a question of which a step is done leads somewhere

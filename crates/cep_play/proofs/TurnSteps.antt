@@ -10,14 +10,14 @@ use Rattle.cep_rule.specs.Stages.{IsAsked, HasOffer, own_group, leaving_group}
 use Rattle.cep_rule.specs.Steps.{IsMachineStep}
 use Rattle.cep_play.specs.declared.settings.Settings.{Settings}
 use Rattle.cep_play.specs.Deciding.{Supply}
-use Rattle.cep_play.specs.Run.{Position, Turn, IsTurn, AreTurns}
+use Rattle.cep_play.specs.Run.{Position, Turn, IsTurn, AreTurns, AreMachineSteps}
 
 -- a rule of the group that is asked is of the stage, or leaves it where nothing of its own applies
 in_turn : (program : Parts) (height : ℕ) (state : Multiset) (stage group of : ℕ) → of ≡ group → IsAsked program height state stage group → (of ≡ own_group stage) ⊎ ((of ≡ leaving_group stage) × ¬ HasOffer program height state (own_group stage))
 in_turn program height state stage group of same (inl own) = inl (same ∙ own.0)
 in_turn program height state stage group of same (inr leaving) = inr (same ∙ leaving.0, leaving.1)
 
-pub machine_step : (program : Parts) (settings : Settings) (at : Position) (from : Supply) (turn : Turn) → IsTurn program settings at from turn → IsMachineStep program settings.height at.spot turn.after.spot turn.offer turn.rule turn.proofs
+machine_step : (program : Parts) (settings : Settings) (at : Position) (from : Supply) (turn : Turn) → IsTurn program settings at from turn → IsMachineStep program settings.height at.spot turn.after.spot turn.offer turn.rule turn.proofs
 machine_step program settings at from turn is =
     let chosen = is.chosen in
     let k = chosen.place - 1 in
@@ -35,6 +35,13 @@ machine_step program settings at from turn is =
       proved = is.proved;
       steps = is.steps;
     }
+
+pub machine_steps : (program : Parts) (settings : Settings) (at : Position) (from : Supply) (turns : List Turn) (last : Position) (to : Supply) → AreTurns program settings at from turns last to → AreMachineSteps program settings.height turns
+machine_steps program settings at from [] last to done = tt
+machine_steps program settings at from (turn ∷ turns) last to done = (
+  (subst (λ (place : Position). IsMachineStep program settings.height place.spot turn.after.spot turn.offer turn.rule turn.proofs) (sym done.0.here) (machine_step program settings at from turn done.0)),
+  (machine_steps program settings turn.after turn.left turns last to done.1),
+)
 
 pub counted : (program : Parts) (settings : Settings) (at : Position) (from : Supply) (turns : List Turn) (last : Position) (to : Supply) → AreTurns program settings at from turns last to → last.turns ≡ at.turns + length turns
 counted program settings at from [] last to done = let same = ap (λ place. place.turns) done.0 in omega (arith, same)

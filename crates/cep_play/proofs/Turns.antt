@@ -135,7 +135,7 @@ too_full : (state : Multiset) (number : ℕ) → IsTooFull state number → Fits
 too_full state number (inl full) fits = let copies = fits.copies in omega arith
 too_full state number (inr full) fits = let nodes = fits.nodes in omega arith
 
-passes : (program : Parts) (which : Which) (values : List Tree) (rule : Rule) (state : Multiset) (number : ℕ) → Passes rule values state which number → PassesLimit program rule values state (limit_word which)
+passes : (program : Parts) (which : Which) (values : List Tree) (rule : Rule) (state : Multiset) (number : ℕ) → Passes program.signature rule values state which number → PassesLimit program rule values state (limit_word which)
 passes program which.Atom values rule state number large = first_too_large (full_instances values rule.right) number large
 passes program which.State values rule state number full = (full.0, (full.1.0, full.1.1, too_full full.1.0 number full.1.2))
 
@@ -179,7 +179,7 @@ module _ {M : Type 0} (program : Parts) (height : ℕ) (held : Multiset) (group 
   same_stage new stepped = (stepped rule_of offer.values chosen_there).steps.stage ∙ ap (λ next. unwrap_or next old.stage) stays
 
   -- the step would pass a limit
-  pub step_fails : (last : Configuration M) (which : Which) (number : ℕ) → ((rule : Rule) (values : List Tree) → IsAskedAt program lists old.stage i rule values → (last ≡ old) × Passes rule values old.state which number)
+  pub step_fails : (last : Configuration M) (which : Which) (number : ℕ) → ((rule : Rule) (values : List Tree) → IsAskedAt program lists old.stage i rule values → (last ≡ old) × Passes program.signature rule values old.state which number)
       → (come : List ℕ) (events : List Event) (rest : List ℕ) → (events ≡ []) × (rest ≡ come) → WouldPass program offers place (limit_word which) (position_of old) come events rest
   step_fails last which number stepped come events rest same = record {
     offer = offer;
@@ -190,7 +190,7 @@ module _ {M : Type 0} (program : Parts) (height : ℕ) (held : Multiset) (group 
     untaken = same.1;
   }
 
-  pub left_alone : (last : Configuration M) (which : Which) (number : ℕ) → ((rule : Rule) (values : List Tree) → IsAskedAt program lists old.stage i rule values → (last ≡ old) × Passes rule values old.state which number) → last ≡ old
+  pub left_alone : (last : Configuration M) (which : Which) (number : ℕ) → ((rule : Rule) (values : List Tree) → IsAskedAt program lists old.stage i rule values → (last ≡ old) × Passes program.signature rule values old.state which number) → last ≡ old
   left_alone last which number stepped = (stepped rule_of offer.values chosen_there).0
 
 -- Turns

@@ -1,5 +1,5 @@
 -- What the command does with its words, a shelf and a console.
-use Rattle.std.specs.Prelude.{◌≡◌, ◌⊎◌, ℕ, List, [], ◌∷◌, ◌++◌, codes, decimal, Option, unwrap_or}
+use Rattle.std.specs.Prelude.{◌≡◌, ◌⊎◌, ℕ, List, [], ◌∷◌, ◌++◌, length, codes, decimal, Option, unwrap_or}
 use Rattle.std.specs.Option.{option_map}
 use Rattle.cep_base.specs.declared.limits.TheConstants.{DEFAULT_HEIGHT, DEFAULT_SEED, DEFAULT_TURNS}
 use Rattle.cep_base.specs.declared.console.Event.{Event}
@@ -16,7 +16,7 @@ use Rattle.cep_play.specs.declared.ending.EndWord.{EndWord}
 use Rattle.cep_play.specs.declared.ending.EndWord.TheVariants.{Quiet, Input, Turns, Offers, Typed, Atom, State}
 use Rattle.cep_play.specs.declared.settings.Settings.{Settings}
 use Rattle.cep_play.specs.Lines.{line}
-use Rattle.cep_play.specs.Run.{Turn, Ending}
+use Rattle.cep_play.specs.Run.{Turn, Ending, AreMachineSteps}
 use Rattle.cep_play.specs.Dialogue.{Dialogue}
 
 -- What words may ask for: that the program in a file is played.
@@ -70,12 +70,14 @@ Writes talk left old new text = Did talk left old new (λ come events rest. (eve
 abbrev pub settings_of : Parts → Settings
 settings_of program = record { height = DEFAULT_HEIGHT; limit = unwrap_or program.turns DEFAULT_TURNS; seed = DEFAULT_SEED }
 
--- What is said is a dialogue of the program that ends with a word which has P, and what is typed allows no other.
+-- What is said is a dialogue of the program that ends with a word which has P: its turns are steps of the machine, as many as were done when it ended, and what is typed allows no other dialogue.
 pub record IsSaid (program : Parts) (P : EndWord → Type 0) (come : List ℕ) (events : List Event) (rest : List ℕ) : Type 0 where
   pub turns : List Turn
   pub ending : Ending
   pub dialogue : Dialogue program (settings_of program) come turns ending events rest
   pub word : P ending.word
+  pub steps : AreMachineSteps program (settings_of program).height turns
+  pub counted : dialogue.run.last.turns ≡ length turns
   pub only : (turns' : List Turn) (ending' : Ending) (events' : List Event) (rest' : List ℕ) → Dialogue program (settings_of program) come turns' ending' events' rest' → (events' ≡ events) × (ending' ≡ ending) × (rest' ≡ rest)
 
 abbrev pub Says : {C : Type 0} → (C → Option (List Event)) → (C → Option (List ℕ)) → C → C → Parts → (EndWord → Type 0) → Type 0

@@ -1,5 +1,6 @@
 -- A run: turn after turn, each a step of the machine, until it ends for a named reason. No byte that is written is spoken of here.
 use Rattle.std.specs.Prelude.{◌≡◌, ℕ, ◌+◌, ◌-◌, ◌<◌, ◌≤◌, List, [], ◌∷◌, length, Option, None, Some, slice_get}
+use Rattle.std.specs.List.{AllByRecursion}
 use Rattle.cep_base.specs.declared.limits.TheConstants.{MOST_OFFERS}
 use Rattle.cep_term.specs.Tree.{Tree}
 use Rattle.cep_term.specs.Multiset.{Multiset}
@@ -12,7 +13,7 @@ use Rattle.cep_rule.specs.Offers.{AreOffers}
 use Rattle.cep_rule.specs.Stages.{IsAsked, IsQuiet}
 use Rattle.cep_rule.specs.Derivations.{ProofTree}
 use Rattle.cep_rule.specs.Step.{Step}
-use Rattle.cep_rule.specs.Steps.{Spot, MakesFit, StepsTo, AreProofs}
+use Rattle.cep_rule.specs.Steps.{Spot, MakesFit, StepsTo, AreProofs, IsMachineStep}
 use Rattle.cep_play.specs.declared.choice.Choice.{Choice}
 use Rattle.cep_play.specs.declared.choice.Choice.TheVariants.{Place, NoMore, NoRoom}
 use Rattle.cep_play.specs.declared.ending.EndWord.{EndWord}
@@ -87,6 +88,10 @@ pub record IsTurn (program : Parts) (settings : Settings) (at : Position) (from 
 abbrev pub AreTurns : Parts → Settings → Position → Supply → List Turn → Position → Supply → Type 0
 AreTurns program settings at from [] last to = (last ≡ at) × (to ≡ from)
 AreTurns program settings at from (turn ∷ turns) last to = IsTurn program settings at from turn × AreTurns program settings turn.after turn.left turns last to
+
+-- Each turn is a step of the machine, seen by itself: it can be checked without what was typed.
+abbrev pub AreMachineSteps : Parts → ℕ → List Turn → Type 0
+AreMachineSteps program height turns = AllByRecursion (λ turn. IsMachineStep program height turn.before.spot turn.after.spot turn.offer turn.rule turn.proofs) turns
 
 -- A step by the offer passes a limit: an atom that its rule makes is not fit; or all are, and the state after it does not fit.
 abbrev pub PassesLimit : Parts → Rule → List Tree → Multiset → EndWord → Type 0

@@ -10,7 +10,7 @@ ghost use Rattle.cep_play.specs.Turn.{position_of, IsPlayed, IsWholeRun};
 ghost use Rattle.cep_play.specs.Command.{Says};
 
 use crate::ending::EndWord;
-use crate::laws::one_dialogue;
+use crate::laws::{one_dialogue, turns_are_counted, turns_are_steps};
 use crate::lines::{put_end, put_header};
 use crate::settings::Settings;
 use crate::turn::{Ended, Turned, turn};
@@ -109,6 +109,8 @@ pub fn play<M: Matcher, C: Console, L: Ledger>(
     ensures cause { ConsoleCause (C.faults console.old) (C.faults console.new) result }
 {
     one_dialogue();
+    turns_are_steps();
+    turns_are_counted();
     let settings = Settings::of(program);
     let config = Config::<M>::begin(alloc, program, settings.height, steps)?;
     begin(alloc, program, settings.height, console)?;

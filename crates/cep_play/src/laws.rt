@@ -3,10 +3,9 @@ ghost use Rattle.std.specs.Prelude.{◌≡◌, ℕ, ◌+◌, List, [], length, m
 ghost use Rattle.std.specs.List.{AllByRecursion};
 ghost use Rattle.cep_base.specs.declared.console.Event.{Event};
 ghost use Rattle.cep_rule.specs.declared.parts.Parts.{Parts};
-ghost use Rattle.cep_rule.specs.Steps.{IsMachineStep};
 ghost use Rattle.cep_play.specs.declared.settings.Settings.{Settings};
 ghost use Rattle.cep_play.specs.Deciding.{Supply};
-ghost use Rattle.cep_play.specs.Run.{Position, Turn, Ending, IsTurn, AreTurns, Run, unproved};
+ghost use Rattle.cep_play.specs.Run.{Position, Turn, Ending, AreTurns, AreMachineSteps, Run, unproved};
 ghost use Rattle.cep_play.specs.Dialogue.{Dialogue};
 
 use cep_rule::laws::{one_list_of_offers, one_state_after_a_step};
@@ -37,9 +36,9 @@ pub fn one_dialogue()
 
 /// Each turn of a run is a step of the machine, which can be checked without what was typed.
 pub fn turns_are_steps()
-    ensures { (program : Parts) (settings : Settings) (at : Position) (from : Supply) (turn : Turn)
-        → IsTurn program settings at from turn
-        → IsMachineStep program settings.height at.spot turn.after.spot turn.offer turn.rule turn.proofs }
+    ensures { (program : Parts) (settings : Settings) (at : Position) (from : Supply) (turns : List Turn) (last : Position) (to : Supply)
+        → AreTurns program settings at from turns last to
+        → AreMachineSteps program settings.height turns }
 {}
 
 /// As many turns are done as the last position counts more than the first.
