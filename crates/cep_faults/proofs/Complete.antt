@@ -1,15 +1,13 @@
 -- What is wrong is found.
-use Rattle.std.proofs.Common.{◌≡◌, ◌≢◌, ℕ, ◌⊎◌, inl, inr, ⊎_elim, ◌==◌, Bool, true, false, ◌||◌, ◌&&◌, nat_lt, nat_le, if◌then◌else◌, List, [], ◌∷◌, ◌++◌, length, map, Option, Some, refl, ap, sym, ◌∙◌, subst, count_by}
+use Rattle.std.proofs.Common.{◌≡◌, ◌≢◌, ℕ, ◌⊎◌, inl, inr, ⊎_elim, ◌==◌, Bool, true, false, ◌||◌, ◌&&◌, nat_lt, nat_le, if◌then◌else◌, List, [], ◌∷◌, ◌++◌, length, map, Option, Some, is_some, refl, ap, sym, ◌∙◌, subst, count_by}
 use Rattle.std.specs.List.{flat_map, slice_get, sum_by}
-use Rattle.std.specs.Str.Parse.{digits_value}
 use Rattle.std.proofs.lemmas.Bool.{leb-true, eqb-true, lt-ltb}
 use Rattle.cep_parse.specs.declared.raw.Span.{Span}
 use Rattle.cep_parse.specs.declared.raw.RawNode.{RawNode}
 use Rattle.cep_parse.specs.declared.raw.RawAtom.{RawAtom}
 use Rattle.cep_parse.specs.declared.raw.RawRule.{RawRule}
 use Rattle.cep_parse.specs.declared.raw.RawItem.{RawItem}
-use Rattle.cep_base.specs.Bounds.{IsTurnLimit}
-use Rattle.cep_base.specs.declared.limits.TheConstants.{MOST_ARGUMENTS, MOST_BACKS, MOST_CLAUSES, MOST_CONS, MOST_COPIES, MOST_DEPTH, MOST_GOALS, MOST_NODES, MOST_PREDS, MOST_PREMISES, MOST_RIGHT, MOST_RULES, MOST_STATE_NODES, MOST_TURNS, MOST_VARIABLES}
+use Rattle.cep_base.specs.declared.limits.TheConstants.{MOST_ARGUMENTS, MOST_BACKS, MOST_CLAUSES, MOST_CONS, MOST_COPIES, MOST_DEPTH, MOST_GOALS, MOST_NODES, MOST_PREDS, MOST_PREMISES, MOST_RIGHT, MOST_RULES, MOST_STATE_NODES, MOST_VARIABLES}
 use Rattle.cep_refusal.specs.declared.fault.Fault.{Fault}
 use Rattle.cep_refusal.specs.declared.reason.Reason.TheVariants.{WrongArity, VarInContext, BwdInState, LinearInClause, BadQui, TwoTraces, OverLimit}
 use Rattle.cep_names.specs.declared.space.Space.{Space}
@@ -19,7 +17,7 @@ use Rattle.cep_names.specs.declared.space.Role.TheVariants as role
 use Rattle.cep_faults.specs.declared.counts.Counted.TheVariants as counted
 use Rattle.cep_names.specs.Items.{Source, PredItem, ConItem, ClauseItem, RuleItem, TraceItem, said, cons_in, cons_of, preds_in, preds_of, clauses_in, clauses_of, rules_of, traces_in, traces_of}
 use Rattle.cep_parse.specs.Raw.{item_rules, atoms_of, raw_nodes, listed_atoms}
-use Rattle.cep_names.specs.Misnamed.{Misnamed, IsTwice, IsOver, IsOfState, ComesToState, IsOpen, IsQuiRule, is_somewhere, arguments_of, linear_of, backward_of, is_qui, is_stage}
+use Rattle.cep_names.specs.Misnamed.{Misnamed, IsTwice, IsOver, IsOfState, ComesToState, IsOpen, IsQuiRule, is_somewhere, arguments_of, linear_of, backward_of, is_qui, is_stage, turns_said}
 use Rattle.cep_refusal.specs.First.{wrong}
 use Rattle.cep_names.specs.Misnamed.Misnamed.{twice, unknown, wrong_kind, wrong_arity, variable_in_state, backward_in_state, linear_in_clause, bad_qui, no_trace, two_traces, over}
 use Rattle.cep_names.specs.Misnamed.IsOpen.{variable, blank}
@@ -31,7 +29,7 @@ use Rattle.cep_names.specs.Uses.{Placed, Use, placed, is_context, own_uses, con_
 use Rattle.cep_names.specs.Variables.{variables_of}
 use Rattle.cep_faults.specs.Seen.{unseen, new_in}
 use Rattle.cep_faults.specs.Looks.{looks_of, cons_by, clauses_by}
-use Rattle.cep_faults.specs.Faults.{lack_faults, arity_faults, use_faults, pred_faults, node_faults, open_faults, back_faults, linear_faults, state_faults, role_faults, placed_faults, past, places, argument_faults, con_faults, size_faults, rule_faults, clause_faults, premise_places, is_qui_rule, qui_faults, is_turn_limit, turns_faults, trace_faults, outers_in, state_role, state_atoms, item_faults}
+use Rattle.cep_faults.specs.Faults.{lack_faults, arity_faults, use_faults, pred_faults, node_faults, open_faults, back_faults, linear_faults, state_faults, role_faults, placed_faults, past, places, argument_faults, con_faults, size_faults, rule_faults, clause_faults, premise_places, is_qui_rule, qui_faults, turns_faults, trace_faults, outers_in, state_role, state_atoms, item_faults}
 use Rattle.cep_faults.specs.Totals.{variable_faults, item_variable_faults, is_fit, unfit_faults, item_unfit_faults, count_faults, all_count_faults, written_size, is_large, start_size, start_faults, traces_faults, all_faults}
 use Rattle.cep_base.proofs.Members.{In, here, in_nil, in_one, in_same, in_left, in_right, in_parts, through, via, image, mapped, from_contains, give}
 use Rattle.cep_faults.proofs.Parts.{own_parts, housed}
@@ -232,9 +230,6 @@ or_right : (a b : Bool) → b ≡ true → (a || b) ≡ true
 or_right true b e = refl
 or_right false b e = e
 
-is_turns_by : (n : ℕ) → is_turn_limit n ≡ true → IsTurnLimit n
-is_turns_by n e = let both = both_parts (nat_le 1 n) (nat_le n MOST_TURNS) e in record { some = leb-true 1 n both.0; few = leb-true n MOST_TURNS both.1 }
-
 is_fit_by : (atom : RawAtom) → is_fit atom ≡ true → IsFitWritten atom
 is_fit_by atom e =
     let both = both_parts (nat_le (nodes_written atom) MOST_NODES) (nat_le (depth_written atom) MOST_DEPTH) e in
@@ -388,8 +383,7 @@ module _ (source : Source) (fault : Fault) where
       let t = through traces_in source.file trace (from_contains (traces_of source) trace m) in
       in_item source t.from fault t.member (part_trace source t.from fault trace t.given
       (in_same (turns_faults source.text trace.limit) (turns_faults source.text (Some number)) fault (ap (turns_faults source.text) l)
-      (unless (is_turn_limit (digits_value 10 (said source number))) (wrong OverLimit number.from) fault
-      (refuted (is_turn_limit (digits_value 10 (said source number))) (is_turn_limit (digits_value 10 (said source number))) (is_turns_by (digits_value 10 (said source number))) n refl) (is ∙ ap (wrong OverLimit) e))))
+      (unless (is_some (turns_said source.text number)) (wrong OverLimit number.from) fault (ap is_some n) (is ∙ ap (wrong OverLimit) e))))
 
 pub complete : (source : Source) (fault : Fault) → Misnamed source fault → IsTwice source fault ⊎ In (all_faults (looks_of source) source.file) fault
 complete source fault (twice h) = inl h

@@ -1,7 +1,6 @@
 -- What is found is wrong: items, one by one, and the whole file.
-use Rattle.std.proofs.Common.{◌≡◌, ℕ, ⊎_elim, ◌==◌, Bool, true, false, ◌&&◌, nat_lt, nat_le, if◌then◌else◌, List, [], ◌∷◌, length, map, Option, Some, None, refl, ap, sym, ◌∙◌, count_by}
+use Rattle.std.proofs.Common.{◌≡◌, ℕ, ⊎_elim, ◌==◌, Bool, true, false, ◌&&◌, nat_lt, nat_le, if◌then◌else◌, List, [], ◌∷◌, length, map, Option, Some, None, is_some, refl, ap, sym, ◌∙◌, count_by}
 use Rattle.std.specs.List.{flat_map, slice_get, sum_by}
-use Rattle.std.specs.Str.Parse.{digits_value}
 use Rattle.std.proofs.lemmas.Bool.{false≢true, le-leb, eq-eqb, ltb-true, or_cases}
 use Rattle.cep_parse.specs.declared.raw.Span.{Span}
 use Rattle.cep_parse.specs.declared.raw.RawAtom.{RawAtom}
@@ -9,15 +8,14 @@ use Rattle.cep_parse.specs.declared.raw.RawRule.{RawRule}
 use Rattle.cep_parse.specs.declared.raw.RawItem.{RawItem}
 use Rattle.cep_parse.specs.declared.raw.RawItem.TheVariants as item
 use Rattle.cep_faults.specs.declared.sizes.Size.{Size}
-use Rattle.cep_base.specs.Bounds.{IsTurnLimit}
-use Rattle.cep_base.specs.declared.limits.TheConstants.{MOST_ARGUMENTS, MOST_BACKS, MOST_CLAUSES, MOST_CONS, MOST_COPIES, MOST_DEPTH, MOST_GOALS, MOST_NODES, MOST_PREDS, MOST_PREMISES, MOST_RIGHT, MOST_RULES, MOST_STATE_NODES, MOST_TURNS, MOST_VARIABLES}
+use Rattle.cep_base.specs.declared.limits.TheConstants.{MOST_ARGUMENTS, MOST_BACKS, MOST_CLAUSES, MOST_CONS, MOST_COPIES, MOST_DEPTH, MOST_GOALS, MOST_NODES, MOST_PREDS, MOST_PREMISES, MOST_RIGHT, MOST_RULES, MOST_STATE_NODES, MOST_VARIABLES}
 use Rattle.cep_refusal.specs.declared.fault.Fault.{Fault}
 use Rattle.cep_refusal.specs.declared.reason.Reason.TheVariants.{OverLimit, BadQui, TwoTraces}
 use Rattle.cep_names.specs.declared.space.Space.TheVariants as space
 use Rattle.cep_faults.specs.declared.counts.Counted.TheVariants as counted
-use Rattle.cep_names.specs.Items.{Source, PredItem, ConItem, ClauseItem, RuleItem, TraceItem, said, cons_in, cons_of, preds_in, preds_of, clauses_in, clauses_of, rules_of, traces_in, traces_of, contexts_of}
+use Rattle.cep_names.specs.Items.{Source, PredItem, ConItem, ClauseItem, RuleItem, TraceItem, cons_in, cons_of, preds_in, preds_of, clauses_in, clauses_of, rules_of, traces_in, traces_of, contexts_of}
 use Rattle.cep_parse.specs.Raw.{item_rules, atoms_of, raw_nodes, listed_atoms}
-use Rattle.cep_names.specs.Misnamed.{Misnamed, IsOver, IsOfState, IsQuiRule, arguments_of, linear_of, backward_of, is_qui, is_stage}
+use Rattle.cep_names.specs.Misnamed.{Misnamed, IsOver, IsOfState, IsQuiRule, arguments_of, linear_of, backward_of, is_qui, is_stage, turns_said}
 use Rattle.cep_refusal.specs.First.{wrong}
 use Rattle.cep_names.specs.Misnamed.Misnamed.{bad_qui, no_trace, two_traces, over}
 use Rattle.cep_names.specs.Misnamed.IsOfState.{listed, start}
@@ -27,7 +25,7 @@ use Rattle.cep_names.specs.Uses.{Placed, placed, own_uses, con_uses, placed_of, 
 use Rattle.cep_names.specs.Variables.{variables_of}
 use Rattle.cep_faults.specs.Seen.{unseen, new_in}
 use Rattle.cep_faults.specs.Looks.{looks_of, cons_by, clauses_by}
-use Rattle.cep_faults.specs.Faults.{use_faults, placed_faults, past, places, argument_faults, con_faults, size_faults, rule_faults, clause_faults, premise_places, atom_places, is_qui_rule, qui_faults, is_turn_limit, turns_faults, trace_faults, outers_in, state_role, state_atoms, item_faults}
+use Rattle.cep_faults.specs.Faults.{use_faults, placed_faults, past, places, argument_faults, con_faults, size_faults, rule_faults, clause_faults, premise_places, atom_places, is_qui_rule, qui_faults, turns_faults, trace_faults, outers_in, state_role, state_atoms, item_faults}
 use Rattle.cep_faults.specs.Totals.{variable_faults, item_variable_faults, is_fit, unfit_faults, item_unfit_faults, count_faults, all_count_faults, places_in, first_size, written_size, is_large, start_size, start_faults, traces_faults, all_faults}
 use Rattle.cep_base.proofs.Members.{In, in_nil, in_one, in_same, in_left, in_right, in_parts, through, via, image, mapped, to_contains, got}
 use Rattle.cep_faults.proofs.Parts.{own_use, con_use, own_placed, clause_placed, state_own, rule_own, numbered, outer}
@@ -117,18 +115,14 @@ qui_by source rule fault true at e found = absurd (in_nil fault found)
 qui_by source rule fault false at e found = bad_qui (record { home = None; raw = rule }) (to_contains (rules_of source) _ at) refl (not_qui rule e) (in_one _ fault found)
 
 -- the turns of a trace
-not_turns : (n : ℕ) → is_turn_limit n ≡ false → ¬ IsTurnLimit n
-not_turns n e is = false≢true (sym e ∙ both_true (nat_le 1 n) (nat_le n MOST_TURNS) (le-leb 1 n is.some) (le-leb n MOST_TURNS is.few))
-
-turns_by : (source : Source) (trace : TraceItem) (number : Span) (fault : Fault) (b : Bool) → In (traces_of source) trace → trace.limit ≡ Some number → is_turn_limit (digits_value 10 (said source number)) ≡ b
-    → In (let found : List Fault = if b then [] else wrong OverLimit number.from ∷ [] in found) fault → Misnamed source fault
-turns_by source trace number fault true at l e found = absurd (in_nil fault found)
-turns_by source trace number fault false at l e found =
-    over number.from (IsOver.turns trace number (to_contains (traces_of source) trace at) l (not_turns (digits_value 10 (said source number)) e) refl) (in_one _ fault found)
+turns_by : (source : Source) (trace : TraceItem) (number : Span) (fault : Fault) (turns : Option ℕ) → In (traces_of source) trace → trace.limit ≡ Some number → turns_said source.text number ≡ turns
+    → In (let found : List Fault = if is_some turns then [] else wrong OverLimit number.from ∷ [] in found) fault → Misnamed source fault
+turns_by source trace number fault (Some turns) at l e found = absurd (in_nil fault found)
+turns_by source trace number fault None at l e found = over number.from (IsOver.turns trace number (to_contains (traces_of source) trace at) l e refl) (in_one _ fault found)
 
 turns_sound : (source : Source) (trace : TraceItem) (limit : Option Span) (fault : Fault) → In (traces_of source) trace → trace.limit ≡ limit → In (turns_faults source.text limit) fault → Misnamed source fault
 turns_sound source trace None fault at l found = absurd (in_nil fault found)
-turns_sound source trace (Some number) fault at l found = turns_by source trace number fault (is_turn_limit (digits_value 10 (said source number))) at l refl found
+turns_sound source trace (Some number) fault at l found = turns_by source trace number fault (turns_said source.text number) at l refl found
 
 item_sound : (source : Source) (item : RawItem) (fault : Fault) → In source.file item → In (item_faults (looks_of source) item) fault → Misnamed source fault
 item_sound source item fault member found =

@@ -1,8 +1,7 @@
 -- Private.
 -- The faults of each part of a file, by what is looked up of its names.
-use Rattle.std.specs.Prelude.{ℕ, ◌==◌, Bool, true, false, ◌&&◌, if◌then◌else◌, List, [], ◌∷◌, ◌++◌, Option, Some, None, map, nat_le, count_by, slice_get}
+use Rattle.std.specs.Prelude.{ℕ, ◌==◌, Bool, true, false, ◌&&◌, if◌then◌else◌, List, [], ◌∷◌, ◌++◌, Option, Some, None, is_some, map, count_by, slice_get}
 use Rattle.std.specs.List.{flat_map}
-use Rattle.std.specs.Str.Parse.{digits_value}
 use Rattle.cep_parse.specs.declared.raw.Span.{Span}
 use Rattle.cep_parse.specs.declared.raw.RawKind.{RawKind}
 use Rattle.cep_parse.specs.declared.raw.RawKind.TheVariants as kind
@@ -13,8 +12,7 @@ use Rattle.cep_parse.specs.declared.raw.RawElem.TheVariants as elem
 use Rattle.cep_parse.specs.declared.raw.RawRule.{RawRule}
 use Rattle.cep_parse.specs.declared.raw.RawItem.{RawItem}
 use Rattle.cep_parse.specs.declared.raw.RawItem.TheVariants as item
-use Rattle.cep_parse.specs.Symbols.{slice_of}
-use Rattle.cep_base.specs.declared.limits.TheConstants.{MOST_ARGUMENTS, MOST_BACKS, MOST_GOALS, MOST_PREMISES, MOST_RIGHT, MOST_TURNS}
+use Rattle.cep_base.specs.declared.limits.TheConstants.{MOST_ARGUMENTS, MOST_BACKS, MOST_GOALS, MOST_PREMISES, MOST_RIGHT}
 use Rattle.cep_refusal.specs.declared.fault.Fault.{Fault}
 use Rattle.cep_refusal.specs.declared.reason.Reason.TheVariants.{Unknown, WrongKind, WrongArity, VarInContext, BwdInState, LinearInClause, BadQui, OverLimit}
 use Rattle.cep_names.specs.declared.space.Space.TheVariants as space
@@ -24,7 +22,7 @@ use Rattle.cep_names.specs.Items.{ConItem, ClauseItem, TraceItem, preds_in, trac
 use Rattle.cep_parse.specs.Raw.{item_rules, listed_atoms}
 use Rattle.cep_names.specs.Uses.{Placed, Use, placed, node_uses, con_uses, own_uses, rule_atoms, clause_atoms}
 use Rattle.cep_refusal.specs.First.{wrong}
-use Rattle.cep_names.specs.Misnamed.{is_declared, is_qui, is_stage}
+use Rattle.cep_names.specs.Misnamed.{is_declared, is_qui, is_stage, turns_said}
 use Rattle.cep_faults.specs.Looks.{Looks, says, is_anywhere, names_context, cons_by, clauses_by}
 
 -- a name that its space has not, where some space has it or none
@@ -144,12 +142,9 @@ abbrev pub qui_faults : RawRule → List Fault
 qui_faults rule = if is_qui_rule rule then [] else wrong BadQui rule.at ∷ []
 
 -- a number of turns
-abbrev pub is_turn_limit : ℕ → Bool
-is_turn_limit turns = nat_le 1 turns && nat_le turns MOST_TURNS
-
 abbrev pub turns_faults : List ℕ → Option Span → List Fault
 turns_faults text None = []
-turns_faults text (Some number) = if is_turn_limit (digits_value 10 (slice_of text number.from number.to)) then [] else wrong OverLimit number.from ∷ []
+turns_faults text (Some number) = if is_some (turns_said text number) then [] else wrong OverLimit number.from ∷ []
 
 abbrev pub trace_faults : Looks → TraceItem → List Fault
 trace_faults looks trace = turns_faults looks.text trace.limit

@@ -1,20 +1,18 @@
 // The items of a file.
 ghost use Rattle.std.specs.Prelude.{◌≡◌, ◌≤◌};
 ghost use Rattle.std.specs.List.{flat_map};
-ghost use Rattle.std.specs.Str.Parse.{digits_value};
-ghost use Rattle.cep_parse.specs.Symbols.{slice_of};
 ghost use Rattle.cep_refusal.specs.First.{first_in};
 ghost use Rattle.cep_faults.specs.Looks.{looks_in};
 ghost use Rattle.cep_names.specs.Uses.{start_uses};
-ghost use Rattle.cep_faults.specs.Faults.{use_faults, argument_faults, con_faults, turns_faults, item_faults, is_turn_limit};
+ghost use Rattle.cep_faults.specs.Faults.{use_faults, argument_faults, con_faults, turns_faults, item_faults};
 
 use crate::atoms::atoms_fault;
 use crate::rules::{
     bare_fault, clause_fault, past, qui_fault, rule_fault, rules_fault, stages_fault,
 };
 use crate::uses::{sorts_fault, use_fault};
-use cep_base::limits::{MOST_ARGUMENTS, MOST_TURNS};
-use cep_names::{Names, Role, Space, number_said};
+use cep_base::limits::MOST_ARGUMENTS;
+use cep_names::{Names, Role, Space, turns_said};
 use cep_parse::{RawItem, RawRule, RawStart, Span, Spans};
 use cep_refusal::{Fault, FirstFault};
 
@@ -81,25 +79,15 @@ fn start_fault(names: &Names, text: &[u8], start: &RawStart) -> Option<Fault>
     }
 }
 
-// Whether digits say a number of turns that a program may ask for.
-fn is_turn_limit(text: &[u8], digits: Span) -> bool
-    ensures { result ≡ is_turn_limit (digits_value 10 (slice_of text.now digits.from digits.to)) }
-{
-    match number_said(text, digits) {
-        Some(turns) => turns >= 1 && turns <= MOST_TURNS,
-        None => false,
-    }
-}
-
 // The fault of a number of turns.
 fn turns_fault(text: &[u8], limit: Option<Span>) -> Option<Fault>
     ensures { result ≡ first_in (turns_faults text.now limit) }
 {
     let number = limit?;
-    if is_turn_limit(text, number) {
-        return None;
+    match turns_said(text, number) {
+        Some(_) => None,
+        None => past(Some(number.from)),
     }
-    past(Some(number.from))
 }
 
 // The first fault of a trace, but for its number among others and the size of its start state.

@@ -2,7 +2,7 @@
 use Rattle.std.proofs.Common.{◌≡◌, ℕ, suc, zero, ◌+◌, not, List, [], ◌∷◌, ◌++◌, length, map, filter, refl, sym, ap, subst, ◌∙◌, arith, append_assoc, Contains}
 use Rattle.std.proofs.lemmas.List.{length-map}
 use Rattle.std.specs.Prelude.{codes, decimal}
-use Rattle.std.specs.Option.{option_map}
+use Rattle.std.specs.Option.{option_and_then}
 use Rattle.cep_parse.specs.declared.raw.Span.{Span}
 use Rattle.cep_parse.specs.declared.raw.RawKind.{RawKind}
 use Rattle.cep_parse.specs.declared.raw.RawKind.TheVariants as kind
@@ -24,7 +24,7 @@ use Rattle.cep_parse.specs.Raw.{atoms_of, raw_nodes}
 use Rattle.cep_names.specs.Variables.{blanks_behind}
 use Rattle.cep_names.specs.Starts.{start_atoms}
 use Rattle.cep_refusal.specs.First.{wrong}
-use Rattle.cep_names.specs.Misnamed.{number_said}
+use Rattle.cep_names.specs.Misnamed.{turns_said}
 use Rattle.cep_names.specs.Misnamed.Misnamed.{no_trace}
 use Rattle.cep_types.specs.Sites.{rule_scope, clause_scope}
 use Rattle.cep_types.specs.Heads.{Head, var, con, number_of, variable_of, head_at, heads_from, blanks_after}
@@ -198,7 +198,7 @@ module _ (source : Source) (clean : IsClean source) (made : AtomsMade source) (s
           clauses = clauses.clauses;
           start_stage = number_of source space.Stages (said source trace.stage);
           start = gathered start.list;
-          turns = option_map (number_said source) trace.limit;
+          turns = option_and_then (turns_said source.text) trace.limit;
         },
         record {
           signature_is = refl;

@@ -1,9 +1,9 @@
 -- A text declares one program at most.
 use Rattle.std.proofs.Common.{◌≡◌, ℕ, not, List, [], ◌∷◌, map, filter, refl, sym, ap, subst, ◌∙◌}
 use Rattle.std.proofs.lemmas.List.{append-nil}
-use Rattle.std.specs.Option.{option_map}
+use Rattle.std.specs.Option.{option_and_then}
 use Rattle.cep_names.specs.declared.space.Space.TheVariants as space
-use Rattle.cep_names.specs.Misnamed.{number_said}
+use Rattle.cep_names.specs.Misnamed.{turns_said}
 use Rattle.cep_parse.specs.declared.raw.RawAtom.{RawAtom}
 use Rattle.cep_parse.specs.declared.raw.RawElem.{RawElem}
 use Rattle.cep_parse.specs.declared.raw.RawElem.TheVariants as elem
@@ -122,4 +122,4 @@ parts_once source p q one other =
     (clauses_once source _ p.clauses q.clauses one.clauses_are other.clauses_are)
     (one.start_stage_is ∙ ap (λ (t : TraceItem). number_of source space.Stages (said source t.stage)) trace ∙ sym other.start_stage_is)
     (start_once source one.trace other.trace p.start q.start trace one.start_is other.start_is)
-    (one.turns_are ∙ ap (λ (t : TraceItem). option_map (number_said source) t.limit) trace ∙ sym other.turns_are)
+    (one.turns_are ∙ ap (λ (t : TraceItem). option_and_then (turns_said source.text) t.limit) trace ∙ sym other.turns_are)

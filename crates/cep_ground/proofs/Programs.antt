@@ -1,8 +1,9 @@
 -- What a text in order declares is a program.
-use Rattle.std.proofs.Common.{◌≡◌, ⊎_elim, ℕ, suc, ◌<◌, ◌≤◌, ◌^◌, not, List, [], ◌∷◌, length, map, filter, refl, sym, ap, subst, ◌∙◌, arith, Contains, length-append}
+use Rattle.std.proofs.Common.{◌≡◌, ⊎_elim, ℕ, suc, ◌<◌, ◌≤◌, ◌^◌, Bool, true, false, not, ◌&&◌, if◌then◌else◌, nat_le, List, [], ◌∷◌, length, map, filter, refl, sym, ap, subst, ◌∙◌, arith, Contains, length-append}
+use Rattle.std.proofs.lemmas.Bool.{leb-true}
 use Rattle.std.proofs.lemmas.List.{length-map}
 use Rattle.std.specs.Prelude.{Option, Some, None, IfSome}
-use Rattle.std.specs.Option.{option_map}
+use Rattle.std.specs.Option.{option_and_then}
 use Rattle.std.specs.List.{AllByRecursion, flat_map}
 use Rattle.cep_parse.specs.declared.raw.Span.{Span}
 use Rattle.cep_parse.specs.declared.raw.RawAtom.{RawAtom}
@@ -22,6 +23,7 @@ use Rattle.cep_rule.specs.Names.{AreNames, IsVariableName}
 use Rattle.cep_rule.specs.Binding.{IsBoundRule, IsBoundClause}
 use Rattle.cep_rule.specs.Limits.{IsSmallPattern, IsSmallSignature, IsSmallRule, IsSmallClause}
 use Rattle.cep_base.specs.Bounds.{IsTurnLimit}
+use Rattle.cep_base.specs.declared.limits.TheConstants.{MOST_TURNS}
 use Rattle.cep_rule.specs.Groundness.{CallsAt, IsBad, IsGrounded, nothing, known_after_all}
 use Rattle.cep_rule.specs.Binding.{needed_of}
 use Rattle.cep_rule.specs.State.{IsState}
@@ -34,7 +36,7 @@ use Rattle.cep_parse.specs.Raw.{atoms_of, raw_nodes}
 use Rattle.cep_names.specs.Uses.{use_in, own_uses, start_uses}
 use Rattle.cep_names.specs.Variables.{Occurrence, variables_of}
 use Rattle.cep_refusal.specs.First.{wrong}
-use Rattle.cep_names.specs.Misnamed.{number_said}
+use Rattle.cep_names.specs.Misnamed.{turns_said}
 use Rattle.cep_names.specs.Misnamed.Misnamed.{over}
 use Rattle.cep_names.specs.Misnamed.{IsOver as overs}
 use Rattle.cep_types.specs.Sites.{rule_scope, clause_scope}
@@ -51,13 +53,22 @@ use Rattle.cep_ground.proofs.RuleParts.{IsJudged, judged_premises, judged_atoms,
 use Rattle.cep_ground.proofs.BoundVariables.{bound_vars, rule_bound, clause_bound}
 use Rattle.cep_ground.proofs.VariableKinds.{in_range, con_sort_known, con_args_known, pred_args_known, kinds_in_range, variable_names}
 use Rattle.cep_ground.proofs.StartState.{StartLaws, start_good}
-use Rattle.cep_ground.proofs.StateAtoms.{not_greater}
 use Rattle.cep_ground.proofs.NameLaws.{rule_names_size, rules_few, sort_names, stage_names, con_names, pred_names, rule_names}
 use Rattle.cep_ground.proofs.GroupLaws.{used_stage, rule_grouped, rule_next}
 
 map_same : {X Y Z : Type 0} (f : Y → Z) (g : X → Y) (h : X → Z) (xs : List X) → ((x : X) → f (g x) ≡ h x) → map h xs ≡ map f (map g xs)
 map_same f g h [] same = refl
 map_same f g h (x ∷ xs) same = let here = same x in let rest = map_same f g h xs same in cc
+
+-- a number of turns that is said is one that a program may ask for
+turns_few : (digits : Bool) (turns : ℕ) → IfSome (let said : Option ℕ = if digits && (nat_le 1 turns && nat_le turns MOST_TURNS) then Some turns else None in said) IsTurnLimit
+turns_few false turns = tt
+turns_few true turns = by (nat_le 1 turns) (nat_le turns MOST_TURNS) refl refl
+  where
+    by : (some few : Bool) → nat_le 1 turns ≡ some → nat_le turns MOST_TURNS ≡ few → IfSome (let said : Option ℕ = if some && few then Some turns else None in said) IsTurnLimit
+    by false few e f = tt
+    by true false e f = tt
+    by true true e f = record { some = leb-true 1 turns e; few = leb-true turns MOST_TURNS f }
 
 -- where each makes one at most, there are not more than of them
 flat_few : {X Y : Type 0} (f : X → List Y) (xs : List X) → ((x : X) → length (f x) ≤ 1) → length (flat_map f xs) ≤ length xs
@@ -201,20 +212,9 @@ module _ (source : Source) (clean : IsClean source) (made : AtomsMade source) (i
         let most = at_most pred.args 8 (λ name found. clean.names (wrong OverLimit name.from) (over name.from (overs.argument pred.args name (contains_right (map (λ (c : ConItem). c.args) (cons_of source)) _ pred.args (contains_map (λ (p : PredItem). p.args) (preds_of source) pred there)) found refl) refl)) in omega (arith, e, most)));
   }
 
-  turns_by : (limit : Option Span) (trace : TraceItem) → Contains (traces_of source) trace → trace.limit ≡ limit → IfSome (option_map (number_said source) limit) IsTurnLimit
-  turns_by None trace there is = tt
-  turns_by (Some number) trace there is =
-      let never : (IsTurnLimit (number_said source number) → ⊥) → ⊥ = λ not_limit. clean.names (wrong OverLimit number.from) (over number.from (overs.turns trace number there is not_limit refl) refl) in
-      record {
-        some = not_greater' (λ none. never (λ limit. let s = limit.some in omega (arith, s, none)));
-        few = not_greater'' (λ more_. never (λ limit. let f = limit.few in omega (arith, f, more_)));
-      }
-    where
-      not_greater' : (number_said source number < 1 → ⊥) → 1 ≤ number_said source number
-      not_greater' h = not_greater 1 (number_said source number) h
-
-      not_greater'' : (1000000 < number_said source number → ⊥) → number_said source number ≤ 1000000
-      not_greater'' h = not_greater (number_said source number) 1000000 h
+  turns_by : (limit : Option Span) → IfSome (option_and_then (turns_said source.text) limit) IsTurnLimit
+  turns_by None = tt
+  turns_by (Some number) = turns_few _ _
 
   -- no rule without backward premises calls a bad pair
   grounded : (clauses : List ClauseTree) (rules : List Rule) → AllByRecursion (λ (rule : Rule). rule.backs ≡ []) rules → AllByRecursion (IsGrounded clauses) rules
@@ -238,7 +238,7 @@ module _ (source : Source) (clean : IsClean source) (made : AtomsMade source) (i
               let most = at_most (clauses_of source) 4096 (λ clause found. clean.names (wrong OverLimit clause.head.name.from) (over clause.head.name.from (overs.clause clause found refl) refl)) in omega (arith, e, most);
           each_rule = each_rule IsSmallRule small_rule;
           each_clause = each_clause IsSmallClause small_clause;
-          turns = subst (λ turns. IfSome turns IsTurnLimit) (sym are.turns_are) (turns_by are.trace.limit are.trace trace_there refl);
+          turns = subst (λ turns. IfSome turns IsTurnLimit) (sym are.turns_are) (turns_by are.trace.limit);
         };
         named = record {
           sorts = subst (λ (s : Signature). AreNames s.sorts) (sym are.signature_is) (sort_names source clean items);

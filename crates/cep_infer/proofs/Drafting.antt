@@ -1,20 +1,16 @@
 -- A draft's rules and its trace, as they are kept at hand.
 use Rattle.std.proofs.Common.{◌≡◌, ℕ, ◌<◌, ◌≤◌, Bool, true, false, ltb, List, length, map, ap, sym, refl, ◌∙◌, subst, Contains, arith}
-use Rattle.std.proofs.lemmas.Bool.{ltb-true, ltb-false}
 use Rattle.std.proofs.lemmas.Simd.{map-map}
 use Rattle.std.specs.Prelude.{Option, Some, None}
-use Rattle.std.specs.Option.{IsSome, ForSome}
+use Rattle.std.specs.Option.{IsSome}
 use Rattle.cep_base.specs.declared.place.Pos.{Pos}
 use Rattle.cep_rule.specs.declared.rule.Rule.{Rule}
-use Rattle.cep_base.specs.Bounds.{IsTurnLimit}
-use Rattle.cep_refusal.specs.declared.reason.Reason.TheVariants.{NoTrace, OverLimit}
+use Rattle.cep_refusal.specs.declared.reason.Reason.TheVariants.{NoTrace}
 use Rattle.cep_names.specs.declared.space.Space.TheVariants as space
 use Rattle.cep_names.specs.Items.{Source, RuleItem, TraceItem, rules_of, traces_of}
 use Rattle.cep_names.specs.Spaces.{names_in, rule_names_from}
 use Rattle.cep_refusal.specs.First.{wrong}
-use Rattle.cep_names.specs.Misnamed.{number_said}
 use Rattle.cep_names.specs.Misnamed.{Misnamed as misnamed}
-use Rattle.cep_names.specs.Misnamed.{IsOver as overs}
 use Rattle.cep_infer.specs.declared.listing.RuleRef.{RuleRef}
 use Rattle.cep_infer.specs.declared.listing.TraceRef.{TraceRef}
 use Rattle.cep_infer.specs.Meaning.{AreRulesBy}
@@ -41,19 +37,3 @@ all_places source f refs lists all are = subst (λ (ats : List (List ℕ)). AreP
 pub some_trace : (source : Source) → IsWellNamed source → (found : Option TraceRef) → IsFirstTrace (traces_of source) found → IsSome found
 some_trace source named None none = absurd (named (wrong NoTrace (length source.text)) (misnamed.no_trace none refl))
 some_trace source named (Some trace) first = refl
-
-not_greater : (a b : ℕ) → (b < a → ⊥) → a ≤ b
-not_greater a b never = by (ltb b a) refl
-  where
-    by : (t : Bool) → ltb b a ≡ t → a ≤ b
-    by true e = absurd (never (ltb-true b a e))
-    by false e = let most = ltb-false b a e in omega (arith, most)
-
--- in a text without wrong names each number of turns is one that a program may ask for
-pub limit_is : (source : Source) → IsWellNamed source → (trace : TraceItem) → Contains (traces_of source) trace → ForSome trace.limit (λ digits. IsTurnLimit (number_said source digits))
-limit_is source named trace there digits is =
-    let never : (IsTurnLimit (number_said source digits) → ⊥) → ⊥ = λ not_limit. named (wrong OverLimit digits.from) (misnamed.over digits.from (overs.turns trace digits there is not_limit refl) refl) in
-    record {
-      some = not_greater 1 (number_said source digits) (λ none. never (λ limit. let some = limit.some in omega (arith, some, none)));
-      few = not_greater (number_said source digits) 1000000 (λ more. never (λ limit. let few = limit.few in omega (arith, few, more)));
-    }

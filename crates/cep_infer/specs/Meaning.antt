@@ -1,6 +1,6 @@
 -- What a text declares: the parts of a program, each from what is written.
 use Rattle.std.specs.Prelude.{◌≡◌, ℕ, ◌+◌, ◌*◌, Bool, false, not, List, [], ◌∷◌, Option, Some, None, map, filter, unwrap_or, slice_get}
-use Rattle.std.specs.Option.{option_map}
+use Rattle.std.specs.Option.{option_map, option_and_then}
 use Rattle.std.specs.List.{flat_map}
 use Rattle.cep_parse.specs.declared.raw.Span.{Span}
 use Rattle.cep_parse.specs.declared.raw.RawAtom.{RawAtom}
@@ -21,7 +21,7 @@ use Rattle.cep_names.specs.Spaces.{names_in}
 use Rattle.cep_parse.specs.Raw.{atoms_of, raw_nodes}
 use Rattle.cep_names.specs.Variables.{variables_of}
 use Rattle.cep_names.specs.Starts.{start_atoms}
-use Rattle.cep_names.specs.Misnamed.{number_said}
+use Rattle.cep_names.specs.Misnamed.{turns_said}
 use Rattle.cep_types.specs.Sites.{type_of, rule_scope, clause_scope}
 use Rattle.cep_types.specs.Heads.{number_of, sorts_said, blanks_after}
 use Rattle.cep_infer.specs.Heads.{IsAtomBy, AreAtomsBy}
@@ -144,4 +144,4 @@ pub record AreParts (source : Source) (parts : Parts) : Type 0 where
   pub first : traces_of source ≡ trace ∷ rest
   pub start_stage_is : parts.start_stage ≡ number_of source space.Stages (said source trace.stage)
   pub start_is : IsStartBy source trace parts.start
-  pub turns_are : parts.turns ≡ option_map (number_said source) trace.limit
+  pub turns_are : parts.turns ≡ option_and_then (turns_said source.text) trace.limit

@@ -1,9 +1,8 @@
 ghost use Rattle.std.specs.Prelude.{◌≡◌, ◌≤◌, Some, length, map, take, IfOk};
 ghost use Rattle.cep_base.specs.declared.limits.TheConstants.{MOST_TEXT};
-ghost use Rattle.std.specs.Option.{ForSome, option_map};
-ghost use Rattle.cep_base.specs.Bounds.{IsTurnLimit};
+ghost use Rattle.std.specs.Option.{option_and_then};
 ghost use Rattle.cep_names.specs.Items.{rules_of, traces_of};
-ghost use Rattle.cep_names.specs.Misnamed.{number_said};
+ghost use Rattle.cep_names.specs.Misnamed.{turns_said};
 ghost use Rattle.cep_names.specs.Named.{AreNamedRight};
 ghost use Rattle.cep_infer.specs.Shapes.{IsSource};
 ghost use Rattle.cep_infer.specs.Meaning.{AreParts};
@@ -19,7 +18,7 @@ use crate::rules::read_rules;
 use crate::signature::{read_signature, read_stages};
 use crate::start::read_start;
 use cep_faults::named;
-use cep_names::{Names, Space, number_said};
+use cep_names::{Names, Space, turns_said};
 use cep_parse::{RawFile, Span};
 use cep_refusal::{Fault, Refusal};
 use cep_rule::Parts;
@@ -28,10 +27,9 @@ use std::alloc::{AllocError, Global};
 
 // The number of turns.
 fn turns(declared: &Declarations, limit: Option<Span>) -> Option<u32>
-    requires { ForSome limit (λ digits. IsTurnLimit (number_said declared.now digits)) }
-    ensures { result ≡ option_map (number_said declared.now) limit }
+    ensures { result ≡ option_and_then (turns_said declared.now.text) limit }
 {
-    number_said(declared.text(), limit?)
+    turns_said(declared.text(), limit?)
 }
 
 // The parts of a program, where these are its rules, and it starts as the first trace says.

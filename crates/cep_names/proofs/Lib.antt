@@ -3,6 +3,6 @@ pub mod SpaceNames
 pub mod Growing
 pub mod Declaring
 pub mod Different
-pub mod Digits
 pub mod Telling
+pub mod Turns
 pub mod Again

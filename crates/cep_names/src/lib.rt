@@ -12,4 +12,4 @@ pub use entries::Tabled;
 pub use names::Names;
 pub use space::{Role, Space};
 pub use table::{Shape, Table};
-pub use text::{number_said, said};
+pub use text::{said, turns_said};

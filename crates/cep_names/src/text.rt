@@ -1,8 +1,8 @@
-ghost use Rattle.std.specs.Prelude.{◌≡◌, ◌<◌, ◌+◌, ◌*◌, ◌^◌, SomeIff};
-ghost use Rattle.std.specs.Char.{digit_value};
-ghost use Rattle.std.specs.Str.Parse.{digits_value};
+ghost use Rattle.std.specs.Prelude.{◌≡◌};
 ghost use Rattle.cep_parse.specs.Symbols.{slice_of};
+ghost use Rattle.cep_names.specs.Misnamed.{turns_said};
 
+use cep_base::limits::MOST_TURNS;
 use cep_parse::Span;
 
 /// What a text says at a span. Of a span that passes the end, what there is of it.
@@ -14,28 +14,16 @@ pub fn said(text: &[u8], span: Span) -> &[u8]
     &behind[..behind.len().min(len)]
 }
 
-// The value of a digit. A letter is one too, from 10 on, and what is neither counts as 36.
-#[tactic(auto, using(crate::proofs::Digits::digit_most))]
-fn digit_value(byte: u8) -> u32
-    ensures { result ≡ digit_value byte }
+/// How many turns the digits at a span say. None where these are no digits, or say 0 or more than a program may ask for.
+#[tactic(auto, using(crate::proofs::Turns::no_text, crate::proofs::Turns::no_numeral, crate::proofs::Turns::some_turns))]
+pub fn turns_said(text: &[u8], span: Span) -> Option<u32>
+    ensures { result ≡ turns_said text.now span }
 {
-    (byte as char).to_digit(36).unwrap_or(36)
-}
-
-// The number that a further digit makes of one, unless it is too great for its type.
-fn with_digit(number: u32, digit: u8) -> Option<u32>
-    ensures { SomeIff result (number * 10 + digit_value digit < 2 ^ 32) (number * 10 + digit_value digit) }
-{
-    number.checked_mul(10)?.checked_add(digit_value(digit))
-}
-
-/// The number that the digits at a span say, unless it is too great for its type.
-pub fn number_said(text: &[u8], span: Span) -> Option<u32>
-    ensures { let number = digits_value 10 (slice_of text.now span.from span.to) in SomeIff result (number < 2 ^ 32) number }
-{
-    let mut number = 0;
-    for digit in said(text, span) {
-        number = with_digit(number, *digit)?;
+    let number = str::from_utf8(said(text, span)).ok()?;
+    let turns = number.parse().ok()?;
+    if 1 <= turns && turns <= MOST_TURNS {
+        Some(turns)
+    } else {
+        None
     }
-    Some(number)
 }

@@ -1,14 +1,11 @@
 use Rattle.std.proofs.Common.{map}
 use Rattle.cep_names.specs.Items.{traces_of}
 use Rattle.cep_infer.specs.Listed.{rule_item, trace_item}
-use Rattle.cep_infer.proofs.Drafting.{all_rules, first_there, limit_is}
+use Rattle.cep_infer.proofs.Drafting.{all_rules, first_there}
 use Rattle.cep_infer.proofs.resolving.parts_from.Goals as goal
 
 pub read_start-requires-clause-there : goal.read_start-requires-clause-there
 read_start-requires-clause-there c = first_there (traces_of c.args.declared.now) c.args.trace.now c.requires.first
-
-pub turns-requires : goal.turns-requires
-turns-requires c = limit_is c.args.declared.now c.requires.named (trace_item c.args.trace.now) (first_there (traces_of c.args.declared.now) c.args.trace.now c.requires.first)
 
 pub returns : goal.returns
 returns c = record {
