@@ -214,7 +214,7 @@ module _ (source : Source) (clean : IsClean source) (made : AtomsMade source) (i
 
   turns_by : (limit : Option Span) → IfSome (option_and_then (turns_said source.text) limit) IsTurnLimit
   turns_by None = tt
-  turns_by (Some number) = turns_few _ _
+  turns_by (Some number) = search turns_few
 
   -- no rule without backward premises calls a bad pair
   grounded : (clauses : List ClauseTree) (rules : List Rule) → AllByRecursion (λ (rule : Rule). rule.backs ≡ []) rules → AllByRecursion (IsGrounded clauses) rules
