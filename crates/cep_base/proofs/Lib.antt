@@ -1,6 +1,7 @@
 pub mod Members
 pub mod Elements
 pub mod Lists
+pub mod Outcomes
 pub mod Bytes
 pub mod Holdings
 pub mod Foremost

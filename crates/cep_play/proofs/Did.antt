@@ -7,11 +7,6 @@ use Rattle.cep_base.specs.declared.console.Event.{Event}
 use Rattle.cep_base.specs.declared.console.Event.TheVariants.{In, End}
 use Rattle.cep_base.specs.Talk.{outs, heard, GoesOn, Takes, Did}
 
--- what is said of an answer in each case is said of it where it is an error
-pub on_err : {T E : Type 0} (r : Result T E) (P : Type 0) → P → OnErr r P
-on_err (Ok x) P p = tt
-on_err (Err x) P p = p
-
 -- where one more byte came, the bytes to come are told after it too
 after_byte : (byte : ℕ) (come : List ℕ) (after : Option (List ℕ)) → Some come ≡ option_map (λ rest. byte ∷ rest) after
     → (rest : List ℕ) × (after ≡ Some rest) × (come ≡ byte ∷ rest)

@@ -1,6 +1,7 @@
 -- Fronts of a text that is added piece by piece.
 use Rattle.std.proofs.Common.{◌≡◌, ℕ, List, [], ◌∷◌, ◌++◌, append_assoc, sym, ap, subst, ◌∙◌}
 use Rattle.std.specs.Prelude.{Result, Ok, Err, OnErr, Some, slice_get}
+use Rattle.cep_base.proofs.Outcomes.{on_err}
 use Rattle.cep_term.specs.Tree.{Tree, Trees, node, more}
 use Rattle.cep_rule.specs.declared.signature.Con.{Con}
 use Rattle.cep_rule.specs.declared.signature.Signature.{Signature}
@@ -24,11 +25,6 @@ begun_then old one next mid new done begun = record {
   cut = ap (λ text. one ++ text) begun.cut ∙ sym (append_assoc one begun.front begun.rest);
   added = begun.added ∙ ap (λ text. text ++ begun.front) done ∙ append_assoc old one begun.front;
 }
-
--- what is said of an answer in each case is said of it where it is an error
-pub on_err : {T E : Type 0} (r : Result T E) (P : Type 0) → P → OnErr r P
-on_err (Ok x) P p = tt
-on_err (Err x) P p = p
 
 -- of a term with arguments the parenthesis and the name were added, and a front of the arguments
 pub enclosed_begun : {T E : Type 0} (r : Result T E) (signature : Signature) (tree : Tree) (c : ℕ) (args seen : Trees) (con : Con) (name old opened named new : List ℕ) (t : Tree) (rest : Trees)

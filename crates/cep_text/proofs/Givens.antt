@@ -5,7 +5,8 @@ use Rattle.cep_term.specs.Tree.{Tree}
 use Rattle.cep_rule.specs.declared.signature.Signature.{Signature}
 use Rattle.cep_text.specs.Texts.{given_text, all_given_text}
 use Rattle.cep_text.specs.Writing.{IsBegun}
-use Rattle.cep_text.proofs.Fronts.{begun_first, begun_then, on_err}
+use Rattle.cep_base.proofs.Outcomes.{on_err}
+use Rattle.cep_text.proofs.Fronts.{begun_first, begun_then}
 
 -- what the first so many variables are given
 abbrev pub first_given : Signature → List (List ℕ) → List Tree → ℕ → List ℕ

@@ -5,7 +5,8 @@ use Rattle.cep_rule.specs.declared.parts.Parts.{Parts}
 use Rattle.cep_rule.specs.Derivations.{ProofTree, by_clause}
 use Rattle.cep_text.specs.Texts.{begin_text, begin_of, proof_text, proofs_text}
 use Rattle.cep_text.specs.Writing.{IsBegun}
-use Rattle.cep_text.proofs.Fronts.{begun_first, begun_then, on_err}
+use Rattle.cep_base.proofs.Outcomes.{on_err}
+use Rattle.cep_text.proofs.Fronts.{begun_first, begun_then}
 
 head_begun : (program : Parts) (tree : ProofTree) (old new : List ℕ) → IsBegun old (begin_of program tree) new → IsBegun old (proof_text program tree) new
 head_begun program (by_clause number values subs) old new begun =

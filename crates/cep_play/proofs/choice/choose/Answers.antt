@@ -1,5 +1,5 @@
 use Rattle.std.proofs.Common.{refl, ◌∙◌, arith}
-use Rattle.cep_play.proofs.Did.{on_err}
+use Rattle.cep_base.proofs.Outcomes.{on_err}
 use Rattle.cep_play.proofs.Hearing.{await_first, await_next, end_chosen, end_no_more, end_no_room, end_short, end_answer_short}
 use Rattle.cep_play.proofs.choice.choose.Goals as goal
 

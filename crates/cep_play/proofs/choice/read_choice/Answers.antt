@@ -1,5 +1,5 @@
 use Rattle.std.proofs.Common.{Some, refl, ap, ◌∙◌, arith}
-use Rattle.cep_play.proofs.Did.{on_err}
+use Rattle.cep_base.proofs.Outcomes.{on_err}
 use Rattle.cep_play.proofs.LineRead.{read_none, read_byte, read_line, read_last_line, read_end, read_all, read_short}
 use Rattle.cep_play.proofs.choice.read_choice.Goals as goal
 

@@ -5,7 +5,7 @@ use Rattle.std.proofs.lemmas.Result.{on_ok_weaker, on_err_weaker}
 use Rattle.cep_rule.specs.Matching.{offers_of}
 use Rattle.cep_play.specs.Lines.{line, offer_line, question}
 use Rattle.cep_play.proofs.Adding.{IsAdding, adding_none, adding_next, adding_done, adding_stops, adding_breaks}
-use Rattle.cep_play.proofs.Did.{on_err}
+use Rattle.cep_base.proofs.Outcomes.{on_err}
 use Rattle.cep_play.proofs.LineLemmas.{question_left, whole_question, offers_left, no_offers_left}
 use Rattle.cep_play.proofs.lines.put_question.Goals as goal
 
