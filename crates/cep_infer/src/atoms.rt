@@ -71,18 +71,19 @@ fn push_elem(
     }
 }
 
-// Adds the atoms of a side.
-pub(crate) fn push_side(
+// The atoms of a side, before which so many blanks stand.
+pub(crate) fn read_side(
     declared: &Declarations,
     variables: &Variables,
     side: &[RawElem],
-    blanks: &mut u64,
-    atoms: &mut AtomList,
-) -> Result<(), AllocError>
-    ensures { OnOk result (AreBuilt declared.now (names_seen variables.now.firsts) (atoms_of side.now) blanks.old blanks.new atoms.old atoms.new) }
+    blanks: u64,
+) -> Result<AtomList, AllocError>
+    ensures { IfOk result (λ atoms. AreAtomsBy declared.now (names_seen variables.now.firsts) blanks (atoms_of side.now) atoms) }
 {
+    let mut behind = blanks;
+    let mut atoms = AtomList::new(declared.alloc());
     for elem in side {
-        push_elem(declared, variables, elem, blanks, atoms)?;
+        push_elem(declared, variables, elem, &mut behind, &mut atoms)?;
     }
-    Ok(())
+    Ok(atoms)
 }

@@ -34,7 +34,8 @@ fn turns(declared: &Declarations, limit: Option<Span>) -> Option<u32>
     number_said(declared.text(), limit?)
 }
 
-// The parts of a program, where these are its rules, and it starts as the first trace says.
+// The parts of a program, where these are its rules, and it starts as the first trace says. They
+// are made in an order that leaves little to give up where one fails.
 fn parts_from(
     declared: &Declarations,
     rules: &[RuleRef],
@@ -46,13 +47,13 @@ fn parts_from(
     ensures { IfOk result (λ parts. AreParts declared.now parts) }
 {
     Ok(Parts {
-        signature: read_signature(declared)?,
-        stages: read_stages(declared)?,
-        rules: read_rules(declared, rules)?,
-        clauses: read_clauses(declared)?,
-        start_stage: declared.number(Space::Stages, trace.stage)?,
-        start: read_start(declared, trace)?,
         turns: turns(declared, trace.limit),
+        start_stage: declared.number(Space::Stages, trace.stage)?,
+        stages: read_stages(declared)?,
+        start: read_start(declared, trace)?,
+        clauses: read_clauses(declared)?,
+        rules: read_rules(declared, rules)?,
+        signature: read_signature(declared)?,
     })
 }
 
