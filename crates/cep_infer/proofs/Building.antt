@@ -37,6 +37,9 @@ module _ (source : Source) (vars : List (List ℕ)) where
   pub one_built : (raw : RawAtom) (before behind : ℕ) (old new : List AtomTree) (atom : AtomTree) → IsAtomBy source vars before raw atom → behind ≡ blanks_after before raw.nodes → new ≡ old ++ atom ∷ [] → AreBuilt source vars (raw ∷ []) before behind old new
   one_built raw before behind old new atom is blanks_are new_is = record { more = atom ∷ []; new_is = new_is; are = (is, tt); behind_is = blanks_are ∙ ap (blanks_after before) (sym (append-nil raw.nodes)) }
 
+  pub all_built : (raws : List RawAtom) (before behind : ℕ) (none atoms : List AtomTree) → none ≡ [] → AreBuilt source vars raws before behind none atoms → AreAtomsBy source vars before raws atoms
+  all_built raws before behind none atoms none_is built = subst (λ (ts : List AtomTree). AreAtomsBy source vars before raws ts) (sym (built.new_is ∙ ap (λ ts. ts ++ built.more) none_is)) built.are
+
   pub both_built : (one two : List RawAtom) (before middle behind : ℕ) (old between new : List AtomTree) → AreBuilt source vars one before middle old between → AreBuilt source vars two middle behind between new → AreBuilt source vars (one ++ two) before behind old new
   both_built one two before middle behind old between new first second = record {
     more = first.more ++ second.more;
@@ -120,21 +123,19 @@ module _ (source : Source) (vars : List (List ℕ)) where
     backward false e = rw (← e) (sym (append-nil old.backs))
 
 -- a clause is built
-pub clause_built : (source : Source) (head : RawAtom) (goals : List RawAtom) (variables : Variables) (names : List (List ℕ)) (kinds : List ℕ) (middle behind : ℕ) (tree : AtomTree) (none atoms : List AtomTree)
+pub clause_built : (source : Source) (head : RawAtom) (goals : List RawAtom) (variables : Variables) (names : List (List ℕ)) (kinds : List ℕ) (behind : ℕ) (tree : AtomTree) (atoms : List AtomTree)
     → AreMet source (head ∷ goals) none_met variables → names ≡ names_seen variables.firsts → kinds ≡ kinds_met source variables.firsts
-    → IsAtomBy source (names_seen variables.firsts) 0 head tree → middle ≡ blanks_after 0 head.nodes → none ≡ [] → AreBuilt source (names_seen variables.firsts) goals middle behind none atoms
+    → IsAtomBy source (names_seen variables.firsts) 0 head tree → behind ≡ blanks_after 0 head.nodes → AreAtomsBy source (names_seen variables.firsts) behind goals atoms
     → IsClauseBy source (record { head = head; goals = goals }) (record { vars = names; kinds = kinds; head = tree; goals = atoms })
-clause_built source head goals variables names kinds middle behind tree none atoms met names_are kinds_are first blanks_are none_is built = record {
+clause_built source head goals variables names kinds behind tree atoms met names_are kinds_are first blanks_are others = record {
   vars_are = names_are ∙ names_met source (head ∷ goals) variables met;
   kinds_are = kinds_are ∙ kinds_are_met source (head ∷ goals) variables met;
   atoms_are = (
     subst (λ (vs : List (List ℕ)). IsAtomBy source vs 0 head tree) (sym names_are) first,
     subst (λ (vs : List (List ℕ)). AreAtomsBy source vs (blanks_after 0 head.nodes) goals atoms) (sym names_are)
-        (subst (λ n. AreAtomsBy source (names_seen variables.firsts) n goals atoms) blanks_are (subst (λ (ts : List AtomTree). AreAtomsBy source (names_seen variables.firsts) middle goals ts) more_is built.are)),
+        (subst (λ n. AreAtomsBy source (names_seen variables.firsts) n goals atoms) blanks_are others),
   );
-} where
-  more_is : built.more ≡ atoms
-  more_is = sym (built.new_is ∙ ap (λ ts. ts ++ built.more) none_is)
+}
 
 -- both of what a call leaves
 pub on_ok_both : {T E P Q R : Type 0} (r : Result T E) → (P → Q → R) → OnOk r P → OnOk r Q → OnOk r R

@@ -1,22 +1,26 @@
 -- A draft's rules and its trace, as they are kept at hand.
-use Rattle.std.proofs.Common.{◌≡◌, ℕ, List, length, map, ap, sym, refl, ◌∙◌, subst, Contains}
+use Rattle.std.proofs.Common.{◌≡◌, ℕ, List, length, map, ap, sym, refl, ◌∙◌, subst, inr, Contains}
 use Rattle.std.proofs.lemmas.Simd.{map-map}
-use Rattle.std.specs.Prelude.{Option, Some, None}
+use Rattle.std.specs.Prelude.{Option, Some, None, Result, Ok, Err, IfOk, IsErrAnd, MatchResult}
 use Rattle.std.specs.Option.{IsSome}
 use Rattle.cep_base.specs.declared.place.Pos.{Pos}
 use Rattle.cep_rule.specs.declared.rule.Rule.{Rule}
 use Rattle.cep_refusal.specs.declared.reason.Reason.TheVariants.{NoTrace}
+use Rattle.cep_refusal.specs.declared.fault.Fault.{Fault}
+use Rattle.cep_refusal.specs.declared.refusal.Refusal.{Refusal}
+use Rattle.cep_refusal.specs.Told.{Tells}
 use Rattle.cep_names.specs.declared.space.Space.TheVariants as space
 use Rattle.cep_names.specs.Items.{Source, RuleItem, TraceItem, rules_of, traces_of}
 use Rattle.cep_names.specs.Spaces.{names_in, rule_names_from}
 use Rattle.cep_refusal.specs.First.{wrong}
 use Rattle.cep_names.specs.Misnamed.{Misnamed as misnamed}
+use Rattle.cep_infer.specs.declared.draft.Draft.{Draft}
 use Rattle.cep_infer.specs.declared.listing.RuleRef.{RuleRef}
 use Rattle.cep_infer.specs.declared.listing.TraceRef.{TraceRef}
 use Rattle.cep_infer.specs.Meaning.{AreRulesBy}
 use Rattle.cep_infer.specs.Places.{ArePlaceLists}
 use Rattle.cep_infer.specs.Listed.{rule_item, trace_item, IsFirstTrace}
-use Rattle.cep_infer.specs.Resolved.{IsWellNamed}
+use Rattle.cep_infer.specs.Resolved.{IsWellNamed, IsFirstFault, IsTypedDraft, IsSound, IsResolved}
 use Rattle.cep_base.proofs.Elements.{contains_first}
 
 -- the rules of all items
@@ -37,3 +41,17 @@ all_places source f refs lists all are = subst (λ (ats : List (List ℕ)). AreP
 pub some_trace : (source : Source) → IsWellNamed source → (found : Option TraceRef) → IsFirstTrace (traces_of source) found → IsSome found
 some_trace source named None none = absurd (named (wrong NoTrace (length source.text)) (misnamed.no_trace none refl))
 some_trace source named (Some trace) first = refl
+
+-- where nothing is wrong with the names, a draft is sound, and the first fault of the types is the first of all
+pub sound_or_first : (source : Source) → IsWellNamed source → {E : Type 0} (found : Result (Result Draft Fault) E) → IfOk found (IsTypedDraft source)
+    → IfOk found (λ answer. MatchResult answer (IsSound source) (IsFirstFault source))
+sound_or_first source named (Ok (Ok draft)) is = record { named = named; typed = is.0; draft_is = is.1 }
+sound_or_first source named (Ok (Err fault)) first = inr (named, first)
+sound_or_first source named (Err e) is = tt
+
+-- a sound draft is the answer, and so is the refusal that tells the first fault
+pub resolved : (source : Source) (found : Result Draft Fault) (answer : Result Draft Refusal) (IsTold : Fault → Refusal → Type 0) → ((fault : Fault) (refusal : Refusal) → IsTold fault refusal → Tells source.text fault refusal)
+    → MatchResult found (IsSound source) (IsFirstFault source) → MatchResult found (λ draft. answer ≡ Ok draft) (λ fault. IsErrAnd answer (IsTold fault)) → IsResolved source answer
+resolved source (Ok draft) answer IsTold tells sound is = subst (IsResolved source) (sym is) sound
+resolved source (Err fault) (Ok draft) IsTold tells first told = absurd told
+resolved source (Err fault) (Err refusal) IsTold tells first told = record { fault = fault; first = first; told = tells fault refusal told }

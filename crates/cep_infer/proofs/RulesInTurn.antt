@@ -1,14 +1,10 @@
 -- Rules are built one after another.
-use Rattle.std.proofs.Common.{◌≡◌, ℕ, suc, ◌+◌, ◌<◌, List, [], ◌∷◌, ◌++◌, map, filter, not, length, take, drop, get_or, refl, ap, sym, subst, ◌∙◌}
-use Rattle.std.specs.Prelude.{Result, Ok, Err, IfOk}
-use Rattle.std.specs.declared.alloc.AllocError.{AllocError}
+use Rattle.std.proofs.Common.{◌≡◌, ℕ, suc, ◌+◌, ◌<◌, List, [], ◌∷◌, ◌++◌, map, length, take, drop, get_or, refl, ap, sym, subst, ◌∙◌}
 use Rattle.std.specs.List.{flat_map}
 use Rattle.std.proofs.lemmas.List.{map-append, take_more, drop_more}
-use Rattle.cep_term.specs.Tree.{AtomTree}
 use Rattle.cep_parse.specs.declared.raw.Span.{Span}
 use Rattle.cep_parse.specs.declared.raw.RawElem.{RawElem}
 use Rattle.cep_rule.specs.declared.rule.Rule.{Rule}
-use Rattle.cep_rule.specs.Patterns.{PremiseTree}
 use Rattle.cep_names.specs.declared.space.Space.TheVariants as space
 use Rattle.cep_names.specs.Items.{Source, RuleItem, said}
 use Rattle.cep_names.specs.Spaces.{Named, rule_name, unlabelled_behind, rule_names_from}
@@ -20,8 +16,8 @@ use Rattle.cep_types.specs.Heads.{blanks_after, number_of}
 use Rattle.cep_types.specs.Met.{AreMet, none_met, names_seen, kinds_met}
 use Rattle.cep_infer.specs.declared.left.LeftSide.{LeftSide}
 use Rattle.cep_infer.specs.declared.listing.RuleRef.{RuleRef}
-use Rattle.cep_infer.specs.Meaning.{IsRuleBy, AreRulesBy, ArePremisesBy, group_of, next_of, is_back, stages_in_elem, first_stage}
-use Rattle.cep_infer.specs.Built.{AreBuilt, IsLeftBuilt}
+use Rattle.cep_infer.specs.Meaning.{IsRuleBy, AreRulesBy, ArePremisesBy, group_of, next_of, stages_in_elem, first_stage}
+use Rattle.cep_infer.specs.Built.{IsLeftBuilt}
 use Rattle.cep_infer.specs.Listed.{rule_item}
 use Rattle.cep_infer.proofs.FirstOccurrences.{names_met, kinds_are_met}
 use Rattle.cep_infer.proofs.Building.{rules_more}
@@ -65,13 +61,13 @@ module _ (source : Source) (refs : List RuleRef) (i : ℕ) (d : RuleRef) (h : i 
       (subst (λ n. IsRuleBy source (rule_name source n (get_or refs i d).raw.now.label) (rule_item (get_or refs i d)) rule) was is))))
 
 -- a rule is built
-pub rule_built : (source : Source) (name : List ℕ) (item : RuleItem) (variables : Variables) (rule : Rule) (middle behind : ℕ) (start left : LeftSide) (none : List AtomTree)
+pub rule_built : (source : Source) (name : List ℕ) (item : RuleItem) (variables : Variables) (rule : Rule) (behind : ℕ) (left : LeftSide)
     → AreMet source (rule_scope item) none_met variables → rule.vars ≡ names_seen variables.firsts → rule.kinds ≡ kinds_met source variables.firsts
     → rule.name ≡ name → rule.group ≡ group_of source item.home item.raw.left → rule.next ≡ next_of source item.home item.raw.right
-    → start.premises ≡ [] → start.backs ≡ [] → IsLeftBuilt source (names_seen variables.firsts) item.raw.left 0 middle start left → rule.premises ≡ left.premises → rule.backs ≡ left.backs
-    → none ≡ [] → AreBuilt source (names_seen variables.firsts) (atoms_of item.raw.right) middle behind none rule.right
+    → IsLeftBuilt source (names_seen variables.firsts) item.raw.left 0 behind (record { premises = []; backs = [] }) left → rule.premises ≡ left.premises → rule.backs ≡ left.backs
+    → AreAtomsBy source (names_seen variables.firsts) behind (atoms_of item.raw.right) rule.right
     → IsRuleBy source name item rule
-rule_built source name item variables rule middle behind start left none met vars_are kinds_are name_is group_is next_is no_premises no_backs left_is premises_are backs_are none_is right_is = record {
+rule_built source name item variables rule behind left met vars_are kinds_are name_is group_is next_is left_is premises_are backs_are right_is = record {
   name_is = name_is;
   group_is = group_is;
   next_is = next_is;
@@ -79,11 +75,10 @@ rule_built source name item variables rule middle behind start left none met var
   kinds_are = kinds_are ∙ kinds_are_met source (rule_scope item) variables met;
   left = left_is.more;
   left_is = subst (λ (vs : List (List ℕ)). ArePremisesBy source vs 0 item.raw.left left_is.more) (sym vars_are) left_is.are;
-  premises_are = premises_are ∙ left_is.premises_are ∙ ap (λ (ps : List PremiseTree). ps ++ filter (λ (premise : PremiseTree). not (is_back source premise.atom)) left_is.more) no_premises;
-  backs_are = backs_are ∙ left_is.backs_are ∙ ap (λ (ts : List AtomTree). ts ++ map (λ (premise : PremiseTree). premise.atom) (filter (λ (premise : PremiseTree). is_back source premise.atom) left_is.more)) no_backs;
+  premises_are = premises_are ∙ left_is.premises_are;
+  backs_are = backs_are ∙ left_is.backs_are;
   right_is = subst (λ (vs : List (List ℕ)). AreAtomsBy source vs (blanks_after 0 (raw_nodes (atoms_of item.raw.left))) (atoms_of item.raw.right) rule.right) (sym vars_are)
-      (subst (λ n. AreAtomsBy source (names_seen variables.firsts) n (atoms_of item.raw.right) rule.right) left_is.behind_is
-      (subst (λ (ts : List AtomTree). AreAtomsBy source (names_seen variables.firsts) middle (atoms_of item.raw.right) ts) (sym (right_is.new_is ∙ ap (λ (ts : List AtomTree). ts ++ right_is.more) none_is)) right_is.are));
+      (subst (λ n. AreAtomsBy source (names_seen variables.firsts) n (atoms_of item.raw.right) rule.right) left_is.behind_is right_is);
 }
 
 -- the first stage of a side
@@ -96,15 +91,3 @@ pub stage_here : (source : Source) (side : List RawElem) (i : ℕ) (x : RawElem)
     → first_stage source (flat_map stages_in_elem side) ≡ number_of source space.Stages (said source name)
 stage_here source side i x name h at was one =
     ap (first_stage source) (was ∙ ap (flat_map stages_in_elem) (drop_more side i x h) ∙ ap (λ ss. ss ++ flat_map stages_in_elem (drop (i + 1) side)) (ap stages_in_elem (sym at) ∙ one))
-
--- the same of the answer of a call
-pub rule_answered : (source : Source) (name : List ℕ) (item : RuleItem) (variables : Variables) (r : Result Rule AllocError) (middle behind : ℕ) (start left : LeftSide) (none right : List AtomTree)
-    → AreMet source (rule_scope item) none_met variables → IfOk r (λ rule. rule.vars ≡ names_seen variables.firsts) → IfOk r (λ rule. rule.kinds ≡ kinds_met source variables.firsts)
-    → IfOk r (λ rule. rule.name ≡ name) → IfOk r (λ rule. rule.group ≡ group_of source item.home item.raw.left) → IfOk r (λ rule. rule.next ≡ next_of source item.home item.raw.right)
-    → start.premises ≡ [] → start.backs ≡ [] → IsLeftBuilt source (names_seen variables.firsts) item.raw.left 0 middle start left → IfOk r (λ rule. rule.premises ≡ left.premises) → IfOk r (λ rule. rule.backs ≡ left.backs)
-    → none ≡ [] → AreBuilt source (names_seen variables.firsts) (atoms_of item.raw.right) middle behind none right → IfOk r (λ rule. rule.right ≡ right)
-    → IfOk r (λ rule. IsRuleBy source name item rule)
-rule_answered source name item variables (Ok rule) middle behind start left none right met vars_are kinds_are name_is group_is next_is no_premises no_backs left_is premises_are backs_are none_is right_is is_right =
-    rule_built source name item variables rule middle behind start left none met vars_are kinds_are name_is group_is next_is no_premises no_backs left_is premises_are backs_are none_is
-    (subst (λ (ts : List AtomTree). AreBuilt source (names_seen variables.firsts) (atoms_of item.raw.right) middle behind none ts) (sym is_right) right_is)
-rule_answered source name item variables (Err e) middle behind start left none right met vars_are kinds_are name_is group_is next_is no_premises no_backs left_is premises_are backs_are none_is right_is is_right = tt

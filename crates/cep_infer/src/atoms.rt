@@ -1,7 +1,8 @@
 // Atoms of one side, one clause or one state, one after another.
-ghost use Rattle.std.specs.Prelude.{◌≡◌, ◌∷◌, [], OnOk};
+ghost use Rattle.std.specs.Prelude.{◌≡◌, ◌∷◌, [], IfOk, OnOk};
 ghost use Rattle.cep_parse.specs.Raw.{atoms_in, atoms_of};
 ghost use Rattle.cep_types.specs.Met.{names_seen};
+ghost use Rattle.cep_infer.specs.Heads.{AreAtomsBy};
 ghost use Rattle.cep_infer.specs.Built.{AreBuilt};
 
 use crate::terms::read_atom;
@@ -40,6 +41,21 @@ pub(crate) fn push_atoms(
     Ok(())
 }
 
+// The atoms that are written, before which so many blanks stand.
+pub(crate) fn read_atoms(
+    declared: &Declarations,
+    variables: &Variables,
+    raws: &[RawAtom],
+    blanks: u64,
+) -> Result<AtomList, AllocError>
+    ensures { IfOk result (λ atoms. AreAtomsBy declared.now (names_seen variables.now.firsts) blanks raws.now atoms) }
+{
+    let mut behind = blanks;
+    let mut atoms = AtomList::new(declared.alloc());
+    push_atoms(declared, variables, raws, &mut behind, &mut atoms)?;
+    Ok(atoms)
+}
+
 fn push_elem(
     declared: &Declarations,
     variables: &Variables,
@@ -55,18 +71,19 @@ fn push_elem(
     }
 }
 
-// Adds the atoms of a side.
-pub(crate) fn push_side(
+// The atoms of a side, before which so many blanks stand.
+pub(crate) fn read_side(
     declared: &Declarations,
     variables: &Variables,
     side: &[RawElem],
-    blanks: &mut u64,
-    atoms: &mut AtomList,
-) -> Result<(), AllocError>
-    ensures { OnOk result (AreBuilt declared.now (names_seen variables.now.firsts) (atoms_of side.now) blanks.old blanks.new atoms.old atoms.new) }
+    blanks: u64,
+) -> Result<AtomList, AllocError>
+    ensures { IfOk result (λ atoms. AreAtomsBy declared.now (names_seen variables.now.firsts) blanks (atoms_of side.now) atoms) }
 {
+    let mut behind = blanks;
+    let mut atoms = AtomList::new(declared.alloc());
     for elem in side {
-        push_elem(declared, variables, elem, blanks, atoms)?;
+        push_elem(declared, variables, elem, &mut behind, &mut atoms)?;
     }
-    Ok(())
+    Ok(atoms)
 }

@@ -2,31 +2,40 @@
 ghost use Rattle.std.specs.Prelude.{◌≡◌, ◌++◌, ◌∷◌, [], map, option_to_list, List, IfOk, OnOk};
 ghost use Rattle.cep_names.specs.Items.{clauses_in, clauses_of};
 ghost use Rattle.cep_rule.specs.Patterns.{ClauseTree, clause_of};
-ghost use Rattle.cep_infer.specs.Heads.{AreAtomsBy};
-ghost use Rattle.cep_types.specs.Met.{names_seen};
+ghost use Rattle.cep_types.specs.Met.{none_met, AreMet};
 ghost use Rattle.cep_infer.specs.Meaning.{IsClauseBy, AreClausesBy};
 
-use crate::atoms::push_atoms;
+use crate::atoms::read_atoms;
 use crate::terms::read_atom;
 use cep_parse::{RawAtom, RawItem, RawNodes};
-use cep_rule::{AtomList, Clause, Clauses};
+use cep_rule::{Clause, Clauses};
 use cep_types::{Declarations, Variables};
 use std::alloc::AllocError;
+
+// A clause with these variables.
+fn clause_with(
+    declared: &Declarations,
+    variables: &Variables,
+    head: &RawAtom,
+    goals: &[RawAtom],
+) -> Result<Clause, AllocError>
+    requires { AreMet declared.now (head.now ∷ goals.now) none_met variables.now }
+    ensures { IfOk result (λ clause. IsClauseBy declared.now (record { head = head.now; goals = goals.now }) (clause_of clause)) }
+{
+    let mut blanks = 0;
+    Ok(Clause {
+        vars: variables.firsts.names(declared.alloc())?,
+        kinds: variables.kinds(declared)?,
+        head: read_atom(declared, variables, &mut blanks, head)?,
+        goals: read_atoms(declared, variables, goals, blanks)?,
+    })
+}
 
 fn clause(declared: &Declarations, head: &RawAtom, goals: &[RawAtom]) -> Result<Clause, AllocError>
     ensures { IfOk result (λ clause. IsClauseBy declared.now (record { head = head.now; goals = goals.now }) (clause_of clause)) }
 {
     let variables = Variables::of_clause(declared, head, goals)?;
-    let mut blanks = 0;
-    let head = read_atom(declared, &variables, &mut blanks, head)?;
-    let mut atoms = AtomList::new(declared.alloc());
-    push_atoms(declared, &variables, goals, &mut blanks, &mut atoms)?;
-    Ok(Clause {
-        vars: variables.firsts.names(declared.alloc())?,
-        kinds: variables.kinds(declared)?,
-        head,
-        goals: atoms,
-    })
+    clause_with(declared, &variables, head, goals)
 }
 
 // The clause of an item.

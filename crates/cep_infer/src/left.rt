@@ -1,5 +1,5 @@
 // The left sides of rules.
-ghost use Rattle.std.specs.Prelude.{◌≡◌, ◌∷◌, ◌++◌, [], if◌then◌else◌, OnOk};
+ghost use Rattle.std.specs.Prelude.{◌≡◌, ◌∷◌, ◌++◌, [], if◌then◌else◌, IfOk, OnOk};
 ghost use Rattle.cep_term.specs.Tree.{atom_of};
 ghost use Rattle.cep_types.specs.Met.{names_seen};
 ghost use Rattle.cep_infer.specs.Meaning.{is_back};
@@ -73,18 +73,18 @@ fn push_premise(
     }
 }
 
-// Adds the premises of a left side, before which so many blanks stand.
-pub(crate) fn push_left(
+// The premises of a left side, before which so many blanks stand.
+pub(crate) fn read_left(
     declared: &Declarations,
     variables: &Variables,
     side: &[RawElem],
     blanks: &mut u64,
-    left: &mut LeftSide,
-) -> Result<(), AllocError>
-    ensures { OnOk result (IsLeftBuilt declared.now (names_seen variables.now.firsts) side.now blanks.old blanks.new left.old left.new) }
+) -> Result<LeftSide, AllocError>
+    ensures { IfOk result (IsLeftBuilt declared.now (names_seen variables.now.firsts) side.now blanks.old blanks.new (record { premises = []; backs = [] })) }
 {
+    let mut left = LeftSide::new(declared.alloc());
     for elem in side {
-        push_premise(declared, variables, elem, blanks, left)?;
+        push_premise(declared, variables, elem, blanks, &mut left)?;
     }
-    Ok(())
+    Ok(left)
 }

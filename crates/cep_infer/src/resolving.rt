@@ -1,4 +1,4 @@
-ghost use Rattle.std.specs.Prelude.{◌≡◌, ◌≤◌, Some, length, map, take, IfOk};
+ghost use Rattle.std.specs.Prelude.{◌≡◌, ◌≤◌, Some, length, map, take, IfOk, MatchResult};
 ghost use Rattle.cep_base.specs.declared.limits.TheConstants.{MOST_TEXT};
 ghost use Rattle.std.specs.Option.{option_and_then};
 ghost use Rattle.cep_names.specs.Items.{rules_of, traces_of};
@@ -8,7 +8,7 @@ ghost use Rattle.cep_infer.specs.Shapes.{IsSource};
 ghost use Rattle.cep_infer.specs.Meaning.{AreParts};
 ghost use Rattle.cep_infer.specs.Places.{IsDraft};
 ghost use Rattle.cep_infer.specs.Listed.{rule_item, IsFirstTrace};
-ghost use Rattle.cep_infer.specs.Resolved.{IsWellNamed, IsResolved, IsTypedDraft};
+ghost use Rattle.cep_infer.specs.Resolved.{IsWellNamed, IsFirstFault, IsResolved, IsSound, IsTypedDraft};
 
 use crate::clauses::read_clauses;
 use crate::draft::Draft;
@@ -32,7 +32,8 @@ fn turns(declared: &Declarations, limit: Option<Span>) -> Option<u32>
     turns_said(declared.text(), limit?)
 }
 
-// The parts of a program, where these are its rules, and it starts as the first trace says.
+// The parts of a program, where these are its rules, and it starts as the first trace says. They
+// are made in an order that leaves little to give up where one fails.
 fn parts_from(
     declared: &Declarations,
     rules: &[RuleRef],
@@ -44,17 +45,18 @@ fn parts_from(
     ensures { IfOk result (λ parts. AreParts declared.now parts) }
 {
     Ok(Parts {
-        signature: read_signature(declared)?,
-        stages: read_stages(declared)?,
-        rules: read_rules(declared, rules)?,
-        clauses: read_clauses(declared)?,
-        start_stage: declared.number(Space::Stages, trace.stage)?,
-        start: read_start(declared, trace)?,
         turns: turns(declared, trace.limit),
+        start_stage: declared.number(Space::Stages, trace.stage)?,
+        stages: read_stages(declared)?,
+        start: read_start(declared, trace)?,
+        clauses: read_clauses(declared)?,
+        rules: read_rules(declared, rules)?,
+        signature: read_signature(declared)?,
     })
 }
 
-// The draft of a text without wrong names that starts as the first trace says.
+// The draft of a text without wrong names that starts as the first trace says. The parts come last,
+// so that nothing fails while they are held.
 fn draft_from(declared: &Declarations, trace: &TraceRef) -> Result<Draft, AllocError>
     requires short { length declared.now.text ≤ MOST_TEXT }
     requires named { IsWellNamed declared.now }
@@ -63,14 +65,28 @@ fn draft_from(declared: &Declarations, trace: &TraceRef) -> Result<Draft, AllocE
 {
     let rules = rule_refs(declared)?;
     Ok(Draft {
-        parts: parts_from(declared, &rules, trace)?,
         back_places: back_places(declared, &rules)?,
         right_places: right_places(declared, &rules)?,
+        parts: parts_from(declared, &rules, trace)?,
     })
 }
 
 // The draft of a text without wrong names, or the first fault of its types.
-fn typed(
+fn typed(declared: &Declarations) -> Result<Result<Draft, Fault>, AllocError>
+    requires short { length declared.now.text ≤ MOST_TEXT }
+    requires named { IsWellNamed declared.now }
+    ensures { IfOk result (λ answer. IsTypedDraft declared.now answer) }
+{
+    if let Some(fault) = declared.first_clash()? {
+        return Ok(Err(fault));
+    }
+    // In a text without wrong names there is a trace.
+    let trace = first_trace(declared).unwrap();
+    Ok(Ok(draft_from(declared, &trace)?))
+}
+
+// The same, where these are the names of the text.
+fn typed_by(
     alloc: Global,
     text: &[u8],
     file: &RawFile,
@@ -81,12 +97,18 @@ fn typed(
     ensures { IfOk result (λ answer. IsTypedDraft (record { text = text.now; file = file.now }) answer) }
 {
     let declared = Declarations::of(alloc, text, file, names)?;
-    if let Some(fault) = declared.first_clash()? {
-        return Ok(Err(fault));
+    typed(&declared)
+}
+
+// The draft of a text, or its first fault.
+fn drafted(alloc: Global, text: &[u8], file: &RawFile) -> Result<Result<Draft, Fault>, AllocError>
+    requires { length text.now ≤ MOST_TEXT }
+    ensures { IfOk result (λ answer. MatchResult answer (IsSound (record { text = text.now; file = file.now })) (IsFirstFault (record { text = text.now; file = file.now }))) }
+{
+    match named(alloc, text, file)? {
+        Ok(names) => typed_by(alloc, text, file, &names),
+        Err(fault) => Ok(Err(fault)),
     }
-    // In a text without wrong names there is a trace.
-    let trace = first_trace(&declared).unwrap();
-    Ok(Ok(draft_from(&declared, &trace)?))
 }
 
 /// What a text declares, as a draft, or the refusal that tells the first fault of its names, or,
@@ -102,12 +124,6 @@ pub fn resolve(
     requires source { IsSource (record { text = text.now; file = file.now }) }
     ensures { IfOk result (IsResolved (record { text = text.now; file = file.now })) }
 {
-    let names = match named(alloc, text, file)? {
-        Ok(names) => names,
-        Err(fault) => return Ok(Err(Refusal::of(text, fault))),
-    };
-    match typed(alloc, text, file, &names)? {
-        Ok(draft) => Ok(Ok(draft)),
-        Err(fault) => Ok(Err(Refusal::of(text, fault))),
-    }
+    let drafted = drafted(alloc, text, file)?;
+    Ok(drafted.map_err(|fault| Refusal::of(text, fault)))
 }

@@ -9,14 +9,14 @@ ghost use Rattle.cep_types.specs.Sites.{rule_scope};
 ghost use Rattle.cep_infer.specs.Meaning.{AreRulesBy, IsRuleBy, stages_in_elem, stage_named, group_of, next_of};
 ghost use Rattle.cep_infer.specs.Listed.{rule_item};
 
-use crate::atoms::push_side;
-use crate::left::{LeftSide, push_left};
+use crate::atoms::read_side;
+use crate::left::read_left;
 use crate::listing::RuleRef;
 use crate::signature::name;
 use cep_base::{Name, Text};
 use cep_names::Space;
 use cep_parse::{RawElem, Span};
-use cep_rule::{AtomList, Rule, Rules};
+use cep_rule::{Rule, Rules};
 use cep_types::{Declarations, Variables};
 use std::alloc::AllocError;
 
@@ -102,38 +102,6 @@ fn rule_name(
     Name::new(declared.alloc(), name.bytes())
 }
 
-// A rule with these variables and atoms.
-fn rule_from(
-    declared: &Declarations,
-    variables: &Variables,
-    unlabelled: u64,
-    item: &RuleRef,
-    left: LeftSide,
-    right: AtomList,
-) -> Result<Rule, AllocError>
-    requires { unlabelled + 1 < 2 ^ 64 }
-    ensures name { IfOk result (λ rule. rule.name ≡ rule_name declared.now unlabelled item.now.raw.now.label) }
-    ensures group { IfOk result (λ rule. rule.group ≡ group_of declared.now item.now.home item.now.raw.now.left) }
-    ensures vars { IfOk result (λ rule. rule.vars ≡ names_seen variables.now.firsts) }
-    ensures kinds { IfOk result (λ rule. rule.kinds ≡ kinds_met declared.now variables.now.firsts) }
-    ensures premises { IfOk result (λ rule. rule.premises ≡ left.premises) }
-    ensures backs { IfOk result (λ rule. rule.backs ≡ left.backs) }
-    ensures right { IfOk result (λ rule. rule.right ≡ right) }
-    ensures next { IfOk result (λ rule. rule.next ≡ next_of declared.now item.now.home item.now.raw.now.right) }
-{
-    let raw = item.raw;
-    Ok(Rule {
-        name: rule_name(declared, unlabelled, raw.label)?,
-        group: group(declared, item.home, raw.left.as_slice())?,
-        vars: variables.firsts.names(declared.alloc())?,
-        kinds: variables.kinds(declared)?,
-        premises: left.premises,
-        backs: left.backs,
-        right,
-        next: next(declared, item.home, raw.right.as_slice())?,
-    })
-}
-
 // A rule with these variables.
 fn rule_of(
     declared: &Declarations,
@@ -146,24 +114,24 @@ fn rule_of(
     ensures { IfOk result (λ rule. IsRuleBy declared.now (rule_name declared.now unlabelled item.now.raw.now.label) (rule_item item.now) rule) }
 {
     let raw = item.raw;
+    let group = group(declared, item.home, raw.left.as_slice())?;
+    let next = next(declared, item.home, raw.right.as_slice())?;
+    let name = rule_name(declared, unlabelled, raw.label)?;
+    let vars = variables.firsts.names(declared.alloc())?;
+    let kinds = variables.kinds(declared)?;
     let mut blanks = 0;
-    let mut left = LeftSide::new(declared.alloc());
-    push_left(
-        declared,
-        variables,
-        raw.left.as_slice(),
-        &mut blanks,
-        &mut left,
-    )?;
-    let mut right = AtomList::new(declared.alloc());
-    push_side(
-        declared,
-        variables,
-        raw.right.as_slice(),
-        &mut blanks,
-        &mut right,
-    )?;
-    rule_from(declared, variables, unlabelled, item, left, right)
+    let left = read_left(declared, variables, raw.left.as_slice(), &mut blanks)?;
+    let right = read_side(declared, variables, raw.right.as_slice(), blanks)?;
+    Ok(Rule {
+        name,
+        group,
+        vars,
+        kinds,
+        premises: left.premises,
+        backs: left.backs,
+        right,
+        next,
+    })
 }
 
 fn rule(declared: &Declarations, unlabelled: u64, item: &RuleRef) -> Result<Rule, AllocError>

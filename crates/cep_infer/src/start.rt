@@ -16,7 +16,7 @@ ghost use Rattle.cep_infer.specs.Built.{AreBuilt};
 ghost use Rattle.cep_infer.specs.Listed.{trace_item};
 ghost use Rattle.cep_infer.specs.Resolved.{IsWellNamed};
 
-use crate::atoms::{push_atom, push_atoms};
+use crate::atoms::{push_atom, push_atoms, read_atoms};
 use crate::listing::TraceRef;
 use cep_names::Space;
 use cep_parse::{RawAtom, RawStart};
@@ -51,19 +51,20 @@ fn push_listed(
     push_atom(declared, none, raw, blanks, atoms)
 }
 
-fn push_all_listed(
+// The atoms in braces, each a copy.
+fn read_listed(
     declared: &Declarations,
     none: &Variables,
     raws: &[RawAtom],
-    blanks: &mut u64,
-    atoms: &mut AtomList,
-) -> Result<(), AllocError>
-    ensures { OnOk result (AreBuilt declared.now (names_seen none.now.firsts) (start_atoms declared.now (start.Listed raws.now)) blanks.old blanks.new atoms.old atoms.new) }
+) -> Result<AtomList, AllocError>
+    ensures { IfOk result (λ atoms. AreAtomsBy declared.now (names_seen none.now.firsts) 0 (start_atoms declared.now (start.Listed raws.now)) atoms) }
 {
+    let mut blanks = 0;
+    let mut atoms = AtomList::new(declared.alloc());
     for raw in raws {
-        push_listed(declared, none, raw, blanks, atoms)?;
+        push_listed(declared, none, raw, &mut blanks, &mut atoms)?;
     }
-    Ok(())
+    Ok(atoms)
 }
 
 // The atoms of a start state, each a copy. They have no variables.
@@ -71,23 +72,10 @@ fn start_atoms(declared: &Declarations, start: &RawStart) -> Result<AtomList, Al
     ensures { IfOk result (λ atoms. AreAtomsBy declared.now [] 0 (start_atoms declared.now start.now) atoms) }
 {
     let none = Variables::new(declared.alloc());
-    let mut blanks = 0;
-    let mut atoms = AtomList::new(declared.alloc());
     match start {
-        RawStart::Named(name) => {
-            push_atoms(
-                declared,
-                &none,
-                declared.context(*name),
-                &mut blanks,
-                &mut atoms,
-            )?;
-        }
-        RawStart::Listed(raws) => {
-            push_all_listed(declared, &none, raws.as_slice(), &mut blanks, &mut atoms)?;
-        }
+        RawStart::Named(name) => read_atoms(declared, &none, declared.context(*name), 0),
+        RawStart::Listed(raws) => read_listed(declared, &none, raws.as_slice()),
     }
-    Ok(atoms)
 }
 
 // The start state of a trace.

@@ -1,8 +1,0 @@
-use Rattle.std.proofs.Common.{take}
-use Rattle.cep_parse.specs.Raw.{atoms_of}
-use Rattle.cep_types.specs.Met.{names_seen}
-use Rattle.cep_infer.specs.Built.{AreBuilt}
-use Rattle.cep_infer.proofs.atoms.push_side.Given as goal
-
-abbrev pub invariant-loop-elem : goal.invariant-loop-elem
-invariant-loop-elem l = AreBuilt l.declared (names_seen l.variables.firsts) (atoms_of (take l.elem-index l.side)) l.fn.blanks l.blanks l.fn.atoms l.atoms

@@ -1,7 +1,0 @@
-use Rattle.std.proofs.Common.{take}
-use Rattle.cep_types.specs.Met.{names_seen}
-use Rattle.cep_infer.specs.Built.{IsLeftBuilt}
-use Rattle.cep_infer.proofs.left.push_left.Given as goal
-
-abbrev pub invariant-loop-elem : goal.invariant-loop-elem
-invariant-loop-elem l = IsLeftBuilt l.declared (names_seen l.variables.firsts) (take l.elem-index l.side) l.fn.blanks l.blanks l.fn.left l.left
