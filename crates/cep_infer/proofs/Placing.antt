@@ -1,10 +1,10 @@
 -- The places of a text, from one to the next.
-use Rattle.std.proofs.Common.{◌≡◌, ◌≢◌, ℕ, ◌+◌, ◌<◌, ◌≤◌, ◌==◌, cond, min, map, length, take, drop, get_or, List, [], ◌∷◌, ◌++◌, refl, sym, ap, subst, ◌∙◌, inl, inr, arith, append_assoc, length-append, append-nil}
+use Rattle.std.proofs.Common.{◌≡◌, ◌≢◌, ℕ, ◌+◌, ◌<◌, ◌≤◌, ◌==◌, cond, min, map, length, take, drop, get_or, List, [], ◌∷◌, ◌++◌, refl, sym, ap, subst, ◌∙◌, inl, inr, arith, append_assoc, length-append, length-drop, append-nil}
 use Rattle.std.specs.List.{count_by, slice_range}
 use Rattle.std.proofs.Math.Nat.{min-le_right}
 use Rattle.std.proofs.lemmas.Bool.{eq-eqb, ne_eqb}
-use Rattle.std.proofs.lemmas.List.{take_more, take-take, take_min, take-append-drop, map-append}
-use Rattle.std.proofs.lemmas.List.Sums.{sum_by_push}
+use Rattle.std.proofs.lemmas.List.{length-take, take_more, take-take, take_min, take-append-drop, map-append}
+use Rattle.std.proofs.lemmas.List.Sums.{count_by-le-length, sum_by_push}
 use Rattle.std.proofs.lemmas.Slice.{between_is}
 use Rattle.cep_base.specs.declared.place.Pos.{Pos}
 use Rattle.cep_base.specs.Spelling.{IsUnbroken}
@@ -82,6 +82,28 @@ reached_is text start at to pos is h from further = record {
 
 pub place_there : (text : List ℕ) (at to : ℕ) (pos : Pos) → to ≡ min at (length text) → IsReached text (record { at = to; pos = pos }) → IsPlaceBehind (take at text) pos
 place_there text at to pos is reached = subst (λ (bytes : List ℕ). IsPlaceBehind bytes pos) (ap (λ n. take n text) is ∙ take_min at text) reached.place
+
+range_short : (text : List ℕ) (from to : ℕ) → length (slice_range text from to) ≤ length text
+range_short text from to =
+    let is = ap length (between_is text from to) in
+    let dropped = length-drop from (take to text) in
+    let taken = length-take to text in
+    omega (arith, is, dropped, taken)
+
+-- the line and the column of a place further on are numbers
+pub line_fits : (text : List ℕ) (start : Reached) (to : ℕ) → length text ≤ 1048576 → IsReached text start → start.pos.line + length (slice_range text start.at to) < 4294967296
+line_fits text start to short is =
+    let counted = count_by-le-length (λ (byte : ℕ). byte == 10) (take start.at text) in
+    let taken = length-take start.at text in
+    let range = range_short text start.at to in
+    omega (arith, is.place.line, counted, taken, range, short)
+
+pub col_fits : (text : List ℕ) (start : Reached) (to : ℕ) → length text ≤ 1048576 → IsReached text start → start.pos.col + length (slice_range text start.at to) < 4294967296
+col_fits text start to short is =
+    let cut = ap length is.place.cut ∙ length-append is.place.lines is.place.bytes in
+    let taken = length-take start.at text in
+    let range = range_short text start.at to in
+    omega (arith, is.place.col, cut, taken, range, short)
 
 -- ---- one place more
 

@@ -1,12 +1,13 @@
 -- Rules are built one after another.
-use Rattle.std.proofs.Common.{◌≡◌, ℕ, suc, ◌+◌, ◌<◌, List, [], ◌∷◌, ◌++◌, map, length, take, drop, get_or, refl, ap, sym, subst, ◌∙◌}
+use Rattle.std.proofs.Common.{◌≡◌, ℕ, suc, ◌+◌, ◌<◌, List, [], ◌∷◌, ◌++◌, map, length, take, drop, get_or, refl, ap, sym, subst, ◌∙◌, append_assoc}
 use Rattle.std.specs.List.{flat_map}
 use Rattle.std.proofs.lemmas.List.{map-append, take_more, drop_more}
 use Rattle.cep_parse.specs.declared.raw.Span.{Span}
 use Rattle.cep_parse.specs.declared.raw.RawElem.{RawElem}
+use Rattle.cep_parse.specs.declared.raw.RawItem.{RawItem}
 use Rattle.cep_rule.specs.declared.rule.Rule.{Rule}
 use Rattle.cep_names.specs.declared.space.Space.TheVariants as space
-use Rattle.cep_names.specs.Items.{Source, RuleItem, said}
+use Rattle.cep_names.specs.Items.{Source, RuleItem, said, rules_in, rules_from, stages_behind}
 use Rattle.cep_names.specs.Spaces.{Named, rule_name, unlabelled_behind, rule_names_from}
 use Rattle.cep_parse.specs.Raw.{atoms_of, raw_nodes}
 use Rattle.cep_types.specs.declared.variables.Variables.{Variables}
@@ -39,6 +40,18 @@ names_more source unlabelled (x ∷ items) item = ap (λ (ns : List (List ℕ)).
 names_count : (source : Source) (unlabelled : ℕ) (items : List RuleItem) → length (map (λ (n : Named). n.name) (rule_names_from source unlabelled items)) ≡ length items
 names_count source unlabelled [] = refl
 names_count source unlabelled (x ∷ items) = ap suc (names_count source (unlabelled_behind unlabelled x.raw.label) items)
+
+-- the rules of one item more
+pub item_listed : (items : List RawItem) (i : ℕ) (item : RawItem) (stages behind : ℕ) (old new all : List RuleItem) → i < length items → item ≡ get_or items i item
+    → behind ≡ stages_behind stages item → new ≡ old ++ rules_in stages item → old ++ rules_from stages (drop i items) ≡ all → new ++ rules_from behind (drop (i + 1) items) ≡ all
+item_listed items i item stages behind old new all h at behind_is new_is was =
+    ap (λ (rules : List RuleItem). rules ++ rules_from behind rest) new_is ∙ append_assoc old (rules_in stages item) (rules_from behind rest) ∙ ap (λ (rules : List RuleItem). old ++ rules) (sym here) ∙ was
+  where
+    rest : List RawItem
+    rest = drop (i + 1) items
+
+    here : rules_from stages (drop i items) ≡ rules_in stages item ++ rules_from behind rest
+    here = ap (rules_from stages) (drop_more items i item h ∙ ap (λ (next : RawItem). next ∷ rest) (sym at)) ∙ ap (λ n. rules_in stages item ++ rules_from n rest) (sym behind_is)
 
 module _ (source : Source) (refs : List RuleRef) (i : ℕ) (d : RuleRef) (h : i < length refs) where
   abbrev before : List RuleItem

@@ -1,5 +1,11 @@
-use Rattle.cep_infer.proofs.Placing.{reached_is, place_there}
+use Rattle.cep_infer.proofs.Placing.{line_fits, col_fits, reached_is, place_there}
 use Rattle.cep_infer.proofs.places.reach.Goals as goal
+
+pub passed_all-pos-requires-clause-line : goal.passed_all-pos-requires-clause-line
+passed_all-pos-requires-clause-line c = line_fits c.args.text.now c.start_before-start.result c.min-to.result c.requires.short (c.start_before-start.ensures.reached c.args.text.now c.requires.reached)
+
+pub passed_all-pos-requires-clause-col : goal.passed_all-pos-requires-clause-col
+passed_all-pos-requires-clause-col c = col_fits c.args.text.now c.start_before-start.result c.min-to.result c.requires.short (c.start_before-start.ensures.reached c.args.text.now c.requires.reached)
 
 pub returns-clause-reached : goal.returns-clause-reached
 returns-clause-reached c =
