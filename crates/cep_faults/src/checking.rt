@@ -2,7 +2,7 @@
 ghost use Rattle.std.specs.Prelude.{◌≡◌, ◌≤◌, length, MatchResult, IfOk};
 ghost use Rattle.cep_base.specs.declared.limits.TheConstants.{MOST_TEXT};
 ghost use Rattle.cep_refusal.specs.declared.fault.Fault.{Fault};
-ghost use Rattle.cep_refusal.specs.First.{IsFirst, first_in};
+ghost use Rattle.cep_refusal.specs.First.{IsFirst, first_in, first_of};
 ghost use Rattle.cep_names.specs.Misnamed.{Misnamed};
 ghost use Rattle.cep_faults.specs.Looks.{looks_in};
 ghost use Rattle.cep_names.specs.Tables.{AreTablesOf, AreWhole};
@@ -15,7 +15,7 @@ use crate::items::items_fault;
 use crate::sizes::Sizes;
 use crate::traces::traces_fault;
 use crate::variables::variables_fault;
-use cep_names::Names;
+use cep_names::{Names, Tabled};
 use cep_parse::{RawFile, RawItem};
 use cep_refusal::Fault;
 use std::alloc::{AllocError, Global};
@@ -40,6 +40,20 @@ fn other_fault(
     Ok(Fault::first_of(items_fault(names, text, items), atoms))
 }
 
+// The first fault of the names of a file, which are these.
+fn first_fault(
+    alloc: Global,
+    tabled: &Tabled,
+    text: &[u8],
+    file: &RawFile,
+) -> Result<Option<Fault>, AllocError>
+    requires { length text.now ≤ MOST_TEXT }
+    ensures { IfOk result (λ fault. fault ≡ first_of tabled.now.first (first_in (all_faults (looks_in text.now tabled.now.names) file.now))) }
+{
+    let other = other_fault(alloc, &tabled.names, text, file.as_slice())?;
+    Ok(Fault::first_of(tabled.first, other))
+}
+
 /// The names of a program's raw file, or the first fault of them: a name that is declared again, a
 /// use of a name that goes nowhere or to another kind of thing, a wrong number of arguments, an
 /// atom that may not stand where it does, a missing or a second `#trace`, or more of something
@@ -49,8 +63,7 @@ pub fn named(alloc: Global, text: &[u8], file: &RawFile) -> Result<Result<Names,
     ensures { IfOk result (λ answer. IsNamed (record { text = text.now; file = file.now }) answer) }
 {
     let tabled = Names::of(alloc, text, file)?;
-    let other = other_fault(alloc, &tabled.names, text, file.as_slice())?;
-    match Fault::first_of(tabled.first, other) {
+    match first_fault(alloc, &tabled, text, file)? {
         Some(fault) => Ok(Err(fault)),
         None => Ok(Ok(tabled.names)),
     }

@@ -171,6 +171,19 @@ impl Tabled {
         }
         Ok(())
     }
+
+    // Declares all names of a file: types and predicates first, since these tell which items are
+    // constructors.
+    fn declare_all(&mut self, alloc: Global, text: &[u8], file: &RawFile) -> Result<(), AllocError>
+        ensures { OnOk result ((basics : Tabled) × (others : Tabled)
+            × (basics ≡ all_declared self.old (flat_map (basics_in text.now) file.now))
+            × (others ≡ all_declared basics (flat_map (others_in (is_labelled_in basics.names text.now) text.now) file.now))
+            × (self.new ≡ all_declared others (rules_in_turn text.now 0 (flat_map item_rules file.now)))) }
+    {
+        self.declare_basics(text, file)?;
+        self.declare_others(text, file)?;
+        self.declare_all_rules(alloc, text, file)
+    }
 }
 
 impl Names {
@@ -187,9 +200,7 @@ impl Names {
             names: Names::new(alloc),
             first: None,
         };
-        tabled.declare_basics(text, file)?;
-        tabled.declare_others(text, file)?;
-        tabled.declare_all_rules(alloc, text, file)?;
+        tabled.declare_all(alloc, text, file)?;
         Ok(tabled)
     }
 }

@@ -1,5 +1,4 @@
-use Rattle.std.proofs.Common.{List, ap, sym, ◌∙◌, subst}
-use Rattle.cep_parse.specs.declared.raw.RawItem.{RawItem}
+use Rattle.std.proofs.Common.{◌∙◌, sym, subst, refl}
 use Rattle.cep_refusal.specs.First.{IsFirstOrNone, first_in}
 use Rattle.cep_names.specs.Misnamed.{Misnamed}
 use Rattle.cep_faults.specs.Looks.{looks_in}
@@ -9,17 +8,20 @@ use Rattle.cep_faults.proofs.checking.named.Goals as goal
 
 pub returns-in-Some : goal.returns-in-Some
 returns-in-Some c =
+    let tabled = c.in_ok-tabled.tabled in
+    let others = first_in (all_faults (looks_in c.args.text.now tabled.names) c.args.file.now) in
     subst (IsFirstOrNone (Misnamed (record { text = c.args.text.now; file = c.args.file.now }))) c.in-Some.is
-    (named_first (record { text = c.args.text.now; file = c.args.file.now }) c.in_ok-tabled.tabled.names c.in_ok-tabled.tabled.first c.in_ok-other.other c.first_of.result
-    c.in_ok-tabled.ensures.tables c.in_ok-tabled.ensures.first
-    (c.in_ok-other.ensures ∙ ap (λ (items : List RawItem). first_in (all_faults (looks_in c.args.text.now c.in_ok-tabled.tabled.names) items)) c.as_slice.ensures) c.first_of.ensures)
+    (named_first (record { text = c.args.text.now; file = c.args.file.now }) tabled.names tabled.first others c.first_fault.result
+    c.in_ok-tabled.ensures.tables c.in_ok-tabled.ensures.first refl c.in_ok-first_fault.ensures)
 
 pub returns-in-None : goal.returns-in-None
-returns-in-None c = record {
-  sound = subst (IsFirstOrNone (Misnamed (record { text = c.args.text.now; file = c.args.file.now }))) c.in-None.is
-      (named_first (record { text = c.args.text.now; file = c.args.file.now }) c.in_ok-tabled.tabled.names c.in_ok-tabled.tabled.first c.in_ok-other.other c.first_of.result
-      c.in_ok-tabled.ensures.tables c.in_ok-tabled.ensures.first
-      (c.in_ok-other.ensures ∙ ap (λ (items : List RawItem). first_in (all_faults (looks_in c.args.text.now c.in_ok-tabled.tabled.names) items)) c.as_slice.ensures) c.first_of.ensures);
-  tables_of = c.in_ok-tabled.ensures.tables;
-  whole = c.in_ok-tabled.ensures.whole (none_before c.in_ok-tabled.tabled.first c.in_ok-other.other (sym c.first_of.ensures ∙ c.in-None.is));
-}
+returns-in-None c =
+    let tabled = c.in_ok-tabled.tabled in
+    let others = first_in (all_faults (looks_in c.args.text.now tabled.names) c.args.file.now) in
+    record {
+      sound = subst (IsFirstOrNone (Misnamed (record { text = c.args.text.now; file = c.args.file.now }))) c.in-None.is
+          (named_first (record { text = c.args.text.now; file = c.args.file.now }) tabled.names tabled.first others c.first_fault.result
+          c.in_ok-tabled.ensures.tables c.in_ok-tabled.ensures.first refl c.in_ok-first_fault.ensures);
+      tables_of = c.in_ok-tabled.ensures.tables;
+      whole = c.in_ok-tabled.ensures.whole (none_before tabled.first others (sym c.in_ok-first_fault.ensures ∙ c.in-None.is));
+    }

@@ -12,13 +12,13 @@ use Rattle.cep_names.proofs.Again.{first_twice}
 use Rattle.cep_names.proofs.names.Names.of.Goals as goal
 
 -- what was declared is all
-filled : (c : goal.In_ok-declare_all_rules) → c.declare_all_rules.new.self ≡ all_declared nothing (all (record { text = c.args.text.now; file = c.args.file.now }))
+filled : (c : goal.In_ok-declare_all) → c.declare_all.new.self ≡ all_declared nothing (all (record { text = c.args.text.now; file = c.args.file.now }))
 filled c =
     let source : Source = record { text = c.args.text.now; file = c.args.file.now } in
-    in_turns source c.declare_basics.new.self c.declare_others.new.self c.declare_all_rules.new.self
-    (c.in_ok-declare_basics.ensures ∙ ap (λ names. all_declared (record { names = names; first = None }) (basics source)) c.new.ensures)
-    c.in_ok-declare_others.ensures
-    c.in_ok-declare_all_rules.ensures
+    let all_are = c.in_ok-declare_all.ensures in
+    in_turns source all_are.0 all_are.1 c.declare_all.new.self
+    (all_are.2 ∙ ap (λ names. all_declared (record { names = names; first = None }) (basics source)) c.new.ensures)
+    all_are.3 all_are.4
 
 pub returns-clause-tables : goal.returns-clause-tables
 returns-clause-tables c =
