@@ -1,5 +1,6 @@
 -- The first of all faults.
 use Rattle.std.proofs.Common.{◌≡◌, ℕ, ◌⊎◌, inl, inr, ⊎_elim, List, ◌++◌, Option, Some, None, refl, ap, sym, ◌∙◌, subst}
+use Rattle.std.specs.Prelude.{Result, Ok, Err, MatchOption}
 use Rattle.std.specs.List.{flat_map, Contains}
 use Rattle.cep_parse.specs.declared.raw.RawItem.{RawItem}
 use Rattle.cep_refusal.specs.declared.fault.Fault.{Fault}
@@ -8,7 +9,8 @@ use Rattle.cep_refusal.specs.First.{standing, IsFirstOrNone, first_of, first_in}
 use Rattle.cep_names.specs.Items.{Source, contexts_in, traces_in}
 use Rattle.cep_names.specs.Misnamed.{Misnamed, IsTwice}
 use Rattle.cep_names.specs.Misnamed.Misnamed.{twice}
-use Rattle.cep_names.specs.Tables.{Tables, AreTablesOf}
+use Rattle.cep_names.specs.Tables.{Tables, AreTablesOf, AreWhole}
+use Rattle.cep_names.specs.Named.{IsNamed}
 use Rattle.cep_faults.specs.Looks.{Looks, looks_of, looks_in}
 use Rattle.cep_faults.specs.Faults.{item_faults}
 use Rattle.cep_faults.specs.Totals.{item_unfit_faults, item_variable_faults, all_count_faults, traces_faults, first_size, all_faults}
@@ -51,3 +53,10 @@ pub none_before : (first other : Option Fault) → first_of first other ≡ None
 none_before None other e = refl
 none_before (Some fault) None e = e
 none_before (Some fault) (Some other) e = absurd cc
+
+-- the tables, unless there is a first fault
+pub answered : (source : Source) (tables : Tables) (first other fault : Option Fault) (answer : Result Tables Fault) → AreTablesOf source tables → (first ≡ None → AreWhole source tables)
+    → IsFirstOrNone (Misnamed source) fault → fault ≡ first_of first other → MatchOption fault (answer ≡ Ok tables) (λ f. answer ≡ Err f) → IsNamed source answer
+answered source tables first other None answer are whole none is same =
+    subst (IsNamed source) (sym same) (record { sound = none; tables_of = are; whole = whole (none_before first other (sym is)) })
+answered source tables first other (Some fault) answer are whole found is same = subst (IsNamed source) (sym same) found

@@ -1,11 +1,9 @@
 // The public call that joins the tables and the faults.
-ghost use Rattle.std.specs.Prelude.{◌≡◌, ◌≤◌, length, MatchResult, IfOk};
+ghost use Rattle.std.specs.Prelude.{◌≡◌, ◌≤◌, length, Ok, Err, MatchOption, IfOk};
 ghost use Rattle.cep_base.specs.declared.limits.TheConstants.{MOST_TEXT};
 ghost use Rattle.cep_refusal.specs.declared.fault.Fault.{Fault};
-ghost use Rattle.cep_refusal.specs.First.{IsFirst, first_in, first_of};
-ghost use Rattle.cep_names.specs.Misnamed.{Misnamed};
+ghost use Rattle.cep_refusal.specs.First.{first_in};
 ghost use Rattle.cep_faults.specs.Looks.{looks_in};
-ghost use Rattle.cep_names.specs.Tables.{AreTablesOf, AreWhole};
 ghost use Rattle.cep_faults.specs.Totals.{all_faults};
 ghost use Rattle.cep_names.specs.Named.{IsNamed};
 
@@ -15,7 +13,7 @@ use crate::items::items_fault;
 use crate::sizes::Sizes;
 use crate::traces::traces_fault;
 use crate::variables::variables_fault;
-use cep_names::{Names, Tabled};
+use cep_names::Names;
 use cep_parse::{RawFile, RawItem};
 use cep_refusal::Fault;
 use std::alloc::{AllocError, Global};
@@ -40,18 +38,14 @@ fn other_fault(
     Ok(Fault::first_of(items_fault(names, text, items), atoms))
 }
 
-// The first fault of the names of a file, which are these.
-fn first_fault(
-    alloc: Global,
-    tabled: &Tabled,
-    text: &[u8],
-    file: &RawFile,
-) -> Result<Option<Fault>, AllocError>
-    requires { length text.now ≤ MOST_TEXT }
-    ensures { IfOk result (λ fault. fault ≡ first_of tabled.now.first (first_in (all_faults (looks_in text.now tabled.now.names) file.now))) }
+// The names, unless there is a fault.
+fn names_unless(names: Names, fault: Option<Fault>) -> Result<Names, Fault>
+    ensures { MatchOption fault (result ≡ Ok names) (λ fault. result ≡ Err fault) }
 {
-    let other = other_fault(alloc, &tabled.names, text, file.as_slice())?;
-    Ok(Fault::first_of(tabled.first, other))
+    match fault {
+        Some(fault) => Err(fault),
+        None => Ok(names),
+    }
 }
 
 /// The names of a program's raw file, or the first fault of them: a name that is declared again, a
@@ -63,8 +57,6 @@ pub fn named(alloc: Global, text: &[u8], file: &RawFile) -> Result<Result<Names,
     ensures { IfOk result (λ answer. IsNamed (record { text = text.now; file = file.now }) answer) }
 {
     let tabled = Names::of(alloc, text, file)?;
-    match first_fault(alloc, &tabled, text, file)? {
-        Some(fault) => Ok(Err(fault)),
-        None => Ok(Ok(tabled.names)),
-    }
+    let other = other_fault(alloc, &tabled.names, text, file.as_slice())?;
+    Ok(names_unless(tabled.names, Fault::first_of(tabled.first, other)))
 }

@@ -1,27 +1,18 @@
-use Rattle.std.proofs.Common.{◌∙◌, sym, subst, refl}
-use Rattle.cep_refusal.specs.First.{IsFirstOrNone, first_in}
-use Rattle.cep_names.specs.Misnamed.{Misnamed}
+use Rattle.std.proofs.Common.{List, ap, ◌∙◌}
+use Rattle.cep_parse.specs.declared.raw.RawItem.{RawItem}
+use Rattle.cep_refusal.specs.First.{first_in}
+use Rattle.cep_names.specs.Items.{Source}
 use Rattle.cep_faults.specs.Looks.{looks_in}
 use Rattle.cep_faults.specs.Totals.{all_faults}
-use Rattle.cep_faults.proofs.Joined.{named_first, none_before}
+use Rattle.cep_faults.proofs.Joined.{named_first, answered}
 use Rattle.cep_faults.proofs.checking.named.Goals as goal
 
-pub returns-in-Some : goal.returns-in-Some
-returns-in-Some c =
+pub returns : goal.returns
+returns c =
+    let source : Source = record { text = c.args.text.now; file = c.args.file.now } in
     let tabled = c.in_ok-tabled.tabled in
-    let others = first_in (all_faults (looks_in c.args.text.now tabled.names) c.args.file.now) in
-    subst (IsFirstOrNone (Misnamed (record { text = c.args.text.now; file = c.args.file.now }))) c.in-Some.is
-    (named_first (record { text = c.args.text.now; file = c.args.file.now }) tabled.names tabled.first others c.first_fault.result
-    c.in_ok-tabled.ensures.tables c.in_ok-tabled.ensures.first refl c.in_ok-first_fault.ensures)
-
-pub returns-in-None : goal.returns-in-None
-returns-in-None c =
-    let tabled = c.in_ok-tabled.tabled in
-    let others = first_in (all_faults (looks_in c.args.text.now tabled.names) c.args.file.now) in
-    record {
-      sound = subst (IsFirstOrNone (Misnamed (record { text = c.args.text.now; file = c.args.file.now }))) c.in-None.is
-          (named_first (record { text = c.args.text.now; file = c.args.file.now }) tabled.names tabled.first others c.first_fault.result
-          c.in_ok-tabled.ensures.tables c.in_ok-tabled.ensures.first refl c.in_ok-first_fault.ensures);
-      tables_of = c.in_ok-tabled.ensures.tables;
-      whole = c.in_ok-tabled.ensures.whole (none_before tabled.first others (sym c.in_ok-first_fault.ensures ∙ c.in-None.is));
-    }
+    let tables = c.in_ok-tabled.ensures in
+    let others = c.in_ok-other.ensures ∙ ap (λ (items : List RawItem). first_in (all_faults (looks_in c.args.text.now tabled.names) items)) c.as_slice.ensures in
+    answered source tabled.names tabled.first c.in_ok-other.other c.first_of.result c.names_unless.result tables.tables tables.whole
+    (named_first source tabled.names tabled.first c.in_ok-other.other c.first_of.result tables.tables tables.first others c.first_of.ensures)
+    c.first_of.ensures c.names_unless.ensures
