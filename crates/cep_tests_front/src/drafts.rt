@@ -1,8 +1,10 @@
 // What a text declares, before it is judged whether it can be played.
+ghost use Rattle.cep_infer.specs.Shapes.{IsSource};
+
+use crate::source::file_of;
 use cep_base::limits::MOST_TEXT;
 use cep_infer::{Draft, resolve};
-use cep_lex::lex;
-use cep_parse::parse;
+use cep_parse::RawFile;
 use cep_rule::{Parts, Rule};
 use std::alloc::Global;
 use std::process::Abort;
@@ -25,42 +27,57 @@ stage rest = { }
 "
 }
 
-// The draft of a text.
-fn draft_of(alloc: Global, text: &str) -> Result<Draft, Fail> {
+// The draft of a text and its raw file.
+fn draft_in(alloc: Global, text: &str, file: &RawFile) -> Result<Draft, Fail>
+    requires { IsSource (record { text = text.now; file = file.now }) }
+{
     if text.len() > MOST_TEXT {
         return Err(Fail::from("long"));
     }
-    let tokens = lex(alloc, text.as_bytes())?.map_err(|_| "token")?;
-    let file = parse(alloc, text.as_bytes(), &tokens)?.map_err(|_| "token here")?;
-    Ok(resolve(alloc, text.as_bytes(), &file)?.map_err(|_| "refused")?)
+    match resolve(alloc, text.as_bytes(), file)? {
+        Ok(draft) => Ok(draft),
+        Err(_) => Err(Fail::from("refused")),
+    }
 }
 
-// `stay`, whose blanks are variables.
-fn expect_stay(rt: &impl Abort, stay: &Rule) {
-    assert_eq!(rt; stay.vars.len(), 3);
-    assert_eq!(rt; stay.vars.get(1).bytes(), b"_1".as_slice());
-    assert_eq!(rt; stay.kinds.len(), 3);
-    assert_eq!(rt; *stay.kinds.get(2), 0);
-    assert_eq!(rt; stay.premises.len(), 1);
-    assert!(rt; stay.premises.get(0).kept);
+// The draft of a text.
+fn draft_of(alloc: Global, text: &str) -> Result<Draft, Fail> {
+    let file = file_of(alloc, text)?;
+    draft_in(alloc, text, &file)
+}
+
+// Whether a rule is `stay`, whose blanks are variables.
+fn is_stay(rule: &Rule) -> bool {
+    rule.vars.len() == 3
+        && rule.vars.get(1).bytes() == b"_1".as_slice()
+        && rule.kinds.len() == 3
+        && *rule.kinds.get(2) == 0
+        && rule.premises.len() == 1
+        && rule.premises.get(0).kept
+}
+
+// Whether a rule of the group 1 leaves for the stage 1.
+fn is_leaving(rule: &Rule) -> bool {
+    rule.group == 1 && rule.next == Some(1)
 }
 
 fn expect_rules(rt: &impl Abort, parts: &Parts) {
     assert_eq!(rt; parts.rules.len(), 3);
-    expect_stay(rt, parts.rules.get(1));
-    let leave = parts.rules.get(2);
-    assert_eq!(rt; leave.group, 1);
-    assert_eq!(rt; leave.next, Some(1));
+    assert!(rt; is_stay(parts.rules.get(1)));
+    assert!(rt; is_leaving(parts.rules.get(2)));
+}
+
+fn expect_start(rt: &impl Abort, parts: &Parts) {
+    assert_eq!(rt; parts.clauses.len(), 3);
+    assert_eq!(rt; parts.start.copies(), 4);
+    assert_eq!(rt; parts.start_stage, 1);
+    assert_eq!(rt; parts.turns, Some(7));
 }
 
 #[test]
 fn a_text_declares_its_parts(rt: HostRuntime) -> Result<(), Fail> {
     let draft = draft_of(rt.alloc(), walking())?;
-    let parts = &draft.parts;
-    expect_rules(&rt, parts);
-    assert_eq!(rt; parts.clauses.len(), 3);
-    assert_eq!(rt; parts.start.copies(), 4);
-    assert_eq!(rt; parts.start_stage, 1);
-    assert_eq!(rt; parts.turns, Some(7));
+    expect_rules(&rt, &draft.parts);
+    expect_start(&rt, &draft.parts);
     Ok(())
 }

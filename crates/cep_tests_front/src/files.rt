@@ -1,10 +1,12 @@
 // What the items of texts say, or the first fault of their grammar.
+use crate::source::{file_of, parsed};
 use cep_base::limits::MOST_TEXT;
-use cep_lex::{lex, place};
+use cep_lex::place;
 use cep_parse::{
-    ParseFault, RawAtom, RawElem, RawFile, RawItem, RawKind, RawRule, RawStart, Span, parse,
+    ParseFault, RawAtom, RawElem, RawFile, RawItem, RawKind, RawNode, RawRule, RawStart, Span,
 };
-use std::alloc::Global;
+use std::alloc::{AllocError, Global};
+use std::process::Abort;
 use std::test::Fail;
 
 // Texts of one line each, and under it what their items say, a line each: an atom is told with the
@@ -156,29 +158,36 @@ unexpected 1:1
 }
 
 // The text of a span.
-fn put(out: &mut String, text: &str, at: Span) -> Result<(), Fail> {
-    out.push_str(text.get(at.from as usize..at.to as usize).unwrap_or("?"))?;
-    Ok(())
+fn put(out: &mut String, text: &str, at: Span) -> Result<(), AllocError> {
+    out.push_str(text.get(at.from as usize..at.to as usize).unwrap_or("?"))
 }
 
-fn put_atom(out: &mut String, text: &str, atom: &RawAtom) -> Result<(), Fail> {
+// How many arguments there are.
+fn put_args(out: &mut String, args: u32) -> Result<(), AllocError> {
     let alloc = *out.allocator();
+    out.push_str(format!(in alloc; "/{args}")?.as_str())
+}
+
+fn put_node(out: &mut String, text: &str, node: &RawNode) -> Result<(), AllocError> {
+    put(out, text, node.at)?;
+    match node.kind {
+        RawKind::App => put_args(out, node.args),
+        RawKind::Var => out.push_str("?"),
+        RawKind::Blank => out.push_str("!"),
+    }
+}
+
+fn put_atom(out: &mut String, text: &str, atom: &RawAtom) -> Result<(), AllocError> {
     put(out, text, atom.name)?;
-    out.push_str(format!(in alloc; "/{}", atom.args)?.as_str())?;
+    put_args(out, atom.args)?;
     for node in atom.nodes.as_slice() {
         out.push_str(" ")?;
-        put(out, text, node.at)?;
-        match node.kind {
-            RawKind::App => out.push_str(format!(in alloc; "/{}", node.args)?.as_str())?,
-            RawKind::Var => out.push_str("?")?,
-            RawKind::Blank => out.push_str("!")?,
-        }
+        put_node(out, text, node)?;
     }
-    out.push_str(";")?;
-    Ok(())
+    out.push_str(";")
 }
 
-fn put_atoms(out: &mut String, text: &str, atoms: &[RawAtom]) -> Result<(), Fail> {
+fn put_atoms(out: &mut String, text: &str, atoms: &[RawAtom]) -> Result<(), AllocError> {
     for atom in atoms {
         out.push_str(" ")?;
         put_atom(out, text, atom)?;
@@ -186,46 +195,61 @@ fn put_atoms(out: &mut String, text: &str, atoms: &[RawAtom]) -> Result<(), Fail
     Ok(())
 }
 
-fn put_side(out: &mut String, text: &str, side: &[RawElem]) -> Result<(), Fail> {
+// A name, and a word behind it.
+fn put_head(out: &mut String, text: &str, name: Span, word: &str) -> Result<(), AllocError> {
+    put(out, text, name)?;
+    out.push_str(word)
+}
+
+fn put_elem(out: &mut String, text: &str, elem: &RawElem) -> Result<(), AllocError> {
+    match elem {
+        RawElem::Atom { kept, atom } => {
+            out.push_str(if *kept { "$" } else { "" })?;
+            put_atom(out, text, atom)
+        }
+        RawElem::Qui(_) => out.push_str("qui;"),
+        RawElem::Stage(at) => put_head(out, text, *at, "@"),
+    }
+}
+
+fn put_side(out: &mut String, text: &str, side: &[RawElem]) -> Result<(), AllocError> {
     for elem in side {
         out.push_str(" ")?;
-        match elem {
-            RawElem::Atom { kept, atom } => {
-                out.push_str(if *kept { "$" } else { "" })?;
-                put_atom(out, text, atom)?;
-            }
-            RawElem::Qui(_) => out.push_str("qui;")?,
-            RawElem::Stage(at) => {
-                put(out, text, *at)?;
-                out.push_str("@")?;
-            }
-        }
+        put_elem(out, text, elem)?;
     }
     Ok(())
 }
 
-fn put_label(out: &mut String, text: &str, label: Option<Span>) -> Result<(), Fail> {
-    if let Some(at) = label {
-        put(out, text, at)?;
-        out.push_str(":")?;
+// A label, if there is one, and what stands between it and what it labels.
+fn put_label(
+    out: &mut String,
+    text: &str,
+    label: Option<Span>,
+    behind: &str,
+) -> Result<(), AllocError> {
+    match label {
+        Some(at) => put_head(out, text, at, behind),
+        None => Ok(()),
     }
-    Ok(())
+}
+
+// The place where a rule begins, and what stands between it and a label.
+fn put_place(out: &mut String, rule: &RawRule) -> Result<(), AllocError> {
+    let alloc = *out.allocator();
+    let behind = if rule.label.is_some() { " " } else { "" };
+    out.push_str(format!(in alloc; "{}{behind}", rule.at)?.as_str())
 }
 
 // A rule, behind the place where it begins.
-fn put_rule(out: &mut String, text: &str, rule: &RawRule) -> Result<(), Fail> {
-    let alloc = *out.allocator();
-    out.push_str(format!(in alloc; "{}", rule.at)?.as_str())?;
-    if rule.label.is_some() {
-        out.push_str(" ")?;
-    }
-    put_label(out, text, rule.label)?;
+fn put_rule(out: &mut String, text: &str, rule: &RawRule) -> Result<(), AllocError> {
+    put_place(out, rule)?;
+    put_label(out, text, rule.label, ":")?;
     put_side(out, text, rule.left.as_slice())?;
     out.push_str(" -o")?;
     put_side(out, text, rule.right.as_slice())
 }
 
-fn put_rules(out: &mut String, text: &str, rules: &[RawRule]) -> Result<(), Fail> {
+fn put_rules(out: &mut String, text: &str, rules: &[RawRule]) -> Result<(), AllocError> {
     for rule in rules {
         out.push_str(" ")?;
         put_rule(out, text, rule)?;
@@ -233,7 +257,7 @@ fn put_rules(out: &mut String, text: &str, rules: &[RawRule]) -> Result<(), Fail
     Ok(())
 }
 
-fn put_names(out: &mut String, text: &str, names: &[Span]) -> Result<(), Fail> {
+fn put_names(out: &mut String, text: &str, names: &[Span]) -> Result<(), AllocError> {
     for name in names {
         out.push_str(" ")?;
         put(out, text, *name)?;
@@ -241,38 +265,51 @@ fn put_names(out: &mut String, text: &str, names: &[Span]) -> Result<(), Fail> {
     Ok(())
 }
 
-fn put_start(out: &mut String, text: &str, start: &RawStart) -> Result<(), Fail> {
+fn put_start(out: &mut String, text: &str, start: &RawStart) -> Result<(), AllocError> {
     match start {
         RawStart::Named(name) => put_names(out, text, &[*name]),
         RawStart::Listed(atoms) => put_atoms(out, text, atoms.as_slice()),
     }
 }
 
-// A name, and a word behind it.
-fn put_head(out: &mut String, text: &str, name: Span, word: &str) -> Result<(), Fail> {
-    put(out, text, name)?;
-    out.push_str(word)?;
-    Ok(())
+// A clause behind its label.
+fn put_clause(
+    out: &mut String,
+    text: &str,
+    head: &RawAtom,
+    goals: &[RawAtom],
+) -> Result<(), AllocError> {
+    put_atom(out, text, head)?;
+    put_atoms(out, text, goals)
 }
 
-fn put_item(out: &mut String, text: &str, item: &RawItem) -> Result<(), Fail> {
+// A name, a word behind it, and further names.
+fn put_line(
+    out: &mut String,
+    text: &str,
+    name: Span,
+    word: &str,
+    names: &[Span],
+) -> Result<(), AllocError> {
+    put_head(out, text, name, word)?;
+    put_names(out, text, names)
+}
+
+fn put_item(out: &mut String, text: &str, item: &RawItem) -> Result<(), AllocError> {
     match item {
         RawItem::Sort { name } => put_head(out, text, *name, " sort"),
         RawItem::Pred { name, args, back } => {
-            put_head(out, text, *name, if *back { " bwd" } else { " pred" })?;
-            put_names(out, text, args.as_slice())
+            let word = if *back { " bwd" } else { " pred" };
+            put_line(out, text, *name, word, args.as_slice())
         }
         RawItem::Colon { left, args, right } => {
-            put(out, text, *left)?;
-            put_names(out, text, args.as_slice())?;
+            put_line(out, text, *left, "", args.as_slice())?;
             out.push_str(" colon ")?;
             put(out, text, *right)
         }
         RawItem::Clause { label, head, goals } => {
-            put_label(out, text, *label)?;
-            out.push_str(if label.is_some() { " " } else { "" })?;
-            put_atom(out, text, head)?;
-            put_atoms(out, text, goals.as_slice())
+            put_label(out, text, *label, ": ")?;
+            put_clause(out, text, head, goals.as_slice())
         }
         RawItem::Outer(rule) => put_rule(out, text, rule),
         RawItem::Stage { name, rules } => {
@@ -290,8 +327,7 @@ fn put_item(out: &mut String, text: &str, item: &RawItem) -> Result<(), Fail> {
             start,
             ..
         } => {
-            put_label(out, text, *limit)?;
-            out.push_str(if limit.is_some() { " " } else { "" })?;
+            put_label(out, text, *limit, ": ")?;
             put_head(out, text, *stage, " trace")?;
             put_start(out, text, start)
         }
@@ -299,7 +335,7 @@ fn put_item(out: &mut String, text: &str, item: &RawItem) -> Result<(), Fail> {
 }
 
 // What a file says, a line for each item.
-fn put_file(out: &mut String, text: &str, file: &RawFile) -> Result<(), Fail> {
+fn put_file(out: &mut String, text: &str, file: &RawFile) -> Result<(), AllocError> {
     for item in file.as_slice() {
         put_item(out, text, item)?;
         out.push_str("\n")?;
@@ -307,27 +343,22 @@ fn put_file(out: &mut String, text: &str, file: &RawFile) -> Result<(), Fail> {
     Ok(())
 }
 
-// A fault by its line and column.
-fn put_fault(out: &mut String, text: &str, fault: ParseFault) -> Result<(), Fail> {
+// A word, and a place by its line and column.
+fn put_told(out: &mut String, text: &str, word: &str, at: u32) -> Result<(), AllocError> {
     let alloc = *out.allocator();
-    let (word, at) = match fault {
-        ParseFault::Unexpected { at } => ("unexpected", at),
-        ParseFault::Nested { at } => ("nested", at),
-    };
-    if at as usize <= text.len() && text.len() <= MOST_TEXT {
-        let pos = place(text.as_bytes(), at);
-        out.push_str(format!(in alloc; "{word} {}:{}", pos.line, pos.col)?.as_str())?;
+    if at as usize > text.len() || text.len() > MOST_TEXT {
+        return out.push_str("outside");
     }
-    Ok(())
+    let pos = place(text.as_bytes(), at);
+    out.push_str(format!(in alloc; "{word} {}:{}", pos.line, pos.col)?.as_str())
 }
 
-// The raw file of a text, or its fault.
-fn parsed(alloc: Global, text: &str) -> Result<Result<RawFile, ParseFault>, Fail> {
-    if text.len() > MOST_TEXT {
-        return Err(Fail::from("long"));
+// A fault by its line and column.
+fn put_fault(out: &mut String, text: &str, fault: ParseFault) -> Result<(), AllocError> {
+    match fault {
+        ParseFault::Unexpected { at } => put_told(out, text, "unexpected", at),
+        ParseFault::Nested { at } => put_told(out, text, "nested", at),
     }
-    let tokens = lex(alloc, text.as_bytes())?.map_err(|_| "token")?;
-    Ok(parse(alloc, text.as_bytes(), &tokens)?)
 }
 
 // What a text says, or its fault, in words.
@@ -340,11 +371,18 @@ fn shown(alloc: Global, text: &str) -> Result<String, Fail> {
     Ok(out)
 }
 
+// A text says this.
+fn expect_shown(rt: &impl Abort, alloc: Global, text: &str, said: &str) -> Result<(), Fail> {
+    let shown = shown(alloc, text)?;
+    assert_eq!(rt; shown.as_str(), said, "at {}", text);
+    Ok(())
+}
+
 #[test]
 fn texts_say_this(rt: HostRuntime) -> Result<(), Fail> {
     for entry in parsed_texts().split("=\n") {
         let (text, items) = entry.split_once('\n').ok_or("no items")?;
-        assert_eq!(rt; shown(rt.alloc(), text)?.as_str(), items, "at {}", text);
+        expect_shown(&rt, rt.alloc(), text, items)?;
     }
     Ok(())
 }
@@ -353,32 +391,34 @@ fn texts_say_this(rt: HostRuntime) -> Result<(), Fail> {
 fn first_faults_stand_here(rt: HostRuntime) -> Result<(), Fail> {
     for entry in faulty_texts().split("\n=\n") {
         let (fault, text) = entry.split_once('\n').ok_or("no text")?;
-        assert_eq!(rt; shown(rt.alloc(), text)?.as_str(), fault, "at {}", text);
+        expect_shown(&rt, rt.alloc(), text, fault)?;
     }
     Ok(())
 }
 
-// What a text says of so many open parentheses, a name, and as many that close.
-fn nested(alloc: Global, depth: usize) -> Result<String, Fail> {
-    let mut text = String::from_str(alloc, "p ")?;
-    text.push_str("(".repeat(alloc, depth)?.as_str())?;
+// So many open parentheses, a name, and as many that close.
+fn nested(alloc: Global, depth: usize) -> Result<String, AllocError> {
+    let mut text = "(".repeat(alloc, depth)?;
     text.push_str("a")?;
     text.push_str(")".repeat(alloc, depth)?.as_str())?;
-    text.push_str(".")?;
-    shown(alloc, text.as_str())
+    Ok(text)
+}
+
+// The clause of an atom with so many parentheses open says this.
+fn expect_nested(rt: &impl Abort, alloc: Global, depth: usize, said: &str) -> Result<(), Fail> {
+    let text = format!(in alloc; "p {}.", nested(alloc, depth)?)?;
+    expect_shown(rt, alloc, text.as_str(), said)
 }
 
 #[test]
 fn at_most_512_parentheses_are_open(rt: HostRuntime) -> Result<(), Fail> {
-    let alloc = rt.alloc();
-    assert_eq!(rt; nested(alloc, 512)?.as_str(), "p/1 a/0;\n");
-    assert_eq!(rt; nested(alloc, 513)?.as_str(), "nested 1:515");
-    Ok(())
+    expect_nested(&rt, rt.alloc(), 512, "p/1 a/0;\n")?;
+    expect_nested(&rt, rt.alloc(), 513, "nested 1:515")
 }
 
 // How many items a text has, and how many nodes the first one's head.
 fn counts(alloc: Global, text: &str) -> Result<(usize, usize), Fail> {
-    let file = parsed(alloc, text)?.map_err(|_| "token here")?;
+    let file = file_of(alloc, text)?;
     match file.as_slice() {
         [RawItem::Clause { head, .. }, ..] => Ok((file.len(), head.nodes.len())),
         _ => Ok((0, 0)),
@@ -386,12 +426,16 @@ fn counts(alloc: Global, text: &str) -> Result<(usize, usize), Fail> {
 }
 
 #[test]
-fn largest_texts_are_parsed(rt: HostRuntime) -> Result<(), Fail> {
-    let alloc = rt.alloc();
-    let mut long = "a ".repeat(alloc, 300_000)?;
-    long.push_str("X.")?;
-    assert_eq!(rt; counts(alloc, long.as_str())?, (1, 300_000));
-    let many = "a.".repeat(alloc, 300_000)?;
-    assert_eq!(rt; counts(alloc, many.as_str())?, (300_000, 0));
+fn a_long_clause_is_parsed(rt: HostRuntime) -> Result<(), Fail> {
+    let mut text = "a ".repeat(rt.alloc(), 300_000)?;
+    text.push_str("X.")?;
+    assert_eq!(rt; counts(rt.alloc(), text.as_str())?, (1, 300_000));
+    Ok(())
+}
+
+#[test]
+fn many_clauses_are_parsed(rt: HostRuntime) -> Result<(), Fail> {
+    let text = "a.".repeat(rt.alloc(), 300_000)?;
+    assert_eq!(rt; counts(rt.alloc(), text.as_str())?, (300_000, 0));
     Ok(())
 }

@@ -11,4 +11,6 @@ mod names;
 #[cfg(test)]
 mod programs;
 #[cfg(test)]
+mod source;
+#[cfg(test)]
 mod tokens;

@@ -1,9 +1,8 @@
 // To which declaration the names of texts go, and what is wrong with those that go to none.
+use crate::source::file_of;
 use cep_base::limits::MOST_TEXT;
 use cep_faults::named;
-use cep_lex::lex;
 use cep_names::{Fault, Names, Space, Tabled};
-use cep_parse::{RawFile, parse};
 use std::alloc::Global;
 use std::process::Abort;
 use std::test::Fail;
@@ -93,15 +92,6 @@ OverLimit 7
 #trace 00 s c."
 }
 
-// The raw file of a text.
-fn file_of(alloc: Global, text: &str) -> Result<RawFile, Fail> {
-    if text.len() > MOST_TEXT {
-        return Err(Fail::from("long"));
-    }
-    let tokens = lex(alloc, text.as_bytes())?.map_err(|_| "token")?;
-    Ok(parse(alloc, text.as_bytes(), &tokens)?.map_err(|_| "token here")?)
-}
-
 // The names of a text.
 fn tabled(alloc: Global, text: &str) -> Result<Tabled, Fail> {
     let file = file_of(alloc, text)?;
@@ -152,13 +142,43 @@ fn fault_word(alloc: Global, fault: Option<Fault>) -> Result<String, Fail> {
     }
 }
 
-// Each line is what a name of the text is.
+// The line is what a name is.
+fn expect_name(rt: &impl Abort, alloc: Global, names: &Names, line: &str) -> Result<(), Fail> {
+    let (name, _) = line.split_once(':').ok_or("no name")?;
+    let described = described(alloc, names, name)?;
+    assert_eq!(rt; described.as_str(), line);
+    Ok(())
+}
+
+// Each line is what a name is.
 fn expect_names(rt: &impl Abort, alloc: Global, names: &Names, lines: &str) -> Result<(), Fail> {
     for line in lines.split('\n') {
-        let (name, _) = line.split_once(':').ok_or("no name")?;
-        assert_eq!(rt; described(alloc, names, name)?.as_str(), line);
+        expect_name(rt, alloc, names, line)?;
     }
     Ok(())
+}
+
+// The fault is told by this word.
+fn expect_fault(
+    rt: &impl Abort,
+    alloc: Global,
+    fault: Option<Fault>,
+    word: &str,
+) -> Result<(), Fail> {
+    let told = fault_word(alloc, fault)?;
+    assert_eq!(rt; told.as_str(), word);
+    Ok(())
+}
+
+// Of names that are declared twice this is the first fault, and these are the names.
+fn expect_tabled(
+    rt: &impl Abort,
+    alloc: Global,
+    tabled: &Tabled,
+    (fault, lines): (&str, &str),
+) -> Result<(), Fail> {
+    expect_fault(rt, alloc, tabled.first, fault)?;
+    expect_names(rt, alloc, &tabled.names, lines)
 }
 
 // The text has this first fault of names that are declared twice, and these names.
@@ -166,31 +186,29 @@ fn expect_declared(
     rt: &impl Abort,
     alloc: Global,
     text: &str,
-    fault: &str,
-    lines: &str,
+    told: (&str, &str),
 ) -> Result<(), Fail> {
     let tabled = tabled(alloc, text)?;
-    assert_eq!(rt; fault_word(alloc, tabled.first)?.as_str(), fault);
-    expect_names(rt, alloc, &tabled.names, lines)
+    expect_tabled(rt, alloc, &tabled, told)
 }
 
 #[test]
 fn names_go_to_their_first_declarations(rt: HostRuntime) -> Result<(), Fail> {
     for entry in declaring().split("\n=\n") {
         let (text, rest) = entry.split_once('\n').ok_or("no fault")?;
-        let (fault, lines) = rest.split_once('\n').ok_or("no names")?;
-        expect_declared(&rt, rt.alloc(), text, fault, lines)?;
+        let told = rest.split_once('\n').ok_or("no names")?;
+        expect_declared(&rt, rt.alloc(), text, told)?;
     }
     Ok(())
 }
 
-// What is told of the names of a text.
-fn told(alloc: Global, text: &str) -> Result<String, Fail> {
-    let file = file_of(alloc, text)?;
+// The first fault of the names of a text.
+fn first_fault(alloc: Global, text: &str) -> Result<Option<Fault>, Fail> {
     if text.len() > MOST_TEXT {
         return Err(Fail::from("long"));
     }
-    fault_word(alloc, named(alloc, text.as_bytes(), &file)?.err())
+    let file = file_of(alloc, text)?;
+    Ok(named(alloc, text.as_bytes(), &file)?.err())
 }
 
 // A stage, a context and a trace with which nothing is wrong.
@@ -198,25 +216,23 @@ fn behind() -> &'static str {
     " stage s = {} context c = {} #trace _ s c."
 }
 
-// What is told of the names of a text with a front like this.
-fn told_of_front(alloc: Global, front: &str) -> Result<String, Fail> {
-    let mut text = String::from_str(alloc, front)?;
-    text.push_str(behind())?;
-    told(alloc, text.as_str())
+// This is told of the names of a text with a front like this.
+fn expect_told(rt: &impl Abort, alloc: Global, front: &str, word: &str) -> Result<(), Fail> {
+    let text = format!(in alloc; "{front}{}", behind())?;
+    expect_fault(rt, alloc, first_fault(alloc, text.as_str())?, word)
 }
 
 #[test]
 fn the_first_fault_of_the_names_is_told(rt: HostRuntime) -> Result<(), Fail> {
-    let alloc = rt.alloc();
     for entry in misnamed().split("\n=\n") {
-        let (wanted, front) = entry.split_once('\n').ok_or("no text")?;
-        assert_eq!(rt;
-            told_of_front(alloc, front)?.as_str(),
-            wanted,
-            "at {}",
-            front
-        );
+        let (word, front) = entry.split_once('\n').ok_or("no text")?;
+        expect_told(&rt, rt.alloc(), front, word)?;
     }
-    assert_eq!(rt; told(alloc, "p : pred. ")?.as_str(), "NoTrace 10");
     Ok(())
+}
+
+#[test]
+fn a_text_without_a_trace_is_told_at_its_end(rt: HostRuntime) -> Result<(), Fail> {
+    let fault = first_fault(rt.alloc(), "p : pred. ")?;
+    expect_fault(&rt, rt.alloc(), fault, "NoTrace 10")
 }

@@ -1,6 +1,7 @@
 // What is told of texts: that they are accepted, or the first fault.
 use cep_ground::accept;
 use std::alloc::{AllocError, Global};
+use std::process::Abort;
 use std::test::Fail;
 
 // Texts, each under the line of what is told of it.
@@ -179,276 +180,158 @@ stage s = {} qui * stage s -o stage s. #interactive s. #trace _ s {}.
 "
 }
 
-// A text with a part that stands many times, and perhaps as often a part that closes it, under the
-// line of what is told of it.
-struct Long {
-    told: &'static str,
-    before: &'static str,
-    open: &'static str,
-    times: usize,
-    middle: &'static str,
-    close: &'static str,
-    after: &'static str,
+// Texts with a part that stands many times, and perhaps as often a part that closes it, each under the
+// line of what is told of it: what stands before, the part, how often it stands, what stands behind it,
+// what closes it, and what stands behind that.
+fn long_texts() -> &'static str {
+    "\
+1:1 19 TooLong
+| |1048577|||
+=
+1:1 19 TooLong
+; |a|1048575|||
+=
+1:1048577 14 NoTrace
+| |1048576|||
+=
+1:1 2 NameLong
+|a|256| ; type.||
+=
+1:1 2 NameLong
+#|a|255|||
+=
+1:1 3 Unexpected
+#|a|254|||
+=
+1:515 4 Nested
+p |(|513|||
+=
+1:1034 4 Nested
+q X <- p |( |514|||
+=
+1:91 18 OverLimit
+p : pred. stage s = { r :| p *|17| ()|| -o (). } #interactive s. #trace _ s {}.
+=
+accepted
+p : pred. stage s = { r :| p *|16| ()|| -o (). } #interactive s. #trace _ s {}.
+=
+1:67 18 OverLimit
+p : bwd. stage s = { r :| $p *|9| ()|| -o (). } #interactive s. #trace _ s {}.
+=
+1:161 18 OverLimit
+p : pred. stage s = { r : () -o| p *|33| ()||. } #interactive s. #trace _ s {}.
+=
+1:68 18 OverLimit
+q : bwd. stage s = {} q| <- q|10|||. #interactive s. #trace _ s {}.
+=
+1:143 18 OverLimit
+t : type. p t t t t : pred. stage s = { r :| p _ _ _ _ *|9| ()|| -o (). } #interactive s. #trace _ s {}.
+=
+accepted
+t : type. p t t t t : pred. stage s = { r :| p _ _ _ _ *|8| ()|| -o (). } #interactive s. #trace _ s {}.
+=
+1:81 18 OverLimit
+f t : t. c : t. t : type. p t : pred. stage s = {} #interactive s. #trace _ s { p |(f |511|c|)| }.
+=
+accepted
+f t : t. c : t. t : type. p t : pred. stage s = {} #interactive s. #trace _ s { p |(f |510|c|)| }.
+=
+accepted
+f t : t. c : t. t : type. p t : pred. #interactive s. #trace _ s {}. stage s = { r : p |(f |512|c|)| -o (). }
+=
+1:53 18 OverLimit
+a : t. f t : t. p t : pred. t : type. context d = { p |(f |511|a|)| } stage s = {} #interactive s. #trace _ s d.
+=
+accepted
+a : t. f t : t. p t : pred. t : type. context d = { p |(f |510|a|)| } stage s = {} #interactive s. #trace _ s d.
+=
+1:1 18 OverLimit
+#trace _ s { p, p, p|, p|99998| }. p : pred. stage s = {} #interactive s.||
+=
+accepted
+#trace _ s { p, p, p|, p|99997| }. p : pred. stage s = {} #interactive s.||
+=
+accepted
+stage s = {} #interactive s. #trace |0|300|1 s {}.||"
 }
 
-const LONG: [Long; 23] = [
-    Long {
-        told: "1:1 19 TooLong",
-        before: "",
-        open: " ",
-        times: 1_048_577,
-        middle: "",
-        close: "",
-        after: "",
-    },
-    Long {
-        told: "1:1 19 TooLong",
-        before: "; ",
-        open: "a",
-        times: 1_048_575,
-        middle: "",
-        close: "",
-        after: "",
-    },
-    Long {
-        told: "1:1048577 14 NoTrace",
-        before: "",
-        open: " ",
-        times: 1_048_576,
-        middle: "",
-        close: "",
-        after: "",
-    },
-    Long {
-        told: "1:1 2 NameLong",
-        before: "",
-        open: "a",
-        times: 256,
-        middle: " ; type.",
-        close: "",
-        after: "",
-    },
-    Long {
-        told: "1:1 2 NameLong",
-        before: "#",
-        open: "a",
-        times: 255,
-        middle: "",
-        close: "",
-        after: "",
-    },
-    Long {
-        told: "1:1 3 Unexpected",
-        before: "#",
-        open: "a",
-        times: 254,
-        middle: "",
-        close: "",
-        after: "",
-    },
-    Long {
-        told: "1:515 4 Nested",
-        before: "p ",
-        open: "(",
-        times: 513,
-        middle: "",
-        close: "",
-        after: "",
-    },
-    Long {
-        told: "1:1034 4 Nested",
-        before: "q X <- p ",
-        open: "( ",
-        times: 514,
-        middle: "",
-        close: "",
-        after: "",
-    },
-    Long {
-        told: "1:91 18 OverLimit",
-        before: "p : pred. stage s = { r :",
-        open: " p *",
-        times: 17,
-        middle: " ()",
-        close: "",
-        after: " -o (). } #interactive s. #trace _ s {}.",
-    },
-    Long {
-        told: "accepted",
-        before: "p : pred. stage s = { r :",
-        open: " p *",
-        times: 16,
-        middle: " ()",
-        close: "",
-        after: " -o (). } #interactive s. #trace _ s {}.",
-    },
-    Long {
-        told: "1:67 18 OverLimit",
-        before: "p : bwd. stage s = { r :",
-        open: " $p *",
-        times: 9,
-        middle: " ()",
-        close: "",
-        after: " -o (). } #interactive s. #trace _ s {}.",
-    },
-    Long {
-        told: "1:161 18 OverLimit",
-        before: "p : pred. stage s = { r : () -o",
-        open: " p *",
-        times: 33,
-        middle: " ()",
-        close: "",
-        after: ". } #interactive s. #trace _ s {}.",
-    },
-    Long {
-        told: "1:68 18 OverLimit",
-        before: "q : bwd. stage s = {} q",
-        open: " <- q",
-        times: 10,
-        middle: "",
-        close: "",
-        after: ". #interactive s. #trace _ s {}.",
-    },
-    Long {
-        told: "1:143 18 OverLimit",
-        before: "t : type. p t t t t : pred. stage s = { r :",
-        open: " p _ _ _ _ *",
-        times: 9,
-        middle: " ()",
-        close: "",
-        after: " -o (). } #interactive s. #trace _ s {}.",
-    },
-    Long {
-        told: "accepted",
-        before: "t : type. p t t t t : pred. stage s = { r :",
-        open: " p _ _ _ _ *",
-        times: 8,
-        middle: " ()",
-        close: "",
-        after: " -o (). } #interactive s. #trace _ s {}.",
-    },
-    Long {
-        told: "1:81 18 OverLimit",
-        before: "f t : t. c : t. t : type. p t : pred. stage s = {} #interactive s. #trace _ s { p ",
-        open: "(f ",
-        times: 511,
-        middle: "c",
-        close: ")",
-        after: " }.",
-    },
-    Long {
-        told: "accepted",
-        before: "f t : t. c : t. t : type. p t : pred. stage s = {} #interactive s. #trace _ s { p ",
-        open: "(f ",
-        times: 510,
-        middle: "c",
-        close: ")",
-        after: " }.",
-    },
-    Long {
-        told: "accepted",
-        before: "f t : t. c : t. t : type. p t : pred. #interactive s. #trace _ s {}. stage s = { r : p ",
-        open: "(f ",
-        times: 512,
-        middle: "c",
-        close: ")",
-        after: " -o (). }",
-    },
-    Long {
-        told: "1:53 18 OverLimit",
-        before: "a : t. f t : t. p t : pred. t : type. context d = { p ",
-        open: "(f ",
-        times: 511,
-        middle: "a",
-        close: ")",
-        after: " } stage s = {} #interactive s. #trace _ s d.",
-    },
-    Long {
-        told: "accepted",
-        before: "a : t. f t : t. p t : pred. t : type. context d = { p ",
-        open: "(f ",
-        times: 510,
-        middle: "a",
-        close: ")",
-        after: " } stage s = {} #interactive s. #trace _ s d.",
-    },
-    Long {
-        told: "1:1 18 OverLimit",
-        before: "#trace _ s { p, p, p",
-        open: ", p",
-        times: 99_998,
-        middle: " }. p : pred. stage s = {} #interactive s.",
-        close: "",
-        after: "",
-    },
-    Long {
-        told: "accepted",
-        before: "#trace _ s { p, p, p",
-        open: ", p",
-        times: 99_997,
-        middle: " }. p : pred. stage s = {} #interactive s.",
-        close: "",
-        after: "",
-    },
-    Long {
-        told: "accepted",
-        before: "stage s = {} #interactive s. #trace ",
-        open: "0",
-        times: 300,
-        middle: "1 s {}.",
-        close: "",
-        after: "",
-    },
-];
+// A field, and those behind it.
+fn cut(fields: &str) -> Result<(&str, &str), Fail> {
+    match fields.split_once('|') {
+        Some(halves) => Ok(halves),
+        None => Err(Fail::from("no further field")),
+    }
+}
 
-fn long_text(alloc: Global, long: &Long) -> Result<String, AllocError> {
-    let mut text = String::from_str(alloc, long.before)?;
-    text.push_str(long.open.repeat(alloc, long.times)?.as_str())?;
-    text.push_str(long.middle)?;
-    text.push_str(long.close.repeat(alloc, long.times)?.as_str())?;
-    text.push_str(long.after)?;
-    Ok(text)
+// A text with a part that stands so often, and as often one that closes it.
+fn repeated(
+    alloc: Global,
+    (before, open): (&str, &str),
+    times: usize,
+    (middle, close, after): (&str, &str, &str),
+) -> Result<String, AllocError> {
+    let opens = open.repeat(alloc, times)?;
+    let closes = close.repeat(alloc, times)?;
+    format!(in alloc; "{before}{opens}{middle}{closes}{after}")
+}
+
+// The text of these fields.
+fn long_text(alloc: Global, fields: &str) -> Result<String, Fail> {
+    let (before, fields) = cut(fields)?;
+    let (open, fields) = cut(fields)?;
+    let (times, fields) = cut(fields)?;
+    let (middle, fields) = cut(fields)?;
+    let (close, after) = cut(fields)?;
+    let times = times.parse::<usize>().ok().ok_or("no number")?;
+    Ok(repeated(alloc, (before, open), times, (middle, close, after))?)
 }
 
 // What is told of a text.
-fn told(alloc: Global, text: &str) -> Result<String, Fail> {
-    match accept(alloc, text.as_bytes())? {
-        Ok(_) => Ok(String::from_str(alloc, "accepted")?),
-        Err(refusal) => Ok(format!(in alloc;
+fn told(alloc: Global, text: &str) -> Result<String, AllocError> {
+    match accept(alloc, text.as_bytes())?.err() {
+        None => String::from_str(alloc, "accepted"),
+        Some(refusal) => format!(in alloc;
             "{}:{} {} {}",
             refusal.pos.line,
             refusal.pos.col,
             refusal.reason.number(),
             refusal.reason.name()
-        )?),
+        ),
     }
 }
 
-fn told_long(alloc: Global, long: &Long) -> Result<String, Fail> {
-    let text = long_text(alloc, long)?;
-    told(alloc, text.as_str())
-}
-
-#[test]
-fn a_text_is_accepted_or_refused_for_its_first_fault(rt: HostRuntime) -> Result<(), Fail> {
-    let alloc = rt.alloc();
-    for entry in told_texts().split("=\n") {
-        let (line, text) = entry.split_once('\n').ok_or("no text")?;
-        assert_eq!(rt; told(alloc, text)?.as_str(), line, "at {}", text);
-    }
+// This is told of a text.
+fn expect_told(rt: &impl Abort, alloc: Global, text: &str, line: &str) -> Result<(), Fail> {
+    let told = told(alloc, text)?;
+    assert_eq!(rt;
+        told.as_str(),
+        line,
+        "at {}",
+        text.get(..80).unwrap_or(text)
+    );
     Ok(())
 }
 
 #[test]
+fn a_text_is_accepted_or_refused_for_its_first_fault(rt: HostRuntime) -> Result<(), Fail> {
+    for entry in told_texts().split("=\n") {
+        let (line, text) = entry.split_once('\n').ok_or("no text")?;
+        expect_told(&rt, rt.alloc(), text, line)?;
+    }
+    Ok(())
+}
+
+// This is told of the text of these fields.
+fn expect_long(rt: &impl Abort, alloc: Global, fields: &str, line: &str) -> Result<(), Fail> {
+    let text = long_text(alloc, fields)?;
+    expect_told(rt, alloc, text.as_str(), line)
+}
+
+#[test]
 fn what_is_one_too_many_is_refused_where_it_stands(rt: HostRuntime) -> Result<(), Fail> {
-    let alloc = rt.alloc();
-    for long in &LONG {
-        assert_eq!(rt;
-            told_long(alloc, long)?.as_str(),
-            long.told,
-            "at {}",
-            long.before
-        );
+    for entry in long_texts().split("\n=\n") {
+        let (line, fields) = entry.split_once('\n').ok_or("no text")?;
+        expect_long(&rt, rt.alloc(), fields, line)?;
     }
     Ok(())
 }

@@ -1,7 +1,8 @@
 // The tokens of texts, and the lines and columns of places.
 use cep_base::limits::MOST_TEXT;
-use cep_lex::{LexFault, lex, place};
-use std::alloc::Global;
+use cep_lex::{LexFault, Token, lex, place};
+use std::alloc::{AllocError, Global};
+use std::process::Abort;
 use std::test::Fail;
 
 // Texts, each under the line of its tokens.
@@ -94,89 +95,97 @@ fn lexed_bytes() -> (&'static [u8], &'static [u8]) {
     (b"a\xffb", b"% \xff;\n;")
 }
 
+// Adds a token in words.
+fn put_token(words: &mut String, token: &Token) -> Result<(), AllocError> {
+    let alloc = *words.allocator();
+    let word = format!(in alloc; "{:?} {}-{};", token.kind, token.from, token.to)?;
+    words.push_str(word.as_str())
+}
+
+// The tokens in words.
+fn told(alloc: Global, tokens: &[Token]) -> Result<String, AllocError> {
+    let mut words = String::new(alloc);
+    for token in tokens {
+        put_token(&mut words, token)?;
+    }
+    Ok(words)
+}
+
 // The tokens of a text, or its fault, in words.
-fn shown(alloc: Global, text: &[u8]) -> Result<String, Fail> {
+fn shown(alloc: Global, text: &[u8]) -> Result<String, AllocError> {
     if text.len() > MOST_TEXT {
-        return Ok(format!(in alloc; "too long")?);
+        return String::from_str(alloc, "too long");
     }
     match lex(alloc, text)? {
-        Ok(tokens) => {
-            let mut words = String::new(alloc);
-            for token in tokens.as_slice() {
-                let word = format!(in alloc; "{:?} {}-{};", token.kind, token.from, token.to)?;
-                words.push_str(word.as_str())?;
-            }
-            Ok(words)
-        }
-        Err(LexFault::BadByte { at }) => Ok(format!(in alloc; "bad byte at {at}")?),
-        Err(LexFault::NameLong { at }) => Ok(format!(in alloc; "long name at {at}")?),
+        Ok(tokens) => told(alloc, tokens.as_slice()),
+        Err(LexFault::BadByte { at }) => format!(in alloc; "bad byte at {at}"),
+        Err(LexFault::NameLong { at }) => format!(in alloc; "long name at {at}"),
     }
+}
+
+// The bytes have these tokens.
+fn expect_tokens(rt: &impl Abort, alloc: Global, text: &[u8], words: &str) -> Result<(), Fail> {
+    let shown = shown(alloc, text)?;
+    assert_eq!(rt; shown.as_str(), words);
+    Ok(())
 }
 
 #[test]
 fn texts_have_these_tokens(rt: HostRuntime) -> Result<(), Fail> {
-    let alloc = rt.alloc();
     for entry in lexed_texts().split("\n=\n") {
         let (words, text) = entry.split_once('\n').ok_or("no text")?;
-        assert_eq!(rt;
-            shown(alloc, text.as_bytes())?.as_str(),
-            words,
-            "at {}",
-            text
-        );
+        expect_tokens(&rt, rt.alloc(), text.as_bytes(), words)?;
     }
     Ok(())
 }
 
 #[test]
 fn in_a_comment_each_byte_may_stand(rt: HostRuntime) -> Result<(), Fail> {
-    let alloc = rt.alloc();
     let (bare, in_comment) = lexed_bytes();
-    assert_eq!(rt; shown(alloc, bare)?.as_str(), "bad byte at 1");
-    assert_eq!(rt; shown(alloc, in_comment)?.as_str(), "bad byte at 5");
-    Ok(())
+    expect_tokens(&rt, rt.alloc(), bare, "bad byte at 1")?;
+    expect_tokens(&rt, rt.alloc(), in_comment, "bad byte at 5")
 }
 
-// The tokens of a text in which a part stands so many times.
-fn shown_times(
+// A text in which a part stands so many times has these tokens.
+fn expect_times(
+    rt: &impl Abort,
     alloc: Global,
-    before: &str,
-    part: &str,
-    count: usize,
-    behind: &str,
-) -> Result<String, Fail> {
-    let mut text = String::from_str(alloc, before)?;
-    text.push_str(part.repeat(alloc, count)?.as_str())?;
-    text.push_str(behind)?;
-    shown(alloc, text.as_bytes())
+    (before, part, behind): (&str, &str, &str),
+    times: usize,
+    words: &str,
+) -> Result<(), Fail> {
+    let parts = part.repeat(alloc, times)?;
+    let text = format!(in alloc; "{before}{parts}{behind}")?;
+    expect_tokens(rt, alloc, text.as_bytes(), words)
 }
 
 #[test]
 fn a_name_has_at_most_255_bytes(rt: HostRuntime) -> Result<(), Fail> {
-    for (before, part, count, behind, words) in [
-        ("", "a", 255, "", "Name 0-255;"),
-        ("", "a", 255, "_", "long name at 0"),
-        ("", "7", 300, "", "Number 0-300;"),
-        ("#", "a", 254, "", "Directive 0-255;"),
-        ("#", "a", 255, " ;", "long name at 0"),
-        ("; #", "a", 255, "", "bad byte at 0"),
-    ] {
-        let tokens = shown_times(rt.alloc(), before, part, count, behind)?;
-        assert_eq!(rt; tokens.as_str(), words);
+    let alloc = rt.alloc();
+    expect_times(&rt, alloc, ("", "a", ""), 255, "Name 0-255;")?;
+    expect_times(&rt, alloc, ("", "a", "_"), 255, "long name at 0")?;
+    expect_times(&rt, alloc, ("", "7", ""), 300, "Number 0-300;")?;
+    expect_times(&rt, alloc, ("#", "a", ""), 254, "Directive 0-255;")?;
+    expect_times(&rt, alloc, ("#", "a", " ;"), 255, "long name at 0")?;
+    expect_times(&rt, alloc, ("; #", "a", ""), 255, "bad byte at 0")
+}
+
+// How many tokens a text has.
+fn count(alloc: Global, text: &str) -> Result<usize, Fail> {
+    if text.len() > MOST_TEXT {
+        return Err(Fail::from("long"));
     }
-    Ok(())
+    match lex(alloc, text.as_bytes())? {
+        Ok(tokens) => Ok(tokens.len()),
+        Err(_) => Ok(0),
+    }
 }
 
 #[test]
 fn a_largest_text_is_lexed(rt: HostRuntime) -> Result<(), Fail> {
     let mut text = "%".repeat(rt.alloc(), 48_576)?;
     text.push_str("\n.".repeat(rt.alloc(), 500_000)?.as_str())?;
-    if text.len() > MOST_TEXT {
-        return Err(Fail::from("long"));
-    }
-    let tokens = lex(rt.alloc(), text.as_bytes())?;
-    let count = tokens.map_or(0, |tokens| tokens.len());
-    assert_eq!(rt; count, 500_000);
+    assert_eq!(rt; count(rt.alloc(), text.as_str())?, 500_000);
     Ok(())
 }
 

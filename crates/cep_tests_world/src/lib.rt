@@ -1,5 +1,4 @@
-//! Tests of programs in play: their terms and states, the texts of what is written and read, steps and
-//! their limits, and whole dialogues of the command.
+//! Tests of whole dialogues of the command, over fakes of the outside.
 #![tactic(auto)]
 
 #[cfg(test)]
@@ -8,11 +7,3 @@ mod dialogues;
 mod limits;
 #[cfg(test)]
 mod outside;
-#[cfg(test)]
-mod sample;
-#[cfg(test)]
-mod steps;
-#[cfg(test)]
-mod terms;
-#[cfg(test)]
-mod texts;

@@ -1,71 +1,89 @@
 // Runs that end by a limit on offers, atoms or states.
-use crate::outside::play;
+use crate::outside::{Outcome, play};
 use std::alloc::{AllocError, Global};
+use std::process::Abort;
 use std::test::Fail;
 
-// So many constants of one type, of which each has a `p`, and the first 256 a `q`; a rule that takes
-// one of each is offered for each pair.
-fn pairs(alloc: Global, constants: u32) -> Result<String, AllocError> {
-    let mut text = String::from_str(
-        alloc,
-        "t : type. p t : pred. q t : pred. ok : pred.
-stage main = { r : p X * q Y -o ok. }
-#interactive main.
-#trace _ main { all }.
-",
-    )?;
-    for i in 0..constants {
-        text.push_str(format!(in alloc; "c{i} : t.\n")?.as_str())?;
-    }
-    text.push_str("context all = { ")?;
-    push_atoms(alloc, &mut text, "q", 256)?;
-    push_atoms(alloc, &mut text, "p", constants)?;
-    text.push_str("() }\n")?;
-    Ok(text)
-}
-
 // Adds an atom of the predicate for each of so many constants.
-fn push_atoms(
-    alloc: Global,
-    text: &mut String,
-    pred: &str,
-    constants: u32,
-) -> Result<(), AllocError> {
+fn put_atoms(text: &mut String, pred: &str, constants: u32) -> Result<(), AllocError> {
+    let alloc = *text.allocator();
     for i in 0..constants {
         text.push_str(format!(in alloc; "{pred} c{i}, ")?.as_str())?;
     }
     Ok(())
 }
 
-// How many lines there are, and how many of them are offers and questions.
-fn lines(written: &[u8]) -> (usize, usize) {
-    let all = written.iter().filter(|byte| **byte == b'\n').count();
-    let offers = written.iter().filter(|byte| **byte == b'?').count();
-    (all, offers)
+// Adds the declarations of so many constants.
+fn put_constants(text: &mut String, constants: u32) -> Result<(), AllocError> {
+    let alloc = *text.allocator();
+    for i in 0..constants {
+        text.push_str(format!(in alloc; "c{i} : t.\n")?.as_str())?;
+    }
+    Ok(())
+}
+
+// What `pairs` begins with.
+fn pairing() -> &'static str {
+    "t : type. p t : pred. q t : pred. ok : pred.
+stage main = { r : p X * q Y -o ok. }
+#interactive main.
+#trace _ main { all }.
+"
+}
+
+// So many constants of one type, of which each has a `p`, and the first 256 a `q`; a rule that takes
+// one of each is offered for each pair.
+fn pairs(alloc: Global, constants: u32) -> Result<String, AllocError> {
+    let mut text = String::from_str(alloc, pairing())?;
+    put_constants(&mut text, constants)?;
+    text.push_str("context all = { ")?;
+    put_atoms(&mut text, "q", 256)?;
+    put_atoms(&mut text, "p", constants)?;
+    text.push_str("() }\n")?;
+    Ok(text)
+}
+
+// How often a byte is written.
+fn count(written: &str, byte: u8) -> usize {
+    written
+        .as_bytes()
+        .iter()
+        .filter(|other| **other == byte)
+        .count()
+}
+
+// The run wrote so many lines, and of these so many offers and questions.
+fn expect_lines(rt: &impl Abort, outcome: &Outcome, status: u8, lines: usize, questions: usize) {
+    assert_eq!(rt; outcome.status, status);
+    assert_eq!(rt; count(outcome.written.as_str(), b'\n'), lines);
+    assert_eq!(rt; count(outcome.written.as_str(), b'?'), questions);
+}
+
+// Plays the pairs of so many constants.
+fn play_pairs(alloc: Global, constants: u32) -> Result<Outcome, AllocError> {
+    let text = pairs(alloc, constants)?;
+    play(alloc, text.as_str(), "")
 }
 
 #[test]
 fn as_many_offers_as_may_be_are_written(rt: HostRuntime) -> Result<(), Fail> {
-    let alloc = rt.alloc();
-    let text = pairs(alloc, 256)?;
-    let outcome = play(alloc, text.as_bytes(), "".as_bytes())?;
-    assert_eq!(rt; outcome.status, 0);
+    let outcome = play_pairs(rt.alloc(), 256)?;
     // the header and 512 atoms, the offers and the question, the end and 512 atoms
-    assert_eq!(rt;
-        lines(&outcome.written),
-        (3 + 512 + 65_537 + 1 + 512, 65_537)
-    );
+    expect_lines(&rt, &outcome, 0, 3 + 512 + 65_537 + 1 + 512, 65_537);
     Ok(())
 }
 
 #[test]
 fn a_run_ends_where_the_offers_are_too_many(rt: HostRuntime) -> Result<(), Fail> {
-    let alloc = rt.alloc();
-    let text = pairs(alloc, 257)?;
-    let outcome = play(alloc, text.as_bytes(), "1\n".as_bytes())?;
-    assert_eq!(rt; outcome.status, 4);
-    assert_eq!(rt; lines(&outcome.written), (3 + 513 + 1 + 513, 0));
+    let outcome = play_pairs(rt.alloc(), 257)?;
+    expect_lines(&rt, &outcome, 4, 3 + 513 + 1 + 513, 0);
     Ok(())
+}
+
+// Plays a text with so many lines typed, of which each chooses the first offer.
+fn play_firsts(alloc: Global, text: &str, turns: usize) -> Result<Outcome, AllocError> {
+    let typed = "1\n".repeat(alloc, turns)?;
+    play(alloc, text, typed.as_str())
 }
 
 // A program whose one atom is doubled.
@@ -79,40 +97,27 @@ stage main = { g : p X -o p (f X X). }
 
 #[test]
 fn a_run_ends_before_an_atom_grows_too_large(rt: HostRuntime) -> Result<(), Fail> {
-    let alloc = rt.alloc();
-    let typed = "1\n".repeat(alloc, 16)?;
-    let outcome = play(alloc, doubling().as_bytes(), typed.as_bytes())?;
-    assert_eq!(rt; outcome.status, 4);
+    let outcome = play_firsts(rt.alloc(), doubling(), 16)?;
     // the header and an atom, fifteen turns of three lines, an offer, the question, the end and an atom
-    assert_eq!(rt; lines(&outcome.written), (3 + 1 + 15 * 3 + 2 + 1 + 1, 32));
-    assert!(rt; contains(&outcome.written, "\nend atom\nhave 1 p (f".as_bytes()));
+    expect_lines(&rt, &outcome, 4, 3 + 1 + 15 * 3 + 2 + 1 + 1, 32);
+    assert!(rt; outcome.written.contains("\nend atom\nhave 1 p (f"));
     Ok(())
+}
+
+// A program that adds 32 copies of an atom in each turn.
+fn flooding() -> &'static str {
+    "a : pred.
+stage main = { r : () -o a * a * a * a * a * a * a * a * a * a * a * a * a * a * a * a
+    * a * a * a * a * a * a * a * a * a * a * a * a * a * a * a * a. }
+#interactive main.
+#trace _ main {}.
+"
 }
 
 #[test]
 fn a_run_ends_before_a_state_grows_too_large(rt: HostRuntime) -> Result<(), Fail> {
-    let alloc = rt.alloc();
-    let mut text = String::from_str(alloc, "a : pred. stage main = { r : () -o a")?;
-    text.push_str(" * a".repeat(alloc, 31)?.as_str())?;
-    text.push_str(". } #interactive main. #trace _ main {}.\n")?;
-    let typed = "1\n".repeat(alloc, 3_126)?;
-    let outcome = play(alloc, text.as_bytes(), typed.as_bytes())?;
-    assert_eq!(rt; outcome.status, 4);
-    assert_eq!(rt;
-        lines(&outcome.written),
-        (3 + 3_125 * 3 + 2 + 1 + 1, 3_126 * 2)
-    );
-    assert!(rt;
-        outcome
-            .written
-            .ends_with("\nend state\nhave 100000 a\n".as_bytes())
-    );
+    let outcome = play_firsts(rt.alloc(), flooding(), 3_126)?;
+    expect_lines(&rt, &outcome, 4, 3 + 3_125 * 3 + 2 + 1 + 1, 3_126 * 2);
+    assert!(rt; outcome.written.ends_with("\nend state\nhave 100000 a\n"));
     Ok(())
-}
-
-// Whether some bytes stand among others.
-fn contains(bytes: &[u8], part: &[u8]) -> bool {
-    bytes
-        .windows(part.len().max(1))
-        .any(|window| window == part)
 }

@@ -5,26 +5,16 @@ use cep_base::{CalmConsole, Console, Event, MemShelf, Shelf, Steps};
 use cep_play::ceptre;
 use std::alloc::{AllocError, Global};
 use std::marker::Brand;
+use std::process::Abort;
 use std::sync::ledger::{Blank, Ledger};
 
 // The words of a line.
-pub fn words_of(alloc: Global, line: &str) -> Result<Vec<String>, AllocError> {
+fn words_of(alloc: Global, line: &str) -> Result<Vec<String>, AllocError> {
     let mut all = Vec::new(alloc);
     for word in line.split_whitespace() {
         all.push(String::from_str(alloc, word)?)?;
     }
     Ok(all)
-}
-
-// What was written in a talk.
-pub fn written(alloc: Global, talk: &[Event]) -> Result<Vec<u8>, AllocError> {
-    let mut bytes = Vec::new(alloc);
-    for event in talk {
-        if let Event::Out(byte) = event {
-            bytes.push(*byte)?;
-        }
-    }
-    Ok(bytes)
 }
 
 // The status of the command, with a counter over a new ledger.
@@ -43,32 +33,65 @@ fn counted<C: Console, H: Shelf, L: Ledger>(
     ceptre(alloc, words, console, shelf, &mut steps)
 }
 
-// The status of the command.
+// The status of the command with the words of this line.
 pub fn status<C: Console, H: Shelf>(
     alloc: Global,
-    words: &[String],
+    line: &str,
     console: &mut C,
     shelf: &mut H,
-) -> u8 {
-    counted::<C, H, Brand>(alloc, words, console, shelf, Blank::new(1))
+) -> Result<u8, AllocError> {
+    let words = words_of(alloc, line)?;
+    Ok(counted::<C, H, Brand>(alloc, &words, console, shelf, Blank::new(1)))
+}
+
+// What was written in a talk.
+pub fn written(alloc: Global, talk: &[Event]) -> Result<String, AllocError> {
+    let mut text = String::new(alloc);
+    for event in talk {
+        if let Event::Out(byte) = event {
+            text.push(char::from(*byte))?;
+        }
+    }
+    Ok(text)
 }
 
 /// How a run ended, and what it wrote.
 #[derive(Debug, Drop)]
 pub struct Outcome {
     pub status: u8,
-    pub written: Vec<u8>,
+    pub written: String,
 }
 
-// Plays a text, with these bytes typed, over outsides that never fail.
-pub fn play(alloc: Global, text: &[u8], typed: &[u8]) -> Result<Outcome, AllocError> {
-    let mut shelf = MemShelf::new(alloc);
-    shelf.file("f", text)?;
-    let mut console = CalmConsole::new(alloc, typed)?;
-    let words = words_of(alloc, "play f")?;
-    let status = status(alloc, &words, &mut console, &mut shelf);
+// Runs the command with the words of this line and with this typed, over a console that never fails.
+pub fn run_line(
+    alloc: Global,
+    line: &str,
+    shelf: &mut MemShelf,
+    typed: &str,
+) -> Result<Outcome, AllocError> {
+    let mut console = CalmConsole::new(alloc, typed.as_bytes())?;
+    let status = status(alloc, line, &mut console, shelf)?;
     Ok(Outcome {
         status,
         written: written(alloc, console.talk())?,
     })
+}
+
+// A shelf of one file, which is called `f`.
+pub fn shelf_of(alloc: Global, text: &str) -> Result<MemShelf, AllocError> {
+    let mut shelf = MemShelf::new(alloc);
+    shelf.file("f", text.as_bytes())?;
+    Ok(shelf)
+}
+
+// Plays a text, with this typed.
+pub fn play(alloc: Global, text: &str, typed: &str) -> Result<Outcome, AllocError> {
+    let mut shelf = shelf_of(alloc, text)?;
+    run_line(alloc, "play f", &mut shelf, typed)
+}
+
+// The run ended so, and wrote this.
+pub fn expect(rt: &impl Abort, outcome: &Outcome, status: u8, written: &str) {
+    assert_eq!(rt; outcome.written.as_str(), written);
+    assert_eq!(rt; outcome.status, status);
 }

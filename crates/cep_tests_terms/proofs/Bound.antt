@@ -1,6 +1,5 @@
 -- Each variable is bound where no place of another one is kept.
-use Rattle.std.proofs.Common.{◌≡◌, ℕ, Bool, true, IsTrue, List, [], ◌∷◌, map, refl, subst}
-use Rattle.std.specs.Prelude.{◌↔◌}
+use Rattle.std.proofs.Common.{◌≡◌, ℕ, List, [], ◌∷◌, map, refl, subst}
 use Rattle.std.specs.List.{AllByRecursion}
 use Rattle.cep_base.specs.declared.place.Pos.{Pos}
 use Rattle.cep_names.specs.Items.{Source, RuleItem}
@@ -24,7 +23,3 @@ pub all_bound : (source : Source) (items : List RuleItem) (lists : List (List Po
 all_bound source [] lists are none = tt
 all_bound source (item ∷ items) [] are none = absurd are
 all_bound source (item ∷ items) (places ∷ lists) are none = (none_unbound source item places are.0 none.0, all_bound source items lists are.1 none.1)
-
--- what a test answers
-pub yes_of : (b : Bool) (P : Type 0) → (IsTrue b ↔ P) → b ≡ true → P
-yes_of b P both is = both.0 is

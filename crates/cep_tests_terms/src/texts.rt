@@ -21,8 +21,9 @@ fn texts() -> [(&'static str, &'static str); 4] {
 }
 
 // For each kind of text, texts that are of nothing of this kind, one on each line.
-fn other_texts() -> [(&'static str, &'static str); 4] {
+fn other_texts() -> [(&'static str, &'static str); 5] {
     [
+        ("term of no sort", "z"),
         (
             "term",
             "\ns\ns z\n(s  z)\n((s z))\n(z)\n(s z\n(s z) \nnum\nN",
@@ -36,14 +37,15 @@ fn other_texts() -> [(&'static str, &'static str); 4] {
     ]
 }
 
-// Whether the bytes are the text of a natural number, which is written.
+// Whether the bytes are the text of a term of this sort, which is written.
 fn term_again(
     alloc: Global,
     program: &Program,
+    sort: u32,
     bytes: &[u8],
     out: &mut Text,
 ) -> Result<bool, AllocError> {
-    match read_term(alloc, program, 0, bytes)? {
+    match read_term(alloc, program, sort, bytes)? {
         Some(term) => {
             put_term(program, &term, out)?;
             Ok(true)
@@ -100,59 +102,67 @@ fn proof_again(
     }
 }
 
+// Whether the bytes are a text of the program of this kind, which is written.
+fn again_in(
+    alloc: Global,
+    program: &Program,
+    kind: &str,
+    bytes: &[u8],
+    out: &mut Text,
+) -> Result<bool, Fail> {
+    Ok(match kind {
+        "term" => term_again(alloc, program, 0, bytes, out)?,
+        "term of no sort" => term_again(alloc, program, 1, bytes, out)?,
+        "atom" => atom_again(alloc, program, bytes, out)?,
+        "offer" => offer_again(alloc, program, bytes, out)?,
+        _ => proof_again(alloc, program, bytes, out)?,
+    })
+}
+
+// Whether the bytes are a text of this kind, which is written.
+fn again(alloc: Global, kind: &str, bytes: &[u8], out: &mut Text) -> Result<bool, Fail> {
+    let program = numbers(alloc)?;
+    again_in(alloc, &program, kind, bytes, out)
+}
+
 // Whether the text is one of this kind, and then it is written again byte for byte.
-fn is_text(alloc: Global, program: &Program, kind: &str, text: &str) -> Result<bool, Fail> {
-    let bytes = text.as_bytes();
+fn is_text(alloc: Global, kind: &str, text: &str) -> Result<bool, Fail> {
     let mut out = Text::new(alloc);
-    let read = match kind {
-        "term" => term_again(alloc, program, bytes, &mut out)?,
-        "atom" => atom_again(alloc, program, bytes, &mut out)?,
-        "offer" => offer_again(alloc, program, bytes, &mut out)?,
-        _ => proof_again(alloc, program, bytes, &mut out)?,
-    };
-    if read && out.bytes() != bytes {
+    if !again(alloc, kind, text.as_bytes(), &mut out)? {
+        return Ok(false);
+    }
+    if out.bytes() != text.as_bytes() {
         return Err(Fail::from("written otherwise"));
     }
-    Ok(read)
+    Ok(true)
 }
 
 // Whether the lines are texts of this kind, or none of them is.
 fn expect_texts(
     rt: &impl Abort,
     alloc: Global,
-    program: &Program,
     (kind, lines): (&str, &str),
     are_texts: bool,
 ) -> Result<(), Fail> {
     for line in lines.split('\n') {
-        assert_eq!(rt;
-            is_text(alloc, program, kind, line)?,
-            are_texts,
-            "at {}",
-            line
-        );
+        assert_eq!(rt; is_text(alloc, kind, line)?, are_texts, "at {}", line);
     }
     Ok(())
 }
 
 #[test]
 fn what_is_read_is_written_again(rt: HostRuntime) -> Result<(), Fail> {
-    let alloc = rt.alloc();
-    let program = numbers(alloc)?;
     for case in texts() {
-        expect_texts(&rt, alloc, &program, case, true)?;
+        expect_texts(&rt, rt.alloc(), case, true)?;
     }
     Ok(())
 }
 
 #[test]
 fn other_texts_are_of_nothing(rt: HostRuntime) -> Result<(), Fail> {
-    let alloc = rt.alloc();
-    let program = numbers(alloc)?;
     for case in other_texts() {
-        expect_texts(&rt, alloc, &program, case, false)?;
+        expect_texts(&rt, rt.alloc(), case, false)?;
     }
-    assert!(rt; read_term(alloc, &program, 1, b"z")?.is_none());
     Ok(())
 }
 
@@ -160,50 +170,41 @@ fn other_texts_are_of_nothing(rt: HostRuntime) -> Result<(), Fail> {
 fn nested(
     alloc: Global,
     levels: usize,
-    begin: &str,
-    inner: &str,
-    end: &str,
+    (begin, inner, end): (&str, &str, &str),
 ) -> Result<String, AllocError> {
-    let mut text = String::new(alloc);
-    text.push_str(begin.repeat(alloc, levels.saturating_sub(1))?.as_str())?;
+    let mut text = begin.repeat(alloc, levels.saturating_sub(1))?;
     text.push_str(inner)?;
     text.push_str(end.repeat(alloc, levels.saturating_sub(1))?.as_str())?;
     Ok(text)
 }
 
-// How a derivation by the second clause begins, which has one goal.
-fn goal() -> &'static str {
-    "[2 M=z N=z P=z "
-}
-
 // Whether there is a text of this kind with so many levels.
 fn has_levels(
     alloc: Global,
-    program: &Program,
     kind: &str,
     levels: usize,
-    (begin, inner, end): (&str, &str, &str),
+    parts: (&str, &str, &str),
 ) -> Result<bool, Fail> {
-    let text = nested(alloc, levels, begin, inner, end)?;
-    is_text(alloc, program, kind, text.as_str())
+    let text = nested(alloc, levels, parts)?;
+    is_text(alloc, kind, text.as_str())
 }
 
 #[test]
 fn a_term_has_at_most_512_levels(rt: HostRuntime) -> Result<(), Fail> {
-    let alloc = rt.alloc();
-    let program = numbers(alloc)?;
     let parts = ("(s ", "z", ")");
-    assert!(rt; has_levels(alloc, &program, "term", 512, parts)?);
-    assert!(rt; !has_levels(alloc, &program, "term", 513, parts)?);
+    assert!(rt; has_levels(rt.alloc(), "term", 512, parts)?);
+    assert!(rt; !has_levels(rt.alloc(), "term", 513, parts)?);
     Ok(())
+}
+
+// A derivation by the second clause, which has one goal, around one by the first.
+fn derivation() -> (&'static str, &'static str, &'static str) {
+    ("[2 M=z N=z P=z ", "[1 N=z]", "]")
 }
 
 #[test]
 fn a_derivation_has_at_most_512_open_brackets(rt: HostRuntime) -> Result<(), Fail> {
-    let alloc = rt.alloc();
-    let program = numbers(alloc)?;
-    let parts = (goal(), "[1 N=z]", "]");
-    assert!(rt; has_levels(alloc, &program, "proof", 512, parts)?);
-    assert!(rt; !has_levels(alloc, &program, "proof", 513, parts)?);
+    assert!(rt; has_levels(rt.alloc(), "proof", 512, derivation())?);
+    assert!(rt; !has_levels(rt.alloc(), "proof", 513, derivation())?);
     Ok(())
 }

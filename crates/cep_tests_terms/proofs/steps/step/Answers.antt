@@ -1,5 +1,5 @@
-use Rattle.cep_tests_world.proofs.Groups.{group_listed}
-use Rattle.cep_tests_world.proofs.steps.step.Goals as goal
+use Rattle.cep_tests_terms.proofs.Groups.{group_listed}
+use Rattle.cep_tests_terms.proofs.steps.step.Goals as goal
 
 pub count-requires : goal.count-requires
 count-requires g c =

@@ -71,17 +71,22 @@ fn have_no_backs(rules: &Rules) -> bool
     true
 }
 
+// Whether each variable of a right side is bound, and no rule has a backward premise.
+fn is_sealable(draft: &Draft) -> bool
+    ensures bound { IsTrue result → AllByRecursion (λ places. places ≡ []) draft.now.right_places }
+    ensures plain { IsTrue result → AllByRecursion (λ rule. rule.backs ≡ []) draft.now.parts.rules }
+{
+    are_none(&draft.right_places) && have_no_backs(&draft.parts.rules)
+}
+
 // The program of a draft.
 fn sealed(text: &[u8], file: &RawFile, draft: Draft) -> Result<Program, Fail>
     requires clean { IsClean (record { text = text.now; file = file.now }) }
     requires declared { IsDraft (record { text = text.now; file = file.now }) draft }
 {
     clean_parts_are_a_program();
-    if !are_none(&draft.right_places) {
-        return Err(Fail::from("a variable is not bound"));
-    }
-    if !have_no_backs(&draft.parts.rules) {
-        return Err(Fail::from("a backward premise"));
+    if !is_sealable(&draft) {
+        return Err(Fail::from("not sealable"));
     }
     Ok(Program::seal(draft.parts))
 }

@@ -70,29 +70,42 @@ fn passed<M: Matcher>(stepped: Stepped<M>) -> Result<(Which, u64), Fail> {
     }
 }
 
-// Doubles the term so often.
-fn doubled<M: Matcher, L: Ledger>(
+// Takes the first offer so often.
+fn after_firsts<M: Matcher, L: Ledger>(
     alloc: Global,
     program: &Program,
     start: Config<M>,
-    doublings: u32,
+    turns: u32,
     steps: &mut Steps<L>,
 ) -> Result<Config<M>, Fail>
     requires { IsConfigurationOf M.is_of program.now start }
     ensures { IfOk result (IsConfigurationOf M.is_of program.now) }
 {
     let mut config = start;
-    for _done in 0..doublings {
+    for _done in 0..turns {
         config = done(step(alloc, program, config, 0, steps)?)?;
     }
     Ok(config)
 }
 
-// Which limit the step by the offer at this place passes, after so many doublings.
+// The configuration of the program after so many first offers.
+fn config_at<M: Matcher, L: Ledger>(
+    alloc: Global,
+    program: &Program,
+    turns: u32,
+    steps: &mut Steps<L>,
+) -> Result<Config<M>, Fail>
+    ensures { IfOk result (IsConfigurationOf M.is_of program.now) }
+{
+    let start = Config::<M>::begin(alloc, program, 128, steps)?;
+    after_firsts(alloc, program, start, turns, steps)
+}
+
+// Which limit the step by the offer at this place passes, after so many first offers.
 fn limit_after<L: Ledger>(
     alloc: Global,
     program: &Program,
-    doublings: u32,
+    turns: u32,
     place: usize,
     blank: Blank,
 ) -> Result<(Which, u64), Fail>
@@ -101,72 +114,56 @@ fn limit_after<L: Ledger>(
     requires open { 0 < L.parts }
 {
     let mut steps = Steps::<L>::new(blank);
-    let start = Config::<Scratch>::begin(alloc, program, 128, &mut steps)?;
-    let config = doubled(alloc, program, start, doublings, &mut steps)?;
+    let config = config_at::<Scratch, L>(alloc, program, turns, &mut steps)?;
     passed(step(alloc, program, config, place, &mut steps)?)
 }
 
-// The step by the offer at this place passes the limit of an atom by this number, where the term of so
-// many levels was doubled so often.
-fn expect_passed(
-    rt: &impl Abort,
+// Which limit the step by the offer at this place passes, where the term of so many levels was doubled
+// so often.
+fn limit_of(
     alloc: Global,
     (levels, doublings): (usize, u32),
     place: usize,
+) -> Result<(Which, u64), Fail> {
+    let program = growing(alloc, levels)?;
+    limit_after::<Brand>(alloc, &program, doublings, place, Blank::new(1))
+}
+
+// That of an atom is passed by this number.
+fn expect_passed(
+    rt: &impl Abort,
+    alloc: Global,
+    term: (usize, u32),
+    place: usize,
     number: u64,
 ) -> Result<(), Fail> {
-    let program = growing(alloc, levels)?;
-    let passed = limit_after::<Brand>(alloc, &program, doublings, place, Blank::new(1))?;
-    assert_eq!(rt; passed, (Which::Atom, number));
+    assert_eq!(rt; limit_of(alloc, term, place)?, (Which::Atom, number));
     Ok(())
 }
 
 // An atom of 65,536 nodes is doubled or raised, and one of 512 levels.
 #[test]
 fn the_nodes_of_an_atom_are_told_before_its_depth(rt: HostRuntime) -> Result<(), Fail> {
-    for (term, place, number) in [
-        ((0, 15), 0, 131_072),
-        ((0, 15), 1, 65_537),
-        ((503, 7), 0, 129_280),
-        ((503, 7), 1, 513),
-    ] {
-        expect_passed(&rt, rt.alloc(), term, place, number)?;
-    }
-    Ok(())
+    expect_passed(&rt, rt.alloc(), (0, 15), 0, 131_072)?;
+    expect_passed(&rt, rt.alloc(), (0, 15), 1, 65_537)?;
+    expect_passed(&rt, rt.alloc(), (503, 7), 0, 129_280)?;
+    expect_passed(&rt, rt.alloc(), (503, 7), 1, 513)
 }
 
-// The stage and the group that is asked in each turn, and the stage that is quiet in the end, where
-// the first offer is always taken.
-fn asked_in_turn<M: Matcher, L: Ledger>(
+// The stage, and the group that is asked, after so many first offers.
+fn asked_after<L: Ledger>(
     alloc: Global,
     program: &Program,
-    start: Config<M>,
-    steps: &mut Steps<L>,
-) -> Result<String, Fail>
-    requires { IsConfigurationOf M.is_of program.now start }
-{
-    let mut config = start;
-    let mut turns = String::new(alloc);
-    for _done in 0..9_u8 {
-        let Some(group) = config.asked() else {
-            turns.push_str(format!(in alloc; "{}:quiet", config.stage())?.as_str())?;
-            return Ok(turns);
-        };
-        turns.push_str(format!(in alloc; "{}:{group} ", config.stage())?.as_str())?;
-        config = done(step(alloc, program, config, 0, steps)?)?;
-    }
-    Err(Fail::from("too many turns"))
-}
-
-// The stages and groups of a run from the start.
-fn groups_of<L: Ledger>(alloc: Global, program: &Program, blank: Blank) -> Result<String, Fail>
+    turns: u32,
+    blank: Blank,
+) -> Result<(u32, Option<u32>), Fail>
     requires name { blank.name ≡ L.name }
     requires parts { blank.parts ≡ L.parts }
     requires open { 0 < L.parts }
 {
     let mut steps = Steps::<L>::new(blank);
-    let start = Config::<Scratch>::begin(alloc, program, 128, &mut steps)?;
-    asked_in_turn(alloc, program, start, &mut steps)
+    let config = config_at::<Scratch, L>(alloc, program, turns, &mut steps)?;
+    Ok((config.stage(), config.asked()))
 }
 
 // A stage is left by a rule that needs two copies of an atom.
@@ -180,11 +177,25 @@ stage rest = { }
 "
 }
 
+// The stage, and the group that is asked, of this program after so many turns.
+fn asked(alloc: Global, turns: u32) -> Result<(u32, Option<u32>), Fail> {
+    let program = staged(alloc, leaving())?;
+    asked_after::<Brand>(alloc, &program, turns, Blank::new(1))
+}
+
+fn expect_asked(
+    rt: &impl Abort,
+    alloc: Global,
+    turns: u32,
+    wanted: (u32, Option<u32>),
+) -> Result<(), Fail> {
+    assert_eq!(rt; asked(alloc, turns)?, wanted);
+    Ok(())
+}
+
 #[test]
 fn a_stage_is_left_where_its_own_rules_are_quiet(rt: HostRuntime) -> Result<(), Fail> {
-    let alloc = rt.alloc();
-    let program = staged(alloc, leaving())?;
-    let groups = groups_of::<Brand>(alloc, &program, Blank::new(1))?;
-    assert_eq!(rt; groups.as_str(), "0:0 0:1 1:quiet");
-    Ok(())
+    expect_asked(&rt, rt.alloc(), 0, (0, Some(0)))?;
+    expect_asked(&rt, rt.alloc(), 1, (0, Some(1)))?;
+    expect_asked(&rt, rt.alloc(), 2, (1, None))
 }
