@@ -16,8 +16,6 @@ mod place;
 mod shelf;
 mod stack;
 mod steps;
-#[cfg(test)]
-mod tests;
 mod text;
 
 pub use calm_console::CalmConsole;
