@@ -189,7 +189,9 @@ fn expect_declared(
     told: (&str, &str),
 ) -> Result<(), Fail> {
     let tabled = tabled(alloc, text)?;
-    expect_tabled(rt, alloc, &tabled, told)
+    let expected = expect_tabled(rt, alloc, &tabled, told);
+    drop(tabled);
+    expected
 }
 
 #[test]
