@@ -8,3 +8,4 @@ pub mod ShapeLaws
 pub mod SmallValues
 pub mod SideLaws
 pub mod GroundLaws
+pub mod Telling

@@ -17,8 +17,11 @@ mod matcher;
 mod offer;
 mod parts;
 mod program;
+mod proving;
 mod rule;
 mod signature;
+mod told;
+mod values;
 
 pub use cep_term::{AtomList, Terms};
 pub use clause::{Clause, Clauses};
@@ -28,5 +31,6 @@ pub use matcher::Matcher;
 pub use offer::{Offer, order_offer};
 pub use parts::{Parts, Stage, Stages};
 pub use program::Program;
+pub use proving::{height, proves};
 pub use rule::{Premise, Premises, Rule, Rules};
 pub use signature::{Con, Cons, Kinds, Names, PredDecl, Preds, Signature};

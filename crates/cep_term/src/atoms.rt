@@ -1,4 +1,4 @@
-ghost use Rattle.std.specs.Prelude.{◌≡◌, ◌<◌, ◌↔◌, [], ◌∷◌, ◌++◌, length, slice_get, Some, OnOk, OnErr, IsTrue};
+ghost use Rattle.std.specs.Prelude.{◌≡◌, ◌<◌, ◌↔◌, [], ◌∷◌, ◌++◌, length, map, slice_get, Some, OnOk, OnErr, IsTrue};
 ghost use Rattle.cep_term.specs.Tree.{atom_of};
 
 use crate::term::Atom;
@@ -54,6 +54,13 @@ impl AtomList {
         ensures { slice_get self.now i ≡ Some (atom_of result.now) }
     {
         &self.atoms[i]
+    }
+
+    /// The atoms as they are kept. It takes no memory.
+    pub fn as_slice(&self) -> &[Atom]
+        ensures { map atom_of result.now ≡ self.now }
+    {
+        self.atoms.as_slice()
     }
 
     /// Adds an atom at the end. After want of memory the list is as before, and the atom is gone.
