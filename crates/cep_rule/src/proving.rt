@@ -56,19 +56,18 @@ fn proves_instance(program: &Program, d: &Derivation, goal: &Atom, values: &[Ter
     }
     let clause = parts.clauses.get(number);
     is_fit(goal, values)
-        && are_values(&parts.signature.cons, clause.kinds.as_slice(), given.as_slice())
+        && are_values(
+            &parts.signature.cons,
+            clause.kinds.as_slice(),
+            given.as_slice(),
+        )
         && same_instance(goal, values, &clause.head, given.as_slice())
         && prove_instances(program, subs, clause.goals.as_slice(), given.as_slice())
 }
 
 // Whether the derivations prove the instances of the goals, one each.
 #[cycle(proves)]
-fn prove_instances(
-    program: &Program,
-    subs: &Derivations,
-    goals: &[Atom],
-    values: &[Term],
-) -> bool
+fn prove_instances(program: &Program, subs: &Derivations, goals: &[Atom], values: &[Term]) -> bool
     ensures { IsTrue result ↔ ProveAll program.now (proofs_of subs.now) (full_instances (map tree_of values.now) (map atom_of goals.now)) }
 {
     match subs {

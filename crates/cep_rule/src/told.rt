@@ -196,8 +196,6 @@ pub(crate) fn is_fit(atom: &Atom, values: &[Term]) -> bool
 {
     match all_nodes_by(&atom.args, values) {
         None => false,
-        Some(nodes) => {
-            nodes < MOST_NODES && are_within_by(&atom.args, values, MOST_DEPTH - 1)
-        }
+        Some(nodes) => { nodes < MOST_NODES && are_within_by(&atom.args, values, MOST_DEPTH - 1) }
     }
 }

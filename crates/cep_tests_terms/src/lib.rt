@@ -3,6 +3,8 @@
 #![tactic(auto)]
 
 #[cfg(test)]
+mod derivations;
+#[cfg(test)]
 mod fakes;
 #[cfg(test)]
 mod sample;
