@@ -4,7 +4,8 @@ ghost use Rattle.cep_base.specs.Talk.{Did, ConsoleCause};
 ghost use Rattle.cep_base.specs.Faults.{Rose};
 ghost use Rattle.std.specs.Prelude.{OnOk, ◌++◌};
 ghost use Rattle.cep_play.specs.Lines.{line};
-ghost use Rattle.cep_play.specs.Command.{OfPlay, OfNames, OfFile, HaveNoForm, AskFor, Play, Adds, Plays, Refuses, Writes, IsFinished, IsLimited, usage, no_program, refusal_text};
+ghost use Rattle.cep_ground.specs.Refusals.{IsBuilt};
+ghost use Rattle.cep_play.specs.Command.{OfPlay, OfNames, OfFile, HaveNoForm, AskFor, Play, Adds, Plays, Refuses, Says, Writes, IsFinished, IsLimited, usage, no_program, refusal_text};
 ghost use Rattle.cep_play.specs.Outcome.{OfText, OfRun, OfWords, CountsFaults, AsksFile, AskedAsSaid, code_of, status_of};
 
 use crate::dialogue::play;
@@ -14,6 +15,7 @@ use cep_base::{Console, ConsoleFault, Shelf, ShelfFault, Steps, Text};
 use cep_ground::laws::{no_program_is_refused, one_program};
 use cep_ground::{accept, too_long};
 use cep_refusal::Refusal;
+use cep_rule::Program;
 use cep_scratch::Scratch;
 use std::alloc::{AllocError, Global};
 use std::sync::ledger::Ledger;
@@ -94,6 +96,22 @@ fn refuse<C: Console>(alloc: Global, refusal: Refusal, console: &mut C) -> Resul
     console.put(line.bytes())
 }
 
+/// Plays a program, and answers the status by the word with which the run ended.
+fn play_program<C: Console, L: Ledger>(
+    alloc: Global,
+    program: &Program,
+    console: &mut C,
+    steps: &mut Steps<L>,
+) -> Result<Status, ConsoleFault>
+    requires { IsBuilt program.now }
+    ensures said { IfOk result (λ status. (word : EndWord) × (status ≡ status_of word) × Says C.talk C.left console.old console.new program.now (λ end. end ≡ word)) }
+    ensures counted { steps.old ≤ steps.new }
+    ensures cause { ConsoleCause (C.faults console.old) (C.faults console.new) result }
+{
+    let word = play::<Scratch, C, L>(alloc, program, console, steps)?;
+    Ok(status_of(word))
+}
+
 /// Plays the program that a text spells, or refuses the text.
 fn play_text<C: Console, L: Ledger>(
     alloc: Global,
@@ -108,10 +126,7 @@ fn play_text<C: Console, L: Ledger>(
     one_program();
     no_program_is_refused();
     match accept(alloc, text)? {
-        Ok(program) => {
-            let word = play::<Scratch, C, L>(alloc, &program, console, steps)?;
-            Ok(status_of(word))
-        }
+        Ok(program) => play_program(alloc, &program, console, steps),
         Err(refusal) => {
             refuse(alloc, refusal, console)?;
             Ok(Status::Refused)

@@ -29,16 +29,16 @@ end quiet
 have 1 b
 =
 
-a : pred. b : pred. stage main = { r : a -o b. } #interactive main. #trace _ main { a }.
+coin : pred. toy : pred. stage shop = { buy : coin -o toy. } #interactive shop. #trace _ shop { coin }.
 -
 ceptre 1
 height 128
-stage main
-have 1 a
-? 1 r
+stage shop
+have 1 coin
+? 1 buy
 ? choose
 end input
-have 1 a
+have 1 coin
 =
 0/01/2/x/1
 a : pred. b : pred. stage main = { r : a -o b. } #interactive main. #trace _ main { a }.
@@ -58,17 +58,17 @@ end quiet
 have 1 b
 =
 x
-a : pred. b : pred. stage main = { r : a -o b. } #interactive main. #trace _ main { a }.
+egg : pred. hen : pred. stage farm = { hatch : egg -o hen. } #interactive farm. #trace _ farm { egg }.
 -
 ceptre 1
 height 128
-stage main
-have 1 a
-? 1 r
+stage farm
+have 1 egg
+? 1 hatch
 ? choose
 ? no
 end input
-have 1 a
+have 1 egg
 =
 1/
 a : pred. b : pred. stage main = { r : $a * a -o b. } #interactive main. #trace _ main { a }.

@@ -1,15 +1,21 @@
 use Rattle.std.proofs.Common.{subst, sym}
+use Rattle.std.proofs.lemmas.Result.{IfOk-weaker}
 use Rattle.cep_ground.specs.Refusals.{IsAccepted}
 use Rattle.cep_play.specs.Outcome.{OfText}
 use Rattle.cep_play.proofs.Commands.{text_played, text_refused}
 use Rattle.cep_play.proofs.command.play_text.Goals as goal
 
-pub returns-in_ok-word-in-Ok-clause-outcome : goal.returns-in_ok-word-in-Ok-clause-outcome
-returns-in_ok-word-in-Ok-clause-outcome g c =
+pub returns-in-Ok-clause-outcome : goal.returns-in-Ok-clause-outcome
+returns-in-Ok-clause-outcome g c =
+    let talk = g.C.Console.talk in
+    let left = g.C.Console.left in
     let text = c.args.text.now in
     let accepted = subst (λ answer. IsAccepted text answer) c.in-Ok.is c.in_ok-program.ensures in
-    subst (λ status. OfText g.C.Console.talk g.C.Console.left c.args.console.now c.play.new.console text status) (sym c.status_of.ensures)
-    (text_played g.C.Console.talk g.C.Console.left c.args.console.now c.play.new.console text c.in-Ok.program c.in_ok-word-in-Ok.word (c.one_program.ensures text) accepted.0 accepted.1 c.in_ok-word-in-Ok.ensures.said)
+    IfOk-weaker c.play_program.result _ _
+    (λ status played.
+    subst (λ other. OfText talk left c.args.console.now c.play_program.new.console text other) (sym played.1)
+    (text_played talk left c.args.console.now c.play_program.new.console text c.in-Ok.program played.0 (c.one_program.ensures text) accepted.0 accepted.1 played.2))
+    c.play_program.ensures.said
 
 pub returns-in_ok-refuse-in-Err-clause-outcome : goal.returns-in_ok-refuse-in-Err-clause-outcome
 returns-in_ok-refuse-in-Err-clause-outcome g c =
