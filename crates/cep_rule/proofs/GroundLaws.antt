@@ -1,4 +1,4 @@
--- Where more positions are known, no more pairs are bad.
+-- Where more positions are known, no more pairs are bad; and bad pairs are those that fail by the bad pairs.
 use Rattle.std.proofs.Common.{◌≡◌, inl, inr, ⊎_elim, ℕ, zero, suc, Bool, true, false, ◌&&◌, ◌||◌, List, [], ◌∷◌, refl}
 use Rattle.cep_term.specs.Tree.{Tree, Trees, AtomTree, variable, node, none, more}
 use Rattle.cep_rule.specs.Patterns.{ClauseTree}
@@ -100,3 +100,50 @@ round_within clauses (suc round) pred few many within bad = fails_within (IsBadI
 
 pub bad_within : (clauses : List ClauseTree) (pred : ℕ) (few many : Known) → ((i : ℕ) → few i ≡ true → many i ≡ true) → IsBad clauses pred many → IsBad clauses pred few
 bad_within clauses pred few many within bad = (bad.0, round_within clauses bad.0 pred few many within bad.1)
+
+-- what calls pairs of one set calls those of a set that has them
+calls_at_weaker : (one other : ℕ → Known → Type 0) → ((pred : ℕ) (positions : Known) → one pred positions → other pred positions) → (goals : List AtomTree) (known : Known) (i : ℕ) → CallsAt one known goals i → CallsAt other known goals i
+calls_at_weaker one other weaker [] known i calls = calls
+calls_at_weaker one other weaker (goal ∷ goals) known zero calls = weaker goal.pred (positions_known known goal.args) calls
+calls_at_weaker one other weaker (goal ∷ goals) known (suc i) calls = calls_at_weaker one other weaker goals (known_after known goal) i calls
+
+fails_weaker : (one other : ℕ → Known → Type 0) → ((pred : ℕ) (positions : Known) → one pred positions → other pred positions) → (clauses : List ClauseTree) (pred : ℕ) (positions : Known) → SomeFails clauses one pred positions → SomeFails clauses other pred positions
+fails_weaker one other weaker [] pred positions fails = fails
+fails_weaker one other weaker (clause ∷ clauses) pred positions fails =
+    ⊎_elim
+    (λ here. inl (
+      here.0,
+      ⊎_elim
+          (λ calls. inl (calls.0, calls_at_weaker one other weaker clause.goals (known_at positions clause.head.args) calls.0 calls.1))
+          (λ leaves. inr leaves)
+          here.1,
+    ))
+    (λ later. inr (fails_weaker one other weaker clauses pred positions later))
+    fails
+
+-- a bad pair that is called is bad in some round
+calls_in_round : (clauses : List ClauseTree) (goals : List AtomTree) (known : Known) (i : ℕ) → CallsAt (IsBad clauses) known goals i → (round : ℕ) × CallsAt (IsBadInRound clauses round) known goals i
+calls_in_round clauses [] known i calls = absurd calls
+calls_in_round clauses (goal ∷ goals) known zero calls = calls
+calls_in_round clauses (goal ∷ goals) known (suc i) calls = calls_in_round clauses goals (known_after known goal) i calls
+
+fails_in_round : (clauses some : List ClauseTree) (pred : ℕ) (positions : Known) → SomeFails some (IsBad clauses) pred positions → (round : ℕ) × SomeFails some (IsBadInRound clauses round) pred positions
+fails_in_round clauses [] pred positions fails = absurd fails
+fails_in_round clauses (clause ∷ some) pred positions fails =
+    ⊎_elim
+    (λ here. ⊎_elim
+    (λ calls. let found = calls_in_round clauses clause.goals (known_at positions clause.head.args) calls.0 calls.1 in (found.0, inl (here.0, inl (calls.0, found.1))))
+    (λ leaves. (0, inl (here.0, inr leaves)))
+    here.1)
+    (λ later. let found = fails_in_round clauses some pred positions later in (found.0, inr found.1))
+    fails
+
+pub bad_fails : (clauses : List ClauseTree) (pred : ℕ) (positions : Known) → IsBad clauses pred positions → SomeFails clauses (IsBad clauses) pred positions
+bad_fails clauses pred positions bad = by bad.0 bad.1
+  where
+    by : (round : ℕ) → IsBadInRound clauses round pred positions → SomeFails clauses (IsBad clauses) pred positions
+    by zero never = absurd never
+    by (suc round) fails = fails_weaker (IsBadInRound clauses round) (IsBad clauses) (λ other known bad_there. (round, bad_there)) clauses pred positions fails
+
+pub fails_bad : (clauses : List ClauseTree) (pred : ℕ) (positions : Known) → SomeFails clauses (IsBad clauses) pred positions → IsBad clauses pred positions
+fails_bad clauses pred positions fails = let found = fails_in_round clauses clauses pred positions fails in (suc found.0, found.1)

@@ -12,7 +12,7 @@ ghost use Rattle.cep_rule.specs.declared.parts.Parts.{Parts};
 ghost use Rattle.cep_rule.specs.declared.offer.Offer.{Offer};
 ghost use Rattle.cep_rule.specs.Patterns.{ClauseTree};
 ghost use Rattle.cep_rule.specs.Typing.{AreValues};
-ghost use Rattle.cep_rule.specs.Groundness.{Known, IsBad};
+ghost use Rattle.cep_rule.specs.Groundness.{Known, IsBad, SomeFails};
 ghost use Rattle.cep_rule.specs.Instances.{full_instances, kept_of, left_of, right_of};
 ghost use Rattle.cep_rule.specs.Offers.{offer_cmp, Applies, AreOffers};
 ghost use Rattle.cep_rule.specs.Derivations.{ProofTree, Proves};
@@ -133,4 +133,12 @@ pub fn more_positions_known_are_no_worse()
         → ((i : ℕ) → few i ≡ true → many i ≡ true)
         → IsBad clauses pred many
         → IsBad clauses pred few }
+{}
+
+/// A pair is bad exactly where some clause of its predicate fails by the bad pairs: so rounds can be
+/// forgotten, and of a pair that is not bad each clause calls no bad pair and leaves no variable of
+/// its head unknown.
+pub fn bad_pairs_are_those_that_fail()
+    ensures { (clauses : List ClauseTree) (pred : ℕ) (positions : Known)
+        → (IsBad clauses pred positions ↔ SomeFails clauses (IsBad clauses) pred positions) }
 {}
