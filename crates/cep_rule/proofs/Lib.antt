@@ -4,6 +4,7 @@ pub mod Copies
 pub mod StepLaws
 pub mod InstanceLaws
 pub mod TypedAtoms
+pub mod TypedValues
 pub mod ShapeLaws
 pub mod SmallValues
 pub mod SideLaws

@@ -89,5 +89,3 @@ pub record IsProgram (parts : Parts) : Type 0 where
   -- the start is a state that fits
   pub start : IsState parts.signature parts.start
   pub start_fits : Fits parts.start
-  -- no rule has a backward premise yet
-  pub no_backs : AllByRecursion (λ rule. rule.backs ≡ []) parts.rules

@@ -1,6 +1,7 @@
 -- Which terms and atoms are well typed, where each variable has a type.
 use Rattle.std.specs.Prelude.{◌≡◌, ℕ, true, false, List, [], ◌∷◌, Some, slice_get, IsSomeAnd}
 use Rattle.cep_term.specs.Tree.{Tree, Trees, AtomTree, variable, node, none, more, IsGround}
+use Rattle.cep_term.specs.Values.{Values, value_of}
 use Rattle.cep_rule.specs.declared.signature.Con.{Con}
 use Rattle.cep_rule.specs.declared.signature.Signature.{Signature}
 
@@ -32,6 +33,12 @@ IsBackward signature a = IsSomeAnd (slice_get signature.preds a.pred) (λ pred. 
 pub record IsValue (cons : List Con) (sort : ℕ) (t : Tree) : Type 0 where
   pub ground : IsGround t
   pub typed : HasSort cons [] sort t
+
+-- The variable has a type, and a value that it has is one of this type.
+pub record IsTypedAt (cons : List Con) (kinds : List ℕ) (values : Values) (v : ℕ) : Type 0 where
+  pub sort : ℕ
+  pub kind : slice_get kinds v ≡ Some sort
+  pub value : (t : Tree) → value_of values v ≡ Some t → IsValue cons sort t
 
 -- There is one value for each variable, of its type.
 abbrev pub AreValues : List Con → List ℕ → List Tree → Type 0

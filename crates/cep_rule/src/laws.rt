@@ -84,7 +84,8 @@ pub fn edits_are_steps()
 }
 
 /// The variables of a well-typed atom have types, and values of the right types, which are as many,
-/// make it a ground one that is well typed.
+/// make it a ground one that is well typed; and where the instance of a term is a value of its type,
+/// so are the values of its variables.
 pub fn types_are_lawful()
     ensures { TypeLaws }
 {}

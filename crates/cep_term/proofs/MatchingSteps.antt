@@ -5,7 +5,8 @@ use Rattle.std.specs.Option.{option_map}
 use Rattle.cep_term.specs.declared.term.Term.{Term}
 use Rattle.cep_term.specs.Tree.{Tree, tree_of}
 use Rattle.cep_term.specs.Values.{Values, value_of, values_of}
-use Rattle.cep_term.specs.Matching.{matched_value, undone}
+use Rattle.cep_term.specs.Matching.{matched_value}
+use Rattle.cep_term.specs.Undoing.{undone}
 use Rattle.cep_term.proofs.ValuesLaws.{values_of-set}
 
 -- a place of the list that has no term is a variable without a value

@@ -3,6 +3,8 @@ pub mod Order
 pub mod Codes
 pub mod Values
 pub mod Matching
+pub mod Undoing
+pub mod MatchingLaws
 pub mod Multiset
 pub mod Entries
 pub mod BagLaws

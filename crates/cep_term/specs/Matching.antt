@@ -1,8 +1,7 @@
--- Private.
 -- Matching as it goes from left to right: each variable takes the first term that it meets, and later meets no other.
-use Rattle.std.specs.Prelude.{ℕ, Bool, ◌==◌, if◌then◌else◌, List, [], ◌∷◌, Option, Some, None, slice_set, option_and_then}
+use Rattle.std.specs.Prelude.{ℕ, ◌==◌, if◌then◌else◌, Option, Some, None, slice_set, option_and_then}
 use Rattle.std.specs.Ordering.{is_eq}
-use Rattle.cep_term.specs.Tree.{Tree, Trees, AtomTree, variable, node, none, more}
+use Rattle.cep_term.specs.Tree.{Tree, Trees, variable, node, none, more}
 use Rattle.cep_term.specs.Order.{tree_cmp}
 use Rattle.cep_term.specs.Values.{Values, value_of}
 
@@ -23,16 +22,3 @@ abbrev mutual
   matched_all values none (more u others) = None
   matched_all values (more t rest) none = None
   matched_all values (more t rest) (more u others) = option_and_then (λ met. matched_all met rest others) (matched values t u)
-
--- the same for atoms, which meet only where they have one predicate
-abbrev pub matched_atom : Values → AtomTree → AtomTree → Option Values
-matched_atom values a b = if a.pred == b.pred then matched_all values a.args b.args else None
-
--- what a matching that ends with these values answers: they, where the two met
-abbrev pub values_if : Bool → Values → Option Values
-values_if met values = if met then Some values else None
-
--- the values without those of the variables on the trail, the last of which was set last
-abbrev pub undone : List ℕ → Values → Values
-undone [] values = values
-undone (v ∷ trail) values = slice_set (undone trail values) v None

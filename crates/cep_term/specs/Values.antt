@@ -42,6 +42,14 @@ HasValues values a = (v : ℕ) → OccursIn v a → IsSome (value_of values v)
 abbrev pub Extends : Values → Values → Type 0
 Extends old new = (v : ℕ) (t : Tree) → value_of old v ≡ Some t → value_of new v ≡ Some t
 
+-- New has the values of old, and besides exactly values of the variables for which it is wanted; where those of old are ground, all are.
+pub record Grows (IsWanted : ℕ → Type 0) (old new : Values) : Type 0 where
+  pub kept : Extends old new
+  pub set : (v : ℕ) → IsWanted v → IsSome (value_of new v)
+  pub others : (v : ℕ) → ¬ (IsWanted v) → value_of new v ≡ value_of old v
+  pub as_many : length new ≡ length old
+  pub known : AreGroundValues old → AreGroundValues new
+
 -- The pattern meets the atom under the values old, and new has besides these exactly the values of the pattern's other variables that make the two equal.
 pub record Meets (old new : Values) (pattern target : AtomTree) : Type 0 where
   pub equal : atom_instance new pattern ≡ target

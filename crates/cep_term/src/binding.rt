@@ -41,6 +41,14 @@ impl Binding {
         Ok(Binding { values })
     }
 
+    /// The variables with these values, each of which is ground. It takes no memory.
+    pub fn of(values: Vec<Option<Term>>) -> Binding
+        requires { AreGroundValues (values_of values.items) }
+        ensures { result ≡ values_of values.items }
+    {
+        Binding { values }
+    }
+
     /// The same values once more. Only want of memory is refused.
     pub fn copy(&self, alloc: Global) -> Result<Binding, AllocError>
         ensures { IfOk result (λ binding. binding ≡ self.now) }
@@ -56,6 +64,14 @@ impl Binding {
         ensures known { AreGroundValues self.now }
     {
         self.values.len()
+    }
+
+    /// The values as they are kept. It takes no memory.
+    pub fn as_slice(&self) -> &[Option<Term>]
+        ensures value { values_of result.now ≡ self.now }
+        ensures known { AreGroundValues self.now }
+    {
+        self.values.as_slice()
     }
 
     /// The value of the variable, and `None` exactly where it has none. It takes no memory.

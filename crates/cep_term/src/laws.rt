@@ -6,6 +6,7 @@ ghost use Rattle.std.specs.FinMap as finite;
 ghost use Rattle.cep_term.specs.Tree.{Tree, AtomTree, variable, IsGroundAtom, OccursIn};
 ghost use Rattle.cep_term.specs.Order.{tree_cmp, atom_cmp};
 ghost use Rattle.cep_term.specs.Values.{Values, value_of, term_instance, atom_instance, AreGroundValues, HasValues, Extends, Meets, NeverMeets};
+ghost use Rattle.cep_term.specs.MatchingLaws.{MatchingLaws};
 ghost use Rattle.cep_term.specs.BagLaws.{BagLaws};
 
 /// The order of terms and of atoms is total, and only equal ones tie.
@@ -54,6 +55,12 @@ pub fn matches_are_least()
     ensures not_both { (old new : Values) (pattern target : AtomTree)
         → Meets old new pattern target
         → ¬ (NeverMeets old pattern target) }
+{}
+
+/// Matching from left to right finds the values by which a pattern is a ground term, where there are
+/// any.
+pub fn matching_is_lawful()
+    ensures { MatchingLaws }
 {}
 
 /// What setting a count, sums, differences and gathering do to the counts, the copies and the nodes of

@@ -1,7 +1,7 @@
 use Rattle.std.proofs.Common.{◌≡◌, ◌<◌, length, vec_len}
 use Rattle.std.specs.Prelude.{All}
 use Rattle.cep_term.specs.Values.{values_of}
-use Rattle.cep_term.specs.Matching.{undone}
+use Rattle.cep_term.specs.Undoing.{undone}
 use Rattle.cep_term.proofs.matching.undo.Given as goal
 
 abbrev pub invariant-loop-v : goal.invariant-loop-v
