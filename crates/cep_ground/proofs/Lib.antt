@@ -22,7 +22,10 @@ pub mod PlaceOrder
 pub mod Refused
 pub mod Plain
 pub mod EarliestLaws
+pub mod EarliestPlaces
 pub mod Unbound
+pub mod Marked
+pub mod Ungrounded
 pub mod HeadLaws
 pub mod TypedTerms
 pub mod Spelled

@@ -24,7 +24,8 @@ use Rattle.cep_rule.specs.Binding.{IsBoundRule, IsBoundClause}
 use Rattle.cep_rule.specs.Limits.{IsSmallPattern, IsSmallSignature, IsSmallRule, IsSmallClause}
 use Rattle.cep_base.specs.Bounds.{IsTurnLimit}
 use Rattle.cep_base.specs.declared.limits.TheConstants.{MOST_TURNS}
-use Rattle.cep_rule.specs.Groundness.{CallsAt, IsBad, IsGrounded, nothing, known_after_all}
+use Rattle.cep_rule.specs.Groundness.{IsGrounded}
+use Rattle.cep_modes.specs.Grounding.{AreInOrder}
 use Rattle.cep_rule.specs.Binding.{needed_of}
 use Rattle.cep_rule.specs.State.{IsState}
 use Rattle.cep_rule.specs.Program.{AreSorts, AreNumbersDeclared, IsTypedRule, IsTypedClause, IsDividedRule, IsDividedClause, IsGroupedRule, IsProgram}
@@ -42,7 +43,9 @@ use Rattle.cep_names.specs.Misnamed.{IsOver as overs}
 use Rattle.cep_types.specs.Sites.{rule_scope, clause_scope}
 use Rattle.cep_types.specs.Heads.{number_of, sorts_said}
 use Rattle.cep_infer.specs.Meaning.{con_by, pred_by, signature_of, stage_by, names_of, is_back, IsRuleBy, AreRulesBy, IsClauseBy, AreClausesBy, AreParts}
-use Rattle.cep_infer.specs.Places.{unbound_of}
+use Rattle.cep_infer.specs.Places.{backs_at, unbound_of}
+use Rattle.cep_names.specs.Misnamed.{backward_of}
+use Rattle.cep_parse.specs.declared.raw.RawAtom.{RawAtom}
 use Rattle.cep_ground.specs.Texts.{IsClean, IsBound}
 use Rattle.cep_base.proofs.Elements.{contains_none, contains_first, contains_behind, contains_cases, contains_left, contains_right, contains_map, flat_cases, all_at, all_of}
 use Rattle.cep_ground.proofs.Known.{own_item_uses}
@@ -216,19 +219,13 @@ module _ (source : Source) (clean : IsClean source) (made : AtomsMade source) (i
   turns_by None = tt
   turns_by (Some number) = search turns_few
 
-  -- no rule without backward premises calls a bad pair
-  grounded : (clauses : List ClauseTree) (rules : List Rule) → AllByRecursion (λ (rule : Rule). rule.backs ≡ []) rules → AllByRecursion (IsGrounded clauses) rules
-  grounded clauses rules none = all_follow (λ (rule : Rule). rule.backs ≡ []) (IsGrounded clauses) rules (λ rule empty i calls. subst (λ backs. CallsAt (IsBad clauses) (known_after_all nothing (needed_of rule)) backs i) empty calls) none
-
-  pub is_program : (parts : Parts) → AreParts source parts → AllByRecursion (λ (rule : Rule). rule.backs ≡ []) parts.rules → IsProgram parts
-  is_program parts are none =
+  -- whose modes can be decided
+  pub is_in_order : (parts : Parts) → AreParts source parts → AreInOrder parts
+  is_in_order parts are =
       let rule_names_ = map (λ (n : Named). n.name) (names_in source space.Rules) in
       let each_rule : (P : Rule → Type 0) → ((name : List ℕ) (item_ : RuleItem) (rule : Rule) → Contains (rules_of source) item_ → IsRuleBy source name item_ rule → P rule) → AllByRecursion P parts.rules = λ P each. all_rules P rule_names_ (rules_of source) parts.rules each are.rules_are in
       let each_clause : (P : ClauseTree → Type 0) → ((item_ : ClauseItem) (clause : ClauseTree) → Contains (clauses_of source) item_ → IsClauseBy source item_ clause → P clause) → AllByRecursion P parts.clauses = λ P each. all_clauses P (clauses_of source) parts.clauses each are.clauses_are in
-      let trace_there : Contains (traces_of source) are.trace = subst (λ ts. Contains ts are.trace) (sym are.first) (contains_first are.trace are.rest) in
-      let start = start_good source clean made starts laws are.trace are.rest parts.start are.first are.start_is in
       let stage_size : length parts.stages ≡ length (stages_of source) = ap length are.stages_are ∙ length-map (stages_of source) (stage_by source) in
-      let sort_size : length parts.signature.sorts ≡ length (sorts_of source) = ap (λ (s : Signature). length s.sorts) are.signature_is ∙ length-map (sorts_of source) (said source) in
       record {
         small = record {
           signature = subst IsSmallSignature (sym are.signature_is) small_signature;
@@ -240,6 +237,30 @@ module _ (source : Source) (clean : IsClean source) (made : AtomsMade source) (i
           each_clause = each_clause IsSmallClause small_clause;
           turns = subst (λ turns. IfSome turns IsTurnLimit) (sym are.turns_are) (turns_by are.trace.limit);
         };
+        typed_rules = subst (λ s. AllByRecursion (IsTypedRule s) parts.rules) (sym are.signature_is) (each_rule (IsTypedRule (signature_of source)) (rule_typed source clean made));
+        typed_clauses = subst (λ s. AllByRecursion (IsTypedClause s) parts.clauses) (sym are.signature_is) (each_clause (IsTypedClause (signature_of source)) (clause_typed source clean made));
+      }
+
+  -- a rule has as many backward premises as are written
+  pub backs_counted : (name : List ℕ) (item_ : RuleItem) (rule : Rule) → Contains (rules_of source) item_ → IsRuleBy source name item_ rule → length rule.backs ≡ length (backs_at source item_)
+  backs_counted name item_ rule there by =
+      ap length by.backs_are
+      ∙ length-map (filter (λ (p : PremiseTree). is_back source p.atom) by.left) (λ (p : PremiseTree). p.atom)
+      ∙ back_count source clean made rule.vars 0 item_.raw.left by.left (left_here source clean made item_ there) by.left_is
+      ∙ sym (length-map (backward_of source item_.raw) (λ (atom : RawAtom). atom.name.from))
+
+  pub is_program : (parts : Parts) → AreParts source parts → AllByRecursion (IsGrounded parts.clauses) parts.rules → IsProgram parts
+  is_program parts are grounded =
+      let ordered = is_in_order parts are in
+      let rule_names_ = map (λ (n : Named). n.name) (names_in source space.Rules) in
+      let each_rule : (P : Rule → Type 0) → ((name : List ℕ) (item_ : RuleItem) (rule : Rule) → Contains (rules_of source) item_ → IsRuleBy source name item_ rule → P rule) → AllByRecursion P parts.rules = λ P each. all_rules P rule_names_ (rules_of source) parts.rules each are.rules_are in
+      let each_clause : (P : ClauseTree → Type 0) → ((item_ : ClauseItem) (clause : ClauseTree) → Contains (clauses_of source) item_ → IsClauseBy source item_ clause → P clause) → AllByRecursion P parts.clauses = λ P each. all_clauses P (clauses_of source) parts.clauses each are.clauses_are in
+      let trace_there : Contains (traces_of source) are.trace = subst (λ ts. Contains ts are.trace) (sym are.first) (contains_first are.trace are.rest) in
+      let start = start_good source clean made starts laws are.trace are.rest parts.start are.first are.start_is in
+      let stage_size : length parts.stages ≡ length (stages_of source) = ap length are.stages_are ∙ length-map (stages_of source) (stage_by source) in
+      let sort_size : length parts.signature.sorts ≡ length (sorts_of source) = ap (λ (s : Signature). length s.sorts) are.signature_is ∙ length-map (sorts_of source) (said source) in
+      record {
+        small = ordered.small;
         named = record {
           sorts = subst (λ (s : Signature). AreNames s.sorts) (sym are.signature_is) (sort_names source clean items);
           cons = subst (λ (s : Signature). AreNames (map (λ con. con.name) s.cons)) (sym are.signature_is) (subst AreNames (map_same (λ (con : Con). con.name) (con_by source) (λ (con : ConItem). said source con.name) (cons_of source) (λ con. refl)) (con_names source clean items));
@@ -254,17 +275,16 @@ module _ (source : Source) (clean : IsClean source) (made : AtomsMade source) (i
               subst (AllByRecursion IsVariableName) (sym by.vars_are) (variable_names source clean made (clause_scope item_) here (nodes_of_scope (clause_scope item_) here)));
         };
         in_range = in_range_parts parts are each_rule each_clause sort_size stage_size trace_there;
-        typed_rules = subst (λ s. AllByRecursion (IsTypedRule s) parts.rules) (sym are.signature_is) (each_rule (IsTypedRule (signature_of source)) (rule_typed source clean made));
-        typed_clauses = subst (λ s. AllByRecursion (IsTypedClause s) parts.clauses) (sym are.signature_is) (each_clause (IsTypedClause (signature_of source)) (clause_typed source clean made));
+        typed_rules = ordered.typed_rules;
+        typed_clauses = ordered.typed_clauses;
         bound_rules = each_rule IsBoundRule (λ name item_ rule there by. rule_bound source name item_ rule (all_at (λ (rule : RuleItem). unbound_of source rule ≡ []) (rules_of source) item_ bound there) by);
         bound_clauses = each_clause IsBoundClause (λ item_ clause there by. clause_bound source item_ clause by);
         divided_rules = subst (λ s. AllByRecursion (IsDividedRule s) parts.rules) (sym are.signature_is) (each_rule (IsDividedRule (signature_of source)) (rule_divided source clean made));
         divided_clauses = subst (λ s. AllByRecursion (IsDividedClause s) parts.clauses) (sym are.signature_is) (each_clause (IsDividedClause (signature_of source)) (clause_divided source clean made));
         grouped = subst (λ n. AllByRecursion (IsGroupedRule n) parts.rules) (sym stage_size) (each_rule (IsGroupedRule (length (stages_of source))) (rule_grouped source clean));
-        grounded = grounded parts.clauses parts.rules none;
+        grounded = grounded;
         start = subst (λ s. IsState s parts.start) (sym are.signature_is) start.state;
         start_fits = start.fits;
-        no_backs = none;
       }
     where
       in_range_parts : (parts : Parts) (are : AreParts source parts)

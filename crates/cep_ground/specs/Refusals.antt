@@ -1,5 +1,5 @@
 -- What is wrong with a text, case by case, and what of it is told.
-use Rattle.std.specs.Prelude.{◌≡◌, ◌⊎◌, ℕ, ◌<◌, ◌≤◌, true, List, [], length, None, IsSomeAnd, slice_get, Contains, Result, Ok, Err}
+use Rattle.std.specs.Prelude.{◌≡◌, ◌⊎◌, ℕ, ◌<◌, ◌≤◌, true, List, length, None, Some, IsSomeAnd, slice_get, Contains, Result, Ok, Err}
 use Rattle.std.specs.List.{AllByRecursion}
 use Rattle.cep_base.specs.declared.place.Pos.{Pos}
 use Rattle.cep_lex.specs.declared.token.Token.{Token}
@@ -9,8 +9,9 @@ use Rattle.cep_parse.specs.Symbols.{symbols_of}
 use Rattle.cep_parse.specs.Files.{IsUnexpected, IsNested}
 use Rattle.cep_rule.specs.declared.rule.Rule.{Rule}
 use Rattle.cep_rule.specs.declared.parts.Parts.{Parts}
+use Rattle.cep_rule.specs.Groundness.{IsUngroundedAt, IsGrounded}
 use Rattle.cep_refusal.specs.declared.fault.Fault.{Fault}
-use Rattle.cep_refusal.specs.declared.reason.Reason.TheVariants.{BadByte, NameLong, Unexpected, Nested, Unbound, TooLong, NotBuilt}
+use Rattle.cep_refusal.specs.declared.reason.Reason.TheVariants.{BadByte, NameLong, Unexpected, Nested, Unbound, Ungrounded, TooLong, NotBuilt}
 use Rattle.cep_names.specs.Items.{Source, RuleItem, rules_of}
 use Rattle.cep_names.specs.Variables.{Occurrence}
 use Rattle.cep_refusal.specs.First.{wrong, IsToldFirst}
@@ -20,13 +21,12 @@ use Rattle.cep_types.specs.Sites.{Mistyped}
 use Rattle.cep_refusal.specs.declared.refusal.Refusal.{Refusal}
 use Rattle.cep_infer.specs.Shapes.{IsSource}
 use Rattle.cep_infer.specs.Meaning.{AreParts}
-use Rattle.cep_infer.specs.Places.{unbound_of}
+use Rattle.cep_infer.specs.Places.{backs_at, unbound_of}
 use Rattle.cep_ground.specs.Texts.{IsClean, IsBound, Spells}
 
--- A rule that can be played today: it has no backward premises, and leaves no stage.
-pub record IsPlainRule (rule : Rule) : Type 0 where
-  pub backs : rule.backs ≡ []
-  pub next : rule.next ≡ None
+-- A rule that can be played today: it leaves no stage.
+abbrev pub IsPlainRule : Rule → Type 0
+IsPlainRule rule = rule.next ≡ None
 
 -- In the start stage the player chooses.
 abbrev pub IsInteractive : Parts → Type 0
@@ -36,6 +36,19 @@ IsInteractive parts = IsSomeAnd (slice_get parts.stages parts.start_stage) (λ s
 pub record IsBuilt (parts : Parts) : Type 0 where
   pub rules : AllByRecursion IsPlainRule parts.rules
   pub interactive : IsInteractive parts
+
+-- A backward premise of a source stands at this place and calls a bad pair: it is the one at a place of the rule with some number.
+pub record IsUngroundedIn (source : Source) (at : ℕ) : Type 0 where
+  pub parts : Parts
+  pub declared : AreParts source parts
+  pub number : ℕ
+  pub premise : ℕ
+  pub item : RuleItem
+  pub rule : Rule
+  pub written : slice_get (rules_of source) number ≡ Some item
+  pub numbered : slice_get parts.rules number ≡ Some rule
+  pub calls : IsUngroundedAt parts.clauses rule premise
+  pub here : slice_get (backs_at source item) premise ≡ Some at
 
 -- What is wrong with a text.
 pub data IsWrong (text : List ℕ) (fault : Fault) : Type 0 where
@@ -52,8 +65,10 @@ pub data IsWrong (text : List ℕ) (fault : Fault) : Type 0 where
   mistyped : (source : Source) → source.text ≡ text → length text ≤ MOST_TEXT → IsSource source → Mistyped source fault → IsWrong text fault
   -- a variable of a right side is not on the left, or a blank stands there
   unbound : (source : Source) (rule : RuleItem) (occurrence : Occurrence) → source.text ≡ text → length text ≤ MOST_TEXT → IsSource source → Contains (rules_of source) rule → Contains (unbound_of source rule) occurrence → fault ≡ wrong Unbound occurrence.at.from → IsWrong text fault
+  -- a backward premise may leave a variable unknown
+  ungrounded : (source : Source) (at : ℕ) → source.text ≡ text → IsClean source → IsUngroundedIn source at → fault ≡ wrong Ungrounded at → IsWrong text fault
   -- nothing of that is wrong, but what it declares cannot be played yet
-  not_built : (source : Source) (parts : Parts) → source.text ≡ text → IsClean source → IsBound source → AreParts source parts → ¬ (IsBuilt parts) → fault ≡ wrong NotBuilt 0 → IsWrong text fault
+  not_built : (source : Source) (parts : Parts) → source.text ≡ text → IsClean source → IsBound source → AreParts source parts → AllByRecursion (IsGrounded parts.clauses) parts.rules → ¬ (IsBuilt parts) → fault ≡ wrong NotBuilt 0 → IsWrong text fault
 
 -- The text is refused for this fault: it is wrong, and told no later than all else that is wrong.
 pub record IsRefusedFor (text : List ℕ) (fault : Fault) : Type 0 where

@@ -38,7 +38,7 @@ pub fn accept(alloc: Global, text: &[u8]) -> Result<Result<Program, Refusal>, Al
         Err(fault) => return Ok(Err(of_grammar(text, &tokens, fault))),
     };
     match resolve(alloc, text, &file)? {
-        Ok(draft) => Ok(judged(text, &file, draft)),
+        Ok(draft) => judged(alloc, text, &file, draft),
         Err(refusal) => Ok(Err(refusal)),
     }
 }

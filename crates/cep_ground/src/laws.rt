@@ -1,12 +1,15 @@
 //! Laws of texts and programs. Each function computes nothing, and its contract is the law.
-ghost use Rattle.std.specs.Prelude.{◌≡◌, ℕ, List, []};
+ghost use Rattle.std.specs.Prelude.{◌≡◌, ℕ, List, length, Contains};
 ghost use Rattle.std.specs.List.{AllByRecursion};
+ghost use Rattle.cep_rule.specs.declared.rule.Rule.{Rule};
 ghost use Rattle.cep_rule.specs.declared.parts.Parts.{Parts};
 ghost use Rattle.cep_rule.specs.Groundness.{IsGrounded};
 ghost use Rattle.cep_rule.specs.Program.{IsProgram};
 ghost use Rattle.cep_refusal.specs.declared.fault.Fault.{Fault};
-ghost use Rattle.cep_names.specs.Items.{Source};
-ghost use Rattle.cep_infer.specs.Meaning.{AreParts};
+ghost use Rattle.cep_modes.specs.Grounding.{AreInOrder};
+ghost use Rattle.cep_names.specs.Items.{Source, RuleItem, rules_of};
+ghost use Rattle.cep_infer.specs.Meaning.{AreParts, IsRuleBy};
+ghost use Rattle.cep_infer.specs.Places.{backs_at};
 ghost use Rattle.cep_ground.specs.Texts.{IsClean, IsBound, Spells};
 ghost use Rattle.cep_ground.specs.Refusals.{IsBuilt, IsWrong};
 
@@ -16,14 +19,27 @@ use cep_parse::{items_are_made_of_tokens, one_raw_file, parsed_once};
 use cep_term::laws::bags_are_lawful;
 
 /// What a text declares is a program, where nothing is wrong with its names and types, each variable
-/// of a right side is on the left, and no rule has a backward premise yet.
+/// of a right side is on the left, and no backward premise may leave a variable unknown. Without the
+/// last its modes can be decided, and its rules have as many backward premises as are written.
 pub fn clean_parts_are_a_program()
-    ensures { (source : Source) (parts : Parts)
+    ensures program { (source : Source) (parts : Parts)
         → IsClean source
         → IsBound source
         → AreParts source parts
-        → AllByRecursion (λ rule. rule.backs ≡ []) parts.rules
+        → AllByRecursion (IsGrounded parts.clauses) parts.rules
         → IsProgram parts }
+    ensures in_order { (source : Source) (parts : Parts)
+        → IsClean source
+        → IsBound source
+        → AreParts source parts
+        → AreInOrder parts }
+    ensures counted { (source : Source)
+        → IsClean source
+        → IsBound source
+        → (name : List ℕ) (item : RuleItem) (rule : Rule)
+        → Contains (rules_of source) item
+        → IsRuleBy source name item rule
+        → length rule.backs ≡ length (backs_at source item) }
 {
     items_are_made_of_tokens();
     atoms_are_made_of_tokens();

@@ -1,17 +1,20 @@
-ghost use Rattle.std.specs.Prelude.{◌↔◌, ◌≤◌, ◌<◌, length, take, map, IsTrue};
+ghost use Rattle.std.specs.Prelude.{◌↔◌, ◌≤◌, ◌<◌, length, take, map, IsTrue, IfOk};
 ghost use Rattle.std.specs.List.{AllByRecursion};
+ghost use Rattle.cep_rule.specs.Groundness.{IsGrounded};
 ghost use Rattle.cep_infer.specs.Meaning.{AreParts};
 ghost use Rattle.cep_infer.specs.Places.{IsDraft};
 ghost use Rattle.cep_ground.specs.Texts.{IsClean, IsBound};
 ghost use Rattle.cep_ground.specs.Refusals.{IsPlainRule, IsInteractive, IsAccepted};
 
 use crate::laws::clean_parts_are_a_program;
-use crate::places::earliest_of_all;
+use crate::places::{earliest_of_all, earliest_of_marked};
 use cep_infer::Draft;
 use cep_lex::lexed_once;
+use cep_modes::ungrounded_premises;
 use cep_parse::{RawFile, one_raw_file, parsed_once};
 use cep_refusal::{Fault, Reason, Refusal};
 use cep_rule::{Parts, Program, Rule, Rules};
+use std::alloc::{AllocError, Global};
 
 // Why a program without fault is refused that cannot be played today.
 const NOT_BUILT: Fault = Fault {
@@ -23,7 +26,7 @@ const NOT_BUILT: Fault = Fault {
 fn is_plain(rule: &Rule) -> bool
     ensures { IsTrue result ↔ IsPlainRule rule.now }
 {
-    rule.backs.len() == 0 && rule.next.is_none()
+    rule.next.is_none()
 }
 
 // Whether all rules can be played today.
@@ -39,20 +42,51 @@ fn are_plain(rules: &Rules) -> bool
 }
 
 // The program of a text's draft, where nothing is wrong with its names and types.
-pub(crate) fn judged(text: &[u8], file: &RawFile, draft: Draft) -> Result<Program, Refusal>
+pub(crate) fn judged(
+    alloc: Global,
+    text: &[u8],
+    file: &RawFile,
+    draft: Draft,
+) -> Result<Result<Program, Refusal>, AllocError>
     requires clean { IsClean (record { text = text.now; file = file.now }) }
     requires declared { IsDraft (record { text = text.now; file = file.now }) draft }
-    ensures { IsAccepted text.now result }
+    ensures { IfOk result (λ answer. IsAccepted text.now answer) }
 {
     lexed_once();
     one_raw_file();
     parsed_once();
     match earliest_of_all(&draft.right_places) {
-        Some(pos) => Err(Refusal {
+        Some(pos) => Ok(Err(Refusal {
             pos,
             reason: Reason::Unbound,
-        }),
-        None => sealed(text, file, draft.parts),
+        })),
+        None => grounded(alloc, text, file, draft),
+    }
+}
+
+// The same, where each variable of a right side is on the left too.
+fn grounded(
+    alloc: Global,
+    text: &[u8],
+    file: &RawFile,
+    draft: Draft,
+) -> Result<Result<Program, Refusal>, AllocError>
+    requires clean { IsClean (record { text = text.now; file = file.now }) }
+    requires bound { IsBound (record { text = text.now; file = file.now }) }
+    requires declared { IsDraft (record { text = text.now; file = file.now }) draft }
+    ensures { IfOk result (λ answer. IsAccepted text.now answer) }
+{
+    clean_parts_are_a_program();
+    lexed_once();
+    one_raw_file();
+    parsed_once();
+    let marks = ungrounded_premises(alloc, &draft.parts)?;
+    match earliest_of_marked(&draft.back_places, &marks) {
+        Some(pos) => Ok(Err(Refusal {
+            pos,
+            reason: Reason::Ungrounded,
+        })),
+        None => Ok(sealed(text, file, draft.parts)),
     }
 }
 
@@ -61,6 +95,7 @@ fn sealed(text: &[u8], file: &RawFile, parts: Parts) -> Result<Program, Refusal>
     requires clean { IsClean (record { text = text.now; file = file.now }) }
     requires bound { IsBound (record { text = text.now; file = file.now }) }
     requires declared { AreParts (record { text = text.now; file = file.now }) parts }
+    requires grounded { AllByRecursion (IsGrounded parts.clauses) parts.rules }
     ensures { IsAccepted text.now result }
 {
     clean_parts_are_a_program();

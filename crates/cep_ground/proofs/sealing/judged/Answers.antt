@@ -8,8 +8,8 @@ use Rattle.cep_ground.proofs.Refused.{refused_unbound}
 use Rattle.cep_ground.proofs.Unbound.{first_unbound, all_bound}
 use Rattle.cep_ground.proofs.sealing.judged.Goals as goal
 
-pub sealed-requires-clause-bound : goal.sealed-requires-clause-bound
-sealed-requires-clause-bound c =
+pub grounded-requires-clause-bound : goal.grounded-requires-clause-bound
+grounded-requires-clause-bound c =
     all_bound (record { text = c.args.text.now; file = c.args.file.now }) c.args.draft.right_places c.requires.declared.unbound_are
     (subst (IsEarliest (flat_map (λ ps. ps) c.args.draft.right_places)) c.in-None.is c.earliest_of_all.ensures)
 

@@ -7,7 +7,7 @@ use Rattle.cep_rule.specs.declared.parts.Parts.{Parts}
 use Rattle.cep_rule.specs.Groundness.{IsGrounded}
 use Rattle.cep_infer.specs.Meaning.{AreParts}
 use Rattle.cep_ground.specs.Refusals.{IsPlainRule, IsInteractive}
-use Rattle.cep_ground.proofs.Plain.{plain_backs, yes_of, no_of}
+use Rattle.cep_ground.proofs.Plain.{yes_of, no_of}
 use Rattle.cep_ground.proofs.Refused.{refused_not_built}
 use Rattle.cep_ground.proofs.sealing.sealed.Goals as goal
 
@@ -16,15 +16,14 @@ returns-then-not-are_plain c =
     let not_plain = no_of c.are_plain.result (AllByRecursion IsPlainRule c.args.parts.rules) c.are_plain.ensures c.if-not-are_plain.true in (
       wrong NotBuilt 0,
       refused_not_built c.lexed_once.ensures c.args.text.now c.parsed_once.ensures (λ text tokens one other. c.one_raw_file.ensures (symbols_of text tokens) one other)
-          (record { text = c.args.text.now; file = c.args.file.now }) refl c.requires.clean.short c.requires.clean.is_source c.requires.clean c.requires.bound c.args.parts c.requires.declared (λ built. not_plain built.rules),
+          (record { text = c.args.text.now; file = c.args.file.now }) refl c.requires.clean.short c.requires.clean.is_source c.requires.clean c.requires.bound c.args.parts c.requires.declared c.requires.grounded (λ built. not_plain built.rules),
       c.of.ensures,
     )
 
 pub seal-program-requires : goal.seal-program-requires
 seal-program-requires c =
-    let plain = yes_of c.are_plain.result (AllByRecursion IsPlainRule c.args.parts.rules) c.are_plain.ensures c.if-not-are_plain.false in
-    c.clean_parts_are_a_program.ensures (record { text = c.args.text.now; file = c.args.file.now }) c.args.parts c.requires.clean
-    c.requires.bound c.requires.declared (plain_backs c.args.parts.rules plain)
+    c.clean_parts_are_a_program.ensures.program (record { text = c.args.text.now; file = c.args.file.now }) c.args.parts c.requires.clean
+    c.requires.bound c.requires.declared c.requires.grounded
 
 pub returns-then-is_asked : goal.returns-then-is_asked
 returns-then-is_asked c =
@@ -37,9 +36,7 @@ returns-then-is_asked c =
         clean = c.requires.clean;
         declared = subst (AreParts (record { text = c.args.text.now; file = c.args.file.now })) (sym same) c.requires.declared;
         bound = c.requires.bound;
-        grounded = subst (λ (p : Parts). AllByRecursion (IsGrounded p.clauses) p.rules) (sym same)
-            (c.clean_parts_are_a_program.ensures (record { text = c.args.text.now; file = c.args.file.now }) c.args.parts c.requires.clean
-            c.requires.bound c.requires.declared (plain_backs c.args.parts.rules plain)).grounded;
+        grounded = subst (λ (p : Parts). AllByRecursion (IsGrounded p.clauses) p.rules) (sym same) c.requires.grounded;
       },
       record {
         rules = subst (λ (p : Parts). AllByRecursion IsPlainRule p.rules) (sym same) plain;
@@ -53,7 +50,7 @@ returns-else-is_asked c =
     let not_asked = no_of c.is_asked.result (IsInteractive c.seal-program.result) c.is_asked.ensures c.if-is_asked.false in (
       wrong NotBuilt 0,
       refused_not_built c.lexed_once.ensures c.args.text.now c.parsed_once.ensures (λ text tokens one other. c.one_raw_file.ensures (symbols_of text tokens) one other)
-          (record { text = c.args.text.now; file = c.args.file.now }) refl c.requires.clean.short c.requires.clean.is_source c.requires.clean c.requires.bound c.args.parts c.requires.declared
+          (record { text = c.args.text.now; file = c.args.file.now }) refl c.requires.clean.short c.requires.clean.is_source c.requires.clean c.requires.bound c.args.parts c.requires.declared c.requires.grounded
           (λ built. not_asked (subst IsInteractive (sym same) built.interactive)),
       c.of-else-is_asked.ensures,
     )

@@ -1,0 +1,13 @@
+use Rattle.std.proofs.Common.{ap, ◌∙◌, ◌∷◌, [], ◌++◌}
+use Rattle.cep_term.specs.Tree.{atom_of}
+use Rattle.cep_modes.specs.Places.{holds}
+use Rattle.cep_modes.proofs.Looping.{call_found, goal_learnt}
+use Rattle.cep_modes.proofs.callees.add_calls.Goals as goal
+
+pub loop-i-preserved : goal.loop-i-preserved
+loop-i-preserved c = record {
+  found =
+      call_found c.args.goals.now c.loop-i.i (atom_of c.get-goal.result.now) (holds c.loop-i.known) (holds c.learn_all.new.known) c.loop-i.found.items c.push.new.self.items _
+      c.get-goal.ensures (c.in_ok-push.ensures.items ∙ ap (λ n. c.loop-i.found.items ++ n ∷ []) c.place.ensures) c.learn_all.ensures c.loop-i.invariant.found;
+  known = goal_learnt c.args.goals.now c.loop-i.i (atom_of c.get-goal.result.now) (holds c.loop-i.known) (holds c.learn_all.new.known) _ c.get-goal.ensures c.learn_all.ensures c.loop-i.invariant.known;
+}

@@ -1,0 +1,4 @@
+pub mod Grounding
+pub mod Places
+pub mod Reaching
+pub mod Leading
