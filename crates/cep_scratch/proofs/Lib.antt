@@ -4,5 +4,12 @@ pub mod Matching
 pub mod Gaining
 pub mod Ordered
 pub mod Values
+pub mod Groundness
+pub mod Derived
+pub mod Filled
 pub mod RuleMatches
 pub mod Collecting
+pub mod Finite
+pub mod Finding
+pub mod Rising
+pub mod OffersThere

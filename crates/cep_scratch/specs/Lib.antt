@@ -1,3 +1,4 @@
 pub mod Partial
+pub mod Backs
 pub mod Groups
 pub mod Scratch

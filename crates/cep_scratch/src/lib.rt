@@ -1,12 +1,15 @@
 //! Matching from scratch: the plain matcher of Ceptre's rules, which at each step looks at the whole
 //! state again.
 //!
-//! A rule is matched premise by premise, in written order. For each premise the entries of the state
-//! that have its predicate are tried, one after another, and each that meets it is followed before
-//! the next. What was found is sorted in the end, group by group.
+//! A rule is matched premise by premise, in written order. For each linear premise the entries of the
+//! state that have its predicate are tried, one after another, and each that meets it is followed before
+//! the next. Then each backward premise is asked of backward chaining, and each of its answers is
+//! followed before the next. What was found is sorted in the end, group by group.
 #![tactic(auto)]
 
+mod backs;
 mod groups;
+pub mod laws;
 mod partial;
 mod scratch;
 mod search;
