@@ -1,5 +1,6 @@
 -- What the statuses of the command say.
-use Rattle.std.proofs.Common.{◌≡◌, ℕ, ◌+◌, ◌<◌, ◌≤◌, List, [], ◌∷◌, length, get_or, refl, sym, subst, inl, inr, lit<, arith, Option, None, Some}
+use Rattle.std.proofs.Math.Seq.{take-length}
+use Rattle.std.proofs.Common.{◌≡◌, ℕ, ◌+◌, ◌-◌, ◌<◌, ◌≤◌, List, [], ◌∷◌, length, map, take, drop, ap, ◌∙◌, get_or, refl, sym, subst, inl, inr, lit<, arith, Option, None, Some}
 use Rattle.std.proofs.lemmas.List.{length-replicate}
 use Rattle.std.specs.Prelude.{Contains, replicate}
 use Rattle.std.specs.Option.{IsSomeAnd}
@@ -13,40 +14,44 @@ use Rattle.cep_rule.specs.declared.parts.Parts.{Parts}
 use Rattle.cep_refusal.specs.declared.refusal.Refusal.{Refusal}
 use Rattle.cep_refusal.specs.declared.fault.Fault.{Fault}
 use Rattle.cep_ground.specs.Texts.{Spells}
-use Rattle.cep_ground.specs.Refusals.{IsPlainRule, IsBuilt, IsWrong, IsAccepted}
+use Rattle.cep_ground.specs.Refusals.{IsBuilt, IsWrong, IsAccepted}
 use Rattle.std.specs.Prelude.{Result, Ok, Err}
 use Rattle.cep_play.specs.declared.command.Status.{Status}
 use Rattle.cep_play.specs.declared.command.Status.TheVariants.{Ended, Usage, Refused, Limited, Console, Unread, Memory}
 use Rattle.cep_play.specs.declared.ending.EndWord.{EndWord}
 use Rattle.cep_play.specs.declared.ending.EndWord.TheVariants.{Quiet, Input, Turns, Offers, Typed, Atom, State}
+use Rattle.cep_play.specs.declared.options.Options.{Options}
 use Rattle.cep_play.specs.declared.settings.Settings.{Settings}
 use Rattle.cep_play.specs.Deciding.{Supply}
-use Rattle.cep_play.specs.Run.{Position, start_of, whole_supply, Turn, Ending, AreTurns, AreMachineSteps}
+use Rattle.cep_play.specs.Run.{Position, start_of, whole_supply, Turn, Ending, AreTurns, AreMachineSteps, unproved}
 use Rattle.cep_play.specs.Dialogue.{Dialogue}
 use Rattle.cep_play.specs.Command.{Play, AskFor, settings_of, IsSaid, Says, HaveNoForm, Writes, Refuses, refusal_text, usage}
 use Rattle.cep_play.specs.Outcome.{AsksFile, AskedAsSaid, OfText, OfRun, OfWords, code_of, status_of}
 use Rattle.cep_play.proofs.Did.{did_map}
 use Rattle.cep_play.proofs.Runs.{IsTold}
 
--- a slice of two items
-pub two_items : {X : Type 0} (items : List X) (one other : X) → 2 ≤ length items → length items ≤ 2 → one ≡ get_or items 0 one → other ≡ get_or items 1 other → items ≡ one ∷ other ∷ []
-two_items [] one other least most e f = absurd (omega arith)
-two_items (a ∷ []) one other least most e f = absurd (omega arith)
-two_items (a ∷ b ∷ []) one other least most e f = cc
-two_items (a ∷ b ∷ d ∷ more) one other least most e f = absurd (omega arith)
+-- a slice that begins with two items
+pub two_items : {X : Type 0} (items : List X) (one other : X) → 2 ≤ length items → one ≡ get_or items 0 one → other ≡ get_or items 1 other → items ≡ one ∷ other ∷ take (length items - 2) (drop 2 items)
+two_items [] one other least e f = absurd (omega arith)
+two_items (a ∷ []) one other least e f = absurd (omega arith)
+two_items (a ∷ b ∷ more) one other least e f =
+    let rest : take (length (a ∷ b ∷ more) - 2) more ≡ more = ap (λ n. take n more) (let h : length (a ∷ b ∷ more) - 2 ≡ length more = omega arith in h) ∙ take-length more in
+    cc
 
--- no rule of a program that can be played has a backward premise
-no_backs : (rules : List Rule) → AllByRecursion IsPlainRule rules → AllByRecursion (λ rule. rule.backs ≡ []) rules
-no_backs [] plain = tt
-no_backs (rule ∷ rules) plain = (plain.0.backs, no_backs rules plain.1)
-
--- that one dialogue is there, told for any two
+-- that one dialogue is there but for derivations, told for any two
 abbrev pub IsOneDialogue : Type 0
 IsOneDialogue =
     (program : Parts) (settings : Settings) (come : List ℕ) (turns turns' : List Turn) (ending ending' : Ending) (events events' : List Event) (rest rest' : List ℕ)
-    → AllByRecursion (λ rule. rule.backs ≡ []) program.rules
     → Dialogue program settings come turns ending events rest → Dialogue program settings come turns' ending' events' rest'
-    → (events ≡ events') × (ending ≡ ending') × (rest ≡ rest')
+    → (map unproved turns ≡ map unproved turns') × (ending ≡ ending') × (rest ≡ rest')
+
+-- and that it is one to the byte where no rule has a backward premise
+abbrev pub IsOneToTheByte : Type 0
+IsOneToTheByte =
+    (program : Parts) (settings : Settings) (come : List ℕ) (turns turns' : List Turn) (ending ending' : Ending) (events events' : List Event) (rest rest' : List ℕ)
+    → AllByRecursion (λ (rule : Rule). rule.backs ≡ []) program.rules
+    → Dialogue program settings come turns ending events rest → Dialogue program settings come turns' ending' events' rest'
+    → events ≡ events'
 
 -- that turns are steps of the machine, and that they are counted, told for any
 abbrev pub AreAllSteps : Type 0
@@ -58,40 +63,41 @@ AreAllCounted =
     (program : Parts) (settings : Settings) (at : Position) (from : Supply) (turns : List Turn) (last : Position) (to : Supply) → AreTurns program settings at from turns last to → last.turns ≡ at.turns + length turns
 
 -- what is told is what is said, and what is typed allows no other
-pub is_said : (program : Parts) (settings : Settings) (word : EndWord) → IsOneDialogue → AreAllSteps → AreAllCounted → IsBuilt program → settings ≡ settings_of program → (come : List ℕ) (events : List Event) (rest : List ℕ) → IsTold program settings word come events rest → IsSaid program (λ end. end ≡ word) come events rest
-is_said program settings word one steps counted built same come events rest told =
+pub is_said : (program : Parts) (settings wanted : Settings) (word : EndWord) → IsOneDialogue → IsOneToTheByte → AreAllSteps → AreAllCounted → settings ≡ wanted → (come : List ℕ) (events : List Event) (rest : List ℕ) → IsTold program settings word come events rest → IsSaid program wanted (λ end. end ≡ word) come events rest
+is_said program settings wanted word one to_the_byte steps counted same come events rest told =
     let dialogue = subst (λ s. Dialogue program s come told.turns told.ending events rest) same told.dialogue in
     record {
       turns = told.turns;
       ending = told.ending;
       dialogue = dialogue;
       word = told.word_is;
-      steps = steps program (settings_of program) (start_of program) (whole_supply come) told.turns dialogue.run.last dialogue.run.between dialogue.run.done;
+      steps = steps program wanted (start_of program) (whole_supply come) told.turns dialogue.run.last dialogue.run.between dialogue.run.done;
       counted =
-          let last = counted program (settings_of program) (start_of program) (whole_supply come) told.turns dialogue.run.last dialogue.run.between dialogue.run.done in
+          let last = counted program wanted (start_of program) (whole_supply come) told.turns dialogue.run.last dialogue.run.between dialogue.run.done in
           omega (arith, last);
-      only = λ turns' ending' events' rest' other. one program (settings_of program) come turns' told.turns ending' told.ending events' events rest' rest (no_backs program.rules built.rules) other dialogue;
+      only = λ turns' ending' events' rest' other. one program wanted come turns' told.turns ending' told.ending events' events rest' rest other dialogue;
+      to_the_byte = λ plain turns' ending' events' rest' other. to_the_byte program wanted come turns' told.turns ending' told.ending events' events rest' rest plain other dialogue;
     }
 
 module _ {C : Type 0} (talk : C → Option (List Event)) (left : C → Option (List ℕ)) (old new : C) where
-  says_word : (program : Parts) (word : EndWord) (P : EndWord → Type 0) → P word → Says talk left old new program (λ end. end ≡ word) → Says talk left old new program P
-  says_word program word P holds says =
-      did_map talk left old new _ _ (λ come events rest said. record { turns = said.turns; ending = said.ending; dialogue = said.dialogue; word = subst P (sym said.word) holds; steps = said.steps; counted = said.counted; only = said.only }) says
+  says_word : (program : Parts) (settings : Settings) (word : EndWord) (P : EndWord → Type 0) → P word → Says talk left old new program settings (λ end. end ≡ word) → Says talk left old new program settings P
+  says_word program settings word P holds says =
+      did_map talk left old new _ _ (λ come events rest said. record { turns = said.turns; ending = said.ending; dialogue = said.dialogue; word = subst P (sym said.word) holds; steps = said.steps; counted = said.counted; only = said.only; to_the_byte = said.to_the_byte }) says
 
   -- a played text
-  pub text_played : (text : List ℕ) (program : Parts) (word : EndWord) → ((one other : Parts) → Spells text one → Spells text other → one ≡ other) → Spells text program → IsBuilt program → Says talk left old new program (λ end. end ≡ word) → OfText talk left old new text (status_of word)
-  text_played text program word one spells built says = by word says where
+  pub text_played : (text : List ℕ) (options : Options) (program : Parts) (word : EndWord) → ((one other : Parts) → Spells text one → Spells text other → one ≡ other) → Spells text program → IsBuilt program → Says talk left old new program (settings_of program options) (λ end. end ≡ word) → OfText talk left old new text options (status_of word)
+  text_played text options program word one spells built says = by word says where
     only : (other : Parts) → Spells text other → other ≡ program
     only other is = one other program is spells
 
-    by : (end : EndWord) → Says talk left old new program (λ w. w ≡ end) → OfText talk left old new text (status_of end)
-    by Quiet said = record { program = program; spells = spells; built = built; only = only; says = says_word program Quiet _ (inl refl) said }
-    by Input said = record { program = program; spells = spells; built = built; only = only; says = says_word program Input _ (inr refl) said }
-    by Turns said = record { program = program; spells = spells; built = built; only = only; says = says_word program Turns _ (inl refl) said }
-    by Offers said = record { program = program; spells = spells; built = built; only = only; says = says_word program Offers _ (inr (inl refl)) said }
-    by Typed said = record { program = program; spells = spells; built = built; only = only; says = says_word program Typed _ (inr (inr (inl refl))) said }
-    by Atom said = record { program = program; spells = spells; built = built; only = only; says = says_word program Atom _ (inr (inr (inr (inl refl)))) said }
-    by State said = record { program = program; spells = spells; built = built; only = only; says = says_word program State _ (inr (inr (inr (inr refl)))) said }
+    by : (end : EndWord) → Says talk left old new program (settings_of program options) (λ w. w ≡ end) → OfText talk left old new text options (status_of end)
+    by Quiet said = record { program = program; spells = spells; built = built; only = only; says = says_word program (settings_of program options) Quiet _ (inl refl) said }
+    by Input said = record { program = program; spells = spells; built = built; only = only; says = says_word program (settings_of program options) Input _ (inr refl) said }
+    by Turns said = record { program = program; spells = spells; built = built; only = only; says = says_word program (settings_of program options) Turns _ (inl refl) said }
+    by Offers said = record { program = program; spells = spells; built = built; only = only; says = says_word program (settings_of program options) Offers _ (inr (inl refl)) said }
+    by Typed said = record { program = program; spells = spells; built = built; only = only; says = says_word program (settings_of program options) Typed _ (inr (inr (inl refl))) said }
+    by Atom said = record { program = program; spells = spells; built = built; only = only; says = says_word program (settings_of program options) Atom _ (inr (inr (inr (inl refl)))) said }
+    by State said = record { program = program; spells = spells; built = built; only = only; says = says_word program (settings_of program options) State _ (inr (inr (inr (inr refl)))) said }
 
   -- a refused text
   pub text_refused : (text : List ℕ) (refusal : Refusal) → ((text : List ℕ) (parts : Parts) (fault : Fault) → Spells text parts → IsBuilt parts → ¬ (IsWrong text fault)) → IsAccepted text (Err refusal) → Writes talk left old new (refusal_text refusal) → Refuses talk left old new text
@@ -105,22 +111,22 @@ module _ {C : Type 0} (talk : C → Option (List Event)) (left : C → Option (L
   }
 
   -- a file's text
-  pub file_read : (files : Option Files) (name text : List ℕ) (status : Status) → HasFile files name text → OfText talk left old new text status → OfRun talk left old new files name status
-  file_read files name text Ended has of = (text, has, of)
-  file_read files name text Limited has of = (text, has, of)
-  file_read files name text Refused has of = (text, has, of)
-  file_read files name text Usage has of = of
-  file_read files name text Console has of = of
-  file_read files name text Unread has of = absurd of
-  file_read files name text Memory has of = of
+  pub file_read : (files : Option Files) (name text : List ℕ) (options : Options) (status : Status) → HasFile files name text → OfText talk left old new text options status → OfRun talk left old new files name options status
+  file_read files name text options Ended has of = (text, has, of)
+  file_read files name text options Limited has of = (text, has, of)
+  file_read files name text options Refused has of = (text, has, of)
+  file_read files name text options Usage has of = of
+  file_read files name text options Console has of = of
+  file_read files name text options Unread has of = absurd of
+  file_read files name text options Memory has of = of
 
 -- the file that was asked for is the one that the words name
-pub said_of_file : (before : Option (List (List ℕ))) (words : List (List ℕ)) (name : List ℕ) (after : Option (List (List ℕ))) (result : Result Status ConsoleFault)
-    → AskFor words (Play name) → AsksFile before name after result → AskedAsSaid before words after result
-said_of_file before words name after (Ok status) ask adds = inl (Play name, ask, adds)
-said_of_file before words name after (Err faults.Failed) ask adds = inl (Play name, ask, adds)
-said_of_file before words name after (Err (faults.Memory error)) ask (inl adds) = inl (inl (Play name, ask, adds))
-said_of_file before words name after (Err (faults.Memory error)) ask (inr same) = inr same
+pub said_of_file : (before : Option (List (List ℕ))) (words : List (List ℕ)) (name : List ℕ) (options : Options) (after : Option (List (List ℕ))) (result : Result Status ConsoleFault)
+    → AskFor words (Play name options) → AsksFile before name after result → AskedAsSaid before words after result
+said_of_file before words name options after (Ok status) ask adds = inl (Play name options, ask, adds)
+said_of_file before words name options after (Err faults.Failed) ask adds = inl (Play name options, ask, adds)
+said_of_file before words name options after (Err (faults.Memory error)) ask (inl adds) = inl (inl (Play name options, ask, adds))
+said_of_file before words name options after (Err (faults.Memory error)) ask (inr same) = inr same
 
 -- a text that is too long, for a shelf that tells none
 long_text : (n : ℕ) → (text : List ℕ) × (n < length text)

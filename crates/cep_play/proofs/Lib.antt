@@ -7,6 +7,8 @@ pub mod LineRead
 pub mod OneReading
 pub mod States
 pub mod Turns
+pub mod Backs
+pub mod Spelled
 pub mod Runs
 pub mod OneRun
 pub mod OneDialogue

@@ -31,7 +31,7 @@ before_last front (byte ∷ more) whole last e =
 
 -- Numbers: one whose digits begin another's is no greater
 
-not_empty : (number : ℕ) (more : List ℕ) → number < 2 ^ 64 → decimal number ++ more ≡ [] → ⊥
+pub not_empty : (number : ℕ) (more : List ℕ) → number < 2 ^ 64 → decimal number ++ more ≡ [] → ⊥
 not_empty number more small e = omega (arith, decimal_nonempty number small, ap length e, length-append (decimal number) more)
 
 -- the digits are the number's, and a number whose digits begin them is no greater

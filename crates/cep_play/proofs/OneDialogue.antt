@@ -1,4 +1,4 @@
--- A run whose rules have no backward premises is told in one way.
+-- A run is told in one way but for its derivations, and in one way where no rule has a backward premise.
 use Rattle.std.proofs.Common.{◌≡◌, ℕ, List, [], ◌∷◌, ◌++◌, map, refl, sym, ap, ◌∙◌, subst}
 use Rattle.std.specs.List.{AllByRecursion}
 use Rattle.cep_base.specs.declared.console.Event.{Event}
@@ -25,6 +25,12 @@ IsOneRun program settings =
     (at : Position) (from : Supply) (turns turns' : List Turn) (ending ending' : Ending) (to to' : Supply) → Run program settings at from turns ending to → Run program settings at from turns' ending' to' → (map unproved turns ≡ map unproved turns') × (ending ≡ ending') × (to ≡ to')
 
 module _ (program : Parts) (settings : Settings) (one : IsOneRun program settings) where
+  pub one_but_proofs : (come : List ℕ) (turns turns' : List Turn) (ending ending' : Ending) (events events' : List Event) (rest rest' : List ℕ)
+      → Dialogue program settings come turns ending events rest → Dialogue program settings come turns' ending' events' rest' → (map unproved turns ≡ map unproved turns') × (ending ≡ ending') × (rest ≡ rest')
+  one_but_proofs come turns turns' ending ending' events events' rest rest' said said' =
+      let same = one (start_of program) (whole_supply come) turns turns' ending ending' said.left said'.left said.run said'.run in
+      (same.0, same.1, said.rest_is ∙ ap (λ supply. supply.come) same.2 ∙ sym said'.rest_is)
+
   module _ (plain : AllByRecursion (λ rule. rule.backs ≡ []) program.rules) where
     -- a turn has no derivations
     bare_turn : (at : Position) (from : Supply) (turn : Turn) → IsTurn program settings at from turn → unproved turn ≡ turn
@@ -42,7 +48,7 @@ module _ (program : Parts) (settings : Settings) (one : IsOneRun program setting
         λ i. first i ∷ others i
 
   pub one_whole : (come : List ℕ) (turns turns' : List Turn) (ending ending' : Ending) (events events' : List Event) (rest rest' : List ℕ) → AllByRecursion (λ rule. rule.backs ≡ []) program.rules
-      → Dialogue program settings come turns ending events rest → Dialogue program settings come turns' ending' events' rest' → (events ≡ events') × (ending ≡ ending') × (rest ≡ rest')
+      → Dialogue program settings come turns ending events rest → Dialogue program settings come turns' ending' events' rest' → events ≡ events'
   one_whole come turns turns' ending ending' events events' rest rest' plain said said' =
       let same = one (start_of program) (whole_supply come) turns turns' ending ending' said.left said'.left said.run said'.run in
       let run = said.run in
@@ -50,4 +56,4 @@ module _ (program : Parts) (settings : Settings) (one : IsOneRun program setting
       let turns_are : turns ≡ turns' = sym (bare_turns plain (start_of program) (whole_supply come) turns run.last run.between run.done) ∙ same.0 ∙ bare_turns plain (start_of program) (whole_supply come) turns' run'.last run'.between run'.done in
       let endings = same.1 in
       let told : events_of program turns ending ≡ events_of program turns' ending' = λ i. events_of program (turns_are i) (endings i) in
-      (said.whole ∙ ap (λ es. outs (header program settings.height) ++ es) told ∙ sym said'.whole, endings, said.rest_is ∙ ap (λ supply. supply.come) same.2 ∙ sym said'.rest_is)
+      said.whole ∙ ap (λ es. outs (header program settings.height) ++ es) told ∙ sym said'.whole

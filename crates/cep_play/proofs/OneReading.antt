@@ -92,7 +92,7 @@ digits_or_CR [] all = let low = digit_from_value 13 all.0 in omega (arith, low.0
 digits_or_CR (digit ∷ digits) all = digits_or_CR digits all.1
 
 -- a number alone is not a number and a CR
-plain_or_closed : (place other : ℕ) → place < 2 ^ 64 → decimal place ≡ decimal other ++ 13 ∷ [] → ⊥
+pub plain_or_closed : (place other : ℕ) → place < 2 ^ 64 → decimal place ≡ decimal other ++ 13 ∷ [] → ⊥
 plain_or_closed place other small same = digits_or_CR (decimal other) (subst (AllDigits 10) same (decimal_is_IsNumeral place small).0.1)
 
 -- a line chooses one place

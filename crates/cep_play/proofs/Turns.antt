@@ -15,7 +15,8 @@ use Rattle.cep_rule.specs.declared.parts.Parts.{Parts}
 use Rattle.cep_rule.specs.declared.offer.Offer.{Offer}
 use Rattle.cep_rule.specs.State.{Fits}
 use Rattle.cep_rule.specs.Instances.{full_instances}
-use Rattle.cep_rule.specs.Offers.{AreOffers, IsOffer}
+use Rattle.cep_rule.specs.Offers.{Applies, AreOffers, IsOffer}
+use Rattle.cep_rule.specs.Derivations.{ProofTree}
 use Rattle.cep_rule.specs.Stages.{IsAsked, IsQuiet, own_group}
 use Rattle.cep_rule.specs.Steps.{AreProofs}
 use Rattle.cep_rule.specs.Typing.{AreValues}
@@ -40,11 +41,14 @@ use Rattle.cep_play.specs.Choice.{Hears}
 use Rattle.cep_play.specs.Deciding.{Heard, IsPlayers}
 use Rattle.cep_play.specs.Lines.{question, step_line, step_lines, by_lines, next_line}
 use Rattle.cep_play.specs.Run.{Position, Question, IsQuestion, IsChosen, PassesLimit}
-use Rattle.cep_play.specs.Turn.{position_of, undrawn, IsPlayed, AsksPlayer, IsPlaced, Acts, WouldPass, limit_word, IsActed, DoesTurn, Stops, IsTurned}
+use Rattle.cep_play.specs.Turn.{position_of, undrawn, IsPlayed, AsksPlayer, IsPlaced, ProvesOffer, Acts, WouldPass, limit_word, IsActed, DoesTurn, Stops, IsTurned}
 use Rattle.cep_play.proofs.Did.{did_same, did_map, did_then}
 
 none_some : {A B : Type 0} (x : A) → ◌≡◌ {A = Option A} None (Some x) → B
 none_some x e = cc
+
+some_same : {A : Type 0} (x y : A) → Some x ≡ Some y → x ≡ y
+some_same x y e = cc
 
 -- what holds of all items holds of the one at a place
 pub all_at : {A : Type 0} (P : A → Type 0) (xs : List A) → AllByRecursion P xs → (k : ℕ) (x : A) → slice_get xs k ≡ Some x → P x
@@ -92,7 +96,7 @@ own_asked program height state stage group kept built (inr leaving) =
     let in_group = leaving.2.1.in_group in
     let plain = all_at IsPlainRule program.rules built.rules offer.rule in_group.rule in_group.numbered in
     let grouped = all_at _ program.rules kept.grouped offer.rule in_group.rule in_group.numbered in
-    stays_or_leaves in_group.rule.next in_group.rule.group stage plain.next grouped.leaves (in_group.grouped ∙ leaving.0)
+    stays_or_leaves in_group.rule.next in_group.rule.group stage plain grouped.leaves (in_group.grouped ∙ leaving.0)
 
 -- the lists of a matcher are the offers of the group that is asked
 pub asked_here : {M : Type 0} (is_of : Parts → M → Type 0) (height_held : M → ℕ) (program : Parts) (settings : Settings) (group height : ℕ) (held : Multiset) (lists : List (List Offer)) (config : Configuration M)
@@ -141,7 +145,7 @@ passes program which.State values rule state number full = (full.0, (full.1.0, f
 
 module _ {M : Type 0} (program : Parts) (height : ℕ) (held : Multiset) (group : ℕ) (lists : List (List Offer)) (offers : List Offer) (place i : ℕ) (offer : Offer) (old : Configuration M)
     (built : IsBuilt program) (are : AreOffers program height held group offers) (at : slice_get offers i ≡ Some offer) (placed : i ≡ place - 1) (asked : offers ≡ asked_offers lists old.stage) where
-  rule_of : Rule
+  pub rule_of : Rule
   rule_of = (is_offer program height held group offers are i offer at).applies.rule
 
   numbered : slice_get program.rules offer.rule ≡ Some rule_of
@@ -155,19 +159,28 @@ module _ {M : Type 0} (program : Parts) (height : ℕ) (held : Multiset) (group 
   is_placed = record { at_place = subst (λ n. slice_get offers n ≡ Some offer) placed at; of_rule = numbered }
 
   stays : rule_of.next ≡ None
-  stays = (all_at IsPlainRule program.rules built.rules offer.rule rule_of numbered).next
+  stays = all_at IsPlainRule program.rules built.rules offer.rule rule_of numbered
+
+  -- the offer applies, within the height of the run
+  pub offer_applies : (settings : Settings) → height ≡ settings.height → Applies program settings.height held offer
+  offer_applies settings same = subst (λ h. Applies program h held offer) same (is_offer program height held group offers are i offer at).applies
+
+  same_rule : (rule : Rule) → slice_get program.rules offer.rule ≡ Some rule → rule ≡ rule_of
+  same_rule rule is = some_same rule rule_of (sym is ∙ numbered)
 
   -- the step was done
-  pub step_acts : (new : Configuration M) (bytes : List ℕ) → ((rule : Rule) (values : List Tree) → IsAskedAt program lists old.stage i rule values → IsNext program rule values old new) → bytes ≡ step_line program offer
-      → (come : List ℕ) (events : List Event) (rest : List ℕ) → (events ≡ outs bytes) × (rest ≡ come) → Acts program offers place (position_of old) (position_of new) come events rest
-  step_acts new bytes stepped line come events rest put =
+  pub step_acts : (high : ℕ) (new : Configuration M) (first bytes : List ℕ) → ((rule : Rule) (values : List Tree) → IsAskedAt program lists old.stage i rule values → IsNext program rule values old new) → first ≡ step_line program offer → ProvesOffer program high offer first bytes
+      → (come : List ℕ) (events : List Event) (rest : List ℕ) → (events ≡ outs bytes) × (rest ≡ come) → Acts program high offers place (position_of old) (position_of new) come events rest
+  step_acts high new first bytes stepped line proved come events rest put =
       let next = stepped rule_of offer.values chosen_there in
       record {
         offer = offer;
         rule = rule_of;
+        proofs = proved.adds.proofs;
         placed = is_placed;
+        proved = subst (λ (rule : Rule). AreProofs program high proved.adds.proofs (full_instances offer.values rule.backs)) (same_rule proved.rule proved.numbered) proved.adds.proved;
         steps = next.steps;
-        written = put.0 ∙ ap outs line;
+        written = put.0 ∙ ap outs (proved.adds.added ∙ ap (λ bytes. bytes ++ by_lines program proved.adds.proofs) line);
         untaken = put.1;
       }
 
@@ -195,13 +208,10 @@ module _ {M : Type 0} (program : Parts) (height : ℕ) (held : Multiset) (group 
 
 -- Turns
 
--- no derivations are written, and no stage is named, where a rule has no backward premise and leads to no stage
-plain_lines : (program : Parts) (offer : Offer) (rule : Rule) → rule.next ≡ None → step_line program offer ≡ step_lines program offer rule []
-unfolding step_lines by_lines
-plain_lines program offer rule none = sym (ap (λ next. step_line program offer ++ next_line program next) none ∙ append-nil (step_line program offer))
-
-no_proofs : (program : Parts) (height : ℕ) (values : List Tree) (backs : List AtomTree) → backs ≡ [] → AreProofs program height [] (full_instances values backs)
-no_proofs program height values backs none = subst (λ atoms. AreProofs program height [] (full_instances values atoms)) (sym none) tt
+-- no stage is named where a rule leads to none
+plain_lines : (program : Parts) (offer : Offer) (rule : Rule) (proofs : List ProofTree) → rule.next ≡ None → step_line program offer ++ by_lines program proofs ≡ step_lines program offer rule proofs
+unfolding step_lines
+plain_lines program offer rule proofs none = ap (λ bytes. step_line program offer ++ bytes) (sym (ap (λ next. by_lines program proofs ++ next_line program next) none ∙ append-nil (by_lines program proofs)))
 
 module _ (program : Parts) (settings : Settings) (at : Position) (taken : ℕ) where
   -- no rule applies
@@ -252,22 +262,22 @@ module _ (program : Parts) (settings : Settings) (at : Position) (taken : ℕ) w
         is_chosen offer rule placed = record { place = place; chosen = refl; at_place = placed.at_place; of_rule = placed.of_rule }
 
         -- one turn is done
-        pub done_turn : IsBuilt program → (new : Position) → new.turns ≡ at.turns + 1 → Acts program offers place at new between second rest → DoesTurn program settings at taken new taken' come (first ++ second) rest
+        pub done_turn : IsBuilt program → (new : Position) → new.turns ≡ at.turns + 1 → Acts program settings.height offers place at new between second rest → DoesTurn program settings at taken new taken' come (first ++ second) rest
         done_turn built new counted acts =
             let plain = all_at IsPlainRule program.rules built.rules acts.offer.rule acts.rule acts.placed.of_rule in
             record {
-              turn = record { before = at; question = answered (Place place) asks.heard; offer = acts.offer; rule = acts.rule; proofs = []; after = new; left = undrawn rest taken' };
+              turn = record { before = at; question = answered (Place place) asks.heard; offer = acts.offer; rule = acts.rule; proofs = acts.proofs; after = new; left = undrawn rest taken' };
               is = record {
                 here = refl;
                 asks = is_answered taken' come rest (Place place) asks.heard (untaken_hears acts.untaken);
                 chosen = is_chosen acts.offer acts.rule acts.placed;
-                proved = no_proofs program settings.height acts.offer.values acts.rule.backs plain.backs;
+                proved = acts.proved;
                 steps = acts.steps;
                 counted = counted;
               };
               after = refl;
               left = refl;
-              written = ap (λ es. es ++ second) asks.whole ∙ ap (λ es. (outs (question program offers) ++ asks.heard) ++ es) (acts.written ∙ ap outs (plain_lines program acts.offer acts.rule plain.next));
+              written = ap (λ es. es ++ second) asks.whole ∙ ap (λ es. (outs (question program offers) ++ asks.heard) ++ es) (acts.written ∙ ap outs (plain_lines program acts.offer acts.rule acts.proofs plain));
             }
 
         -- the step passes a limit
@@ -292,7 +302,7 @@ asks_after program offers made bytes come middle rest taken taken' first others 
 module _ {C M : Type 0} (talk : C → Option (List Event)) (left : C → Option (List ℕ)) (old between new : C) (program : Parts) (settings : Settings) (config : Configuration M) (taken taken' place group : ℕ) (offers : List Offer)
     (built : IsBuilt program) (here : IsAskedHere program settings (position_of config) group offers) (remain : config.turns < settings.limit) (few : length offers ≤ MOST_OFFERS)
     (heard : Did talk left old between (λ come events rest. AsksPlayer program offers come taken events (Place place) rest taken')) where
-  pub chosen_turn : (turned : Turned M) → IsActed talk left between new program offers place config turned → IsTurned talk left old new program settings config taken taken' turned
+  pub chosen_turn : (turned : Turned M) → IsActed talk left between new program settings.height offers place config turned → IsTurned talk left old new program settings config taken taken' turned
   chosen_turn (Done next) acted = (
     did_then talk left old between new _ _ _ (λ come first middle others rest asks acts. done_turn program settings (position_of config) taken group offers here remain few taken' place come middle rest first others asks built (position_of next) acted.1 acts) heard acted.0,
     acted.1,
@@ -348,6 +358,6 @@ module _ {M : Type 0} (is_of : Parts → M → Type 0) (height_held : M → ℕ)
           )
 
       pub chosen_here : (place : ℕ) (choice : Choice) → choice ≡ Place place → Did talk left console heard_on (λ come events rest. AsksPlayer program (offers_of (offers_held seen) group) come taken events choice rest taken')
-          → (new : C) (turned : Turned M) → IsActed talk left heard_on new program (offers_of (offers_held config.matcher) group) place config turned → IsTurned talk left console new program settings config taken taken' turned
+          → (new : C) (turned : Turned M) → IsActed talk left heard_on new program settings.height (offers_of (offers_held config.matcher) group) place config turned → IsTurned talk left console new program settings config taken taken' turned
       chosen_here place choice same heard new turned acted =
           chosen_turn talk left console heard_on new program settings config taken taken' place group (offers_of (offers_held config.matcher) group) built asks_here remain few_here (heard_here choice (Place place) same heard) turned acted

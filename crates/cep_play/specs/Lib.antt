@@ -6,4 +6,5 @@ pub mod Run
 pub mod Dialogue
 pub mod Turn
 pub mod Command
+pub mod Requests
 pub mod Outcome

@@ -56,9 +56,13 @@ next_line program (Some stage) = stage_line program stage
 unfoldable pub step_line : Parts → Offer → List ℕ
 step_line program offer = line (codes "step " ++ offer_text program offer)
 
--- `by DERIVATION`, for each backward premise
+-- `by DERIVATION`
+unfoldable pub by_line : Parts → ProofTree → List ℕ
+by_line program proof = line (codes "by " ++ proof_text program proof)
+
+-- the same for each backward premise
 unfoldable pub by_lines : Parts → List ProofTree → List ℕ
-by_lines program proofs = flat_map (λ proof. line (codes "by " ++ proof_text program proof)) proofs
+by_lines program proofs = flat_map (by_line program) proofs
 
 -- what is written of a step: its line, what proves the backward premises, and the next stage where the rule leads to one
 unfoldable pub step_lines : Parts → Offer → Rule → List ProofTree → List ℕ

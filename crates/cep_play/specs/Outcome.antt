@@ -9,6 +9,7 @@ use Rattle.cep_base.specs.Faults.{Rose}
 use Rattle.cep_play.specs.declared.command.Status.{Status}
 use Rattle.cep_play.specs.declared.command.Status.TheVariants.{Ended, Usage, Refused, Limited, Console, Unread, Memory}
 use Rattle.cep_play.specs.declared.ending.EndWord.{EndWord}
+use Rattle.cep_play.specs.declared.options.Options.{Options}
 use Rattle.cep_play.specs.declared.ending.EndWord.TheVariants.{Quiet, Input, Turns, Offers, Typed, Atom, State}
 use Rattle.cep_play.specs.Command.{OfPlay, OfNames, OfFile, HaveNoForm, Adds, Writes, Plays, Refuses, IsFinished, IsLimited, usage, no_program}
 
@@ -22,25 +23,25 @@ status_of Typed = Limited
 status_of Atom = Limited
 status_of State = Limited
 
--- what a status says of a text
-abbrev pub OfText : {C : Type 0} → (C → Option (List Event)) → (C → Option (List ℕ)) → C → C → List ℕ → Status → Type 0
-OfText talk left old new text Ended = Plays talk left old new text IsFinished
-OfText talk left old new text Limited = Plays talk left old new text IsLimited
-OfText talk left old new text Refused = Refuses talk left old new text
-OfText talk left old new text Usage = ⊥
-OfText talk left old new text Console = ⊥
-OfText talk left old new text Unread = ⊥
-OfText talk left old new text Memory = ⊥
+-- what a status says of a text that is played with options
+abbrev pub OfText : {C : Type 0} → (C → Option (List Event)) → (C → Option (List ℕ)) → C → C → List ℕ → Options → Status → Type 0
+OfText talk left old new text options Ended = Plays talk left old new text options IsFinished
+OfText talk left old new text options Limited = Plays talk left old new text options IsLimited
+OfText talk left old new text options Refused = Refuses talk left old new text
+OfText talk left old new text options Usage = ⊥
+OfText talk left old new text options Console = ⊥
+OfText talk left old new text options Unread = ⊥
+OfText talk left old new text options Memory = ⊥
 
--- what a status says of a file
-abbrev pub OfRun : {C : Type 0} → (C → Option (List Event)) → (C → Option (List ℕ)) → C → C → Option Files → List ℕ → Status → Type 0
-OfRun talk left old new files name Ended = OfFile files name (λ text. Plays talk left old new text IsFinished)
-OfRun talk left old new files name Limited = OfFile files name (λ text. Plays talk left old new text IsLimited)
-OfRun talk left old new files name Refused = OfFile files name (Refuses talk left old new)
-OfRun talk left old new files name Unread = Writes talk left old new no_program
-OfRun talk left old new files name Usage = ⊥
-OfRun talk left old new files name Console = ⊥
-OfRun talk left old new files name Memory = ⊥
+-- what a status says of a file that is played with options
+abbrev pub OfRun : {C : Type 0} → (C → Option (List Event)) → (C → Option (List ℕ)) → C → C → Option Files → List ℕ → Options → Status → Type 0
+OfRun talk left old new files name options Ended = OfFile files name (λ text. Plays talk left old new text options IsFinished)
+OfRun talk left old new files name options Limited = OfFile files name (λ text. Plays talk left old new text options IsLimited)
+OfRun talk left old new files name options Refused = OfFile files name (Refuses talk left old new)
+OfRun talk left old new files name options Unread = Writes talk left old new no_program
+OfRun talk left old new files name options Usage = ⊥
+OfRun talk left old new files name options Console = ⊥
+OfRun talk left old new files name options Memory = ⊥
 
 -- the shelf's count of faults rose where the file could not be read, and stays where it could
 abbrev pub CountsFaults : ℕ → ℕ → Status → Type 0
@@ -55,10 +56,10 @@ CountsFaults before after Memory = Unit {0}
 -- what a status says of the words
 abbrev pub OfWords : {C : Type 0} → (C → Option (List Event)) → (C → Option (List ℕ)) → C → C → Option Files → List (List ℕ) → Status → Type 0
 OfWords talk left old new files words Usage = HaveNoForm words × Writes talk left old new usage
-OfWords talk left old new files words Ended = OfPlay words (λ name. OfRun talk left old new files name Ended)
-OfWords talk left old new files words Limited = OfPlay words (λ name. OfRun talk left old new files name Limited)
-OfWords talk left old new files words Refused = OfPlay words (λ name. OfRun talk left old new files name Refused)
-OfWords talk left old new files words Unread = OfPlay words (λ name. OfRun talk left old new files name Unread)
+OfWords talk left old new files words Ended = OfPlay words (λ name options. OfRun talk left old new files name options Ended)
+OfWords talk left old new files words Limited = OfPlay words (λ name options. OfRun talk left old new files name options Limited)
+OfWords talk left old new files words Refused = OfPlay words (λ name options. OfRun talk left old new files name options Refused)
+OfWords talk left old new files words Unread = OfPlay words (λ name options. OfRun talk left old new files name options Unread)
 OfWords talk left old new files words Console = ⊥
 OfWords talk left old new files words Memory = ⊥
 

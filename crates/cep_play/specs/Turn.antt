@@ -1,13 +1,16 @@
 -- Private.
 -- What a part of a run does: words for the functions that do it.
-use Rattle.std.specs.Prelude.{◌≡◌, ℕ, ◌+◌, ◌-◌, List, [], ◌++◌, Option, Some, length, true, IsSomeAnd, slice_get}
+use Rattle.std.specs.Prelude.{◌≡◌, ℕ, ◌+◌, ◌-◌, ◌≤◌, List, [], ◌++◌, Option, Some, length, true, IsSomeAnd, slice_get}
 use Rattle.std.specs.List.{flat_map}
 use Rattle.cep_base.specs.declared.console.Event.{Event}
 use Rattle.cep_base.specs.Talk.{outs, Did}
+use Rattle.cep_term.specs.Tree.{AtomTree}
 use Rattle.cep_rule.specs.declared.parts.Parts.{Parts}
 use Rattle.cep_rule.specs.declared.offer.Offer.{Offer}
 use Rattle.cep_rule.specs.declared.rule.Rule.{Rule}
-use Rattle.cep_rule.specs.Steps.{StepsTo}
+use Rattle.cep_rule.specs.Instances.{full_instances}
+use Rattle.cep_rule.specs.Derivations.{ProofTree, Proves, proof_height}
+use Rattle.cep_rule.specs.Steps.{StepsTo, AreProofs}
 use Rattle.cep_machine.specs.declared.stepped.Which.{Which}
 use Rattle.cep_machine.specs.declared.stepped.Which.TheVariants as which
 use Rattle.cep_machine.specs.Configuration.{Configuration, spot_of, IsConfigurationOf}
@@ -19,7 +22,7 @@ use Rattle.cep_play.specs.declared.turn.Turned.{Turned}
 use Rattle.cep_play.specs.declared.turn.Turned.TheVariants.{Done, Over}
 use Rattle.cep_play.specs.Choice.{Hears}
 use Rattle.cep_play.specs.Deciding.{Supply}
-use Rattle.cep_play.specs.Lines.{question, step_line}
+use Rattle.cep_play.specs.Lines.{question, step_line, by_line, by_lines}
 use Rattle.cep_play.specs.Run.{Position, Question, Turn, IsTurn, AreTurns, PassesLimit, EndsAt}
 use Rattle.cep_play.specs.Dialogue.{turn_events, last_events}
 
@@ -48,13 +51,34 @@ pub record IsPlaced (program : Parts) (offers : List Offer) (place : ℕ) (offer
   pub at_place : slice_get offers (place - 1) ≡ Some offer
   pub of_rule : slice_get program.rules offer.rule ≡ Some rule
 
--- The step by the offer at a place leads from one position to the other, and its line is written.
-pub record Acts (program : Parts) (offers : List Offer) (place : ℕ) (old new : Position) (come : List ℕ) (events : List Event) (rest : List ℕ) : Type 0 where
+-- The line of a derivation was added, which proves the atom within the height.
+pub record AddsProof (program : Parts) (height : ℕ) (a : AtomTree) (old new : List ℕ) : Type 0 where
+  pub proof : ProofTree
+  pub proves : Proves program proof a
+  pub low : proof_height proof ≤ height
+  pub added : new ≡ old ++ by_line program proof
+
+-- The lines of derivations were added, which prove these atoms within the height, one each in order.
+pub record AddsProofs (program : Parts) (height : ℕ) (atoms : List AtomTree) (old new : List ℕ) : Type 0 where
+  pub proofs : List ProofTree
+  pub proved : AreProofs program height proofs atoms
+  pub added : new ≡ old ++ by_lines program proofs
+
+-- The same for the backward premises of an offer.
+pub record ProvesOffer (program : Parts) (height : ℕ) (offer : Offer) (old new : List ℕ) : Type 0 where
+  pub rule : Rule
+  pub numbered : slice_get program.rules offer.rule ≡ Some rule
+  pub adds : AddsProofs program height (full_instances offer.values rule.backs) old new
+
+-- The step by the offer at a place leads from one position to the other, its backward premises are proved within the height, and its lines are written.
+pub record Acts (program : Parts) (height : ℕ) (offers : List Offer) (place : ℕ) (old new : Position) (come : List ℕ) (events : List Event) (rest : List ℕ) : Type 0 where
   pub offer : Offer
   pub rule : Rule
+  pub proofs : List ProofTree
   pub placed : IsPlaced program offers place offer rule
+  pub proved : AreProofs program height proofs (full_instances offer.values rule.backs)
   pub steps : StepsTo program rule offer.values old.spot new.spot
-  pub written : events ≡ outs (step_line program offer)
+  pub written : events ≡ outs (step_line program offer ++ by_lines program proofs)
   pub untaken : rest ≡ come
 
 -- the word for a limit that a step would pass
@@ -72,10 +96,10 @@ pub record WouldPass (program : Parts) (offers : List Offer) (place : ℕ) (word
   pub untaken : rest ≡ come
 
 -- What the choice of a place comes to, in a configuration: the step is done, or it would pass a limit and the run ends here.
-abbrev pub IsActed : {C M : Type 0} → (C → Option (List Event)) → (C → Option (List ℕ)) → C → C → Parts → List Offer → ℕ → Configuration M → Turned M → Type 0
-IsActed talk left old new program offers place config (Done next) =
-    Did talk left old new (Acts program offers place (position_of config) (position_of next)) × (next.turns ≡ config.turns + 1)
-IsActed talk left old new program offers place config (Over last) =
+abbrev pub IsActed : {C M : Type 0} → (C → Option (List Event)) → (C → Option (List ℕ)) → C → C → Parts → ℕ → List Offer → ℕ → Configuration M → Turned M → Type 0
+IsActed talk left old new program height offers place config (Done next) =
+    Did talk left old new (Acts program height offers place (position_of config) (position_of next)) × (next.turns ≡ config.turns + 1)
+IsActed talk left old new program height offers place config (Over last) =
     Did talk left old new (WouldPass program offers place last.word (position_of config)) × (last.config ≡ config)
 
 -- These events do a turn.

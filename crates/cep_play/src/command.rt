@@ -5,11 +5,13 @@ ghost use Rattle.cep_base.specs.Faults.{Rose};
 ghost use Rattle.std.specs.Prelude.{OnOk, ◌++◌};
 ghost use Rattle.cep_play.specs.Lines.{line};
 ghost use Rattle.cep_ground.specs.Refusals.{IsBuilt};
-ghost use Rattle.cep_play.specs.Command.{OfPlay, OfNames, OfFile, HaveNoForm, AskFor, Play, Adds, Plays, Refuses, Says, Writes, IsFinished, IsLimited, usage, no_program, refusal_text};
+ghost use Rattle.cep_play.specs.Command.{OfPlay, OfNames, OfFile, HaveNoForm, AreWithin, settings_of, Adds, Plays, Refuses, Says, Writes, IsFinished, IsLimited, usage, no_program, refusal_text};
+ghost use Rattle.cep_play.specs.Requests.{IsAskedBy};
 ghost use Rattle.cep_play.specs.Outcome.{OfText, OfRun, OfWords, CountsFaults, AsksFile, AskedAsSaid, code_of, status_of};
 
 use crate::dialogue::play;
 use crate::ending::EndWord;
+use crate::options::Options;
 use cep_base::limits::MOST_TEXT;
 use cep_base::{Console, ConsoleFault, Shelf, ShelfFault, Steps, Text};
 use cep_ground::laws::{no_program_is_refused, one_program};
@@ -100,15 +102,17 @@ fn refuse<C: Console>(alloc: Global, refusal: Refusal, console: &mut C) -> Resul
 fn play_program<C: Console, L: Ledger>(
     alloc: Global,
     program: &Program,
+    options: Options,
     console: &mut C,
     steps: &mut Steps<L>,
 ) -> Result<Status, ConsoleFault>
-    requires { IsBuilt program.now }
-    ensures said { IfOk result (λ status. (word : EndWord) × (status ≡ status_of word) × Says C.talk C.left console.old console.new program.now (λ end. end ≡ word)) }
+    requires built { IsBuilt program.now }
+    requires within { AreWithin options }
+    ensures said { IfOk result (λ status. (word : EndWord) × (status ≡ status_of word) × Says C.talk C.left console.old console.new program.now (settings_of program.now options) (λ end. end ≡ word)) }
     ensures counted { steps.old ≤ steps.new }
     ensures cause { ConsoleCause (C.faults console.old) (C.faults console.new) result }
 {
-    let word = play::<Scratch, C, L>(alloc, program, console, steps)?;
+    let word = play::<Scratch, C, L>(alloc, program, options, console, steps)?;
     Ok(status_of(word))
 }
 
@@ -116,17 +120,19 @@ fn play_program<C: Console, L: Ledger>(
 fn play_text<C: Console, L: Ledger>(
     alloc: Global,
     text: &[u8],
+    options: Options,
     console: &mut C,
     steps: &mut Steps<L>,
 ) -> Result<Status, ConsoleFault>
-    ensures outcome { IfOk result (OfText C.talk C.left console.old console.new text.now) }
+    requires { AreWithin options }
+    ensures outcome { IfOk result (OfText C.talk C.left console.old console.new text.now options) }
     ensures counted { steps.old ≤ steps.new }
     ensures cause { ConsoleCause (C.faults console.old) (C.faults console.new) result }
 {
     one_program();
     no_program_is_refused();
     match accept(alloc, text)? {
-        Ok(program) => play_program(alloc, &program, console, steps),
+        Ok(program) => play_program(alloc, &program, options, console, steps),
         Err(refusal) => {
             refuse(alloc, refusal, console)?;
             Ok(Status::Refused)
@@ -138,11 +144,13 @@ fn play_text<C: Console, L: Ledger>(
 fn play_file<C: Console, H: Shelf, L: Ledger>(
     alloc: Global,
     file: &str,
+    options: Options,
     console: &mut C,
     shelf: &mut H,
     steps: &mut Steps<L>,
 ) -> Result<Status, ConsoleFault>
-    ensures outcome { IfOk result (OfRun C.talk C.left console.old console.new (H.files shelf.old) file.now) }
+    requires { AreWithin options }
+    ensures outcome { IfOk result (OfRun C.talk C.left console.old console.new (H.files shelf.old) file.now options) }
     ensures cause { ConsoleCause (C.faults console.old) (C.faults console.new) result }
     ensures faults { IfOk result (CountsFaults (H.faults shelf.old) (H.faults shelf.new)) }
     ensures asked { AsksFile (H.asked shelf.old) file.now (H.asked shelf.new) result }
@@ -151,7 +159,7 @@ fn play_file<C: Console, H: Shelf, L: Ledger>(
 {
     no_program_is_refused();
     match shelf.load(alloc, file, MOST_TEXT) {
-        Ok(text) => play_text(alloc, &text, console, steps),
+        Ok(text) => play_text(alloc, &text, options, console, steps),
         Err(ShelfFault::TooLong) => {
             refuse(alloc, too_long(), console)?;
             Ok(Status::Refused)
@@ -164,12 +172,22 @@ fn play_file<C: Console, H: Shelf, L: Ledger>(
     }
 }
 
-/// The file that the words name, if they are `play` and one further word.
-fn file_of(words: &[String]) -> Option<&String>
-    ensures { MatchOption result (HaveNoForm (map string_bytes words.now)) (λ file. AskFor (map string_bytes words.now) (Play (string_bytes file.now))) }
+/// A program in a file that is to be played, and the options of its run.
+#[derive(Clone, Copy)]
+struct Session<'a> {
+    file: &'a String,
+    options: Options,
+}
+
+/// What the words ask for, if they ask for something: `play`, a file, and options.
+fn session_of(words: &[String]) -> Option<Session<'_>>
+    ensures { MatchOption result (HaveNoForm (map string_bytes words.now)) (IsAskedBy (map string_bytes words.now)) }
 {
     match words {
-        [play, file] if play.as_str() == "play" => Some(file),
+        [play, file, options @ ..] if play.as_str() == "play" => {
+            let options = Options::of(options)?;
+            Some(Session { file, options })
+        }
         _ => None,
     }
 }
@@ -189,8 +207,11 @@ fn command<C: Console, H: Shelf, L: Ledger>(
     ensures files { H.files shelf.new ≡ H.files shelf.old }
     ensures counted { steps.old ≤ steps.new }
 {
-    match file_of(words) {
-        Some(file) => play_file(alloc, file.as_str(), console, shelf, steps),
+    match session_of(words) {
+        Some(session) => {
+            let file = session.file.as_str();
+            play_file(alloc, file, session.options, console, shelf, steps)
+        }
         None => {
             console.put(USAGE)?;
             Ok(Status::Usage)
@@ -220,15 +241,15 @@ pub fn ceptre<C: Console, H: Shelf, L: Ledger>(
     steps: &mut Steps<L>,
 ) -> u8
     // A run that ended is the dialogue of the program that the file's text spells.
-    ensures ended { result ≡ 0 → OfPlay (map string_bytes words.now) (λ name. OfFile (H.files shelf.old) name (λ text.
-        Plays C.talk C.left console.old console.new text IsFinished)) }
-    ensures limited { result ≡ 4 → OfPlay (map string_bytes words.now) (λ name. OfFile (H.files shelf.old) name (λ text.
-        Plays C.talk C.left console.old console.new text IsLimited)) }
+    ensures ended { result ≡ 0 → OfPlay (map string_bytes words.now) (λ name options. OfFile (H.files shelf.old) name (λ text.
+        Plays C.talk C.left console.old console.new text options IsFinished)) }
+    ensures limited { result ≡ 4 → OfPlay (map string_bytes words.now) (λ name options. OfFile (H.files shelf.old) name (λ text.
+        Plays C.talk C.left console.old console.new text options IsLimited)) }
 
     // What is not played is refused with its one line: a text that spells a program is not.
     ensures usage { result ≡ 2 → HaveNoForm (map string_bytes words.now) × Writes C.talk C.left console.old console.new usage }
-    ensures refused { result ≡ 3 → OfPlay (map string_bytes words.now) (λ name. OfFile (H.files shelf.old) name (Refuses C.talk C.left console.old console.new)) }
-    ensures unread { result ≡ 7 → OfPlay (map string_bytes words.now) (λ name. Writes C.talk C.left console.old console.new no_program) }
+    ensures refused { result ≡ 3 → OfPlay (map string_bytes words.now) (λ name options. OfFile (H.files shelf.old) name (Refuses C.talk C.left console.old console.new)) }
+    ensures unread { result ≡ 7 → OfPlay (map string_bytes words.now) (λ name options. Writes C.talk C.left console.old console.new no_program) }
 
     // There is no further status, so each of these comes exactly where its case holds, but for faults and want of memory.
     ensures no_other { Contains (0 ∷ 2 ∷ 3 ∷ 4 ∷ 6 ∷ 7 ∷ 9 ∷ []) result }

@@ -7,11 +7,12 @@ ghost use Rattle.cep_rule.specs.State.{IsState};
 ghost use Rattle.cep_ground.specs.Refusals.{IsBuilt};
 ghost use Rattle.cep_play.specs.Lines.{end_lines, header};
 ghost use Rattle.cep_play.specs.Turn.{position_of, IsPlayed, IsWholeRun};
-ghost use Rattle.cep_play.specs.Command.{Says};
+ghost use Rattle.cep_play.specs.Command.{Says, AreWithin, settings_of};
 
 use crate::ending::EndWord;
 use crate::laws::{one_dialogue, turns_are_counted, turns_are_steps};
 use crate::lines::{put_end, put_header};
+use crate::options::Options;
 use crate::settings::Settings;
 use crate::turn::{Ended, Turned, turn};
 use cep_base::{Console, ConsoleFault, Steps, Text};
@@ -95,23 +96,25 @@ fn finish<C: Console>(
     console.put(lines.bytes())
 }
 
-/// Plays a program with the person at a console, from its start until the run ends. Answers why it
-/// ended.
+/// Plays a program with options and the person at a console, from its start until the run ends.
+/// Answers why it ended.
 pub fn play<M: Matcher, C: Console, L: Ledger>(
     alloc: Global,
     program: &Program,
+    options: Options,
     console: &mut C,
     steps: &mut Steps<L>,
 ) -> Result<EndWord, ConsoleFault>
-    requires { IsBuilt program.now }
-    ensures said { IfOk result (λ word. Says C.talk C.left console.old console.new program.now (λ end. end ≡ word)) }
+    requires built { IsBuilt program.now }
+    requires within { AreWithin options }
+    ensures said { IfOk result (λ word. Says C.talk C.left console.old console.new program.now (settings_of program.now options) (λ end. end ≡ word)) }
     ensures counted { steps.old ≤ steps.new }
     ensures cause { ConsoleCause (C.faults console.old) (C.faults console.new) result }
 {
     one_dialogue();
     turns_are_steps();
     turns_are_counted();
-    let settings = Settings::of(program);
+    let settings = Settings::of(program, options);
     let config = Config::<M>::begin(alloc, program, settings.height, steps)?;
     begin(alloc, program, settings.height, console)?;
     let end = all_turns(alloc, program, settings, config, console, steps)?;

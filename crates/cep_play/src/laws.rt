@@ -22,14 +22,18 @@ pub fn one_run()
     one_state_after_a_step();
 }
 
-/// What is typed determines the whole dialogue, event by event, how it ends, and what is left, where
-/// no rule has a backward premise.
+/// What is typed determines the whole dialogue but for the derivations of its turns, how it ends, and
+/// what is left; and where no rule has a backward premise, event by event.
 pub fn one_dialogue()
-    ensures { (program : Parts) (settings : Settings) (come : List ℕ) (turns turns' : List Turn) (ending ending' : Ending) (events events' : List Event) (rest rest' : List ℕ)
+    ensures but_for_proofs { (program : Parts) (settings : Settings) (come : List ℕ) (turns turns' : List Turn) (ending ending' : Ending) (events events' : List Event) (rest rest' : List ℕ)
+        → Dialogue program settings come turns ending events rest
+        → Dialogue program settings come turns' ending' events' rest'
+        → (map unproved turns ≡ map unproved turns') × (ending ≡ ending') × (rest ≡ rest') }
+    ensures to_the_byte { (program : Parts) (settings : Settings) (come : List ℕ) (turns turns' : List Turn) (ending ending' : Ending) (events events' : List Event) (rest rest' : List ℕ)
         → AllByRecursion (λ rule. rule.backs ≡ []) program.rules
         → Dialogue program settings come turns ending events rest
         → Dialogue program settings come turns' ending' events' rest'
-        → (events ≡ events') × (ending ≡ ending') × (rest ≡ rest') }
+        → events ≡ events' }
 {
     one_run();
 }

@@ -8,6 +8,8 @@ mod dialogue;
 mod ending;
 mod laws;
 mod lines;
+mod options;
+mod proving;
 mod settings;
 mod turn;
 mod typed;

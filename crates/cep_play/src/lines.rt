@@ -3,17 +3,18 @@ ghost use Rattle.std.specs.Prelude.{◌≡◌, ◌<◌, ◌++◌, length, All, O
 ghost use Rattle.cep_term.specs.Tree.{atom_of};
 ghost use Rattle.cep_rule.specs.State.{IsState};
 ghost use Rattle.cep_rule.specs.Matching.{offers_of};
-ghost use Rattle.cep_rule.specs.Shapes.{IsOfferOf};
+ghost use Rattle.cep_rule.specs.Derivations.{proof_of};
+ghost use Rattle.cep_rule.specs.Shapes.{IsOfferOf, IsProofOf};
 ghost use Rattle.cep_text.specs.Texts.{IsTypedGround};
 ghost use Rattle.cep_text.specs.Writing.{IsBegun};
-ghost use Rattle.cep_play.specs.Lines.{have_line, listing, offer_line, question, stage_line, step_line, end_lines, header};
+ghost use Rattle.cep_play.specs.Lines.{have_line, listing, offer_line, question, stage_line, step_line, by_line, end_lines, header};
 
 use crate::ending::EndWord;
 use cep_base::Text;
-use cep_rule::{Matcher, Offer, Program};
+use cep_rule::{Derivation, Matcher, Offer, Program};
 use cep_term::laws::bags_are_lawful;
 use cep_term::{Atom, Bag};
-use cep_text::{put_atom, put_offer};
+use cep_text::{put_atom, put_offer, put_proof};
 use std::alloc::AllocError;
 
 #[tactic(auto, using(std::proofs::Common::append_assoc), unfolding(crate::specs::Lines::have_line))]
@@ -87,6 +88,18 @@ pub fn put_step(out: &mut Text, program: &Program, offer: &Offer) -> Result<(), 
 {
     out.append(b"step ")?;
     put_offer(program, offer, out)?;
+    out.append(b"\n")
+}
+
+/// The line of a derivation.
+#[tactic(auto, using(std::proofs::Common::append_assoc), unfolding(crate::specs::Lines::by_line))]
+pub fn put_by(out: &mut Text, program: &Program, proof: &Derivation) -> Result<(), AllocError>
+    requires { IsProofOf program.now (proof_of proof.now) }
+    ensures ok { OnOk result (out.new ≡ out.old ++ by_line program.now (proof_of proof.now)) }
+    ensures err { OnErr result (IsBegun out.old (by_line program.now (proof_of proof.now)) out.new) }
+{
+    out.append(b"by ")?;
+    put_proof(program, proof, out)?;
     out.append(b"\n")
 }
 

@@ -3,6 +3,7 @@ ghost use Rattle.cep_base.specs.declared.limits.TheConstants.{MOST_TURNS};
 ghost use Rattle.cep_rule.specs.Program.{IsProgram};
 ghost use Rattle.cep_play.specs.Command.{settings_of};
 
+use crate::options::Options;
 use cep_base::limits::{DEFAULT_HEIGHT, DEFAULT_SEED, DEFAULT_TURNS};
 use cep_rule::Program;
 
@@ -16,14 +17,14 @@ pub struct Settings {
 }
 
 impl Settings {
-    /// Those of a run of the program for which the words ask nothing else.
-    pub fn of(program: &Program) -> Settings
-        ensures settings { result ≡ settings_of program.now }
+    /// Those of a run of the program with these options.
+    pub fn of(program: &Program, options: Options) -> Settings
+        ensures settings { result ≡ settings_of program.now options }
         ensures few { result.limit ≤ MOST_TURNS }
         ensures kept { IsProgram program.now }
     {
         Settings {
-            height: DEFAULT_HEIGHT,
+            height: options.height.unwrap_or(DEFAULT_HEIGHT),
             limit: program.parts().turns.unwrap_or(DEFAULT_TURNS),
             seed: DEFAULT_SEED,
         }

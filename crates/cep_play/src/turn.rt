@@ -14,6 +14,7 @@ ghost use Rattle.cep_play.specs.Turn.{AsksPlayer, IsPlayed, IsActed, IsTurned, c
 use crate::choice::{Choice, choose};
 use crate::ending::EndWord;
 use crate::lines::{put_question, put_step};
+use crate::proving::put_proofs;
 use crate::settings::Settings;
 use cep_base::limits::MOST_TYPED;
 use cep_base::{Console, ConsoleFault, Steps, Text};
@@ -70,8 +71,9 @@ fn ask<C: Console, M: Matcher>(
     choose(console, matcher.count(group) as u32, taken)
 }
 
-/// Does the step by the offer at a place, counted from 1, and writes it; or says which limit it
-/// would pass. The line is made before the step, since the matcher that has the offer goes with it.
+/// Does the step by the offer at a place, counted from 1, and writes it with what proves its backward
+/// premises; or says which limit it would pass. The lines are made before the step, since the
+/// matcher that has the offer goes with it.
 fn act<C: Console, M: Matcher, L: Ledger>(
     alloc: Global,
     program: &Program,
@@ -89,17 +91,19 @@ fn act<C: Console, M: Matcher, L: Ledger>(
     requires some { 0 < place }
     requires within { place ≤ length (offers_of (M.offers_held config.matcher) group) }
     requires turns { config.turns < MOST_TURNS }
-    ensures acted { IfOk result (IsActed C.talk C.left console.old console.new program.now (offers_of (M.offers_held config.matcher) group) place config) }
+    ensures acted { IfOk result (IsActed C.talk C.left console.old console.new program.now settings.height (offers_of (M.offers_held config.matcher) group) place config) }
     ensures played { IfOk result (λ turned. IsPlayed M.is_of M.height_held program.now settings (config_left turned)) }
     ensures counted { steps.old ≤ steps.new }
     ensures cause { ConsoleCause (C.faults console.old) (C.faults console.new) result }
 {
     let i = place as usize - 1;
-    let mut line = Text::new(alloc);
-    put_step(&mut line, program, config.matcher().offer(group, i))?;
+    let mut lines = Text::new(alloc);
+    let offer = config.matcher().offer(group, i);
+    put_step(&mut lines, program, offer)?;
+    put_proofs(alloc, program, offer, settings.height, &mut lines, steps)?;
     match config.step(alloc, program, i, steps)? {
         Stepped::Done(config) => {
-            console.put(line.bytes())?;
+            console.put(lines.bytes())?;
             Ok(Turned::Done(config))
         }
         Stepped::Limit { config, which, .. } => Ok(over(config, word_of(which))),

@@ -7,7 +7,7 @@ use Rattle.cep_play.proofs.command.play_file.Goals as goal
 
 pub returns-in-Ok-clause-outcome : goal.returns-in-Ok-clause-outcome
 returns-in-Ok-clause-outcome g c =
-    IfOk-weaker c.play_text.result _ _ (λ status of. file_read g.C.Console.talk g.C.Console.left c.args.console.now c.play_text.new.console (g.H.Shelf.files c.args.shelf.now) c.args.file.now c.in-Ok.text.items status c.in-Ok.ensures.whole of)
+    IfOk-weaker c.play_text.result _ _ (λ status of. file_read g.C.Console.talk g.C.Console.left c.args.console.now c.play_text.new.console (g.H.Shelf.files c.args.shelf.now) c.args.file.now c.in-Ok.text.items c.args.options status c.in-Ok.ensures.whole of)
     (rw c.deref.ensures.value at c.play_text.ensures.outcome)
 
 pub returns-in_ok-refuse-in-Err-TooLong-clause-outcome : goal.returns-in_ok-refuse-in-Err-TooLong-clause-outcome

@@ -13,8 +13,8 @@ returns-in-Ok-clause-outcome g c =
     let accepted = subst (λ answer. IsAccepted text answer) c.in-Ok.is c.in_ok-program.ensures in
     IfOk-weaker c.play_program.result _ _
     (λ status played.
-    subst (λ other. OfText talk left c.args.console.now c.play_program.new.console text other) (sym played.1)
-    (text_played talk left c.args.console.now c.play_program.new.console text c.in-Ok.program played.0 (c.one_program.ensures text) accepted.0 accepted.1 played.2))
+    subst (λ other. OfText talk left c.args.console.now c.play_program.new.console text c.args.options other) (sym played.1)
+    (text_played talk left c.args.console.now c.play_program.new.console text c.args.options c.in-Ok.program played.0 (c.one_program.ensures text) accepted.0 accepted.1 played.2))
     c.play_program.ensures.said
 
 pub returns-in_ok-refuse-in-Err-clause-outcome : goal.returns-in_ok-refuse-in-Err-clause-outcome

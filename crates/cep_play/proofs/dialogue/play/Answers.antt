@@ -4,6 +4,7 @@ use Rattle.cep_base.specs.Talk.{outs, Did}
 use Rattle.cep_play.specs.Lines.{end_lines}
 use Rattle.cep_play.specs.Run.{start_of}
 use Rattle.cep_play.specs.Turn.{position_of}
+use Rattle.cep_play.specs.Command.{settings_of}
 use Rattle.cep_play.proofs.Did.{did_then, did_map}
 use Rattle.cep_play.proofs.Runs.{RunFrom, IsTold, run_ends, whole_dialogue}
 use Rattle.cep_play.proofs.Commands.{is_said}
@@ -16,7 +17,7 @@ all_turns-requires-clause-played g c =
     record {
       of_program = begun.of_program;
       height = begun.height;
-      interactive = subst (λ n. IsSomeAnd (slice_get program.stages n) (λ it. it.interactive ≡ true)) (sym begun.stage) c.requires.interactive;
+      interactive = subst (λ n. IsSomeAnd (slice_get program.stages n) (λ it. it.interactive ≡ true)) (sym begun.stage) c.requires.built.interactive;
     }
 
 pub returns-clause-said : goal.returns-clause-said
@@ -39,4 +40,4 @@ returns-clause-said g c =
     (did_then talk left c.begin-2.new.console c.all_turns.new.console c.finish.new.console _ _ (RunFrom program settings end.word start last)
     (λ come second late third rest turns ends. run_ends program settings end.word start last come late rest second third turns ends)
     c.in_ok-end.ensures.said told) in
-    did_map talk left c.args.console.now c.finish.new.console _ _ (λ come events rest is. is_said program settings end.word c.one_dialogue.ensures c.turns_are_steps.ensures c.turns_are_counted.ensures c.requires c.of-settings.ensures.settings come events rest is) whole
+    did_map talk left c.args.console.now c.finish.new.console _ _ (λ come events rest is. is_said program settings (settings_of program c.args.options) end.word c.one_dialogue.ensures.but_for_proofs c.one_dialogue.ensures.to_the_byte c.turns_are_steps.ensures c.turns_are_counted.ensures c.of-settings.ensures.settings come events rest is) whole
