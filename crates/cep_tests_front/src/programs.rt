@@ -171,9 +171,37 @@ stage s = {}
 p : pred.
 stage s = { r : p -o (). } #trace _ s { p }.
 =
-1:1 20 NotBuilt
+accepted
 p : bwd.
 stage s = { r : p -o (). } #interactive s. #trace _ s {}.
+=
+8:20 17 Ungrounded
+nat : type.
+z : nat.
+s nat : nat.
+plus nat nat nat : bwd.
+plus z N N.
+plus (s N) M (s P) <- plus N M P.
+got nat : pred.
+stage main = { r : plus N M P -o got P. }
+#interactive main.
+#trace _ main {}.
+=
+accepted
+nat : type.
+z : nat.
+s nat : nat.
+plus nat nat nat : bwd.
+plus z N N.
+plus (s N) M (s P) <- plus N M P.
+got nat : pred.
+stage main = { r : got N * plus A B N -o got A. }
+#interactive main.
+#trace _ main {}.
+=
+2:17 17 Ungrounded
+t : type. p t : bwd. p X.
+stage s = { r : p X -o (). } #trace _ s {}.
 =
 1:1 20 NotBuilt
 stage s = {} qui * stage s -o stage s. #interactive s. #trace _ s {}.
@@ -218,11 +246,17 @@ p : pred. stage s = { r :| p *|16| ()|| -o (). } #interactive s. #trace _ s {}.
 1:67 18 OverLimit
 p : bwd. stage s = { r :| $p *|9| ()|| -o (). } #interactive s. #trace _ s {}.
 =
+accepted
+p : bwd. stage s = { r :| $p *|8| ()|| -o (). } #interactive s. #trace _ s {}.
+=
 1:161 18 OverLimit
 p : pred. stage s = { r : () -o| p *|33| ()||. } #interactive s. #trace _ s {}.
 =
 1:68 18 OverLimit
 q : bwd. stage s = {} q| <- q|10|||. #interactive s. #trace _ s {}.
+=
+accepted
+q : bwd. stage s = {} q| <- q|8|||. #interactive s. #trace _ s {}.
 =
 1:143 18 OverLimit
 t : type. p t t t t : pred. stage s = { r :| p _ _ _ _ *|9| ()|| -o (). } #interactive s. #trace _ s {}.
@@ -300,16 +334,22 @@ fn told(alloc: Global, text: &str) -> Result<String, AllocError> {
     }
 }
 
+// This is told of a text, which is named so.
+fn expect_named(
+    rt: &impl Abort,
+    alloc: Global,
+    (text, name): (&str, &str),
+    line: &str,
+) -> Result<(), Fail> {
+    let told = told(alloc, text)?;
+    assert_eq!(rt; told.as_str(), line, "at {}", name);
+    Ok(())
+}
+
 // This is told of a text.
 fn expect_told(rt: &impl Abort, alloc: Global, text: &str, line: &str) -> Result<(), Fail> {
-    let told = told(alloc, text)?;
-    assert_eq!(rt;
-        told.as_str(),
-        line,
-        "at {}",
-        text.get(..80).unwrap_or(text)
-    );
-    Ok(())
+    let name = text.get(..80).unwrap_or(text);
+    expect_named(rt, alloc, (text, name), line)
 }
 
 #[test]
@@ -332,6 +372,79 @@ fn what_is_one_too_many_is_refused_where_it_stands(rt: HostRuntime) -> Result<()
     for entry in long_texts().split("\n=\n") {
         let (line, fields) = entry.split_once('\n').ok_or("no text")?;
         expect_long(&rt, rt.alloc(), fields, line)?;
+    }
+    Ok(())
+}
+
+// Backward predicates and their clauses, before the rules of a program.
+fn clauses() -> &'static str {
+    "\
+nat : type. z : nat. s nat : nat. pair nat nat : nat. got nat : pred.
+plus nat nat nat : bwd. plus z N N. plus (s N) M (s P) <- plus N M P.
+even nat : bwd. even z. even (s (s N)) <- even N.
+any nat : bwd. any N. same nat nat : bwd. same N N. never nat : bwd.
+pass nat : bwd. pass N <- any N. far nat : bwd. far N <- pass N.
+late nat : bwd. late N <- same N K <- even K.
+early nat : bwd. early N <- even K <- same N K.
+one nat : bwd. other nat : bwd. one N <- other N. other N <- one N.
+wide nat nat nat nat nat nat nat nat : bwd. wide z z z z z z z z.
+last nat nat nat nat nat nat nat nat : bwd. last N N N N N N N N. #interactive main. #trace _ main {}.
+"
+}
+
+// Rules of the program that begins with these clauses, each behind what is told of it.
+fn modes() -> &'static str {
+    "\
+accepted | stage main = { r : even N -o got N. }
+accepted | stage main = { r : never N -o got N. }
+accepted | stage main = { r : one N -o got N. }
+accepted | stage main = { r : early N -o got N. }
+11:20 17 Ungrounded | stage main = { r : any N -o got N. }
+11:20 17 Ungrounded | stage main = { r : pass N -o got N. }
+11:20 17 Ungrounded | stage main = { r : far N -o got N. }
+11:20 17 Ungrounded | stage main = { r : late N -o got N. }
+accepted | stage main = { r : got N * far N -o got N. }
+accepted | stage main = { r : far N * got N -o got N. }
+accepted | stage main = { r : far z -o (). }
+accepted | stage main = { r : $far z -o (). }
+11:21 17 Ungrounded | stage main = { r : $far N -o (). }
+11:20 17 Ungrounded | stage main = { r : any _ -o (). }
+accepted | stage main = { r : got N * plus M K N -o got K. }
+accepted | stage main = { r : got N * plus M N K -o got K. }
+11:28 17 Ungrounded | stage main = { r : got N * plus N M K -o got K. }
+11:41 17 Ungrounded | stage main = { r : got N * plus N N M * plus M K L -o got L. }
+accepted | stage main = { r : got N * plus N N M * plus M N L -o got L. }
+accepted | stage main = { r : even M * plus K M L -o got L. }
+11:20 17 Ungrounded | stage main = { r : plus K M L * even M -o got L. }
+11:28 17 Ungrounded | stage main = { r : got N * same (pair N M) K -o got K. }
+accepted | stage main = { r : got N * same (pair N M) N -o got M. }
+accepted | stage main = { r : got N * last A B C D E F G N -o got A. }
+accepted | stage main = { r : got N * last N A B C D E F G -o got A. }
+11:20 17 Ungrounded | stage main = { r : last A B C D E F G H -o got A. }
+accepted | stage main = { r : wide A B C D E F G H * wide I J K L M N O P * wide Q R S T U V W X * wide Y Z A' B' C' D' E' F' * any F' -o (). }
+11:118 17 Ungrounded | stage main = { r : wide A B C D E F G H * wide I J K L M N O P * wide Q R S T U V W X * wide Y Z A' B' C' D' E' E' * any F' -o (). }
+11:20 17 Ungrounded | stage main = { r : any N * any M -o got N. }
+11:41 17 Ungrounded | stage main = { r : even N -o got N. t : any N * far M -o got N. u : any N -o got N. }
+11:33 16 Unbound | stage main = { r : any N -o got M. }
+11:47 16 Unbound | stage main = { r : any N -o (). t : () -o got N. }
+1:1 20 NotBuilt | stage main = { r : even N -o got N. } qui * stage main -o stage main.
+11:20 17 Ungrounded | stage main = { r : any N -o got N. } qui * stage main -o stage main.
+11:37 17 Ungrounded | stage main = { } qui * stage main * any N -o stage main.
+1:1 20 NotBuilt | stage main = { } qui * stage main * even N -o stage main."
+}
+
+// This is told of the rules behind the clauses.
+fn expect_mode(rt: &impl Abort, alloc: Global, rules: &str, line: &str) -> Result<(), Fail> {
+    let mut text = String::from_str(alloc, clauses())?;
+    text.push_str(rules)?;
+    expect_named(rt, alloc, (text.as_str(), rules), line)
+}
+
+#[test]
+fn no_backward_premise_may_leave_a_variable_unknown(rt: HostRuntime) -> Result<(), Fail> {
+    for entry in modes().split('\n') {
+        let (line, rules) = entry.split_once(" | ").ok_or("no rules")?;
+        expect_mode(&rt, rt.alloc(), rules, line)?;
     }
     Ok(())
 }

@@ -1,2 +1,4 @@
+mod Asked
 mod Bound
 mod Groups
+mod Plain

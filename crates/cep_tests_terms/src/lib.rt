@@ -3,6 +3,10 @@
 #![tactic(auto)]
 
 #[cfg(test)]
+mod answers;
+#[cfg(test)]
+mod asking;
+#[cfg(test)]
 mod derivations;
 #[cfg(test)]
 mod fakes;

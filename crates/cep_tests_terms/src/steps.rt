@@ -1,11 +1,12 @@
 // Steps of configurations: which limit a step would pass, and the number that passes it.
 ghost use Rattle.std.specs.Prelude.{◌≡◌, ◌<◌, IfOk};
+ghost use Rattle.cep_rule.specs.Limits.{IsHeight};
 ghost use Rattle.cep_machine.specs.Configuration.{IsConfigurationOf};
 ghost use Rattle.cep_machine.specs.Stepping.{config_after};
 
 use crate::sample::{program_of, staged};
 use cep_base::Steps;
-use cep_base::limits::MOST_TURNS;
+use cep_base::limits::{MOST_HEIGHT, MOST_TURNS};
 use cep_machine::{Config, Stepped, Which};
 use cep_rule::{Matcher, Program};
 use cep_scratch::Scratch;
@@ -88,16 +89,18 @@ fn after_firsts<M: Matcher, L: Ledger>(
     Ok(config)
 }
 
-// The configuration of the program after so many first offers.
+// The configuration of the program within the height, after so many first offers.
 fn config_at<M: Matcher, L: Ledger>(
     alloc: Global,
     program: &Program,
+    height: u32,
     turns: u32,
     steps: &mut Steps<L>,
 ) -> Result<Config<M>, Fail>
+    requires { IsHeight height }
     ensures { IfOk result (IsConfigurationOf M.is_of program.now) }
 {
-    let start = Config::<M>::begin(alloc, program, 128, steps)?;
+    let start = Config::<M>::begin(alloc, program, height, steps)?;
     after_firsts(alloc, program, start, turns, steps)
 }
 
@@ -114,7 +117,7 @@ fn limit_after<L: Ledger>(
     requires open { 0 < L.parts }
 {
     let mut steps = Steps::<L>::new(blank);
-    let config = config_at::<Scratch, L>(alloc, program, turns, &mut steps)?;
+    let config = config_at::<Scratch, L>(alloc, program, 128, turns, &mut steps)?;
     passed(step(alloc, program, config, place, &mut steps)?)
 }
 
@@ -162,7 +165,7 @@ fn asked_after<L: Ledger>(
     requires open { 0 < L.parts }
 {
     let mut steps = Steps::<L>::new(blank);
-    let config = config_at::<Scratch, L>(alloc, program, turns, &mut steps)?;
+    let config = config_at::<Scratch, L>(alloc, program, 128, turns, &mut steps)?;
     Ok((config.stage(), config.asked()))
 }
 
@@ -198,4 +201,67 @@ fn a_stage_is_left_where_its_own_rules_are_quiet(rt: HostRuntime) -> Result<(), 
     expect_asked(&rt, rt.alloc(), 0, (0, Some(0)))?;
     expect_asked(&rt, rt.alloc(), 1, (0, Some(1)))?;
     expect_asked(&rt, rt.alloc(), 2, (1, None))
+}
+
+// How many offers the group has that is asked.
+fn choices<M: Matcher>(config: &Config<M>) -> Result<usize, Fail> {
+    match config.asked() {
+        Some(group) => Ok(config.matcher().count(group)),
+        None => Err(Fail::from("quiet")),
+    }
+}
+
+// How many offers are asked within the height, after so many first offers.
+fn choices_after<L: Ledger>(
+    alloc: Global,
+    program: &Program,
+    height: u32,
+    turns: u32,
+    blank: Blank,
+) -> Result<usize, Fail>
+    requires height { IsHeight height }
+    requires name { blank.name ≡ L.name }
+    requires parts { blank.parts ≡ L.parts }
+    requires open { 0 < L.parts }
+{
+    let mut steps = Steps::<L>::new(blank);
+    let config = config_at::<Scratch, L>(alloc, program, height, turns, &mut steps)?;
+    choices(&config)
+}
+
+// A number is divided into two, of which the first is kept.
+fn dividing() -> &'static str {
+    "nat : type. z : nat. s nat : nat. plus nat nat nat : bwd. got nat : pred.
+plus z N N. plus (s N) M (s P) <- plus N M P.
+stage main = { r : got N * plus A B N -o got A. }
+#interactive main.
+#trace _ main { got (s (s z)) }.
+"
+}
+
+// How many ways there are to divide the number, within the height, after so many turns.
+fn ways(alloc: Global, height: u32, turns: u32) -> Result<usize, Fail> {
+    if height == 0 || height > MOST_HEIGHT {
+        return Err(Fail::from("no height"));
+    }
+    let program = program_of(alloc, dividing())?;
+    choices_after::<Brand>(alloc, &program, height, turns, Blank::new(1))
+}
+
+fn expect_ways(
+    rt: &impl Abort,
+    alloc: Global,
+    (height, turns): (u32, u32),
+    wanted: usize,
+) -> Result<(), Fail> {
+    assert_eq!(rt; ways(alloc, height, turns)?, wanted);
+    Ok(())
+}
+
+#[test]
+fn each_answer_to_a_backward_premise_is_offered(rt: HostRuntime) -> Result<(), Fail> {
+    expect_ways(&rt, rt.alloc(), (128, 0), 3)?;
+    expect_ways(&rt, rt.alloc(), (128, 1), 1)?;
+    expect_ways(&rt, rt.alloc(), (2, 0), 2)?;
+    expect_ways(&rt, rt.alloc(), (1, 0), 1)
 }

@@ -1,6 +1,6 @@
 // Whole dialogues: that a call can succeed, and the very bytes of what it writes, from examples that
 // were worked out by hand.
-use crate::outside::{Outcome, expect, play, run_line, shelf_of, status, written};
+use crate::outside::{Outcome, expect, play, run_line, run_text, shelf_of, status, written};
 use cep_base::limits::{MOST_TEXT, MOST_TYPED};
 use cep_base::{MemConsole, MemShelf};
 use std::alloc::{AllocError, Global};
@@ -96,17 +96,24 @@ have 1 b
 "
 }
 
-// Three walkers, of whom two stand in one place.
+// Three walkers, of whom two stand in one place, and the ways between two places.
 fn walked() -> &'static str {
     "\
-2/
+3/5/
+% a small walk
 character : type.
 location : type.
 alice : character.  bob : character.  carol : character.
 park : location.  tower : location.
 at character location : pred.
+adjacent location location : bwd.
 met character character : pred.
-stage walk = { meet/two : $at C L * $at D L -o met C D. }
+adjacent park tower.
+adjacent tower park.
+stage walk = {
+  travel : at C L * adjacent L L' -o at C L'.
+  meet/two : $at C L * $at D L -o met C D.
+}
 #interactive walk.
 context init = { at alice park, at bob park, at carol tower }.
 #trace _ walk init.
@@ -117,18 +124,40 @@ stage walk
 have 1 at alice park
 have 1 at bob park
 have 1 at carol tower
-? 1 meet/two C=alice L=park D=bob
-? 2 meet/two C=bob L=park D=alice
+? 1 travel C=alice L=park L'=tower
+? 2 travel C=bob L=park L'=tower
+? 3 travel C=carol L=tower L'=park
+? 4 meet/two C=alice L=park D=bob
+? 5 meet/two C=bob L=park D=alice
 ? choose
-step meet/two C=bob L=park D=alice
-? 1 meet/two C=alice L=park D=bob
-? 2 meet/two C=bob L=park D=alice
+step travel C=carol L=tower L'=park
+by [2]
+? 1 travel C=alice L=park L'=tower
+? 2 travel C=bob L=park L'=tower
+? 3 travel C=carol L=park L'=tower
+? 4 meet/two C=alice L=park D=bob
+? 5 meet/two C=alice L=park D=carol
+? 6 meet/two C=bob L=park D=alice
+? 7 meet/two C=bob L=park D=carol
+? 8 meet/two C=carol L=park D=alice
+? 9 meet/two C=carol L=park D=bob
+? choose
+step meet/two C=alice L=park D=carol
+? 1 travel C=alice L=park L'=tower
+? 2 travel C=bob L=park L'=tower
+? 3 travel C=carol L=park L'=tower
+? 4 meet/two C=alice L=park D=bob
+? 5 meet/two C=alice L=park D=carol
+? 6 meet/two C=bob L=park D=alice
+? 7 meet/two C=bob L=park D=carol
+? 8 meet/two C=carol L=park D=alice
+? 9 meet/two C=carol L=park D=bob
 ? choose
 end input
 have 1 at alice park
 have 1 at bob park
-have 1 at carol tower
-have 1 met bob alice
+have 1 at carol park
+have 1 met alice carol
 "
 }
 
@@ -217,31 +246,50 @@ refused 6:1 14 NoTrace
 "
 }
 
-// The text is played so.
-fn expect_play(
+// The command with the words of this line does so, where the file `f` is this text.
+fn expect_run(
     rt: &impl Abort,
     alloc: Global,
+    line: &str,
     (text, typed): (&str, &str),
     (status, said): (u8, &str),
 ) -> Result<(), Fail> {
-    let outcome = play(alloc, text, typed)?;
+    let outcome = run_text(alloc, line, text, typed)?;
     expect(rt, &outcome, status, said);
     Ok(())
 }
 
-// The text of an entry is played so, and the run ends with this status.
-fn expect_entry(rt: &impl Abort, alloc: Global, entry: &str, status: u8) -> Result<(), Fail> {
+// The text of an entry is played so by these words, and the run ends with this status.
+fn expect_entry(
+    rt: &impl Abort,
+    alloc: Global,
+    line: &str,
+    entry: &str,
+    status: u8,
+) -> Result<(), Fail> {
     let (typed, rest) = entry.split_once('\n').ok_or("no text")?;
     let (text, said) = rest.split_once("-\n").ok_or("nothing said")?;
     let typed = typed.replace(alloc, '/', "\n")?;
-    expect_play(rt, alloc, (text, typed.as_str()), (status, said))
+    expect_run(rt, alloc, line, (text, typed.as_str()), (status, said))
 }
 
-fn expect_entries(rt: &impl Abort, alloc: Global, table: &str, status: u8) -> Result<(), Fail> {
+// The texts of all entries are played so by these words.
+pub fn expect_entries_by(
+    rt: &impl Abort,
+    alloc: Global,
+    line: &str,
+    table: &str,
+    status: u8,
+) -> Result<(), Fail> {
     for entry in table.split("=\n") {
-        expect_entry(rt, alloc, entry, status)?;
+        expect_entry(rt, alloc, line, entry, status)?;
     }
     Ok(())
+}
+
+// The same, without options.
+pub fn expect_entries(rt: &impl Abort, alloc: Global, table: &str, status: u8) -> Result<(), Fail> {
+    expect_entries_by(rt, alloc, "play f", table, status)
 }
 
 #[test]
@@ -268,14 +316,20 @@ fn a_text_is_refused_for_its_first_fault(rt: HostRuntime) -> Result<(), Fail> {
 fn a_text_that_is_too_long_is_refused(rt: HostRuntime) -> Result<(), Fail> {
     let long = "x".repeat(rt.alloc(), MOST_TEXT + 1)?;
     let said = "refused 1:1 19 TooLong\n";
-    expect_play(&rt, rt.alloc(), (long.as_str(), ""), (3, said))
+    expect_run(&rt, rt.alloc(), "play f", (long.as_str(), ""), (3, said))
 }
 
 #[test]
 fn a_run_ends_where_no_more_may_be_typed(rt: HostRuntime) -> Result<(), Fail> {
     let typed = "x".repeat(rt.alloc(), MOST_TYPED as usize)?;
     let said = "ceptre 1\nheight 128\nstage main\nhave 1 a\n? 1 r\n? choose\nend typed\nhave 1 a\n";
-    expect_play(&rt, rt.alloc(), (turning(), typed.as_str()), (4, said))
+    expect_run(
+        &rt,
+        rt.alloc(),
+        "play f",
+        (turning(), typed.as_str()),
+        (4, said),
+    )
 }
 
 // The command answers the words of this line so.
@@ -295,10 +349,30 @@ fn usage() -> &'static str {
     "usage: play FILE [seed=N] [height=N] [turns=N] | check FILE LOG | world N [seed=N] [height=N] [turns=N]\n"
 }
 
+// Lines whose words have no form, of which one is empty.
+fn without_a_form() -> &'static str {
+    "
+play
+play f seed=1
+check f
+play f height=
+play f height=0
+play f height=01
+play f height=513
+play f height=4294967299
+play f height=+3
+play f height=3x
+play f height= 3
+play f heigth=3
+play f Height=3
+play f height=3 height=3
+play height=3 f"
+}
+
 #[test]
 fn words_without_a_form_are_answered_with_the_usage(rt: HostRuntime) -> Result<(), Fail> {
     let mut shelf = MemShelf::new(rt.alloc());
-    for line in ["", "play", "play f seed=1", "check f"] {
+    for line in without_a_form().split('\n') {
         expect_answer(&rt, rt.alloc(), &mut shelf, line, (2, usage()))?;
     }
     Ok(())

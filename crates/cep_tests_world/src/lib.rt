@@ -2,6 +2,8 @@
 #![tactic(auto)]
 
 #[cfg(test)]
+mod backward;
+#[cfg(test)]
 mod dialogues;
 #[cfg(test)]
 mod limits;

@@ -84,10 +84,15 @@ pub fn shelf_of(alloc: Global, text: &str) -> Result<MemShelf, AllocError> {
     Ok(shelf)
 }
 
+// Runs the command with the words of this line, where the file `f` is this text, with this typed.
+pub fn run_text(alloc: Global, line: &str, text: &str, typed: &str) -> Result<Outcome, AllocError> {
+    let mut shelf = shelf_of(alloc, text)?;
+    run_line(alloc, line, &mut shelf, typed)
+}
+
 // Plays a text, with this typed.
 pub fn play(alloc: Global, text: &str, typed: &str) -> Result<Outcome, AllocError> {
-    let mut shelf = shelf_of(alloc, text)?;
-    run_line(alloc, "play f", &mut shelf, typed)
+    run_text(alloc, "play f", text, typed)
 }
 
 // The run ended so, and wrote this.
