@@ -1,0 +1,166 @@
+-- Different keys read different trees, and all trees that are read are ground and have their arguments among them.
+use Rattle.std.proofs.Common.{◌≡◌, ℕ, zero, suc, ◌<◌, ◌≤◌, List, [], ◌∷◌, length, map, get_or, Contains, Option, Some, None, refl, sym, ap, subst, ◌∙◌, arith}
+use Rattle.std.specs.Prelude.{slice_get}
+use Rattle.std.specs.List.{AllByRecursion}
+use Rattle.std.specs.Option.{option_map_or}
+use Rattle.std.proofs.lemmas.Option.{get_or_from_slice_get, slice_get-get_or, slice_get_within}
+use Rattle.cep_base.proofs.Lists.{none_some, some_same, all_from_places}
+use Rattle.cep_term.specs.Tree.{Tree, AtomTree, variable, IsGround, AreGround, IsGroundAtom}
+use Rattle.cep_store.specs.Held.{AreApart, AreIds, trees_in, parts_in}
+use Rattle.cep_store.specs.Keys.{args_by, term_by, atom_by, terms_by, atoms_by, held_by, IsKey, AreTermKeys, AreKeys}
+use Rattle.cep_store.proofs.Readings.{key_below}
+
+-- what stands in an image comes from the list
+pub get_unmapped : {A B : Type 0} (f : A → B) (xs : List A) (i : ℕ) (y : B) → slice_get (map f xs) i ≡ Some y → (x : A) × (slice_get xs i ≡ Some x) × (f x ≡ y)
+get_unmapped f [] i y is = none_some y is
+get_unmapped f (x ∷ xs) zero y is = (x, refl, some_same (f x) y is)
+get_unmapped f (x ∷ xs) (suc i) y is = get_unmapped f xs i y is
+
+pub contains_at : {A : Type 0} (xs : List A) (i : ℕ) (x : A) → slice_get xs i ≡ Some x → Contains xs x
+contains_at xs i x at = (i, slice_get_within xs i x at, get_or_from_slice_get xs i x x at)
+
+pub place_of_contained : {A : Type 0} (xs : List A) (x : A) → Contains xs x → (i : ℕ) × (slice_get xs i ≡ Some x)
+place_of_contained xs x there = (there.0, slice_get-get_or xs there.0 x there.1 ∙ ap Some there.2)
+
+-- No two places below the bound have the same.
+ApartBelow : ℕ → List Tree → Type 0
+ApartBelow bound terms = (i j : ℕ) (t : Tree) → i < bound → j < bound → slice_get terms i ≡ Some t → slice_get terms j ≡ Some t → i ≡ j
+
+module _ (terms : List Tree) (bound : ℕ) (few : bound ≤ length terms) (apart : ApartBelow bound terms) where
+  id_same : (i j : ℕ) → i < bound → j < bound → get_or terms i (variable 0) ≡ get_or terms j (variable 0) → i ≡ j
+  unfolding ApartBelow
+  id_same i j low high same =
+      apart i j (get_or terms i (variable 0)) low high
+      (slice_get-get_or terms i (variable 0) (omega arith))
+      (slice_get-get_or terms j (variable 0) (omega arith) ∙ ap Some (sym same))
+
+  args_same : (ids others : List ℕ) → AllByRecursion (λ id. id < bound) ids → AllByRecursion (λ id. id < bound) others → args_by terms ids ≡ args_by terms others → ids ≡ others
+  args_same [] [] all every same = refl
+  args_same [] (j ∷ others) all every same = cc
+  args_same (i ∷ ids) [] all every same = cc
+  args_same (i ∷ ids) (j ∷ others) all every same =
+      let first : get_or terms i (variable 0) ≡ get_or terms j (variable 0) = cc in
+      let rest : args_by terms ids ≡ args_by terms others = cc in
+      (λ k. id_same i j all.0 every.0 first k ∷ args_same ids others all.1 every.1 rest k)
+
+  key_same : (key other : List ℕ) → IsKey bound key → IsKey bound other → term_by terms key ≡ term_by terms other → key ≡ other
+  key_same [] other is are same = absurd is
+  key_same (head ∷ ids) [] is are same = absurd are
+  key_same (head ∷ ids) (top ∷ others) is are same =
+      let heads : head ≡ top = cc in
+      let args : args_by terms ids ≡ args_by terms others = cc in
+      (λ k. heads k ∷ args_same ids others is.1 are.1 args k)
+
+  atom_same : (key other : List ℕ) → IsKey bound key → IsKey bound other → atom_by terms key ≡ atom_by terms other → key ≡ other
+  atom_same [] other is are same = absurd is
+  atom_same (head ∷ ids) [] is are same = absurd are
+  atom_same (head ∷ ids) (top ∷ others) is are same =
+      let heads : head ≡ top = ap (λ (a : AtomTree). a.pred) same in
+      let args : args_by terms ids ≡ args_by terms others = ap (λ (a : AtomTree). a.args) same in
+      (λ k. heads k ∷ args_same ids others is.1 are.1 args k)
+
+module _ (keys : List (List ℕ)) (are : AreTermKeys keys) where
+  -- the key of a term that is read
+  key_at : (i : ℕ) (t : Tree) → slice_get (terms_by keys) i ≡ Some t → (key : List ℕ) × (slice_get keys i ≡ Some key) × (term_by (terms_by keys) key ≡ t)
+  key_at i t at =
+      let within : i < length (terms_by keys) = slice_get_within (terms_by keys) i t at in
+      let here : slice_get keys i ≡ Some (get_or keys i []) = slice_get-get_or keys i [] (omega (arith, are.count)) in
+      (get_or keys i [], here, some_same _ t (sym (are.read i (get_or keys i []) here) ∙ at))
+
+  apart_below : (n : ℕ) → n ≤ length (terms_by keys) → ApartBelow n (terms_by keys)
+  unfolding ApartBelow
+  apart_below zero few i j t low high one other = absurd (omega arith)
+  apart_below (suc n) few i j t low high one other =
+      let first = key_at i t one in
+      let second = key_at j t other in
+      let lesser : i ≤ n = omega arith in
+      let least : j ≤ n = omega arith in
+      let same : first.0 ≡ second.0 =
+      key_same (terms_by keys) n (omega arith) (apart_below n (omega arith)) first.0 second.0
+      (key_below i n first.0 lesser (are.each i first.0 first.1))
+      (key_below j n second.0 least (are.each j second.0 second.1))
+      (first.2 ∙ sym second.2) in
+      are.apart i j first.0 first.1 (second.1 ∙ ap Some (sym same))
+
+  pub terms_apart : AreApart (terms_by keys)
+  unfolding ApartBelow
+  terms_apart i j t one other =
+      apart_below (length (terms_by keys)) (omega arith) i j t (slice_get_within (terms_by keys) i t one) (slice_get_within (terms_by keys) j t other) one other
+
+  args_ground : (bound : ℕ) (ids : List ℕ) → bound ≤ length (terms_by keys) → ((i : ℕ) (t : Tree) → i < bound → slice_get (terms_by keys) i ≡ Some t → IsGround t) → AllByRecursion (λ id. id < bound) ids → AreGround (args_by (terms_by keys) ids)
+  args_ground bound [] few ground all = tt
+  args_ground bound (id ∷ ids) few ground all =
+      (ground id (get_or (terms_by keys) id (variable 0)) all.0 (slice_get-get_or (terms_by keys) id (variable 0) (omega (arith, all.0))), args_ground bound ids few ground all.1)
+
+  key_ground : (bound : ℕ) (key : List ℕ) → bound ≤ length (terms_by keys) → ((i : ℕ) (t : Tree) → i < bound → slice_get (terms_by keys) i ≡ Some t → IsGround t) → IsKey bound key → IsGround (term_by (terms_by keys) key)
+  key_ground bound [] few ground is = absurd is
+  key_ground bound (head ∷ ids) few ground is = args_ground bound ids few ground is.1
+
+  ground_below : (n : ℕ) → n ≤ length (terms_by keys) → (i : ℕ) (t : Tree) → i < n → slice_get (terms_by keys) i ≡ Some t → IsGround t
+  ground_below zero few i t low at = absurd (omega arith)
+  ground_below (suc n) few i t low at =
+      let key = key_at i t at in
+      let lesser : i ≤ n = omega arith in
+      subst IsGround key.2 (key_ground n key.0 (omega arith) (ground_below n (omega arith)) (key_below i n key.0 lesser (are.each i key.0 key.1)))
+
+  ground_at : (i : ℕ) (t : Tree) → slice_get (terms_by keys) i ≡ Some t → IsGround t
+  ground_at i t at = ground_below (length (terms_by keys)) (omega arith) i t (slice_get_within (terms_by keys) i t at) at
+
+  args_held : (ids : List ℕ) → AllByRecursion (λ id. id < length (terms_by keys)) ids → AllByRecursion (λ part. Contains (terms_by keys) part) (trees_in (args_by (terms_by keys) ids))
+  args_held [] all = tt
+  args_held (id ∷ ids) all = (contains_at (terms_by keys) id _ (slice_get-get_or (terms_by keys) id (variable 0) all.0), args_held ids all.1)
+
+  parts_held : (key : List ℕ) → IsKey (length (terms_by keys)) key → AllByRecursion (λ part. Contains (terms_by keys) part) (parts_in (term_by (terms_by keys) key))
+  parts_held [] is = absurd is
+  parts_held (head ∷ ids) is = args_held ids is.1
+
+  parts_of_held : (id : ℕ) (r : Option Tree) → slice_get (terms_by keys) id ≡ r → AllByRecursion (λ part. Contains (terms_by keys) part) (option_map_or parts_in r [])
+  parts_of_held id None at = tt
+  parts_of_held id (Some t) at =
+      let key = key_at id t at in
+      let within : id < length (terms_by keys) = slice_get_within (terms_by keys) id t at in
+      subst (λ u. AllByRecursion (λ part. Contains (terms_by keys) part) (parts_in u)) key.2 (parts_held key.0 (key_below id (length (terms_by keys)) key.0 (omega arith) (are.each id key.0 key.1)))
+
+module _ (terms atoms : List (List ℕ)) (are : AreKeys terms atoms) where
+  atom_is : (id : ℕ) (key : List ℕ) → slice_get atoms id ≡ Some key → IsKey (length (terms_by terms)) key
+  atom_is id key at = subst (λ n. IsKey n key) (sym are.terms.count) (are.atoms id key at)
+
+  pub atoms_apart : AreApart (atoms_by (terms_by terms) atoms)
+  unfolding ApartBelow
+  atoms_apart i j a one other =
+      let first = get_unmapped (atom_by (terms_by terms)) atoms i a one in
+      let second = get_unmapped (atom_by (terms_by terms)) atoms j a other in
+      let same : first.0 ≡ second.0 =
+      atom_same (terms_by terms) (length (terms_by terms)) (omega arith) (λ m n t low high here there. terms_apart terms are.terms m n t here there) first.0 second.0
+      (atom_is i first.0 first.1) (atom_is j second.0 second.1) (first.2 ∙ sym second.2) in
+      are.apart i j first.0 first.1 (second.1 ∙ ap Some (sym same))
+
+  ground_atom : (key : List ℕ) → IsKey (length (terms_by terms)) key → IsGroundAtom (atom_by (terms_by terms) key)
+  ground_atom [] is = absurd is
+  ground_atom (head ∷ ids) is = args_ground terms are.terms (length (terms_by terms)) ids (omega arith) (ground_below terms are.terms (length (terms_by terms)) (omega arith)) is.1
+
+  ground_atom_at : (i : ℕ) (a : AtomTree) → slice_get (atoms_by (terms_by terms) atoms) i ≡ Some a → IsGroundAtom a
+  ground_atom_at i a at =
+      let key = get_unmapped (atom_by (terms_by terms)) atoms i a at in
+      subst IsGroundAtom key.2 (ground_atom key.0 (atom_is i key.0 key.1))
+
+  args_of_key : (key : List ℕ) → IsKey (length (terms_by terms)) key → AllByRecursion (λ arg. Contains (terms_by terms) arg) (trees_in (atom_by (terms_by terms) key).args)
+  args_of_key [] is = absurd is
+  args_of_key (head ∷ ids) is = args_held terms are.terms ids is.1
+
+  args_of_held : (id : ℕ) (r : Option AtomTree) → slice_get (atoms_by (terms_by terms) atoms) id ≡ r → AllByRecursion (λ arg. Contains (terms_by terms) arg) (option_map_or (λ a. trees_in a.args) r [])
+  args_of_held id None at = tt
+  args_of_held id (Some a) at =
+      let key = get_unmapped (atom_by (terms_by terms)) atoms id a at in
+      subst (λ b. AllByRecursion (λ arg. Contains (terms_by terms) arg) (trees_in b.args)) key.2 (args_of_key key.0 (atom_is id key.0 key.1))
+
+  -- what a store holds by its keys
+  pub are_ids : AreIds (held_by terms atoms)
+  are_ids = record {
+    terms_apart = terms_apart terms are.terms;
+    atoms_apart = atoms_apart;
+    ground_terms = all_from_places IsGround (terms_by terms) (ground_at terms are.terms);
+    ground_atoms = all_from_places IsGroundAtom (atoms_by (terms_by terms) atoms) ground_atom_at;
+    parts = λ id. parts_of_held terms are.terms id (slice_get (terms_by terms) id) refl;
+    args = λ id. args_of_held id (slice_get (atoms_by (terms_by terms) atoms) id) refl;
+  }

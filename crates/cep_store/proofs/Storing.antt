@@ -1,0 +1,129 @@
+-- What a store holds before and after an atom is interned.
+use Rattle.std.proofs.Common.{◌≡◌, ◌⊎◌, inl, inr, ⊎_elim, ℕ, suc, ◌<◌, ◌≤◌, ◌^◌, List, [], ◌∷◌, ◌++◌, length, Contains, Some, refl, sym, ap, subst, ◌∙◌, length-append, arith}
+use Rattle.std.specs.Prelude.{Result, Ok, Err, IfOk, OnErr, slice_get}
+use Rattle.std.proofs.lemmas.Option.{slice_get_within}
+use Rattle.cep_base.proofs.Lists.{none_some, get_mapped, map_last}
+use Rattle.cep_term.specs.Tree.{Tree, Trees, AtomTree}
+use Rattle.cep_store.specs.Held.{AreApart, IsFrontOf, StaysHeld, HasId}
+use Rattle.cep_store.specs.Keys.{atom_by, terms_by, atoms_by, held_by, IsKey, AreTermKeys, AreKeys, TakesPlace, AddsIds}
+use Rattle.cep_store.proofs.Places.{get_front, get_last, get_pushed, front_same, front_push}
+use Rattle.cep_store.proofs.Readings.{key_below, atom_stays, term_keys_none, is_key, reads_atom}
+use Rattle.cep_store.proofs.Differing.{contains_at, place_of_contained, atoms_apart}
+
+atoms_stay : (terms behind : List Tree) (keys : List (List ℕ)) → ((id : ℕ) (key : List ℕ) → slice_get keys id ≡ Some key → IsKey (length terms) key) → atoms_by (terms ++ behind) keys ≡ atoms_by terms keys
+atoms_stay terms behind [] each = refl
+atoms_stay terms behind (key ∷ keys) each =
+    λ i. atom_stays terms behind key (each 0 key refl) i ∷ atoms_stay terms behind keys (λ id other at. each (suc id) other at) i
+
+pub keys_none : AreKeys [] []
+keys_none = record { terms = term_keys_none; apart = λ i j x one other. none_some x one; atoms = λ id key at. none_some key at }
+
+module _ (old new atoms : List (List ℕ)) (were : AreKeys old atoms) (are : AreTermKeys new) (front : IsFrontOf (terms_by old) (terms_by new)) where
+  low : length old ≤ length new
+  low =
+      let more = ap length front.1 in
+      omega (arith, more, length-append (terms_by old) front.0, were.terms.count, are.count)
+
+  -- the keys of atoms name terms, also where there are more of these
+  pub keys_grown : AreKeys new atoms
+  keys_grown = record {
+    terms = are;
+    apart = were.apart;
+    atoms = λ id key at. key_below (length old) (length new) key low (were.atoms id key at);
+  }
+
+  -- and they read the same atoms
+  pub atoms_grown : atoms_by (terms_by new) atoms ≡ atoms_by (terms_by old) atoms
+  atoms_grown =
+      subst (λ terms. atoms_by terms atoms ≡ atoms_by (terms_by old) atoms) (sym front.1)
+      (atoms_stay (terms_by old) front.0 atoms (λ id key at. subst (λ n. IsKey n key) (sym were.terms.count) (were.atoms id key at)))
+
+  -- what was held is held where only terms were added
+  pub stays_held : StaysHeld (held_by old atoms) (held_by new atoms)
+  stays_held = record {
+    terms = front;
+    atoms = subst (λ list. IsFrontOf (atoms_by (terms_by old) atoms) list) (sym atoms_grown) (front_same (atoms_by (terms_by old) atoms));
+  }
+
+  module _ (later : List (List ℕ)) (key : List ℕ) (id : ℕ) (is : IsKey (length new) key) (takes : TakesPlace atoms key id later) (apart : AreApart later) where
+    each_later : (place : ℕ) (other : List ℕ) → slice_get later place ≡ Some other → IsKey (length new) other
+    each_later place other at =
+        ⊎_elim
+        (λ same. keys_grown.atoms place other (subst (λ keys. slice_get keys place ≡ Some other) same at))
+        (λ behind. ⊎_elim
+        (λ before. keys_grown.atoms place other before)
+        (λ last. subst (λ k. IsKey (length new) k) last.1 is)
+        (get_pushed atoms key other place (subst (λ keys. slice_get keys place ≡ Some other) behind at)))
+        takes.place
+
+    pub keys_then : AreKeys new later
+    keys_then = record { terms = are; apart = apart; atoms = each_later }
+
+    -- the atoms then are those of before, or the new one stands behind them
+    atoms_then : (atoms_by (terms_by new) later ≡ atoms_by (terms_by old) atoms) ⊎ (atoms_by (terms_by new) later ≡ atoms_by (terms_by old) atoms ++ atom_by (terms_by new) key ∷ [])
+    atoms_then =
+        ⊎_elim
+        (λ same. inl (ap (atoms_by (terms_by new)) same ∙ atoms_grown))
+        (λ behind. inr (ap (atoms_by (terms_by new)) behind ∙ map_last (atom_by (terms_by new)) atoms key ∙ ap (λ list. list ++ atom_by (terms_by new) key ∷ []) atoms_grown))
+        takes.place
+
+    pub stays_then : StaysHeld (held_by old atoms) (held_by new later)
+    stays_then = record {
+      terms = front;
+      atoms =
+          ⊎_elim
+          (λ same. subst (λ list. IsFrontOf (atoms_by (terms_by old) atoms) list) (sym same) (front_same (atoms_by (terms_by old) atoms)))
+          (λ behind. subst (λ list. IsFrontOf (atoms_by (terms_by old) atoms) list) (sym behind) (front_push (atoms_by (terms_by old) atoms) (atom_by (terms_by new) key)))
+          atoms_then;
+    }
+
+    not_twice : (old_atoms new_atoms : List AtomTree) (a : AtomTree) → AreApart new_atoms → Contains old_atoms a → new_atoms ≡ old_atoms ++ a ∷ [] → ⊥
+    not_twice old_atoms new_atoms a differ there behind =
+        let place = place_of_contained old_atoms a there in
+        let within : place.0 < length old_atoms = slice_get_within old_atoms place.0 a place.1 in
+        let here : slice_get new_atoms place.0 ≡ Some a = subst (λ list. slice_get list place.0 ≡ Some a) (sym behind) (get_front old_atoms (a ∷ []) place.0 a place.1) in
+        let last : slice_get new_atoms (length old_atoms) ≡ Some a = subst (λ list. slice_get list (length old_atoms) ≡ Some a) (sym behind) (get_last old_atoms a) in
+        let same : place.0 ≡ length old_atoms = differ place.0 (length old_atoms) a here last in
+        omega arith
+
+    stands_then : slice_get (atoms_by (terms_by new) later) id ≡ Some (atom_by (terms_by new) key)
+    stands_then = get_mapped (atom_by (terms_by new)) later id key takes.stands
+
+    pub has_id : HasId (atoms_by (terms_by old) atoms) (atom_by (terms_by new) key) id (atoms_by (terms_by new) later)
+    has_id = record {
+      stands = stands_then;
+      known = λ there.
+          ⊎_elim
+          (λ same. same)
+          (λ behind. absurd (not_twice (atoms_by (terms_by old) atoms) (atoms_by (terms_by new) later) (atom_by (terms_by new) key) (atoms_apart new later keys_then) there behind))
+          atoms_then;
+      next = λ absent.
+          ⊎_elim
+          (λ same. absurd (absent (subst (λ list. Contains list (atom_by (terms_by new) key)) same (contains_at (atoms_by (terms_by new) later) id (atom_by (terms_by new) key) stands_then))))
+          (λ behind. behind)
+          atoms_then;
+    }
+
+  -- what stands after the key of an atom was added, or was refused
+  module _ (later : List (List ℕ)) (pred : ℕ) (begun key : List ℕ) (args : Trees) (starts : begun ≡ pred ∷ []) (adds : AddsIds (terms_by new) begun key args)
+      (small : pred < 2 ^ 32) (apart : AreApart later) where
+    is_atom_key : IsKey (length new) key
+    is_atom_key = is_key new pred begun key args starts adds are.count small
+
+    pub keys_after_atom : {E : Type 0} (r : Result ℕ E) → IfOk r (λ id. TakesPlace atoms key id later) → OnErr r (later ≡ atoms) → AreKeys new later
+    keys_after_atom (Ok id) takes refused = keys_then later key id is_atom_key takes apart
+    keys_after_atom (Err e) takes refused = subst (λ keys. AreKeys new keys) (sym refused) keys_grown
+
+    pub stays_after_atom : {E : Type 0} (r : Result ℕ E) → IfOk r (λ id. TakesPlace atoms key id later) → OnErr r (later ≡ atoms) → StaysHeld (held_by old atoms) (held_by new later)
+    stays_after_atom (Ok id) takes refused = stays_then later key id is_atom_key takes apart
+    stays_after_atom (Err e) takes refused = subst (λ keys. StaysHeld (held_by old atoms) (held_by new keys)) (sym refused) stays_held
+
+    pub id_after_atom : {E : Type 0} (r : Result ℕ E) → IfOk r (λ id. TakesPlace atoms key id later) → IfOk r (λ id. HasId (atoms_by (terms_by old) atoms) (record { pred = pred; args = args }) id (atoms_by (terms_by new) later))
+    id_after_atom (Ok id) takes =
+        subst (λ b. HasId (atoms_by (terms_by old) atoms) b id (atoms_by (terms_by new) later)) (reads_atom new pred begun key args starts adds) (has_id later key id is_atom_key takes apart)
+    id_after_atom (Err e) takes = tt
+
+  -- where the atom was refused, the atoms are as before
+  pub same_after_atom : {E : Type 0} (later : List (List ℕ)) (r : Result ℕ E) → OnErr r (later ≡ atoms) → OnErr r (atoms_by (terms_by new) later ≡ atoms_by (terms_by old) atoms)
+  same_after_atom later (Ok id) refused = tt
+  same_after_atom later (Err e) refused = ap (atoms_by (terms_by new)) refused ∙ atoms_grown
