@@ -8,3 +8,4 @@ pub mod Foremost
 pub mod ForemostLoops
 pub mod Entries
 pub mod FirstNamed
+pub mod Did

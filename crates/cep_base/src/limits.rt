@@ -81,3 +81,9 @@ pub const MOST_OFFERS: usize = 65_536;
 
 /// The most bytes that are taken of the typed input of a run.
 pub const MOST_TYPED: u64 = 16_777_216;
+
+/// The most bytes of a transcript.
+pub const MOST_LOG: usize = 67_108_864;
+
+/// The most rooms of a generated world.
+pub const MOST_WORLD: u32 = 5_000;

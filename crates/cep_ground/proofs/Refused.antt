@@ -18,7 +18,7 @@ use Rattle.cep_parse.specs.Files.{IsUnexpected, IsNested, IsParsed}
 use Rattle.cep_rule.specs.declared.parts.Parts.{Parts}
 use Rattle.cep_refusal.specs.declared.fault.Fault.{Fault}
 use Rattle.cep_refusal.specs.declared.reason.Reason.{Reason}
-use Rattle.cep_refusal.specs.declared.reason.Reason.TheVariants.{BadByte, NameLong, Unexpected, Nested, Unbound, Ungrounded, TooLong, NotBuilt}
+use Rattle.cep_refusal.specs.declared.reason.Reason.TheVariants.{BadByte, NameLong, Unexpected, Nested, Unbound, Ungrounded, TooLong}
 use Rattle.cep_names.specs.Items.{Source, RuleItem, rules_of}
 use Rattle.cep_names.specs.Variables.{Occurrence}
 use Rattle.cep_refusal.specs.First.{IsFirst, IsNoLater, wrong, IsToldFirst}
@@ -30,9 +30,9 @@ use Rattle.cep_infer.specs.Shapes.{IsSource}
 use Rattle.cep_infer.specs.Meaning.{AreParts}
 use Rattle.cep_infer.specs.Places.{unbound_of}
 use Rattle.cep_ground.specs.Texts.{IsClean, IsBound}
-use Rattle.cep_ground.specs.Refusals.{IsBuilt, IsUngroundedIn, IsWrong, IsRefusedFor}
+use Rattle.cep_ground.specs.Refusals.{IsUngroundedIn, IsWrong, IsRefusedFor}
 use Rattle.cep_refusal.specs.Reasons.{phase}
-use Rattle.cep_ground.specs.Refusals.IsWrong.{too_long, bad_byte, name_long, unexpected, nested, misnamed, mistyped, unbound, ungrounded, not_built}
+use Rattle.cep_ground.specs.Refusals.IsWrong.{too_long, bad_byte, name_long, unexpected, nested, misnamed, mistyped, unbound, ungrounded}
 use Rattle.cep_ground.proofs.OneProgram.{LexedOnce, FileOnce, tokens_once, source_once}
 use Rattle.cep_base.proofs.Elements.{contains_none, all_at}
 use Rattle.cep_ground.proofs.Once.{parts_once}
@@ -72,10 +72,6 @@ refused_too_long text long = record { holds = too_long long refl; first = first 
         let short = clean.short in
         let e = ap length text_is in
         absurd (omega (arith, long, short, e))
-    first other (not_built source parts text_is clean bound are grounded not_ is) =
-        let short = clean.short in
-        let e = ap length text_is in
-        absurd (omega (arith, long, short, e))
 
 module _ (lexed : LexedOnce) (text : List ℕ) where
   -- a text that has tokens has no fault of tokens
@@ -107,7 +103,6 @@ module _ (lexed : LexedOnce) (text : List ℕ) where
       first other (mistyped source text_is short' is_source bad') = absurd (no_source (lex.BadByte at) source bad text_is is_source)
       first other (unbound source rule o text_is short' is_source there inside is) = absurd (no_source (lex.BadByte at) source bad text_is is_source)
       first other (ungrounded source at' text_is clean bad' is) = absurd (no_source (lex.BadByte at) source bad text_is clean.is_source)
-      first other (not_built source parts text_is clean bound are grounded not_ is) = absurd (no_source (lex.BadByte at) source bad text_is clean.is_source)
 
   pub refused_name_long : (at : ℕ) → length text ≤ MOST_TEXT → IsNameLong text at → IsRefusedFor text (wrong NameLong at)
   refused_name_long at short bad = record { holds = name_long at short bad refl; first = first }
@@ -122,7 +117,6 @@ module _ (lexed : LexedOnce) (text : List ℕ) where
       first other (mistyped source text_is short' is_source bad') = absurd (no_source (lex.NameLong at) source bad text_is is_source)
       first other (unbound source rule o text_is short' is_source there inside is) = absurd (no_source (lex.NameLong at) source bad text_is is_source)
       first other (ungrounded source at' text_is clean bad' is) = absurd (no_source (lex.NameLong at) source bad text_is clean.is_source)
-      first other (not_built source parts text_is clean bound are grounded not_ is) = absurd (no_source (lex.NameLong at) source bad text_is clean.is_source)
 
   -- the tokens of a text are one list
   tokens_same : (one other : List Token) → AreTokens text one → AreTokens text other → one ≡ other
@@ -162,7 +156,6 @@ module _ (lexed : LexedOnce) (text : List ℕ) where
         first other (mistyped source text_is short' is_source bad') = absurd (no_parse_fault tokens (parse.Unexpected at) source are bad text_is is_source)
         first other (unbound source rule o text_is short' is_source there inside is) = absurd (no_parse_fault tokens (parse.Unexpected at) source are bad text_is is_source)
         first other (ungrounded source at' text_is clean bad' is) = absurd (no_parse_fault tokens (parse.Unexpected at) source are bad text_is clean.is_source)
-        first other (not_built source parts text_is clean bound are' grounded not_ is) = absurd (no_parse_fault tokens (parse.Unexpected at) source are bad text_is clean.is_source)
 
     pub refused_nested : (tokens : List Token) (at : ℕ) → length text ≤ MOST_TEXT → AreTokens text tokens → IsNested (symbols_of text tokens) at → IsRefusedFor text (wrong Nested at)
     refused_nested tokens at short are bad = record { holds = nested tokens at short are bad refl; first = first }
@@ -177,7 +170,6 @@ module _ (lexed : LexedOnce) (text : List ℕ) where
         first other (mistyped source text_is short' is_source bad') = absurd (no_parse_fault tokens (parse.Nested at) source are bad text_is is_source)
         first other (unbound source rule o text_is short' is_source there inside is) = absurd (no_parse_fault tokens (parse.Nested at) source are bad text_is is_source)
         first other (ungrounded source at' text_is clean bad' is) = absurd (no_parse_fault tokens (parse.Nested at) source are bad text_is clean.is_source)
-        first other (not_built source parts text_is clean bound are' grounded not_ is) = absurd (no_parse_fault tokens (parse.Nested at) source are bad text_is clean.is_source)
 
     module _ (file_once : FileOnce) (source : Source) (text_is : source.text ≡ text) (short : length text ≤ MOST_TEXT) (is_source : IsSource source) where
       tokens_are : AreTokens text is_source.tokens
@@ -232,7 +224,6 @@ module _ (lexed : LexedOnce) (text : List ℕ) where
               let next : phase other.reason ≡ 6 = ap (λ (f : Fault). phase f.reason) is in
               inl (omega (arith, one, next))
           first other (ungrounded source' at text_is' clean bad' is) = absurd (clean.names fault (subst (λ s. Misnamed s fault) (sym (same_source source' text_is' clean.is_source)) bad.holds))
-          first other (not_built source' parts text_is' clean bound are grounded not_ is) = absurd (clean.names fault (subst (λ s. Misnamed s fault) (sym (same_source source' text_is' clean.is_source)) bad.holds))
 
       pub refused_mistyped : (fault : Fault) → ((other : Fault) → ¬ (Misnamed source other)) → IsFirst (Mistyped source) fault → IsRefusedFor text fault
       refused_mistyped fault names bad = record { holds = mistyped source text_is short is_source bad.holds; first = first }
@@ -252,7 +243,6 @@ module _ (lexed : LexedOnce) (text : List ℕ) where
               let next : phase other.reason ≡ 6 = ap (λ (f : Fault). phase f.reason) is in
               inl (omega (arith, one, next))
           first other (ungrounded source' at text_is' clean bad' is) = absurd (clean.types fault (subst (λ s. Mistyped s fault) (sym (same_source source' text_is' clean.is_source)) bad.holds))
-          first other (not_built source' parts text_is' clean bound are grounded not_ is) = absurd (clean.types fault (subst (λ s. Mistyped s fault) (sym (same_source source' text_is' clean.is_source)) bad.holds))
 
       -- where each variable is bound, none is unbound
       none_unbound : (other : Source) (rule : RuleItem) (o : Occurrence) → other ≡ source → IsBound source → Contains (rules_of other) rule → Contains (unbound_of other rule) o → ⊥
@@ -287,7 +277,6 @@ module _ (lexed : LexedOnce) (text : List ℕ) where
           first other (ungrounded source' at text_is' clean' bad' is) =
               let next : phase other.reason ≡ 7 = ap (λ (f : Fault). phase f.reason) is in
               inl (omega (arith, next))
-          first other (not_built source' parts' text_is' clean' bound' are' grounded' not_' is) = absurd (none_unbound source rule o refl (subst IsBound (same_source source' text_is' clean'.is_source) bound') there inside)
 
       -- where all rules are grounded, no premise is ungrounded
       none_ungrounded : (parts : Parts) → AreParts source parts → AllByRecursion (IsGrounded parts.clauses) parts.rules → (other : Source) → other ≡ source → (at : ℕ) → IsUngroundedIn other at → ⊥
@@ -311,35 +300,15 @@ module _ (lexed : LexedOnce) (text : List ℕ) where
           first other (ungrounded source' at' text_is' clean' bad' is) =
               let less = least at' (subst (λ s. IsUngroundedIn s at') (same_source source' text_is' clean'.is_source) bad') in
               subst (IsToldFirst (wrong Ungrounded at)) (sym is) (inr (refl, no_later Ungrounded at at' less))
-          first other (not_built source' parts' text_is' clean' bound' are' grounded' not_' is) =
-              let same = same_source source' text_is' clean'.is_source in
-              absurd (none_ungrounded parts' (subst (λ s. AreParts s parts') same are') grounded' source refl at bad)
 
-      pub refused_not_built : (clean : IsClean source) → IsBound source → (parts : Parts) → AreParts source parts → AllByRecursion (IsGrounded parts.clauses) parts.rules → ¬ (IsBuilt parts) → IsRefusedFor text (wrong NotBuilt 0)
-      refused_not_built clean bound parts are grounded not_ = record { holds = not_built source parts text_is clean bound are grounded not_ refl; first = first }
-        where
-          first : (other : Fault) → IsWrong text other → IsToldFirst (wrong NotBuilt 0) other
-          first other (too_long long is) = absurd (omega (arith, long, short))
-          first other (bad_byte at short' bad' is) = absurd (no_fault is_source.tokens (lex.BadByte at) tokens_are bad')
-          first other (name_long at short' bad' is) = absurd (no_fault is_source.tokens (lex.NameLong at) tokens_are bad')
-          first other (unexpected tokens at short' are' bad' is) = absurd (no_unexpected tokens at are' bad')
-          first other (nested tokens at short' are' bad' is) = absurd (no_nested tokens at are' bad')
-          first other (misnamed source' text_is' short' is_source' bad') = absurd (clean.names other (subst (λ s. Misnamed s other) (same_source source' text_is' is_source') bad'))
-          first other (mistyped source' text_is' short' is_source' bad') = absurd (clean.types other (subst (λ s. Mistyped s other) (same_source source' text_is' is_source') bad'))
-          first other (unbound source' rule o text_is' short' is_source' there inside is) = absurd (none_unbound source' rule o (same_source source' text_is' is_source') bound there inside)
-          first other (ungrounded source' at text_is' clean' bad' is) = absurd (none_ungrounded parts are grounded source' (same_source source' text_is' clean'.is_source) at bad')
-          first other (not_built source' parts' text_is' clean' bound' are' grounded' not_' is) = told_itself (wrong NotBuilt 0) other (sym is)
-
-      -- nothing is wrong with a text that spells a program which can be played
-      pub nothing_wrong : (clean : IsClean source) → IsBound source → (parts : Parts) → AreParts source parts → AllByRecursion (IsGrounded parts.clauses) parts.rules → IsBuilt parts → (fault : Fault) → ¬ (IsWrong text fault)
-      nothing_wrong clean bound parts are grounded built fault (too_long long is) = absurd (omega (arith, long, short))
-      nothing_wrong clean bound parts are grounded built fault (bad_byte at short' bad' is) = no_fault is_source.tokens (lex.BadByte at) tokens_are bad'
-      nothing_wrong clean bound parts are grounded built fault (name_long at short' bad' is) = no_fault is_source.tokens (lex.NameLong at) tokens_are bad'
-      nothing_wrong clean bound parts are grounded built fault (unexpected tokens at short' are' bad' is) = no_unexpected tokens at are' bad'
-      nothing_wrong clean bound parts are grounded built fault (nested tokens at short' are' bad' is) = no_nested tokens at are' bad'
-      nothing_wrong clean bound parts are grounded built fault (misnamed source' text_is' short' is_source' bad') = clean.names fault (subst (λ s. Misnamed s fault) (same_source source' text_is' is_source') bad')
-      nothing_wrong clean bound parts are grounded built fault (mistyped source' text_is' short' is_source' bad') = clean.types fault (subst (λ s. Mistyped s fault) (same_source source' text_is' is_source') bad')
-      nothing_wrong clean bound parts are grounded built fault (unbound source' rule o text_is' short' is_source' there inside is) = none_unbound source' rule o (same_source source' text_is' is_source') bound there inside
-      nothing_wrong clean bound parts are grounded built fault (ungrounded source' at text_is' clean' bad' is) = none_ungrounded parts are grounded source' (same_source source' text_is' clean'.is_source) at bad'
-      nothing_wrong clean bound parts are grounded built fault (not_built source' parts' text_is' clean' bound' are' grounded' not_' is) =
-          not_' (subst IsBuilt (parts_once source parts parts' are (subst (λ s. AreParts s parts') (same_source source' text_is' clean'.is_source) are')) built)
+      -- nothing is wrong with a text that spells a program
+      pub nothing_wrong : (clean : IsClean source) → IsBound source → (parts : Parts) → AreParts source parts → AllByRecursion (IsGrounded parts.clauses) parts.rules → (fault : Fault) → ¬ (IsWrong text fault)
+      nothing_wrong clean bound parts are grounded fault (too_long long is) = absurd (omega (arith, long, short))
+      nothing_wrong clean bound parts are grounded fault (bad_byte at short' bad' is) = no_fault is_source.tokens (lex.BadByte at) tokens_are bad'
+      nothing_wrong clean bound parts are grounded fault (name_long at short' bad' is) = no_fault is_source.tokens (lex.NameLong at) tokens_are bad'
+      nothing_wrong clean bound parts are grounded fault (unexpected tokens at short' are' bad' is) = no_unexpected tokens at are' bad'
+      nothing_wrong clean bound parts are grounded fault (nested tokens at short' are' bad' is) = no_nested tokens at are' bad'
+      nothing_wrong clean bound parts are grounded fault (misnamed source' text_is' short' is_source' bad') = clean.names fault (subst (λ s. Misnamed s fault) (same_source source' text_is' is_source') bad')
+      nothing_wrong clean bound parts are grounded fault (mistyped source' text_is' short' is_source' bad') = clean.types fault (subst (λ s. Mistyped s fault) (same_source source' text_is' is_source') bad')
+      nothing_wrong clean bound parts are grounded fault (unbound source' rule o text_is' short' is_source' there inside is) = none_unbound source' rule o (same_source source' text_is' is_source') bound there inside
+      nothing_wrong clean bound parts are grounded fault (ungrounded source' at text_is' clean' bad' is) = none_ungrounded parts are grounded source' (same_source source' text_is' clean'.is_source) at bad'

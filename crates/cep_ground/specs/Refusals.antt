@@ -1,6 +1,5 @@
 -- What is wrong with a text, case by case, and what of it is told.
-use Rattle.std.specs.Prelude.{◌≡◌, ◌⊎◌, ℕ, ◌<◌, ◌≤◌, true, List, length, None, Some, IsSomeAnd, slice_get, Contains, Result, Ok, Err}
-use Rattle.std.specs.List.{AllByRecursion}
+use Rattle.std.specs.Prelude.{◌≡◌, ◌⊎◌, ℕ, ◌<◌, ◌≤◌, List, length, Some, slice_get, Contains, Result, Ok, Err}
 use Rattle.cep_base.specs.declared.place.Pos.{Pos}
 use Rattle.cep_lex.specs.declared.token.Token.{Token}
 use Rattle.cep_base.specs.declared.limits.TheConstants.{MOST_TEXT}
@@ -9,9 +8,9 @@ use Rattle.cep_parse.specs.Symbols.{symbols_of}
 use Rattle.cep_parse.specs.Files.{IsUnexpected, IsNested}
 use Rattle.cep_rule.specs.declared.rule.Rule.{Rule}
 use Rattle.cep_rule.specs.declared.parts.Parts.{Parts}
-use Rattle.cep_rule.specs.Groundness.{IsUngroundedAt, IsGrounded}
+use Rattle.cep_rule.specs.Groundness.{IsUngroundedAt}
 use Rattle.cep_refusal.specs.declared.fault.Fault.{Fault}
-use Rattle.cep_refusal.specs.declared.reason.Reason.TheVariants.{BadByte, NameLong, Unexpected, Nested, Unbound, Ungrounded, TooLong, NotBuilt}
+use Rattle.cep_refusal.specs.declared.reason.Reason.TheVariants.{BadByte, NameLong, Unexpected, Nested, Unbound, Ungrounded, TooLong}
 use Rattle.cep_names.specs.Items.{Source, RuleItem, rules_of}
 use Rattle.cep_names.specs.Variables.{Occurrence}
 use Rattle.cep_refusal.specs.First.{wrong, IsToldFirst}
@@ -22,20 +21,7 @@ use Rattle.cep_refusal.specs.declared.refusal.Refusal.{Refusal}
 use Rattle.cep_infer.specs.Shapes.{IsSource}
 use Rattle.cep_infer.specs.Meaning.{AreParts}
 use Rattle.cep_infer.specs.Places.{backs_at, unbound_of}
-use Rattle.cep_ground.specs.Texts.{IsClean, IsBound, Spells}
-
--- A rule that can be played today: it leaves no stage.
-abbrev pub IsPlainRule : Rule → Type 0
-IsPlainRule rule = rule.next ≡ None
-
--- In the start stage the player chooses.
-abbrev pub IsInteractive : Parts → Type 0
-IsInteractive parts = IsSomeAnd (slice_get parts.stages parts.start_stage) (λ stage. stage.interactive ≡ true)
-
--- A program that can be played today: all its rules can, and its start stage is interactive.
-pub record IsBuilt (parts : Parts) : Type 0 where
-  pub rules : AllByRecursion IsPlainRule parts.rules
-  pub interactive : IsInteractive parts
+use Rattle.cep_ground.specs.Texts.{IsClean, Spells}
 
 -- A backward premise of a source stands at this place and calls a bad pair: it is the one at a place of the rule with some number.
 pub record IsUngroundedIn (source : Source) (at : ℕ) : Type 0 where
@@ -67,8 +53,6 @@ pub data IsWrong (text : List ℕ) (fault : Fault) : Type 0 where
   unbound : (source : Source) (rule : RuleItem) (occurrence : Occurrence) → source.text ≡ text → length text ≤ MOST_TEXT → IsSource source → Contains (rules_of source) rule → Contains (unbound_of source rule) occurrence → fault ≡ wrong Unbound occurrence.at.from → IsWrong text fault
   -- a backward premise may leave a variable unknown
   ungrounded : (source : Source) (at : ℕ) → source.text ≡ text → IsClean source → IsUngroundedIn source at → fault ≡ wrong Ungrounded at → IsWrong text fault
-  -- nothing of that is wrong, but what it declares cannot be played yet
-  not_built : (source : Source) (parts : Parts) → source.text ≡ text → IsClean source → IsBound source → AreParts source parts → AllByRecursion (IsGrounded parts.clauses) parts.rules → ¬ (IsBuilt parts) → fault ≡ wrong NotBuilt 0 → IsWrong text fault
 
 -- The text is refused for this fault: it is wrong, and told no later than all else that is wrong.
 pub record IsRefusedFor (text : List ℕ) (fault : Fault) : Type 0 where
@@ -79,7 +63,7 @@ pub record IsRefusedFor (text : List ℕ) (fault : Fault) : Type 0 where
 abbrev pub StandsBefore : Pos → Pos → Type 0
 StandsBefore one other = (one.line < other.line) ⊎ ((one.line ≡ other.line) × (one.col < other.col))
 
--- What is answered of a text: the program that it spells, if it can be played today, or the refusal that tells of the fault for which it is refused.
+-- What is answered of a text: the program that it spells, or the refusal that tells of the fault for which it is refused.
 abbrev pub IsAccepted : List ℕ → Result Parts Refusal → Type 0
-IsAccepted text (Ok program) = Spells text program × IsBuilt program
+IsAccepted text (Ok program) = Spells text program
 IsAccepted text (Err refusal) = (fault : Fault) × IsRefusedFor text fault × Tells text fault refusal

@@ -11,7 +11,7 @@ ghost use Rattle.cep_names.specs.Items.{Source, RuleItem, rules_of};
 ghost use Rattle.cep_infer.specs.Meaning.{AreParts, IsRuleBy};
 ghost use Rattle.cep_infer.specs.Places.{backs_at};
 ghost use Rattle.cep_ground.specs.Texts.{IsClean, IsBound, Spells};
-ghost use Rattle.cep_ground.specs.Refusals.{IsBuilt, IsWrong};
+ghost use Rattle.cep_ground.specs.Refusals.{IsWrong};
 
 use cep_infer::laws::{atoms_are_made_of_tokens, start_atoms_are_ground};
 use cep_lex::lexed_once;
@@ -67,12 +67,11 @@ pub fn a_text_in_order_declares()
     start_atoms_are_ground();
 }
 
-/// Nothing is wrong with a text that spells a program which can be played today, so a text is a
-/// program or is refused, and never both.
+/// Nothing is wrong with a text that spells a program, so a text is a program or is refused, and
+/// never both.
 pub fn no_program_is_refused()
     ensures { (text : List ℕ) (parts : Parts) (fault : Fault)
         → Spells text parts
-        → IsBuilt parts
         → ¬ (IsWrong text fault) }
 {
     lexed_once();

@@ -27,7 +27,7 @@ use Rattle.cep_play.specs.Run.{Position, start_of, whole_supply, Turn, Ending, A
 use Rattle.cep_play.specs.Dialogue.{Dialogue}
 use Rattle.cep_play.specs.Command.{Play, AskFor, settings_of, IsSaid, Says, HaveNoForm, Writes, Refuses, refusal_text, usage}
 use Rattle.cep_play.specs.Outcome.{AsksFile, AskedAsSaid, OfText, OfRun, OfWords, code_of, status_of}
-use Rattle.cep_play.proofs.Did.{did_map}
+use Rattle.cep_base.proofs.Did.{did_map}
 use Rattle.cep_play.proofs.Runs.{IsTold}
 
 -- a slice that begins with two items

@@ -6,7 +6,7 @@ use Rattle.cep_play.specs.declared.choice.Said.TheVariants as said
 use Rattle.cep_play.specs.declared.choice.Choice.{Choice}
 use Rattle.cep_play.specs.declared.choice.Choice.TheVariants as choice
 use Rattle.cep_play.specs.Choice.{ReadsLine, Hears, chosen, again, no_more, no_room, room_after, no_line, IsCutShort, HearsFront, line_cut, answer_cut, behind_bad}
-use Rattle.cep_play.proofs.Did.{did_same, did_put, did_then, did_map}
+use Rattle.cep_base.proofs.Did.{did_same, did_put, did_then, did_map}
 use Rattle.cep_play.proofs.LineRead.{ReadsSaid}
 
 -- whatever comes of the choice from now on comes of it from the start, behind what was said so far

@@ -1,5 +1,4 @@
 pub mod Adding
-pub mod Did
 pub mod Hearing
 pub mod LineBytes
 pub mod LineLemmas

@@ -11,7 +11,7 @@ use Rattle.cep_play.specs.declared.typed.Typed.{Typed}
 use Rattle.cep_play.specs.declared.typed.Typed.TheVariants as typed
 use Rattle.cep_play.specs.Choice.{Cut, Ended, Last, Nothing, Full, ReadsLine, IsLine, IsHeardAs, IsCutShort}
 use Rattle.cep_play.specs.Typed.{Reads, SaysOf}
-use Rattle.cep_play.proofs.Did.{did_same, did_hear, did_end, did_then, did_map}
+use Rattle.cep_base.proofs.Did.{did_same, did_hear, did_end, did_then, did_map}
 
 -- these bytes of a line were read, and no LF was among them
 pub record HasRead (n : ℕ) (now : Typed) (taken : ℕ) (come : List ℕ) (events : List Event) (rest : List ℕ) : Type 0 where

@@ -42,7 +42,7 @@ use Rattle.cep_play.specs.Deciding.{Heard, IsPlayers}
 use Rattle.cep_play.specs.Lines.{question, step_line, step_lines, by_lines, next_line}
 use Rattle.cep_play.specs.Run.{Position, Question, IsQuestion, IsChosen, PassesLimit}
 use Rattle.cep_play.specs.Turn.{position_of, undrawn, IsPlayed, AsksPlayer, IsPlaced, ProvesOffer, Acts, WouldPass, limit_word, IsActed, DoesTurn, Stops, IsTurned}
-use Rattle.cep_play.proofs.Did.{did_same, did_map, did_then}
+use Rattle.cep_base.proofs.Did.{did_same, did_map, did_then}
 
 none_some : {A B : Type 0} (x : A) → ◌≡◌ {A = Option A} None (Some x) → B
 none_some x e = cc

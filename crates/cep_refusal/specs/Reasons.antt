@@ -1,7 +1,7 @@
 -- The reasons why a text is refused.
 use Rattle.std.specs.Prelude.{ℕ, List, codes}
 use Rattle.cep_refusal.specs.declared.reason.Reason.{Reason}
-use Rattle.cep_refusal.specs.declared.reason.Reason.TheVariants.{BadByte, NameLong, Unexpected, Nested, Twice, Unknown, WrongKind, WrongArity, TypeClash, VarInContext, BwdInState, LinearInClause, BadQui, NoTrace, TwoTraces, Unbound, Ungrounded, OverLimit, TooLong, NotBuilt}
+use Rattle.cep_refusal.specs.declared.reason.Reason.TheVariants.{BadByte, NameLong, Unexpected, Nested, Twice, Unknown, WrongKind, WrongArity, TypeClash, VarInContext, BwdInState, LinearInClause, BadQui, NoTrace, TwoTraces, Unbound, Ungrounded, OverLimit, TooLong}
 
 -- the number of a reason
 abbrev pub number : Reason → ℕ
@@ -24,7 +24,6 @@ number Unbound = 16
 number Ungrounded = 17
 number OverLimit = 18
 number TooLong = 19
-number NotBuilt = 20
 
 -- its name
 abbrev pub reason_name : Reason → List ℕ
@@ -47,7 +46,6 @@ reason_name Unbound = codes "Unbound"
 reason_name Ungrounded = codes "Ungrounded"
 reason_name OverLimit = codes "OverLimit"
 reason_name TooLong = codes "TooLong"
-reason_name NotBuilt = codes "NotBuilt"
 
 -- the phase in which a text is judged for it
 abbrev pub phase : Reason → ℕ
@@ -70,4 +68,3 @@ phase OverLimit = 4
 phase TypeClash = 5
 phase Unbound = 6
 phase Ungrounded = 7
-phase NotBuilt = 8

@@ -43,12 +43,10 @@ pub enum Reason {
     OverLimit,
     /// A text of more than 1,048,576 bytes.
     TooLong,
-    /// A program that cannot be played yet.
-    NotBuilt,
 }
 
 impl Reason {
-    /// The number of the reason, from 1 to 20.
+    /// The number of the reason, from 1 to 19.
     pub fn number(self) -> u8
         ensures { result ≡ number self }
     {
@@ -79,7 +77,6 @@ impl Reason {
             Reason::Ungrounded => "Ungrounded",
             Reason::OverLimit => "OverLimit",
             Reason::TooLong => "TooLong",
-            Reason::NotBuilt => "NotBuilt",
         }
     }
 }

@@ -2,7 +2,7 @@ use Rattle.std.proofs.Common.{◌≡◌, ◌+◌, ◌++◌, refl, sym, subst, ap
 use Rattle.std.specs.Prelude.{IsNone}
 use Rattle.cep_rule.specs.Stages.{IsAsked, IsQuiet}
 use Rattle.cep_play.specs.Turn.{position_of, IsPlayed, IsTurned, config_left, IsWholeRun}
-use Rattle.cep_play.proofs.Did.{did_same, did_map, did_then}
+use Rattle.cep_base.proofs.Did.{did_same, did_map, did_then}
 use Rattle.cep_play.proofs.Runs.{run_begins, run_goes_on, run_stops, run_quiets, run_is_over}
 use Rattle.cep_play.proofs.dialogue.all_turns.Goals as goal
 

@@ -5,7 +5,7 @@ use Rattle.cep_play.specs.Lines.{end_lines}
 use Rattle.cep_play.specs.Run.{start_of}
 use Rattle.cep_play.specs.Turn.{position_of}
 use Rattle.cep_play.specs.Command.{settings_of}
-use Rattle.cep_play.proofs.Did.{did_then, did_map}
+use Rattle.cep_base.proofs.Did.{did_then, did_map}
 use Rattle.cep_play.proofs.Runs.{RunFrom, IsTold, run_ends, whole_dialogue}
 use Rattle.cep_play.proofs.Commands.{is_said}
 use Rattle.cep_play.proofs.dialogue.play.Goals as goal

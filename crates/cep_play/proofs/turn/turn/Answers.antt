@@ -4,7 +4,7 @@ use Rattle.std.proofs.lemmas.Result.{IfOk-weaker}
 use Rattle.cep_rule.specs.Stages.{IsQuiet}
 use Rattle.cep_rule.specs.Matching.{offers_of}
 use Rattle.cep_play.specs.Turn.{position_of, IsTurned}
-use Rattle.cep_play.proofs.Did.{did_same, did_map}
+use Rattle.cep_base.proofs.Did.{did_same, did_map}
 use Rattle.cep_play.proofs.Turns.{offers_have_texts, group_listed, quiet_turn, crowds_here, no_more_here, no_room_here, chosen_here}
 use Rattle.cep_play.proofs.turn.turn.Goals as goal
 
