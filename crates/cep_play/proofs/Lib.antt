@@ -1,13 +1,10 @@
 pub mod Adding
 pub mod Hearing
-pub mod LineBytes
 pub mod LineLemmas
-pub mod LineRead
 pub mod OneReading
 pub mod States
 pub mod Turns
 pub mod Backs
-pub mod Spelled
 pub mod Runs
 pub mod OneRun
 pub mod OneDialogue

@@ -6,7 +6,7 @@ use Rattle.std.proofs.lemmas.List.{drop_all}
 use Rattle.std.proofs.lemmas.List.Concat.{flat_map-cons}
 use Rattle.cep_rule.specs.declared.parts.Parts.{Parts}
 use Rattle.cep_rule.specs.declared.offer.Offer.{Offer}
-use Rattle.cep_play.specs.Lines.{line, offer_line, offer_lines, question, stage_line, listing, header}
+use Rattle.cep_play.specs.Lines.{line, offer_line, offer_lines, stage_line, listing, header}
 use Rattle.cep_play.proofs.Adding.{IsAdding, adding_none, adding_next}
 
 none_some : {A B : Type 0} (x : A) → ◌≡◌ {A = Option A} None (Some x) → B
@@ -29,23 +29,20 @@ lines_left f xs k x at = ap (flat_map f) (drop_at xs k x at) ∙ flat_map-cons f
 pub no_lines_left : {A : Type 0} (f : A → List ℕ) (xs : List A) (k : ℕ) → length xs ≤ k → flat_map f (drop k xs) ≡ []
 no_lines_left f xs k h = ap (flat_map f) (drop_all k xs h)
 
--- what is left of a question: the offers from a place on, and the line that asks
-abbrev pub question_left : Parts → List Offer → ℕ → List ℕ
-question_left program offers k = offer_lines program (k + 1) (drop k offers) ++ line (codes "? choose")
+-- what is left of the offers: those from a place on
+abbrev pub offers_from : Parts → List Offer → ℕ → List ℕ
+offers_from program offers k = offer_lines program (k + 1) (drop k offers)
 
-pub whole_question : (program : Parts) (offers : List Offer) → question_left program offers 0 ≡ question program offers
-unfolding question
-whole_question program offers = refl
+pub whole_offers : (program : Parts) (offers : List Offer) → offers_from program offers 0 ≡ offer_lines program 1 offers
+whole_offers program offers = refl
 
-pub offers_left : (program : Parts) (offers : List Offer) (k : ℕ) (offer : Offer) → slice_get offers k ≡ Some offer → question_left program offers k ≡ offer_line program (k + 1) offer ++ question_left program offers (k + 1)
+pub offers_left : (program : Parts) (offers : List Offer) (k : ℕ) (offer : Offer) → slice_get offers k ≡ Some offer → offers_from program offers k ≡ offer_line program (k + 1) offer ++ offers_from program offers (k + 1)
 unfolding offer_lines
-offers_left program offers k offer at =
-    ap (λ left. offer_lines program (k + 1) left ++ line (codes "? choose")) (drop_at offers k offer at)
-    ∙ append_assoc (offer_line program (k + 1) offer) (offer_lines program (k + 1 + 1) (drop (k + 1) offers)) (line (codes "? choose"))
+offers_left program offers k offer at = ap (offer_lines program (k + 1)) (drop_at offers k offer at)
 
-pub no_offers_left : (program : Parts) (offers : List Offer) (k : ℕ) → length offers ≤ k → question_left program offers k ≡ line (codes "? choose")
+pub no_offers_left : (program : Parts) (offers : List Offer) (k : ℕ) → length offers ≤ k → offers_from program offers k ≡ []
 unfolding offer_lines
-no_offers_left program offers k h = ap (λ left. offer_lines program (k + 1) left ++ line (codes "? choose")) (drop_all k offers h)
+no_offers_left program offers k h = ap (offer_lines program (k + 1)) (drop_all k offers h)
 
 -- The pieces of the header.
 module _ (program : Parts) (height : ℕ) where

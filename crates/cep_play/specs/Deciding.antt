@@ -1,10 +1,9 @@
 -- Who decides among offers, and what a decision consumes.
-use Rattle.std.specs.Prelude.{◌≡◌, ◌⊎◌, ℕ, ◌+◌, ◌*◌, ◌/◌, ◌^◌, ◌<◌, true, List, IsSomeAnd, slice_get}
-use Rattle.rand_pcg.specs.Lcg.{started, increment_of, state_after}
-use Rattle.rand_pcg.specs.Pcg.{multiplier_64, output_xsh_rr}
+use Rattle.std.specs.Prelude.{◌≡◌, ◌⊎◌, ℕ, ◌+◌, ◌<◌, true, List, IsSomeAnd, slice_get}
 use Rattle.cep_base.specs.declared.console.Event.{Event}
 use Rattle.cep_rule.specs.declared.parts.Parts.{Parts}
 use Rattle.cep_rule.specs.Stages.{own_group}
+use Rattle.cep_choice.specs.Draws.{place_drawn}
 use Rattle.cep_play.specs.declared.choice.Choice.{Choice}
 use Rattle.cep_play.specs.declared.choice.Choice.TheVariants.{Place}
 use Rattle.cep_play.specs.Choice.{Hears}
@@ -24,15 +23,6 @@ pub data How : Type 0 where
 -- The player decides: in an interactive stage, among the offers of its own rules, even where there is one, and among several that leave it.
 abbrev pub IsPlayers : Parts → ℕ → ℕ → ℕ → Type 0
 IsPlayers program stage group n = IsSomeAnd (slice_get program.stages stage) (λ it. it.interactive ≡ true) × ((group ≡ own_group stage) ⊎ (1 < n))
-
--- the word of 32 bits that the generator of the seed gives behind so many
-unfoldable pub word_drawn : ℕ → ℕ → ℕ
-word_drawn seed drawn =
-    output_xsh_rr (state_after 64 multiplier_64 (increment_of 64 54) drawn (started 64 multiplier_64 seed (increment_of 64 54)).state)
-
--- the place among n, counted from 1, that this word stands for
-unfoldable pub place_drawn : ℕ → ℕ → ℕ → ℕ
-place_drawn seed drawn n = word_drawn seed drawn * n / 2 ^ 32 + 1
 
 -- The choice among n offers of a group, from one supply to the other.
 abbrev pub Decides : Parts → ℕ → ℕ → ℕ → ℕ → Supply → How → Choice → Supply → Type 0

@@ -1,10 +1,8 @@
 pub mod Choice
-pub mod Typed
 pub mod Lines
 pub mod Deciding
 pub mod Run
 pub mod Dialogue
 pub mod Turn
 pub mod Command
-pub mod Requests
 pub mod Outcome

@@ -1,5 +1,5 @@
 // Writes the lines of a transcript at the end of a text.
-ghost use Rattle.std.specs.Prelude.{◌≡◌, ◌<◌, ◌++◌, length, All, OnOk, OnErr};
+ghost use Rattle.std.specs.Prelude.{◌≡◌, ◌<◌, ◌++◌, length, All, IfSome, OnOk, OnErr};
 ghost use Rattle.cep_term.specs.Tree.{atom_of};
 ghost use Rattle.cep_rule.specs.State.{IsState};
 ghost use Rattle.cep_rule.specs.Matching.{offers_of};
@@ -7,7 +7,7 @@ ghost use Rattle.cep_rule.specs.Derivations.{proof_of};
 ghost use Rattle.cep_rule.specs.Shapes.{IsOfferOf, IsProofOf};
 ghost use Rattle.cep_text.specs.Texts.{IsTypedGround};
 ghost use Rattle.cep_text.specs.Writing.{IsBegun};
-ghost use Rattle.cep_play.specs.Lines.{have_line, listing, offer_line, question, stage_line, step_line, by_line, end_lines, header};
+ghost use Rattle.cep_play.specs.Lines.{have_line, listing, offer_line, offer_lines, question, stage_line, next_line, step_line, by_line, end_lines, header};
 
 use crate::ending::EndWord;
 use cep_base::Text;
@@ -61,7 +61,26 @@ fn put_offer_line(
     out.append(b"\n")
 }
 
+/// The lines of a group's offers.
+pub fn put_offers<M: Matcher>(
+    out: &mut Text,
+    program: &Program,
+    matcher: &M,
+    group: u32,
+) -> Result<(), AllocError>
+    requires listed { group < length (M.offers_held matcher.now) }
+    requires offers { All (IsOfferOf program.now) (offers_of (M.offers_held matcher.now) group) }
+    ensures ok { OnOk result (out.new ≡ out.old ++ offer_lines program.now 1 (offers_of (M.offers_held matcher.now) group)) }
+    ensures err { OnErr result (IsBegun out.old (offer_lines program.now 1 (offers_of (M.offers_held matcher.now) group)) out.new) }
+{
+    for i in 0..matcher.count(group) {
+        put_offer_line(out, program, i + 1, matcher.offer(group, i))?;
+    }
+    Ok(())
+}
+
 /// The lines of a group's offers, and the one that asks for a choice.
+#[tactic(auto, using(std::proofs::Common::append_assoc), unfolding(crate::specs::Lines::question))]
 pub fn put_question<M: Matcher>(
     out: &mut Text,
     program: &Program,
@@ -73,9 +92,7 @@ pub fn put_question<M: Matcher>(
     ensures ok { OnOk result (out.new ≡ out.old ++ question program.now (offers_of (M.offers_held matcher.now) group)) }
     ensures err { OnErr result (IsBegun out.old (question program.now (offers_of (M.offers_held matcher.now) group)) out.new) }
 {
-    for i in 0..matcher.count(group) {
-        put_offer_line(out, program, i + 1, matcher.offer(group, i))?;
-    }
+    put_offers(out, program, matcher, group)?;
     out.append(b"? choose\n")
 }
 
@@ -131,6 +148,18 @@ fn put_stage(out: &mut Text, program: &Program, stage: u32) -> Result<(), AllocE
     out.append(b"stage ")?;
     out.append(stages.get(stage as usize).name.bytes())?;
     out.append(b"\n")
+}
+
+/// The line of the stage that a rule leads to, where it leads to one.
+pub fn put_next(out: &mut Text, program: &Program, next: Option<u32>) -> Result<(), AllocError>
+    requires { IfSome next (λ stage. stage < length program.now.stages) }
+    ensures ok { OnOk result (out.new ≡ out.old ++ next_line program.now next) }
+    ensures err { OnErr result (IsBegun out.old (next_line program.now next) out.new) }
+{
+    match next {
+        Some(stage) => put_stage(out, program, stage),
+        None => Ok(()),
+    }
 }
 
 /// The first lines, and the listing of the start state.

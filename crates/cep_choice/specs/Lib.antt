@@ -1,0 +1,3 @@
+pub mod TypedLine
+pub mod Typed
+pub mod Draws

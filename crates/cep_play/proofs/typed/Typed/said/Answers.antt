@@ -1,5 +1,0 @@
-use Rattle.cep_play.proofs.LineBytes.{says_none}
-use Rattle.cep_play.proofs.typed.Typed.said.Goals as goal
-
-pub returns-in-Empty-clause-says : goal.returns-in-Empty-clause-says
-returns-in-Empty-clause-says c n line small within reads = says_none n c.args.self line small c.in-Empty.is reads

@@ -1,9 +1,0 @@
--- Private.
--- What the code's word for a program that is to be played asks.
-use Rattle.std.specs.Prelude.{ℕ, List, string_bytes}
-use Rattle.cep_play.specs.declared.command.Session.{Session}
-use Rattle.cep_play.specs.Command.{AskFor, Play}
-
--- These words ask for this.
-abbrev pub IsAskedBy : List (List ℕ) → Session → Type 0
-IsAskedBy words session = AskFor words (Play (string_bytes session.file.now) session.options)

@@ -1,0 +1,53 @@
+-- What the words of a command ask for.
+use Rattle.std.specs.Prelude.{◌≡◌, ℕ, ◌<◌, ◌≤◌, ◌^◌, List, [], ◌∷◌, ◌++◌, map, codes, decimal, Option, None, Some}
+use Rattle.std.specs.List.{AllByRecursion}
+use Rattle.std.specs.List.Sorted.{IsPermutation}
+use Rattle.cep_base.specs.declared.limits.TheConstants.{MOST_HEIGHT, MOST_TURNS}
+use Rattle.cep_words.specs.declared.run_option.RunOption.{RunOption}
+use Rattle.cep_words.specs.declared.run_option.RunOption.TheVariants.{Seed, Height, Turns}
+use Rattle.cep_words.specs.declared.options.Options.{Options}
+
+-- the word that asks one thing of a run: its name, `=`, and the number in decimal without leading zeros
+abbrev pub option_text : RunOption → List ℕ
+option_text (Seed seed) = codes "seed=" ++ decimal seed
+option_text (Height levels) = codes "height=" ++ decimal levels
+option_text (Turns turns) = codes "turns=" ++ decimal turns
+
+-- a number from 1 to the most
+abbrev pub IsCount : ℕ → ℕ → Type 0
+IsCount most n = (1 ≤ n) × (n ≤ most)
+
+-- what is asked is within its bounds
+abbrev pub IsInBounds : RunOption → Type 0
+IsInBounds (Seed seed) = seed < 2 ^ 64
+IsInBounds (Height levels) = IsCount MOST_HEIGHT levels
+IsInBounds (Turns turns) = IsCount MOST_TURNS turns
+
+-- one thing that is asked, or none
+abbrev pub asked_if : (ℕ → RunOption) → Option ℕ → List RunOption
+asked_if kind None = []
+asked_if kind (Some n) = kind n ∷ []
+
+-- all that options ask
+abbrev pub all_asked : Options → List RunOption
+all_asked options = asked_if Seed options.seed ++ (asked_if Height options.height ++ asked_if Turns options.turns)
+
+-- The options are within their bounds.
+abbrev pub AreWithin : Options → Type 0
+AreWithin options = AllByRecursion IsInBounds (all_asked options)
+
+-- These words give these options: each word asks one thing, in any order, each at most once, and each within its bounds.
+abbrev pub Give : List (List ℕ) → Options → Type 0
+Give words options = AreWithin options × IsPermutation (map option_text (all_asked options)) words
+
+-- What words may ask for: that the program in a file is played, with options.
+pub data Request : Type 0 where
+  Play : (file : List ℕ) → (options : Options) → Request
+
+-- These words ask for this.
+abbrev pub AskFor : List (List ℕ) → Request → Type 0
+AskFor words (Play file options) = (others : List (List ℕ)) × (words ≡ codes "play" ∷ file ∷ others) × Give others options
+
+-- the words have no form: they ask for nothing
+abbrev pub HaveNoForm : List (List ℕ) → Type 0
+HaveNoForm words = (request : Request) → AskFor words request → ⊥

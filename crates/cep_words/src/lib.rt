@@ -1,0 +1,11 @@
+//! The words of a command, and what they ask for. All forms are this profile's.
+#![tactic(auto)]
+
+mod number;
+mod options;
+mod run_option;
+mod task;
+
+pub use options::Options;
+pub use run_option::RunOption;
+pub use task::Task;

@@ -1,0 +1,62 @@
+ghost use Rattle.std.specs.Prelude.{◌≡◌, ℕ, ◌^◌, ◌<◌, ◌++◌, codes, decimal, MatchOption};
+ghost use Rattle.cep_words.specs.Words.{option_text, IsInBounds, IsCount};
+ghost use Rattle.cep_words.specs.declared.run_option.RunOption.{RunOption};
+
+use crate::number::{number_of, number_within};
+use cep_base::limits::{MOST_HEIGHT, MOST_TURNS};
+
+/// One thing that a word may ask of a run.
+#[derive(Clone, Copy, Debug, PartialEq, Eq)]
+pub enum RunOption {
+    /// The seed of what nobody chooses.
+    Seed(u64),
+    /// How many levels a derivation may have, from 1 to 512.
+    Height(u32),
+    /// How many turns are done at most, from 1 to 1,000,000.
+    Turns(u32),
+}
+
+impl RunOption {
+    // What the word asks: `seed=N`, `height=N` or `turns=N`, N in decimal without leading zeros. `None`
+    // exactly where it asks nothing.
+    pub(crate) fn of(word: &[u8]) -> Option<RunOption>
+        ensures { MatchOption result
+            ((option : RunOption) → IsInBounds option → word.now ≡ option_text option → ⊥)
+            (λ option. IsInBounds option × (word.now ≡ option_text option)) }
+    {
+        match seed_in(word) {
+            Some(seed) => Some(RunOption::Seed(seed)),
+            None => match height_in(word) {
+                Some(levels) => Some(RunOption::Height(levels)),
+                None => match turns_in(word) {
+                    Some(turns) => Some(RunOption::Turns(turns)),
+                    None => None,
+                },
+            },
+        }
+    }
+}
+
+fn seed_in(word: &[u8]) -> Option<u64>
+    ensures { MatchOption result
+        ((seed : ℕ) → seed < 2 ^ 64 → word.now ≡ codes "seed=" ++ decimal seed → ⊥)
+        (λ seed. word.now ≡ codes "seed=" ++ decimal seed) }
+{
+    number_of(word.strip_prefix(b"seed=")?)
+}
+
+fn height_in(word: &[u8]) -> Option<u32>
+    ensures { MatchOption result
+        ((levels : ℕ) → IsCount MOST_HEIGHT levels → word.now ≡ codes "height=" ++ decimal levels → ⊥)
+        (λ levels. IsCount MOST_HEIGHT levels × (word.now ≡ codes "height=" ++ decimal levels)) }
+{
+    number_within(word.strip_prefix(b"height=")?, MOST_HEIGHT)
+}
+
+fn turns_in(word: &[u8]) -> Option<u32>
+    ensures { MatchOption result
+        ((turns : ℕ) → IsCount MOST_TURNS turns → word.now ≡ codes "turns=" ++ decimal turns → ⊥)
+        (λ turns. IsCount MOST_TURNS turns × (word.now ≡ codes "turns=" ++ decimal turns)) }
+{
+    number_within(word.strip_prefix(b"turns=")?, MOST_TURNS)
+}
