@@ -14,7 +14,8 @@ use Rattle.cep_play.specs.Deciding.{Supply}
 use Rattle.cep_play.specs.Lines.{end_lines, header}
 use Rattle.cep_play.specs.Run.{Position, start_of, whole_supply, Turn, Ending, IsTurn, AreTurns, EndsAt}
 use Rattle.cep_play.specs.Dialogue.{turn_events, last_events, Dialogue}
-use Rattle.cep_play.specs.Turn.{undrawn, DoesTurn, Stops, SoFar, IsWholeRun}
+use Rattle.cep_play.specs.declared.deciding.Spent.{Spent}
+use Rattle.cep_play.specs.Turn.{supply_with, DoesTurn, Stops, SoFar, IsWholeRun}
 
 -- one more turn behind others
 turns_behind : (program : Parts) (settings : Settings) (at : Position) (from : Supply) (turns : List Turn) (last : Position) (between : Supply) (turn : Turn) → AreTurns program settings at from turns last between → IsTurn program settings last between turn → AreTurns program settings at from (turns ++ turn ∷ []) turn.after turn.left
@@ -23,26 +24,26 @@ turns_behind program settings at from (first ∷ turns) last between turn done i
 
 module _ (program : Parts) (settings : Settings) (start : Position) where
   -- nothing was said yet
-  pub run_begins : (come : List ℕ) (events : List Event) (rest : List ℕ) → (events ≡ []) × (rest ≡ come) → SoFar program settings start start 0 come events rest
-  run_begins come events rest same = record { turns = []; done = (refl, ap (λ bytes. undrawn bytes 0) same.1); written = same.0 }
+  pub run_begins : (spent : Spent) → spent.taken ≡ 0 → spent.drawn ≡ 0 → (come : List ℕ) (events : List Event) (rest : List ℕ) → (events ≡ []) × (rest ≡ come) → SoFar program settings start start spent come events rest
+  run_begins spent untaken undrawn come events rest same = record { turns = []; done = (refl, λ i. record { come = same.1 i; taken = untaken i; drawn = undrawn i }); written = same.0 }
 
-  module _ (at : Position) (taken : ℕ) where
+  module _ (at : Position) (spent : Spent) where
     -- one more turn
-    pub run_goes_on : (new : Position) (taken' : ℕ) (come : List ℕ) (first : List Event) (between : List ℕ) (second : List Event) (rest : List ℕ) → SoFar program settings start at taken come first between → DoesTurn program settings at taken new taken' between second rest → SoFar program settings start new taken' come (first ++ second) rest
-    run_goes_on new taken' come first between second rest so does = record {
+    pub run_goes_on : (new : Position) (spent' : Spent) (come : List ℕ) (first : List Event) (between : List ℕ) (second : List Event) (rest : List ℕ) → SoFar program settings start at spent come first between → DoesTurn program settings at spent new spent' between second rest → SoFar program settings start new spent' come (first ++ second) rest
+    run_goes_on new spent' come first between second rest so does = record {
       turns = so.turns ++ does.turn ∷ [];
-      done = subst (λ supply. AreTurns program settings start (undrawn come 0) (so.turns ++ does.turn ∷ []) new supply) does.left
-          (subst (λ place. AreTurns program settings start (undrawn come 0) (so.turns ++ does.turn ∷ []) place does.turn.left) does.after
-          (turns_behind program settings start (undrawn come 0) so.turns at (undrawn between taken) does.turn so.done does.is));
+      done = subst (λ supply. AreTurns program settings start (whole_supply come) (so.turns ++ does.turn ∷ []) new supply) does.left
+          (subst (λ place. AreTurns program settings start (whole_supply come) (so.turns ++ does.turn ∷ []) place does.turn.left) does.after
+          (turns_behind program settings start (whole_supply come) so.turns at (supply_with between spent) does.turn so.done does.is));
       written = ap (λ es. es ++ second) so.written ∙ ap (λ es. flat_map (turn_events program) so.turns ++ es) (does.written ∙ sym (append-nil (turn_events program does.turn))) ∙ sym (flat_map-append (turn_events program) so.turns (does.turn ∷ []));
     }
 
     -- the run ends within a turn
-    pub run_stops : (word : EndWord) (taken' : ℕ) (come : List ℕ) (first : List Event) (between : List ℕ) (second : List Event) (rest : List ℕ) → SoFar program settings start at taken come first between → Stops program settings at taken word taken' between second rest → IsWholeRun program settings word start at come (first ++ second) rest
-    run_stops word taken' come first between second rest so stop = record {
+    pub run_stops : (word : EndWord) (spent' : Spent) (come : List ℕ) (first : List Event) (between : List ℕ) (second : List Event) (rest : List ℕ) → SoFar program settings start at spent come first between → Stops program settings at spent word spent' between second rest → IsWholeRun program settings word start at come (first ++ second) rest
+    run_stops word spent' come first between second rest so stop = record {
       turns = so.turns;
-      between = undrawn between taken;
-      left = undrawn rest taken';
+      between = supply_with between spent;
+      left = supply_with rest spent';
       asked = stop.asked;
       done = so.done;
       ends = stop.ends;
@@ -50,11 +51,11 @@ module _ (program : Parts) (settings : Settings) (start : Position) where
       rest_is = refl;
     }
 
-    run_over : (word : EndWord) (come : List ℕ) (events : List Event) (rest : List ℕ) → EndsAt program settings at (undrawn rest taken) word None (undrawn rest taken) → SoFar program settings start at taken come events rest → IsWholeRun program settings word start at come events rest
+    run_over : (word : EndWord) (come : List ℕ) (events : List Event) (rest : List ℕ) → EndsAt program settings at (supply_with rest spent) word None (supply_with rest spent) → SoFar program settings start at spent come events rest → IsWholeRun program settings word start at come events rest
     run_over word come events rest ends so = record {
       turns = so.turns;
-      between = undrawn rest taken;
-      left = undrawn rest taken;
+      between = supply_with rest spent;
+      left = supply_with rest spent;
       asked = None;
       done = so.done;
       ends = ends;
@@ -63,11 +64,11 @@ module _ (program : Parts) (settings : Settings) (start : Position) where
     }
 
     -- the run is quiet after its last turn
-    pub run_quiets : (come : List ℕ) (events : List Event) (rest : List ℕ) → IsQuiet program settings.height at.spot.state at.spot.stage → SoFar program settings start at taken come events rest → IsWholeRun program settings Quiet start at come events rest
+    pub run_quiets : (come : List ℕ) (events : List Event) (rest : List ℕ) → IsQuiet program settings.height at.spot.state at.spot.stage → SoFar program settings start at spent come events rest → IsWholeRun program settings Quiet start at come events rest
     run_quiets come events rest is so = run_over Quiet come events rest (is, refl) so
 
     -- all turns are done
-    pub run_is_over : (group : ℕ) (come : List ℕ) (events : List Event) (rest : List ℕ) → IsAsked program settings.height at.spot.state at.spot.stage group → at.turns ≡ settings.limit → SoFar program settings start at taken come events rest → IsWholeRun program settings Turns start at come events rest
+    pub run_is_over : (group : ℕ) (come : List ℕ) (events : List Event) (rest : List ℕ) → IsAsked program settings.height at.spot.state at.spot.stage group → at.turns ≡ settings.limit → SoFar program settings start at spent come events rest → IsWholeRun program settings Turns start at come events rest
     run_is_over group come events rest asked all so = run_over Turns come events rest (((group, asked), all), refl) so
 
 -- all turns and the end, from some bytes to come

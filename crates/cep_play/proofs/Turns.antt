@@ -1,6 +1,6 @@
 -- Each way through a turn is a turn of a run, or the end of one.
 use Rattle.std.proofs.Common.{◌≡◌, ℕ, zero, suc, ◌+◌, ◌-◌, ◌*◌, ◌<◌, ◌≤◌, ◌%◌, List, [], ◌∷◌, ◌++◌, length, get_or, inl, inr, refl, sym, ap, ◌∙◌, subst, arith, Option, None, Some, Bool, true, false}
-use Rattle.std.specs.Prelude.{slice_get, All, IsSome, IsSomeAnd, IsTrue, ◌↔◌, nat_lt, unwrap_or}
+use Rattle.std.specs.Prelude.{slice_get, All, IsSomeAnd, IsTrue, ◌↔◌, nat_lt}
 use borrow.Author.Tests.{ltb-true, ltb-false}
 use Rattle.std.specs.List.{AllByRecursion}
 use Rattle.std.proofs.lemmas.List.{append-nil, get_or_default}
@@ -16,14 +16,11 @@ use Rattle.cep_rule.specs.declared.offer.Offer.{Offer}
 use Rattle.cep_rule.specs.State.{Fits}
 use Rattle.cep_rule.specs.Instances.{full_instances}
 use Rattle.cep_rule.specs.Offers.{Applies, AreOffers, IsOffer}
-use Rattle.cep_rule.specs.Derivations.{ProofTree}
-use Rattle.cep_rule.specs.Stages.{IsAsked, IsQuiet, own_group}
+use Rattle.cep_rule.specs.Stages.{IsAsked, IsQuiet}
 use Rattle.cep_rule.specs.Steps.{AreProofs}
 use Rattle.cep_rule.specs.Typing.{AreValues}
 use Rattle.cep_rule.specs.Matching.{offers_of, AreListed}
-use Rattle.cep_rule.specs.Program.{IsProgram}
 use Rattle.cep_rule.specs.Shapes.{IsOfferOf}
-use Rattle.cep_ground.specs.Refusals.{IsPlainRule, IsBuilt}
 use Rattle.cep_machine.specs.declared.stepped.Which.{Which}
 use Rattle.cep_machine.specs.declared.stepped.Which.TheVariants as which
 use Rattle.cep_machine.specs.Configuration.{Configuration}
@@ -37,11 +34,12 @@ use Rattle.cep_play.specs.declared.ending.EndWord.TheVariants.{Quiet, Offers, In
 use Rattle.cep_play.specs.declared.settings.Settings.{Settings}
 use Rattle.cep_play.specs.declared.turn.Turned.{Turned}
 use Rattle.cep_play.specs.declared.turn.Turned.TheVariants.{Done, Over}
-use Rattle.cep_play.specs.Choice.{Hears}
-use Rattle.cep_play.specs.Deciding.{Heard, IsPlayers}
-use Rattle.cep_play.specs.Lines.{question, step_line, step_lines, by_lines, next_line}
-use Rattle.cep_play.specs.Run.{Position, Question, IsQuestion, IsChosen, PassesLimit}
-use Rattle.cep_play.specs.Turn.{position_of, undrawn, IsPlayed, AsksPlayer, IsPlaced, ProvesOffer, Acts, WouldPass, limit_word, IsActed, DoesTurn, Stops, IsTurned}
+use Rattle.cep_play.specs.declared.deciding.Spent.{Spent}
+use Rattle.cep_play.specs.Deciding.{How}
+use Rattle.cep_play.specs.Lines.{step_lines}
+use Rattle.cep_play.specs.Run.{Position, Question, IsQuestion, IsChosen, PassesLimit, LeadsNowhere}
+use Rattle.cep_play.specs.Dialogue.{asked_events}
+use Rattle.cep_play.specs.Turn.{position_of, supply_with, IsPlayed, Settles, IsPlaced, TellsStep, Acts, WouldPass, limit_word, IsActed, DoesTurn, Stops, IsTurned}
 use Rattle.cep_base.proofs.Did.{did_same, did_map, did_then}
 
 none_some : {A B : Type 0} (x : A) → ◌≡◌ {A = Option A} None (Some x) → B
@@ -75,45 +73,33 @@ module _ (program : Parts) (height : ℕ) (state : Multiset) (group : ℕ) (offe
       let applies = (are.no_other offer (k, h, get_or_default offers k offer d h)).applies in
       subst (λ o. IsSomeAnd o (λ rule. AreValues program.signature.cons rule.kinds offer.values)) (sym applies.numbered) applies.values
 
--- What a stage asks, where its offers are not too many.
+-- What a stage asks, with its offers.
 pub record IsAskedHere (program : Parts) (settings : Settings) (at : Position) (group : ℕ) (offers : List Offer) : Type 0 where
   pub asked : IsAsked program settings.height at.spot.state at.spot.stage group
   pub offered : AreOffers program settings.height at.spot.state group offers
-  pub players : IsPlayers program at.spot.stage group (length offers)
 
 true_false : {A : Type 0} → false ≡ true → A
 true_false e = cc
 
--- a rule that leaves no stage is in no group of those that do
-stays_or_leaves : {X : Type 0} (next : Option ℕ) (group stage : ℕ) → next ≡ None → (IsSome next ↔ (group % 2 ≡ 1)) → group ≡ 2 * stage + 1 → X
-stays_or_leaves next group stage none iff is = true_false (subst (λ o. IsSome o) none (iff.1 (omega (arith, is))))
-
--- where no rule leaves a stage, each stage asks its own group
-own_asked : (program : Parts) (height : ℕ) (state : Multiset) (stage group : ℕ) → IsProgram program → IsBuilt program → IsAsked program height state stage group → group ≡ own_group stage
-own_asked program height state stage group kept built (inl own) = own.0
-own_asked program height state stage group kept built (inr leaving) =
-    let offer = leaving.2.0 in
-    let in_group = leaving.2.1.in_group in
-    let plain = all_at IsPlainRule program.rules built.rules offer.rule in_group.rule in_group.numbered in
-    let grouped = all_at _ program.rules kept.grouped offer.rule in_group.rule in_group.numbered in
-    stays_or_leaves in_group.rule.next in_group.rule.group stage plain grouped.leaves (in_group.grouped ∙ leaving.0)
-
 -- the lists of a matcher are the offers of the group that is asked
 pub asked_here : {M : Type 0} (is_of : Parts → M → Type 0) (height_held : M → ℕ) (program : Parts) (settings : Settings) (group height : ℕ) (held : Multiset) (lists : List (List Offer)) (config : Configuration M)
-    → IsProgram program → IsBuilt program → IsPlayed is_of height_held program settings config
     → height ≡ settings.height → held ≡ config.state → AreListed program height held lists → group < length lists → IsAsked program height config.state config.stage group
     → IsAskedHere program settings (position_of config) group (offers_of lists group)
-asked_here is_of height_held program settings group height held lists config kept built played high same are listed asked = record {
+asked_here is_of height_held program settings group height held lists config high same are listed asked = record {
   asked = subst (λ h. IsAsked program h config.state config.stage group) high asked;
   offered = subst (λ h. AreOffers program h config.state group (offers_of lists group)) high
       (subst (λ s. AreOffers program height s group (offers_of lists group)) same (are.each group listed));
-  players = (played.interactive, inl (own_asked program height config.state config.stage group kept built asked));
 }
 
 -- the group that is asked has a list
 pub group_listed : (lists : List (List Offer)) (stage group : ℕ) → IsAskedIn lists stage group → 2 * stage + 1 < length lists → group < length lists
 group_listed lists stage group (inl own) low = let same = own.0 in omega arith
 group_listed lists stage group (inr leaving) low = let same = leaving.0 in omega arith
+
+-- and some offer
+pub group_offers : (lists : List (List Offer)) (stage group : ℕ) → IsAskedIn lists stage group → 0 < length (offers_of lists group)
+group_offers lists stage group (inl own) = own.1
+group_offers lists stage group (inr leaving) = leaving.2
 
 -- there are too many, or there are not
 pub too_many : (ok : Bool) (n most : ℕ) → (IsTrue ok ↔ (n ≤ most)) → ok ≡ false → most < n
@@ -144,7 +130,7 @@ passes program which.Atom values rule state number large = first_too_large (full
 passes program which.State values rule state number full = (full.0, (full.1.0, full.1.1, too_full full.1.0 number full.1.2))
 
 module _ {M : Type 0} (program : Parts) (height : ℕ) (held : Multiset) (group : ℕ) (lists : List (List Offer)) (offers : List Offer) (place i : ℕ) (offer : Offer) (old : Configuration M)
-    (built : IsBuilt program) (are : AreOffers program height held group offers) (at : slice_get offers i ≡ Some offer) (placed : i ≡ place - 1) (asked : offers ≡ asked_offers lists old.stage) where
+    (are : AreOffers program height held group offers) (at : slice_get offers i ≡ Some offer) (placed : i ≡ place - 1) (asked : offers ≡ asked_offers lists old.stage) where
   pub rule_of : Rule
   rule_of = (is_offer program height held group offers are i offer at).applies.rule
 
@@ -158,9 +144,6 @@ module _ {M : Type 0} (program : Parts) (height : ℕ) (held : Multiset) (group 
   is_placed : IsPlaced program offers place offer rule_of
   is_placed = record { at_place = subst (λ n. slice_get offers n ≡ Some offer) placed at; of_rule = numbered }
 
-  stays : rule_of.next ≡ None
-  stays = all_at IsPlainRule program.rules built.rules offer.rule rule_of numbered
-
   -- the offer applies, within the height of the run
   pub offer_applies : (settings : Settings) → height ≡ settings.height → Applies program settings.height held offer
   offer_applies settings same = subst (λ h. Applies program h held offer) same (is_offer program height held group offers are i offer at).applies
@@ -169,27 +152,24 @@ module _ {M : Type 0} (program : Parts) (height : ℕ) (held : Multiset) (group 
   same_rule rule is = some_same rule rule_of (sym is ∙ numbered)
 
   -- the step was done
-  pub step_acts : (high : ℕ) (new : Configuration M) (first bytes : List ℕ) → ((rule : Rule) (values : List Tree) → IsAskedAt program lists old.stage i rule values → IsNext program rule values old new) → first ≡ step_line program offer → ProvesOffer program high offer first bytes
+  pub step_acts : (high : ℕ) (new : Configuration M) (first bytes : List ℕ) → ((rule : Rule) (values : List Tree) → IsAskedAt program lists old.stage i rule values → IsNext program rule values old new) → first ≡ [] → TellsStep program high offer first bytes
       → (come : List ℕ) (events : List Event) (rest : List ℕ) → (events ≡ outs bytes) × (rest ≡ come) → Acts program high offers place (position_of old) (position_of new) come events rest
-  step_acts high new first bytes stepped line proved come events rest put =
+  step_acts high new first bytes stepped none told come events rest put =
       let next = stepped rule_of offer.values chosen_there in
+      let same = same_rule told.rule told.numbered in
       record {
         offer = offer;
         rule = rule_of;
-        proofs = proved.adds.proofs;
+        proofs = told.proofs;
         placed = is_placed;
-        proved = subst (λ (rule : Rule). AreProofs program high proved.adds.proofs (full_instances offer.values rule.backs)) (same_rule proved.rule proved.numbered) proved.adds.proved;
+        proved = subst (λ (rule : Rule). AreProofs program high told.proofs (full_instances offer.values rule.backs)) same told.proved;
         steps = next.steps;
-        written = put.0 ∙ ap outs (proved.adds.added ∙ ap (λ bytes. bytes ++ by_lines program proved.adds.proofs) line);
+        written = put.0 ∙ ap outs (told.added ∙ ap (λ bytes. bytes ++ step_lines program offer told.rule told.proofs) none ∙ ap (λ (rule : Rule). step_lines program offer rule told.proofs) same);
         untaken = put.1;
       }
 
   pub one_turn_more : (new : Configuration M) → ((rule : Rule) (values : List Tree) → IsAskedAt program lists old.stage i rule values → IsNext program rule values old new) → new.turns ≡ old.turns + 1
   one_turn_more new stepped = (stepped rule_of offer.values chosen_there).turns
-
-  -- the stage stays
-  pub same_stage : (new : Configuration M) → ((rule : Rule) (values : List Tree) → IsAskedAt program lists old.stage i rule values → IsNext program rule values old new) → new.stage ≡ old.stage
-  same_stage new stepped = (stepped rule_of offer.values chosen_there).steps.stage ∙ ap (λ next. unwrap_or next old.stage) stays
 
   -- the step would pass a limit
   pub step_fails : (last : Configuration M) (which : Which) (number : ℕ) → ((rule : Rule) (values : List Tree) → IsAskedAt program lists old.stage i rule values → (last ≡ old) × Passes program.signature rule values old.state which number)
@@ -208,156 +188,128 @@ module _ {M : Type 0} (program : Parts) (height : ℕ) (held : Multiset) (group 
 
 -- Turns
 
--- no stage is named where a rule leads to none
-plain_lines : (program : Parts) (offer : Offer) (rule : Rule) (proofs : List ProofTree) → rule.next ≡ None → step_line program offer ++ by_lines program proofs ≡ step_lines program offer rule proofs
-unfolding step_lines
-plain_lines program offer rule proofs none = ap (λ bytes. step_line program offer ++ bytes) (sym (ap (λ next. by_lines program proofs ++ next_line program next) none ∙ append-nil (by_lines program proofs)))
-
-module _ (program : Parts) (settings : Settings) (at : Position) (taken : ℕ) where
+module _ (program : Parts) (settings : Settings) (at : Position) (spent : Spent) where
   -- no rule applies
-  pub quiet_turn : (come : List ℕ) (events : List Event) (rest : List ℕ) → IsQuiet program settings.height at.spot.state at.spot.stage → (events ≡ []) × (rest ≡ come) → Stops program settings at taken Quiet taken come events rest
+  pub quiet_turn : (come : List ℕ) (events : List Event) (rest : List ℕ) → IsQuiet program settings.height at.spot.state at.spot.stage → (events ≡ []) × (rest ≡ come) → Stops program settings at spent Quiet spent come events rest
   quiet_turn come events rest is same = record {
     asked = None;
-    ends = (is, ap (λ bytes. undrawn bytes taken) same.1);
+    ends = (is, ap (λ bytes. supply_with bytes spent) same.1);
     written = same.0;
   }
 
   module _ (group : ℕ) (offers : List Offer) (here : IsAskedHere program settings at group offers) (remain : at.turns < settings.limit) where
     -- the offers are too many
-    pub crowded_turn : MOST_OFFERS < length offers → (come : List ℕ) (events : List Event) (rest : List ℕ) → (events ≡ []) × (rest ≡ come) → Stops program settings at taken Offers taken come events rest
+    pub crowded_turn : MOST_OFFERS < length offers → (come : List ℕ) (events : List Event) (rest : List ℕ) → (events ≡ []) × (rest ≡ come) → Stops program settings at spent Offers spent come events rest
     crowded_turn many come events rest same = record {
       asked = None;
-      ends = ((remain, (group, offers, here.asked, here.offered, many)), ap (λ bytes. undrawn bytes taken) same.1);
+      ends = ((remain, (group, offers, here.asked, here.offered, many)), ap (λ bytes. supply_with bytes spent) same.1);
       written = same.0;
     }
 
-    module _ (few : length offers ≤ MOST_OFFERS) where
-      -- a question that the player answered
-      abbrev answered : Choice → List Event → Question
-      answered choice heard = record { group = group; offers = offers; how = Heard heard; choice = choice }
+    module _ (few : length offers ≤ MOST_OFFERS) (spent' : Spent) where
+      -- a question that was decided
+      abbrev answered : How → Choice → Question
+      answered how choice = record { group = group; offers = offers; how = how; choice = choice }
 
-      is_answered : (taken' : ℕ) (come rest : List ℕ) (choice : Choice) (heard : List Event) → Hears (length offers) come taken heard choice rest taken' → IsQuestion program settings at (undrawn come taken) (answered choice heard) (undrawn rest taken')
-      is_answered taken' come rest choice heard hears = record { remain = remain; asked = here.asked; offered = here.offered; few = few; decided = (here.players, hears, refl) }
+      module _ (come rest : List ℕ) (choice : Choice) (events : List Event) (settles : Settles program settings.seed at.spot.stage group offers spent choice spent' come events rest) where
+        is_answered : IsQuestion program settings at (supply_with come spent) (answered settles.how choice) (supply_with rest spent')
+        is_answered = record { remain = remain; asked = here.asked; offered = here.offered; few = few; decided = settles.decides }
 
-      -- the choice is not made
-      pub no_more_turn : (taken' : ℕ) (come : List ℕ) (events : List Event) (rest : List ℕ) → AsksPlayer program offers come taken events NoMore rest taken' → Stops program settings at taken Input taken' come events rest
-      no_more_turn taken' come events rest asks = record {
-        asked = Some (answered NoMore asks.heard);
-        ends = (is_answered taken' come rest NoMore asks.heard asks.hears, refl);
-        written = asks.whole;
-      }
+        -- the choice is not made
+        pub unmade_turn : (word : EndWord) → LeadsNowhere program at.spot.state (answered settles.how choice) choice word → Stops program settings at spent word spent' come events rest
+        unmade_turn word nowhere = record { asked = Some (answered settles.how choice); ends = (is_answered, nowhere); written = settles.whole }
 
-      pub no_room_turn : (taken' : ℕ) (come : List ℕ) (events : List Event) (rest : List ℕ) → AsksPlayer program offers come taken events NoRoom rest taken' → Stops program settings at taken Typed taken' come events rest
-      no_room_turn taken' come events rest asks = record {
-        asked = Some (answered NoRoom asks.heard);
-        ends = (is_answered taken' come rest NoRoom asks.heard asks.hears, refl);
-        written = asks.whole;
-      }
+      module _ (place : ℕ) (come between rest : List ℕ) (first second : List Event) (settles : Settles program settings.seed at.spot.stage group offers spent (Place place) spent' come first between) where
+        untaken : rest ≡ between → IsQuestion program settings at (supply_with come spent) (answered settles.how (Place place)) (supply_with rest spent')
+        untaken same = subst (λ bytes. IsQuestion program settings at (supply_with come spent) (answered settles.how (Place place)) (supply_with bytes spent')) (sym same) (is_answered come between (Place place) first settles)
 
-      module _ (taken' place : ℕ) (come between rest : List ℕ) (first second : List Event) (asks : AsksPlayer program offers come taken first (Place place) between taken') where
-        untaken_hears : rest ≡ between → Hears (length offers) come taken asks.heard (Place place) rest taken'
-        untaken_hears same = subst (λ bytes. Hears (length offers) come taken asks.heard (Place place) bytes taken') (sym same) asks.hears
-
-        is_chosen : (offer : Offer) (rule : Rule) → IsPlaced program offers place offer rule → IsChosen program (answered (Place place) asks.heard) offer rule
+        is_chosen : (offer : Offer) (rule : Rule) → IsPlaced program offers place offer rule → IsChosen program (answered settles.how (Place place)) offer rule
         is_chosen offer rule placed = record { place = place; chosen = refl; at_place = placed.at_place; of_rule = placed.of_rule }
 
         -- one turn is done
-        pub done_turn : IsBuilt program → (new : Position) → new.turns ≡ at.turns + 1 → Acts program settings.height offers place at new between second rest → DoesTurn program settings at taken new taken' come (first ++ second) rest
-        done_turn built new counted acts =
-            let plain = all_at IsPlainRule program.rules built.rules acts.offer.rule acts.rule acts.placed.of_rule in
-            record {
-              turn = record { before = at; question = answered (Place place) asks.heard; offer = acts.offer; rule = acts.rule; proofs = acts.proofs; after = new; left = undrawn rest taken' };
-              is = record {
-                here = refl;
-                asks = is_answered taken' come rest (Place place) asks.heard (untaken_hears acts.untaken);
-                chosen = is_chosen acts.offer acts.rule acts.placed;
-                proved = acts.proved;
-                steps = acts.steps;
-                counted = counted;
-              };
-              after = refl;
-              left = refl;
-              written = ap (λ es. es ++ second) asks.whole ∙ ap (λ es. (outs (question program offers) ++ asks.heard) ++ es) (acts.written ∙ ap outs (plain_lines program acts.offer acts.rule acts.proofs plain));
-            }
-
-        -- the step passes a limit
-        pub failed_turn : (word : EndWord) → WouldPass program offers place word at between second rest → Stops program settings at taken word taken' come (first ++ second) rest
-        failed_turn word fails = record {
-          asked = Some (answered (Place place) asks.heard);
-          ends = (is_answered taken' come rest (Place place) asks.heard (untaken_hears fails.untaken), (fails.offer, fails.rule, is_chosen fails.offer fails.rule fails.placed, fails.too_much));
-          written = ap (λ es. first ++ es) fails.unwritten ∙ append-nil first ∙ asks.whole;
+        pub done_turn : (new : Position) → new.turns ≡ at.turns + 1 → Acts program settings.height offers place at new between second rest → DoesTurn program settings at spent new spent' come (first ++ second) rest
+        done_turn new counted acts = record {
+          turn = record { before = at; question = answered settles.how (Place place); offer = acts.offer; rule = acts.rule; proofs = acts.proofs; after = new; left = supply_with rest spent' };
+          is = record {
+            here = refl;
+            asks = untaken acts.untaken;
+            chosen = is_chosen acts.offer acts.rule acts.placed;
+            proved = acts.proved;
+            steps = acts.steps;
+            counted = counted;
+          };
+          after = refl;
+          left = refl;
+          written = ap (λ es. es ++ second) settles.whole ∙ ap (λ es. asked_events program offers settles.how ++ es) acts.written;
         }
 
--- the text of the offers and the question was put, and then a choice was heard
-pub asks_after : (program : Parts) (offers : List Offer) (made bytes come middle rest : List ℕ) (taken taken' : ℕ) (first others : List Event) (choice : Choice)
-    → bytes ≡ made → made ≡ question program offers → (first ≡ outs bytes) × (middle ≡ come) → Hears (length offers) middle taken others choice rest taken'
-    → AsksPlayer program offers come taken (first ++ others) choice rest taken'
-asks_after program offers made bytes come middle rest taken taken' first others choice same is put hears = record {
-  heard = others;
-  hears = subst (λ from. Hears (length offers) from taken others choice rest taken') put.1 hears;
-  whole = ap (λ es. es ++ others) (put.0 ∙ ap outs (same ∙ is));
-}
+        -- the step passes a limit
+        pub failed_turn : (word : EndWord) → WouldPass program offers place word at between second rest → Stops program settings at spent word spent' come (first ++ second) rest
+        failed_turn word fails = record {
+          asked = Some (answered settles.how (Place place));
+          ends = (untaken fails.untaken, (fails.offer, fails.rule, is_chosen fails.offer fails.rule fails.placed, fails.too_much));
+          written = ap (λ es. first ++ es) fails.unwritten ∙ append-nil first ∙ settles.whole;
+        }
 
 -- what the choice of a place comes to is what the turn comes to
-module _ {C M : Type 0} (talk : C → Option (List Event)) (left : C → Option (List ℕ)) (old between new : C) (program : Parts) (settings : Settings) (config : Configuration M) (taken taken' place group : ℕ) (offers : List Offer)
-    (built : IsBuilt program) (here : IsAskedHere program settings (position_of config) group offers) (remain : config.turns < settings.limit) (few : length offers ≤ MOST_OFFERS)
-    (heard : Did talk left old between (λ come events rest. AsksPlayer program offers come taken events (Place place) rest taken')) where
-  pub chosen_turn : (turned : Turned M) → IsActed talk left between new program settings.height offers place config turned → IsTurned talk left old new program settings config taken taken' turned
+module _ {C M : Type 0} (talk : C → Option (List Event)) (left : C → Option (List ℕ)) (old between new : C) (program : Parts) (settings : Settings) (config : Configuration M) (spent spent' : Spent) (place group : ℕ) (offers : List Offer)
+    (here : IsAskedHere program settings (position_of config) group offers) (remain : config.turns < settings.limit) (few : length offers ≤ MOST_OFFERS)
+    (settled : Did talk left old between (Settles program settings.seed config.stage group offers spent (Place place) spent')) where
+  pub chosen_turn : (turned : Turned M) → IsActed talk left between new program settings.height offers place config turned → IsTurned talk left old new program settings config spent spent' turned
   chosen_turn (Done next) acted = (
-    did_then talk left old between new _ _ _ (λ come first middle others rest asks acts. done_turn program settings (position_of config) taken group offers here remain few taken' place come middle rest first others asks built (position_of next) acted.1 acts) heard acted.0,
+    did_then talk left old between new _ _ _ (λ come first middle others rest settles acts. done_turn program settings (position_of config) spent group offers here remain few spent' place come middle rest first others settles (position_of next) acted.1 acts) settled acted.0,
     acted.1,
   )
   chosen_turn (Over last) acted = (
-    did_then talk left old between new _ _ _ (λ come first middle others rest asks fails. failed_turn program settings (position_of config) taken group offers here remain few taken' place come middle rest first others asks last.word fails) heard acted.0,
+    did_then talk left old between new _ _ _ (λ come first middle others rest settles fails. failed_turn program settings (position_of config) spent group offers here remain few spent' place come middle rest first others settles last.word fails) settled acted.0,
     acted.1,
   )
 
 -- What a configuration asks, by its matcher: the lists that are held are those of the group, whatever view of the matcher they are taken from.
 module _ {M : Type 0} (is_of : Parts → M → Type 0) (height_held : M → ℕ) (state_held : M → Multiset) (offers_held : M → List (List Offer)) (program : Parts) (settings : Settings) (config : Configuration M) (group : ℕ)
-    (kept : IsProgram program) (built : IsBuilt program) (played : IsPlayed is_of height_held program settings config)
+    (played : IsPlayed is_of height_held program settings config)
     (lists : AreListed program (height_held config.matcher) (state_held config.matcher) (offers_held config.matcher)) (same_state : state_held config.matcher ≡ config.state)
     (low : 2 * config.stage + 1 < length (offers_held config.matcher)) (asked_in : IsAskedIn (offers_held config.matcher) config.stage group)
     (asked : IsAsked program (height_held config.matcher) config.state config.stage group) where
   pub asks_here : IsAskedHere program settings (position_of config) group (offers_of (offers_held config.matcher) group)
-  asks_here = asked_here is_of height_held program settings group (height_held config.matcher) (state_held config.matcher) (offers_held config.matcher) config kept built played played.height same_state lists (group_listed (offers_held config.matcher) config.stage group asked_in low) asked
+  asks_here = asked_here is_of height_held program settings group (height_held config.matcher) (state_held config.matcher) (offers_held config.matcher) config played.height same_state lists (group_listed (offers_held config.matcher) config.stage group asked_in low) asked
 
-  module _ (remain : config.turns < settings.limit) {C : Type 0} (talk : C → Option (List Event)) (left : C → Option (List ℕ)) (console : C) (taken : ℕ) where
+  module _ (remain : config.turns < settings.limit) {C : Type 0} (talk : C → Option (List Event)) (left : C → Option (List ℕ)) (console : C) (spent : Spent) where
     -- the offers are too many, as this view of the matcher has it
-    pub crowds_here : (seen : M) → seen ≡ config.matcher → (ok : Bool) → (IsTrue ok ↔ (length (offers_of (offers_held seen) group) ≤ MOST_OFFERS)) → ok ≡ false → (turned : Turned M) → turned ≡ Over (record { config = config; word = Offers }) → IsTurned talk left console console program settings config taken taken turned
+    pub crowds_here : (seen : M) → seen ≡ config.matcher → (ok : Bool) → (IsTrue ok ↔ (length (offers_of (offers_held seen) group) ≤ MOST_OFFERS)) → ok ≡ false → (turned : Turned M) → turned ≡ Over (record { config = config; word = Offers }) → IsTurned talk left console console program settings config spent spent turned
     crowds_here seen view ok iff not turned is =
         let many : MOST_OFFERS < length (offers_of (offers_held config.matcher) group) = subst (λ m. MOST_OFFERS < length (offers_of (offers_held m) group)) view (too_many ok _ MOST_OFFERS iff not) in
-        subst (λ t. IsTurned talk left console console program settings config taken taken t) (sym is) (
-          did_map talk left console console _ _ (λ come events rest same. crowded_turn program settings (position_of config) taken group (offers_of (offers_held config.matcher) group) asks_here remain many come events rest same) (did_same talk left console console refl refl),
+        subst (λ t. IsTurned talk left console console program settings config spent spent t) (sym is) (
+          did_map talk left console console _ _ (λ come events rest same. crowded_turn program settings (position_of config) spent group (offers_of (offers_held config.matcher) group) asks_here remain many come events rest same) (did_same talk left console console refl refl),
           refl,
         )
 
-    -- the player was asked, as this view of the matcher has it
-    module _ (heard_on : C) (taken' : ℕ) (few_seen seen : M) (few_view : few_seen ≡ config.matcher) (view : seen ≡ config.matcher) (few : length (offers_of (offers_held few_seen) group) ≤ MOST_OFFERS) where
+    -- a choice was decided
+    module _ (settled_on : C) (spent' : Spent) (seen : M) (view : seen ≡ config.matcher) (few : length (offers_of (offers_held seen) group) ≤ MOST_OFFERS) where
       few_here : length (offers_of (offers_held config.matcher) group) ≤ MOST_OFFERS
-      few_here = subst (λ m. length (offers_of (offers_held m) group) ≤ MOST_OFFERS) few_view few
+      few_here = subst (λ m. length (offers_of (offers_held m) group) ≤ MOST_OFFERS) view few
 
-      heard_here : (choice choice' : Choice) → choice ≡ choice' → Did talk left console heard_on (λ come events rest. AsksPlayer program (offers_of (offers_held seen) group) come taken events choice rest taken')
-          → Did talk left console heard_on (λ come events rest. AsksPlayer program (offers_of (offers_held config.matcher) group) come taken events choice' rest taken')
-      heard_here choice choice' same heard = subst (λ m. Did talk left console heard_on (λ come events rest. AsksPlayer program (offers_of (offers_held m) group) come taken events choice' rest taken')) view
-          (subst (λ (it : Choice). Did talk left console heard_on (λ come events rest. AsksPlayer program (offers_of (offers_held seen) group) come taken events it rest taken')) same heard)
+      settled_here : (choice choice' : Choice) → choice ≡ choice' → Did talk left console settled_on (Settles program settings.seed config.stage group (offers_of (offers_held config.matcher) group) spent choice spent')
+          → Did talk left console settled_on (Settles program settings.seed config.stage group (offers_of (offers_held config.matcher) group) spent choice' spent')
+      settled_here choice choice' same settled = subst (λ (it : Choice). Did talk left console settled_on (Settles program settings.seed config.stage group (offers_of (offers_held config.matcher) group) spent it spent')) same settled
 
-      pub no_more_here : (choice : Choice) → choice ≡ NoMore → Did talk left console heard_on (λ come events rest. AsksPlayer program (offers_of (offers_held seen) group) come taken events choice rest taken')
-          → (turned : Turned M) → turned ≡ Over (record { config = config; word = Input }) → IsTurned talk left console heard_on program settings config taken taken' turned
-      no_more_here choice same heard turned is =
-          subst (λ t. IsTurned talk left console heard_on program settings config taken taken' t) (sym is) (
-            did_map talk left console heard_on _ _ (λ come events rest asks. no_more_turn program settings (position_of config) taken group (offers_of (offers_held config.matcher) group) asks_here remain few_here taken' come events rest asks) (heard_here choice NoMore same heard),
+      unmade_here : (word : EndWord) (choice choice' : Choice) → choice ≡ choice' → Did talk left console settled_on (Settles program settings.seed config.stage group (offers_of (offers_held config.matcher) group) spent choice spent')
+          → ((question : Question) → LeadsNowhere program config.state question choice' word) → (turned : Turned M) → turned ≡ Over (record { config = config; word = word }) → IsTurned talk left console settled_on program settings config spent spent' turned
+      unmade_here word choice choice' same settled nowhere turned is =
+          subst (λ t. IsTurned talk left console settled_on program settings config spent spent' t) (sym is) (
+            did_map talk left console settled_on _ _ (λ come events rest settles. unmade_turn program settings (position_of config) spent group (offers_of (offers_held config.matcher) group) asks_here remain few_here spent' come rest choice' events settles word (nowhere _)) (settled_here choice choice' same settled),
             refl,
           )
 
-      pub no_room_here : (choice : Choice) → choice ≡ NoRoom → Did talk left console heard_on (λ come events rest. AsksPlayer program (offers_of (offers_held seen) group) come taken events choice rest taken')
-          → (turned : Turned M) → turned ≡ Over (record { config = config; word = Typed }) → IsTurned talk left console heard_on program settings config taken taken' turned
-      no_room_here choice same heard turned is =
-          subst (λ t. IsTurned talk left console heard_on program settings config taken taken' t) (sym is) (
-            did_map talk left console heard_on _ _ (λ come events rest asks. no_room_turn program settings (position_of config) taken group (offers_of (offers_held config.matcher) group) asks_here remain few_here taken' come events rest asks) (heard_here choice NoRoom same heard),
-            refl,
-          )
+      pub no_more_here : (choice : Choice) → choice ≡ NoMore → Did talk left console settled_on (Settles program settings.seed config.stage group (offers_of (offers_held config.matcher) group) spent choice spent')
+          → (turned : Turned M) → turned ≡ Over (record { config = config; word = Input }) → IsTurned talk left console settled_on program settings config spent spent' turned
+      no_more_here choice same settled turned is = unmade_here Input choice NoMore same settled (λ _. refl) turned is
 
-      pub chosen_here : (place : ℕ) (choice : Choice) → choice ≡ Place place → Did talk left console heard_on (λ come events rest. AsksPlayer program (offers_of (offers_held seen) group) come taken events choice rest taken')
-          → (new : C) (turned : Turned M) → IsActed talk left heard_on new program settings.height (offers_of (offers_held config.matcher) group) place config turned → IsTurned talk left console new program settings config taken taken' turned
-      chosen_here place choice same heard new turned acted =
-          chosen_turn talk left console heard_on new program settings config taken taken' place group (offers_of (offers_held config.matcher) group) built asks_here remain few_here (heard_here choice (Place place) same heard) turned acted
+      pub no_room_here : (choice : Choice) → choice ≡ NoRoom → Did talk left console settled_on (Settles program settings.seed config.stage group (offers_of (offers_held config.matcher) group) spent choice spent')
+          → (turned : Turned M) → turned ≡ Over (record { config = config; word = Typed }) → IsTurned talk left console settled_on program settings config spent spent' turned
+      no_room_here choice same settled turned is = unmade_here Typed choice NoRoom same settled (λ _. refl) turned is
+
+      pub chosen_here : (place : ℕ) (choice : Choice) → choice ≡ Place place → Did talk left console settled_on (Settles program settings.seed config.stage group (offers_of (offers_held config.matcher) group) spent choice spent')
+          → (new : C) (turned : Turned M) → IsActed talk left settled_on new program settings.height (offers_of (offers_held config.matcher) group) place config turned → IsTurned talk left console new program settings config spent spent' turned
+      chosen_here place choice same settled new turned acted =
+          chosen_turn talk left console settled_on new program settings config spent spent' place group (offers_of (offers_held config.matcher) group) asks_here remain few_here (settled_here choice (Place place) same settled) turned acted

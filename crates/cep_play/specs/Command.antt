@@ -7,45 +7,20 @@ use Rattle.cep_base.specs.declared.console.Event.{Event}
 use Rattle.cep_base.specs.Talk.{outs, Did}
 use Rattle.cep_base.specs.Files.{Files, HasFile}
 use Rattle.cep_rule.specs.declared.parts.Parts.{Parts}
-use Rattle.cep_rule.specs.Limits.{IsHeight}
 use Rattle.cep_refusal.specs.declared.fault.Fault.{Fault}
 use Rattle.cep_refusal.specs.Reasons.{number, reason_name}
 use Rattle.cep_refusal.specs.declared.refusal.Refusal.{Refusal}
 use Rattle.cep_ground.specs.Texts.{Spells}
 use Rattle.cep_refusal.specs.Told.{Tells}
-use Rattle.cep_ground.specs.Refusals.{IsBuilt, IsRefusedFor}
+use Rattle.cep_ground.specs.Refusals.{IsRefusedFor}
 use Rattle.cep_play.specs.declared.ending.EndWord.{EndWord}
 use Rattle.cep_play.specs.declared.ending.EndWord.TheVariants.{Quiet, Input, Turns, Offers, Typed, Atom, State}
-use Rattle.cep_play.specs.declared.options.Options.{Options}
+use Rattle.cep_words.specs.declared.options.Options.{Options}
+use Rattle.cep_words.specs.Words.{Request, Play, AskFor, HaveNoForm}
 use Rattle.cep_play.specs.declared.settings.Settings.{Settings}
 use Rattle.cep_play.specs.Lines.{line}
 use Rattle.cep_play.specs.Run.{Turn, Ending, AreMachineSteps, unproved}
 use Rattle.cep_play.specs.Dialogue.{Dialogue}
-
--- the words for a height, where one is asked: `height=N`, in decimal without leading zeros
-abbrev pub height_words : Option ℕ → List (List ℕ)
-height_words None = []
-height_words (Some levels) = (codes "height=" ++ decimal levels) ∷ []
-
--- the words for options
-abbrev pub option_words : Options → List (List ℕ)
-option_words options = height_words options.height
-
--- The options are within their bounds.
-abbrev pub AreWithin : Options → Type 0
-AreWithin options = IfSome options.height IsHeight
-
--- What words may ask for: that the program in a file is played, with options.
-pub data Request : Type 0 where
-  Play : (file : List ℕ) → (options : Options) → Request
-
--- These words ask for this.
-abbrev pub AskFor : List (List ℕ) → Request → Type 0
-AskFor words (Play file options) = (words ≡ codes "play" ∷ file ∷ option_words options) × AreWithin options
-
--- the words have no form: they ask for nothing
-abbrev pub HaveNoForm : List (List ℕ) → Type 0
-HaveNoForm words = (request : Request) → AskFor words request → ⊥
 
 -- the files that are asked of the shelf for a request
 abbrev pub names_asked : Request → List (List ℕ)
@@ -82,9 +57,9 @@ no_program = codes "cannot read program"
 abbrev pub Writes : {C : Type 0} → (C → Option (List Event)) → (C → Option (List ℕ)) → C → C → List ℕ → Type 0
 Writes talk left old new text = Did talk left old new (λ come events rest. (events ≡ outs (line text)) × (rest ≡ come))
 
--- what holds for a run of the program with these options
+-- what holds for a run of the program with these options: where they say nothing of the turns the program does, and where nothing is said there are defaults
 abbrev pub settings_of : Parts → Options → Settings
-settings_of program options = record { height = unwrap_or options.height DEFAULT_HEIGHT; limit = unwrap_or program.turns DEFAULT_TURNS; seed = DEFAULT_SEED }
+settings_of program options = record { height = unwrap_or options.height DEFAULT_HEIGHT; limit = unwrap_or options.turns (unwrap_or program.turns DEFAULT_TURNS); seed = unwrap_or options.seed DEFAULT_SEED }
 
 -- What is said is a dialogue of the program that ends with a word which has P: its turns are steps of the machine, as many as were done when it ended. What is typed allows no other dialogue but for the derivations of its turns, and no other at all where no rule has a backward premise.
 pub record IsSaid (program : Parts) (settings : Settings) (P : EndWord → Type 0) (come : List ℕ) (events : List Event) (rest : List ℕ) : Type 0 where
@@ -100,21 +75,20 @@ pub record IsSaid (program : Parts) (settings : Settings) (P : EndWord → Type 
 abbrev pub Says : {C : Type 0} → (C → Option (List Event)) → (C → Option (List ℕ)) → C → C → Parts → Settings → (EndWord → Type 0) → Type 0
 Says talk left old new program settings P = Did talk left old new (IsSaid program settings P)
 
--- The text spells a program that can be played today, and no other; and what is said is its dialogue with these options, which ends with a word that has P.
+-- The text spells a program, and no other; and what is said is its dialogue with these options, which ends with a word that has P.
 pub record Plays {C : Type 0} (talk : C → Option (List Event)) (left : C → Option (List ℕ)) (old new : C) (text : List ℕ) (options : Options) (P : EndWord → Type 0) : Type 0 where
   pub program : Parts
   pub spells : Spells text program
-  pub built : IsBuilt program
   pub only : (other : Parts) → Spells text other → other ≡ program
   pub says : Says talk left old new program (settings_of program options) P
 
--- The text spells no program that can be played today: it is refused for the fault that is told first of all that is wrong with it, and the line that tells it is written.
+-- The text spells no program: it is refused for the fault that is told first of all that is wrong with it, and the line that tells it is written.
 pub record Refuses {C : Type 0} (talk : C → Option (List Event)) (left : C → Option (List ℕ)) (old new : C) (text : List ℕ) : Type 0 where
   pub fault : Fault
   pub refusal : Refusal
   pub refused : IsRefusedFor text fault
   pub tells : Tells text fault refusal
-  pub no_program : (program : Parts) → Spells text program → IsBuilt program → ⊥
+  pub no_program : (program : Parts) → Spells text program → ⊥
   pub writes : Writes talk left old new (refusal_text refusal)
 
 -- the run ended in quiet or at the end of the input

@@ -4,14 +4,12 @@ ghost use Rattle.cep_base.specs.Talk.{Did, ConsoleCause};
 ghost use Rattle.cep_base.specs.Faults.{Rose};
 ghost use Rattle.std.specs.Prelude.{OnOk, ◌++◌};
 ghost use Rattle.cep_play.specs.Lines.{line};
-ghost use Rattle.cep_ground.specs.Refusals.{IsBuilt};
-ghost use Rattle.cep_play.specs.Command.{OfPlay, OfNames, OfFile, HaveNoForm, AreWithin, settings_of, Adds, Plays, Refuses, Says, Writes, IsFinished, IsLimited, usage, no_program, refusal_text};
-ghost use Rattle.cep_play.specs.Requests.{IsAskedBy};
+ghost use Rattle.cep_words.specs.Words.{HaveNoForm, AreWithin};
+ghost use Rattle.cep_play.specs.Command.{OfPlay, OfNames, OfFile, settings_of, Adds, Plays, Refuses, Says, Writes, IsFinished, IsLimited, usage, no_program, refusal_text};
 ghost use Rattle.cep_play.specs.Outcome.{OfText, OfRun, OfWords, CountsFaults, AsksFile, AskedAsSaid, code_of, status_of};
 
 use crate::dialogue::play;
 use crate::ending::EndWord;
-use crate::options::Options;
 use cep_base::limits::MOST_TEXT;
 use cep_base::{Console, ConsoleFault, Shelf, ShelfFault, Steps, Text};
 use cep_ground::laws::{no_program_is_refused, one_program};
@@ -19,6 +17,7 @@ use cep_ground::{accept, too_long};
 use cep_refusal::Refusal;
 use cep_rule::Program;
 use cep_scratch::Scratch;
+use cep_words::{Options, Task};
 use std::alloc::{AllocError, Global};
 use std::sync::ledger::Ledger;
 
@@ -106,7 +105,6 @@ fn play_program<C: Console, L: Ledger>(
     console: &mut C,
     steps: &mut Steps<L>,
 ) -> Result<Status, ConsoleFault>
-    requires built { IsBuilt program.now }
     requires within { AreWithin options }
     ensures said { IfOk result (λ status. (word : EndWord) × (status ≡ status_of word) × Says C.talk C.left console.old console.new program.now (settings_of program.now options) (λ end. end ≡ word)) }
     ensures counted { steps.old ≤ steps.new }
@@ -172,26 +170,6 @@ fn play_file<C: Console, H: Shelf, L: Ledger>(
     }
 }
 
-/// A program in a file that is to be played, and the options of its run.
-#[derive(Clone, Copy)]
-struct Session<'a> {
-    file: &'a String,
-    options: Options,
-}
-
-/// What the words ask for, if they ask for something: `play`, a file, and options.
-fn session_of(words: &[String]) -> Option<Session<'_>>
-    ensures { MatchOption result (HaveNoForm (map string_bytes words.now)) (IsAskedBy (map string_bytes words.now)) }
-{
-    match words {
-        [play, file, options @ ..] if play.as_str() == "play" => {
-            let options = Options::of(options)?;
-            Some(Session { file, options })
-        }
-        _ => None,
-    }
-}
-
 /// Does what the words ask for.
 fn command<C: Console, H: Shelf, L: Ledger>(
     alloc: Global,
@@ -207,10 +185,9 @@ fn command<C: Console, H: Shelf, L: Ledger>(
     ensures files { H.files shelf.new ≡ H.files shelf.old }
     ensures counted { steps.old ≤ steps.new }
 {
-    match session_of(words) {
-        Some(session) => {
-            let file = session.file.as_str();
-            play_file(alloc, file, session.options, console, shelf, steps)
+    match Task::of(words) {
+        Some(Task::Play { file, options }) => {
+            play_file(alloc, file.as_str(), options, console, shelf, steps)
         }
         None => {
             console.put(USAGE)?;

@@ -1,24 +1,24 @@
-// A run: turn by turn the offers are written, a choice is read, and the step is done.
+// A run: turn by turn the offers are written, one of them is chosen, and the step is done.
 ghost use Rattle.std.specs.Prelude.{◌≡◌, ◌≤◌, IfOk, OnOk};
 ghost use Rattle.cep_base.specs.declared.limits.TheConstants.{MOST_TURNS};
 ghost use Rattle.cep_base.specs.Talk.{outs, Did, ConsoleCause};
-ghost use Rattle.cep_rule.specs.Program.{IsProgram};
 ghost use Rattle.cep_rule.specs.State.{IsState};
-ghost use Rattle.cep_ground.specs.Refusals.{IsBuilt};
 ghost use Rattle.cep_play.specs.Lines.{end_lines, header};
 ghost use Rattle.cep_play.specs.Turn.{position_of, IsPlayed, IsWholeRun};
-ghost use Rattle.cep_play.specs.Command.{Says, AreWithin, settings_of};
+ghost use Rattle.cep_words.specs.Words.{AreWithin};
+ghost use Rattle.cep_play.specs.Command.{Says, settings_of};
 
+use crate::deciding::Spent;
 use crate::ending::EndWord;
 use crate::laws::{one_dialogue, turns_are_counted, turns_are_steps};
 use crate::lines::{put_end, put_header};
-use crate::options::Options;
 use crate::settings::Settings;
 use crate::turn::{Ended, Turned, turn};
 use cep_base::{Console, ConsoleFault, Steps, Text};
 use cep_machine::Config;
 use cep_rule::{Matcher, Program};
 use cep_term::Bag;
+use cep_words::Options;
 use std::alloc::Global;
 use std::sync::ledger::Ledger;
 
@@ -32,8 +32,6 @@ fn all_turns<C: Console, M: Matcher, L: Ledger>(
     steps: &mut Steps<L>,
 ) -> Result<Ended<M>, ConsoleFault>
     requires played { IsPlayed M.is_of M.height_held program.now settings start }
-    requires kept { IsProgram program.now }
-    requires built { IsBuilt program.now }
     requires begins { start.turns ≡ 0 }
     requires limit { settings.limit ≤ MOST_TURNS }
     ensures said { IfOk result (λ end. Did C.talk C.left console.old console.new
@@ -43,9 +41,9 @@ fn all_turns<C: Console, M: Matcher, L: Ledger>(
     ensures cause { ConsoleCause (C.faults console.old) (C.faults console.new) result }
 {
     let mut config = start;
-    let mut taken = 0;
+    let mut spent = Spent::nothing(settings.seed);
     for _done in 0..settings.limit {
-        config = match turn(alloc, program, settings, config, console, &mut taken, steps)? {
+        config = match turn(alloc, program, settings, config, console, &mut spent, steps)? {
             Turned::Done(next) => next,
             Turned::Over(end) => return Ok(end),
         };
@@ -105,7 +103,6 @@ pub fn play<M: Matcher, C: Console, L: Ledger>(
     console: &mut C,
     steps: &mut Steps<L>,
 ) -> Result<EndWord, ConsoleFault>
-    requires built { IsBuilt program.now }
     requires within { AreWithin options }
     ensures said { IfOk result (λ word. Says C.talk C.left console.old console.new program.now (settings_of program.now options) (λ end. end ≡ word)) }
     ensures counted { steps.old ≤ steps.new }

@@ -4,15 +4,14 @@
 
 mod choice;
 mod command;
+mod deciding;
 mod dialogue;
 mod ending;
 mod laws;
 mod lines;
-mod options;
 mod proving;
 mod settings;
 mod turn;
-mod typed;
 
 pub use command::ceptre;
 pub use laws::one_dialogue;

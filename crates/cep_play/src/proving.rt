@@ -1,4 +1,4 @@
-// What proves the backward premises of a step, line by line.
+// The lines of a step, with what proves its backward premises.
 ghost use Rattle.std.specs.Prelude.{◌≡◌, ℕ, ◌≤◌, List, map, IfOk, OnOk};
 ghost use Rattle.std.specs.List.{AllByRecursion};
 ghost use Rattle.cep_term.specs.Tree.{atom_of, tree_of, IsGround};
@@ -9,9 +9,9 @@ ghost use Rattle.cep_rule.specs.Instances.{given};
 ghost use Rattle.cep_rule.specs.Derivations.{IsDerivable};
 ghost use Rattle.cep_rule.specs.Offers.{Applies};
 ghost use Rattle.cep_prove.specs.Answers.{IsGoal};
-ghost use Rattle.cep_play.specs.Turn.{AddsProof, ProvesOffer};
+ghost use Rattle.cep_play.specs.Turn.{AddsProof, ProvesOffer, TellsStep};
 
-use crate::lines::put_by;
+use crate::lines::{put_by, put_next, put_step};
 use cep_base::{Steps, Text};
 use cep_prove::answers;
 use cep_rule::laws::{derivations_have_shape, more_positions_known_are_no_worse, types_are_lawful};
@@ -21,9 +21,30 @@ use cep_term::{Atom, Binding, Term, copy_term};
 use std::alloc::{AllocError, Global};
 use std::sync::ledger::Ledger;
 
-/// The lines of derivations that prove the backward premises of an offer that applies, one for each
-/// in written order.
-pub fn put_proofs<L: Ledger>(
+/// The lines of a step by an offer that applies: its own, one for what proves each of its backward
+/// premises, in written order, and that of the stage that it leads to, where it leads to one.
+pub fn put_step_lines<L: Ledger>(
+    alloc: Global,
+    program: &Program,
+    offer: &Offer,
+    height: u32,
+    out: &mut Text,
+    steps: &mut Steps<L>,
+) -> Result<(), AllocError>
+    requires height { IsHeight height }
+    requires applies { (state : Multiset) × Applies program.now height state offer.now }
+    ensures ok { OnOk result (TellsStep program.now height offer.now out.old out.new) }
+    ensures counted { steps.old ≤ steps.new }
+{
+    put_step(out, program, offer)?;
+    put_proofs(alloc, program, offer, height, out, steps)?;
+    let rule = program.parts().rules.get(offer.rule as usize);
+    put_next(out, program, rule.next)
+}
+
+// The lines of derivations that prove the backward premises of an offer that applies, one for each
+// in written order.
+fn put_proofs<L: Ledger>(
     alloc: Global,
     program: &Program,
     offer: &Offer,

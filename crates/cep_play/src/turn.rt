@@ -1,22 +1,17 @@
-// One turn of a run: the offers are written, a choice is read, and the step is done.
-ghost use Rattle.std.specs.Prelude.{◌≡◌, ◌⊎◌, ◌<◌, ◌≤◌, length, IfOk, All};
-ghost use Rattle.cep_base.specs.declared.limits.TheConstants.{MOST_OFFERS, MOST_TURNS};
-ghost use Rattle.cep_base.specs.Talk.{Did, ConsoleCause};
+// One turn of a run: the offers are written, one of them is chosen, and the step is done.
+ghost use Rattle.std.specs.Prelude.{◌≡◌, ◌+◌, ◌<◌, ◌≤◌, length, IfOk};
+ghost use Rattle.cep_base.specs.declared.limits.TheConstants.{MOST_TURNS};
+ghost use Rattle.cep_base.specs.Talk.{ConsoleCause};
 ghost use Rattle.cep_rule.specs.Matching.{offers_of};
-ghost use Rattle.cep_rule.specs.Program.{IsProgram};
-ghost use Rattle.cep_rule.specs.Shapes.{IsOfferOf};
-ghost use Rattle.cep_ground.specs.Refusals.{IsBuilt};
 ghost use Rattle.cep_machine.specs.Asking.{asked_offers};
 ghost use Rattle.cep_play.specs.declared.turn.Turned.TheVariants.{Over};
-ghost use Rattle.cep_play.specs.Choice.{IsChoiceWithin};
-ghost use Rattle.cep_play.specs.Turn.{AsksPlayer, IsPlayed, IsActed, IsTurned, config_left, limit_word};
+ghost use Rattle.cep_play.specs.Turn.{HasSpent, IsPlayed, IsActed, IsTurned, config_left, limit_word};
 
-use crate::choice::{Choice, choose};
+use crate::choice::Choice;
+use crate::deciding::{Spent, decide};
 use crate::ending::EndWord;
-use crate::lines::{put_question, put_step};
-use crate::proving::put_proofs;
+use crate::proving::put_step_lines;
 use crate::settings::Settings;
-use cep_base::limits::MOST_TYPED;
 use cep_base::{Console, ConsoleFault, Steps, Text};
 use cep_machine::{Config, Stepped, Which};
 use cep_rule::{Matcher, Program};
@@ -46,34 +41,9 @@ fn over<M: Matcher>(config: Config<M>, word: EndWord) -> Turned<M>
     Turned::Over(Ended { config, word })
 }
 
-/// Writes the offers of a group, and reads until one of them is chosen.
-fn ask<C: Console, M: Matcher>(
-    alloc: Global,
-    program: &Program,
-    matcher: &M,
-    group: u32,
-    console: &mut C,
-    taken: &mut u64,
-) -> Result<Choice, ConsoleFault>
-    requires listed { group < length (M.offers_held matcher.now) }
-    requires offers { All (IsOfferOf program.now) (offers_of (M.offers_held matcher.now) group) }
-    requires few { length (offers_of (M.offers_held matcher.now) group) ≤ MOST_OFFERS }
-    requires within { taken.old ≤ MOST_TYPED }
-    ensures heard { IfOk result (λ choice. Did C.talk C.left console.old console.new (λ come events rest.
-        AsksPlayer program.now (offers_of (M.offers_held matcher.now) group) come taken.old events choice rest taken.new)) }
-    ensures place { IfOk result (λ choice. IsChoiceWithin (length (offers_of (M.offers_held matcher.now) group)) choice) }
-    ensures within { taken.new ≤ MOST_TYPED }
-    ensures cause { ConsoleCause (C.faults console.old) (C.faults console.new) result }
-{
-    let mut question = Text::new(alloc);
-    put_question(&mut question, program, matcher, group)?;
-    console.put(question.bytes())?;
-    choose(console, matcher.count(group) as u32, taken)
-}
-
 /// Does the step by the offer at a place, counted from 1, and writes it with what proves its backward
-/// premises; or says which limit it would pass. The lines are made before the step, since the
-/// matcher that has the offer goes with it.
+/// premises and the stage that it leads to; or says which limit it would pass. The lines are made
+/// before the step, since the matcher that has the offer goes with it.
 fn act<C: Console, M: Matcher, L: Ledger>(
     alloc: Global,
     program: &Program,
@@ -85,7 +55,6 @@ fn act<C: Console, M: Matcher, L: Ledger>(
     steps: &mut Steps<L>,
 ) -> Result<Turned<M>, ConsoleFault>
     requires played { IsPlayed M.is_of M.height_held program.now settings config }
-    requires built { IsBuilt program.now }
     requires listed { group < length (M.offers_held config.matcher) }
     requires asked { offers_of (M.offers_held config.matcher) group ≡ asked_offers (M.offers_held config.matcher) config.stage }
     requires some { 0 < place }
@@ -99,8 +68,7 @@ fn act<C: Console, M: Matcher, L: Ledger>(
     let i = place as usize - 1;
     let mut lines = Text::new(alloc);
     let offer = config.matcher().offer(group, i);
-    put_step(&mut lines, program, offer)?;
-    put_proofs(alloc, program, offer, settings.height, &mut lines, steps)?;
+    put_step_lines(alloc, program, offer, settings.height, &mut lines, steps)?;
     match config.step(alloc, program, i, steps)? {
         Stepped::Done(config) => {
             console.put(lines.bytes())?;
@@ -127,18 +95,16 @@ pub fn turn<C: Console, M: Matcher, L: Ledger>(
     settings: Settings,
     config: Config<M>,
     console: &mut C,
-    taken: &mut u64,
+    spent: &mut Spent,
     steps: &mut Steps<L>,
 ) -> Result<Turned<M>, ConsoleFault>
     requires played { IsPlayed M.is_of M.height_held program.now settings config }
-    requires kept { IsProgram program.now }
-    requires built { IsBuilt program.now }
     requires limit { settings.limit ≤ MOST_TURNS }
     requires remain { config.turns < settings.limit }
-    requires within { taken.old ≤ MOST_TYPED }
-    ensures turned { IfOk result (IsTurned C.talk C.left console.old console.new program.now settings config taken.old taken.new) }
+    requires spent { HasSpent settings.seed config.turns spent.old }
+    ensures turned { IfOk result (IsTurned C.talk C.left console.old console.new program.now settings config spent.old spent.new) }
     ensures played { IfOk result (λ turned. IsPlayed M.is_of M.height_held program.now settings (config_left turned)) }
-    ensures within { taken.new ≤ MOST_TYPED }
+    ensures spent { IfOk result (λ _. HasSpent settings.seed (config.turns + 1) spent.new) }
     ensures counted { steps.old ≤ steps.new }
     ensures cause { ConsoleCause (C.faults console.old) (C.faults console.new) result }
 {
@@ -148,7 +114,7 @@ pub fn turn<C: Console, M: Matcher, L: Ledger>(
     if !config.matcher().len_ok(group) {
         return Ok(over(config, EndWord::Offers));
     }
-    match ask(alloc, program, config.matcher(), group, console, taken)? {
+    match decide(alloc, program, settings.seed, &config, group, console, spent)? {
         Choice::Place(place) => act(
             alloc, program, settings, config, group, place, console, steps,
         ),
