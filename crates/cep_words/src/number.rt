@@ -9,8 +9,13 @@ pub(crate) fn number_of(digits: &[u8]) -> Option<u64>
     if !begins_as_decimal(digits) {
         return None;
     }
-    let text = str::from_utf8(digits).ok()?;
-    text.parse().ok()
+    match str::from_utf8(digits) {
+        Ok(text) => match text.parse() {
+            Ok(number) => Some(number),
+            Err(_) => None,
+        },
+        Err(_) => None,
+    }
 }
 
 // The number that is spelled so, if it is from 1 to the most.

@@ -1,0 +1,10 @@
+use Rattle.std.proofs.Common.{◌≡◌, sym, ◌∙◌, subst}
+use Rattle.rand_pcg.specs.Pcg.{pcg32}
+use Rattle.cep_choice.specs.Draws.{generator_behind}
+use Rattle.cep_choice.proofs.Drawing.{draws}
+use Rattle.cep_choice.proofs.draw.Draw.place.Goals as goal
+
+pub returns-clause-drawn : goal.returns-clause-drawn
+returns-clause-drawn c = λ several seed drawn is.
+    let both = draws seed drawn c.next_word.result c.args.n c.self.inside.generator c.next_word.new.self (c.self.view_is ∙ is) c.next_word.ensures in
+    (c.place_by.ensures.place ∙ both.0, both.1)
