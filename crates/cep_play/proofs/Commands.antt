@@ -18,8 +18,8 @@ use Rattle.cep_ground.specs.Refusals.{IsBuilt, IsWrong, IsAccepted}
 use Rattle.std.specs.Prelude.{Result, Ok, Err}
 use Rattle.cep_play.specs.declared.command.Status.{Status}
 use Rattle.cep_play.specs.declared.command.Status.TheVariants.{Ended, Usage, Refused, Limited, Console, Unread, Memory}
-use Rattle.cep_play.specs.declared.ending.EndWord.{EndWord}
-use Rattle.cep_play.specs.declared.ending.EndWord.TheVariants.{Quiet, Input, Turns, Offers, Typed, Atom, State}
+use Rattle.cep_log.specs.declared.end_word.EndWord.{EndWord}
+use Rattle.cep_log.specs.declared.end_word.EndWord.TheVariants.{Quiet, Input, Turns, Offers, Typed, Atom, State}
 use Rattle.cep_play.specs.declared.options.Options.{Options}
 use Rattle.cep_play.specs.declared.settings.Settings.{Settings}
 use Rattle.cep_play.specs.Deciding.{Supply}

@@ -1,8 +1,5 @@
-pub mod Adding
 pub mod Hearing
-pub mod LineLemmas
 pub mod OneReading
-pub mod States
 pub mod Turns
 pub mod Backs
 pub mod Runs

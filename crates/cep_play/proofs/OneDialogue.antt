@@ -9,7 +9,7 @@ use Rattle.cep_rule.specs.Instances.{full_instances}
 use Rattle.cep_rule.specs.Steps.{AreProofs}
 use Rattle.cep_play.specs.declared.settings.Settings.{Settings}
 use Rattle.cep_play.specs.Deciding.{Supply}
-use Rattle.cep_play.specs.Lines.{header}
+use Rattle.cep_log.specs.Lines.{header}
 use Rattle.cep_play.specs.Run.{Position, start_of, whole_supply, Turn, Ending, IsTurn, AreTurns, Run, unproved}
 use Rattle.cep_play.specs.Dialogue.{events_of, Dialogue}
 use Rattle.cep_play.proofs.Turns.{all_at}

@@ -7,11 +7,11 @@ use Rattle.cep_base.specs.declared.console.Event.{Event}
 use Rattle.cep_base.specs.Talk.{outs}
 use Rattle.cep_rule.specs.declared.parts.Parts.{Parts}
 use Rattle.cep_rule.specs.Stages.{IsAsked, IsQuiet}
-use Rattle.cep_play.specs.declared.ending.EndWord.{EndWord}
-use Rattle.cep_play.specs.declared.ending.EndWord.TheVariants.{Quiet, Turns}
+use Rattle.cep_log.specs.declared.end_word.EndWord.{EndWord}
+use Rattle.cep_log.specs.declared.end_word.EndWord.TheVariants.{Quiet, Turns}
 use Rattle.cep_play.specs.declared.settings.Settings.{Settings}
 use Rattle.cep_play.specs.Deciding.{Supply}
-use Rattle.cep_play.specs.Lines.{end_lines, header}
+use Rattle.cep_log.specs.Lines.{end_lines, header}
 use Rattle.cep_play.specs.Run.{Position, start_of, whole_supply, Turn, Ending, IsTurn, AreTurns, EndsAt}
 use Rattle.cep_play.specs.Dialogue.{turn_events, last_events, Dialogue}
 use Rattle.cep_play.specs.declared.deciding.Spent.{Spent}

@@ -29,14 +29,14 @@ use Rattle.cep_machine.specs.Passing.{IsTooLarge, IsFirstTooLarge, IsTooFull}
 use Rattle.cep_machine.specs.Stepping.{IsAskedAt, IsNext, Passes}
 use Rattle.cep_play.specs.declared.choice.Choice.{Choice}
 use Rattle.cep_play.specs.declared.choice.Choice.TheVariants.{Place, NoMore, NoRoom}
-use Rattle.cep_play.specs.declared.ending.EndWord.{EndWord}
-use Rattle.cep_play.specs.declared.ending.EndWord.TheVariants.{Quiet, Offers, Input, Typed}
+use Rattle.cep_log.specs.declared.end_word.EndWord.{EndWord}
+use Rattle.cep_log.specs.declared.end_word.EndWord.TheVariants.{Quiet, Offers, Input, Typed}
 use Rattle.cep_play.specs.declared.settings.Settings.{Settings}
 use Rattle.cep_play.specs.declared.turn.Turned.{Turned}
 use Rattle.cep_play.specs.declared.turn.Turned.TheVariants.{Done, Over}
 use Rattle.cep_play.specs.declared.deciding.Spent.{Spent}
 use Rattle.cep_play.specs.Deciding.{How}
-use Rattle.cep_play.specs.Lines.{step_lines}
+use Rattle.cep_log.specs.Lines.{step_lines}
 use Rattle.cep_play.specs.Run.{Position, Question, IsQuestion, IsChosen, PassesLimit, LeadsNowhere}
 use Rattle.cep_play.specs.Dialogue.{asked_events}
 use Rattle.cep_play.specs.Turn.{position_of, supply_with, IsPlayed, Settles, IsPlaced, TellsStep, Acts, WouldPass, limit_word, IsActed, DoesTurn, Stops, IsTurned}

@@ -13,12 +13,12 @@ use Rattle.cep_refusal.specs.declared.refusal.Refusal.{Refusal}
 use Rattle.cep_ground.specs.Texts.{Spells}
 use Rattle.cep_refusal.specs.Told.{Tells}
 use Rattle.cep_ground.specs.Refusals.{IsRefusedFor}
-use Rattle.cep_play.specs.declared.ending.EndWord.{EndWord}
-use Rattle.cep_play.specs.declared.ending.EndWord.TheVariants.{Quiet, Input, Turns, Offers, Typed, Atom, State}
+use Rattle.cep_log.specs.declared.end_word.EndWord.{EndWord}
+use Rattle.cep_log.specs.declared.end_word.EndWord.TheVariants.{Quiet, Input, Turns, Offers, Typed, Atom, State}
 use Rattle.cep_words.specs.declared.options.Options.{Options}
 use Rattle.cep_words.specs.Words.{Request, Play, AskFor, HaveNoForm}
 use Rattle.cep_play.specs.declared.settings.Settings.{Settings}
-use Rattle.cep_play.specs.Lines.{line}
+use Rattle.cep_log.specs.Lines.{line}
 use Rattle.cep_play.specs.Run.{Turn, Ending, AreMachineSteps, unproved}
 use Rattle.cep_play.specs.Dialogue.{Dialogue}
 

@@ -8,7 +8,7 @@ use Rattle.cep_rule.specs.declared.offer.Offer.{Offer}
 use Rattle.cep_play.specs.declared.settings.Settings.{Settings}
 use Rattle.cep_play.specs.Deciding.{Supply, How, Heard, Lone, Drawn}
 use Rattle.cep_play.specs.Run.{start_of, whole_supply, Question, Turn, Ending, Run}
-use Rattle.cep_play.specs.Lines.{offer_lines, question, step_lines, end_lines, header}
+use Rattle.cep_log.specs.Lines.{offer_lines, question, step_lines, end_lines, header}
 
 -- the events of a question: its offers, and where the player decides the line that asks for a choice, and what was heard
 abbrev pub asked_events : Parts → List Offer → How → List Event

@@ -1,5 +1,4 @@
 pub mod Choice
-pub mod Lines
 pub mod Deciding
 pub mod Run
 pub mod Dialogue

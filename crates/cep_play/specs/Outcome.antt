@@ -8,10 +8,10 @@ use Rattle.cep_base.specs.Files.{Files}
 use Rattle.cep_base.specs.Faults.{Rose}
 use Rattle.cep_play.specs.declared.command.Status.{Status}
 use Rattle.cep_play.specs.declared.command.Status.TheVariants.{Ended, Usage, Refused, Limited, Console, Unread, Memory}
-use Rattle.cep_play.specs.declared.ending.EndWord.{EndWord}
+use Rattle.cep_log.specs.declared.end_word.EndWord.{EndWord}
 use Rattle.cep_words.specs.declared.options.Options.{Options}
 use Rattle.cep_words.specs.Words.{HaveNoForm}
-use Rattle.cep_play.specs.declared.ending.EndWord.TheVariants.{Quiet, Input, Turns, Offers, Typed, Atom, State}
+use Rattle.cep_log.specs.declared.end_word.EndWord.TheVariants.{Quiet, Input, Turns, Offers, Typed, Atom, State}
 use Rattle.cep_play.specs.Command.{OfPlay, OfNames, OfFile, Adds, Writes, Plays, Refuses, IsFinished, IsLimited, usage, no_program}
 
 -- the status of a run that ended with this word

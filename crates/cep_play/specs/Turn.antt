@@ -17,15 +17,15 @@ use Rattle.cep_machine.specs.declared.stepped.Which.{Which}
 use Rattle.cep_machine.specs.declared.stepped.Which.TheVariants as which
 use Rattle.cep_machine.specs.Configuration.{Configuration, spot_of, IsConfigurationOf}
 use Rattle.cep_play.specs.declared.choice.Choice.{Choice}
-use Rattle.cep_play.specs.declared.ending.EndWord.{EndWord}
-use Rattle.cep_play.specs.declared.ending.EndWord.TheVariants.{Atom, State}
+use Rattle.cep_log.specs.declared.end_word.EndWord.{EndWord}
+use Rattle.cep_log.specs.declared.end_word.EndWord.TheVariants.{Atom, State}
 use Rattle.cep_play.specs.declared.settings.Settings.{Settings}
 use Rattle.cep_play.specs.declared.turn.Turned.{Turned}
 use Rattle.cep_play.specs.declared.turn.Turned.TheVariants.{Done, Over}
 use Rattle.cep_play.specs.Choice.{Hears}
 use Rattle.cep_play.specs.declared.deciding.Spent.{Spent}
 use Rattle.cep_play.specs.Deciding.{Supply, How, Decides}
-use Rattle.cep_play.specs.Lines.{question, step_lines, by_line, by_lines}
+use Rattle.cep_log.specs.Lines.{question, step_lines, by_line, by_lines}
 use Rattle.cep_play.specs.Run.{Position, Question, Turn, IsTurn, AreTurns, PassesLimit, EndsAt, whole_supply}
 use Rattle.cep_play.specs.Dialogue.{asked_events, turn_events, last_events}
 

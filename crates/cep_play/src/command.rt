@@ -3,17 +3,17 @@ ghost use Rattle.std.specs.Prelude.{◌≡◌, ◌≢◌, ◌⊎◌, ◌<◌, �
 ghost use Rattle.cep_base.specs.Talk.{Did, ConsoleCause};
 ghost use Rattle.cep_base.specs.Faults.{Rose};
 ghost use Rattle.std.specs.Prelude.{OnOk, ◌++◌};
-ghost use Rattle.cep_play.specs.Lines.{line};
+ghost use Rattle.cep_log.specs.Lines.{line};
 ghost use Rattle.cep_words.specs.Words.{HaveNoForm, AreWithin};
 ghost use Rattle.cep_play.specs.Command.{OfPlay, OfNames, OfFile, settings_of, Adds, Plays, Refuses, Says, Writes, IsFinished, IsLimited, usage, no_program, refusal_text};
 ghost use Rattle.cep_play.specs.Outcome.{OfText, OfRun, OfWords, CountsFaults, AsksFile, AskedAsSaid, code_of, status_of};
 
 use crate::dialogue::play;
-use crate::ending::EndWord;
 use cep_base::limits::MOST_TEXT;
 use cep_base::{Console, ConsoleFault, Shelf, ShelfFault, Steps, Text};
 use cep_ground::laws::{no_program_is_refused, one_program};
 use cep_ground::{accept, too_long};
+use cep_log::EndWord;
 use cep_refusal::Refusal;
 use cep_rule::Program;
 use cep_scratch::Scratch;

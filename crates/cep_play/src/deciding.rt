@@ -5,15 +5,15 @@ ghost use Rattle.cep_base.specs.Talk.{outs, Did, ConsoleCause};
 ghost use Rattle.cep_rule.specs.Matching.{offers_of};
 ghost use Rattle.cep_rule.specs.Shapes.{IsOfferOf};
 ghost use Rattle.cep_choice.specs.Draws.{generator_behind, place_drawn};
-ghost use Rattle.cep_play.specs.Lines.{offer_lines};
+ghost use Rattle.cep_log.specs.Lines.{offer_lines};
 ghost use Rattle.cep_play.specs.Choice.{IsChoiceWithin};
 ghost use Rattle.cep_play.specs.Deciding.{IsPlayers};
 ghost use Rattle.cep_play.specs.Turn.{AsksPlayer, HasSpent, Settles};
 
 use crate::choice::{Choice, choose};
-use crate::lines::{put_offers, put_question};
 use cep_base::{Console, ConsoleFault, Text};
 use cep_choice::Draw;
+use cep_log::{put_offers, put_question};
 use cep_machine::Config;
 use cep_rule::{Matcher, Program};
 use std::alloc::Global;
@@ -93,7 +93,7 @@ fn ask<C: Console, M: Matcher>(
     ensures cause { ConsoleCause (C.faults console.old) (C.faults console.new) result }
 {
     let mut question = Text::new(alloc);
-    put_question(&mut question, program, matcher, group)?;
+    put_question(program, matcher, group, &mut question)?;
     console.put(question.bytes())?;
     choose(console, matcher.count(group) as u32, taken)
 }
@@ -108,12 +108,13 @@ fn tell<C: Console, M: Matcher>(
 ) -> Result<(), ConsoleFault>
     requires listed { group < length (M.offers_held matcher.now) }
     requires offers { All (IsOfferOf program.now) (offers_of (M.offers_held matcher.now) group) }
+    requires few { length (offers_of (M.offers_held matcher.now) group) ≤ MOST_OFFERS }
     ensures told { OnOk result (Did C.talk C.left console.old console.new (λ come events rest.
         (events ≡ outs (offer_lines program.now 1 (offers_of (M.offers_held matcher.now) group))) × (rest ≡ come))) }
     ensures cause { ConsoleCause (C.faults console.old) (C.faults console.new) result }
 {
     let mut lines = Text::new(alloc);
-    put_offers(&mut lines, program, matcher, group)?;
+    put_offers(program, matcher, group, &mut lines)?;
     console.put(lines.bytes())
 }
 

@@ -3,18 +3,17 @@ ghost use Rattle.std.specs.Prelude.{◌≡◌, ◌≤◌, IfOk, OnOk};
 ghost use Rattle.cep_base.specs.declared.limits.TheConstants.{MOST_TURNS};
 ghost use Rattle.cep_base.specs.Talk.{outs, Did, ConsoleCause};
 ghost use Rattle.cep_rule.specs.State.{IsState};
-ghost use Rattle.cep_play.specs.Lines.{end_lines, header};
+ghost use Rattle.cep_log.specs.Lines.{end_lines, header};
 ghost use Rattle.cep_play.specs.Turn.{position_of, IsPlayed, IsWholeRun};
 ghost use Rattle.cep_words.specs.Words.{AreWithin};
 ghost use Rattle.cep_play.specs.Command.{Says, settings_of};
 
 use crate::deciding::Spent;
-use crate::ending::EndWord;
 use crate::laws::{one_dialogue, turns_are_counted, turns_are_steps};
-use crate::lines::{put_end, put_header};
 use crate::settings::Settings;
 use crate::turn::{Ended, Turned, turn};
 use cep_base::{Console, ConsoleFault, Steps, Text};
+use cep_log::{EndWord, put_end, put_start};
 use cep_machine::Config;
 use cep_rule::{Matcher, Program};
 use cep_term::Bag;
@@ -72,7 +71,7 @@ fn begin<C: Console>(
     ensures cause { ConsoleCause (C.faults console.old) (C.faults console.new) result }
 {
     let mut lines = Text::new(alloc);
-    put_header(&mut lines, program, height)?;
+    put_start(program, height, &mut lines)?;
     console.put(lines.bytes())
 }
 
@@ -90,7 +89,7 @@ fn finish<C: Console>(
     ensures cause { ConsoleCause (C.faults console.old) (C.faults console.new) result }
 {
     let mut lines = Text::new(alloc);
-    put_end(&mut lines, program, word, state)?;
+    put_end(program, word, state, &mut lines)?;
     console.put(lines.bytes())
 }
 

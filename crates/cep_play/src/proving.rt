@@ -11,8 +11,8 @@ ghost use Rattle.cep_rule.specs.Offers.{Applies};
 ghost use Rattle.cep_prove.specs.Answers.{IsGoal};
 ghost use Rattle.cep_play.specs.Turn.{AddsProof, ProvesOffer, TellsStep};
 
-use crate::lines::{put_by, put_next, put_step};
 use cep_base::{Steps, Text};
+use cep_log::{put_by, put_next, put_step};
 use cep_prove::answers;
 use cep_rule::laws::{derivations_have_shape, more_positions_known_are_no_worse, types_are_lawful};
 use cep_rule::{Offer, Program};
@@ -36,10 +36,10 @@ pub fn put_step_lines<L: Ledger>(
     ensures ok { OnOk result (TellsStep program.now height offer.now out.old out.new) }
     ensures counted { steps.old ≤ steps.new }
 {
-    put_step(out, program, offer)?;
+    put_step(program, offer, out)?;
     put_proofs(alloc, program, offer, height, out, steps)?;
     let rule = program.parts().rules.get(offer.rule as usize);
-    put_next(out, program, rule.next)
+    put_next(program, rule.next, out)
 }
 
 // The lines of derivations that prove the backward premises of an offer that applies, one for each
@@ -88,7 +88,7 @@ fn put_proof_of<L: Ledger>(
     instances_of_instances();
     derivations_have_shape();
     let list = answers(alloc, program, goal, known, height, steps)?;
-    put_by(out, program, &list.get(0).proof)
+    put_by(program, &list.get(0).proof, out)
 }
 
 // The variables with these values.

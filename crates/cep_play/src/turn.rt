@@ -9,10 +9,10 @@ ghost use Rattle.cep_play.specs.Turn.{HasSpent, IsPlayed, IsActed, IsTurned, con
 
 use crate::choice::Choice;
 use crate::deciding::{Spent, decide};
-use crate::ending::EndWord;
 use crate::proving::put_step_lines;
 use crate::settings::Settings;
 use cep_base::{Console, ConsoleFault, Steps, Text};
+use cep_log::EndWord;
 use cep_machine::{Config, Stepped, Which};
 use cep_rule::{Matcher, Program};
 use std::alloc::Global;

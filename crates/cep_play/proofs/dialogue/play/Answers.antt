@@ -1,7 +1,7 @@
 use Rattle.std.proofs.Common.{◌≡◌, true, sym, subst}
 use Rattle.std.specs.Prelude.{slice_get, IsSomeAnd}
 use Rattle.cep_base.specs.Talk.{outs, Did}
-use Rattle.cep_play.specs.Lines.{end_lines}
+use Rattle.cep_log.specs.Lines.{end_lines}
 use Rattle.cep_play.specs.Run.{start_of}
 use Rattle.cep_play.specs.Turn.{position_of}
 use Rattle.cep_play.specs.Command.{settings_of}

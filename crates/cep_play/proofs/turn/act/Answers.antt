@@ -5,7 +5,7 @@ use Rattle.cep_rule.specs.Matching.{offers_of}
 use Rattle.cep_machine.specs.Configuration.{IsConfigurationOf}
 use Rattle.cep_machine.specs.Stepping.{IsStepped, config_after}
 use Rattle.cep_play.specs.declared.turn.Turned.TheVariants.{Over}
-use Rattle.cep_play.specs.Lines.{step_line}
+use Rattle.cep_log.specs.Lines.{step_line}
 use Rattle.cep_play.specs.Turn.{ProvesOffer, IsActed, IsPlayed, config_left}
 use Rattle.cep_base.proofs.Did.{did_same, did_put, did_map}
 use Rattle.cep_play.proofs.Turns.{offer_has_text, offer_applies, step_acts, step_fails, one_turn_more, same_stage, left_alone}

@@ -1,7 +1,7 @@
 use Rattle.std.proofs.lemmas.Result.{IfOk-weaker}
 use Rattle.std.proofs.Common.{◌++◌, ap, ◌∙◌}
 use Rattle.cep_rule.specs.Matching.{offers_of}
-use Rattle.cep_play.specs.Lines.{question}
+use Rattle.cep_log.specs.Lines.{question}
 use Rattle.cep_base.proofs.Did.{did_put, did_then}
 use Rattle.cep_play.proofs.Turns.{asks_after}
 use Rattle.cep_play.proofs.turn.ask.Goals as goal

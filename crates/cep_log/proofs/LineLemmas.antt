@@ -5,9 +5,8 @@ use Rattle.std.specs.List.{flat_map}
 use Rattle.std.proofs.lemmas.List.{drop_all}
 use Rattle.std.proofs.lemmas.List.Concat.{flat_map-cons}
 use Rattle.cep_rule.specs.declared.parts.Parts.{Parts}
-use Rattle.cep_rule.specs.declared.offer.Offer.{Offer}
-use Rattle.cep_play.specs.Lines.{line, offer_line, offer_lines, stage_line, listing, header}
-use Rattle.cep_play.proofs.Adding.{IsAdding, adding_none, adding_next}
+use Rattle.cep_log.specs.Lines.{stage_line, listing, header}
+use Rattle.cep_log.proofs.Adding.{IsAdding, adding_none, adding_next}
 
 none_some : {A B : Type 0} (x : A) → ◌≡◌ {A = Option A} None (Some x) → B
 none_some x e = cc
@@ -18,7 +17,7 @@ drop_at-suc [] k x is = none_some x is
 drop_at-suc (y ∷ xs) zero x is = let same : Some y ≡ Some x = is in cc
 drop_at-suc (y ∷ xs) (suc k) x is = drop_at-suc xs k x is
 
-drop_at : {A : Type 0} (xs : List A) (k : ℕ) (x : A) → slice_get xs k ≡ Some x → drop k xs ≡ x ∷ drop (k + 1) xs
+pub drop_at : {A : Type 0} (xs : List A) (k : ℕ) (x : A) → slice_get xs k ≡ Some x → drop k xs ≡ x ∷ drop (k + 1) xs
 drop_at xs k x is = drop_at-suc xs k x is ∙ ap (λ n. x ∷ drop n xs) (sym (add-one k))
 
 -- The lines of the items that are left begin with that of the first.
@@ -28,21 +27,6 @@ lines_left f xs k x at = ap (flat_map f) (drop_at xs k x at) ∙ flat_map-cons f
 -- None is left.
 pub no_lines_left : {A : Type 0} (f : A → List ℕ) (xs : List A) (k : ℕ) → length xs ≤ k → flat_map f (drop k xs) ≡ []
 no_lines_left f xs k h = ap (flat_map f) (drop_all k xs h)
-
--- what is left of the offers: those from a place on
-abbrev pub offers_from : Parts → List Offer → ℕ → List ℕ
-offers_from program offers k = offer_lines program (k + 1) (drop k offers)
-
-pub whole_offers : (program : Parts) (offers : List Offer) → offers_from program offers 0 ≡ offer_lines program 1 offers
-whole_offers program offers = refl
-
-pub offers_left : (program : Parts) (offers : List Offer) (k : ℕ) (offer : Offer) → slice_get offers k ≡ Some offer → offers_from program offers k ≡ offer_line program (k + 1) offer ++ offers_from program offers (k + 1)
-unfolding offer_lines
-offers_left program offers k offer at = ap (offer_lines program (k + 1)) (drop_at offers k offer at)
-
-pub no_offers_left : (program : Parts) (offers : List Offer) (k : ℕ) → length offers ≤ k → offers_from program offers k ≡ []
-unfolding offer_lines
-no_offers_left program offers k h = ap (offer_lines program (k + 1)) (drop_all k offers h)
 
 -- The pieces of the header.
 module _ (program : Parts) (height : ℕ) where

@@ -11,8 +11,8 @@ use Rattle.cep_rule.specs.declared.parts.Parts.{Parts}
 use Rattle.cep_rule.specs.declared.offer.Offer.{Offer}
 use Rattle.cep_rule.specs.Derivations.{ProofTree}
 use Rattle.cep_text.specs.Texts.{atom_text, offer_text, proof_text}
-use Rattle.cep_play.specs.declared.ending.EndWord.{EndWord}
-use Rattle.cep_play.specs.declared.ending.EndWord.TheVariants.{Quiet, Input, Turns, Offers, Typed, Atom, State}
+use Rattle.cep_log.specs.declared.end_word.EndWord.{EndWord}
+use Rattle.cep_log.specs.declared.end_word.EndWord.TheVariants.{Quiet, Input, Turns, Offers, Typed, Atom, State}
 
 -- a text and the LF that ends its line
 abbrev pub line : List ℕ → List ℕ

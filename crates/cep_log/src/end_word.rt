@@ -1,5 +1,5 @@
 ghost use Rattle.std.specs.Prelude.{◌≡◌};
-ghost use Rattle.cep_play.specs.Lines.{ending_word};
+ghost use Rattle.cep_log.specs.Lines.{ending_word};
 
 /// Why a run ended.
 #[derive(Clone, Copy, Debug, PartialEq, Eq)]
@@ -21,6 +21,17 @@ pub enum EndWord {
 }
 
 impl EndWord {
+    /// All words.
+    pub(crate) const ALL: [EndWord; 7] = [
+        EndWord::Quiet,
+        EndWord::Input,
+        EndWord::Turns,
+        EndWord::Offers,
+        EndWord::Typed,
+        EndWord::Atom,
+        EndWord::State,
+    ];
+
     /// The word as a transcript writes it.
     pub fn text(self) -> &'static [u8]
         ensures { result.now ≡ ending_word self }

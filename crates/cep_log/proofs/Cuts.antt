@@ -1,0 +1,165 @@
+-- The lines of bytes: those that the library cuts are the lines, and there are no others.
+use Rattle.std.proofs.Common.{◌≡◌, ◌≢◌, ◌⊎◌, inl, inr, ℕ, zero, suc, ◌+◌, ◌-◌, ◌<◌, ◌≤◌, ◌==◌, ◌&&◌, cond, List, [], ◌∷◌, ◌++◌, length, take, drop, map, slice_index, Bool, true, false, refl, sym, ap, ◌∙◌, subst, arith, length-append, append_assoc, take-append-drop}
+use Rattle.std.specs.Prelude.{nat_lt}
+use Rattle.std.proofs.Math.Seq.{take-append_seam, drop-append_seam, take-append-add, drop-append-add}
+use Rattle.std.proofs.lemmas.List.{same_from_push, append-nil, take_all, drop_all, get_or_append_left, length-map}
+use Rattle.std.proofs.lemmas.Bool.{cond-true, cond-false, eq-eqb, ne_eqb, eqb-true, cases_eq, le-leb}
+use Rattle.bstr.specs.Text.{line_len, lines_from, lines_of, no_cr, without_terminator}
+use Rattle.cep_base.specs.Spelling.{IsUnbroken}
+use Rattle.cep_log.specs.Transcript.{IsBefore, AreLines}
+use Rattle.cep_log.proofs.Parted.{HasNone, Stops, one_parting, parting, has_last}
+
+-- how long the first line is
+len_ended : (text rest : List ℕ) → HasNone 10 text → line_len (text ++ 10 ∷ rest) ≡ suc (length text)
+unfolding line_len
+len_ended [] rest none = refl
+len_ended (byte ∷ text) rest none = cond-false _ _ _ (ne_eqb byte 10 none.0) ∙ ap suc (len_ended text rest none.1)
+
+len_last : (text : List ℕ) → HasNone 10 text → line_len text ≡ length text
+unfolding line_len
+len_last [] none = refl
+len_last (byte ∷ text) none = cond-false _ _ _ (ne_eqb byte 10 none.0) ∙ ap suc (len_last text none.1)
+
+take_line : (text rest : List ℕ) → take (suc (length text)) (text ++ 10 ∷ rest) ≡ text ++ 10 ∷ []
+take_line [] rest = refl
+take_line (byte ∷ text) rest = ap (λ bytes. byte ∷ bytes) (take_line text rest)
+
+drop_line : (text rest : List ℕ) → drop (suc (length text)) (text ++ 10 ∷ rest) ≡ rest
+drop_line [] rest = refl
+drop_line (byte ∷ text) rest = drop_line text rest
+
+-- the end of bytes
+length_pushed : (front : List ℕ) (last : ℕ) → length (front ++ last ∷ []) ≡ suc (length front)
+length_pushed [] last = refl
+length_pushed (byte ∷ front) last = ap suc (length_pushed front last)
+
+last_pushed : (front : List ℕ) (last : ℕ) → slice_index (front ++ last ∷ []) (length (front ++ last ∷ []) - 1) ≡ last
+last_pushed front last = ap (λ n. slice_index (front ++ last ∷ []) (n - 1)) (length_pushed front last) ∙ ap (λ n. slice_index (front ++ last ∷ []) n) (less (length front)) ∙ at front last where
+  less : (n : ℕ) → suc n - 1 ≡ n
+  less n = omega arith
+  at : (front : List ℕ) (last : ℕ) → slice_index (front ++ last ∷ []) (length front) ≡ last
+  at [] last = refl
+  at (byte ∷ front) last = at front last
+
+front_pushed : (front : List ℕ) (last : ℕ) → take (length (front ++ last ∷ []) - 1) (front ++ last ∷ []) ≡ front
+front_pushed front last = ap (λ n. take (n - 1) (front ++ last ∷ [])) (length_pushed front last) ∙ ap (λ n. take n (front ++ last ∷ [])) (less (length front)) ∙ take-append_seam front (last ∷ []) where
+  less : (n : ℕ) → suc n - 1 ≡ n
+  less n = omega arith
+
+some_pushed : (front : List ℕ) (last : ℕ) → nat_lt 0 (length (front ++ last ∷ [])) ≡ true
+some_pushed front last = le-leb 1 (length (front ++ last ∷ [])) (let h = length_pushed front last in omega arith)
+
+-- whether the last byte is this one
+ends_with : (front : List ℕ) (last stop : ℕ) → (nat_lt 0 (length (front ++ last ∷ [])) && slice_index (front ++ last ∷ []) (length (front ++ last ∷ []) - 1) == stop) ≡ (last == stop)
+ends_with front last stop = ap (λ (some : Bool). some && slice_index (front ++ last ∷ []) (length (front ++ last ∷ []) - 1) == stop) (some_pushed front last) ∙ ap (λ byte. byte == stop) (last_pushed front last)
+
+-- what the library makes of what stands before an LF
+no_cr_is : (text : List ℕ) → IsBefore (no_cr text) text
+no_cr_is text = cases (has_last text) where
+  nothing : (front : List ℕ) (stop : ℕ) → ◌≢◌ {A = List ℕ} [] (front ++ stop ∷ [])
+  nothing [] stop e = absurd cc
+  nothing (byte ∷ front) stop e = absurd cc
+  last_is : (front : List ℕ) (last : ℕ) → (last ≡ 13) ⊎ (last ≢ 13) → IsBefore (no_cr (front ++ last ∷ [])) (front ++ last ∷ [])
+  last_is front last (inl same) =
+      inl (ap (λ byte. front ++ byte ∷ []) same ∙ ap (λ line. line ++ 13 ∷ []) (sym (front_pushed front last) ∙ sym (cond-true _ _ _ (ends_with front last 13 ∙ eq-eqb last 13 same))))
+  last_is front last (inr other) =
+      inr (sym (cond-false _ _ _ (ends_with front last 13 ∙ ne_eqb last 13 other)), λ before e. other (same_from_push front before last 13 e).1)
+  cases : (text ≡ []) ⊎ ((front : List ℕ) × (last : ℕ) × (text ≡ front ++ last ∷ [])) → IsBefore (no_cr text) text
+  cases (inl none) = subst (λ bytes. IsBefore (no_cr bytes) bytes) (sym none) (inr (refl, λ front. nothing front 13))
+  cases (inr some) = subst (λ bytes. IsBefore (no_cr bytes) bytes) (sym some.2) (last_is some.0 some.1 (cases_eq some.1 13))
+
+ended_is : (text : List ℕ) → without_terminator (text ++ 10 ∷ []) ≡ no_cr text
+ended_is text = cond-true _ _ _ (ends_with text 10 10) ∙ ap no_cr (front_pushed text 10)
+
+none_at_last : (front : List ℕ) (last : ℕ) → HasNone 10 (front ++ last ∷ []) → last ≢ 10
+none_at_last [] last none = none.0
+none_at_last (byte ∷ front) last none = none_at_last front last none.1
+
+last_is_whole : (byte : ℕ) (bytes : List ℕ) → HasNone 10 (byte ∷ bytes) → without_terminator (byte ∷ bytes) ≡ byte ∷ bytes
+last_is_whole byte bytes none = cases (has_last (byte ∷ bytes)) where
+  cases : (byte ∷ bytes ≡ []) ⊎ ((front : List ℕ) × (last : ℕ) × (byte ∷ bytes ≡ front ++ last ∷ [])) → without_terminator (byte ∷ bytes) ≡ byte ∷ bytes
+  cases (inl e) = absurd cc
+  cases (inr some) =
+      let other = none_at_last some.0 some.1 (subst (HasNone 10) some.2 none) in
+      subst (λ text. without_terminator text ≡ text) (sym some.2) (cond-false _ _ _ (ends_with some.0 some.1 10 ∙ ne_eqb some.1 10 other))
+
+no_lines : (fuel : ℕ) → map without_terminator (lines_from fuel []) ≡ []
+unfolding lines_from
+no_lines zero = refl
+no_lines (suc fuel) = refl
+
+-- The lines that the library cuts are the lines.
+lines_enough : (fuel : ℕ) (bytes : List ℕ) → length bytes ≤ fuel → AreLines bytes (map without_terminator (lines_from fuel bytes))
+unfolding lines_from
+lines_enough zero [] short = refl
+lines_enough zero (byte ∷ bytes) short = absurd (omega arith)
+lines_enough (suc fuel) [] short = refl
+lines_enough (suc fuel) (byte ∷ bytes) short = cases (parting 10 (byte ∷ bytes)) (lines_enough fuel) where
+  cases : ((text : List ℕ) × (rest : List ℕ) × (byte ∷ bytes ≡ text ++ 10 ∷ rest) × HasNone 10 text) ⊎ HasNone 10 (byte ∷ bytes)
+      → ((rest : List ℕ) → length rest ≤ fuel → AreLines rest (map without_terminator (lines_from fuel rest)))
+      → AreLines (byte ∷ bytes) (without_terminator (take (line_len (byte ∷ bytes)) (byte ∷ bytes)) ∷ map without_terminator (lines_from fuel (drop (line_len (byte ∷ bytes)) (byte ∷ bytes))))
+  cases (inl found) behind =
+      let text = found.0 in
+      let rest = found.1 in
+      let lengths : length (byte ∷ bytes) ≡ length text + suc (length rest) = ap length found.2 ∙ length-append text (10 ∷ rest) in
+      let line : without_terminator (take (line_len (byte ∷ bytes)) (byte ∷ bytes)) ≡ no_cr text =
+      ap (λ all. without_terminator (take (line_len all) all)) found.2 ∙ ap (λ n. without_terminator (take n (text ++ 10 ∷ rest))) (len_ended text rest found.3) ∙ ap without_terminator (take_line text rest) ∙ ended_is text in
+      let left : drop (line_len (byte ∷ bytes)) (byte ∷ bytes) ≡ rest =
+      ap (λ all. drop (line_len all) all) found.2 ∙ ap (λ n. drop n (text ++ 10 ∷ rest)) (len_ended text rest found.3) ∙ drop_line text rest in
+      let later : AreLines rest (map without_terminator (lines_from fuel (drop (line_len (byte ∷ bytes)) (byte ∷ bytes)))) =
+      subst (λ bytes'. AreLines rest (map without_terminator (lines_from fuel bytes'))) (sym left) (behind rest (omega arith)) in
+      inl (text, rest, found.2, found.3, subst (λ l. IsBefore l text) (sym line) (no_cr_is text), later)
+  cases (inr none) behind =
+      let all = len_last (byte ∷ bytes) none in
+      let line : without_terminator (take (line_len (byte ∷ bytes)) (byte ∷ bytes)) ≡ byte ∷ bytes =
+      ap (λ n. without_terminator (take n (byte ∷ bytes))) all ∙ ap without_terminator (take_all (length (byte ∷ bytes)) (byte ∷ bytes) (omega arith)) ∙ last_is_whole byte bytes none in
+      let left : drop (line_len (byte ∷ bytes)) (byte ∷ bytes) ≡ [] = ap (λ n. drop n (byte ∷ bytes)) all ∙ drop_all (length (byte ∷ bytes)) (byte ∷ bytes) (omega arith) in
+      let later : map without_terminator (lines_from fuel (drop (line_len (byte ∷ bytes)) (byte ∷ bytes))) ≡ [] = ap (λ bytes'. map without_terminator (lines_from fuel bytes')) left ∙ no_lines fuel in
+      inr (sym line, (λ e. let h : byte ∷ bytes ≡ [] = sym line ∙ e in absurd cc), subst (HasNone 10) (sym line) none, later)
+
+pub lines_are : (bytes : List ℕ) → AreLines bytes (map without_terminator (lines_of bytes))
+lines_are bytes = lines_enough (length bytes) bytes (omega arith)
+
+-- There are no more lines than bytes.
+few_from : (fuel : ℕ) (bytes : List ℕ) → length (lines_from fuel bytes) ≤ fuel
+unfolding lines_from
+few_from zero bytes = omega arith
+few_from (suc fuel) [] = omega arith
+few_from (suc fuel) (byte ∷ bytes) = let h = few_from fuel (drop (line_len (byte ∷ bytes)) (byte ∷ bytes)) in omega arith
+
+pub few_lines : (bytes : List ℕ) → length (map without_terminator (lines_of bytes)) ≤ length bytes
+few_lines bytes = let h = few_from (length bytes) bytes in let m = length-map (lines_of bytes) without_terminator in omega arith
+
+-- The lines of bytes are one list.
+one_before : (line line' text : List ℕ) → IsBefore line text → IsBefore line' text → line ≡ line'
+one_before line line' text (inl a) (inl b) = (same_from_push line line' 13 13 (sym a ∙ b)).0
+one_before line line' text (inl a) (inr b) = absurd (b.1 line a)
+one_before line line' text (inr a) (inl b) = absurd (a.1 line' b)
+one_before line line' text (inr a) (inr b) = sym a.0 ∙ b.0
+
+none_within : (text rest : List ℕ) → HasNone 10 (text ++ 10 ∷ rest) → ⊥
+none_within [] rest none = none.0 refl
+none_within (byte ∷ text) rest none = none_within text rest none.1
+
+no_nil : (text rest : List ℕ) → ◌≢◌ {A = List ℕ} [] (text ++ 10 ∷ rest)
+no_nil [] rest e = absurd cc
+no_nil (byte ∷ text) rest e = absurd cc
+
+pub one_cut : (bytes : List ℕ) (lines lines' : List (List ℕ)) → AreLines bytes lines → AreLines bytes lines' → lines ≡ lines'
+one_cut bytes [] [] a b = refl
+one_cut bytes [] (line' ∷ lines') a (inl b) = absurd (no_nil b.0 b.1 (sym a ∙ b.2))
+one_cut bytes [] (line' ∷ lines') a (inr b) = absurd (b.1 (sym b.0 ∙ a))
+one_cut bytes (line ∷ lines) [] (inl a) b = absurd (no_nil a.0 a.1 (sym b ∙ a.2))
+one_cut bytes (line ∷ lines) [] (inr a) b = absurd (a.1 (sym a.0 ∙ b))
+one_cut bytes (line ∷ lines) (line' ∷ lines') (inl a) (inl b) =
+    let parted = one_parting 10 a.0 b.0 (10 ∷ a.1) (10 ∷ b.1) a.3 b.3 (inr (a.1, refl)) (inr (b.1, refl)) (sym a.2 ∙ b.2) in
+    let first : line ≡ line' = one_before line line' b.0 (subst (IsBefore line) parted.0 a.4) b.4 in
+    let behind : a.1 ≡ b.1 = let h : 10 ∷ a.1 ≡ 10 ∷ b.1 = parted.1 in cc in
+    let rest : lines ≡ lines' = one_cut b.1 lines lines' (subst (λ bytes'. AreLines bytes' lines) behind a.5) b.5 in
+    cc
+one_cut bytes (line ∷ lines) (line' ∷ lines') (inl a) (inr b) = absurd (none_within a.0 a.1 (subst (HasNone 10) (sym b.0 ∙ a.2) b.2))
+one_cut bytes (line ∷ lines) (line' ∷ lines') (inr a) (inl b) = absurd (none_within b.0 b.1 (subst (HasNone 10) (sym a.0 ∙ b.2) a.2))
+one_cut bytes (line ∷ lines) (line' ∷ lines') (inr a) (inr b) =
+    let first : line ≡ line' = sym a.0 ∙ b.0 in
+    let rest : lines ≡ lines' = a.3 ∙ sym b.3 in
+    cc

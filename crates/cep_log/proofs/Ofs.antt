@@ -1,0 +1,242 @@
+-- The log that a transcript says is of the program.
+use Rattle.std.proofs.Common.{◌≡◌, ◌≢◌, ◌⊎◌, inl, inr, ℕ, zero, suc, ◌+◌, ◌-◌, ◌<◌, ◌≤◌, ◌&&◌, ◌||◌, List, [], ◌∷◌, ◌++◌, length, Bool, true, false, Option, Some, None, refl, sym, ap, ◌∙◌, subst, arith, length-append, add-one}
+use Rattle.std.specs.Prelude.{slice_get, nat_le, is_none, is_some, IsSome, IfSome, IsSomeAnd, ◌↔◌, if◌then◌else◌}
+use Rattle.std.specs.List.{AllByRecursion}
+use Rattle.std.specs.declared.cmp.Ordering.TheVariants.{Less}
+use Rattle.std.specs.Cmp.{IsTotalOrder}
+use Rattle.std.proofs.lemmas.Bool.{false≢true, leb-true, le-leb}
+use Rattle.cep_base.proofs.Lists.{none_some, some_same, holds_at}
+use Rattle.cep_base.specs.declared.limits.TheConstants.{MOST_HEIGHT}
+use Rattle.cep_term.specs.Tree.{AtomTree}
+use Rattle.cep_term.specs.Order.{atom_cmp}
+use Rattle.cep_rule.specs.declared.signature.Signature.{Signature}
+use Rattle.cep_rule.specs.declared.rule.Rule.{Rule}
+use Rattle.cep_rule.specs.declared.parts.Parts.{Parts}
+use Rattle.cep_rule.specs.Limits.{IsHeight}
+use Rattle.cep_rule.specs.Typing.{AreValues}
+use Rattle.cep_rule.specs.Derivations.{proof_height}
+use Rattle.cep_log.specs.declared.log.Log.{Log}
+use Rattle.cep_log.specs.declared.log.LogStep.{LogStep}
+use Rattle.cep_log.specs.declared.log.LogEnd.{LogEnd}
+use Rattle.cep_log.specs.declared.so_far.SoFar.{SoFar}
+use Rattle.cep_log.specs.declared.so_far.SoFar.TheVariants.{Nothing, Version, Height, Whole, Within, Ended}
+use Rattle.cep_log.specs.Legal.{IsHave, AtomsRise, IsListing, IsStepOf, IsLogOf}
+use Rattle.cep_log.specs.declared.log.TheConstants.{MOST_TRANSCRIPT}
+use Rattle.cep_rule.specs.Derivations.{ProofTree}
+use Rattle.cep_log.specs.Transcript.{IsByLine, IsStageLine, IsHaveLine, IsBehind, GoesOnListing, GoesOnStart, GoesOnStep, GoesOnEnd, BeginsStep, BeginsEnd, Takes, Passes, Leads, has_own_lines, with_step, said_by}
+
+-- Listings
+
+all_pushed : {A : Type 0} (P : A → Type 0) (xs : List A) (x : A) → AllByRecursion P xs → P x → AllByRecursion P (xs ++ x ∷ [])
+all_pushed P [] x all this = (this, tt)
+all_pushed P (y ∷ xs) x all this = (all.0, all_pushed P xs x all.1 this)
+
+-- the atom stands behind each that stands before the last
+abbrev Transitive : Type 0
+Transitive = (a b c : AtomTree) → atom_cmp a b ≡ Less → atom_cmp b c ≡ Less → atom_cmp a c ≡ Less
+
+behind_all : (through : Transitive) (entries : List (AtomTree × ℕ)) (atom : AtomTree) → AtomsRise entries → IsBehind entries atom → AllByRecursion (λ earlier. atom_cmp earlier.0 atom ≡ Less) entries
+behind_all through [] atom rise behind = tt
+behind_all through (entry ∷ []) atom rise behind = (behind, tt)
+behind_all through (entry ∷ next ∷ entries) atom rise behind =
+    let later = behind_all through (next ∷ entries) atom rise.1 (moved entry next entries atom behind) in
+    (through entry.0 next.0 atom rise.0.0 later.0, later) where
+  moved : (entry next : AtomTree × ℕ) (entries : List (AtomTree × ℕ)) (atom : AtomTree) → IsBehind (entry ∷ next ∷ entries) atom → IsBehind (next ∷ entries) atom
+  moved entry next entries atom behind =
+      let at : slice_get (entry ∷ next ∷ entries) (length (entry ∷ next ∷ entries) - 1) ≡ slice_get (next ∷ entries) (length (next ∷ entries) - 1) = ap (λ n. slice_get (entry ∷ next ∷ entries) n) (less (length entries)) ∙ ap (λ n. slice_get (next ∷ entries) n) (sym (less' (length entries))) in
+      subst (λ found. IfSome found (λ last. atom_cmp last.0 atom ≡ Less)) at behind where
+    less : (n : ℕ) → suc (suc n) - 1 ≡ suc n
+    less n = omega arith
+    less' : (n : ℕ) → suc n - 1 ≡ n
+    less' n = omega arith
+
+rising_pushed : (entries : List (AtomTree × ℕ)) (entry : AtomTree × ℕ) → AtomsRise entries → AllByRecursion (λ earlier. atom_cmp earlier.0 entry.0 ≡ Less) entries → AtomsRise (entries ++ entry ∷ [])
+rising_pushed [] entry rise all = (tt, tt)
+rising_pushed (first ∷ entries) entry rise all = (all_pushed (λ later. atom_cmp first.0 later.0 ≡ Less) entries entry rise.0 all.0, rising_pushed entries entry rise.1 all.1)
+
+listing_more : (through : Transitive) (program : Parts) (line : List ℕ) (old new : List (AtomTree × ℕ)) → IsListing program.signature old → GoesOnListing program line old new → IsListing program.signature new
+listing_more through program line old new is more =
+    subst (IsListing program.signature) (sym more.added) (record {
+      each = all_pushed (IsHave program.signature) old more.entry is.each (record { atom = more.said.atom.well_typed; fit = more.said.atom.fit; some = more.said.some; few = more.said.few });
+      rising = rising_pushed old more.entry is.rising (behind_all through old more.entry.0 is.rising more.behind);
+    })
+
+-- What was read of a log before the line of this number: no step is of this line or a later one.
+pub record IsPartOf (program : Parts) (number : ℕ) (log : Log) : Type 0 where
+  pub height : IsHeight log.height
+  pub stage : log.stage < length program.stages
+  pub start : IsListing program.signature log.start
+  pub steps : AllByRecursion (IsStepOf program) log.steps
+  pub few : length log.steps < number
+
+-- A step that lacks own lines.
+pub record IsOpenOf (program : Parts) (step : LogStep) : Type 0 where
+  pub rule : Rule
+  pub numbered : slice_get program.rules step.offer.rule ≡ Some rule
+  pub values : AreValues program.signature.cons rule.kinds step.offer.values
+  pub low : AllByRecursion (λ proof. proof_height proof ≤ MOST_HEIGHT) step.proofs
+  pub few : length step.proofs ≤ length rule.backs
+  pub no_stage : step.stage ≡ None
+  pub lacks : has_own_lines rule step ≡ false
+
+abbrev pub IsReadOf : Parts → ℕ → SoFar → Type 0
+IsReadOf program number Nothing = Unit {0}
+IsReadOf program number Version = Unit {0}
+IsReadOf program number (Height height) = IsHeight height
+IsReadOf program number (Whole log) = IsPartOf program number log × (log.end ≡ None)
+IsReadOf program number (Within log step) = IsPartOf program number log × ((log.end ≡ None) × (suc (length log.steps) < number) × IsOpenOf program step)
+IsReadOf program number (Ended log end) = IsPartOf program number log × IsListing program.signature end.state
+
+-- Own lines
+
+own_none : (next : Option ℕ) (stage : Option ℕ) (full : Bool) → stage ≡ None → (full && (is_none next || is_some stage)) ≡ true → (full ≡ true) × (IsSome stage ↔ IsSome next)
+own_none None stage false none t = absurd (false≢true t)
+own_none None None true none t = (refl, ((λ h. h), (λ h. h)))
+own_none None (Some s) true none t = absurd cc
+own_none (Some n) stage false none t = absurd (false≢true t)
+own_none (Some n) None true none t = absurd (false≢true t)
+own_none (Some n) (Some s) true none t = absurd cc
+
+lacks_stage : (next : Option ℕ) (full : Bool) → full ≡ true → (full && (is_none next || false)) ≡ false → IsSome next
+lacks_stage None true f t = absurd (false≢true (sym t))
+lacks_stage None false f t = absurd (false≢true f)
+lacks_stage (Some n) full f t = refl
+
+has_stage : (next : Option ℕ) (full : Bool) (s : ℕ) → full ≡ true → (full && (is_none next || is_some (Some s))) ≡ true
+has_stage None true s f = refl
+has_stage None false s f = absurd (false≢true f)
+has_stage (Some n) true s f = refl
+has_stage (Some n) false s f = absurd (false≢true f)
+
+le_tests : (m n : ℕ) → m ≤ n → nat_le m n ≡ true
+le_tests m n h = le-leb m n h
+
+module _ (program : Parts) where
+  part_later : (m n : ℕ) (log : Log) → IsPartOf program m log → m ≤ n → IsPartOf program n log
+  part_later m n log part h = record { height = part.height; stage = part.stage; start = part.start; steps = part.steps; few = let few = part.few in omega arith }
+
+  with_whole : (n : ℕ) (log : Log) (step : LogStep) → IsPartOf program n log → suc (length log.steps) < suc n → IsStepOf program step → IsPartOf program (suc n) (record log { steps = log.steps ++ step ∷ [] })
+  with_whole n log step part few of = record {
+    height = part.height;
+    stage = part.stage;
+    start = part.start;
+    steps = all_pushed (IsStepOf program) log.steps step part.steps of;
+    few = let h = length-append log.steps (step ∷ []) in omega arith;
+  }
+
+  -- a step without a stage is whole, or it lacks own lines
+  pending : (n : ℕ) (log : Log) (step : LogStep) (rule : Rule) → IsPartOf program n log → log.end ≡ None → suc (length log.steps) < suc n
+      → slice_get program.rules step.offer.rule ≡ Some rule → AreValues program.signature.cons rule.kinds step.offer.values
+      → AllByRecursion (λ proof. proof_height proof ≤ MOST_HEIGHT) step.proofs → length step.proofs ≤ length rule.backs → step.stage ≡ None
+      → IsReadOf program (suc n) (with_step rule log step)
+  pending n log step rule part open few numbered values low within no_stage = cases (has_own_lines rule step) refl where
+    cases : (own : Bool) → has_own_lines rule step ≡ own → IsReadOf program (suc n) (if own then Whole (record log { steps = log.steps ++ step ∷ [] }) else Within log step)
+    cases true t =
+        let own = own_none rule.next step.stage (nat_le (length rule.backs) (length step.proofs)) no_stage t in
+        let enough = leb-true (length rule.backs) (length step.proofs) own.0 in
+        (with_whole n log step part few (record { rule = rule; numbered = numbered; values = values; as_many = omega arith; low = low; stage = own.1; in_range = subst (λ stage. IfSome stage (λ stage. stage < length program.stages)) (sym no_stage) tt }), open)
+    cases false t =
+        (part_later n (suc n) log part (omega arith), (open, few, record { rule = rule; numbered = numbered; values = values; low = low; few = within; no_stage = no_stage; lacks = t }))
+
+  -- a step with its stage is whole
+  staged : (n : ℕ) (log : Log) (step : LogStep) (rule : Rule) (stage : ℕ) → IsPartOf program n log → log.end ≡ None → suc (length log.steps) < suc n
+      → slice_get program.rules step.offer.rule ≡ Some rule → AreValues program.signature.cons rule.kinds step.offer.values
+      → AllByRecursion (λ proof. proof_height proof ≤ MOST_HEIGHT) step.proofs → length step.proofs ≡ length rule.backs → IsSome rule.next → stage < length program.stages
+      → IsReadOf program (suc n) (with_step rule log (record step { stage = Some stage }))
+  staged n log step rule stage part open few numbered values low all leaves in_range =
+      let own : has_own_lines rule (record step { stage = Some stage }) ≡ true = has_stage rule.next (nat_le (length rule.backs) (length step.proofs)) stage (le_tests (length rule.backs) (length step.proofs) (omega arith)) in
+      let whole : IsStepOf program (record step { stage = Some stage }) = record { rule = rule; numbered = numbered; values = values; as_many = all; low = low; stage = ((λ h. leaves), (λ h. refl)); in_range = in_range } in
+      subst (λ (is : Bool). IsReadOf program (suc n) (if is then Whole (record log { steps = log.steps ++ (record step { stage = Some stage }) ∷ [] }) else Within log (record step { stage = Some stage }))) (sym own)
+      (with_whole n log (record step { stage = Some stage }) part few whole, open)
+
+  pub takes_kept : (through : Transitive) (n : ℕ) (line : List ℕ) (old new : SoFar) → IsReadOf program n old → Takes program n line old new → IsReadOf program (suc n) new
+  takes_kept through n line Nothing new is takes = subst (IsReadOf program (suc n)) (sym takes.1) tt
+  takes_kept through n line Version new is takes = subst (IsReadOf program (suc n)) (sym takes.3) takes.1
+  takes_kept through n line (Height height) new is takes =
+      subst (IsReadOf program (suc n)) (sym takes.2)
+      (record { height = is; stage = takes.1.in_range; start = record { each = tt; rising = tt }; steps = tt; few = omega arith }, refl)
+  takes_kept through n line (Whole log) new is (inl goes) =
+      let part = is.0 in
+      subst (IsReadOf program (suc n)) (sym goes.whole)
+      (record { height = part.height; stage = part.stage; start = listing_more through program line log.start goes.start part.start goes.listed; steps = part.steps; few = let few = part.few in omega arith }, is.1)
+  takes_kept through n line (Whole log) new is (inr (inl begins)) =
+      let values = subst (λ found. IsSomeAnd found (λ rule. AreValues program.signature.cons rule.kinds begins.offer.values)) begins.numbered begins.said.offer_is.of_rule in
+      let few = is.0.few in
+      subst (IsReadOf program (suc n)) (sym begins.step)
+      (pending n log (record { line = n; offer = begins.offer; proofs = []; stage = None }) begins.rule is.0 is.1 (omega arith) begins.numbered values tt (omega arith) refl)
+  takes_kept through n line (Whole log) new is (inr (inr ends)) =
+      subst (IsReadOf program (suc n)) (sym ends.ended) (part_later n (suc n) log is.0 (omega arith), record { each = tt; rising = tt })
+  takes_kept through n line (Within log step) new is goes = cases goes.own where
+    open_step : IsOpenOf program step
+    open_step = is.1.2
+    same : open_step.rule ≡ goes.rule
+    same = some_same open_step.rule goes.rule (sym open_step.numbered ∙ goes.numbered)
+    few : suc (length log.steps) < suc n
+    few = let h = is.1.1 in omega arith
+    values : AreValues program.signature.cons goes.rule.kinds step.offer.values
+    values = subst (λ rule. AreValues program.signature.cons rule.kinds step.offer.values) same open_step.values
+    cases : ((proof : ProofTree) × (length step.proofs < length goes.rule.backs) × IsByLine program line proof × (new ≡ with_step goes.rule log (record step { proofs = step.proofs ++ proof ∷ [] })))
+        ⊎ ((stage : ℕ) × (length goes.rule.backs ≤ length step.proofs) × IsStageLine program line stage × (new ≡ with_step goes.rule log (record step { stage = Some stage })))
+        → IsReadOf program (suc n) new
+    cases (inl more) =
+        let longer = length-append step.proofs (more.0 ∷ []) in
+        let below = more.1 in
+        subst (IsReadOf program (suc n)) (sym more.3)
+        (pending n log (record step { proofs = step.proofs ++ more.0 ∷ [] }) goes.rule is.0 is.1.0 few goes.numbered values
+        (all_pushed (λ proof. proof_height proof ≤ MOST_HEIGHT) step.proofs more.0 open_step.low more.2.proof_is.low) (omega arith) open_step.no_stage)
+    cases (inr said) =
+        let within : length step.proofs ≤ length goes.rule.backs = subst (λ rule. length step.proofs ≤ length rule.backs) same open_step.few in
+        let enough = said.1 in
+        let lacks : has_own_lines goes.rule step ≡ false = subst (λ rule. has_own_lines rule step ≡ false) same open_step.lacks in
+        let lacks_none : (nat_le (length goes.rule.backs) (length step.proofs) && (is_none goes.rule.next || false)) ≡ false = subst (λ stage. (nat_le (length goes.rule.backs) (length step.proofs) && (is_none goes.rule.next || is_some stage)) ≡ false) open_step.no_stage lacks in
+        let leaves = lacks_stage goes.rule.next (nat_le (length goes.rule.backs) (length step.proofs)) (le_tests (length goes.rule.backs) (length step.proofs) (omega arith)) lacks_none in
+        subst (IsReadOf program (suc n)) (sym said.3)
+        (staged n log step goes.rule said.0 is.0 is.1.0 few goes.numbered values open_step.low (omega arith) leaves said.2.in_range)
+  takes_kept through n line (Ended log end) new is goes =
+      subst (IsReadOf program (suc n)) (sym goes.ended) (part_later n (suc n) log is.0 (omega arith), listing_more through program line end.state goes.state is.1 goes.listed)
+
+  -- a line that is passed over leaves all as it is
+  read_later : (n : ℕ) (so_far : SoFar) → IsReadOf program n so_far → IsReadOf program (suc n) so_far
+  read_later n Nothing is = tt
+  read_later n Version is = tt
+  read_later n (Height height) is = is
+  read_later n (Whole log) is = (part_later n (suc n) log is.0 (omega arith), is.1)
+  read_later n (Within log step) is = (part_later n (suc n) log is.0 (omega arith), (is.1.0, (let h = is.1.1 in omega arith), is.1.2))
+  read_later n (Ended log end) is = (part_later n (suc n) log is.0 (omega arith), is.1)
+
+  passes_kept : (through : Transitive) (n : ℕ) (line : List ℕ) (old new : SoFar) → IsReadOf program n old → Passes program n line old new → IsReadOf program (suc n) new
+  passes_kept through n line old new is (inl over) = subst (IsReadOf program (suc n)) (sym over.1) (read_later n old is)
+  passes_kept through n line old new is (inr takes) = takes_kept through n line old new is takes.1
+
+  pub leads_kept : (through : Transitive) (n : ℕ) (lines : List (List ℕ)) (old new : SoFar) → IsReadOf program n old → Leads program n lines old new → IsReadOf program (n + length lines) new
+  leads_kept through n [] old new is leads = subst (λ (m : ℕ). IsReadOf program m new) (omega arith) (subst (IsReadOf program n) (sym leads) is)
+  leads_kept through n (line ∷ lines) old new is leads =
+      let next : IsReadOf program (n + 1) leads.0 = subst (λ (m : ℕ). IsReadOf program m leads.0) (sym (add-one n)) (passes_kept through n line old leads.0 is leads.1) in
+      subst (λ (m : ℕ). IsReadOf program m new) (omega arith) (leads_kept through (n + 1) lines leads.0 new next leads.2)
+
+  -- The log that is said is of the program.
+  pub said_is_of : (lines : ℕ) (last : SoFar) (log : Log) → lines ≤ MOST_TRANSCRIPT → IsReadOf program (1 + lines) last → said_by last lines ≡ Some log → IsLogOf program log
+  said_is_of lines Nothing log short is said = none_some log said
+  said_is_of lines Version log short is said = none_some log said
+  said_is_of lines (Height height) log short is said = none_some log said
+  said_is_of lines (Within read step) log short is said = none_some log said
+  said_is_of lines (Whole read) log short is said =
+      subst (IsLogOf program) (some_same (record read { lines = lines }) log said) (record {
+        height = is.0.height;
+        stage = is.0.stage;
+        start = is.0.start;
+        steps = is.0.steps;
+        ending = subst (λ end. IfSome end (λ end. IsListing program.signature end.state)) (sym is.1) tt;
+        lines = short;
+        few = let few = is.0.few in omega arith;
+      })
+  said_is_of lines (Ended read end) log short is said =
+      subst (IsLogOf program) (some_same (record read { end = Some end; lines = lines }) log said) (record {
+        height = is.0.height;
+        stage = is.0.stage;
+        start = is.0.start;
+        steps = is.0.steps;
+        ending = is.1;
+        lines = short;
+        few = let few = is.0.few in omega arith;
+      })

@@ -1,0 +1,200 @@
+-- What a line says, and what was read with it, is one thing.
+use Rattle.std.proofs.Common.{◌≡◌, ◌≢◌, ◌⊎◌, inl, inr, ℕ, zero, suc, ◌+◌, ◌<◌, ◌≤◌, ◌^◌, ◌&&◌, ◌||◌, ◌==◌, List, [], ◌∷◌, ◌++◌, length, map, Bool, true, false, Option, Some, None, refl, sym, ap, ◌∙◌, subst, arith, add-one, bytes_eq}
+use Rattle.std.specs.Prelude.{codes, decimal, slice_get, nat_le}
+use Rattle.std.specs.List.{AllByRecursion}
+use Rattle.std.specs.Char.{is_ascii_digit}
+use Rattle.std.proofs.lemmas.Bool.{false≢true}
+use Rattle.std.specs.Str.{all_ascii_digits}
+use Rattle.std.proofs.lemmas.Str.Parse.{numerals_by_value, tells_all_ascii_digits}
+use Rattle.std.proofs.lemmas.Option.{slice_get_within}
+use Rattle.std.proofs.lemmas.Fmt.{decimal_injective, digits_decimal}
+use Rattle.std.proofs.lemmas.Slice.Eq.{bytes_eq-Decides}
+use Rattle.cep_base.proofs.Lists.{none_some, some_same, holds_at, get_mapped}
+use Rattle.cep_base.specs.declared.limits.TheConstants.{MOST_COPIES, MOST_HEIGHT}
+use Rattle.cep_term.specs.Tree.{AtomTree}
+use Rattle.cep_rule.specs.declared.rule.Rule.{Rule}
+use Rattle.cep_rule.specs.declared.parts.Parts.{Parts}
+use Rattle.cep_rule.specs.declared.parts.Stage.{Stage}
+use Rattle.cep_rule.specs.declared.offer.Offer.{Offer}
+use Rattle.cep_rule.specs.Names.{AllDiffer, AreNames}
+use Rattle.cep_rule.specs.Program.{IsProgram}
+use Rattle.cep_rule.specs.Derivations.{ProofTree}
+use Rattle.cep_rule.specs.Shapes.{IsOfferOf, IsProofOf}
+use Rattle.cep_text.specs.Texts.{atom_text, offer_text, proof_text, IsTypedGround}
+use Rattle.cep_log.specs.declared.end_word.EndWord.{EndWord}
+use Rattle.cep_log.specs.declared.end_word.EndWord.TheVariants.{Quiet, Input, Turns, Offers, Typed, Atom, State}
+use Rattle.cep_log.specs.declared.log.Log.{Log}
+use Rattle.cep_log.specs.declared.log.LogStep.{LogStep}
+use Rattle.cep_log.specs.declared.log.LogEnd.{LogEnd}
+use Rattle.cep_log.specs.declared.so_far.SoFar.{SoFar}
+use Rattle.cep_log.specs.declared.so_far.SoFar.TheVariants.{Nothing, Version, Height, Whole, Within, Ended}
+use Rattle.cep_log.specs.Lines.{stage_name, ending_word}
+use Rattle.cep_log.specs.Transcript.{IsPassedOver, IsHaveLine, IsStageLine, IsStepLine, IsByLine, IsEndLine, GoesOnListing, GoesOnStart, GoesOnStep, GoesOnEnd, BeginsStep, BeginsEnd, Takes, Passes, Leads, with_step}
+use Rattle.cep_log.proofs.Parted.{HasNone, one_parting}
+
+-- Numbers
+
+no_space : (byte : ℕ) → is_ascii_digit byte ≡ true → byte ≢ 32
+no_space byte t e = let h : is_ascii_digit 32 ≡ true = subst (λ b. is_ascii_digit b ≡ true) e t in absurd (false≢true h)
+
+and_both : (a b : Bool) → (a && b) ≡ true → (a ≡ true) × (b ≡ true)
+and_both true b e = (refl, e)
+and_both false b e = absurd cc
+
+digits_unspaced : (digits : List ℕ) → all_ascii_digits digits ≡ true → HasNone 32 digits
+digits_unspaced [] t = tt
+digits_unspaced (byte ∷ digits) t =
+    let parts = and_both (is_ascii_digit byte) (all_ascii_digits digits) t in
+    (no_space byte parts.0, digits_unspaced digits parts.1)
+
+pub decimal_unspaced : (n : ℕ) → n < 2 ^ 64 → HasNone 32 (decimal n)
+decimal_unspaced n short = digits_unspaced (decimal n) (digits_decimal (numerals_by_value (λ digits. all_ascii_digits digits ≡ true) tells_all_ascii_digits) n short)
+
+-- the count and the text behind it
+pub one_count : (m n : ℕ) (text text' : List ℕ) → m ≤ MOST_COPIES → n ≤ MOST_COPIES → decimal m ++ (32 ∷ text) ≡ decimal n ++ (32 ∷ text') → (m ≡ n) × (text ≡ text')
+one_count m n text text' a b e =
+    let parted = one_parting 32 (decimal m) (decimal n) (32 ∷ text) (32 ∷ text') (decimal_unspaced m (omega arith)) (decimal_unspaced n (omega arith)) (inr (text, refl)) (inr (text', refl)) e in
+    let behind : 32 ∷ text ≡ 32 ∷ text' = parted.1 in
+    (decimal_injective m n (omega arith) (omega arith) parted.0, (cc))
+
+-- Names
+
+pub number_named : (names : List (List ℕ)) (i j : ℕ) (name : List ℕ) → AllDiffer names → slice_get names i ≡ Some name → slice_get names j ≡ Some name → i ≡ j
+number_named [] i j name differ a b = none_some name a
+number_named (first ∷ names) zero zero name differ a b = refl
+number_named (first ∷ names) zero (suc j) name differ a b =
+    absurd (holds_at (λ other. first ≢ other) names j name differ.0 b (some_same first name a))
+number_named (first ∷ names) (suc i) zero name differ a b =
+    absurd (holds_at (λ other. first ≢ other) names i name differ.0 a (some_same first name b))
+number_named (first ∷ names) (suc i) (suc j) name differ a b = ap suc (number_named names i j name differ.1 a b)
+
+stage_there : (stages : List Stage) (i : ℕ) → i < length stages → slice_get (map (λ stage. stage.name) stages) i ≡ Some (stage_name (slice_get stages i))
+stage_there [] i h = absurd (omega arith)
+stage_there (stage ∷ stages) zero h = refl
+stage_there (stage ∷ stages) (suc i) h = stage_there stages i (omega arith)
+
+words_apart : (a b : EndWord) → bytes_eq (ending_word a) (ending_word b) ≡ true → a ≡ b
+words_apart Quiet Quiet t = refl
+words_apart Input Input t = refl
+words_apart Turns Turns t = refl
+words_apart Offers Offers t = refl
+words_apart Typed Typed t = refl
+words_apart Atom Atom t = refl
+words_apart State State t = refl
+words_apart a b t = absurd (false≢true t)
+
+pub one_word : (a b : EndWord) → ending_word a ≡ ending_word b → a ≡ b
+one_word a b e = words_apart a b ((bytes_eq-Decides (ending_word a) (ending_word b)).1 e)
+
+first_byte : (a b : ℕ) (xs ys : List ℕ) → a ∷ xs ≡ b ∷ ys → a ≡ b
+first_byte a b xs ys e = cc
+
+-- A listing's line, a step's and an end's begin with different bytes.
+have_or_step : (xs ys : List ℕ) → codes "have " ++ xs ≡ codes "step " ++ ys → ⊥
+have_or_step xs ys e = let h : ◌≡◌ {A = ℕ} 104 115 = first_byte 104 115 (97 ∷ 118 ∷ 101 ∷ 32 ∷ xs) (116 ∷ 101 ∷ 112 ∷ 32 ∷ ys) e in omega arith
+
+have_or_end : (xs ys : List ℕ) → codes "have " ++ xs ≡ codes "end " ++ ys → ⊥
+have_or_end xs ys e = let h : ◌≡◌ {A = ℕ} 104 101 = first_byte 104 101 (97 ∷ 118 ∷ 101 ∷ 32 ∷ xs) (110 ∷ 100 ∷ 32 ∷ ys) e in omega arith
+
+step_or_end : (xs ys : List ℕ) → codes "step " ++ xs ≡ codes "end " ++ ys → ⊥
+step_or_end xs ys e = let h : ◌≡◌ {A = ℕ} 115 101 = first_byte 115 101 (116 ∷ 101 ∷ 112 ∷ 32 ∷ xs) (110 ∷ 100 ∷ 32 ∷ ys) e in omega arith
+
+-- no text is that of two values
+pub record OneValue (program : Parts) : Type 0 where
+  pub atoms : (one other : AtomTree) → IsTypedGround program.signature one → IsTypedGround program.signature other → atom_text program.signature one ≡ atom_text program.signature other → one ≡ other
+  pub offers : (one other : Offer) → IsOfferOf program one → IsOfferOf program other → offer_text program one ≡ offer_text program other → one ≡ other
+  pub derivations : (one other : ProofTree) → IsProofOf program one → IsProofOf program other → proof_text program one ≡ proof_text program other → one ≡ other
+  pub stages : AllDiffer (map (λ stage. stage.name) program.stages)
+
+module _ (program : Parts) (laws : OneValue program) where
+  one_height : (line : List ℕ) (m n : ℕ) → m ≤ MOST_HEIGHT → n ≤ MOST_HEIGHT → line ≡ codes "height " ++ decimal m → line ≡ codes "height " ++ decimal n → m ≡ n
+  one_height line m n a b e f =
+      let h : codes "height " ++ decimal m ≡ codes "height " ++ decimal n = sym e ∙ f in
+      let same : decimal m ≡ decimal n = cc in
+      decimal_injective m n (omega arith) (omega arith) same
+
+  one_stage : (line : List ℕ) (i j : ℕ) → IsStageLine program line i → IsStageLine program line j → i ≡ j
+  one_stage line i j a b =
+      let h : codes "stage " ++ stage_name (slice_get program.stages i) ≡ codes "stage " ++ stage_name (slice_get program.stages j) = sym a.written ∙ b.written in
+      let same : stage_name (slice_get program.stages i) ≡ stage_name (slice_get program.stages j) = cc in
+      number_named (map (λ stage. stage.name) program.stages) i j (stage_name (slice_get program.stages i)) laws.stages
+      (stage_there program.stages i a.in_range) (stage_there program.stages j b.in_range ∙ ap Some (sym same))
+
+  pub one_have : (line : List ℕ) (e f : AtomTree × ℕ) → IsHaveLine program line e → IsHaveLine program line f → e ≡ f
+  one_have line e f a b =
+      let h : codes "have " ++ (decimal e.1 ++ (32 ∷ a.text)) ≡ codes "have " ++ (decimal f.1 ++ (32 ∷ b.text)) = sym a.written ∙ b.written in
+      let behind : decimal e.1 ++ (32 ∷ a.text) ≡ decimal f.1 ++ (32 ∷ b.text) = cc in
+      let parts = one_count e.1 f.1 a.text b.text a.few b.few behind in
+      let atoms : e.0 ≡ f.0 = laws.atoms e.0 f.0 a.atom.well_typed b.atom.well_typed (sym a.atom.text ∙ (parts.1 ∙ b.atom.text)) in
+      let counts : e.1 ≡ f.1 = parts.0 in
+      λ i. (atoms i, counts i)
+
+  pub one_step : (line : List ℕ) (o p : Offer) → IsStepLine program line o → IsStepLine program line p → o ≡ p
+  one_step line o p a b =
+      let h : codes "step " ++ a.text ≡ codes "step " ++ b.text = sym a.written ∙ b.written in
+      let same : a.text ≡ b.text = cc in
+      laws.offers o p a.offer_is.of_rule b.offer_is.of_rule (sym a.offer_is.text ∙ (same ∙ b.offer_is.text))
+
+  pub one_by : (line : List ℕ) (d e : ProofTree) → IsByLine program line d → IsByLine program line e → d ≡ e
+  one_by line d e a b =
+      let h : codes "by " ++ a.text ≡ codes "by " ++ b.text = sym a.written ∙ b.written in
+      let same : a.text ≡ b.text = cc in
+      laws.derivations d e a.proof_is.of_clauses b.proof_is.of_clauses (sym a.proof_is.text ∙ (same ∙ b.proof_is.text))
+
+  one_listing : (line : List ℕ) (old new new' : List (AtomTree × ℕ)) → GoesOnListing program line old new → GoesOnListing program line old new' → new ≡ new'
+  one_listing line old new new' a b = a.added ∙ (ap (λ entry. old ++ entry ∷ []) (one_have line a.entry b.entry a.said b.said) ∙ sym b.added)
+
+  one_rule : (number : ℕ) (r s : Rule) → slice_get program.rules number ≡ Some r → slice_get program.rules number ≡ Some s → r ≡ s
+  one_rule number r s a b = some_same r s (sym a ∙ b)
+
+  one_own : (line : List ℕ) (log : Log) (step : LogStep) (new new' : SoFar) → GoesOnStep program line log step new → GoesOnStep program line log step new' → new ≡ new'
+  one_own line log step new new' a b = cases a.own b.own where
+    same_rule : a.rule ≡ b.rule
+    same_rule = one_rule step.offer.rule a.rule b.rule a.numbered b.numbered
+    Own : Rule → SoFar → Type 0
+    Own rule new = ((proof : ProofTree) × (length step.proofs < length rule.backs) × IsByLine program line proof × (new ≡ with_step rule log (record step { proofs = step.proofs ++ proof ∷ [] })))
+        ⊎ ((stage : ℕ) × (length rule.backs ≤ length step.proofs) × IsStageLine program line stage × (new ≡ with_step rule log (record step { stage = Some stage })))
+    same_backs : length a.rule.backs ≡ length b.rule.backs
+    same_backs = ap (λ rule. length rule.backs) same_rule
+    cases : Own a.rule new → Own b.rule new' → new ≡ new'
+    cases (inl p) (inl q) = p.3 ∙ (ap (λ rule. with_step rule log (record step { proofs = step.proofs ++ p.0 ∷ [] })) same_rule ∙ (ap (λ proof. with_step b.rule log (record step { proofs = step.proofs ++ proof ∷ [] })) (one_by line p.0 q.0 p.2 q.2) ∙ sym q.3))
+    cases (inl p) (inr q) = let h = p.1 in let k = q.1 in let s = same_backs in absurd (omega arith)
+    cases (inr p) (inl q) = let h = p.1 in let k = q.1 in let s = same_backs in absurd (omega arith)
+    cases (inr p) (inr q) = p.3 ∙ (ap (λ rule. with_step rule log (record step { stage = Some p.0 })) same_rule ∙ (ap (λ stage. with_step b.rule log (record step { stage = Some stage })) (one_stage line p.0 q.0 p.2 q.2) ∙ sym q.3))
+
+  one_begun : (number : ℕ) (line : List ℕ) (log : Log) (new new' : SoFar) → BeginsStep program number line log new → BeginsStep program number line log new' → new ≡ new'
+  one_begun number line log new new' a b =
+      let offers : a.offer ≡ b.offer = one_step line a.offer b.offer a.said b.said in
+      let rules : a.rule ≡ b.rule = one_rule b.offer.rule a.rule b.rule (subst (λ offer. slice_get program.rules offer.rule ≡ Some a.rule) offers a.numbered) b.numbered in
+      a.step ∙ (ap (λ rule. with_step rule log (record { line = number; offer = a.offer; proofs = []; stage = None })) rules
+        ∙ (ap (λ offer. with_step b.rule log (record { line = number; offer = offer; proofs = []; stage = None })) offers ∙ sym b.step))
+
+  pub one_taken : (number : ℕ) (line : List ℕ) (old new new' : SoFar) → Takes program number line old new → Takes program number line old new' → new ≡ new'
+  one_taken number line Nothing new new' a b = a.1 ∙ sym b.1
+  one_taken number line Version new new' a b = a.3 ∙ (ap Height (one_height line a.0 b.0 a.1.low b.1.low a.2 b.2) ∙ sym b.3)
+  one_taken number line (Height height) new new' a b = a.2 ∙ (ap (λ stage. Whole (record { height = height; stage_line = number; stage = stage; start = []; steps = []; end = None; lines = 0 })) (one_stage line a.0 b.0 a.1 b.1) ∙ sym b.2)
+  one_taken number line (Whole log) new new' (inl a) (inl b) = a.whole ∙ (ap (λ start. Whole (record log { start = start })) (one_listing line log.start a.start b.start a.listed b.listed) ∙ sym b.whole)
+  one_taken number line (Whole log) new new' (inl a) (inr (inl b)) = absurd (have_or_step _ _ (sym a.listed.said.written ∙ b.said.written))
+  one_taken number line (Whole log) new new' (inl a) (inr (inr b)) = absurd (have_or_end _ _ (sym a.listed.said.written ∙ b.said))
+  one_taken number line (Whole log) new new' (inr (inl a)) (inl b) = absurd (have_or_step _ _ (sym b.listed.said.written ∙ a.said.written))
+  one_taken number line (Whole log) new new' (inr (inl a)) (inr (inl b)) = one_begun number line log new new' a b
+  one_taken number line (Whole log) new new' (inr (inl a)) (inr (inr b)) = absurd (step_or_end _ _ (sym a.said.written ∙ b.said))
+  one_taken number line (Whole log) new new' (inr (inr a)) (inl b) = absurd (have_or_end _ _ (sym b.listed.said.written ∙ a.said))
+  one_taken number line (Whole log) new new' (inr (inr a)) (inr (inl b)) = absurd (step_or_end _ _ (sym b.said.written ∙ a.said))
+  one_taken number line (Whole log) new new' (inr (inr a)) (inr (inr b)) =
+      let h : codes "end " ++ ending_word a.word ≡ codes "end " ++ ending_word b.word = sym a.said ∙ b.said in
+      let same : ending_word a.word ≡ ending_word b.word = cc in
+      a.ended ∙ (ap (λ word. Ended log (record { line = number; word = word; state = [] })) (one_word a.word b.word same) ∙ sym b.ended)
+  one_taken number line (Within log step) new new' a b = one_own line log step new new' a b
+  one_taken number line (Ended log end) new new' a b = a.ended ∙ (ap (λ state. Ended log (record end { state = state })) (one_listing line end.state a.state b.state a.listed b.listed) ∙ sym b.ended)
+
+  pub one_passed : (number : ℕ) (line : List ℕ) (old new new' : SoFar) → Passes program number line old new → Passes program number line old new' → new ≡ new'
+  one_passed number line old new new' (inl a) (inl b) = a.1 ∙ sym b.1
+  one_passed number line old new new' (inl a) (inr b) = absurd (b.0 a.0)
+  one_passed number line old new new' (inr a) (inl b) = absurd (a.0 b.0)
+  one_passed number line old new new' (inr a) (inr b) = one_taken number line old new new' a.1 b.1
+
+  pub one_way : (number : ℕ) (lines : List (List ℕ)) (old new new' : SoFar) → Leads program number lines old new → Leads program number lines old new' → new ≡ new'
+  one_way number [] old new new' a b = a ∙ sym b
+  one_way number (line ∷ lines) old new new' a b =
+      one_way (number + 1) lines b.0 new new' (subst (λ next. Leads program (number + 1) lines next new) (one_passed number line old a.0 b.0 a.1 b.1) a.2) b.2

@@ -1,0 +1,51 @@
+-- Bytes that are parted at the first of some byte.
+use Rattle.std.proofs.Common.{◌≡◌, ◌≢◌, ◌⊎◌, inl, inr, ℕ, zero, suc, ◌<◌, ◌^◌, ◌==◌, List, [], ◌∷◌, ◌++◌, length, Bool, true, false, refl, sym, ap, ◌∙◌, subst, arith}
+use Rattle.std.specs.List.{AllByRecursion}
+use Rattle.std.proofs.lemmas.Bool.{cases_eq}
+
+-- none of the bytes is this one
+abbrev pub HasNone : ℕ → List ℕ → Type 0
+HasNone stop bytes = AllByRecursion (λ byte. byte ≢ stop) bytes
+
+-- nothing stands behind, or the stop byte does
+abbrev pub Stops : ℕ → List ℕ → Type 0
+Stops stop rest = (rest ≡ []) ⊎ ((behind : List ℕ) × (rest ≡ stop ∷ behind))
+
+pub not_cons : {A : Type 0} {B : Type 0} (x : A) (xs : List A) → x ∷ xs ≡ [] → B
+not_cons x xs e = absurd cc
+
+stops_not_within : (stop byte : ℕ) (bytes rest : List ℕ) → byte ≢ stop → Stops stop rest → rest ≡ byte ∷ bytes → ⊥
+stops_not_within stop byte bytes rest other stops e = cases stops where
+  cases : Stops stop rest → ⊥
+  cases (inl none) = let h : byte ∷ bytes ≡ [] = sym e ∙ none in cc
+  cases (inr some) = let h : byte ∷ bytes ≡ stop ∷ some.0 = sym e ∙ some.1 in let same : byte ≡ stop = cc in other same
+
+-- two ways to part the same bytes are one
+pub one_parting : (stop : ℕ) (one other rest rest' : List ℕ) → HasNone stop one → HasNone stop other → Stops stop rest → Stops stop rest' → one ++ rest ≡ other ++ rest' → (one ≡ other) × (rest ≡ rest')
+one_parting stop [] [] rest rest' a b s t e = (refl, e)
+one_parting stop [] (y ∷ ys) rest rest' a b s t e = absurd (stops_not_within stop y (ys ++ rest') rest b.0 s e)
+one_parting stop (x ∷ xs) [] rest rest' a b s t e = absurd (stops_not_within stop x (xs ++ rest) rest' a.0 t (sym e))
+one_parting stop (x ∷ xs) (y ∷ ys) rest rest' a b s t e =
+    let head : x ≡ y = cc in
+    let tail : xs ++ rest ≡ ys ++ rest' = cc in
+    let more = one_parting stop xs ys rest rest' a.1 b.1 s t tail in
+    let same : xs ≡ ys = more.0 in
+    (cc, more.1)
+
+-- bytes are parted at the first stop byte, or have none
+pub parting : (stop : ℕ) (bytes : List ℕ) → ((text : List ℕ) × (rest : List ℕ) × (bytes ≡ text ++ stop ∷ rest) × HasNone stop text) ⊎ HasNone stop bytes
+parting stop [] = inr tt
+parting stop (byte ∷ bytes) = cases (cases_eq byte stop) (parting stop bytes) where
+  cases : (byte ≡ stop) ⊎ (byte ≢ stop) → ((text : List ℕ) × (rest : List ℕ) × (bytes ≡ text ++ stop ∷ rest) × HasNone stop text) ⊎ HasNone stop bytes
+      → ((text : List ℕ) × (rest : List ℕ) × (byte ∷ bytes ≡ text ++ stop ∷ rest) × HasNone stop text) ⊎ HasNone stop (byte ∷ bytes)
+  cases (inl same) later = inl ([], bytes, ap (λ b. b ∷ bytes) same, tt)
+  cases (inr other) (inl found) = inl (byte ∷ found.0, found.1, ap (λ rest. byte ∷ rest) found.2, (other, found.3))
+  cases (inr other) (inr none) = inr (other, none)
+
+-- a list is empty, or it has a last item
+pub has_last : {A : Type 0} (xs : List A) → (xs ≡ []) ⊎ ((front : List A) × (last : A) × (xs ≡ front ++ last ∷ []))
+has_last [] = inl refl
+has_last (x ∷ xs) = cases (has_last xs) where
+  cases : (xs ≡ []) ⊎ ((front : List _) × (last : _) × (xs ≡ front ++ last ∷ [])) → (x ∷ xs ≡ []) ⊎ ((front : List _) × (last : _) × (x ∷ xs ≡ front ++ last ∷ []))
+  cases (inl none) = inr ([], x, ap (λ rest. x ∷ rest) none)
+  cases (inr some) = inr (x ∷ some.0, some.1, ap (λ rest. x ∷ rest) some.2)

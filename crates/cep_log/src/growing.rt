@@ -1,0 +1,225 @@
+// A log that grows by a line.
+ghost use Rattle.std.specs.Prelude.{◌≡◌, ◌<◌, ◌↔◌, ℕ, length, None, IfOk, IfSome, IfNone, IsTrue};
+ghost use Rattle.cep_term.specs.Tree.{AtomTree};
+ghost use Rattle.cep_rule.specs.declared.rule.Rule.{Rule};
+ghost use Rattle.cep_log.specs.declared.so_far.SoFar.{SoFar};
+ghost use Rattle.cep_log.specs.declared.so_far.SoFar.TheVariants.{Whole, Within, Ended};
+ghost use Rattle.cep_log.specs.Listed.{have_of};
+ghost use Rattle.cep_log.specs.Transcript.{IsHaveLine, IsBehind, GoesOnStart, GoesOnStep, GoesOnEnd, Takes, has_own_lines, with_step, log_begun, step_begun, end_begun, said_by};
+
+use crate::end_word::EndWord;
+use crate::line_kinds::{by_line, end_line, have_line, stage_line, step_line};
+use crate::listing::{Have, Haves};
+use crate::log::{Log, LogEnd, LogStep, LogSteps};
+use crate::proofs::Proofs;
+use crate::so_far::SoFar;
+use cep_rule::{Offer, Program, Rule};
+use cep_term::order;
+use std::alloc::{AllocError, Global};
+
+// A log of which the header was read.
+pub(crate) fn log_begun(alloc: Global, height: u32, number: u32, stage: u32) -> Log
+    ensures { result ≡ log_begun height number stage }
+{
+    Log {
+        height,
+        stage_line: number,
+        stage,
+        start: Haves::new(alloc),
+        steps: LogSteps::new(alloc),
+        end: None,
+        lines: 0,
+    }
+}
+
+// A step of which the first line was read.
+fn step_begun(alloc: Global, number: u32, offer: Offer) -> LogStep
+    ensures { result ≡ step_begun number offer }
+{
+    LogStep {
+        line: number,
+        offer,
+        proofs: Proofs::new(alloc),
+        stage: None,
+    }
+}
+
+// What the lines so far say, where a transcript may end behind them.
+pub(crate) fn finished(so_far: SoFar, lines: u32) -> Option<Log>
+    ensures { result ≡ said_by so_far lines }
+{
+    match so_far {
+        SoFar::Whole(mut log) => {
+            log.lines = lines;
+            Some(log)
+        }
+        SoFar::Ended(mut log, end) => {
+            log.end = Some(end);
+            log.lines = lines;
+            Some(log)
+        }
+        SoFar::Nothing => None,
+        SoFar::Version => None,
+        SoFar::Height(_) => None,
+        SoFar::Within(_, _) => None,
+    }
+}
+
+// A line behind the start listing or behind a whole step.
+pub(crate) fn behind_whole(
+    alloc: Global,
+    program: &Program,
+    number: u32,
+    line: &[u8],
+    log: Log,
+) -> Result<Option<SoFar>, AllocError>
+    ensures some { IfOk result (λ read. IfSome read (Takes program.now number line.now (Whole log))) }
+    ensures none { IfOk result (λ read. IfNone read ((new : SoFar) → ¬ (Takes program.now number line.now (Whole log) new))) }
+{
+    if let Some(word) = end_line(line) {
+        return Ok(Some(SoFar::Ended(log, end_begun(alloc, number, word))));
+    }
+    match step_line(alloc, program, line)? {
+        Some(offer) => {
+            let rule = program.parts().rules.get(offer.rule as usize);
+            Ok(Some(joined(rule, log, step_begun(alloc, number, offer))?))
+        }
+        None => behind_listing(alloc, program, line, log),
+    }
+}
+
+// An end of which the first line was read.
+fn end_begun(alloc: Global, number: u32, word: EndWord) -> LogEnd
+    ensures { result ≡ end_begun number word }
+{
+    LogEnd {
+        line: number,
+        word,
+        state: Haves::new(alloc),
+    }
+}
+
+// A line of the start listing.
+fn behind_listing(
+    alloc: Global,
+    program: &Program,
+    line: &[u8],
+    mut log: Log,
+) -> Result<Option<SoFar>, AllocError>
+    ensures some { IfOk result (λ read. IfSome read (GoesOnStart program.now line.now log)) }
+    ensures none { IfOk result (λ read. IfNone read ((new : SoFar) → ¬ (GoesOnStart program.now line.now log new))) }
+{
+    if !log.steps.is_empty() {
+        return Ok(None);
+    }
+    match next_listed(alloc, program, line, &log.start)? {
+        Some(have) => {
+            log.start.push(have)?;
+            Ok(Some(SoFar::Whole(log)))
+        }
+        None => Ok(None),
+    }
+}
+
+// The next own line of a step.
+pub(crate) fn behind_part(
+    alloc: Global,
+    program: &Program,
+    line: &[u8],
+    log: Log,
+    mut step: LogStep,
+) -> Result<Option<SoFar>, AllocError>
+    requires { step.offer.rule < length program.now.rules }
+    ensures some { IfOk result (λ read. IfSome read (GoesOnStep program.now line.now log step)) }
+    ensures none { IfOk result (λ read. IfNone read ((new : SoFar) → ¬ (GoesOnStep program.now line.now log step new))) }
+{
+    let rule = program.parts().rules.get(step.offer.rule as usize);
+    if step.proofs.len() < rule.backs.len() {
+        match by_line(alloc, program, line)? {
+            Some(proof) => {
+                step.proofs.push(proof)?;
+                Ok(Some(joined(rule, log, step)?))
+            }
+            None => Ok(None),
+        }
+    } else {
+        match stage_line(program, line) {
+            Some(stage) => {
+                step.stage = Some(stage);
+                Ok(Some(joined(rule, log, step)?))
+            }
+            None => Ok(None),
+        }
+    }
+}
+
+// A line of the last listing.
+pub(crate) fn behind_end(
+    alloc: Global,
+    program: &Program,
+    line: &[u8],
+    log: Log,
+    mut end: LogEnd,
+) -> Result<Option<SoFar>, AllocError>
+    ensures some { IfOk result (λ read. IfSome read (GoesOnEnd program.now line.now log end)) }
+    ensures none { IfOk result (λ read. IfNone read ((new : SoFar) → ¬ (GoesOnEnd program.now line.now log end new))) }
+{
+    match next_listed(alloc, program, line, &end.state)? {
+        Some(have) => {
+            end.state.push(have)?;
+            Ok(Some(SoFar::Ended(log, end)))
+        }
+        None => Ok(None),
+    }
+}
+
+// The log with the step, which is whole or lacks own lines.
+fn joined(rule: &Rule, mut log: Log, step: LogStep) -> Result<SoFar, AllocError>
+    ensures { IfOk result (λ new. new ≡ with_step rule.now log step) }
+{
+    if has_own_lines(rule, &step) {
+        log.steps.push(step)?;
+        Ok(SoFar::Whole(log))
+    } else {
+        Ok(SoFar::Within(log, step))
+    }
+}
+
+// Whether the step has all its own lines.
+fn has_own_lines(rule: &Rule, step: &LogStep) -> bool
+    ensures { result ≡ has_own_lines rule.now step.now }
+{
+    rule.backs.len() <= step.proofs.len() && (rule.next.is_none() || step.stage.is_some())
+}
+
+// The line of a listing that stands behind these.
+fn next_listed(
+    alloc: Global,
+    program: &Program,
+    line: &[u8],
+    haves: &Haves,
+) -> Result<Option<Have>, AllocError>
+    ensures some { IfOk result (λ read. IfSome read (λ have. IsHaveLine program.now line.now (have_of have) × IsBehind haves.now (have_of have).0)) }
+    ensures none { IfOk result (λ read. IfNone read ((entry : AtomTree × ℕ) → IsHaveLine program.now line.now entry → IsBehind haves.now entry.0 → ⊥)) }
+{
+    match have_line(alloc, program, line)? {
+        Some(have) => {
+            if is_behind(haves, &have) {
+                Ok(Some(have))
+            } else {
+                Ok(None)
+            }
+        }
+        None => Ok(None),
+    }
+}
+
+// Whether the line stands behind these.
+fn is_behind(haves: &Haves, have: &Have) -> bool
+    ensures { IsTrue result ↔ IsBehind haves.now (have_of have.now).0 }
+{
+    match haves.as_slice().last() {
+        None => true,
+        Some(last) => order(&last.atom, &have.atom).is_lt(),
+    }
+}

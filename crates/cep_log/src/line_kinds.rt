@@ -1,0 +1,150 @@
+// What a line by itself says: one function for each kind of line.
+ghost use Rattle.std.specs.Prelude.{◌≡◌, ◌≢◌, ◌↔◌, ℕ, ◌++◌, codes, decimal, MatchOption, IfOk, IfSome, IfNone, IsTrue, List, ◌≤◌, Contains};
+ghost use Rattle.cep_term.specs.Tree.{AtomTree};
+ghost use Rattle.cep_rule.specs.declared.rule.Rule.{Rule};
+ghost use Rattle.cep_rule.specs.declared.offer.Offer.{Offer};
+ghost use Rattle.cep_rule.specs.Limits.{IsHeight};
+ghost use Rattle.cep_rule.specs.Derivations.{ProofTree, proof_of};
+ghost use Rattle.cep_log.specs.declared.end_word.EndWord.{EndWord};
+ghost use Rattle.cep_log.specs.Lines.{ending_word};
+ghost use Rattle.cep_log.specs.Listed.{have_of};
+ghost use Rattle.cep_log.specs.Transcript.{IsPassedOver, IsHaveLine, IsStageLine, IsStepLine, IsByLine, IsEndLine, NamesNoRule};
+
+use crate::end_word::EndWord;
+use crate::listing::Have;
+use crate::words::{cut_word, plain};
+use cep_base::limits::{MOST_COPIES, MOST_HEIGHT};
+use cep_rule::{Derivation, Offer, Program};
+use cep_text::{read_atom, read_offer, read_proof};
+use std::alloc::{AllocError, Global};
+
+// Whether the line is passed over.
+pub(crate) fn is_passed_over(line: &[u8]) -> bool
+    ensures { IsTrue result ↔ IsPassedOver line.now }
+{
+    line.first() == Some(&b'?')
+}
+
+// The height that the line says.
+pub(crate) fn height_line(line: &[u8]) -> Option<u32>
+    ensures { MatchOption result
+        ((height : ℕ) → IsHeight height → line.now ≢ codes "height " ++ decimal height)
+        (λ height. IsHeight height × (line.now ≡ codes "height " ++ decimal height)) }
+{
+    let height = plain(line.strip_prefix(b"height ")?)?;
+    if height >= 1 && height <= MOST_HEIGHT { Some(height) } else { None }
+}
+
+// The stage that the line names.
+pub(crate) fn stage_line(program: &Program, line: &[u8]) -> Option<u32>
+    ensures { MatchOption result ((stage : ℕ) → ¬ (IsStageLine program.now line.now stage)) (IsStageLine program.now line.now) }
+{
+    let name = line.strip_prefix(b"stage ")?;
+    let stages = &program.parts().stages;
+    for i in 0..stages.len() {
+        if stages.get(i).name.bytes() == name {
+            return Some(i as u32);
+        }
+    }
+    None
+}
+
+// The entry of a listing that the line says.
+pub(crate) fn have_line(
+    alloc: Global,
+    program: &Program,
+    line: &[u8],
+) -> Result<Option<Have>, AllocError>
+    ensures some { IfOk result (λ read. IfSome read (λ have. IsHaveLine program.now line.now (have_of have))) }
+    ensures none { IfOk result (λ read. IfNone read ((entry : AtomTree × ℕ) → ¬ (IsHaveLine program.now line.now entry))) }
+{
+    let Some((count, text)) = counted(line) else {
+        return Ok(None);
+    };
+    match read_atom(alloc, program, text)? {
+        Some(atom) => Ok(Some(Have { count, atom })),
+        None => Ok(None),
+    }
+}
+
+// The count that a line of a listing says, and the text behind it.
+fn counted(line: &[u8]) -> Option<(u32, &[u8])>
+    ensures { MatchOption result
+        ((count : ℕ) (text : List ℕ) → 1 ≤ count → count ≤ MOST_COPIES → line.now ≢ codes "have " ++ (decimal count ++ (codes " " ++ text)))
+        (λ x. (1 ≤ x.0) × (x.0 ≤ MOST_COPIES) × (line.now ≡ codes "have " ++ (decimal x.0 ++ (codes " " ++ x.1.now)))) }
+{
+    let (word, rest) = cut_word(line.strip_prefix(b"have ")?);
+    let text = rest.strip_prefix(b" ")?;
+    let count = plain(word)?;
+    if count >= 1 && u64::from(count) <= MOST_COPIES {
+        Some((count, text))
+    } else {
+        None
+    }
+}
+
+// The offer of the step that the line says.
+pub(crate) fn step_line(
+    alloc: Global,
+    program: &Program,
+    line: &[u8],
+) -> Result<Option<Offer>, AllocError>
+    ensures some { IfOk result (λ read. IfSome read (IsStepLine program.now line.now)) }
+    ensures none { IfOk result (λ read. IfNone read ((offer : Offer) → ¬ (IsStepLine program.now line.now offer))) }
+{
+    match line.strip_prefix(b"step ") {
+        Some(text) => read_offer(alloc, program, text),
+        None => Ok(None),
+    }
+}
+
+// The derivation that the line says.
+pub(crate) fn by_line(
+    alloc: Global,
+    program: &Program,
+    line: &[u8],
+) -> Result<Option<Derivation>, AllocError>
+    ensures some { IfOk result (λ read. IfSome read (λ proof. IsByLine program.now line.now (proof_of proof))) }
+    ensures none { IfOk result (λ read. IfNone read ((proof : ProofTree) → ¬ (IsByLine program.now line.now proof))) }
+{
+    match line.strip_prefix(b"by ") {
+        Some(text) => read_proof(alloc, program, text),
+        None => Ok(None),
+    }
+}
+
+// The word of the end that the line says.
+pub(crate) fn end_line(line: &[u8]) -> Option<EndWord>
+    ensures { MatchOption result ((word : EndWord) → ¬ (IsEndLine line.now word)) (IsEndLine line.now) }
+{
+    end_word(line.strip_prefix(b"end ")?)
+}
+
+// The end word of this text.
+fn end_word(text: &[u8]) -> Option<EndWord>
+    ensures { MatchOption result ((word : EndWord) → text.now ≢ ending_word word) (λ word. text.now ≡ ending_word word) }
+{
+    for word in EndWord::ALL {
+        if word.text() == text {
+            return Some(word);
+        }
+    }
+    None
+}
+
+// Whether the line begins like a step, of a rule that the program has not got.
+pub(crate) fn names_no_rule(program: &Program, line: &[u8]) -> bool
+    ensures { IsTrue result ↔ NamesNoRule program.now line.now }
+{
+    match line.strip_prefix(b"step ") {
+        Some(text) => !is_rule(program, cut_word(text).0),
+        None => false,
+    }
+}
+
+// Whether some rule has the name.
+fn is_rule(program: &Program, name: &[u8]) -> bool
+    ensures { IsTrue result ↔ ((rule : Rule) × Contains program.now.rules rule × (rule.name ≡ name.now)) }
+{
+    program.parts().rules.iter().any(|rule| rule.name.bytes() == name)
+}

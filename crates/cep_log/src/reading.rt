@@ -1,0 +1,117 @@
+// Reads a transcript line by line.
+ghost use Rattle.std.specs.Prelude.{◌≡◌, ◌≤◌, ◌↔◌, ℕ, length, IfOk, IfSome, IfNone, IfErr, IsTrue};
+ghost use Rattle.cep_log.specs.declared.so_far.SoFar.{SoFar};
+ghost use Rattle.cep_log.specs.Legal.{IsLogOf};
+ghost use Rattle.cep_log.specs.Transcript.{Takes, Passes, MayStep, NamesNoRule, HasLog, HasMisfit, IsFaultOf};
+ghost use Rattle.cep_log.specs.Growing.{HasRule};
+
+use crate::fault::LogFault;
+use crate::growing::{behind_end, behind_part, behind_whole, finished, log_begun};
+use crate::line_kinds::{height_line, is_passed_over, names_no_rule, stage_line};
+use crate::log::{Log, MOST_TRANSCRIPT};
+use crate::so_far::SoFar;
+use bstr::ByteSlice;
+use cep_rule::Program;
+use std::alloc::{AllocError, Global};
+
+/// The log that a transcript says, or else the first line of the bytes that does not fit. The
+/// grammar, of version 1, is this profile's.
+pub fn read_log(
+    alloc: Global,
+    program: &Program,
+    bytes: &[u8],
+) -> Result<Result<Log, LogFault>, AllocError>
+    requires { length bytes.now ≤ MOST_TRANSCRIPT }
+    ensures log { IfOk result (λ read. IfOk read (HasLog program.now bytes.now)) }
+    ensures of_program { IfOk result (λ read. IfOk read (IsLogOf program.now)) }
+    ensures fault { IfOk result (λ read. IfErr read (HasMisfit program.now bytes.now)) }
+{
+    let mut so_far = SoFar::Nothing;
+    let mut number = 0;
+    for line in bytes.lines() {
+        number += 1;
+        match passed(alloc, program, number, line, so_far)? {
+            Ok(next) => so_far = next,
+            Err(fault) => return Ok(Err(fault)),
+        }
+    }
+    match finished(so_far, number) {
+        Some(log) => Ok(Ok(log)),
+        None => Ok(Err(LogFault::Line { line: number + 1 })),
+    }
+}
+
+// What was read with one line more, or why the line does not fit.
+fn passed(
+    alloc: Global,
+    program: &Program,
+    number: u32,
+    line: &[u8],
+    so_far: SoFar,
+) -> Result<Result<SoFar, LogFault>, AllocError>
+    requires { HasRule program.now so_far }
+    ensures taken { IfOk result (λ read. IfOk read (Passes program.now number line.now so_far)) }
+    ensures nowhere { IfOk result (λ read. IfErr read (λ fault. (new : SoFar) → ¬ (Passes program.now number line.now so_far new))) }
+    ensures fault { IfOk result (λ read. IfErr read (IsFaultOf program.now number line.now so_far)) }
+{
+    if is_passed_over(line) {
+        return Ok(Ok(so_far));
+    }
+    let may_step = may_step(&so_far);
+    match taken(alloc, program, number, line, so_far)? {
+        Some(next) => Ok(Ok(next)),
+        None => Ok(Err(fault_of(program, number, line, may_step))),
+    }
+}
+
+// Whether a step may stand next.
+fn may_step(so_far: &SoFar) -> bool
+    ensures { IsTrue result ↔ MayStep so_far.now }
+{
+    matches!(so_far, SoFar::Whole(_))
+}
+
+// Why the line does not fit, by whether a step may stand there.
+fn fault_of(program: &Program, number: u32, line: &[u8], may_step: bool) -> LogFault
+    ensures { (so_far : SoFar) → (IsTrue may_step ↔ MayStep so_far) → IsFaultOf program.now number line.now so_far result }
+{
+    if may_step && names_no_rule(program, line) {
+        LogFault::NoRule { line: number }
+    } else {
+        LogFault::Line { line: number }
+    }
+}
+
+// What was read with a line more that is not passed over, if it fits.
+fn taken(
+    alloc: Global,
+    program: &Program,
+    number: u32,
+    line: &[u8],
+    so_far: SoFar,
+) -> Result<Option<SoFar>, AllocError>
+    requires { HasRule program.now so_far }
+    ensures some { IfOk result (λ read. IfSome read (Takes program.now number line.now so_far)) }
+    ensures none { IfOk result (λ read. IfNone read ((new : SoFar) → ¬ (Takes program.now number line.now so_far new))) }
+{
+    match so_far {
+        SoFar::Nothing => {
+            if line == b"ceptre 1".as_slice() {
+                Ok(Some(SoFar::Version))
+            } else {
+                Ok(None)
+            }
+        }
+        SoFar::Version => match height_line(line) {
+            Some(height) => Ok(Some(SoFar::Height(height))),
+            None => Ok(None),
+        },
+        SoFar::Height(height) => match stage_line(program, line) {
+            Some(stage) => Ok(Some(SoFar::Whole(log_begun(alloc, height, number, stage)))),
+            None => Ok(None),
+        },
+        SoFar::Whole(log) => behind_whole(alloc, program, number, line, log),
+        SoFar::Within(log, step) => behind_part(alloc, program, line, log, step),
+        SoFar::Ended(log, end) => behind_end(alloc, program, line, log, end),
+    }
+}

@@ -1,0 +1,19 @@
+use crate::log::{Log, LogEnd, LogStep};
+
+/// What a front of a transcript's lines says, by what may stand next.
+#[derive(Debug, Drop)]
+pub(crate) enum SoFar {
+    /// Nothing yet: the version is next.
+    Nothing,
+    /// The version: the height is next.
+    Version,
+    /// The height: the stage is next.
+    Height(u32),
+    /// A log without an end, all of whose steps are whole: a step or the end is next, or, where
+    /// there is no step, another line of the start listing.
+    Whole(Log),
+    /// Such a log, and behind it a step that lacks own lines: the next of these is next.
+    Within(Log, LogStep),
+    /// Such a log, and its end: another line of the last listing is next.
+    Ended(Log, LogEnd),
+}
