@@ -1,5 +1,6 @@
 pub mod Hearing
 pub mod OneReading
+pub mod Settling
 pub mod Turns
 pub mod Backs
 pub mod Runs

@@ -167,7 +167,7 @@ stage s = {}
 stage s = {}
 #trace 1000001 s {}.
 =
-1:1 20 NotBuilt
+accepted
 p : pred.
 stage s = { r : p -o (). } #trace _ s { p }.
 =
@@ -203,7 +203,7 @@ stage main = { r : got N * plus A B N -o got A. }
 t : type. p t : bwd. p X.
 stage s = { r : p X -o (). } #trace _ s {}.
 =
-1:1 20 NotBuilt
+accepted
 stage s = {} qui * stage s -o stage s. #interactive s. #trace _ s {}.
 "
 }
@@ -427,10 +427,10 @@ accepted | stage main = { r : wide A B C D E F G H * wide I J K L M N O P * wide
 11:41 17 Ungrounded | stage main = { r : even N -o got N. t : any N * far M -o got N. u : any N -o got N. }
 11:33 16 Unbound | stage main = { r : any N -o got M. }
 11:47 16 Unbound | stage main = { r : any N -o (). t : () -o got N. }
-1:1 20 NotBuilt | stage main = { r : even N -o got N. } qui * stage main -o stage main.
+accepted | stage main = { r : even N -o got N. } qui * stage main -o stage main.
 11:20 17 Ungrounded | stage main = { r : any N -o got N. } qui * stage main -o stage main.
 11:37 17 Ungrounded | stage main = { } qui * stage main * any N -o stage main.
-1:1 20 NotBuilt | stage main = { } qui * stage main * even N -o stage main."
+accepted | stage main = { } qui * stage main * even N -o stage main."
 }
 
 // This is told of the rules behind the clauses.

@@ -353,8 +353,8 @@ fn usage() -> &'static str {
 fn without_a_form() -> &'static str {
     "
 play
-play f seed=1
 check f
+world 0
 play f height=
 play f height=0
 play f height=01
@@ -366,7 +366,17 @@ play f height= 3
 play f heigth=3
 play f Height=3
 play f height=3 height=3
-play height=3 f"
+play height=3 f
+play f seed=
+play f seed=01
+play f seed=1 seed=1
+play f seed=1 turns=2 seed=3
+play f seed=18446744073709551616
+play f seed=-1
+play f turns=0
+play f turns=1000001
+play f turns=1 turns=1
+play f seed=1 f"
 }
 
 #[test]

@@ -9,3 +9,5 @@ mod dialogues;
 mod limits;
 #[cfg(test)]
 mod outside;
+#[cfg(test)]
+mod stages;

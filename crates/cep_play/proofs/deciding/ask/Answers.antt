@@ -3,8 +3,8 @@ use Rattle.std.proofs.Common.{◌++◌, ap, ◌∙◌}
 use Rattle.cep_rule.specs.Matching.{offers_of}
 use Rattle.cep_log.specs.Lines.{question}
 use Rattle.cep_base.proofs.Did.{did_put, did_then}
-use Rattle.cep_play.proofs.Turns.{asks_after}
-use Rattle.cep_play.proofs.turn.ask.Goals as goal
+use Rattle.cep_play.proofs.Settling.{asks_after}
+use Rattle.cep_play.proofs.deciding.ask.Goals as goal
 
 pub returns-clause-heard : goal.returns-clause-heard
 returns-clause-heard g c =
