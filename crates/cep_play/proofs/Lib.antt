@@ -1,6 +1,12 @@
 pub mod Adding
 pub mod Did
+pub mod DrawnWithin
 pub mod Hearing
+pub mod HearsThere
+pub mod StepThere
+pub mod DecisionThere
+pub mod RunThere
+pub mod DialogueThere
 pub mod LineBytes
 pub mod LineLemmas
 pub mod LineRead
