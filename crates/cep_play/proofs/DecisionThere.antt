@@ -8,9 +8,10 @@ use Rattle.cep_rule.specs.Stages.{own_group}
 use Rattle.cep_play.specs.declared.choice.Choice.{Choice}
 use Rattle.cep_play.specs.declared.choice.Choice.TheVariants.{Place}
 use Rattle.cep_play.specs.Choice.{IsChoiceWithin}
-use Rattle.cep_play.specs.Deciding.{Supply, How, Heard, Lone, Drawn, IsPlayers, place_drawn, Decides}
-use Rattle.cep_play.proofs.DrawnWithin.{drawn_within}
+use Rattle.cep_play.specs.Deciding.{place_drawn}
+use Rattle.cep_play.specs.Deciding.{Supply, How, Heard, Lone, Drawn, IsPlayers, Decides}
 use Rattle.cep_play.proofs.HearsThere.{hears_there}
+use Rattle.cep_play.proofs.StepThere.{ThereLaws}
 
 false_true : {b : Bool} {X : Type 0} → b ≡ false → b ≡ true → X
 false_true p q = absurd (cc)
@@ -48,8 +49,8 @@ pub record HasDecision (program : Parts) (seed stage group n : ℕ) (from : Supp
   pub decides : Decides program seed stage group n from how choice to
   pub within : IsChoiceWithin n choice
 
-pub decision_there : (program : Parts) (seed stage group n : ℕ) (from : Supply) → 0 < n → HasDecision program seed stage group n from
-decision_there program seed stage group n from some = elim (players_or_not program stage group n) [
+pub decision_there : ThereLaws → (program : Parts) (seed stage group n : ℕ) (from : Supply) → 0 < n → HasDecision program seed stage group n from
+decision_there laws program seed stage group n from some = elim (players_or_not program stage group n) [
   | inl players ↦ (
       let heard = hears_there n from.come from.taken in
       record { how = Heard heard.events; choice = heard.choice; to = record { come = heard.rest; taken = heard.all; drawn = from.drawn }; decides = (players, heard.hears, refl); within = heard.within }
@@ -57,8 +58,8 @@ decision_there program seed stage group n from some = elim (players_or_not progr
   | inr others ↦ elim (cases_eq n 1) [
     | inl alone ↦ record { how = Lone; choice = Place 1; to = from; decides = (others, alone, refl, refl); within = ((omega arith), (omega (arith, alone))) }
     | inr several ↦ (
-        let place = drawn_within seed from.drawn n some in
-        record { how = Drawn; choice = Place (place_drawn seed from.drawn n); to = record from { drawn = from.drawn + 1 }; decides = (others, (omega (arith, some, several)), refl, refl); within = (place.first, place.last) }
+        let place = laws.places seed from.drawn n some in
+        record { how = Drawn; choice = Place (place_drawn seed from.drawn n); to = record from { drawn = from.drawn + 1 }; decides = (others, (omega (arith, some, several)), refl, refl); within = place }
     )
   ]
 ]

@@ -24,13 +24,8 @@ word_small seed drawn = output_small (state_after 64 multiplier_64 (increment_of
 part_less : (word n : ℕ) → word < 2 ^ 32 → 0 < n → word * n / 2 ^ 32 < n
 part_less word n small some = let less : word * n < 2 ^ 32 * n = mul-lt-mul_of_pos_right small some in omega arith
 
--- the place that is drawn is one of n
-pub record IsPlaceOf (n place : ℕ) : Type 0 where
-  pub first : 0 < place
-  pub last : place ≤ n
-
-pub drawn_within : (seed drawn n : ℕ) → 0 < n → IsPlaceOf n (place_drawn seed drawn n)
+pub drawn_within : (seed drawn n : ℕ) → 0 < n → (0 < place_drawn seed drawn n) × (place_drawn seed drawn n ≤ n)
 unfolding place_drawn
 drawn_within seed drawn n some =
     let less = part_less (word_drawn seed drawn) n (word_small seed drawn) some in
-    record { first = omega arith; last = omega arith }
+    ((omega arith), (omega (arith, less)))

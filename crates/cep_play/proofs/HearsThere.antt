@@ -8,7 +8,8 @@ use Rattle.cep_base.specs.declared.console.Event.TheVariants.{In, End}
 use Rattle.cep_base.specs.Talk.{outs, ins}
 use Rattle.cep_play.specs.declared.choice.Choice.{Choice}
 use Rattle.cep_play.specs.declared.choice.Choice.TheVariants.{Place, NoMore, NoRoom}
-use Rattle.cep_play.specs.Choice.{Chooses, ChoosesNone, Cut, Ended, Last, Nothing, Full, ReadsLine, IsLine, IsChoiceWithin, room_after, no_line, Hears, chosen, again, no_more, no_room}
+use Rattle.cep_play.specs.Choice.{Chooses, ChoosesNone, Cut, Ended, Last, Nothing, Full, ReadsLine, IsLine}
+use Rattle.cep_play.specs.Choice.{IsChoiceWithin, room_after, no_line, Hears, chosen, again, no_more, no_room}
 
 -- Which place a line chooses
 

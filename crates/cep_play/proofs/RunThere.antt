@@ -123,7 +123,7 @@ module _ (laws : ThereLaws) (program : Parts) (settings : Settings) (kept : IsPr
       | inl remain ↦ elim (cases_lt MOST_OFFERS (length asked.offers)) [
         | inl many ↦ inr (record { word = Offers; asked = None; to = from; ends = ((remain, (asked.group, asked.offers, asked.asked, asked.offered, many)), refl) })
         | inr few ↦ (
-            let decision = decision_there program settings.seed at.spot.stage asked.group (length asked.offers) from asked.some in
+            let decision = decision_there laws program settings.seed at.spot.stage asked.group (length asked.offers) from asked.some in
             let question : Question = record { group = asked.group; offers = asked.offers; how = decision.how; choice = decision.choice } in
             by_choice at from is_state question decision.to (record { remain = remain; asked = asked.asked; offered = asked.offered; few = few; decided = decision.decides }) decision.choice refl decision.within
         )

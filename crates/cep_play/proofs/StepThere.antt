@@ -25,8 +25,9 @@ use Rattle.cep_rule.specs.Step.{Step}
 use Rattle.cep_rule.specs.Steps.{MakesFit, AreProofs}
 use Rattle.cep_rule.specs.Matching.{state_after}
 use Rattle.cep_rule.specs.Program.{IsTypedRule, IsDividedRule, IsProgram}
+use Rattle.cep_play.specs.Deciding.{place_drawn}
 
--- What runs rest on: lists of offers are there, and edits are steps.
+-- What runs rest on: lists of offers are there, edits are steps, and a place that is drawn is one of those among which it is.
 pub record ThereLaws : Type 0 where
   pub lists : (program : Parts) (height : ℕ) (state : Multiset) (group : ℕ) → IsProgram program → IsState program.signature state → (offers : List Offer) × AreOffers program height state group offers
   pub bags : BagLaws
@@ -34,6 +35,7 @@ pub record ThereLaws : Type 0 where
   pub right_bag : (signature : Signature) (rule : Rule) (values : List Tree) → IsTypedRule signature rule → AreValues signature.cons rule.kinds values → IsBag (right_of signature rule values)
   pub edit : (signature : Signature) (rule : Rule) (values : List Tree) (state : Multiset) → IsTypedRule signature rule → AreValues signature.cons rule.kinds values → IsBag state → IsContained (left_of signature rule values) state
       → Step signature rule values state (state_after signature state (left_of signature rule values) (full_instances values (rule.right ++ kept_of rule)))
+  pub places : (seed drawn n : ℕ) → 0 < n → (0 < place_drawn seed drawn n) × (place_drawn seed drawn n ≤ n)
 
 -- Limits can be told
 

@@ -1,12 +1,12 @@
 //! Laws of runs and dialogues. Each function computes nothing, and its contract is the law.
-ghost use Rattle.std.specs.Prelude.{◌≡◌, ℕ, ◌+◌, ◌≤◌, List, [], length, map};
+ghost use Rattle.std.specs.Prelude.{◌≡◌, ℕ, ◌+◌, ◌<◌, ◌≤◌, List, [], length, map};
 ghost use Rattle.std.specs.List.{AllByRecursion};
 ghost use Rattle.cep_base.specs.declared.console.Event.{Event};
 ghost use Rattle.cep_rule.specs.declared.parts.Parts.{Parts};
 ghost use Rattle.cep_rule.specs.State.{IsState};
 ghost use Rattle.cep_rule.specs.Program.{IsProgram};
 ghost use Rattle.cep_play.specs.declared.settings.Settings.{Settings};
-ghost use Rattle.cep_play.specs.Deciding.{Supply};
+ghost use Rattle.cep_play.specs.Deciding.{Supply, place_drawn};
 ghost use Rattle.cep_play.specs.Run.{Position, Turn, Ending, AreTurns, AreMachineSteps, Run, unproved};
 ghost use Rattle.cep_play.specs.Dialogue.{Dialogue};
 
@@ -58,6 +58,11 @@ pub fn turns_are_counted()
         → last.turns ≡ at.turns + length turns }
 {}
 
+/// The place that a word of the seed stands for is one of those among which it is drawn.
+pub fn drawn_places_are_within()
+    ensures { (seed drawn n : ℕ) → 0 < n → (0 < place_drawn seed drawn n) × (place_drawn seed drawn n ≤ n) }
+{}
+
 /// From each position at which turns remain or just ended, a run is there, whatever is typed: in each
 /// state of a program some turn can be done, or the run ends for a named reason.
 pub fn runs_are_there()
@@ -72,6 +77,7 @@ pub fn runs_are_there()
     types_are_lawful();
     sides_are_bags();
     edits_are_steps();
+    drawn_places_are_within();
 }
 
 /// Whatever is typed, there is a dialogue: so what is said of every dialogue of a program is said of

@@ -15,4 +15,4 @@ mod turn;
 mod typed;
 
 pub use command::ceptre;
-pub use laws::one_dialogue;
+pub use laws::{dialogues_are_there, one_dialogue};

@@ -10,5 +10,6 @@ returns c = λ program settings at from kept.
       types = c.types_are_lawful.ensures;
       right_bag = c.sides_are_bags.ensures.right;
       edit = c.edits_are_steps.ensures;
+      places = c.drawn_places_are_within.ensures;
     } in
     runs_there laws program settings kept at from
