@@ -1,3 +1,4 @@
 pub mod LineBytes
 pub mod LineRead
 pub mod Drawing
+pub mod DrawnWithin

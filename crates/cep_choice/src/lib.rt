@@ -2,6 +2,7 @@
 #![tactic(auto)]
 
 mod draw;
+pub mod laws;
 mod reading;
 mod typed;
 

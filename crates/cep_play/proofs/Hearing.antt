@@ -2,12 +2,17 @@
 use Rattle.std.proofs.Common.{◌≡◌, ℕ, ◌+◌, List, [], ◌∷◌, ◌++◌, append_assoc, take, Option, refl, sym, ap, ◌∙◌, subst}
 use Rattle.cep_base.specs.declared.console.Event.{Event}
 use Rattle.cep_base.specs.Talk.{outs, GoesOn, Did}
-use Rattle.cep_play.specs.declared.choice.Said.TheVariants as said
+use Rattle.cep_choice.specs.declared.reading.Said.{Said}
+use Rattle.cep_choice.specs.declared.reading.Said.TheVariants as said
 use Rattle.cep_play.specs.declared.choice.Choice.{Choice}
 use Rattle.cep_play.specs.declared.choice.Choice.TheVariants as choice
-use Rattle.cep_play.specs.Choice.{ReadsLine, Hears, chosen, again, no_more, no_room, room_after, no_line, IsCutShort, HearsFront, line_cut, answer_cut, behind_bad}
+use Rattle.cep_choice.specs.TypedLine.{Cut, ReadsLine, IsHeardAs, IsCutShort}
+use Rattle.cep_play.specs.Choice.{Hears, chosen, again, no_more, no_room, room_after, no_line, HearsFront, line_cut, answer_cut, behind_bad}
 use Rattle.cep_base.proofs.Did.{did_same, did_put, did_then, did_map}
-use Rattle.cep_play.proofs.LineRead.{ReadsSaid}
+
+-- one reading of a line, and what it says
+abbrev ReadsSaid : ℕ → ℕ → Said → ℕ → List ℕ → List Event → List ℕ → Type 0
+ReadsSaid n room said taken come events rest = (cut : Cut) × ReadsLine room come events cut rest taken × IsHeardAs n cut said
 
 -- whatever comes of the choice from now on comes of it from the start, behind what was said so far
 pub record Awaits (n start taken : ℕ) (come : List ℕ) (events : List Event) (rest : List ℕ) : Type 0 where

@@ -1,4 +1,9 @@
 pub mod Hearing
+pub mod HearsThere
+pub mod StepThere
+pub mod DecisionThere
+pub mod RunThere
+pub mod DialogueThere
 pub mod OneReading
 pub mod Settling
 pub mod Turns

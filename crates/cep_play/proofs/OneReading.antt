@@ -10,7 +10,8 @@ use Rattle.cep_base.specs.Spelling.{IsUnbroken}
 use Rattle.cep_base.specs.declared.console.Event.{Event}
 use Rattle.cep_play.specs.declared.choice.Choice.{Choice}
 use Rattle.cep_play.specs.declared.choice.Choice.TheVariants.{Place}
-use Rattle.cep_play.specs.Choice.{Chooses, ChoosesNone, Cut, Ended, Last, Nothing, Full, ReadsLine, IsLine, room_after, Hears, chosen, again, no_more, no_room}
+use Rattle.cep_choice.specs.TypedLine.{Chooses, ChoosesNone, Cut, Ended, Last, Nothing, Full, ReadsLine, IsLine}
+use Rattle.cep_play.specs.Choice.{room_after, Hears, chosen, again, no_more, no_room}
 
 -- One line
 
@@ -92,7 +93,7 @@ digits_or_CR [] all = let low = digit_from_value 13 all.0 in omega (arith, low.0
 digits_or_CR (digit ∷ digits) all = digits_or_CR digits all.1
 
 -- a number alone is not a number and a CR
-pub plain_or_closed : (place other : ℕ) → place < 2 ^ 64 → decimal place ≡ decimal other ++ 13 ∷ [] → ⊥
+plain_or_closed : (place other : ℕ) → place < 2 ^ 64 → decimal place ≡ decimal other ++ 13 ∷ [] → ⊥
 plain_or_closed place other small same = digits_or_CR (decimal other) (subst (AllDigits 10) same (decimal_is_IsNumeral place small).0.1)
 
 -- a line chooses one place

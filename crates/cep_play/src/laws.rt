@@ -1,14 +1,21 @@
 //! Laws of runs and dialogues. Each function computes nothing, and its contract is the law.
-ghost use Rattle.std.specs.Prelude.{◌≡◌, ℕ, ◌+◌, List, [], length, map};
+ghost use Rattle.std.specs.Prelude.{◌≡◌, ℕ, ◌+◌, ◌≤◌, List, [], length, map};
 ghost use Rattle.std.specs.List.{AllByRecursion};
 ghost use Rattle.cep_base.specs.declared.console.Event.{Event};
 ghost use Rattle.cep_rule.specs.declared.parts.Parts.{Parts};
+ghost use Rattle.cep_rule.specs.State.{IsState};
+ghost use Rattle.cep_rule.specs.Program.{IsProgram};
 ghost use Rattle.cep_play.specs.declared.settings.Settings.{Settings};
 ghost use Rattle.cep_play.specs.Deciding.{Supply};
 ghost use Rattle.cep_play.specs.Run.{Position, Turn, Ending, AreTurns, AreMachineSteps, Run, unproved};
 ghost use Rattle.cep_play.specs.Dialogue.{Dialogue};
 
-use cep_rule::laws::{one_list_of_offers, one_state_after_a_step};
+use cep_choice::laws::drawn_places_are_within;
+use cep_rule::laws::{
+    edits_are_steps, one_list_of_offers, one_state_after_a_step, sides_are_bags, types_are_lawful,
+};
+use cep_scratch::laws::offers_are_there;
+use cep_term::laws::bags_are_lawful;
 
 /// From a position, what is typed and the seed determine the run: its turns, but for the derivations
 /// that they carry, how it ends, and what is left of the supply.
@@ -51,3 +58,30 @@ pub fn turns_are_counted()
         → AreTurns program settings at from turns last to
         → last.turns ≡ at.turns + length turns }
 {}
+
+/// From each position at which turns remain or just ended, a run is there, whatever is typed: in each
+/// state of a program some turn can be done, or the run ends for a named reason.
+pub fn runs_are_there()
+    ensures { (program : Parts) (settings : Settings) (at : Position) (from : Supply)
+        → IsProgram program
+        → IsState program.signature at.spot.state
+        → at.turns ≤ settings.limit
+        → (turns : List Turn) × (ending : Ending) × (to : Supply) × Run program settings at from turns ending to }
+{
+    offers_are_there();
+    bags_are_lawful();
+    types_are_lawful();
+    sides_are_bags();
+    edits_are_steps();
+    drawn_places_are_within();
+}
+
+/// Whatever is typed, there is a dialogue: so what is said of every dialogue of a program is said of
+/// some.
+pub fn dialogues_are_there()
+    ensures { (program : Parts) (settings : Settings) (come : List ℕ)
+        → IsProgram program
+        → (turns : List Turn) × (ending : Ending) × (events : List Event) × (rest : List ℕ) × Dialogue program settings come turns ending events rest }
+{
+    runs_are_there();
+}

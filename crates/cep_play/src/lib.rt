@@ -12,4 +12,4 @@ mod settings;
 mod turn;
 
 pub use command::ceptre;
-pub use laws::one_dialogue;
+pub use laws::{dialogues_are_there, one_dialogue};
