@@ -1,6 +1,5 @@
 -- What the statuses of the command say.
-use Rattle.std.proofs.Math.Seq.{take-length}
-use Rattle.std.proofs.Common.{◌≡◌, ℕ, ◌+◌, ◌-◌, ◌<◌, ◌≤◌, List, [], ◌∷◌, length, map, take, drop, ap, ◌∙◌, get_or, refl, sym, subst, inl, inr, lit<, arith, Option, None, Some}
+use Rattle.std.proofs.Common.{◌≡◌, ℕ, ◌+◌, ◌<◌, ◌≤◌, List, [], ◌∷◌, length, map, refl, sym, subst, inl, inr, lit<, arith, Option, None, Some}
 use Rattle.std.proofs.lemmas.List.{length-replicate}
 use Rattle.std.specs.Prelude.{Contains, replicate}
 use Rattle.std.specs.Option.{IsSomeAnd}
@@ -14,29 +13,22 @@ use Rattle.cep_rule.specs.declared.parts.Parts.{Parts}
 use Rattle.cep_refusal.specs.declared.refusal.Refusal.{Refusal}
 use Rattle.cep_refusal.specs.declared.fault.Fault.{Fault}
 use Rattle.cep_ground.specs.Texts.{Spells}
-use Rattle.cep_ground.specs.Refusals.{IsBuilt, IsWrong, IsAccepted}
+use Rattle.cep_ground.specs.Refusals.{IsWrong, IsAccepted}
 use Rattle.std.specs.Prelude.{Result, Ok, Err}
 use Rattle.cep_play.specs.declared.command.Status.{Status}
 use Rattle.cep_play.specs.declared.command.Status.TheVariants.{Ended, Usage, Refused, Limited, Console, Unread, Memory}
 use Rattle.cep_log.specs.declared.end_word.EndWord.{EndWord}
 use Rattle.cep_log.specs.declared.end_word.EndWord.TheVariants.{Quiet, Input, Turns, Offers, Typed, Atom, State}
-use Rattle.cep_play.specs.declared.options.Options.{Options}
+use Rattle.cep_words.specs.declared.options.Options.{Options}
+use Rattle.cep_words.specs.Words.{Play, AskFor, HaveNoForm}
 use Rattle.cep_play.specs.declared.settings.Settings.{Settings}
 use Rattle.cep_play.specs.Deciding.{Supply}
 use Rattle.cep_play.specs.Run.{Position, start_of, whole_supply, Turn, Ending, AreTurns, AreMachineSteps, unproved}
 use Rattle.cep_play.specs.Dialogue.{Dialogue}
-use Rattle.cep_play.specs.Command.{Play, AskFor, settings_of, IsSaid, Says, HaveNoForm, Writes, Refuses, refusal_text, usage}
+use Rattle.cep_play.specs.Command.{settings_of, IsSaid, Says, Writes, Refuses, refusal_text, usage}
 use Rattle.cep_play.specs.Outcome.{AsksFile, AskedAsSaid, OfText, OfRun, OfWords, code_of, status_of}
 use Rattle.cep_base.proofs.Did.{did_map}
 use Rattle.cep_play.proofs.Runs.{IsTold}
-
--- a slice that begins with two items
-pub two_items : {X : Type 0} (items : List X) (one other : X) → 2 ≤ length items → one ≡ get_or items 0 one → other ≡ get_or items 1 other → items ≡ one ∷ other ∷ take (length items - 2) (drop 2 items)
-two_items [] one other least e f = absurd (omega arith)
-two_items (a ∷ []) one other least e f = absurd (omega arith)
-two_items (a ∷ b ∷ more) one other least e f =
-    let rest : take (length (a ∷ b ∷ more) - 2) more ≡ more = ap (λ n. take n more) (let h : length (a ∷ b ∷ more) - 2 ≡ length more = omega arith in h) ∙ take-length more in
-    cc
 
 -- that one dialogue is there but for derivations, told for any two
 abbrev pub IsOneDialogue : Type 0
@@ -85,28 +77,28 @@ module _ {C : Type 0} (talk : C → Option (List Event)) (left : C → Option (L
       did_map talk left old new _ _ (λ come events rest said. record { turns = said.turns; ending = said.ending; dialogue = said.dialogue; word = subst P (sym said.word) holds; steps = said.steps; counted = said.counted; only = said.only; to_the_byte = said.to_the_byte }) says
 
   -- a played text
-  pub text_played : (text : List ℕ) (options : Options) (program : Parts) (word : EndWord) → ((one other : Parts) → Spells text one → Spells text other → one ≡ other) → Spells text program → IsBuilt program → Says talk left old new program (settings_of program options) (λ end. end ≡ word) → OfText talk left old new text options (status_of word)
+  pub text_played : (text : List ℕ) (options : Options) (program : Parts) (word : EndWord) → ((one other : Parts) → Spells text one → Spells text other → one ≡ other) → Spells text program → Says talk left old new program (settings_of program options) (λ end. end ≡ word) → OfText talk left old new text options (status_of word)
   text_played text options program word one spells built says = by word says where
     only : (other : Parts) → Spells text other → other ≡ program
     only other is = one other program is spells
 
     by : (end : EndWord) → Says talk left old new program (settings_of program options) (λ w. w ≡ end) → OfText talk left old new text options (status_of end)
-    by Quiet said = record { program = program; spells = spells; built = built; only = only; says = says_word program (settings_of program options) Quiet _ (inl refl) said }
-    by Input said = record { program = program; spells = spells; built = built; only = only; says = says_word program (settings_of program options) Input _ (inr refl) said }
-    by Turns said = record { program = program; spells = spells; built = built; only = only; says = says_word program (settings_of program options) Turns _ (inl refl) said }
-    by Offers said = record { program = program; spells = spells; built = built; only = only; says = says_word program (settings_of program options) Offers _ (inr (inl refl)) said }
-    by Typed said = record { program = program; spells = spells; built = built; only = only; says = says_word program (settings_of program options) Typed _ (inr (inr (inl refl))) said }
-    by Atom said = record { program = program; spells = spells; built = built; only = only; says = says_word program (settings_of program options) Atom _ (inr (inr (inr (inl refl)))) said }
-    by State said = record { program = program; spells = spells; built = built; only = only; says = says_word program (settings_of program options) State _ (inr (inr (inr (inr refl)))) said }
+    by Quiet said = record { program = program; spells = spells; only = only; says = says_word program (settings_of program options) Quiet _ (inl refl) said }
+    by Input said = record { program = program; spells = spells; only = only; says = says_word program (settings_of program options) Input _ (inr refl) said }
+    by Turns said = record { program = program; spells = spells; only = only; says = says_word program (settings_of program options) Turns _ (inl refl) said }
+    by Offers said = record { program = program; spells = spells; only = only; says = says_word program (settings_of program options) Offers _ (inr (inl refl)) said }
+    by Typed said = record { program = program; spells = spells; only = only; says = says_word program (settings_of program options) Typed _ (inr (inr (inl refl))) said }
+    by Atom said = record { program = program; spells = spells; only = only; says = says_word program (settings_of program options) Atom _ (inr (inr (inr (inl refl)))) said }
+    by State said = record { program = program; spells = spells; only = only; says = says_word program (settings_of program options) State _ (inr (inr (inr (inr refl)))) said }
 
   -- a refused text
-  pub text_refused : (text : List ℕ) (refusal : Refusal) → ((text : List ℕ) (parts : Parts) (fault : Fault) → Spells text parts → IsBuilt parts → ¬ (IsWrong text fault)) → IsAccepted text (Err refusal) → Writes talk left old new (refusal_text refusal) → Refuses talk left old new text
+  pub text_refused : (text : List ℕ) (refusal : Refusal) → ((text : List ℕ) (parts : Parts) (fault : Fault) → Spells text parts → ¬ (IsWrong text fault)) → IsAccepted text (Err refusal) → Writes talk left old new (refusal_text refusal) → Refuses talk left old new text
   text_refused text refusal never refused writes = record {
     fault = refused.0;
     refusal = refusal;
     refused = refused.1;
     tells = refused.2;
-    no_program = λ program spells built. never text program refused.0 spells built refused.1.holds;
+    no_program = λ program spells. never text program refused.0 spells refused.1.holds;
     writes = writes;
   }
 

@@ -5,6 +5,7 @@ pub mod DecisionThere
 pub mod RunThere
 pub mod DialogueThere
 pub mod OneReading
+pub mod StepLines
 pub mod Settling
 pub mod Turns
 pub mod Backs

@@ -83,3 +83,11 @@ unasked_spends seed turns n place old new some spent lone drawn = elim (cases_lt
     let has : HasSpent seed (turns + 1) old = record { taken = spent.taken; drawn = omega (arith, few); draw = spent.draw } in
     subst (HasSpent seed (turns + 1)) (sym is.1) has
 ]
+
+-- nothing was spent yet
+pub nothing_spent : (seed turns : ℕ) (spent : Spent) → spent.taken ≡ 0 → spent.drawn ≡ 0 → spent.draw ≡ generator_behind seed 0 → HasSpent seed turns spent
+nothing_spent seed turns spent untaken undrawn fresh = record {
+  taken = omega (arith, untaken);
+  drawn = omega (arith, undrawn);
+  draw = fresh ∙ ap (generator_behind seed) (sym undrawn);
+}

@@ -14,7 +14,7 @@ returns-in-Ok-clause-outcome g c =
     IfOk-weaker c.play_program.result _ _
     (λ status played.
     subst (λ other. OfText talk left c.args.console.now c.play_program.new.console text c.args.options other) (sym played.1)
-    (text_played talk left c.args.console.now c.play_program.new.console text c.args.options c.in-Ok.program played.0 (c.one_program.ensures text) accepted.0 accepted.1 played.2))
+    (text_played talk left c.args.console.now c.play_program.new.console text c.args.options c.in-Ok.program played.0 (c.one_program.ensures text) accepted played.2))
     c.play_program.ensures.said
 
 pub returns-in_ok-refuse-in-Err-clause-outcome : goal.returns-in_ok-refuse-in-Err-clause-outcome

@@ -7,3 +7,12 @@ use Rattle.cep_play.proofs.deciding.decide.Goals as goal
 
 pub returns-then-is_players-clause-settled : goal.returns-then-is_players-clause-settled
 returns-then-is_players-clause-settled g c = ?
+
+pub returns-then-is_players-clause-spent : goal.returns-then-is_players-clause-spent
+returns-then-is_players-clause-spent g c = ?
+
+pub returns-clause-settled : goal.returns-clause-settled
+returns-clause-settled g c = ?
+
+pub returns-clause-spent : goal.returns-clause-spent
+returns-clause-spent g c = ?

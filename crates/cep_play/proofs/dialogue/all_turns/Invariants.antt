@@ -1,7 +1,6 @@
 use Rattle.std.proofs.Common.{◌≡◌, ◌≤◌}
-use Rattle.cep_base.specs.declared.limits.TheConstants.{MOST_TYPED}
 use Rattle.cep_base.specs.Talk.{Did}
-use Rattle.cep_play.specs.Turn.{position_of, IsPlayed, SoFar}
+use Rattle.cep_play.specs.Turn.{position_of, HasSpent, IsPlayed, SoFar}
 use Rattle.cep_play.proofs.dialogue.all_turns.Given as goal
 
 -- Some turns are done from the start to here, and what was said is their events.
@@ -10,8 +9,8 @@ invariant-loop-done g l =
     record {
       played : IsPlayed g.M.Matcher.is_of g.M.Matcher.height_held l.program l.settings l.config;
       turns : l.config.turns ≡ l._done;
-      within : l.taken ≤ MOST_TYPED;
+      spent : HasSpent l.settings.seed l.config.turns l.spent;
       counted : l.fn.steps ≤ l.steps;
       cause : g.C.Console.faults l.console ≡ g.C.Console.faults l.fn.console;
-      so_far : Did g.C.Console.talk g.C.Console.left l.fn.console l.console (SoFar l.program l.settings (position_of l.fn.start) (position_of l.config) l.taken);
+      so_far : Did g.C.Console.talk g.C.Console.left l.fn.console l.console (SoFar l.program l.settings (position_of l.fn.start) (position_of l.config) l.spent);
     }

@@ -1,5 +1,4 @@
-use Rattle.std.proofs.Common.{◌≡◌, true, sym, subst}
-use Rattle.std.specs.Prelude.{slice_get, IsSomeAnd}
+use Rattle.std.proofs.Common.{◌≡◌, subst}
 use Rattle.cep_base.specs.Talk.{outs, Did}
 use Rattle.cep_log.specs.Lines.{end_lines}
 use Rattle.cep_play.specs.Run.{start_of}
@@ -12,12 +11,10 @@ use Rattle.cep_play.proofs.dialogue.play.Goals as goal
 
 pub all_turns-requires-clause-played : goal.all_turns-requires-clause-played
 all_turns-requires-clause-played g c =
-    let program = c.args.program.now in
     let begun = c.in_ok-config.ensures in
     record {
       of_program = begun.of_program;
       height = begun.height;
-      interactive = subst (λ n. IsSomeAnd (slice_get program.stages n) (λ it. it.interactive ≡ true)) (sym begun.stage) c.requires.built.interactive;
     }
 
 pub returns-clause-said : goal.returns-clause-said
