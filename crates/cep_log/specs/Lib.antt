@@ -1,0 +1,4 @@
+pub mod Lines
+pub mod Codes
+pub mod Listed
+pub mod Legal

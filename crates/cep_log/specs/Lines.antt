@@ -1,0 +1,87 @@
+-- The lines of a transcript.
+use Rattle.std.specs.Prelude.{ℕ, ◌+◌, List, [], ◌∷◌, ◌++◌, codes, decimal, Option, Some, None, slice_get}
+use Rattle.std.specs.List.{flat_map}
+use Rattle.std.specs.FinMap as finite
+use Rattle.cep_term.specs.Tree.{AtomTree}
+use Rattle.cep_term.specs.Multiset.{Multiset}
+use Rattle.cep_rule.specs.declared.signature.Signature.{Signature}
+use Rattle.cep_rule.specs.declared.rule.Rule.{Rule}
+use Rattle.cep_rule.specs.declared.parts.Stage.{Stage}
+use Rattle.cep_rule.specs.declared.parts.Parts.{Parts}
+use Rattle.cep_rule.specs.declared.offer.Offer.{Offer}
+use Rattle.cep_rule.specs.Derivations.{ProofTree}
+use Rattle.cep_text.specs.Texts.{atom_text, offer_text, proof_text}
+use Rattle.cep_log.specs.declared.end_word.EndWord.{EndWord}
+use Rattle.cep_log.specs.declared.end_word.EndWord.TheVariants.{Quiet, Input, Turns, Offers, Typed, Atom, State}
+
+-- a text and the LF that ends its line
+abbrev pub line : List ℕ → List ℕ
+line text = text ++ 10 ∷ []
+
+-- `have N ATOM`
+unfoldable pub have_line : Signature → AtomTree × ℕ → List ℕ
+have_line signature entry = line (codes "have " ++ decimal entry.1 ++ codes " " ++ atom_text signature entry.0)
+
+-- the copies of each atom of a state, in the order of atoms
+unfoldable pub listing : Signature → Multiset → List ℕ
+listing signature state = flat_map (have_line signature) (finite.entries state)
+
+-- `? I OFFER`
+unfoldable pub offer_line : Parts → ℕ → Offer → List ℕ
+offer_line program place offer = line (codes "? " ++ decimal place ++ codes " " ++ offer_text program offer)
+
+-- the offers, numbered from a place on
+unfoldable pub offer_lines : Parts → ℕ → List Offer → List ℕ
+offer_lines program place [] = []
+offer_lines program place (offer ∷ offers) = offer_line program place offer ++ offer_lines program (place + 1) offers
+
+-- what is written before the player chooses
+unfoldable pub question : Parts → List Offer → List ℕ
+question program offers = offer_lines program 1 offers ++ line (codes "? choose")
+
+abbrev pub stage_name : Option Stage → List ℕ
+stage_name None = []
+stage_name (Some stage) = stage.name
+
+-- `stage NAME`
+unfoldable pub stage_line : Parts → ℕ → List ℕ
+stage_line program stage = line (codes "stage " ++ stage_name (slice_get program.stages stage))
+
+-- the line of the stage that a rule leads to, where it leads to one
+abbrev pub next_line : Parts → Option ℕ → List ℕ
+next_line program None = []
+next_line program (Some stage) = stage_line program stage
+
+-- `step OFFER`
+unfoldable pub step_line : Parts → Offer → List ℕ
+step_line program offer = line (codes "step " ++ offer_text program offer)
+
+-- `by DERIVATION`
+unfoldable pub by_line : Parts → ProofTree → List ℕ
+by_line program proof = line (codes "by " ++ proof_text program proof)
+
+-- the same for each backward premise
+unfoldable pub by_lines : Parts → List ProofTree → List ℕ
+by_lines program proofs = flat_map (by_line program) proofs
+
+-- what is written of a step: its line, what proves the backward premises, and the next stage where the rule leads to one
+unfoldable pub step_lines : Parts → Offer → Rule → List ProofTree → List ℕ
+step_lines program offer rule proofs = step_line program offer ++ (by_lines program proofs ++ next_line program rule.next)
+
+abbrev pub ending_word : EndWord → List ℕ
+ending_word Quiet = codes "quiet"
+ending_word Input = codes "input"
+ending_word Turns = codes "turns"
+ending_word Offers = codes "offers"
+ending_word Typed = codes "typed"
+ending_word Atom = codes "atom"
+ending_word State = codes "state"
+
+-- `end WORD`, and the listing of the state
+unfoldable pub end_lines : Signature → EndWord → Multiset → List ℕ
+end_lines signature word state = line (codes "end " ++ ending_word word) ++ listing signature state
+
+-- the first three lines, and the listing of the start state
+unfoldable pub header : Parts → ℕ → List ℕ
+header program height =
+    line (codes "ceptre 1") ++ (line (codes "height " ++ decimal height) ++ (stage_line program program.start_stage ++ listing program.signature program.start))

@@ -1,0 +1,52 @@
+use crate::end_word::EndWord;
+use crate::listing::Haves;
+use crate::proofs::Proofs;
+use cep_base::List;
+use cep_rule::Offer;
+
+/// The most bytes of a transcript. The limit is this profile's.
+pub const MOST_TRANSCRIPT: usize = 67_108_864;
+
+/// The content of a transcript: its header, the start state as it is listed, the steps, and how it
+/// ends where it has an end. Lines are numbered from 1, and a line that is passed over counts too.
+/// Contracts see a log as the record of its fields, each listing as a list of atoms with their
+/// counts, and each derivation as its tree. `IsLogOf` says which logs are of a program, and
+/// `IsLegal` which of these are legal.
+#[derive(Debug, Drop)]
+pub struct Log {
+    /// How high a derivation may be.
+    pub height: u32,
+    /// The line of the header that names the stage.
+    pub stage_line: u32,
+    /// The stage that the header names.
+    pub stage: u32,
+    /// The listing of the start state.
+    pub start: Haves,
+    pub steps: LogSteps,
+    /// None where the transcript stops behind the start listing or behind a whole step.
+    pub end: Option<LogEnd>,
+    /// How many lines the transcript has, those that are passed over included.
+    pub lines: u32,
+}
+
+/// The steps of a log, in order.
+pub type LogSteps = List<LogStep>;
+
+/// A step of a log: the number of its line, the offer, a derivation for each backward premise of the
+/// offer's rule, and the stage that is written below it, which stands there exactly where the rule
+/// leaves a stage.
+#[derive(Debug, Drop)]
+pub struct LogStep {
+    pub line: u32,
+    pub offer: Offer,
+    pub proofs: Proofs,
+    pub stage: Option<u32>,
+}
+
+/// The end of a log: the number of its line, the word, and the listing of the last state.
+#[derive(Debug, Drop)]
+pub struct LogEnd {
+    pub line: u32,
+    pub word: EndWord,
+    pub state: Haves,
+}
