@@ -13,3 +13,4 @@ pub mod Finite
 pub mod Finding
 pub mod Rising
 pub mod OffersThere
+pub mod FirstOffers

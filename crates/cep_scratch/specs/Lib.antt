@@ -2,3 +2,4 @@ pub mod Partial
 pub mod Backs
 pub mod Groups
 pub mod Scratch
+pub mod First

@@ -4,14 +4,17 @@
 //! A rule is matched premise by premise, in written order. For each linear premise the entries of the
 //! state that have its predicate are tried, one after another, and each that meets it is followed before
 //! the next. Then each backward premise is asked of backward chaining, and each of its answers is
-//! followed before the next. What was found is sorted in the end, group by group.
+//! followed before the next. What was found of a rule is sorted, and put behind what its group's rules
+//! before it have.
 #![tactic(auto)]
 
 mod backs;
+mod first;
 mod groups;
 pub mod laws;
 mod partial;
 mod scratch;
 mod search;
 
+pub use first::applies_any;
 pub use scratch::Scratch;
