@@ -1,5 +1,6 @@
 // The texts of generated worlds.
-use cep_world::{MOST_WORLD, world_text};
+use cep_base::limits::MOST_WORLD;
+use cep_world::world_text;
 use std::process::Abort;
 use std::test::Fail;
 

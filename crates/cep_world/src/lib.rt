@@ -6,4 +6,4 @@
 mod pieces;
 mod world;
 
-pub use world::{MOST_WORLD, world_text};
+pub use world::world_text;

@@ -4,8 +4,8 @@ ghost use Rattle.std.specs.List.{flat_map};
 ghost use Rattle.cep_world.specs.World.{numbers_below, numbered_names, atom_with_room, room_atoms, walker_atoms, good_atom};
 ghost use Rattle.cep_world.specs.Pieces.{with_commas};
 
-use crate::world::MOST_WORLD;
 use cep_base::Text;
+use cep_base::limits::MOST_WORLD;
 use std::alloc::AllocError;
 
 // The line of one name, as `r0 : room.`.

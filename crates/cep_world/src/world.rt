@@ -4,10 +4,8 @@ ghost use Rattle.cep_world.specs.World.{numbered_names, walker_count, start_atom
 
 use crate::pieces::{put_atom, put_goods, put_names, put_rooms, put_walkers};
 use cep_base::Text;
+use cep_base::limits::MOST_WORLD;
 use std::alloc::{AllocError, Global};
-
-/// The most rooms of a generated world.
-pub const MOST_WORLD: u32 = 5_000;
 
 // The lines of the names.
 #[tactic(auto, using(std::proofs::Common::append_assoc))]
@@ -55,7 +53,7 @@ fn put_start(out: &mut Text, n: u32) -> Result<(), AllocError>
     put_atom(out, b"lies g", n - 1, 5 * (n - 1) % n)
 }
 
-/// The text of the world of so many rooms, at least one and at most [`MOST_WORLD`]: a program in
+/// The text of the world of so many rooms, at least one and at most `MOST_WORLD`: a program in
 /// which walkers go along links, take goods and eat. Only want of memory is refused. Worlds are this
 /// project's own.
 pub fn world_text(alloc: Global, n: u32) -> Result<Text, AllocError>
