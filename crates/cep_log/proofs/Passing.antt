@@ -94,13 +94,17 @@ stops_said program bytes left number so_far passed none said =
 pub misfit_said : (program : Parts) (bytes : List ℕ) (left behind : List (List ℕ)) (line : List ℕ) (number : ℕ) (so_far : SoFar) (fault : LogFault) → HasPassed program (all_lines bytes) left number so_far → left ≡ line ∷ behind
     → ((new : SoFar) → ¬ (Passes program (number + 1) line so_far new)) → IsFaultOf program (number + 1) line so_far fault → HasMisfit program bytes fault
 misfit_said program bytes left behind line number so_far fault passed is nowhere why =
-    record { lines = all_lines bytes; cut = lines_are bytes; why = inl (record {
-      before = passed.done;
-      line = line;
-      behind = behind;
-      cut = passed.cut ∙ ap (λ rest. passed.done ++ rest) is;
-      so_far = so_far;
-      leads = passed.leads;
-      nowhere = subst (λ (n : ℕ). (new : SoFar) → ¬ (Passes program (n + 1) line so_far new)) passed.counted nowhere;
-      fault_is = subst (λ (n : ℕ). IsFaultOf program (n + 1) line so_far fault) passed.counted why;
-    }) }
+    record {
+      lines = all_lines bytes;
+      cut = lines_are bytes;
+      why = inl (record {
+        before = passed.done;
+        line = line;
+        behind = behind;
+        cut = passed.cut ∙ ap (λ rest. passed.done ++ rest) is;
+        so_far = so_far;
+        leads = passed.leads;
+        nowhere = subst (λ (n : ℕ). (new : SoFar) → ¬ (Passes program (n + 1) line so_far new)) passed.counted nowhere;
+        fault_is = subst (λ (n : ℕ). IsFaultOf program (n + 1) line so_far fault) passed.counted why;
+      });
+    }

@@ -54,12 +54,12 @@ decision_there laws program seed stage group n from some = elim (players_or_not 
   | inl players ↦ (
       let heard = hears_there n from.come from.taken in
       record { how = Heard heard.events; choice = heard.choice; to = record { come = heard.rest; taken = heard.all; drawn = from.drawn }; decides = (players, heard.hears, refl); within = heard.within }
-  )
+      )
   | inr others ↦ elim (cases_eq n 1) [
     | inl alone ↦ record { how = Lone; choice = Place 1; to = from; decides = (others, alone, refl, refl); within = ((omega arith), (omega (arith, alone))) }
     | inr several ↦ (
         let place = laws.places seed from.drawn n some in
         record { how = Drawn; choice = Place (place_drawn seed from.drawn n); to = record from { drawn = from.drawn + 1 }; decides = (others, (omega (arith, some, several)), refl, refl); within = place }
-    )
+        )
   ]
 ]

@@ -128,7 +128,7 @@ module _ (n : ℕ) (come : List ℕ) (taken : ℕ) (next : (later : List ℕ) (a
           hears = again cut line rest more events later.events reads is none later.hears refl;
           within = later.within;
         }
-    )
+        )
   ]
 
   by_cut : (cut : Cut) (events : List Event) (rest : List ℕ) (more : ℕ) → ReadsLine (room_after taken) come events cut rest more → HasHearing n come taken

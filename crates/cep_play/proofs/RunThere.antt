@@ -126,7 +126,7 @@ module _ (laws : ThereLaws) (program : Parts) (settings : Settings) (kept : IsPr
             let decision = decision_there laws program settings.seed at.spot.stage asked.group (length asked.offers) from asked.some in
             let question : Question = record { group = asked.group; offers = asked.offers; how = decision.how; choice = decision.choice } in
             by_choice at from is_state question decision.to (record { remain = remain; asked = asked.asked; offered = asked.offered; few = few; decided = decision.decides }) decision.choice refl decision.within
-        )
+            )
       ]
     ]
   ]
@@ -166,7 +166,7 @@ module _ (laws : ThereLaws) (program : Parts) (settings : Settings) (kept : IsPr
         let remain = turn.is.asks.remain in
         let counted = turn.is.counted in
         goes_on at from turn.turn turn.is (run_within most turn.turn.after turn.turn.left turn.state (omega (arith, remain, counted)) (omega (arith, few, counted)))
-    )
+        )
   ]
 
   pub run_there : (at : Position) (from : Supply) → IsState program.signature at.spot.state → at.turns ≤ settings.limit → HasRun at from

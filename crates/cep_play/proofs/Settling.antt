@@ -71,17 +71,17 @@ pub unasked_spends : (seed turns n place : ℕ) (old new : Spent) → 0 < n → 
     → HasSpent seed (turns + 1) new
 unasked_spends seed turns n place old new some spent lone drawn = elim (cases_lt 1 n) [
   | inl several ↦
-    let is = drawn several seed spent.draw in
-    let few = spent.drawn in
-    let next : Spent = record { taken = old.taken; drawn = old.drawn + 1; draw = generator_behind seed (old.drawn + 1) } in
-    let has : HasSpent seed (turns + 1) next = record { taken = spent.taken; drawn = omega (arith, few); draw = refl } in
-    subst (HasSpent seed (turns + 1)) (sym is.1) has
+      let is = drawn several seed spent.draw in
+      let few = spent.drawn in
+      let next : Spent = record { taken = old.taken; drawn = old.drawn + 1; draw = generator_behind seed (old.drawn + 1) } in
+      let has : HasSpent seed (turns + 1) next = record { taken = spent.taken; drawn = omega (arith, few); draw = refl } in
+      subst (HasSpent seed (turns + 1)) (sym is.1) has
   | inr least ↦
-    let one : n ≡ 1 = omega (arith, some, least) in
-    let is = lone one in
-    let few = spent.drawn in
-    let has : HasSpent seed (turns + 1) old = record { taken = spent.taken; drawn = omega (arith, few); draw = spent.draw } in
-    subst (HasSpent seed (turns + 1)) (sym is.1) has
+      let one : n ≡ 1 = omega (arith, some, least) in
+      let is = lone one in
+      let few = spent.drawn in
+      let has : HasSpent seed (turns + 1) old = record { taken = spent.taken; drawn = omega (arith, few); draw = spent.draw } in
+      subst (HasSpent seed (turns + 1)) (sym is.1) has
 ]
 
 -- nothing was spent yet

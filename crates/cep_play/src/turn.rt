@@ -114,7 +114,15 @@ pub fn turn<C: Console, M: Matcher, L: Ledger>(
     if !config.matcher().len_ok(group) {
         return Ok(over(config, EndWord::Offers));
     }
-    match decide(alloc, program, settings.seed, &config, group, console, spent)? {
+    match decide(
+        alloc,
+        program,
+        settings.seed,
+        &config,
+        group,
+        console,
+        spent,
+    )? {
         Choice::Place(place) => act(
             alloc, program, settings, config, group, place, console, steps,
         ),

@@ -9,9 +9,9 @@ returns-else-value-ge1 c = λ value count is.
     let found = c.in_ok-value.ensures in
     elim c.else-value-ge1.branch [
       | else-value-ge1-via-then-value-ge1+else-value-from w ↦
-        let same : value ≡ c.in_ok-value.value = decimal_injective value c.in_ok-value.value (omega (arith, most, count.1)) (omega arith) (sym is ∙ found) in
-        omega (arith, same, count.1)
+          let same : value ≡ c.in_ok-value.value = decimal_injective value c.in_ok-value.value (omega (arith, most, count.1)) (omega arith) (sym is ∙ found) in
+          omega (arith, same, count.1)
       | else-value-ge1-via-else-value-ge1 w ↦
-        let same : value ≡ c.in_ok-value.value = decimal_injective value c.in_ok-value.value (omega (arith, most, count.1)) (omega arith) (sym is ∙ found) in
-        omega (arith, same, count.0)
+          let same : value ≡ c.in_ok-value.value = decimal_injective value c.in_ok-value.value (omega (arith, most, count.1)) (omega arith) (sym is ∙ found) in
+          omega (arith, same, count.0)
     ]
