@@ -7,3 +7,4 @@ pub mod Once
 pub mod Ofs
 pub mod Passing
 pub mod Apart
+pub mod LineKindLemmas
