@@ -8,3 +8,4 @@ pub mod Ofs
 pub mod Passing
 pub mod Apart
 pub mod LineKindLemmas
+pub mod StepLemmas
