@@ -41,8 +41,10 @@ pub log_or_misfit : (program : Parts) (laws : OneValue program) (bytes : List �
 log_or_misfit program laws bytes log fault a b = cases b.why where
   lines : a.lines ≡ b.lines
   lines = one_cut bytes a.lines b.lines a.cut b.cut
+
   leads : Leads program 1 b.lines Nothing a.last
   leads = subst (λ all. Leads program 1 all Nothing a.last) lines a.leads
+
   cases : IsFirstMisfit program b.lines fault ⊎ StopsEarly program b.lines fault → ⊥
   cases (inl misfit) = no_way program laws b.lines fault a.last misfit leads
   cases (inr stops) =

@@ -37,6 +37,7 @@ last_pushed : (front : List ℕ) (last : ℕ) → slice_index (front ++ last ∷
 last_pushed front last = ap (λ n. slice_index (front ++ last ∷ []) (n - 1)) (length_pushed front last) ∙ ap (λ n. slice_index (front ++ last ∷ []) n) (less (length front)) ∙ at front last where
   less : (n : ℕ) → suc n - 1 ≡ n
   less n = omega arith
+
   at : (front : List ℕ) (last : ℕ) → slice_index (front ++ last ∷ []) (length front) ≡ last
   at [] last = refl
   at (byte ∷ front) last = at front last
@@ -59,11 +60,13 @@ no_cr_is text = cases (has_last text) where
   nothing : (front : List ℕ) (stop : ℕ) → ◌≢◌ {A = List ℕ} [] (front ++ stop ∷ [])
   nothing [] stop e = absurd cc
   nothing (byte ∷ front) stop e = absurd cc
+
   last_is : (front : List ℕ) (last : ℕ) → (last ≡ 13) ⊎ (last ≢ 13) → IsBefore (no_cr (front ++ last ∷ [])) (front ++ last ∷ [])
   last_is front last (inl same) =
       inl (ap (λ byte. front ++ byte ∷ []) same ∙ ap (λ line. line ++ 13 ∷ []) (sym (front_pushed front last) ∙ sym (cond-true _ _ _ (ends_with front last 13 ∙ eq-eqb last 13 same))))
   last_is front last (inr other) =
       inr (sym (cond-false _ _ _ (ends_with front last 13 ∙ ne_eqb last 13 other)), λ before e. other (same_from_push front before last 13 e).1)
+
   cases : (text ≡ []) ⊎ ((front : List ℕ) × (last : ℕ) × (text ≡ front ++ last ∷ [])) → IsBefore (no_cr text) text
   cases (inl none) = subst (λ bytes. IsBefore (no_cr bytes) bytes) (sym none) (inr (refl, λ front. nothing front 13))
   cases (inr some) = subst (λ bytes. IsBefore (no_cr bytes) bytes) (sym some.2) (last_is some.0 some.1 (cases_eq some.1 13))

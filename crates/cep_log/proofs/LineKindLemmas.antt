@@ -69,6 +69,7 @@ named_as program line rest word behind is cut none stops found tells = (there fo
     unspaced = none;
     unknown = λ rule has e. let h = tells.1 (rule, has, e) in absurd cc;
   }
+
   back : (found : Bool) → (IsTrue found ↔ ((rule : Rule) × Contains program.rules rule × (rule.name ≡ word))) → NamesNoRule program line → IsTrue (not found)
   back false tells unknown = refl
   back true tells unknown =

@@ -151,11 +151,14 @@ module _ (program : Parts) (laws : OneValue program) where
   one_own line log step new new' a b = cases a.own b.own where
     same_rule : a.rule ≡ b.rule
     same_rule = one_rule step.offer.rule a.rule b.rule a.numbered b.numbered
+
     Own : Rule → SoFar → Type 0
     Own rule new = ((proof : ProofTree) × (length step.proofs < length rule.backs) × IsByLine program line proof × (new ≡ with_step rule log (record step { proofs = step.proofs ++ proof ∷ [] })))
         ⊎ ((stage : ℕ) × (length rule.backs ≤ length step.proofs) × IsStageLine program line stage × (new ≡ with_step rule log (record step { stage = Some stage })))
+
     same_backs : length a.rule.backs ≡ length b.rule.backs
     same_backs = ap (λ rule. length rule.backs) same_rule
+
     cases : Own a.rule new → Own b.rule new' → new ≡ new'
     cases (inl p) (inl q) = p.3 ∙ (ap (λ rule. with_step rule log (record step { proofs = step.proofs ++ p.0 ∷ [] })) same_rule ∙ (ap (λ proof. with_step b.rule log (record step { proofs = step.proofs ++ proof ∷ [] })) (one_by line p.0 q.0 p.2 q.2) ∙ sym q.3))
     cases (inl p) (inr q) = let h = p.1 in let k = q.1 in let s = same_backs in absurd (omega arith)
@@ -167,7 +170,7 @@ module _ (program : Parts) (laws : OneValue program) where
       let offers : a.offer ≡ b.offer = one_step line a.offer b.offer a.said b.said in
       let rules : a.rule ≡ b.rule = one_rule b.offer.rule a.rule b.rule (subst (λ offer. slice_get program.rules offer.rule ≡ Some a.rule) offers a.numbered) b.numbered in
       a.step ∙ (ap (λ rule. with_step rule log (record { line = number; offer = a.offer; proofs = []; stage = None })) rules
-        ∙ (ap (λ offer. with_step b.rule log (record { line = number; offer = offer; proofs = []; stage = None })) offers ∙ sym b.step))
+      ∙ (ap (λ offer. with_step b.rule log (record { line = number; offer = offer; proofs = []; stage = None })) offers ∙ sym b.step))
 
   pub one_taken : (number : ℕ) (line : List ℕ) (old new new' : SoFar) → Takes program number line old new → Takes program number line old new' → new ≡ new'
   one_taken number line Nothing new new' a b = a.1 ∙ sym b.1

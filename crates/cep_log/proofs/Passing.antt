@@ -4,6 +4,8 @@ use Rattle.std.proofs.lemmas.List.{append-nil, length-map}
 use Rattle.std.proofs.lemmas.Option.{slice_get_within}
 use Rattle.bstr.specs.Text.{lines_of, without_terminator}
 use Rattle.cep_base.proofs.Lists.{none_some, some_same}
+use Rattle.std.specs.Cmp.{IsTotalOrder}
+use Rattle.cep_term.specs.Order.{atom_cmp}
 use Rattle.cep_rule.specs.declared.parts.Parts.{Parts}
 use Rattle.cep_log.specs.declared.log.Log.{Log}
 use Rattle.cep_log.specs.declared.log.TheConstants.{MOST_TRANSCRIPT}
@@ -94,13 +96,28 @@ stops_said program bytes left number so_far passed none said =
 pub misfit_said : (program : Parts) (bytes : List ℕ) (left behind : List (List ℕ)) (line : List ℕ) (number : ℕ) (so_far : SoFar) (fault : LogFault) → HasPassed program (all_lines bytes) left number so_far → left ≡ line ∷ behind
     → ((new : SoFar) → ¬ (Passes program (number + 1) line so_far new)) → IsFaultOf program (number + 1) line so_far fault → HasMisfit program bytes fault
 misfit_said program bytes left behind line number so_far fault passed is nowhere why =
-    record { lines = all_lines bytes; cut = lines_are bytes; why = inl (record {
-      before = passed.done;
-      line = line;
-      behind = behind;
-      cut = passed.cut ∙ ap (λ rest. passed.done ++ rest) is;
-      so_far = so_far;
-      leads = passed.leads;
-      nowhere = subst (λ (n : ℕ). (new : SoFar) → ¬ (Passes program (n + 1) line so_far new)) passed.counted nowhere;
-      fault_is = subst (λ (n : ℕ). IsFaultOf program (n + 1) line so_far fault) passed.counted why;
-    }) }
+    record {
+      lines = all_lines bytes;
+      cut = lines_are bytes;
+      why = inl (record {
+        before = passed.done;
+        line = line;
+        behind = behind;
+        cut = passed.cut ∙ ap (λ rest. passed.done ++ rest) is;
+        so_far = so_far;
+        leads = passed.leads;
+        nowhere = subst (λ (n : ℕ). (new : SoFar) → ¬ (Passes program (n + 1) line so_far new)) passed.counted nowhere;
+        fault_is = subst (λ (n : ℕ). IsFaultOf program (n + 1) line so_far fault) passed.counted why;
+      });
+    }
+
+-- no more lines than these were read
+pub number_most : (program : Parts) (bytes : List ℕ) (left : List (List ℕ)) (number : ℕ) (so_far : SoFar) → length bytes ≤ MOST_TRANSCRIPT → HasPassed program (all_lines bytes) left number so_far → number ≤ MOST_TRANSCRIPT
+number_most program bytes left number so_far short passed =
+    let few = few_lines bytes in
+    let lengths = ap length passed.cut ∙ length-append passed.done left in
+    let counted = passed.counted in
+    omega arith
+
+pub transitive : IsTotalOrder atom_cmp → Transitive
+transitive order = λ a b c p q. order.trans a b c p q

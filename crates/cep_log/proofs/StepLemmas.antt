@@ -1,6 +1,6 @@
 -- The lines of steps and listings.
 use Rattle.std.proofs.Common.{◌≡◌, ◌≢◌, ◌⊎◌, inl, inr, ℕ, ◌+◌, ◌<◌, ◌≤◌, List, [], ◌∷◌, ◌++◌, length, Bool, true, false, Option, Some, None, refl, sym, ap, ◌∙◌, subst, arith}
-use Rattle.std.specs.Prelude.{slice_get, MatchOption}
+use Rattle.std.specs.Prelude.{slice_get, MatchOption, MatchResult, Result, Ok, Err}
 use Rattle.cep_base.proofs.Lists.{some_same}
 use Rattle.cep_term.specs.Tree.{AtomTree}
 use Rattle.cep_rule.specs.declared.rule.Rule.{Rule}
@@ -43,6 +43,7 @@ pub by_none : (program parts : Parts) (line : List ℕ) (log : Log) (step : LogS
 by_none program parts line log step rule is at few none new goes = cases goes.own where
   same : rule ≡ goes.rule
   same = some_same rule goes.rule (sym at ∙ (ap (λ (p : Parts). slice_get p.rules step.offer.rule) is ∙ goes.numbered))
+
   cases : ((proof : ProofTree) × (length step.proofs < length goes.rule.backs) × IsByLine program line proof × (new ≡ with_step goes.rule log (record step { proofs = step.proofs ++ proof ∷ [] })))
       ⊎ ((stage : ℕ) × (length goes.rule.backs ≤ length step.proofs) × IsStageLine program line stage × (new ≡ with_step goes.rule log (record step { stage = Some stage }))) → ⊥
   cases (inl by) = none by.0 by.2
@@ -61,6 +62,7 @@ pub stage_none : (program parts : Parts) (line : List ℕ) (log : Log) (step : L
 stage_none program parts line log step rule is at full none new goes = cases goes.own where
   same : rule ≡ goes.rule
   same = some_same rule goes.rule (sym at ∙ (ap (λ (p : Parts). slice_get p.rules step.offer.rule) is ∙ goes.numbered))
+
   cases : ((proof : ProofTree) × (length step.proofs < length goes.rule.backs) × IsByLine program line proof × (new ≡ with_step goes.rule log (record step { proofs = step.proofs ++ proof ∷ [] })))
       ⊎ ((stage : ℕ) × (length goes.rule.backs ≤ length step.proofs) × IsStageLine program line stage × (new ≡ with_step goes.rule log (record step { stage = Some stage }))) → ⊥
   cases (inl by) = let backs = ap (λ (r : Rule). length r.backs) same in let few = by.1 in omega arith
@@ -73,3 +75,11 @@ not_some (Some x) P Q other q = absurd (other x refl)
 pub none_weaker : {A : Type 0} (r : Option A) (P P' : Type 0) → (P → P') → MatchOption r P (λ x. Unit {0}) → MatchOption r P' (λ x. Unit {0})
 none_weaker None P P' f p = f p
 none_weaker (Some x) P P' f p = tt
+
+pub told_ok : {A E : Type 0} (r : Result A E) (x : A) (P : A → Type 0) → r ≡ Ok x → MatchResult r P (λ e. Unit {0}) → P x
+told_ok (Ok y) x P e p = let same : y ≡ x = cc in subst P same p
+told_ok (Err y) x P e p = absurd cc
+
+pub told_err : {A E : Type 0} (r : Result A E) (x : E) (P : E → Type 0) → r ≡ Err x → MatchResult r (λ e. Unit {0}) P → P x
+told_err (Ok y) x P e p = absurd cc
+told_err (Err y) x P e p = let same : y ≡ x = cc in subst P same p

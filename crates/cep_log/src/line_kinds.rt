@@ -32,7 +32,11 @@ pub(crate) fn height_line(line: &[u8]) -> Option<u32>
         (λ height. IsHeight height × (line.now ≡ codes "height " ++ decimal height)) }
 {
     let height = plain(strip(b"height ", line)?)?;
-    if height >= 1 && height <= MOST_HEIGHT { Some(height) } else { None }
+    if height >= 1 && height <= MOST_HEIGHT {
+        Some(height)
+    } else {
+        None
+    }
 }
 
 // The stage that the line names.
@@ -150,5 +154,9 @@ pub(crate) fn names_no_rule(program: &Program, line: &[u8]) -> bool
 fn is_rule(program: &Program, name: &[u8]) -> bool
     ensures { IsTrue result ↔ ((rule : Rule) × Contains program.now.rules rule × (rule.name ≡ name.now)) }
 {
-    program.parts().rules.iter().any(|rule| rule.name.bytes() == name)
+    program
+        .parts()
+        .rules
+        .iter()
+        .any(|rule| rule.name.bytes() == name)
 }

@@ -12,6 +12,7 @@ use crate::log::{Log, MOST_TRANSCRIPT};
 use crate::so_far::SoFar;
 use bstr::ByteSlice;
 use cep_rule::Program;
+use cep_term::laws::order_is_total;
 use std::alloc::{AllocError, Global};
 
 /// The log that a transcript says, or else the first line of the bytes that does not fit. The
@@ -26,6 +27,7 @@ pub fn read_log(
     ensures of_program { IfOk result (λ read. IfOk read (IsLogOf program.now)) }
     ensures fault { IfOk result (λ read. IfErr read (HasMisfit program.now bytes.now)) }
 {
+    order_is_total();
     let mut so_far = SoFar::Nothing;
     let mut number = 0;
     for line in bytes.lines() {

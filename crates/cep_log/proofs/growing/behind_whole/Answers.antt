@@ -15,5 +15,5 @@ returns-in-None-clause-none c =
     (λ read. IfNone read ((new : SoFar) → ¬ (GoesOnStart program line c.args.log new)))
     (λ read. IfNone read ((new : SoFar) → ¬ (Takes program c.args.number line (Whole c.args.log) new)))
     (λ read none. none_weaker read _ _
-      (nothing_goes_on program c.args.number line c.args.log (not_some c.end_line.result _ _ c.in_default.not-Some c.end_line.ensures) (told_none c.in_ok-offer.field-0 _ c.in-None.is c.in_ok-offer.ensures.none)) none)
+    (nothing_goes_on program c.args.number line c.args.log (not_some c.end_line.result _ _ c.in_default.not-Some c.end_line.ensures) (told_none c.in_ok-offer.field-0 _ c.in-None.is c.in_ok-offer.ensures.none)) none)
     c.behind_listing.ensures.none
