@@ -15,8 +15,16 @@ use cep_rule::Program;
 use cep_term::laws::order_is_total;
 use std::alloc::{AllocError, Global};
 
-/// The log that a transcript says, or else the first line of the bytes that does not fit. The
-/// grammar, of version 1, is this profile's.
+/// The log that a transcript says, or else the first line of the bytes that does not fit. The bytes
+/// are at most 67,108,864. The grammar is this profile's, in version 1: an LF ends a line, and a CR
+/// directly before it is dropped; the last line may lack its LF where it is not empty, and then
+/// keeps its CR. Lines are counted from 1, and one that begins with `?` is counted and passed over.
+/// The log is of the program; whether it is legal is left open.
+///
+/// `LogFault::NoRule` comes where a step may stand, and the line begins like one, of a rule that the
+/// program has not got; `LogFault::Line` comes at every other line that does not fit, and at the
+/// line behind the last where the header or the own lines of a step are not complete. Besides these
+/// only want of memory is refused.
 pub fn read_log(
     alloc: Global,
     program: &Program,
