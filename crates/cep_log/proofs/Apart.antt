@@ -51,3 +51,58 @@ log_or_misfit program laws bytes log fault a b = cases b.why where
       let last : a.last ≡ stops.last = one_way program laws 1 b.lines Nothing a.last stops.last leads stops.leads in
       let said : said_by stops.last (length b.lines) ≡ Some log = subst (λ so_far. said_by so_far (length b.lines) ≡ Some log) last (subst (λ all. said_by a.last (length all) ≡ Some log) lines a.said) in
       none_some log (sym stops.open_still ∙ said)
+
+-- The first misfit of bytes is one.
+
+-- what a fault says of a line is one
+one_fault : (program : Parts) (number : ℕ) (line : List ℕ) (so_far : SoFar) (one other : LogFault) → IsFaultOf program number line so_far one → IsFaultOf program number line so_far other → one ≡ other
+one_fault program number line so_far (Line at) (Line at') a b = ap Line (a.0 ∙ sym b.0)
+one_fault program number line so_far (Line at) (NoRule at') a b = absurd (a.1 (b.1, b.2))
+one_fault program number line so_far (NoRule at) (Line at') a b = absurd (b.1 (a.1, a.2))
+one_fault program number line so_far (NoRule at) (NoRule at') a b = ap NoRule (a.0 ∙ sym b.0)
+
+-- two lines that lead nowhere from where those before them lead: they are one line
+one_place : (program : Parts) (laws : OneValue program) (n : ℕ) (start : SoFar) (before before' : List (List ℕ)) (line line' : List ℕ) (behind behind' : List (List ℕ)) (so_far so_far' : SoFar)
+    → before ++ line ∷ behind ≡ before' ++ line' ∷ behind' → Leads program n before start so_far → Leads program n before' start so_far'
+    → ((new : SoFar) → ¬ (Passes program (n + length before) line so_far new)) → ((new : SoFar) → ¬ (Passes program (n + length before') line' so_far' new))
+    → (before ≡ before') × (line ≡ line') × (so_far ≡ so_far')
+one_place program laws n start [] [] line line' behind behind' so_far so_far' e a b no_one no_other =
+    let same : line ≡ line' = cc in
+    (refl, same, a ∙ sym b)
+one_place program laws n start [] (first ∷ before') line line' behind behind' so_far so_far' e a b no_one no_other =
+    let same : line ≡ first = cc in
+    let at : n ≡ n + length {A = List ℕ} [] = omega arith in
+    absurd (no_one b.0 (subst (λ (m : ℕ). Passes program m line so_far b.0) at (subst (λ l. Passes program n l so_far b.0) (sym same) (subst (λ s. Passes program n first s b.0) (sym a) b.1))))
+one_place program laws n start (first ∷ before) [] line line' behind behind' so_far so_far' e a b no_one no_other =
+    let same : first ≡ line' = cc in
+    let at : n ≡ n + length {A = List ℕ} [] = omega arith in
+    absurd (no_other a.0 (subst (λ (m : ℕ). Passes program m line' so_far' a.0) at (subst (λ l. Passes program n l so_far' a.0) same (subst (λ s. Passes program n first s a.0) (sym b) a.1))))
+one_place program laws n start (first ∷ before) (first' ∷ before') line line' behind behind' so_far so_far' e a b no_one no_other =
+    let head : first ≡ first' = cc in
+    let tail : before ++ line ∷ behind ≡ before' ++ line' ∷ behind' = cc in
+    let next : a.0 ≡ b.0 = one_passed program laws n first' start a.0 b.0 (subst (λ l. Passes program n l start a.0) head a.1) b.1 in
+    let at : n + length (first ∷ before) ≡ n + 1 + length before = omega arith in
+    let at' : n + length (first' ∷ before') ≡ n + 1 + length before' = omega arith in
+    let later = one_place program laws (n + 1) b.0 before before' line line' behind behind' so_far so_far' tail (subst (λ s. Leads program (n + 1) before s so_far) next a.2) b.2
+    (subst (λ (m : ℕ). (new : SoFar) → ¬ (Passes program m line so_far new)) at no_one) (subst (λ (m : ℕ). (new : SoFar) → ¬ (Passes program m line' so_far' new)) at' no_other) in
+    let rest : before ≡ before' = later.0 in
+    ((cc), later.1, later.2)
+
+pub one_misfit : (program : Parts) (laws : OneValue program) (bytes : List ℕ) (one other : LogFault) → HasMisfit program bytes one → HasMisfit program bytes other → one ≡ other
+one_misfit program laws bytes one other a b = cases a.why (subst (λ lines. IsFirstMisfit program lines other ⊎ StopsEarly program lines other) (sym lines) b.why) where
+  lines : a.lines ≡ b.lines
+  lines = one_cut bytes a.lines b.lines a.cut b.cut
+
+  cases : IsFirstMisfit program a.lines one ⊎ StopsEarly program a.lines one → IsFirstMisfit program a.lines other ⊎ StopsEarly program a.lines other → one ≡ other
+  cases (inl x) (inl y) =
+      let at : (n : ℕ) → n + 1 ≡ 1 + n = λ n. omega arith in
+      let same = one_place program laws 1 Nothing x.before y.before x.line y.line x.behind y.behind x.so_far y.so_far (sym x.cut ∙ y.cut) x.leads y.leads
+      (subst (λ (m : ℕ). (new : SoFar) → ¬ (Passes program m x.line x.so_far new)) (at (length x.before)) x.nowhere) (subst (λ (m : ℕ). (new : SoFar) → ¬ (Passes program m y.line y.so_far new)) (at (length y.before)) y.nowhere) in
+      let moved : IsFaultOf program (length y.before + 1) y.line y.so_far one =
+      subst (λ so_far. IsFaultOf program (length y.before + 1) y.line so_far one) same.2
+      (subst (λ line. IsFaultOf program (length y.before + 1) line x.so_far one) same.1
+      (subst (λ (before : List (List ℕ)). IsFaultOf program (length before + 1) x.line x.so_far one) same.0 x.fault_is)) in
+      one_fault program (length y.before + 1) y.line y.so_far one other moved y.fault_is
+  cases (inl x) (inr y) = absurd (no_way program laws a.lines one y.last x y.leads)
+  cases (inr x) (inl y) = absurd (no_way program laws a.lines other x.last y x.leads)
+  cases (inr x) (inr y) = x.fault_is ∙ sym y.fault_is

@@ -8,3 +8,5 @@ pub mod Ofs
 pub mod Passing
 pub mod Apart
 pub mod OfferLines
+pub mod LineKindLemmas
+pub mod StepLemmas

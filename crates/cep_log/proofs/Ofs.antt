@@ -21,7 +21,7 @@ use Rattle.cep_log.specs.declared.log.LogEnd.{LogEnd}
 use Rattle.cep_log.specs.declared.so_far.SoFar.{SoFar}
 use Rattle.cep_log.specs.declared.so_far.SoFar.TheVariants.{Nothing, Version, Height, Whole, Within, Ended}
 use Rattle.cep_log.specs.Legal.{IsHave, AtomsRise, IsListing, IsStepOf, IsLogOf}
-use Rattle.cep_log.specs.declared.log.TheConstants.{MOST_TRANSCRIPT}
+use Rattle.cep_base.specs.declared.limits.TheConstants.{MOST_LOG}
 use Rattle.cep_rule.specs.Derivations.{ProofTree}
 use Rattle.cep_log.specs.Transcript.{IsByLine, IsStageLine, IsHaveLine, IsBehind, GoesOnListing, GoesOnStart, GoesOnStep, GoesOnEnd, BeginsStep, BeginsEnd, Takes, Passes, Leads, has_own_lines, with_step, said_by}
 
@@ -32,7 +32,7 @@ all_pushed P [] x all this = (this, tt)
 all_pushed P (y ∷ xs) x all this = (all.0, all_pushed P xs x all.1 this)
 
 -- the atom stands behind each that stands before the last
-abbrev Transitive : Type 0
+abbrev pub Transitive : Type 0
 Transitive = (a b c : AtomTree) → atom_cmp a b ≡ Less → atom_cmp b c ≡ Less → atom_cmp a c ≡ Less
 
 behind_all : (through : Transitive) (entries : List (AtomTree × ℕ)) (atom : AtomTree) → AtomsRise entries → IsBehind entries atom → AllByRecursion (λ earlier. atom_cmp earlier.0 atom ≡ Less) entries
@@ -41,14 +41,15 @@ behind_all through (entry ∷ []) atom rise behind = (behind, tt)
 behind_all through (entry ∷ next ∷ entries) atom rise behind =
     let later = behind_all through (next ∷ entries) atom rise.1 (moved entry next entries atom behind) in
     (through entry.0 next.0 atom rise.0.0 later.0, later) where
-  moved : (entry next : AtomTree × ℕ) (entries : List (AtomTree × ℕ)) (atom : AtomTree) → IsBehind (entry ∷ next ∷ entries) atom → IsBehind (next ∷ entries) atom
-  moved entry next entries atom behind =
-      let at : slice_get (entry ∷ next ∷ entries) (length (entry ∷ next ∷ entries) - 1) ≡ slice_get (next ∷ entries) (length (next ∷ entries) - 1) = ap (λ n. slice_get (entry ∷ next ∷ entries) n) (less (length entries)) ∙ ap (λ n. slice_get (next ∷ entries) n) (sym (less' (length entries))) in
-      subst (λ found. IfSome found (λ last. atom_cmp last.0 atom ≡ Less)) at behind where
-    less : (n : ℕ) → suc (suc n) - 1 ≡ suc n
-    less n = omega arith
-    less' : (n : ℕ) → suc n - 1 ≡ n
-    less' n = omega arith
+      moved : (entry next : AtomTree × ℕ) (entries : List (AtomTree × ℕ)) (atom : AtomTree) → IsBehind (entry ∷ next ∷ entries) atom → IsBehind (next ∷ entries) atom
+      moved entry next entries atom behind =
+          let at : slice_get (entry ∷ next ∷ entries) (length (entry ∷ next ∷ entries) - 1) ≡ slice_get (next ∷ entries) (length (next ∷ entries) - 1) = ap (λ n. slice_get (entry ∷ next ∷ entries) n) (less (length entries)) ∙ ap (λ n. slice_get (next ∷ entries) n) (sym (less' (length entries))) in
+          subst (λ found. IfSome found (λ last. atom_cmp last.0 atom ≡ Less)) at behind where
+            less : (n : ℕ) → suc (suc n) - 1 ≡ suc n
+            less n = omega arith
+
+            less' : (n : ℕ) → suc n - 1 ≡ n
+            less' n = omega arith
 
 rising_pushed : (entries : List (AtomTree × ℕ)) (entry : AtomTree × ℕ) → AtomsRise entries → AllByRecursion (λ earlier. atom_cmp earlier.0 entry.0 ≡ Less) entries → AtomsRise (entries ++ entry ∷ [])
 rising_pushed [] entry rise all = (tt, tt)
@@ -129,25 +130,25 @@ module _ (program : Parts) where
       → slice_get program.rules step.offer.rule ≡ Some rule → AreValues program.signature.cons rule.kinds step.offer.values
       → AllByRecursion (λ proof. proof_height proof ≤ MOST_HEIGHT) step.proofs → length step.proofs ≤ length rule.backs → step.stage ≡ None
       → IsReadOf program (suc n) (with_step rule log step)
-  pending n log step rule part open few numbered values low within no_stage = cases (has_own_lines rule step) refl where
+  pending n log step rule part unended few numbered values low within no_stage = cases (has_own_lines rule step) refl where
     cases : (own : Bool) → has_own_lines rule step ≡ own → IsReadOf program (suc n) (if own then Whole (record log { steps = log.steps ++ step ∷ [] }) else Within log step)
     cases true t =
         let own = own_none rule.next step.stage (nat_le (length rule.backs) (length step.proofs)) no_stage t in
         let enough = leb-true (length rule.backs) (length step.proofs) own.0 in
-        (with_whole n log step part few (record { rule = rule; numbered = numbered; values = values; as_many = omega arith; low = low; stage = own.1; in_range = subst (λ stage. IfSome stage (λ stage. stage < length program.stages)) (sym no_stage) tt }), open)
+        (with_whole n log step part few (record { rule = rule; numbered = numbered; values = values; as_many = omega arith; low = low; stage = own.1; in_range = subst (λ stage. IfSome stage (λ stage. stage < length program.stages)) (sym no_stage) tt }), unended)
     cases false t =
-        (part_later n (suc n) log part (omega arith), (open, few, record { rule = rule; numbered = numbered; values = values; low = low; few = within; no_stage = no_stage; lacks = t }))
+        (part_later n (suc n) log part (omega arith), (unended, few, record { rule = rule; numbered = numbered; values = values; low = low; few = within; no_stage = no_stage; lacks = t }))
 
   -- a step with its stage is whole
   staged : (n : ℕ) (log : Log) (step : LogStep) (rule : Rule) (stage : ℕ) → IsPartOf program n log → log.end ≡ None → suc (length log.steps) < suc n
       → slice_get program.rules step.offer.rule ≡ Some rule → AreValues program.signature.cons rule.kinds step.offer.values
       → AllByRecursion (λ proof. proof_height proof ≤ MOST_HEIGHT) step.proofs → length step.proofs ≡ length rule.backs → IsSome rule.next → stage < length program.stages
       → IsReadOf program (suc n) (with_step rule log (record step { stage = Some stage }))
-  staged n log step rule stage part open few numbered values low all leaves in_range =
+  staged n log step rule stage part unended few numbered values low all leaves in_range =
       let own : has_own_lines rule (record step { stage = Some stage }) ≡ true = has_stage rule.next (nat_le (length rule.backs) (length step.proofs)) stage (le_tests (length rule.backs) (length step.proofs) (omega arith)) in
       let whole : IsStepOf program (record step { stage = Some stage }) = record { rule = rule; numbered = numbered; values = values; as_many = all; low = low; stage = ((λ h. leaves), (λ h. refl)); in_range = in_range } in
       subst (λ (is : Bool). IsReadOf program (suc n) (if is then Whole (record log { steps = log.steps ++ (record step { stage = Some stage }) ∷ [] }) else Within log (record step { stage = Some stage }))) (sym own)
-      (with_whole n log (record step { stage = Some stage }) part few whole, open)
+      (with_whole n log (record step { stage = Some stage }) part few whole, unended)
 
   pub takes_kept : (through : Transitive) (n : ℕ) (line : List ℕ) (old new : SoFar) → IsReadOf program n old → Takes program n line old new → IsReadOf program (suc n) new
   takes_kept through n line Nothing new is takes = subst (IsReadOf program (suc n)) (sym takes.1) tt
@@ -169,12 +170,16 @@ module _ (program : Parts) where
   takes_kept through n line (Within log step) new is goes = cases goes.own where
     open_step : IsOpenOf program step
     open_step = is.1.2
+
     same : open_step.rule ≡ goes.rule
     same = some_same open_step.rule goes.rule (sym open_step.numbered ∙ goes.numbered)
+
     few : suc (length log.steps) < suc n
     few = let h = is.1.1 in omega arith
+
     values : AreValues program.signature.cons goes.rule.kinds step.offer.values
     values = subst (λ rule. AreValues program.signature.cons rule.kinds step.offer.values) same open_step.values
+
     cases : ((proof : ProofTree) × (length step.proofs < length goes.rule.backs) × IsByLine program line proof × (new ≡ with_step goes.rule log (record step { proofs = step.proofs ++ proof ∷ [] })))
         ⊎ ((stage : ℕ) × (length goes.rule.backs ≤ length step.proofs) × IsStageLine program line stage × (new ≡ with_step goes.rule log (record step { stage = Some stage })))
         → IsReadOf program (suc n) new
@@ -215,7 +220,7 @@ module _ (program : Parts) where
       subst (λ (m : ℕ). IsReadOf program m new) (omega arith) (leads_kept through (n + 1) lines leads.0 new next leads.2)
 
   -- The log that is said is of the program.
-  pub said_is_of : (lines : ℕ) (last : SoFar) (log : Log) → lines ≤ MOST_TRANSCRIPT → IsReadOf program (1 + lines) last → said_by last lines ≡ Some log → IsLogOf program log
+  pub said_is_of : (lines : ℕ) (last : SoFar) (log : Log) → lines ≤ MOST_LOG → IsReadOf program (1 + lines) last → said_by last lines ≡ Some log → IsLogOf program log
   said_is_of lines Nothing log short is said = none_some log said
   said_is_of lines Version log short is said = none_some log said
   said_is_of lines (Height height) log short is said = none_some log said

@@ -4,9 +4,11 @@ use Rattle.std.proofs.lemmas.List.{append-nil, length-map}
 use Rattle.std.proofs.lemmas.Option.{slice_get_within}
 use Rattle.bstr.specs.Text.{lines_of, without_terminator}
 use Rattle.cep_base.proofs.Lists.{none_some, some_same}
+use Rattle.std.specs.Cmp.{IsTotalOrder}
+use Rattle.cep_term.specs.Order.{atom_cmp}
 use Rattle.cep_rule.specs.declared.parts.Parts.{Parts}
 use Rattle.cep_log.specs.declared.log.Log.{Log}
-use Rattle.cep_log.specs.declared.log.TheConstants.{MOST_TRANSCRIPT}
+use Rattle.cep_base.specs.declared.limits.TheConstants.{MOST_LOG}
 use Rattle.cep_log.specs.declared.so_far.SoFar.{SoFar}
 use Rattle.cep_log.specs.declared.so_far.SoFar.TheVariants.{Nothing, Version, Height, Whole, Within, Ended}
 use Rattle.cep_log.specs.declared.fault.LogFault.{LogFault}
@@ -48,7 +50,7 @@ passed_more program lines left behind line number so_far next passed is passes =
 }
 
 -- fewer lines than these were read
-pub number_short : (program : Parts) (bytes : List ℕ) (left behind : List (List ℕ)) (line : List ℕ) (number : ℕ) (so_far : SoFar) → length bytes ≤ MOST_TRANSCRIPT → HasPassed program (all_lines bytes) left number so_far → left ≡ line ∷ behind → number < MOST_TRANSCRIPT
+pub number_short : (program : Parts) (bytes : List ℕ) (left behind : List (List ℕ)) (line : List ℕ) (number : ℕ) (so_far : SoFar) → length bytes ≤ MOST_LOG → HasPassed program (all_lines bytes) left number so_far → left ≡ line ∷ behind → number < MOST_LOG
 number_short program bytes left behind line number so_far short passed is =
     let few = few_lines bytes in
     let lengths = ap length (passed.cut ∙ ap (λ rest. passed.done ++ rest) is) ∙ length-append passed.done (line ∷ behind) in
@@ -74,12 +76,12 @@ all_done program lines number so_far passed =
     let same : lines ≡ passed.done = passed.cut ∙ append-nil passed.done in
     (subst (λ done. Leads program 1 done Nothing so_far) (sym same) passed.leads, passed.counted ∙ ap length (sym same))
 
-pub log_said : (program : Parts) (bytes : List ℕ) (left : List (List ℕ)) (number : ℕ) (so_far : SoFar) (log : Log) → length bytes ≤ MOST_TRANSCRIPT → HasPassed program (all_lines bytes) left number so_far → left ≡ [] → said_by so_far number ≡ Some log → HasLog program bytes log
+pub log_said : (program : Parts) (bytes : List ℕ) (left : List (List ℕ)) (number : ℕ) (so_far : SoFar) (log : Log) → length bytes ≤ MOST_LOG → HasPassed program (all_lines bytes) left number so_far → left ≡ [] → said_by so_far number ≡ Some log → HasLog program bytes log
 log_said program bytes left number so_far log short passed none said =
     let all = all_done program (all_lines bytes) number so_far (subst (λ rest. HasPassed program (all_lines bytes) rest number so_far) none passed) in
     record { short = short; lines = all_lines bytes; cut = lines_are bytes; last = so_far; leads = all.0; said = subst (λ (n : ℕ). said_by so_far n ≡ Some log) all.1 said }
 
-pub log_is_of : (through : Transitive) (program : Parts) (bytes : List ℕ) (left : List (List ℕ)) (number : ℕ) (so_far : SoFar) (log : Log) → length bytes ≤ MOST_TRANSCRIPT → HasPassed program (all_lines bytes) left number so_far → left ≡ [] → said_by so_far number ≡ Some log → IsLogOf program log
+pub log_is_of : (through : Transitive) (program : Parts) (bytes : List ℕ) (left : List (List ℕ)) (number : ℕ) (so_far : SoFar) (log : Log) → length bytes ≤ MOST_LOG → HasPassed program (all_lines bytes) left number so_far → left ≡ [] → said_by so_far number ≡ Some log → IsLogOf program log
 log_is_of through program bytes left number so_far log short passed none said =
     let few = few_lines bytes in
     let all = all_done program (all_lines bytes) number so_far (subst (λ rest. HasPassed program (all_lines bytes) rest number so_far) none passed) in
@@ -108,3 +110,14 @@ misfit_said program bytes left behind line number so_far fault passed is nowhere
         fault_is = subst (λ (n : ℕ). IsFaultOf program (n + 1) line so_far fault) passed.counted why;
       });
     }
+
+-- no more lines than these were read
+pub number_most : (program : Parts) (bytes : List ℕ) (left : List (List ℕ)) (number : ℕ) (so_far : SoFar) → length bytes ≤ MOST_LOG → HasPassed program (all_lines bytes) left number so_far → number ≤ MOST_LOG
+number_most program bytes left number so_far short passed =
+    let few = few_lines bytes in
+    let lengths = ap length passed.cut ∙ length-append passed.done left in
+    let counted = passed.counted in
+    omega arith
+
+pub transitive : IsTotalOrder atom_cmp → Transitive
+transitive order = λ a b c p q. order.trans a b c p q

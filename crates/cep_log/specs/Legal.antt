@@ -20,7 +20,7 @@ use Rattle.cep_log.specs.declared.end_word.EndWord.TheVariants.{Quiet}
 use Rattle.cep_log.specs.declared.log.Log.{Log}
 use Rattle.cep_log.specs.declared.log.LogStep.{LogStep}
 use Rattle.cep_log.specs.declared.log.LogEnd.{LogEnd}
-use Rattle.cep_log.specs.declared.log.TheConstants.{MOST_TRANSCRIPT}
+use Rattle.cep_base.specs.declared.limits.TheConstants.{MOST_LOG}
 
 -- A line of a listing: a ground, well-typed, fit atom, linear or backward, with 1 to 100,000 copies.
 pub record IsHave (signature : Signature) (entry : AtomTree × ℕ) : Type 0 where
@@ -56,7 +56,7 @@ pub record IsLogOf (program : Parts) (log : Log) : Type 0 where
   pub start : IsListing program.signature log.start
   pub steps : AllByRecursion (IsStepOf program) log.steps
   pub ending : IfSome log.end (λ end. IsListing program.signature end.state)
-  pub lines : log.lines ≤ MOST_TRANSCRIPT
+  pub lines : log.lines ≤ MOST_LOG
   pub few : length log.steps ≤ log.lines
 
 -- A step is legal from one spot to another: it is a step of the machine within the height, and the stage that is written below it is the one that its rule names.

@@ -17,7 +17,7 @@ use Rattle.cep_log.specs.declared.end_word.EndWord.{EndWord}
 use Rattle.cep_log.specs.declared.log.Log.{Log}
 use Rattle.cep_log.specs.declared.log.LogStep.{LogStep}
 use Rattle.cep_log.specs.declared.log.LogEnd.{LogEnd}
-use Rattle.cep_log.specs.declared.log.TheConstants.{MOST_TRANSCRIPT}
+use Rattle.cep_base.specs.declared.limits.TheConstants.{MOST_LOG}
 use Rattle.cep_log.specs.declared.so_far.SoFar.{SoFar}
 use Rattle.cep_log.specs.declared.so_far.SoFar.TheVariants.{Nothing, Version, Height, Whole, Within, Ended}
 use Rattle.cep_log.specs.declared.fault.LogFault.{LogFault}
@@ -162,7 +162,7 @@ said_by (Ended log end) lines = Some (record log { end = Some end; lines = lines
 
 -- The bytes are a transcript, and this log is what it says.
 pub record HasLog (program : Parts) (bytes : List ℕ) (log : Log) : Type 0 where
-  pub short : length bytes ≤ MOST_TRANSCRIPT
+  pub short : length bytes ≤ MOST_LOG
   pub lines : List (List ℕ)
   pub cut : AreLines bytes lines
   pub last : SoFar

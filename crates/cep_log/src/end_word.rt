@@ -21,17 +21,6 @@ pub enum EndWord {
 }
 
 impl EndWord {
-    /// All words.
-    pub(crate) const ALL: [EndWord; 7] = [
-        EndWord::Quiet,
-        EndWord::Input,
-        EndWord::Turns,
-        EndWord::Offers,
-        EndWord::Typed,
-        EndWord::Atom,
-        EndWord::State,
-    ];
-
     /// The word as a transcript writes it.
     pub fn text(self) -> &'static [u8]
         ensures { result.now ≡ ending_word self }

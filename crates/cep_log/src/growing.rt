@@ -15,6 +15,7 @@ use crate::proofs::Proofs;
 use crate::so_far::SoFar;
 use cep_rule::{Offer, Program, Rule};
 use cep_term::order;
+use cep_text::laws::one_value;
 use std::alloc::{AllocError, Global};
 
 // A log of which the header was read.
@@ -202,6 +203,9 @@ fn next_listed(
     ensures some { IfOk result (λ read. IfSome read (λ have. IsHaveLine program.now line.now (have_of have) × IsBehind haves.now (have_of have).0)) }
     ensures none { IfOk result (λ read. IfNone read ((entry : AtomTree × ℕ) → IsHaveLine program.now line.now entry → IsBehind haves.now entry.0 → ⊥)) }
 {
+    // No line says two entries: that is known from here on.
+    one_value();
+    program.parts();
     match have_line(alloc, program, line)? {
         Some(have) => {
             if is_behind(haves, &have) {

@@ -9,7 +9,8 @@ ghost use Rattle.cep_log.specs.Transcript.{HasLog, HasMisfit};
 
 use cep_text::laws::one_value;
 
-/// Bytes say one log at most, and where they say one there is no misfit in them.
+/// Bytes say one log at most, where they say one there is no misfit in them, and their first misfit
+/// is one.
 pub fn one_log()
     ensures once { (program : Parts) (bytes : List ℕ) (one other : Log)
         → IsProgram program
@@ -20,6 +21,11 @@ pub fn one_log()
         → IsProgram program
         → HasLog program bytes log
         → ¬ (HasMisfit program bytes fault) }
+    ensures misfit { (program : Parts) (bytes : List ℕ) (one other : LogFault)
+        → IsProgram program
+        → HasMisfit program bytes one
+        → HasMisfit program bytes other
+        → one ≡ other }
 {
     one_value();
 }

@@ -20,7 +20,7 @@ pub use end_word::EndWord;
 pub use fault::LogFault;
 pub use lines::{put_by, put_end, put_have, put_offer_line, put_stage, put_start, put_step};
 pub use listing::{Have, Haves};
-pub use log::{Log, LogEnd, LogStep, LogSteps, MOST_TRANSCRIPT};
+pub use log::{Log, LogEnd, LogStep, LogSteps};
 pub use proofs::Proofs;
 pub use reading::read_log;
 pub use turn_lines::{put_next, put_offers, put_question};

@@ -12,7 +12,7 @@ ghost use Rattle.cep_log.specs.Transcript.{IsPassedOver, IsHaveLine, IsStageLine
 
 use crate::end_word::EndWord;
 use crate::listing::Have;
-use crate::words::{cut_word, plain};
+use crate::words::{cut_word, plain, strip};
 use cep_base::limits::{MOST_COPIES, MOST_HEIGHT};
 use cep_rule::{Derivation, Offer, Program};
 use cep_text::{read_atom, read_offer, read_proof};
@@ -31,7 +31,7 @@ pub(crate) fn height_line(line: &[u8]) -> Option<u32>
         ((height : ℕ) → IsHeight height → line.now ≢ codes "height " ++ decimal height)
         (λ height. IsHeight height × (line.now ≡ codes "height " ++ decimal height)) }
 {
-    let height = plain(line.strip_prefix(b"height ")?)?;
+    let height = plain(strip(b"height ", line)?)?;
     if height >= 1 && height <= MOST_HEIGHT {
         Some(height)
     } else {
@@ -43,7 +43,7 @@ pub(crate) fn height_line(line: &[u8]) -> Option<u32>
 pub(crate) fn stage_line(program: &Program, line: &[u8]) -> Option<u32>
     ensures { MatchOption result ((stage : ℕ) → ¬ (IsStageLine program.now line.now stage)) (IsStageLine program.now line.now) }
 {
-    let name = line.strip_prefix(b"stage ")?;
+    let name = strip(b"stage ", line)?;
     let stages = &program.parts().stages;
     for i in 0..stages.len() {
         if stages.get(i).name.bytes() == name {
@@ -77,8 +77,8 @@ fn counted(line: &[u8]) -> Option<(u32, &[u8])>
         ((count : ℕ) (text : List ℕ) → 1 ≤ count → count ≤ MOST_COPIES → line.now ≢ codes "have " ++ (decimal count ++ (codes " " ++ text)))
         (λ x. (1 ≤ x.0) × (x.0 ≤ MOST_COPIES) × (line.now ≡ codes "have " ++ (decimal x.0 ++ (codes " " ++ x.1.now)))) }
 {
-    let (word, rest) = cut_word(line.strip_prefix(b"have ")?);
-    let text = rest.strip_prefix(b" ")?;
+    let (word, rest) = cut_word(strip(b"have ", line)?);
+    let text = strip(b" ", rest)?;
     let count = plain(word)?;
     if count >= 1 && u64::from(count) <= MOST_COPIES {
         Some((count, text))
@@ -96,7 +96,7 @@ pub(crate) fn step_line(
     ensures some { IfOk result (λ read. IfSome read (IsStepLine program.now line.now)) }
     ensures none { IfOk result (λ read. IfNone read ((offer : Offer) → ¬ (IsStepLine program.now line.now offer))) }
 {
-    match line.strip_prefix(b"step ") {
+    match strip(b"step ", line) {
         Some(text) => read_offer(alloc, program, text),
         None => Ok(None),
     }
@@ -111,7 +111,7 @@ pub(crate) fn by_line(
     ensures some { IfOk result (λ read. IfSome read (λ proof. IsByLine program.now line.now (proof_of proof))) }
     ensures none { IfOk result (λ read. IfNone read ((proof : ProofTree) → ¬ (IsByLine program.now line.now proof))) }
 {
-    match line.strip_prefix(b"by ") {
+    match strip(b"by ", line) {
         Some(text) => read_proof(alloc, program, text),
         None => Ok(None),
     }
@@ -121,26 +121,30 @@ pub(crate) fn by_line(
 pub(crate) fn end_line(line: &[u8]) -> Option<EndWord>
     ensures { MatchOption result ((word : EndWord) → ¬ (IsEndLine line.now word)) (IsEndLine line.now) }
 {
-    end_word(line.strip_prefix(b"end ")?)
+    end_word(strip(b"end ", line)?)
 }
 
 // The end word of this text.
 fn end_word(text: &[u8]) -> Option<EndWord>
     ensures { MatchOption result ((word : EndWord) → text.now ≢ ending_word word) (λ word. text.now ≡ ending_word word) }
 {
-    for word in EndWord::ALL {
-        if word.text() == text {
-            return Some(word);
-        }
+    match text {
+        b"quiet" => Some(EndWord::Quiet),
+        b"input" => Some(EndWord::Input),
+        b"turns" => Some(EndWord::Turns),
+        b"offers" => Some(EndWord::Offers),
+        b"typed" => Some(EndWord::Typed),
+        b"atom" => Some(EndWord::Atom),
+        b"state" => Some(EndWord::State),
+        _ => None,
     }
-    None
 }
 
 // Whether the line begins like a step, of a rule that the program has not got.
 pub(crate) fn names_no_rule(program: &Program, line: &[u8]) -> bool
     ensures { IsTrue result ↔ NamesNoRule program.now line.now }
 {
-    match line.strip_prefix(b"step ") {
+    match strip(b"step ", line) {
         Some(text) => !is_rule(program, cut_word(text).0),
         None => false,
     }

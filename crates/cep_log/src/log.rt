@@ -4,9 +4,6 @@ use crate::proofs::Proofs;
 use cep_base::List;
 use cep_rule::Offer;
 
-/// The most bytes of a transcript. The limit is this profile's.
-pub const MOST_TRANSCRIPT: usize = 67_108_864;
-
 /// The content of a transcript: its header, the start state as it is listed, the steps, and how it
 /// ends where it has an end. Lines are numbered from 1, and a line that is passed over counts too.
 /// Contracts see a log as the record of its fields, each listing as a list of atoms with their

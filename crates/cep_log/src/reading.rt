@@ -8,24 +8,34 @@ ghost use Rattle.cep_log.specs.Growing.{HasRule};
 use crate::fault::LogFault;
 use crate::growing::{behind_end, behind_part, behind_whole, finished, log_begun};
 use crate::line_kinds::{height_line, is_passed_over, names_no_rule, stage_line};
-use crate::log::{Log, MOST_TRANSCRIPT};
+use crate::log::Log;
 use crate::so_far::SoFar;
 use bstr::ByteSlice;
 use cep_rule::Program;
+use cep_term::laws::order_is_total;
 use std::alloc::{AllocError, Global};
 
-/// The log that a transcript says, or else the first line of the bytes that does not fit. The
-/// grammar, of version 1, is this profile's.
+/// The log that a transcript says, or else the first line of the bytes that does not fit. The bytes
+/// are at most 67,108,864. The grammar is this profile's, in version 1: an LF ends a line, and a CR
+/// directly before it is dropped; the last line may lack its LF where it is not empty, and then
+/// keeps its CR. Lines are counted from 1, and one that begins with `?` is counted and passed over.
+/// The log is of the program; whether it is legal is left open.
+///
+/// `LogFault::NoRule` comes where a step may stand, and the line begins like one, of a rule that the
+/// program has not got; `LogFault::Line` comes at every other line that does not fit, and at the
+/// line behind the last where the header or the own lines of a step are not complete. Besides these
+/// only want of memory is refused.
 pub fn read_log(
     alloc: Global,
     program: &Program,
     bytes: &[u8],
 ) -> Result<Result<Log, LogFault>, AllocError>
-    requires { length bytes.now ≤ MOST_TRANSCRIPT }
+    requires { length bytes.now ≤ MOST_LOG }
     ensures log { IfOk result (λ read. IfOk read (HasLog program.now bytes.now)) }
     ensures of_program { IfOk result (λ read. IfOk read (IsLogOf program.now)) }
     ensures fault { IfOk result (λ read. IfErr read (HasMisfit program.now bytes.now)) }
 {
+    order_is_total();
     let mut so_far = SoFar::Nothing;
     let mut number = 0;
     for line in bytes.lines() {

@@ -1,8 +1,15 @@
 // Words at the front of a line, and numbers.
-ghost use Rattle.std.specs.Prelude.{◌≡◌, ◌≢◌, ◌⊎◌, ℕ, ◌<◌, ◌^◌, List, [], ◌∷◌, ◌++◌, decimal, IfSome, IfNone};
+ghost use Rattle.std.specs.Prelude.{◌≡◌, ◌≢◌, ◌⊎◌, ℕ, ◌<◌, ◌^◌, List, [], ◌∷◌, ◌++◌, decimal, IfSome, IfNone, MatchOption};
 ghost use Rattle.std.specs.List.{AllByRecursion};
 
 use itoa::Buffer;
+
+// The bytes behind a word, if it stands at the front.
+pub(crate) fn strip<'a>(word: &[u8], bytes: &'a [u8]) -> Option<&'a [u8]>
+    ensures { MatchOption result ((rest : List ℕ) → bytes.now ≢ word.now ++ rest) (λ rest. bytes.now ≡ word.now ++ rest.now) }
+{
+    bytes.strip_prefix(word)
+}
 
 // The bytes up to the first space or to the end, and those from there on.
 pub(crate) fn cut_word(bytes: &[u8]) -> (&[u8], &[u8])

@@ -1,0 +1,80 @@
+-- What lines of each kind say.
+use Rattle.std.proofs.Common.{◌≡◌, ◌≢◌, ◌⊎◌, inl, inr, ℕ, zero, suc, ◌+◌, ◌<◌, ◌≤◌, ◌^◌, List, [], ◌∷◌, ◌++◌, length, Bool, true, false, Option, Some, None, refl, sym, ap, ◌∙◌, subst, arith}
+use Rattle.std.specs.Prelude.{codes, decimal, slice_get, MatchOption, Contains, IsTrue, not, ◌↔◌}
+use Rattle.std.proofs.lemmas.Fmt.{decimal_injective}
+use Rattle.cep_base.specs.declared.limits.TheConstants.{MOST_COPIES, MOST_HEIGHT}
+use Rattle.cep_base.proofs.Lists.{some_same}
+use Rattle.cep_term.specs.Tree.{AtomTree}
+use Rattle.cep_rule.specs.declared.rule.Rule.{Rule}
+use Rattle.cep_rule.specs.declared.parts.Parts.{Parts}
+use Rattle.cep_rule.specs.declared.parts.Stage.{Stage}
+use Rattle.cep_rule.specs.Limits.{IsHeight}
+use Rattle.cep_text.specs.Reads.{IsAtomText}
+use Rattle.cep_log.specs.Lines.{stage_name}
+use Rattle.cep_log.specs.Transcript.{IsStageLine, IsHaveLine, NamesNoRule}
+use Rattle.cep_log.proofs.Parted.{HasNone, Stops, one_parting}
+use Rattle.cep_log.proofs.Once.{decimal_unspaced, one_count}
+
+pub match_none : {A : Type 0} (r : Option A) (P : Type 0) (Q : A → Type 0) → r ≡ None → P → MatchOption r P Q
+match_none None P Q e p = p
+match_none (Some x) P Q e p = absurd cc
+
+pub told_none : {A : Type 0} (r : Option A) (P : Type 0) → r ≡ None → MatchOption r P (λ x. Unit {0}) → P
+told_none None P e p = p
+told_none (Some x) P e p = absurd cc
+
+-- what stands behind the first word of a line of a listing
+pub counted_as : (line rest word behind : List ℕ) (count : ℕ) (text : List ℕ) → line ≡ codes "have " ++ rest → rest ≡ word ++ behind → HasNone 32 word → Stops 32 behind → count ≤ MOST_COPIES → line ≡ codes "have " ++ (decimal count ++ 32 ∷ text)
+    → (word ≡ decimal count) × (behind ≡ 32 ∷ text)
+counted_as line rest word behind count text is cut none stops few said =
+    let h : codes "have " ++ rest ≡ codes "have " ++ (decimal count ++ 32 ∷ text) = sym is ∙ said in
+    let same : rest ≡ decimal count ++ 32 ∷ text = cc in
+    one_parting 32 word (decimal count) behind (32 ∷ text) none (decimal_unspaced count (omega arith)) stops (inr (text, refl)) (sym cut ∙ same)
+
+-- the text behind the count is that of no atom
+pub have_none : (program : Parts) (line text : List ℕ) (count : ℕ) (entry : AtomTree × ℕ) → count ≤ MOST_COPIES → line ≡ codes "have " ++ (decimal count ++ 32 ∷ text) → ((a : AtomTree) → ¬ (IsAtomText program text a)) → IsHaveLine program line entry → ⊥
+have_none program line text count entry few is none said =
+    let h : codes "have " ++ (decimal count ++ 32 ∷ text) ≡ codes "have " ++ (decimal entry.1 ++ 32 ∷ said.text) = sym is ∙ said.written in
+    let behind : decimal count ++ 32 ∷ text ≡ decimal entry.1 ++ 32 ∷ said.text = cc in
+    let same : text ≡ said.text = (one_count count entry.1 text said.text few said.few behind).1 in
+    none entry.0 (subst (λ bytes. IsAtomText program bytes entry.0) (sym same) said.atom)
+
+pub same_decimal : (m n : ℕ) (word : List ℕ) → m < 2 ^ 32 → n < 2 ^ 32 → word ≡ decimal m → word ≡ decimal n → m ≡ n
+same_decimal m n word a b e f = decimal_injective m n (omega arith) (omega arith) (sym e ∙ f)
+
+-- the height that the line says
+pub high_as : (line word : List ℕ) (height : ℕ) → line ≡ codes "height " ++ word → line ≡ codes "height " ++ decimal height → word ≡ decimal height
+high_as line word height is said =
+    let h : codes "height " ++ word ≡ codes "height " ++ decimal height = sym is ∙ said in cc
+
+-- the stage that the line names
+pub stage_at : (stages : List Stage) (i : ℕ) (stage : Stage) → slice_get stages i ≡ Some stage → stage_name (slice_get stages i) ≡ stage.name
+stage_at stages i stage e = ap stage_name e
+
+pub staged_as : (line name : List ℕ) (other : List ℕ) → line ≡ codes "stage " ++ name → line ≡ codes "stage " ++ other → name ≡ other
+staged_as line name other is said =
+    let h : codes "stage " ++ name ≡ codes "stage " ++ other = sym is ∙ said in cc
+
+-- a line of a step that names a rule, or none
+pub named_as : (program : Parts) (line rest word behind : List ℕ) → line ≡ codes "step " ++ rest → rest ≡ word ++ behind → HasNone 32 word → Stops 32 behind → (found : Bool)
+    → (IsTrue found ↔ ((rule : Rule) × Contains program.rules rule × (rule.name ≡ word))) → (IsTrue (not found) ↔ NamesNoRule program line)
+named_as program line rest word behind is cut none stops found tells = (there found tells, back found tells) where
+  there : (found : Bool) → (IsTrue found ↔ ((rule : Rule) × Contains program.rules rule × (rule.name ≡ word))) → IsTrue (not found) → NamesNoRule program line
+  there true tells t = absurd cc
+  there false tells t = record {
+    name = word;
+    rest = behind;
+    begins = is ∙ ap (λ text. codes "step " ++ text) cut;
+    cut = stops;
+    unspaced = none;
+    unknown = λ rule has e. let h = tells.1 (rule, has, e) in absurd cc;
+  }
+
+  back : (found : Bool) → (IsTrue found ↔ ((rule : Rule) × Contains program.rules rule × (rule.name ≡ word))) → NamesNoRule program line → IsTrue (not found)
+  back false tells unknown = refl
+  back true tells unknown =
+      let some = tells.0 refl in
+      let h : codes "step " ++ rest ≡ codes "step " ++ (unknown.name ++ unknown.rest) = sym is ∙ unknown.begins in
+      let same : rest ≡ unknown.name ++ unknown.rest = cc in
+      let names : word ≡ unknown.name = (one_parting 32 word unknown.name behind unknown.rest none unknown.unspaced stops unknown.cut (sym cut ∙ same)).0 in
+      absurd (unknown.unknown some.0 some.1 (some.2 ∙ names))
