@@ -11,6 +11,7 @@ use crate::line_kinds::{height_line, is_passed_over, names_no_rule, stage_line};
 use crate::log::Log;
 use crate::so_far::SoFar;
 use bstr::ByteSlice;
+use cep_base::limits::MOST_LOG;
 use cep_rule::Program;
 use cep_term::laws::order_is_total;
 use std::alloc::{AllocError, Global};
