@@ -1,6 +1,7 @@
 //! The words of a command, and what they ask for. All forms are this profile's.
 #![tactic(auto)]
 
+pub mod laws;
 mod number;
 mod options;
 mod run_option;

@@ -1,0 +1,113 @@
+-- Words ask for one thing at most.
+use Rattle.std.proofs.Common.{◌≡◌, ◌⊎◌, inl, inr, ⊎_elim, ℕ, ◌<◌, ◌≤◌, ◌^◌, Option, None, Some, List, [], ◌∷◌, ◌++◌, map, refl, sym, ap, subst, ◌∙◌, arith, Contains}
+use Rattle.std.specs.Prelude.{codes, decimal}
+use Rattle.std.specs.List.{AllByRecursion}
+use Rattle.std.specs.List.Sorted.{IsPermutation}
+use Rattle.std.proofs.lemmas.Fmt.{decimal_injective}
+use Rattle.std.proofs.lemmas.List.Sorted.{IsPermutation-sym, Contains-permutation}
+use Rattle.std.proofs.lemmas.List.{append_cancel_left}
+use Rattle.cep_base.proofs.Elements.{contains_none, contains_cases, contains_either, contains_left, contains_right, contains_first, contains_map, map_cases, all_at}
+use Rattle.cep_words.specs.declared.run_option.RunOption.{RunOption}
+use Rattle.cep_words.specs.declared.run_option.RunOption.TheVariants.{Seed, Height, Turns}
+use Rattle.cep_words.specs.declared.options.Options.{Options}
+use Rattle.cep_words.specs.Words.{option_text, IsInBounds, asked_if, all_asked, Give, Request, Play, AskFor}
+
+abbrev head : List ℕ → ℕ
+head [] = 0
+head (byte ∷ bytes) = byte
+
+abbrev second : List (List ℕ) → List ℕ
+second [] = []
+second (word ∷ []) = []
+second (word ∷ (next ∷ rest)) = next
+
+abbrev behind_two : List (List ℕ) → List (List ℕ)
+behind_two [] = []
+behind_two (word ∷ []) = []
+behind_two (word ∷ (next ∷ rest)) = rest
+
+-- one text is that of one option
+one_text : (one other : RunOption) → IsInBounds one → IsInBounds other → option_text one ≡ option_text other → one ≡ other
+one_text (Seed m) (Seed n) low low' same = ap Seed (decimal_injective m n low low' (append_cancel_left (codes "seed=") (decimal m) (decimal n) same))
+one_text (Height m) (Height n) low low' same = let few = low.1 in let few' = low'.1 in ap Height (decimal_injective m n (omega (arith, few)) (omega (arith, few')) (append_cancel_left (codes "height=") (decimal m) (decimal n) same))
+one_text (Turns m) (Turns n) low low' same = let few = low.1 in let few' = low'.1 in ap Turns (decimal_injective m n (omega (arith, few)) (omega (arith, few')) (append_cancel_left (codes "turns=") (decimal m) (decimal n) same))
+one_text (Seed m) (Height n) low low' same = let first : 115 ≡ 104 = ap head same in absurd (omega (arith, first))
+one_text (Seed m) (Turns n) low low' same = let first : 115 ≡ 116 = ap head same in absurd (omega (arith, first))
+one_text (Height m) (Seed n) low low' same = let first : 104 ≡ 115 = ap head same in absurd (omega (arith, first))
+one_text (Height m) (Turns n) low low' same = let first : 104 ≡ 116 = ap head same in absurd (omega (arith, first))
+one_text (Turns m) (Seed n) low low' same = let first : 116 ≡ 115 = ap head same in absurd (omega (arith, first))
+one_text (Turns m) (Height n) low low' same = let first : 116 ≡ 104 = ap head same in absurd (omega (arith, first))
+
+-- what is among those of a kind is one of them
+among : (kind : ℕ → RunOption) (o : Option ℕ) (option : RunOption) → Contains (asked_if kind o) option → (n : ℕ) × (o ≡ Some n) × (kind n ≡ option)
+among kind None option there = absurd (contains_none option there)
+among kind (Some n) option there = ⊎_elim (λ same. (n, refl, same)) (λ later. absurd (contains_none option later)) (contains_cases (kind n) [] option there)
+
+-- which option of a kind is among all that are asked
+abbrev IsAmong : Options → RunOption → Type 0
+IsAmong options (Seed n) = options.seed ≡ Some n
+IsAmong options (Height n) = options.height ≡ Some n
+IsAmong options (Turns n) = options.turns ≡ Some n
+
+by_seed : (options : Options) (n : ℕ) (option : RunOption) → options.seed ≡ Some n → Seed n ≡ option → IsAmong options option
+by_seed options n option is same = subst (IsAmong options) same is
+
+by_height : (options : Options) (n : ℕ) (option : RunOption) → options.height ≡ Some n → Height n ≡ option → IsAmong options option
+by_height options n option is same = subst (IsAmong options) same is
+
+by_turns : (options : Options) (n : ℕ) (option : RunOption) → options.turns ≡ Some n → Turns n ≡ option → IsAmong options option
+by_turns options n option is same = subst (IsAmong options) same is
+
+is_asked : (options : Options) (option : RunOption) → Contains (all_asked options) option → IsAmong options option
+is_asked options option there =
+    ⊎_elim
+    (λ first. let m = among Seed options.seed option first in by_seed options m.0 option m.1 m.2)
+    (λ later. ⊎_elim
+    (λ second. let m = among Height options.height option second in by_height options m.0 option m.1 m.2)
+    (λ third. let m = among Turns options.turns option third in by_turns options m.0 option m.1 m.2)
+    (contains_either (asked_if Height options.height) (asked_if Turns options.turns) option later))
+    (contains_either (asked_if Seed options.seed) (asked_if Height options.height ++ asked_if Turns options.turns) option there)
+
+lone : (kind : ℕ → RunOption) (o : Option ℕ) (n : ℕ) → o ≡ Some n → Contains (asked_if kind o) (kind n)
+lone kind o n is = subst (λ p. Contains (asked_if kind p) (kind n)) (sym is) (contains_first (kind n) [])
+
+asks : (options : Options) (option : RunOption) → IsAmong options option → Contains (all_asked options) option
+asks options (Seed n) is = contains_left (asked_if Seed options.seed) (asked_if Height options.height ++ asked_if Turns options.turns) (Seed n) (lone Seed options.seed n is)
+asks options (Height n) is =
+    contains_right (asked_if Seed options.seed) (asked_if Height options.height ++ asked_if Turns options.turns) (Height n)
+    (contains_left (asked_if Height options.height) (asked_if Turns options.turns) (Height n) (lone Height options.height n is))
+asks options (Turns n) is =
+    contains_right (asked_if Seed options.seed) (asked_if Height options.height ++ asked_if Turns options.turns) (Turns n)
+    (contains_right (asked_if Height options.height) (asked_if Turns options.turns) (Turns n) (lone Turns options.turns n is))
+
+-- what one list of options asks, each other one asks that has the same words
+also : (words : List (List ℕ)) (one other : Options) → Give words one → Give words other → (option : RunOption) → IsAmong one option → IsAmong other option
+also words one other given given' option is =
+    let there = asks one option is in
+    let texts = map option_text (all_asked one) in
+    let said = Contains-permutation texts words (option_text option) given.1 (contains_map option_text (all_asked one) option there) in
+    let from = map_cases option_text (all_asked other) (option_text option) (Contains-permutation words (map option_text (all_asked other)) (option_text option) (IsPermutation-sym (map option_text (all_asked other)) words given'.1) said) in
+    let same = one_text from.from option (all_at IsInBounds (all_asked other) from.from given'.0 from.there) (all_at IsInBounds (all_asked one) option given.0 there) from.same in
+    is_asked other option (subst (Contains (all_asked other)) same from.there)
+
+same_option : (o p : Option ℕ) → ((n : ℕ) → o ≡ Some n → p ≡ Some n) → ((n : ℕ) → p ≡ Some n → o ≡ Some n) → o ≡ p
+same_option None None there back = refl
+same_option None (Some n) there back = back n refl
+same_option (Some n) p there back = sym (there n refl)
+
+given_once : (words : List (List ℕ)) (one other : Options) → Give words one → Give words other → one ≡ other
+given_once words one other given given' =
+    let there = also words one other given given' in
+    let back = also words other one given' given in
+    let seed = same_option one.seed other.seed (λ n. there (Seed n)) (λ n. back (Seed n)) in
+    let height = same_option one.height other.height (λ n. there (Height n)) (λ n. back (Height n)) in
+    let turns = same_option one.turns other.turns (λ n. there (Turns n)) (λ n. back (Turns n)) in
+    λ i. record { seed = seed i; height = height i; turns = turns i }
+
+pub one_request : (words : List (List ℕ)) (one other : Request) → AskFor words one → AskFor words other → one ≡ other
+one_request words (Play file options) (Play file' options') ask ask' =
+    let same : codes "play" ∷ file ∷ ask.0 ≡ codes "play" ∷ file' ∷ ask'.0 = sym ask.1 ∙ ask'.1 in
+    let files : file ≡ file' = ap second same in
+    let others : ask.0 ≡ ask'.0 = ap behind_two same in
+    let given = given_once ask'.0 options options' (subst (λ ws. Give ws options) others ask.2) ask'.2 in
+    λ i. Play (files i) (given i)
