@@ -78,7 +78,7 @@ module _ {C : Type 0} (talk : C → Option (List Event)) (left : C → Option (L
 
   -- a played text
   pub text_played : (text : List ℕ) (options : Options) (program : Parts) (word : EndWord) → ((one other : Parts) → Spells text one → Spells text other → one ≡ other) → Spells text program → Says talk left old new program (settings_of program options) (λ end. end ≡ word) → OfText talk left old new text options (status_of word)
-  text_played text options program word one spells built says = by word says where
+  text_played text options program word one spells says = by word says where
     only : (other : Parts) → Spells text other → other ≡ program
     only other is = one other program is spells
 

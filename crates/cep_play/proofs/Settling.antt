@@ -1,5 +1,6 @@
 -- A choice is decided by the player, as a lone one, or by a word of the seed.
 use Rattle.std.proofs.Common.{◌≡◌, inl, inr, ℕ, ◌+◌, ◌<◌, ◌≤◌, List, [], ◌++◌, length, refl, sym, ap, ◌∙◌, subst, arith}
+use Rattle.std.specs.Prelude.{Bool, true, false, IsTrue, ◌↔◌}
 use Rattle.std.proofs.lemmas.Bool.{cases_lt}
 use Rattle.cep_base.specs.declared.limits.TheConstants.{MOST_TYPED}
 use Rattle.cep_base.specs.declared.console.Event.{Event}
@@ -60,6 +61,17 @@ module _ (program : Parts) (seed stage group : ℕ) (offers : List Offer) where
     | inl several ↦ let is = drawn several seed spent.draw in drawn_settles old new place come events rest others (subst (λ m. 1 < m) many several) (is.0 ∙ ap (place_drawn seed old.drawn) many) is.1 told
     | inr few ↦ let one : n ≡ 1 = omega (arith, some, few) in let is = lone one in lone_settles old new place come events rest others (sym many ∙ one) is.0 is.1 told
   ]
+
+-- who decides, by the code's test
+pub same_players : (program : Parts) (group one stage n many : ℕ) → one ≡ stage → n ≡ many → (b : Bool) → (IsTrue b ↔ IsPlayers program one group n) → b ≡ true → IsPlayers program stage group many
+same_players program group one stage n many stages counts b iff is = subst (λ k. IsPlayers program stage group k) counts (subst (λ s. IsPlayers program s group n) stages (iff.0 is))
+
+true_false : {A : Type 0} → false ≡ true → A
+true_false e = cc
+
+pub no_players : (program : Parts) (group one stage n many : ℕ) → one ≡ stage → n ≡ many → (b : Bool) → (IsTrue b ↔ IsPlayers program one group n) → b ≡ false → ¬ IsPlayers program stage group many
+no_players program group one stage n many stages counts b iff no_ players =
+    true_false (sym no_ ∙ iff.1 (subst (λ s. IsPlayers program s group n) (sym stages) (subst (λ k. IsPlayers program stage group k) (sym counts) players)))
 
 -- what was spent after a choice that the player made, and after one that nobody did
 pub player_spends : (seed turns : ℕ) (old : Spent) (taken : ℕ) → HasSpent seed turns old → taken ≤ MOST_TYPED → HasSpent seed (turns + 1) (record old { taken = taken })

@@ -17,7 +17,7 @@ use cep_log::EndWord;
 use cep_refusal::Refusal;
 use cep_rule::Program;
 use cep_scratch::Scratch;
-use cep_words::{Options, Task};
+use cep_words::{Options, Session};
 use std::alloc::{AllocError, Global};
 use std::sync::ledger::Ledger;
 
@@ -185,9 +185,10 @@ fn command<C: Console, H: Shelf, L: Ledger>(
     ensures files { H.files shelf.new ≡ H.files shelf.old }
     ensures counted { steps.old ≤ steps.new }
 {
-    match Task::of(words) {
-        Some(Task::Play { file, options }) => {
-            play_file(alloc, file.as_str(), options, console, shelf, steps)
+    match Session::of(words) {
+        Some(session) => {
+            let file = session.file.as_str();
+            play_file(alloc, file, session.options, console, shelf, steps)
         }
         None => {
             console.put(USAGE)?;

@@ -1,6 +1,6 @@
 // Which of the offers of a turn is chosen: by the player, or by the seed.
 ghost use Rattle.std.specs.Prelude.{◌≡◌, ◌↔◌, ℕ, ◌+◌, ◌<◌, ◌≤◌, length, All, IfOk, OnOk, IsTrue};
-ghost use Rattle.cep_base.specs.declared.limits.TheConstants.{MOST_OFFERS, MOST_STAGES, MOST_TURNS, MOST_TYPED};
+ghost use Rattle.cep_base.specs.declared.limits.TheConstants.{MOST_OFFERS, MOST_TURNS, MOST_TYPED};
 ghost use Rattle.cep_base.specs.Talk.{outs, Did, ConsoleCause};
 ghost use Rattle.cep_rule.specs.Matching.{offers_of};
 ghost use Rattle.cep_rule.specs.Shapes.{IsOfferOf};
@@ -65,12 +65,11 @@ impl Spent {
 // Whether the player decides among so many offers of a group: in an interactive stage, where they are
 // of its own rules, even a lone one, or several that leave it.
 fn is_players(program: &Program, stage: u32, group: u32, offers: usize) -> bool
-    requires staged { stage < length program.now.stages }
-    requires low { stage < MOST_STAGES }
+    requires { stage < length program.now.stages }
     ensures { IsTrue result ↔ IsPlayers program.now stage group offers }
 {
-    let stages = &program.parts().stages;
-    stages.get(stage as usize).interactive && (group == 2 * stage || offers > 1)
+    let parts = program.parts();
+    parts.stages.get(stage as usize).interactive && (group == 2 * stage || offers > 1)
 }
 
 /// Writes the offers of a group, and reads until one of them is chosen.

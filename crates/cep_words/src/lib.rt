@@ -5,8 +5,8 @@ pub mod laws;
 mod number;
 mod options;
 mod run_option;
-mod task;
+mod session;
 
 pub use options::Options;
 pub use run_option::RunOption;
-pub use task::Task;
+pub use session::Session;

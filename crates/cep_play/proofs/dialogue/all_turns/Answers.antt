@@ -13,10 +13,10 @@ loop-done-init g c =
     record {
       played = c.requires.played;
       turns = c.requires.begins;
-      spent = nothing_spent c.args.settings.seed c.args.start.turns c.nothing.result c.nothing.ensures.taken c.nothing.ensures.drawn c.nothing.ensures.draw;
+      spent = nothing_spent c.args.settings.seed c.args.start.turns c.nothing-spent.result c.nothing-spent.ensures.taken c.nothing-spent.ensures.drawn c.nothing-spent.ensures.draw;
       counted = omega arith;
       cause = refl;
-      so_far = did_map g.C.Console.talk g.C.Console.left console console _ _ (run_begins c.args.program.now c.args.settings (position_of c.args.start) c.nothing.result c.nothing.ensures.taken c.nothing.ensures.drawn) (did_same g.C.Console.talk g.C.Console.left console console refl refl);
+      so_far = did_map g.C.Console.talk g.C.Console.left console console _ _ (run_begins c.args.program.now c.args.settings (position_of c.args.start) c.nothing-spent.result c.nothing-spent.ensures.taken c.nothing-spent.ensures.drawn) (did_same g.C.Console.talk g.C.Console.left console console refl refl);
     }
 
 pub turn-requires-clause-remain : goal.turn-requires-clause-remain

@@ -2,7 +2,7 @@ use Rattle.std.proofs.Common.{map, ap, ◌∙◌, ◌∷◌, [], sym, arith, dro
 use Rattle.std.specs.Prelude.{string_bytes, codes}
 use Rattle.std.proofs.lemmas.Slice.Eq.{bytes_eq-Decides}
 use Rattle.cep_words.proofs.Giving.{two_items}
-use Rattle.cep_words.proofs.task.Task.of.Goals as goal
+use Rattle.cep_words.proofs.session.Session.of.Goals as goal
 
 pub returns-in_ok-options-in-len2-up : goal.returns-in_ok-options-in-len2-up
 returns-in_ok-options-in-len2-up c =

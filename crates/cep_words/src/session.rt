@@ -1,25 +1,25 @@
 ghost use Rattle.std.specs.Prelude.{map, string_bytes, MatchOption};
 ghost use Rattle.cep_words.specs.Words.{HaveNoForm};
-ghost use Rattle.cep_words.specs.Tasks.{IsAskedBy};
+ghost use Rattle.cep_words.specs.Sessions.{IsAskedBy};
 
 use crate::options::Options;
 
-/// What words ask of the program.
+/// What words ask for: that the program in a file is played, with options.
 #[derive(Clone, Copy)]
-pub enum Task<'a> {
-    /// To play the program in a file, with options.
-    Play { file: &'a String, options: Options },
+pub struct Session<'a> {
+    pub file: &'a String,
+    pub options: Options,
 }
 
-impl Task<'_> {
+impl Session<'_> {
     /// What these words ask for. `None` exactly where they have no form.
-    pub fn of(words: &[String]) -> Option<Task<'_>>
+    pub fn of(words: &[String]) -> Option<Session<'_>>
         ensures { MatchOption result (HaveNoForm (map string_bytes words.now)) (IsAskedBy (map string_bytes words.now)) }
     {
         match words {
             [play, file, options @ ..] if play.as_str() == "play" => {
                 let options = Options::of(options)?;
-                Some(Task::Play { file, options })
+                Some(Session { file, options })
             }
             _ => None,
         }
