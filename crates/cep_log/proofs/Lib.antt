@@ -7,5 +7,7 @@ pub mod Once
 pub mod Ofs
 pub mod Passing
 pub mod Apart
+pub mod OneLine
+pub mod WrittenListings
 pub mod LineKindLemmas
 pub mod StepLemmas

@@ -6,11 +6,13 @@ use Rattle.cep_base.specs.Spelling.{IsUnbroken}
 use Rattle.cep_base.specs.declared.limits.TheConstants.{MOST_COPIES}
 use Rattle.cep_term.specs.Tree.{AtomTree}
 use Rattle.cep_term.specs.Order.{atom_cmp}
+use Rattle.cep_rule.specs.declared.signature.Signature.{Signature}
 use Rattle.cep_rule.specs.declared.rule.Rule.{Rule}
 use Rattle.cep_rule.specs.declared.parts.Parts.{Parts}
 use Rattle.cep_rule.specs.declared.offer.Offer.{Offer}
 use Rattle.cep_rule.specs.Limits.{IsHeight}
 use Rattle.cep_rule.specs.Derivations.{ProofTree}
+use Rattle.cep_text.specs.Texts.{atom_text}
 use Rattle.cep_text.specs.Reads.{IsAtomText, IsOfferText, IsProofText}
 use Rattle.cep_log.specs.Lines.{stage_name, ending_word}
 use Rattle.cep_log.specs.declared.end_word.EndWord.{EndWord}
@@ -34,10 +36,18 @@ AreLines bytes (line ∷ lines) =
     ((text : List ℕ) × (rest : List ℕ) × (bytes ≡ text ++ 10 ∷ rest) × IsUnbroken text × IsBefore line text × AreLines rest lines)
     ⊎ ((bytes ≡ line) × (line ≢ []) × IsUnbroken line × (lines ≡ []))
 
+-- The bytes can be written as one line: there is no LF and no CR among them.
+abbrev pub IsOneLine : List ℕ → Type 0
+IsOneLine bytes = AllByRecursion (λ byte. (byte ≢ 10) × (byte ≢ 13)) bytes
+
 -- a line that is passed over: it begins with `?`
 abbrev pub IsPassedOver : List ℕ → Type 0
 IsPassedOver [] = ⊥
 IsPassedOver (byte ∷ bytes) = byte ≡ 63
+
+-- the bytes of a line of a listing
+abbrev pub have_text : Signature → AtomTree × ℕ → List ℕ
+have_text signature entry = codes "have " ++ (decimal entry.1 ++ (codes " " ++ atom_text signature entry.0))
 
 -- `have N ATOM`, N from 1 to 100,000
 pub record IsHaveLine (program : Parts) (line : List ℕ) (entry : AtomTree × ℕ) : Type 0 where
