@@ -1,5 +1,5 @@
 -- Bytes have one log at most, or else one first misfit.
-use Rattle.std.proofs.Common.{◌≡◌, ◌≢◌, ◌⊎◌, inl, inr, ℕ, zero, suc, ◌+◌, ◌<◌, ◌≤◌, List, [], ◌∷◌, ◌++◌, length, map, Option, Some, None, refl, sym, ap, ◌∙◌, subst, arith, length-append, append_assoc, add-one}
+use Rattle.std.proofs.Common.{◌≡◌, ◌⊎◌, inl, inr, ℕ, ◌+◌, List, [], ◌∷◌, ◌++◌, length, Some, refl, sym, ap, ◌∙◌, subst, arith}
 use Rattle.cep_base.proofs.Lists.{none_some, some_same}
 use Rattle.cep_rule.specs.declared.parts.Parts.{Parts}
 use Rattle.cep_log.specs.declared.log.Log.{Log}
@@ -7,7 +7,7 @@ use Rattle.cep_log.specs.declared.so_far.SoFar.{SoFar}
 use Rattle.cep_log.specs.declared.so_far.SoFar.TheVariants.{Nothing}
 use Rattle.cep_log.specs.declared.fault.LogFault.{LogFault}
 use Rattle.cep_log.specs.declared.fault.LogFault.TheVariants.{Line, NoRule}
-use Rattle.cep_log.specs.Transcript.{AreLines, Passes, Leads, MayStep, NamesNoRule, said_by, HasLog, HasMisfit, IsFirstMisfit, StopsEarly, IsFaultOf}
+use Rattle.cep_log.specs.Transcript.{Passes, Leads, said_by, HasLog, HasMisfit, IsFirstMisfit, StopsEarly, IsFaultOf}
 use Rattle.cep_log.proofs.Cuts.{one_cut}
 use Rattle.cep_log.proofs.Once.{OneValue, one_way, one_passed}
 

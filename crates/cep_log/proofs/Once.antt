@@ -1,23 +1,20 @@
 -- What a line says, and what was read with it, is one thing.
-use Rattle.std.proofs.Common.{◌≡◌, ◌≢◌, ◌⊎◌, inl, inr, ℕ, zero, suc, ◌+◌, ◌<◌, ◌≤◌, ◌^◌, ◌&&◌, ◌||◌, ◌==◌, List, [], ◌∷◌, ◌++◌, length, map, Bool, true, false, Option, Some, None, refl, sym, ap, ◌∙◌, subst, arith, add-one, bytes_eq}
-use Rattle.std.specs.Prelude.{codes, decimal, slice_get, nat_le}
-use Rattle.std.specs.List.{AllByRecursion}
+use Rattle.std.proofs.Common.{◌≡◌, ◌≢◌, ◌⊎◌, inl, inr, ℕ, zero, suc, ◌+◌, ◌<◌, ◌≤◌, ◌^◌, ◌&&◌, List, [], ◌∷◌, ◌++◌, length, map, Bool, true, false, Some, None, refl, sym, ap, ◌∙◌, subst, arith, bytes_eq}
+use Rattle.std.specs.Prelude.{codes, decimal, slice_get}
 use Rattle.std.specs.Char.{is_ascii_digit}
 use Rattle.std.proofs.lemmas.Bool.{false≢true}
 use Rattle.std.specs.Str.{all_ascii_digits}
 use Rattle.std.proofs.lemmas.Str.Parse.{numerals_by_value, tells_all_ascii_digits}
-use Rattle.std.proofs.lemmas.Option.{slice_get_within}
 use Rattle.std.proofs.lemmas.Fmt.{decimal_injective, digits_decimal}
 use Rattle.std.proofs.lemmas.Slice.Eq.{bytes_eq-Decides}
-use Rattle.cep_base.proofs.Lists.{none_some, some_same, holds_at, get_mapped}
+use Rattle.cep_base.proofs.Lists.{none_some, some_same, holds_at}
 use Rattle.cep_base.specs.declared.limits.TheConstants.{MOST_COPIES, MOST_HEIGHT}
 use Rattle.cep_term.specs.Tree.{AtomTree}
 use Rattle.cep_rule.specs.declared.rule.Rule.{Rule}
 use Rattle.cep_rule.specs.declared.parts.Parts.{Parts}
 use Rattle.cep_rule.specs.declared.parts.Stage.{Stage}
 use Rattle.cep_rule.specs.declared.offer.Offer.{Offer}
-use Rattle.cep_rule.specs.Names.{AllDiffer, AreNames}
-use Rattle.cep_rule.specs.Program.{IsProgram}
+use Rattle.cep_rule.specs.Names.{AllDiffer}
 use Rattle.cep_rule.specs.Derivations.{ProofTree}
 use Rattle.cep_rule.specs.Shapes.{IsOfferOf, IsProofOf}
 use Rattle.cep_text.specs.Texts.{atom_text, offer_text, proof_text, IsTypedGround}
@@ -25,11 +22,10 @@ use Rattle.cep_log.specs.declared.end_word.EndWord.{EndWord}
 use Rattle.cep_log.specs.declared.end_word.EndWord.TheVariants.{Quiet, Input, Turns, Offers, Typed, Atom, State}
 use Rattle.cep_log.specs.declared.log.Log.{Log}
 use Rattle.cep_log.specs.declared.log.LogStep.{LogStep}
-use Rattle.cep_log.specs.declared.log.LogEnd.{LogEnd}
 use Rattle.cep_log.specs.declared.so_far.SoFar.{SoFar}
 use Rattle.cep_log.specs.declared.so_far.SoFar.TheVariants.{Nothing, Version, Height, Whole, Within, Ended}
 use Rattle.cep_log.specs.Lines.{stage_name, ending_word}
-use Rattle.cep_log.specs.Transcript.{IsPassedOver, IsHaveLine, IsStageLine, IsStepLine, IsByLine, IsEndLine, GoesOnListing, GoesOnStart, GoesOnStep, GoesOnEnd, BeginsStep, BeginsEnd, Takes, Passes, Leads, with_step}
+use Rattle.cep_log.specs.Transcript.{IsHaveLine, IsStageLine, IsStepLine, IsByLine, GoesOnListing, GoesOnStep, BeginsStep, Takes, Passes, Leads, with_step}
 use Rattle.cep_log.proofs.Parted.{HasNone, one_parting}
 
 -- Numbers

@@ -1,6 +1,6 @@
 -- The texts of values stand on one line, and lines that are written one after another are cut again.
-use Rattle.std.proofs.Common.{◌≡◌, ◌≢◌, ◌⊎◌, inl, inr, ℕ, zero, suc, ◌+◌, ◌<◌, ◌≤◌, ◌^◌, ◌/◌, ◌%◌, ◌==◌, cond, List, [], ◌∷◌, ◌++◌, length, map, Bool, true, false, Option, Some, None, refl, sym, ap, ◌∙◌, subst, arith, append_assoc}
-use Rattle.std.specs.Prelude.{codes, decimal, slice_get, IsTrue, IsSomeAnd, nat_lt}
+use Rattle.std.proofs.Common.{◌≡◌, ◌≢◌, ◌⊎◌, inl, inr, ℕ, zero, suc, ◌+◌, ◌<◌, ◌/◌, ◌%◌, ◌==◌, cond, List, [], ◌∷◌, ◌++◌, length, map, Bool, true, false, Option, Some, None, refl, sym, ◌∙◌, subst, arith, append_assoc}
+use Rattle.std.specs.Prelude.{decimal, slice_get, IsTrue, IsSomeAnd, nat_lt}
 use Rattle.std.specs.List.{AllByRecursion, flat_map}
 use Rattle.std.specs.Char.{is_ascii_lowercase, is_ascii_uppercase}
 use Rattle.std.specs.Fmt.{digit_glyph, digits_onto, digits}
@@ -8,24 +8,19 @@ use Rattle.std.proofs.lemmas.Bool.{false≢true}
 use Rattle.std.proofs.lemmas.List.Concat.{flat_map-cons}
 use Rattle.cep_base.specs.Spelling.{is_name_byte, IsUnbroken}
 use Rattle.cep_base.proofs.Lists.{none_some, some_same, holds_at, all_weaker}
-use Rattle.cep_base.specs.declared.limits.TheConstants.{MOST_CLAUSES}
 use Rattle.cep_term.specs.Tree.{Tree, Trees, AtomTree, variable, node, none, more, IsGround, AreGround}
-use Rattle.cep_rule.specs.declared.signature.Con.{Con}
-use Rattle.cep_rule.specs.declared.signature.PredDecl.{PredDecl}
 use Rattle.cep_rule.specs.declared.signature.Signature.{Signature}
-use Rattle.cep_rule.specs.declared.rule.Rule.{Rule}
 use Rattle.cep_rule.specs.declared.parts.Parts.{Parts}
 use Rattle.cep_rule.specs.declared.offer.Offer.{Offer}
-use Rattle.cep_rule.specs.Names.{IsWord, IsName, IsVariableName, IsBlankName, AreNames}
-use Rattle.cep_rule.specs.Patterns.{ClauseTree}
-use Rattle.cep_rule.specs.Typing.{HasSort, HaveSorts, IsTyped, IsValue, AreValues}
+use Rattle.cep_rule.specs.Names.{IsWord, IsName, IsVariableName, IsBlankName}
+use Rattle.cep_rule.specs.Typing.{HasSort, HaveSorts, AreValues}
 use Rattle.cep_rule.specs.Derivations.{ProofTree, ProofTrees, by_clause, no_goal, goal_by}
 use Rattle.cep_rule.specs.Shapes.{IsOfferOf, IsProofOf, AreProofsOf}
 use Rattle.cep_rule.specs.Program.{IsProgram}
 use Rattle.cep_text.specs.Texts.{con_name, pred_name, offer_name, rule_vars, clause_vars, enclosed, term_text, args_text, atom_text, given_text, all_given_text, offer_text, begin_text, proof_text, proofs_text, IsTypedGround}
 use Rattle.cep_rule.specs.declared.parts.Stage.{Stage}
 use Rattle.cep_log.specs.Lines.{line, stage_name}
-use Rattle.cep_log.specs.Transcript.{AreLines, IsBefore, IsOneLine}
+use Rattle.cep_log.specs.Transcript.{AreLines, IsOneLine}
 
 -- Bytes
 

@@ -1,9 +1,8 @@
 -- The lines that were read so far, and what is said of all of them.
-use Rattle.std.proofs.Common.{◌≡◌, ◌≢◌, ◌⊎◌, inl, inr, ℕ, zero, suc, ◌+◌, ◌<◌, ◌≤◌, List, [], ◌∷◌, ◌++◌, length, map, Option, Some, None, refl, sym, ap, ◌∙◌, subst, arith, length-append, append_assoc, add-one}
-use Rattle.std.proofs.lemmas.List.{append-nil, length-map}
+use Rattle.std.proofs.Common.{◌≡◌, inl, inr, ℕ, ◌+◌, ◌<◌, ◌≤◌, List, [], ◌∷◌, ◌++◌, length, map, Some, None, refl, sym, ap, ◌∙◌, subst, arith, length-append, append_assoc}
+use Rattle.std.proofs.lemmas.List.{append-nil}
 use Rattle.std.proofs.lemmas.Option.{slice_get_within}
 use Rattle.bstr.specs.Text.{lines_of, without_terminator}
-use Rattle.cep_base.proofs.Lists.{none_some, some_same}
 use Rattle.std.specs.Cmp.{IsTotalOrder}
 use Rattle.cep_term.specs.Order.{atom_cmp}
 use Rattle.cep_rule.specs.declared.parts.Parts.{Parts}
@@ -12,10 +11,10 @@ use Rattle.cep_log.specs.declared.log.TheConstants.{MOST_TRANSCRIPT}
 use Rattle.cep_log.specs.declared.so_far.SoFar.{SoFar}
 use Rattle.cep_log.specs.declared.so_far.SoFar.TheVariants.{Nothing, Version, Height, Whole, Within, Ended}
 use Rattle.cep_log.specs.declared.fault.LogFault.{LogFault}
-use Rattle.cep_log.specs.declared.fault.LogFault.TheVariants.{Line, NoRule}
+use Rattle.cep_log.specs.declared.fault.LogFault.TheVariants.{Line}
 use Rattle.cep_log.specs.Legal.{IsLogOf}
 use Rattle.cep_log.specs.Growing.{HasRule}
-use Rattle.cep_log.specs.Transcript.{AreLines, Passes, Leads, said_by, HasLog, HasMisfit, IsFirstMisfit, StopsEarly, IsFaultOf}
+use Rattle.cep_log.specs.Transcript.{Passes, Leads, said_by, HasLog, HasMisfit, IsFaultOf}
 use Rattle.cep_log.proofs.Cuts.{lines_are, few_lines}
 use Rattle.cep_log.proofs.Ofs.{Transitive, IsReadOf, leads_kept, said_is_of}
 

@@ -1,12 +1,11 @@
 -- The listing of a state, as it is written, is read as its entries.
-use Rattle.std.proofs.Common.{◌≡◌, ◌≢◌, ◌⊎◌, inl, inr, ℕ, zero, suc, ◌+◌, ◌-◌, ◌<◌, ◌≤◌, List, [], ◌∷◌, ◌++◌, length, map, Option, Some, None, refl, sym, ap, ◌∙◌, subst, arith, append_assoc}
-use Rattle.std.specs.Prelude.{codes, decimal, slice_get, IfSome}
+use Rattle.std.proofs.Common.{◌≡◌, inl, inr, ℕ, suc, ◌+◌, ◌-◌, ◌<◌, List, [], ◌∷◌, ◌++◌, length, map, Some, refl, sym, ap, ◌∙◌, subst, arith, append_assoc}
+use Rattle.std.specs.Prelude.{slice_get, IfSome}
 use Rattle.std.specs.List.{AllByRecursion}
 use Rattle.std.specs.FinMap as finite
 use Rattle.std.specs.declared.cmp.Ordering.TheVariants.{Less}
 use Rattle.std.proofs.lemmas.List.{append-nil}
-use Rattle.cep_base.proofs.Lists.{holds_at, all_from_places, some_same}
-use Rattle.cep_base.specs.declared.limits.TheConstants.{MOST_COPIES}
+use Rattle.cep_base.proofs.Lists.{holds_at, all_from_places}
 use Rattle.cep_term.specs.Tree.{AtomTree}
 use Rattle.cep_term.specs.Order.{atom_cmp}
 use Rattle.cep_term.specs.Multiset.{Multiset, IsEntry, count_of}
@@ -20,7 +19,7 @@ use Rattle.cep_log.specs.declared.log.LogEnd.{LogEnd}
 use Rattle.cep_log.specs.declared.so_far.SoFar.{SoFar}
 use Rattle.cep_log.specs.declared.so_far.SoFar.TheVariants.{Whole, Ended}
 use Rattle.cep_log.specs.Legal.{IsHave, AtomsRise, IsListing}
-use Rattle.cep_log.specs.Transcript.{IsPassedOver, IsHaveLine, IsBehind, GoesOnListing, Passes, Leads, have_text}
+use Rattle.cep_log.specs.Transcript.{IsPassedOver, IsBehind, GoesOnListing, Leads, have_text}
 
 -- The entries of a state that fits are a listing.
 

@@ -1,5 +1,5 @@
 -- Which bytes are a transcript, of which log, and which line of other bytes is the first that does not fit.
-use Rattle.std.specs.Prelude.{◌≡◌, ◌≢◌, ◌⊎◌, ◌↔◌, ℕ, ◌+◌, ◌≤◌, ◌<◌, Bool, List, [], ◌∷◌, ◌++◌, length, map, codes, decimal, Option, Some, None, slice_get, nat_le, ◌&&◌, ◌||◌, not, is_none, is_some, if◌then◌else◌, Contains, IfSome, ◌-◌}
+use Rattle.std.specs.Prelude.{◌≡◌, ◌≢◌, ◌⊎◌, ℕ, ◌+◌, ◌≤◌, ◌<◌, Bool, List, [], ◌∷◌, ◌++◌, length, codes, decimal, Option, Some, None, slice_get, nat_le, ◌&&◌, ◌||◌, is_none, is_some, if◌then◌else◌, Contains, IfSome, ◌-◌}
 use Rattle.std.specs.List.{AllByRecursion}
 use Rattle.std.specs.declared.cmp.Ordering.TheVariants.{Less}
 use Rattle.cep_base.specs.Spelling.{IsUnbroken}

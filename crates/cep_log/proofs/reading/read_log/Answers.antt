@@ -1,6 +1,4 @@
-use Rattle.std.proofs.Common.{◌≤◌, ◌<◌, length, sym, ap, ◌∙◌, subst, arith}
-use Rattle.cep_log.specs.declared.log.TheConstants.{MOST_TRANSCRIPT}
-use Rattle.cep_log.proofs.LineKindLemmas.{told_none}
+use Rattle.std.proofs.Common.{sym, ◌∙◌, arith}
 use Rattle.cep_log.proofs.StepLemmas.{told_ok, told_err}
 use Rattle.cep_log.proofs.Passing.{all_lines, passed_none, passed_more, number_short, number_most, read_is_of, has_rule, log_said, log_is_of, stops_said, misfit_said, transitive}
 use Rattle.cep_log.proofs.reading.read_log.Goals as goal
