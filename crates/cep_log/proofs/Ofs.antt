@@ -20,7 +20,7 @@ use Rattle.cep_log.specs.declared.so_far.SoFar.TheVariants.{Nothing, Version, He
 use Rattle.cep_log.specs.Legal.{IsHave, AtomsRise, IsListing, IsStepOf, IsLogOf}
 use Rattle.cep_log.specs.declared.log.TheConstants.{MOST_TRANSCRIPT}
 use Rattle.cep_rule.specs.Derivations.{ProofTree}
-use Rattle.cep_log.specs.Transcript.{IsByLine, IsStageLine, IsBehind, GoesOnListing, Takes, Passes, Leads, has_own_lines, with_step, said_by}
+use Rattle.cep_log.specs.Transcript.{IsByLine, IsStageLine, IsBehind, GoesOnListing, Becomes, MovesOn, Leads, has_own_lines, with_step, said_by}
 
 -- Listings
 
@@ -147,7 +147,7 @@ module _ (program : Parts) where
       subst (λ (is : Bool). IsReadOf program (suc n) (if is then Whole (record log { steps = log.steps ++ (record step { stage = Some stage }) ∷ [] }) else Within log (record step { stage = Some stage }))) (sym own)
       (with_whole n log (record step { stage = Some stage }) part few whole, unended)
 
-  pub takes_kept : (through : Transitive) (n : ℕ) (line : List ℕ) (old new : SoFar) → IsReadOf program n old → Takes program n line old new → IsReadOf program (suc n) new
+  pub takes_kept : (through : Transitive) (n : ℕ) (line : List ℕ) (old new : SoFar) → IsReadOf program n old → Becomes program n line old new → IsReadOf program (suc n) new
   takes_kept through n line Nothing new is takes = subst (IsReadOf program (suc n)) (sym takes.1) tt
   takes_kept through n line Version new is takes = subst (IsReadOf program (suc n)) (sym takes.3) takes.1
   takes_kept through n line (Height height) new is takes =
@@ -206,7 +206,7 @@ module _ (program : Parts) where
   read_later n (Within log step) is = (part_later n (suc n) log is.0 (omega arith), (is.1.0, (let h = is.1.1 in omega arith), is.1.2))
   read_later n (Ended log end) is = (part_later n (suc n) log is.0 (omega arith), is.1)
 
-  passes_kept : (through : Transitive) (n : ℕ) (line : List ℕ) (old new : SoFar) → IsReadOf program n old → Passes program n line old new → IsReadOf program (suc n) new
+  passes_kept : (through : Transitive) (n : ℕ) (line : List ℕ) (old new : SoFar) → IsReadOf program n old → MovesOn program n line old new → IsReadOf program (suc n) new
   passes_kept through n line old new is (inl over) = subst (IsReadOf program (suc n)) (sym over.1) (read_later n old is)
   passes_kept through n line old new is (inr takes) = takes_kept through n line old new is takes.1
 

@@ -25,7 +25,7 @@ use Rattle.cep_log.specs.declared.log.LogStep.{LogStep}
 use Rattle.cep_log.specs.declared.so_far.SoFar.{SoFar}
 use Rattle.cep_log.specs.declared.so_far.SoFar.TheVariants.{Nothing, Version, Height, Whole, Within, Ended}
 use Rattle.cep_log.specs.Lines.{stage_name, ending_word}
-use Rattle.cep_log.specs.Transcript.{IsHaveLine, IsStageLine, IsStepLine, IsByLine, GoesOnListing, GoesOnStep, BeginsStep, Takes, Passes, Leads, with_step}
+use Rattle.cep_log.specs.Transcript.{IsHaveLine, IsStageLine, IsStepLine, IsByLine, GoesOnListing, GoesOnStep, BeginsStep, Becomes, MovesOn, Leads, with_step}
 use Rattle.cep_log.proofs.Parted.{HasNone, one_parting}
 
 -- Numbers
@@ -168,7 +168,7 @@ module _ (program : Parts) (laws : OneValue program) where
       a.step ∙ (ap (λ rule. with_step rule log (record { line = number; offer = a.offer; proofs = []; stage = None })) rules
       ∙ (ap (λ offer. with_step b.rule log (record { line = number; offer = offer; proofs = []; stage = None })) offers ∙ sym b.step))
 
-  pub one_taken : (number : ℕ) (line : List ℕ) (old new new' : SoFar) → Takes program number line old new → Takes program number line old new' → new ≡ new'
+  pub one_taken : (number : ℕ) (line : List ℕ) (old new new' : SoFar) → Becomes program number line old new → Becomes program number line old new' → new ≡ new'
   one_taken number line Nothing new new' a b = a.1 ∙ sym b.1
   one_taken number line Version new new' a b = a.3 ∙ (ap Height (one_height line a.0 b.0 a.1.low b.1.low a.2 b.2) ∙ sym b.3)
   one_taken number line (Height height) new new' a b = a.2 ∙ (ap (λ stage. Whole (record { height = height; stage_line = number; stage = stage; start = []; steps = []; end = None; lines = 0 })) (one_stage line a.0 b.0 a.1 b.1) ∙ sym b.2)
@@ -187,7 +187,7 @@ module _ (program : Parts) (laws : OneValue program) where
   one_taken number line (Within log step) new new' a b = one_own line log step new new' a b
   one_taken number line (Ended log end) new new' a b = a.ended ∙ (ap (λ state. Ended log (record end { state = state })) (one_listing line end.state a.state b.state a.listed b.listed) ∙ sym b.ended)
 
-  pub one_passed : (number : ℕ) (line : List ℕ) (old new new' : SoFar) → Passes program number line old new → Passes program number line old new' → new ≡ new'
+  pub one_passed : (number : ℕ) (line : List ℕ) (old new new' : SoFar) → MovesOn program number line old new → MovesOn program number line old new' → new ≡ new'
   one_passed number line old new new' (inl a) (inl b) = a.1 ∙ sym b.1
   one_passed number line old new new' (inl a) (inr b) = absurd (b.0 a.0)
   one_passed number line old new new' (inr a) (inl b) = absurd (a.0 b.0)

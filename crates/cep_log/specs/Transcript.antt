@@ -144,22 +144,22 @@ pub record GoesOnEnd (program : Parts) (line : List ℕ) (log : Log) (end : LogE
   pub ended : new ≡ Ended log (record end { state = state })
 
 -- With the line of this number, which is not passed over, what was read becomes the new.
-abbrev pub Takes : Parts → ℕ → List ℕ → SoFar → SoFar → Type 0
-Takes program number line Nothing new = (line ≡ codes "ceptre 1") × (new ≡ Version)
-Takes program number line Version new = (height : ℕ) × IsHeight height × (line ≡ codes "height " ++ decimal height) × (new ≡ Height height)
-Takes program number line (Height height) new = (stage : ℕ) × IsStageLine program line stage × (new ≡ Whole (log_begun height number stage))
-Takes program number line (Whole log) new = GoesOnStart program line log new ⊎ (BeginsStep program number line log new ⊎ BeginsEnd number line log new)
-Takes program number line (Within log step) new = GoesOnStep program line log step new
-Takes program number line (Ended log end) new = GoesOnEnd program line log end new
+abbrev pub Becomes : Parts → ℕ → List ℕ → SoFar → SoFar → Type 0
+Becomes program number line Nothing new = (line ≡ codes "ceptre 1") × (new ≡ Version)
+Becomes program number line Version new = (height : ℕ) × IsHeight height × (line ≡ codes "height " ++ decimal height) × (new ≡ Height height)
+Becomes program number line (Height height) new = (stage : ℕ) × IsStageLine program line stage × (new ≡ Whole (log_begun height number stage))
+Becomes program number line (Whole log) new = GoesOnStart program line log new ⊎ (BeginsStep program number line log new ⊎ BeginsEnd number line log new)
+Becomes program number line (Within log step) new = GoesOnStep program line log step new
+Becomes program number line (Ended log end) new = GoesOnEnd program line log end new
 
 -- The same for every line: one that is passed over leaves all as it is.
-abbrev pub Passes : Parts → ℕ → List ℕ → SoFar → SoFar → Type 0
-Passes program number line old new = (IsPassedOver line × (new ≡ old)) ⊎ ((¬ IsPassedOver line) × Takes program number line old new)
+abbrev pub MovesOn : Parts → ℕ → List ℕ → SoFar → SoFar → Type 0
+MovesOn program number line old new = (IsPassedOver line × (new ≡ old)) ⊎ ((¬ IsPassedOver line) × Becomes program number line old new)
 
 -- With all these lines, which are numbered from here on, what was read becomes the new.
 abbrev pub Leads : Parts → ℕ → List (List ℕ) → SoFar → SoFar → Type 0
 Leads program number [] old new = new ≡ old
-Leads program number (line ∷ lines) old new = (next : SoFar) × Passes program number line old next × Leads program (number + 1) lines next new
+Leads program number (line ∷ lines) old new = (next : SoFar) × MovesOn program number line old next × Leads program (number + 1) lines next new
 
 -- what a transcript of so many lines says, where it may end
 abbrev pub said_by : SoFar → ℕ → Option Log
@@ -210,7 +210,7 @@ pub record IsFirstMisfit (program : Parts) (lines : List (List ℕ)) (fault : Lo
   pub cut : lines ≡ before ++ line ∷ behind
   pub so_far : SoFar
   pub leads : Leads program 1 before Nothing so_far
-  pub nowhere : (new : SoFar) → ¬ Passes program (length before + 1) line so_far new
+  pub nowhere : (new : SoFar) → ¬ MovesOn program (length before + 1) line so_far new
   pub fault_is : IsFaultOf program (length before + 1) line so_far fault
 
 -- The lines stop too early: they lead to where no transcript ends, and the fault is told at the line behind them.
