@@ -9,5 +9,6 @@ pub mod Passing
 pub mod Apart
 pub mod OneLine
 pub mod WrittenListings
+pub mod WrittenSteps
 pub mod LineKindLemmas
 pub mod StepLemmas

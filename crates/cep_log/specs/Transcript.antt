@@ -3,7 +3,7 @@ use Rattle.std.specs.Prelude.{◌≡◌, ◌≢◌, ◌⊎◌, ℕ, ◌+◌, ◌
 use Rattle.std.specs.List.{AllByRecursion}
 use Rattle.std.specs.declared.cmp.Ordering.TheVariants.{Less}
 use Rattle.cep_base.specs.Spelling.{IsUnbroken}
-use Rattle.cep_base.specs.declared.limits.TheConstants.{MOST_COPIES}
+use Rattle.cep_base.specs.declared.limits.TheConstants.{MOST_COPIES, MOST_HEIGHT}
 use Rattle.cep_term.specs.Tree.{AtomTree}
 use Rattle.cep_term.specs.Order.{atom_cmp}
 use Rattle.cep_rule.specs.declared.signature.Signature.{Signature}
@@ -11,8 +11,9 @@ use Rattle.cep_rule.specs.declared.rule.Rule.{Rule}
 use Rattle.cep_rule.specs.declared.parts.Parts.{Parts}
 use Rattle.cep_rule.specs.declared.offer.Offer.{Offer}
 use Rattle.cep_rule.specs.Limits.{IsHeight}
-use Rattle.cep_rule.specs.Derivations.{ProofTree}
-use Rattle.cep_text.specs.Texts.{atom_text}
+use Rattle.cep_rule.specs.Derivations.{ProofTree, proof_height}
+use Rattle.cep_rule.specs.Shapes.{IsProofOf, HasSmallValues}
+use Rattle.cep_text.specs.Texts.{atom_text, offer_text, proof_text}
 use Rattle.cep_text.specs.Reads.{IsAtomText, IsOfferText, IsProofText}
 use Rattle.cep_log.specs.Lines.{stage_name, ending_word}
 use Rattle.cep_log.specs.declared.end_word.EndWord.{EndWord}
@@ -48,6 +49,23 @@ IsPassedOver (byte ∷ bytes) = byte ≡ 63
 -- the bytes of a line of a listing
 abbrev pub have_text : Signature → AtomTree × ℕ → List ℕ
 have_text signature entry = codes "have " ++ (decimal entry.1 ++ (codes " " ++ atom_text signature entry.0))
+
+-- the bytes of the own lines of a step: `step OFFER`, `by DERIVATION` for each derivation, and `stage NAME` where there is a stage
+abbrev pub step_text : Parts → Offer → List ℕ
+step_text program offer = codes "step " ++ offer_text program offer
+
+abbrev pub by_text : Parts → ProofTree → List ℕ
+by_text program proof = codes "by " ++ proof_text program proof
+
+abbrev pub stage_texts : Parts → Option ℕ → List (List ℕ)
+stage_texts program None = []
+stage_texts program (Some stage) = (codes "stage " ++ stage_name (slice_get program.stages stage)) ∷ []
+
+-- A derivation can be read back: it has the program's shape, small values, and not too many levels.
+pub record IsReadable (program : Parts) (proof : ProofTree) : Type 0 where
+  pub of_clauses : IsProofOf program proof
+  pub small : HasSmallValues proof
+  pub low : proof_height proof ≤ MOST_HEIGHT
 
 -- `have N ATOM`, N from 1 to 100,000
 pub record IsHaveLine (program : Parts) (line : List ℕ) (entry : AtomTree × ℕ) : Type 0 where

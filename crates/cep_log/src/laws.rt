@@ -1,12 +1,13 @@
 //! Laws of transcripts, for the crates that rest on them. Each function computes nothing, and its
 //! contract is the law.
-ghost use Rattle.std.specs.Prelude.{◌≡◌, ◌<◌, ◌+◌, ◌++◌, [], ℕ, List, length, map, decimal, slice_get};
+ghost use Rattle.std.specs.Prelude.{◌≡◌, ◌<◌, ◌+◌, ◌++◌, [], ◌∷◌, Some, ℕ, List, length, map, decimal, slice_get};
 ghost use Rattle.std.specs.FinMap as finite;
 ghost use Rattle.std.specs.List.{AllByRecursion, flat_map};
 ghost use Rattle.cep_term.specs.Tree.{AtomTree};
+ghost use Rattle.cep_rule.specs.declared.rule.Rule.{Rule};
 ghost use Rattle.cep_rule.specs.declared.offer.Offer.{Offer};
 ghost use Rattle.cep_rule.specs.Derivations.{ProofTree};
-ghost use Rattle.cep_rule.specs.Shapes.{IsOfferOf, IsProofOf};
+ghost use Rattle.cep_rule.specs.Shapes.{IsOfferOf, IsProofOf, IsSmallTerm};
 ghost use Rattle.cep_text.specs.Texts.{atom_text, offer_text, proof_text, IsTypedGround};
 ghost use Rattle.cep_log.specs.Lines.{line, stage_name, have_line};
 ghost use Rattle.cep_term.specs.Multiset.{Multiset};
@@ -20,7 +21,7 @@ ghost use Rattle.cep_log.specs.declared.so_far.SoFar.{SoFar};
 ghost use Rattle.cep_log.specs.declared.so_far.SoFar.TheVariants.{Whole, Ended};
 ghost use Rattle.cep_log.specs.Legal.{IsListing};
 ghost use Rattle.cep_log.specs.declared.fault.LogFault.{LogFault};
-ghost use Rattle.cep_log.specs.Transcript.{AreLines, IsOneLine, Leads, have_text, HasLog, HasMisfit};
+ghost use Rattle.cep_log.specs.Transcript.{AreLines, IsOneLine, IsReadable, step_text, by_text, stage_texts, Leads, have_text, HasLog, HasMisfit};
 
 use cep_term::laws::bags_are_lawful;
 use cep_text::laws::one_value;
@@ -76,3 +77,17 @@ pub fn listings_are_read_as_written()
 {
     bags_are_lawful();
 }
+
+/// The own lines of a step, as they are written, are read as the step: its line, one for each
+/// derivation, and the next stage where its rule names one.
+pub fn steps_are_read_as_written()
+    ensures { (program : Parts) (log : Log) (rule : Rule) (number : ℕ) (offer : Offer) (proofs : List ProofTree)
+        → slice_get program.rules offer.rule ≡ Some rule
+        → IsOfferOf program offer
+        → AllByRecursion IsSmallTerm offer.values
+        → length proofs ≡ length rule.backs
+        → AllByRecursion (IsReadable program) proofs
+        → ((stage : ℕ) → rule.next ≡ Some stage → stage < length program.stages)
+        → Leads program number (step_text program offer ∷ (map (by_text program) proofs ++ stage_texts program rule.next)) (Whole log)
+        (Whole (record log { steps = log.steps ++ (record { line = number; offer = offer; proofs = proofs; stage = rule.next }) ∷ [] })) }
+{}
