@@ -99,7 +99,7 @@ module _ (laws : ThereLaws) (program : Parts) (settings : Settings) (kept : IsPr
             | inl fits ↦ inl (record {
               turn = record { before = at; question = question; offer = offer; rule = rule; proofs = proofs.0; after = record { spot = record { stage = stage_after rule at.spot.stage; state = next }; turns = at.turns + 1 }; left = left };
               is = record { here = refl; asks = asks; chosen = chosen; proved = proofs.1; steps = record { fit = fit; step = step; fits = fits; stage = refl }; counted = refl };
-              state = next_is_state laws signature rule values typed divided applies.values state next is_state fit step;
+              state = next_is_state laws.states signature rule values typed divided applies.values state next is_state fit step;
             })
           ]
         ]
