@@ -7,7 +7,6 @@ use Rattle.cep_base.specs.declared.limits.TheConstants.{MOST_OFFERS}
 use Rattle.cep_base.proofs.Elements.{contains_none, contains_first}
 use Rattle.cep_base.proofs.Lists.{holds_at}
 use Rattle.cep_term.specs.Multiset.{Multiset}
-use Rattle.cep_rule.specs.declared.rule.Rule.{Rule}
 use Rattle.cep_rule.specs.declared.parts.Parts.{Parts}
 use Rattle.cep_rule.specs.declared.offer.Offer.{Offer}
 use Rattle.cep_rule.specs.Instances.{full_instances, left_of, kept_of}
