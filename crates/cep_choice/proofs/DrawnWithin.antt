@@ -1,5 +1,5 @@
 -- A word of the seed has 32 bits, so the place that it stands for is one of those among which it is drawn.
-use Rattle.std.proofs.Common.{ℕ, ◌+◌, ◌*◌, ◌/◌, ◌%◌, ◌-◌, ◌^◌, ◌<◌, ◌≤◌, arith, mod-lt, lt_of_le_of_lt, div-le_self, mul-lt-mul_of_pos_right}
+use Rattle.std.proofs.Common.{ℕ, ◌*◌, ◌/◌, ◌%◌, ◌-◌, ◌^◌, ◌<◌, ◌≤◌, arith, lt_of_le_of_lt, div-le_self, mul-lt-mul_of_pos_right}
 use Rattle.std.proofs.lemmas.Nat.{or_lt}
 use Rattle.std.specs.Prelude.{bit_xor}
 use Rattle.std.specs.Int.{w32, rotate_right}

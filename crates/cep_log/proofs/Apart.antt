@@ -1,5 +1,5 @@
 -- Bytes have one log at most, or else one first misfit.
-use Rattle.std.proofs.Common.{◌≡◌, ◌≢◌, ◌⊎◌, inl, inr, ℕ, zero, suc, ◌+◌, ◌<◌, ◌≤◌, List, [], ◌∷◌, ◌++◌, length, map, Option, Some, None, refl, sym, ap, ◌∙◌, subst, arith, length-append, append_assoc, add-one}
+use Rattle.std.proofs.Common.{◌≡◌, ◌⊎◌, inl, inr, ℕ, ◌+◌, List, [], ◌∷◌, ◌++◌, length, Some, refl, sym, ap, ◌∙◌, subst, arith}
 use Rattle.cep_base.proofs.Lists.{none_some, some_same}
 use Rattle.cep_rule.specs.declared.parts.Parts.{Parts}
 use Rattle.cep_log.specs.declared.log.Log.{Log}
@@ -7,20 +7,20 @@ use Rattle.cep_log.specs.declared.so_far.SoFar.{SoFar}
 use Rattle.cep_log.specs.declared.so_far.SoFar.TheVariants.{Nothing}
 use Rattle.cep_log.specs.declared.fault.LogFault.{LogFault}
 use Rattle.cep_log.specs.declared.fault.LogFault.TheVariants.{Line, NoRule}
-use Rattle.cep_log.specs.Transcript.{AreLines, Passes, Leads, MayStep, NamesNoRule, said_by, HasLog, HasMisfit, IsFirstMisfit, StopsEarly, IsFaultOf}
+use Rattle.cep_log.specs.Transcript.{MovesOn, Leads, said_by, HasLog, HasMisfit, IsFirstMisfit, StopsEarly, IsFaultOf}
 use Rattle.cep_log.proofs.Cuts.{one_cut}
 use Rattle.cep_log.proofs.Once.{OneValue, one_way, one_passed}
 
 -- a way through all lines goes through each of them
 leads_through : (program : Parts) (n : ℕ) (before : List (List ℕ)) (line : List ℕ) (behind : List (List ℕ)) (old new : SoFar) → Leads program n (before ++ line ∷ behind) old new
-    → (mid : SoFar) × (next : SoFar) × Leads program n before old mid × Passes program (n + length before) line mid next
+    → (mid : SoFar) × (next : SoFar) × Leads program n before old mid × MovesOn program (n + length before) line mid next
 leads_through program n [] line behind old new leads =
     let at : n ≡ n + length {A = List ℕ} [] = omega arith in
-    (old, leads.0, refl, subst (λ (m : ℕ). Passes program m line old leads.0) at leads.1)
+    (old, leads.0, refl, subst (λ (m : ℕ). MovesOn program m line old leads.0) at leads.1)
 leads_through program n (first ∷ before) line behind old new leads =
     let later = leads_through program (n + 1) before line behind leads.0 new leads.2 in
     let at : n + 1 + length before ≡ n + length (first ∷ before) = omega arith in
-    (later.0, later.1, (leads.0, leads.1, later.2), subst (λ (m : ℕ). Passes program m line later.0 later.1) at later.3)
+    (later.0, later.1, (leads.0, leads.1, later.2), subst (λ (m : ℕ). MovesOn program m line later.0 later.1) at later.3)
 
 -- the line that leads nowhere is on no way
 no_way : (program : Parts) (laws : OneValue program) (lines : List (List ℕ)) (fault : LogFault) (new : SoFar) → IsFirstMisfit program lines fault → Leads program 1 lines Nothing new → ⊥
@@ -28,7 +28,7 @@ no_way program laws lines fault new misfit leads =
     let through = leads_through program 1 misfit.before misfit.line misfit.behind Nothing new (subst (λ all. Leads program 1 all Nothing new) misfit.cut leads) in
     let same : through.0 ≡ misfit.so_far = one_way program laws 1 misfit.before Nothing through.0 misfit.so_far through.2 misfit.leads in
     let at : 1 + length misfit.before ≡ length misfit.before + 1 = omega arith in
-    misfit.nowhere through.1 (subst (λ so_far. Passes program (length misfit.before + 1) misfit.line so_far through.1) same (subst (λ (m : ℕ). Passes program m misfit.line through.0 through.1) at through.3))
+    misfit.nowhere through.1 (subst (λ so_far. MovesOn program (length misfit.before + 1) misfit.line so_far through.1) same (subst (λ (m : ℕ). MovesOn program m misfit.line through.0 through.1) at through.3))
 
 pub one_log : (program : Parts) (laws : OneValue program) (bytes : List ℕ) (one other : Log) → HasLog program bytes one → HasLog program bytes other → one ≡ other
 one_log program laws bytes one other a b =
@@ -64,7 +64,7 @@ one_fault program number line so_far (NoRule at) (NoRule at') a b = ap NoRule (a
 -- two lines that lead nowhere from where those before them lead: they are one line
 one_place : (program : Parts) (laws : OneValue program) (n : ℕ) (start : SoFar) (before before' : List (List ℕ)) (line line' : List ℕ) (behind behind' : List (List ℕ)) (so_far so_far' : SoFar)
     → before ++ line ∷ behind ≡ before' ++ line' ∷ behind' → Leads program n before start so_far → Leads program n before' start so_far'
-    → ((new : SoFar) → ¬ (Passes program (n + length before) line so_far new)) → ((new : SoFar) → ¬ (Passes program (n + length before') line' so_far' new))
+    → ((new : SoFar) → ¬ (MovesOn program (n + length before) line so_far new)) → ((new : SoFar) → ¬ (MovesOn program (n + length before') line' so_far' new))
     → (before ≡ before') × (line ≡ line') × (so_far ≡ so_far')
 one_place program laws n start [] [] line line' behind behind' so_far so_far' e a b no_one no_other =
     let same : line ≡ line' = cc in
@@ -72,19 +72,19 @@ one_place program laws n start [] [] line line' behind behind' so_far so_far' e 
 one_place program laws n start [] (first ∷ before') line line' behind behind' so_far so_far' e a b no_one no_other =
     let same : line ≡ first = cc in
     let at : n ≡ n + length {A = List ℕ} [] = omega arith in
-    absurd (no_one b.0 (subst (λ (m : ℕ). Passes program m line so_far b.0) at (subst (λ l. Passes program n l so_far b.0) (sym same) (subst (λ s. Passes program n first s b.0) (sym a) b.1))))
+    absurd (no_one b.0 (subst (λ (m : ℕ). MovesOn program m line so_far b.0) at (subst (λ l. MovesOn program n l so_far b.0) (sym same) (subst (λ s. MovesOn program n first s b.0) (sym a) b.1))))
 one_place program laws n start (first ∷ before) [] line line' behind behind' so_far so_far' e a b no_one no_other =
     let same : first ≡ line' = cc in
     let at : n ≡ n + length {A = List ℕ} [] = omega arith in
-    absurd (no_other a.0 (subst (λ (m : ℕ). Passes program m line' so_far' a.0) at (subst (λ l. Passes program n l so_far' a.0) same (subst (λ s. Passes program n first s a.0) (sym b) a.1))))
+    absurd (no_other a.0 (subst (λ (m : ℕ). MovesOn program m line' so_far' a.0) at (subst (λ l. MovesOn program n l so_far' a.0) same (subst (λ s. MovesOn program n first s a.0) (sym b) a.1))))
 one_place program laws n start (first ∷ before) (first' ∷ before') line line' behind behind' so_far so_far' e a b no_one no_other =
     let head : first ≡ first' = cc in
     let tail : before ++ line ∷ behind ≡ before' ++ line' ∷ behind' = cc in
-    let next : a.0 ≡ b.0 = one_passed program laws n first' start a.0 b.0 (subst (λ l. Passes program n l start a.0) head a.1) b.1 in
+    let next : a.0 ≡ b.0 = one_passed program laws n first' start a.0 b.0 (subst (λ l. MovesOn program n l start a.0) head a.1) b.1 in
     let at : n + length (first ∷ before) ≡ n + 1 + length before = omega arith in
     let at' : n + length (first' ∷ before') ≡ n + 1 + length before' = omega arith in
     let later = one_place program laws (n + 1) b.0 before before' line line' behind behind' so_far so_far' tail (subst (λ s. Leads program (n + 1) before s so_far) next a.2) b.2
-    (subst (λ (m : ℕ). (new : SoFar) → ¬ (Passes program m line so_far new)) at no_one) (subst (λ (m : ℕ). (new : SoFar) → ¬ (Passes program m line' so_far' new)) at' no_other) in
+    (subst (λ (m : ℕ). (new : SoFar) → ¬ (MovesOn program m line so_far new)) at no_one) (subst (λ (m : ℕ). (new : SoFar) → ¬ (MovesOn program m line' so_far' new)) at' no_other) in
     let rest : before ≡ before' = later.0 in
     ((cc), later.1, later.2)
 
@@ -97,7 +97,7 @@ one_misfit program laws bytes one other a b = cases a.why (subst (λ lines. IsFi
   cases (inl x) (inl y) =
       let at : (n : ℕ) → n + 1 ≡ 1 + n = λ n. omega arith in
       let same = one_place program laws 1 Nothing x.before y.before x.line y.line x.behind y.behind x.so_far y.so_far (sym x.cut ∙ y.cut) x.leads y.leads
-      (subst (λ (m : ℕ). (new : SoFar) → ¬ (Passes program m x.line x.so_far new)) (at (length x.before)) x.nowhere) (subst (λ (m : ℕ). (new : SoFar) → ¬ (Passes program m y.line y.so_far new)) (at (length y.before)) y.nowhere) in
+      (subst (λ (m : ℕ). (new : SoFar) → ¬ (MovesOn program m x.line x.so_far new)) (at (length x.before)) x.nowhere) (subst (λ (m : ℕ). (new : SoFar) → ¬ (MovesOn program m y.line y.so_far new)) (at (length y.before)) y.nowhere) in
       let moved : IsFaultOf program (length y.before + 1) y.line y.so_far one =
       subst (λ so_far. IsFaultOf program (length y.before + 1) y.line so_far one) same.2
       (subst (λ line. IsFaultOf program (length y.before + 1) line x.so_far one) same.1

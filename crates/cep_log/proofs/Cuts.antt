@@ -1,13 +1,12 @@
 -- The lines of bytes: those that the library cuts are the lines, and there are no others.
-use Rattle.std.proofs.Common.{◌≡◌, ◌≢◌, ◌⊎◌, inl, inr, ℕ, zero, suc, ◌+◌, ◌-◌, ◌<◌, ◌≤◌, ◌==◌, ◌&&◌, cond, List, [], ◌∷◌, ◌++◌, length, take, drop, map, slice_index, Bool, true, false, refl, sym, ap, ◌∙◌, subst, arith, length-append, append_assoc, take-append-drop}
+use Rattle.std.proofs.Common.{◌≡◌, ◌≢◌, ◌⊎◌, inl, inr, ℕ, zero, suc, ◌+◌, ◌-◌, ◌≤◌, ◌==◌, ◌&&◌, List, [], ◌∷◌, ◌++◌, length, take, drop, map, slice_index, Bool, true, refl, sym, ap, ◌∙◌, subst, arith, length-append}
 use Rattle.std.specs.Prelude.{nat_lt}
-use Rattle.std.proofs.Math.Seq.{take-append_seam, drop-append_seam, take-append-add, drop-append-add}
-use Rattle.std.proofs.lemmas.List.{same_from_push, append-nil, take_all, drop_all, get_or_append_left, length-map}
-use Rattle.std.proofs.lemmas.Bool.{cond-true, cond-false, eq-eqb, ne_eqb, eqb-true, cases_eq, le-leb}
+use Rattle.std.proofs.Math.Seq.{take-append_seam}
+use Rattle.std.proofs.lemmas.List.{same_from_push, take_all, drop_all, length-map}
+use Rattle.std.proofs.lemmas.Bool.{cond-true, cond-false, eq-eqb, ne_eqb, cases_eq, le-leb}
 use Rattle.bstr.specs.Text.{line_len, lines_from, lines_of, no_cr, without_terminator}
-use Rattle.cep_base.specs.Spelling.{IsUnbroken}
 use Rattle.cep_log.specs.Transcript.{IsBefore, AreLines}
-use Rattle.cep_log.proofs.Parted.{HasNone, Stops, one_parting, parting, has_last}
+use Rattle.cep_log.proofs.Parted.{HasNone, one_parting, parting, has_last}
 
 -- how long the first line is
 len_ended : (text rest : List ℕ) → HasNone 10 text → line_len (text ++ 10 ∷ rest) ≡ suc (length text)

@@ -8,5 +8,8 @@ pub mod Ofs
 pub mod Passing
 pub mod Apart
 pub mod OfferLines
+pub mod OneLine
+pub mod WrittenListings
+pub mod WrittenSteps
 pub mod LineKindLemmas
 pub mod StepLemmas

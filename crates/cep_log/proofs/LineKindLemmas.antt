@@ -1,17 +1,15 @@
 -- What lines of each kind say.
-use Rattle.std.proofs.Common.{◌≡◌, ◌≢◌, ◌⊎◌, inl, inr, ℕ, zero, suc, ◌+◌, ◌<◌, ◌≤◌, ◌^◌, List, [], ◌∷◌, ◌++◌, length, Bool, true, false, Option, Some, None, refl, sym, ap, ◌∙◌, subst, arith}
+use Rattle.std.proofs.Common.{◌≡◌, inr, ℕ, ◌<◌, ◌≤◌, ◌^◌, List, ◌∷◌, ◌++◌, Bool, true, false, Option, Some, None, refl, sym, ap, ◌∙◌, subst, arith}
 use Rattle.std.specs.Prelude.{codes, decimal, slice_get, MatchOption, Contains, IsTrue, not, ◌↔◌}
 use Rattle.std.proofs.lemmas.Fmt.{decimal_injective}
-use Rattle.cep_base.specs.declared.limits.TheConstants.{MOST_COPIES, MOST_HEIGHT}
-use Rattle.cep_base.proofs.Lists.{some_same}
+use Rattle.cep_base.specs.declared.limits.TheConstants.{MOST_COPIES}
 use Rattle.cep_term.specs.Tree.{AtomTree}
 use Rattle.cep_rule.specs.declared.rule.Rule.{Rule}
 use Rattle.cep_rule.specs.declared.parts.Parts.{Parts}
 use Rattle.cep_rule.specs.declared.parts.Stage.{Stage}
-use Rattle.cep_rule.specs.Limits.{IsHeight}
 use Rattle.cep_text.specs.Reads.{IsAtomText}
 use Rattle.cep_log.specs.Lines.{stage_name}
-use Rattle.cep_log.specs.Transcript.{IsStageLine, IsHaveLine, NamesNoRule}
+use Rattle.cep_log.specs.Transcript.{IsHaveLine, NamesNoRule}
 use Rattle.cep_log.proofs.Parted.{HasNone, Stops, one_parting}
 use Rattle.cep_log.proofs.Once.{decimal_unspaced, one_count}
 

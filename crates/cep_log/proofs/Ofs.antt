@@ -1,15 +1,13 @@
 -- The log that a transcript says is of the program.
-use Rattle.std.proofs.Common.{◌≡◌, ◌≢◌, ◌⊎◌, inl, inr, ℕ, zero, suc, ◌+◌, ◌-◌, ◌<◌, ◌≤◌, ◌&&◌, ◌||◌, List, [], ◌∷◌, ◌++◌, length, Bool, true, false, Option, Some, None, refl, sym, ap, ◌∙◌, subst, arith, length-append, add-one}
+use Rattle.std.proofs.Common.{◌≡◌, ◌⊎◌, inl, inr, ℕ, suc, ◌+◌, ◌-◌, ◌<◌, ◌≤◌, ◌&&◌, ◌||◌, List, [], ◌∷◌, ◌++◌, length, Bool, true, false, Option, Some, None, refl, sym, ap, ◌∙◌, subst, arith, length-append, add-one}
 use Rattle.std.specs.Prelude.{slice_get, nat_le, is_none, is_some, IsSome, IfSome, IsSomeAnd, ◌↔◌, if◌then◌else◌}
 use Rattle.std.specs.List.{AllByRecursion}
 use Rattle.std.specs.declared.cmp.Ordering.TheVariants.{Less}
-use Rattle.std.specs.Cmp.{IsTotalOrder}
 use Rattle.std.proofs.lemmas.Bool.{false≢true, leb-true, le-leb}
-use Rattle.cep_base.proofs.Lists.{none_some, some_same, holds_at}
+use Rattle.cep_base.proofs.Lists.{none_some, some_same}
 use Rattle.cep_base.specs.declared.limits.TheConstants.{MOST_HEIGHT}
 use Rattle.cep_term.specs.Tree.{AtomTree}
 use Rattle.cep_term.specs.Order.{atom_cmp}
-use Rattle.cep_rule.specs.declared.signature.Signature.{Signature}
 use Rattle.cep_rule.specs.declared.rule.Rule.{Rule}
 use Rattle.cep_rule.specs.declared.parts.Parts.{Parts}
 use Rattle.cep_rule.specs.Limits.{IsHeight}
@@ -17,13 +15,12 @@ use Rattle.cep_rule.specs.Typing.{AreValues}
 use Rattle.cep_rule.specs.Derivations.{proof_height}
 use Rattle.cep_log.specs.declared.log.Log.{Log}
 use Rattle.cep_log.specs.declared.log.LogStep.{LogStep}
-use Rattle.cep_log.specs.declared.log.LogEnd.{LogEnd}
 use Rattle.cep_log.specs.declared.so_far.SoFar.{SoFar}
 use Rattle.cep_log.specs.declared.so_far.SoFar.TheVariants.{Nothing, Version, Height, Whole, Within, Ended}
 use Rattle.cep_log.specs.Legal.{IsHave, AtomsRise, IsListing, IsStepOf, IsLogOf}
 use Rattle.cep_base.specs.declared.limits.TheConstants.{MOST_LOG}
 use Rattle.cep_rule.specs.Derivations.{ProofTree}
-use Rattle.cep_log.specs.Transcript.{IsByLine, IsStageLine, IsHaveLine, IsBehind, GoesOnListing, GoesOnStart, GoesOnStep, GoesOnEnd, BeginsStep, BeginsEnd, Takes, Passes, Leads, has_own_lines, with_step, said_by}
+use Rattle.cep_log.specs.Transcript.{IsByLine, IsStageLine, IsBehind, GoesOnListing, Becomes, MovesOn, Leads, has_own_lines, with_step, said_by}
 
 -- Listings
 
@@ -150,7 +147,7 @@ module _ (program : Parts) where
       subst (λ (is : Bool). IsReadOf program (suc n) (if is then Whole (record log { steps = log.steps ++ (record step { stage = Some stage }) ∷ [] }) else Within log (record step { stage = Some stage }))) (sym own)
       (with_whole n log (record step { stage = Some stage }) part few whole, unended)
 
-  pub takes_kept : (through : Transitive) (n : ℕ) (line : List ℕ) (old new : SoFar) → IsReadOf program n old → Takes program n line old new → IsReadOf program (suc n) new
+  pub takes_kept : (through : Transitive) (n : ℕ) (line : List ℕ) (old new : SoFar) → IsReadOf program n old → Becomes program n line old new → IsReadOf program (suc n) new
   takes_kept through n line Nothing new is takes = subst (IsReadOf program (suc n)) (sym takes.1) tt
   takes_kept through n line Version new is takes = subst (IsReadOf program (suc n)) (sym takes.3) takes.1
   takes_kept through n line (Height height) new is takes =
@@ -209,7 +206,7 @@ module _ (program : Parts) where
   read_later n (Within log step) is = (part_later n (suc n) log is.0 (omega arith), (is.1.0, (let h = is.1.1 in omega arith), is.1.2))
   read_later n (Ended log end) is = (part_later n (suc n) log is.0 (omega arith), is.1)
 
-  passes_kept : (through : Transitive) (n : ℕ) (line : List ℕ) (old new : SoFar) → IsReadOf program n old → Passes program n line old new → IsReadOf program (suc n) new
+  passes_kept : (through : Transitive) (n : ℕ) (line : List ℕ) (old new : SoFar) → IsReadOf program n old → MovesOn program n line old new → IsReadOf program (suc n) new
   passes_kept through n line old new is (inl over) = subst (IsReadOf program (suc n)) (sym over.1) (read_later n old is)
   passes_kept through n line old new is (inr takes) = takes_kept through n line old new is takes.1
 

@@ -1,23 +1,20 @@
 -- What a line says, and what was read with it, is one thing.
-use Rattle.std.proofs.Common.{◌≡◌, ◌≢◌, ◌⊎◌, inl, inr, ℕ, zero, suc, ◌+◌, ◌<◌, ◌≤◌, ◌^◌, ◌&&◌, ◌||◌, ◌==◌, List, [], ◌∷◌, ◌++◌, length, map, Bool, true, false, Option, Some, None, refl, sym, ap, ◌∙◌, subst, arith, add-one, bytes_eq}
-use Rattle.std.specs.Prelude.{codes, decimal, slice_get, nat_le}
-use Rattle.std.specs.List.{AllByRecursion}
+use Rattle.std.proofs.Common.{◌≡◌, ◌≢◌, ◌⊎◌, inl, inr, ℕ, zero, suc, ◌+◌, ◌<◌, ◌≤◌, ◌^◌, ◌&&◌, List, [], ◌∷◌, ◌++◌, length, map, Bool, true, false, Some, None, refl, sym, ap, ◌∙◌, subst, arith, bytes_eq}
+use Rattle.std.specs.Prelude.{codes, decimal, slice_get}
 use Rattle.std.specs.Char.{is_ascii_digit}
 use Rattle.std.proofs.lemmas.Bool.{false≢true}
 use Rattle.std.specs.Str.{all_ascii_digits}
 use Rattle.std.proofs.lemmas.Str.Parse.{numerals_by_value, tells_all_ascii_digits}
-use Rattle.std.proofs.lemmas.Option.{slice_get_within}
 use Rattle.std.proofs.lemmas.Fmt.{decimal_injective, digits_decimal}
 use Rattle.std.proofs.lemmas.Slice.Eq.{bytes_eq-Decides}
-use Rattle.cep_base.proofs.Lists.{none_some, some_same, holds_at, get_mapped}
+use Rattle.cep_base.proofs.Lists.{none_some, some_same, holds_at}
 use Rattle.cep_base.specs.declared.limits.TheConstants.{MOST_COPIES, MOST_HEIGHT}
 use Rattle.cep_term.specs.Tree.{AtomTree}
 use Rattle.cep_rule.specs.declared.rule.Rule.{Rule}
 use Rattle.cep_rule.specs.declared.parts.Parts.{Parts}
 use Rattle.cep_rule.specs.declared.parts.Stage.{Stage}
 use Rattle.cep_rule.specs.declared.offer.Offer.{Offer}
-use Rattle.cep_rule.specs.Names.{AllDiffer, AreNames}
-use Rattle.cep_rule.specs.Program.{IsProgram}
+use Rattle.cep_rule.specs.Names.{AllDiffer}
 use Rattle.cep_rule.specs.Derivations.{ProofTree}
 use Rattle.cep_rule.specs.Shapes.{IsOfferOf, IsProofOf}
 use Rattle.cep_text.specs.Texts.{atom_text, offer_text, proof_text, IsTypedGround}
@@ -25,11 +22,10 @@ use Rattle.cep_log.specs.declared.end_word.EndWord.{EndWord}
 use Rattle.cep_log.specs.declared.end_word.EndWord.TheVariants.{Quiet, Input, Turns, Offers, Typed, Atom, State}
 use Rattle.cep_log.specs.declared.log.Log.{Log}
 use Rattle.cep_log.specs.declared.log.LogStep.{LogStep}
-use Rattle.cep_log.specs.declared.log.LogEnd.{LogEnd}
 use Rattle.cep_log.specs.declared.so_far.SoFar.{SoFar}
 use Rattle.cep_log.specs.declared.so_far.SoFar.TheVariants.{Nothing, Version, Height, Whole, Within, Ended}
 use Rattle.cep_log.specs.Lines.{stage_name, ending_word}
-use Rattle.cep_log.specs.Transcript.{IsPassedOver, IsHaveLine, IsStageLine, IsStepLine, IsByLine, IsEndLine, GoesOnListing, GoesOnStart, GoesOnStep, GoesOnEnd, BeginsStep, BeginsEnd, Takes, Passes, Leads, with_step}
+use Rattle.cep_log.specs.Transcript.{IsHaveLine, IsStageLine, IsStepLine, IsByLine, GoesOnListing, GoesOnStep, BeginsStep, Becomes, MovesOn, Leads, with_step}
 use Rattle.cep_log.proofs.Parted.{HasNone, one_parting}
 
 -- Numbers
@@ -172,7 +168,7 @@ module _ (program : Parts) (laws : OneValue program) where
       a.step ∙ (ap (λ rule. with_step rule log (record { line = number; offer = a.offer; proofs = []; stage = None })) rules
       ∙ (ap (λ offer. with_step b.rule log (record { line = number; offer = offer; proofs = []; stage = None })) offers ∙ sym b.step))
 
-  pub one_taken : (number : ℕ) (line : List ℕ) (old new new' : SoFar) → Takes program number line old new → Takes program number line old new' → new ≡ new'
+  pub one_taken : (number : ℕ) (line : List ℕ) (old new new' : SoFar) → Becomes program number line old new → Becomes program number line old new' → new ≡ new'
   one_taken number line Nothing new new' a b = a.1 ∙ sym b.1
   one_taken number line Version new new' a b = a.3 ∙ (ap Height (one_height line a.0 b.0 a.1.low b.1.low a.2 b.2) ∙ sym b.3)
   one_taken number line (Height height) new new' a b = a.2 ∙ (ap (λ stage. Whole (record { height = height; stage_line = number; stage = stage; start = []; steps = []; end = None; lines = 0 })) (one_stage line a.0 b.0 a.1 b.1) ∙ sym b.2)
@@ -191,7 +187,7 @@ module _ (program : Parts) (laws : OneValue program) where
   one_taken number line (Within log step) new new' a b = one_own line log step new new' a b
   one_taken number line (Ended log end) new new' a b = a.ended ∙ (ap (λ state. Ended log (record end { state = state })) (one_listing line end.state a.state b.state a.listed b.listed) ∙ sym b.ended)
 
-  pub one_passed : (number : ℕ) (line : List ℕ) (old new new' : SoFar) → Passes program number line old new → Passes program number line old new' → new ≡ new'
+  pub one_passed : (number : ℕ) (line : List ℕ) (old new new' : SoFar) → MovesOn program number line old new → MovesOn program number line old new' → new ≡ new'
   one_passed number line old new new' (inl a) (inl b) = a.1 ∙ sym b.1
   one_passed number line old new new' (inl a) (inr b) = absurd (b.0 a.0)
   one_passed number line old new new' (inr a) (inl b) = absurd (a.0 b.0)

@@ -1,9 +1,8 @@
 -- The lines that were read so far, and what is said of all of them.
-use Rattle.std.proofs.Common.{◌≡◌, ◌≢◌, ◌⊎◌, inl, inr, ℕ, zero, suc, ◌+◌, ◌<◌, ◌≤◌, List, [], ◌∷◌, ◌++◌, length, map, Option, Some, None, refl, sym, ap, ◌∙◌, subst, arith, length-append, append_assoc, add-one}
-use Rattle.std.proofs.lemmas.List.{append-nil, length-map}
+use Rattle.std.proofs.Common.{◌≡◌, inl, inr, ℕ, ◌+◌, ◌<◌, ◌≤◌, List, [], ◌∷◌, ◌++◌, length, map, Some, None, refl, sym, ap, ◌∙◌, subst, arith, length-append, append_assoc}
+use Rattle.std.proofs.lemmas.List.{append-nil}
 use Rattle.std.proofs.lemmas.Option.{slice_get_within}
 use Rattle.bstr.specs.Text.{lines_of, without_terminator}
-use Rattle.cep_base.proofs.Lists.{none_some, some_same}
 use Rattle.std.specs.Cmp.{IsTotalOrder}
 use Rattle.cep_term.specs.Order.{atom_cmp}
 use Rattle.cep_rule.specs.declared.parts.Parts.{Parts}
@@ -12,10 +11,10 @@ use Rattle.cep_base.specs.declared.limits.TheConstants.{MOST_LOG}
 use Rattle.cep_log.specs.declared.so_far.SoFar.{SoFar}
 use Rattle.cep_log.specs.declared.so_far.SoFar.TheVariants.{Nothing, Version, Height, Whole, Within, Ended}
 use Rattle.cep_log.specs.declared.fault.LogFault.{LogFault}
-use Rattle.cep_log.specs.declared.fault.LogFault.TheVariants.{Line, NoRule}
+use Rattle.cep_log.specs.declared.fault.LogFault.TheVariants.{Line}
 use Rattle.cep_log.specs.Legal.{IsLogOf}
 use Rattle.cep_log.specs.Growing.{HasRule}
-use Rattle.cep_log.specs.Transcript.{AreLines, Passes, Leads, said_by, HasLog, HasMisfit, IsFirstMisfit, StopsEarly, IsFaultOf}
+use Rattle.cep_log.specs.Transcript.{MovesOn, Leads, said_by, HasLog, HasMisfit, IsFaultOf}
 use Rattle.cep_log.proofs.Cuts.{lines_are, few_lines}
 use Rattle.cep_log.proofs.Ofs.{Transitive, IsReadOf, leads_kept, said_is_of}
 
@@ -30,22 +29,22 @@ pub record HasPassed (program : Parts) (lines left : List (List ℕ)) (number : 
   pub leads : Leads program 1 done Nothing so_far
   pub counted : number ≡ length done
 
-leads_more : (program : Parts) (n : ℕ) (lines : List (List ℕ)) (line : List ℕ) (old mid new : SoFar) → Leads program n lines old mid → Passes program (n + length lines) line mid new → Leads program n (lines ++ line ∷ []) old new
+leads_more : (program : Parts) (n : ℕ) (lines : List (List ℕ)) (line : List ℕ) (old mid new : SoFar) → Leads program n lines old mid → MovesOn program (n + length lines) line mid new → Leads program n (lines ++ line ∷ []) old new
 leads_more program n [] line old mid new leads passes =
     let at : n + length {A = List ℕ} [] ≡ n = omega arith in
-    (new, subst (λ so_far. Passes program n line so_far new) leads (subst (λ (m : ℕ). Passes program m line mid new) at passes), refl)
+    (new, subst (λ so_far. MovesOn program n line so_far new) leads (subst (λ (m : ℕ). MovesOn program m line mid new) at passes), refl)
 leads_more program n (first ∷ lines) line old mid new leads passes =
     let at : n + length (first ∷ lines) ≡ n + 1 + length lines = omega arith in
-    (leads.0, leads.1, leads_more program (n + 1) lines line leads.0 mid new leads.2 (subst (λ (m : ℕ). Passes program m line mid new) at passes))
+    (leads.0, leads.1, leads_more program (n + 1) lines line leads.0 mid new leads.2 (subst (λ (m : ℕ). MovesOn program m line mid new) at passes))
 
 pub passed_none : (program : Parts) (lines left : List (List ℕ)) → left ≡ lines → HasPassed program lines left 0 Nothing
 passed_none program lines left same = record { done = []; cut = sym same; leads = refl; counted = refl }
 
-pub passed_more : (program : Parts) (lines left behind : List (List ℕ)) (line : List ℕ) (number : ℕ) (so_far next : SoFar) → HasPassed program lines left number so_far → left ≡ line ∷ behind → Passes program (number + 1) line so_far next → HasPassed program lines behind (number + 1) next
+pub passed_more : (program : Parts) (lines left behind : List (List ℕ)) (line : List ℕ) (number : ℕ) (so_far next : SoFar) → HasPassed program lines left number so_far → left ≡ line ∷ behind → MovesOn program (number + 1) line so_far next → HasPassed program lines behind (number + 1) next
 passed_more program lines left behind line number so_far next passed is passes = record {
   done = passed.done ++ line ∷ [];
   cut = passed.cut ∙ (ap (λ rest. passed.done ++ rest) is ∙ sym (append_assoc passed.done (line ∷ []) behind));
-  leads = leads_more program 1 passed.done line Nothing so_far next passed.leads (subst (λ (n : ℕ). Passes program n line so_far next) (let counted = passed.counted in omega arith) passes);
+  leads = leads_more program 1 passed.done line Nothing so_far next passed.leads (subst (λ (n : ℕ). MovesOn program n line so_far next) (let counted = passed.counted in omega arith) passes);
   counted = let h = length-append passed.done (line ∷ []) in let counted = passed.counted in omega arith;
 }
 
@@ -94,7 +93,7 @@ stops_said program bytes left number so_far passed none said =
     record { lines = all_lines bytes; cut = lines_are bytes; why = inr (record { last = so_far; leads = all.0; open_still = subst (λ (n : ℕ). said_by so_far n ≡ None) all.1 said; fault_is = ap (λ (n : ℕ). Line (n + 1)) all.1 }) }
 
 pub misfit_said : (program : Parts) (bytes : List ℕ) (left behind : List (List ℕ)) (line : List ℕ) (number : ℕ) (so_far : SoFar) (fault : LogFault) → HasPassed program (all_lines bytes) left number so_far → left ≡ line ∷ behind
-    → ((new : SoFar) → ¬ (Passes program (number + 1) line so_far new)) → IsFaultOf program (number + 1) line so_far fault → HasMisfit program bytes fault
+    → ((new : SoFar) → ¬ (MovesOn program (number + 1) line so_far new)) → IsFaultOf program (number + 1) line so_far fault → HasMisfit program bytes fault
 misfit_said program bytes left behind line number so_far fault passed is nowhere why =
     record {
       lines = all_lines bytes;
@@ -106,7 +105,7 @@ misfit_said program bytes left behind line number so_far fault passed is nowhere
         cut = passed.cut ∙ ap (λ rest. passed.done ++ rest) is;
         so_far = so_far;
         leads = passed.leads;
-        nowhere = subst (λ (n : ℕ). (new : SoFar) → ¬ (Passes program (n + 1) line so_far new)) passed.counted nowhere;
+        nowhere = subst (λ (n : ℕ). (new : SoFar) → ¬ (MovesOn program (n + 1) line so_far new)) passed.counted nowhere;
         fault_is = subst (λ (n : ℕ). IsFaultOf program (n + 1) line so_far fault) passed.counted why;
       });
     }

@@ -1,5 +1,5 @@
 -- The lines of steps and listings.
-use Rattle.std.proofs.Common.{◌≡◌, ◌≢◌, ◌⊎◌, inl, inr, ℕ, ◌+◌, ◌<◌, ◌≤◌, List, [], ◌∷◌, ◌++◌, length, Bool, true, false, Option, Some, None, refl, sym, ap, ◌∙◌, subst, arith}
+use Rattle.std.proofs.Common.{◌≡◌, ◌⊎◌, inl, inr, ℕ, ◌<◌, ◌≤◌, List, [], ◌∷◌, ◌++◌, length, Option, Some, None, refl, sym, ap, ◌∙◌, subst, arith}
 use Rattle.std.specs.Prelude.{slice_get, MatchOption, MatchResult, Result, Ok, Err}
 use Rattle.cep_base.proofs.Lists.{some_same}
 use Rattle.cep_term.specs.Tree.{AtomTree}
@@ -12,7 +12,7 @@ use Rattle.cep_log.specs.declared.log.LogStep.{LogStep}
 use Rattle.cep_log.specs.declared.end_word.EndWord.{EndWord}
 use Rattle.cep_log.specs.declared.so_far.SoFar.{SoFar}
 use Rattle.cep_log.specs.declared.so_far.SoFar.TheVariants.{Whole}
-use Rattle.cep_log.specs.Transcript.{IsHaveLine, IsStepLine, IsByLine, IsEndLine, IsStageLine, IsBehind, GoesOnStart, GoesOnStep, Takes, with_step}
+use Rattle.cep_log.specs.Transcript.{IsHaveLine, IsStepLine, IsByLine, IsEndLine, IsStageLine, IsBehind, GoesOnStart, GoesOnStep, Becomes, with_step}
 use Rattle.cep_log.proofs.Once.{OneValue, one_have}
 
 pub told_some : {A : Type 0} (r : Option A) (x : A) (P : A → Type 0) → r ≡ Some x → MatchOption r (Unit {0}) P → P x
@@ -25,7 +25,7 @@ listed_none program laws line entries entry other said early said' behind =
     early (subst (λ (e : AtomTree × ℕ). IsBehind entries e.0) (one_have program laws line other entry said' said) behind)
 
 -- neither a listing, a step nor the end goes on with the line
-pub nothing_goes_on : (program : Parts) (number : ℕ) (line : List ℕ) (log : Log) → ((word : EndWord) → ¬ (IsEndLine line word)) → ((offer : Offer) → ¬ (IsStepLine program line offer)) → ((new : SoFar) → ¬ (GoesOnStart program line log new)) → (new : SoFar) → ¬ (Takes program number line (Whole log) new)
+pub nothing_goes_on : (program : Parts) (number : ℕ) (line : List ℕ) (log : Log) → ((word : EndWord) → ¬ (IsEndLine line word)) → ((offer : Offer) → ¬ (IsStepLine program line offer)) → ((new : SoFar) → ¬ (GoesOnStart program line log new)) → (new : SoFar) → ¬ (Becomes program number line (Whole log) new)
 nothing_goes_on program number line log no_end no_step no_start new (inl start) = no_start new start
 nothing_goes_on program number line log no_end no_step no_start new (inr (inl step)) = no_step step.offer step.said
 nothing_goes_on program number line log no_end no_step no_start new (inr (inr end)) = no_end end.word end.said

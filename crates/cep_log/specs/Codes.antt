@@ -9,12 +9,12 @@ use Rattle.cep_rule.specs.Derivations.{ProofTree, ProofTrees, by_clause, no_goal
 
 -- the nodes of a derivation, in front of others
 abbrev mutual
-  pub flat : ProofTree → List (ℕ × List Tree) → List (ℕ × List Tree)
-  flat (by_clause number values subs) behind = (number, values) ∷ flats subs behind
+  pub node_list : ProofTree → List (ℕ × List Tree) → List (ℕ × List Tree)
+  node_list (by_clause number values subs) behind = (number, values) ∷ node_lists subs behind
 
-  pub flats : ProofTrees → List (ℕ × List Tree) → List (ℕ × List Tree)
-  flats no_goal behind = (0, []) ∷ behind
-  flats (goal_by proof proofs) behind = (1, []) ∷ flat proof (flats proofs behind)
+  pub node_lists : ProofTrees → List (ℕ × List Tree) → List (ℕ × List Tree)
+  node_lists no_goal behind = (0, []) ∷ behind
+  node_lists (goal_by proof proofs) behind = (1, []) ∷ node_list proof (node_lists proofs behind)
 
 -- what ends the goals begins no other goal
 no_other_goal : {X : Type 0} (k l : List (ℕ × List Tree)) → (0, []) ∷ k ≡ (1, []) ∷ l → X
@@ -25,32 +25,32 @@ no_other_goal k l same =
 
 -- Lists that begin with derivations and are equal have equal derivations, and the same behind them.
 mutual
-  pub flat_injective : (d e : ProofTree) (k l : List (ℕ × List Tree)) → flat d k ≡ flat e l → (d ≡ e) × (k ≡ l)
-  flat_injective (by_clause m us ds) (by_clause n vs es) k l same =
+  pub node_list_injective : (d e : ProofTree) (k l : List (ℕ × List Tree)) → node_list d k ≡ node_list e l → (d ≡ e) × (k ≡ l)
+  node_list_injective (by_clause m us ds) (by_clause n vs es) k l same =
       let head : ◌≡◌ {A = ℕ × List Tree} (m, us) (n, vs) = cc in
       let numbers : m ≡ n = λ i. (head i).0 in
       let values : us ≡ vs = λ i. (head i).1 in
-      let rest = flats_injective ds es k l (cc) in
+      let rest = node_lists_injective ds es k l (cc) in
       let subs = rest.0 in
       ((cc), rest.1)
 
-  pub flats_injective : (ds es : ProofTrees) (k l : List (ℕ × List Tree)) → flats ds k ≡ flats es l → (ds ≡ es) × (k ≡ l)
-  flats_injective no_goal no_goal k l same = (refl, cc)
-  flats_injective no_goal (goal_by e es) k l same = no_other_goal k (flat e (flats es l)) same
-  flats_injective (goal_by d ds) no_goal k l same = no_other_goal l (flat d (flats ds k)) (sym same)
-  flats_injective (goal_by d ds) (goal_by e es) k l same =
-      let first = flat_injective d e (flats ds k) (flats es l) (cc) in
-      let rest = flats_injective ds es k l first.1 in
+  pub node_lists_injective : (ds es : ProofTrees) (k l : List (ℕ × List Tree)) → node_lists ds k ≡ node_lists es l → (ds ≡ es) × (k ≡ l)
+  node_lists_injective no_goal no_goal k l same = (refl, cc)
+  node_lists_injective no_goal (goal_by e es) k l same = no_other_goal k (node_list e (node_lists es l)) same
+  node_lists_injective (goal_by d ds) no_goal k l same = no_other_goal l (node_list d (node_lists ds k)) (sym same)
+  node_lists_injective (goal_by d ds) (goal_by e es) k l same =
+      let first = node_list_injective d e (node_lists ds k) (node_lists es l) (cc) in
+      let rest = node_lists_injective ds es k l first.1 in
       let head = first.0 in
       let tail = rest.0 in
       ((cc), rest.1)
 
-pub flat_proof_injective : (d e : ProofTree) → flat d [] ≡ flat e [] → d ≡ e
-flat_proof_injective d e same = (flat_injective d e [] [] same).0
+pub proof_injective : (d e : ProofTree) → node_list d [] ≡ node_list e [] → d ≡ e
+proof_injective d e same = (node_list_injective d e [] [] same).0
 
 -- the code of a derivation
 abbrev pub proof_code : Coded ProofTree
-proof_code = coded_via (coded_list (coded× coded_ℕ (coded_list tree_code))) (λ d. flat d []) flat_proof_injective
+proof_code = coded_via (coded_list (coded× coded_ℕ (coded_list tree_code))) (λ d. node_list d []) proof_injective
 
 -- the code of an entry of a listing
 abbrev pub entry_code : Coded (AtomTree × ℕ)

@@ -1,16 +1,19 @@
 -- Which bytes are a transcript, of which log, and which line of other bytes is the first that does not fit.
-use Rattle.std.specs.Prelude.{◌≡◌, ◌≢◌, ◌⊎◌, ◌↔◌, ℕ, ◌+◌, ◌≤◌, ◌<◌, Bool, List, [], ◌∷◌, ◌++◌, length, map, codes, decimal, Option, Some, None, slice_get, nat_le, ◌&&◌, ◌||◌, not, is_none, is_some, if◌then◌else◌, Contains, IfSome, ◌-◌}
+use Rattle.std.specs.Prelude.{◌≡◌, ◌≢◌, ◌⊎◌, ℕ, ◌+◌, ◌≤◌, ◌<◌, Bool, List, [], ◌∷◌, ◌++◌, length, codes, decimal, Option, Some, None, slice_get, nat_le, ◌&&◌, ◌||◌, is_none, is_some, if◌then◌else◌, Contains, IfSome, ◌-◌}
 use Rattle.std.specs.List.{AllByRecursion}
 use Rattle.std.specs.declared.cmp.Ordering.TheVariants.{Less}
 use Rattle.cep_base.specs.Spelling.{IsUnbroken}
-use Rattle.cep_base.specs.declared.limits.TheConstants.{MOST_COPIES}
+use Rattle.cep_base.specs.declared.limits.TheConstants.{MOST_COPIES, MOST_HEIGHT}
 use Rattle.cep_term.specs.Tree.{AtomTree}
 use Rattle.cep_term.specs.Order.{atom_cmp}
+use Rattle.cep_rule.specs.declared.signature.Signature.{Signature}
 use Rattle.cep_rule.specs.declared.rule.Rule.{Rule}
 use Rattle.cep_rule.specs.declared.parts.Parts.{Parts}
 use Rattle.cep_rule.specs.declared.offer.Offer.{Offer}
 use Rattle.cep_rule.specs.Limits.{IsHeight}
-use Rattle.cep_rule.specs.Derivations.{ProofTree}
+use Rattle.cep_rule.specs.Derivations.{ProofTree, proof_height}
+use Rattle.cep_rule.specs.Shapes.{IsProofOf, HasSmallValues}
+use Rattle.cep_text.specs.Texts.{atom_text, offer_text, proof_text}
 use Rattle.cep_text.specs.Reads.{IsAtomText, IsOfferText, IsProofText}
 use Rattle.cep_log.specs.Lines.{stage_name, ending_word}
 use Rattle.cep_log.specs.declared.end_word.EndWord.{EndWord}
@@ -34,10 +37,35 @@ AreLines bytes (line ∷ lines) =
     ((text : List ℕ) × (rest : List ℕ) × (bytes ≡ text ++ 10 ∷ rest) × IsUnbroken text × IsBefore line text × AreLines rest lines)
     ⊎ ((bytes ≡ line) × (line ≢ []) × IsUnbroken line × (lines ≡ []))
 
+-- The bytes can be written as one line: there is no LF and no CR among them.
+abbrev pub IsOneLine : List ℕ → Type 0
+IsOneLine bytes = AllByRecursion (λ byte. (byte ≢ 10) × (byte ≢ 13)) bytes
+
 -- a line that is passed over: it begins with `?`
 abbrev pub IsPassedOver : List ℕ → Type 0
 IsPassedOver [] = ⊥
 IsPassedOver (byte ∷ bytes) = byte ≡ 63
+
+-- the bytes of a line of a listing
+abbrev pub have_text : Signature → AtomTree × ℕ → List ℕ
+have_text signature entry = codes "have " ++ (decimal entry.1 ++ (codes " " ++ atom_text signature entry.0))
+
+-- the bytes of the own lines of a step: `step OFFER`, `by DERIVATION` for each derivation, and `stage NAME` where there is a stage
+abbrev pub step_text : Parts → Offer → List ℕ
+step_text program offer = codes "step " ++ offer_text program offer
+
+abbrev pub by_text : Parts → ProofTree → List ℕ
+by_text program proof = codes "by " ++ proof_text program proof
+
+abbrev pub stage_texts : Parts → Option ℕ → List (List ℕ)
+stage_texts program None = []
+stage_texts program (Some stage) = (codes "stage " ++ stage_name (slice_get program.stages stage)) ∷ []
+
+-- A derivation can be read back: it has the program's shape, small values, and not too many levels.
+pub record IsReadable (program : Parts) (proof : ProofTree) : Type 0 where
+  pub of_clauses : IsProofOf program proof
+  pub small : HasSmallValues proof
+  pub low : proof_height proof ≤ MOST_HEIGHT
 
 -- `have N ATOM`, N from 1 to 100,000
 pub record IsHaveLine (program : Parts) (line : List ℕ) (entry : AtomTree × ℕ) : Type 0 where
@@ -134,22 +162,22 @@ pub record GoesOnEnd (program : Parts) (line : List ℕ) (log : Log) (end : LogE
   pub ended : new ≡ Ended log (record end { state = state })
 
 -- With the line of this number, which is not passed over, what was read becomes the new.
-abbrev pub Takes : Parts → ℕ → List ℕ → SoFar → SoFar → Type 0
-Takes program number line Nothing new = (line ≡ codes "ceptre 1") × (new ≡ Version)
-Takes program number line Version new = (height : ℕ) × IsHeight height × (line ≡ codes "height " ++ decimal height) × (new ≡ Height height)
-Takes program number line (Height height) new = (stage : ℕ) × IsStageLine program line stage × (new ≡ Whole (log_begun height number stage))
-Takes program number line (Whole log) new = GoesOnStart program line log new ⊎ (BeginsStep program number line log new ⊎ BeginsEnd number line log new)
-Takes program number line (Within log step) new = GoesOnStep program line log step new
-Takes program number line (Ended log end) new = GoesOnEnd program line log end new
+abbrev pub Becomes : Parts → ℕ → List ℕ → SoFar → SoFar → Type 0
+Becomes program number line Nothing new = (line ≡ codes "ceptre 1") × (new ≡ Version)
+Becomes program number line Version new = (height : ℕ) × IsHeight height × (line ≡ codes "height " ++ decimal height) × (new ≡ Height height)
+Becomes program number line (Height height) new = (stage : ℕ) × IsStageLine program line stage × (new ≡ Whole (log_begun height number stage))
+Becomes program number line (Whole log) new = GoesOnStart program line log new ⊎ (BeginsStep program number line log new ⊎ BeginsEnd number line log new)
+Becomes program number line (Within log step) new = GoesOnStep program line log step new
+Becomes program number line (Ended log end) new = GoesOnEnd program line log end new
 
 -- The same for every line: one that is passed over leaves all as it is.
-abbrev pub Passes : Parts → ℕ → List ℕ → SoFar → SoFar → Type 0
-Passes program number line old new = (IsPassedOver line × (new ≡ old)) ⊎ ((¬ IsPassedOver line) × Takes program number line old new)
+abbrev pub MovesOn : Parts → ℕ → List ℕ → SoFar → SoFar → Type 0
+MovesOn program number line old new = (IsPassedOver line × (new ≡ old)) ⊎ ((¬ IsPassedOver line) × Becomes program number line old new)
 
 -- With all these lines, which are numbered from here on, what was read becomes the new.
 abbrev pub Leads : Parts → ℕ → List (List ℕ) → SoFar → SoFar → Type 0
 Leads program number [] old new = new ≡ old
-Leads program number (line ∷ lines) old new = (next : SoFar) × Passes program number line old next × Leads program (number + 1) lines next new
+Leads program number (line ∷ lines) old new = (next : SoFar) × MovesOn program number line old next × Leads program (number + 1) lines next new
 
 -- what a transcript of so many lines says, where it may end
 abbrev pub said_by : SoFar → ℕ → Option Log
@@ -200,7 +228,7 @@ pub record IsFirstMisfit (program : Parts) (lines : List (List ℕ)) (fault : Lo
   pub cut : lines ≡ before ++ line ∷ behind
   pub so_far : SoFar
   pub leads : Leads program 1 before Nothing so_far
-  pub nowhere : (new : SoFar) → ¬ Passes program (length before + 1) line so_far new
+  pub nowhere : (new : SoFar) → ¬ MovesOn program (length before + 1) line so_far new
   pub fault_is : IsFaultOf program (length before + 1) line so_far fault
 
 -- The lines stop too early: they lead to where no transcript ends, and the fault is told at the line behind them.

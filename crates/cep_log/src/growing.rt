@@ -5,7 +5,7 @@ ghost use Rattle.cep_rule.specs.declared.rule.Rule.{Rule};
 ghost use Rattle.cep_log.specs.declared.so_far.SoFar.{SoFar};
 ghost use Rattle.cep_log.specs.declared.so_far.SoFar.TheVariants.{Whole, Within, Ended};
 ghost use Rattle.cep_log.specs.Listed.{have_of};
-ghost use Rattle.cep_log.specs.Transcript.{IsHaveLine, IsBehind, GoesOnStart, GoesOnStep, GoesOnEnd, Takes, has_own_lines, with_step, log_begun, step_begun, end_begun, said_by};
+ghost use Rattle.cep_log.specs.Transcript.{IsHaveLine, IsBehind, GoesOnStart, GoesOnStep, GoesOnEnd, Becomes, has_own_lines, with_step, log_begun, step_begun, end_begun, said_by};
 
 use crate::end_word::EndWord;
 use crate::line_kinds::{by_line, end_line, have_line, stage_line, step_line};
@@ -74,8 +74,8 @@ pub(crate) fn behind_whole(
     line: &[u8],
     log: Log,
 ) -> Result<Option<SoFar>, AllocError>
-    ensures some { IfOk result (λ read. IfSome read (Takes program.now number line.now (Whole log))) }
-    ensures none { IfOk result (λ read. IfNone read ((new : SoFar) → ¬ (Takes program.now number line.now (Whole log) new))) }
+    ensures some { IfOk result (λ read. IfSome read (Becomes program.now number line.now (Whole log))) }
+    ensures none { IfOk result (λ read. IfNone read ((new : SoFar) → ¬ (Becomes program.now number line.now (Whole log) new))) }
 {
     if let Some(word) = end_line(line) {
         return Ok(Some(SoFar::Ended(log, end_begun(alloc, number, word))));

@@ -1,12 +1,29 @@
 //! Laws of transcripts, for the crates that rest on them. Each function computes nothing, and its
 //! contract is the law.
-ghost use Rattle.std.specs.Prelude.{◌≡◌, ℕ, List};
+ghost use Rattle.std.specs.Prelude.{◌≡◌, ◌<◌, ◌+◌, ◌++◌, [], ◌∷◌, Some, ℕ, List, length, map, decimal, slice_get};
+ghost use Rattle.std.specs.FinMap as finite;
+ghost use Rattle.std.specs.List.{AllByRecursion, flat_map};
+ghost use Rattle.cep_term.specs.Tree.{AtomTree};
+ghost use Rattle.cep_rule.specs.declared.rule.Rule.{Rule};
+ghost use Rattle.cep_rule.specs.declared.offer.Offer.{Offer};
+ghost use Rattle.cep_rule.specs.Derivations.{ProofTree};
+ghost use Rattle.cep_rule.specs.Shapes.{IsOfferOf, IsProofOf, IsSmallTerm};
+ghost use Rattle.cep_text.specs.Texts.{atom_text, offer_text, proof_text, IsTypedGround};
+ghost use Rattle.cep_log.specs.Lines.{line, stage_name, have_line};
+ghost use Rattle.cep_term.specs.Multiset.{Multiset};
+ghost use Rattle.cep_rule.specs.declared.signature.Signature.{Signature};
+ghost use Rattle.cep_rule.specs.State.{IsState, Fits};
 ghost use Rattle.cep_rule.specs.declared.parts.Parts.{Parts};
 ghost use Rattle.cep_rule.specs.Program.{IsProgram};
 ghost use Rattle.cep_log.specs.declared.log.Log.{Log};
+ghost use Rattle.cep_log.specs.declared.log.LogEnd.{LogEnd};
+ghost use Rattle.cep_log.specs.declared.so_far.SoFar.{SoFar};
+ghost use Rattle.cep_log.specs.declared.so_far.SoFar.TheVariants.{Whole, Ended};
+ghost use Rattle.cep_log.specs.Legal.{IsListing};
 ghost use Rattle.cep_log.specs.declared.fault.LogFault.{LogFault};
-ghost use Rattle.cep_log.specs.Transcript.{HasLog, HasMisfit};
+ghost use Rattle.cep_log.specs.Transcript.{AreLines, IsOneLine, IsReadable, step_text, by_text, stage_texts, Leads, have_text, HasLog, HasMisfit};
 
+use cep_term::laws::bags_are_lawful;
 use cep_text::laws::one_value;
 
 /// Bytes say one log at most, where they say one there is no misfit in them, and their first misfit
@@ -29,3 +46,48 @@ pub fn one_log()
 {
     one_value();
 }
+
+/// The texts of which lines are made can be written as one line each, and lines that are written
+/// one after another are the lines of what was written.
+pub fn lines_are_read_as_written()
+    ensures lines { (lines : List (List ℕ)) → AllByRecursion IsOneLine lines → AreLines (flat_map line lines) lines }
+    ensures numbers { (number : ℕ) → IsOneLine (decimal number) }
+    ensures atoms { (program : Parts) (a : AtomTree) → IsProgram program → IsTypedGround program.signature a → IsOneLine (atom_text program.signature a) }
+    ensures offers { (program : Parts) (offer : Offer) → IsProgram program → IsOfferOf program offer → IsOneLine (offer_text program offer) }
+    ensures derivations { (program : Parts) (proof : ProofTree) → IsProgram program → IsProofOf program proof → IsOneLine (proof_text program proof) }
+    ensures stages { (program : Parts) (stage : ℕ) → IsProgram program → stage < length program.stages → IsOneLine (stage_name (slice_get program.stages stage)) }
+{}
+
+/// The entries of a state that fits are a listing, and its lines, as they are written, are read as
+/// these entries, in the start listing and behind the end. Ways through lines can be joined.
+pub fn listings_are_read_as_written()
+    ensures states { (signature : Signature) (state : Multiset) → IsState signature state → Fits state → IsListing signature (finite.entries state) }
+    ensures written { (signature : Signature) (entry : AtomTree × ℕ) → have_line signature entry ≡ line (have_text signature entry) }
+    ensures start { (program : Parts) (number : ℕ) (log : Log) (old entries : List (AtomTree × ℕ))
+        → log.steps ≡ []
+        → IsListing program.signature (old ++ entries)
+        → Leads program number (map (have_text program.signature) entries) (Whole (record log { start = old })) (Whole (record log { start = old ++ entries })) }
+    ensures last { (program : Parts) (number : ℕ) (log : Log) (end : LogEnd) (old entries : List (AtomTree × ℕ))
+        → IsListing program.signature (old ++ entries)
+        → Leads program number (map (have_text program.signature) entries) (Ended log (record end { state = old })) (Ended log (record end { state = old ++ entries })) }
+    ensures joined { (program : Parts) (number : ℕ) (lines later : List (List ℕ)) (one mid end : SoFar)
+        → Leads program number lines one mid
+        → Leads program (number + length lines) later mid end
+        → Leads program number (lines ++ later) one end }
+{
+    bags_are_lawful();
+}
+
+/// The own lines of a step, as they are written, are read as the step: its line, one for each
+/// derivation, and the next stage where its rule names one.
+pub fn steps_are_read_as_written()
+    ensures { (program : Parts) (log : Log) (rule : Rule) (number : ℕ) (offer : Offer) (proofs : List ProofTree)
+        → slice_get program.rules offer.rule ≡ Some rule
+        → IsOfferOf program offer
+        → AllByRecursion IsSmallTerm offer.values
+        → length proofs ≡ length rule.backs
+        → AllByRecursion (IsReadable program) proofs
+        → ((stage : ℕ) → rule.next ≡ Some stage → stage < length program.stages)
+        → Leads program number (step_text program offer ∷ (map (by_text program) proofs ++ stage_texts program rule.next)) (Whole log)
+        (Whole (record log { steps = log.steps ++ (record { line = number; offer = offer; proofs = proofs; stage = rule.next }) ∷ [] })) }
+{}

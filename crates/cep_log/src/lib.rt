@@ -23,4 +23,5 @@ pub use listing::{Have, Haves};
 pub use log::{Log, LogEnd, LogStep, LogSteps};
 pub use proofs::Proofs;
 pub use reading::read_log;
+pub use so_far::SoFar;
 pub use turn_lines::{put_next, put_offers, put_question};

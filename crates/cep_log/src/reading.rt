@@ -2,7 +2,7 @@
 ghost use Rattle.std.specs.Prelude.{◌≡◌, ◌≤◌, ◌↔◌, ℕ, length, IfOk, IfSome, IfNone, IfErr, IsTrue};
 ghost use Rattle.cep_log.specs.declared.so_far.SoFar.{SoFar};
 ghost use Rattle.cep_log.specs.Legal.{IsLogOf};
-ghost use Rattle.cep_log.specs.Transcript.{Takes, Passes, MayStep, NamesNoRule, HasLog, HasMisfit, IsFaultOf};
+ghost use Rattle.cep_log.specs.Transcript.{Becomes, MovesOn, MayStep, NamesNoRule, HasLog, HasMisfit, IsFaultOf};
 ghost use Rattle.cep_log.specs.Growing.{HasRule};
 
 use crate::fault::LogFault;
@@ -61,8 +61,8 @@ fn passed(
     so_far: SoFar,
 ) -> Result<Result<SoFar, LogFault>, AllocError>
     requires { HasRule program.now so_far }
-    ensures taken { IfOk result (λ read. IfOk read (Passes program.now number line.now so_far)) }
-    ensures nowhere { IfOk result (λ read. IfErr read (λ fault. (new : SoFar) → ¬ (Passes program.now number line.now so_far new))) }
+    ensures taken { IfOk result (λ read. IfOk read (MovesOn program.now number line.now so_far)) }
+    ensures nowhere { IfOk result (λ read. IfErr read (λ fault. (new : SoFar) → ¬ (MovesOn program.now number line.now so_far new))) }
     ensures fault { IfOk result (λ read. IfErr read (IsFaultOf program.now number line.now so_far)) }
 {
     if is_passed_over(line) {
@@ -102,8 +102,8 @@ fn taken(
     so_far: SoFar,
 ) -> Result<Option<SoFar>, AllocError>
     requires { HasRule program.now so_far }
-    ensures some { IfOk result (λ read. IfSome read (Takes program.now number line.now so_far)) }
-    ensures none { IfOk result (λ read. IfNone read ((new : SoFar) → ¬ (Takes program.now number line.now so_far new))) }
+    ensures some { IfOk result (λ read. IfSome read (Becomes program.now number line.now so_far)) }
+    ensures none { IfOk result (λ read. IfNone read ((new : SoFar) → ¬ (Becomes program.now number line.now so_far new))) }
 {
     match so_far {
         SoFar::Nothing => {

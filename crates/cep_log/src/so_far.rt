@@ -2,7 +2,7 @@ use crate::log::{Log, LogEnd, LogStep};
 
 /// What a front of a transcript's lines says, by what may stand next.
 #[derive(Debug, Drop)]
-pub(crate) enum SoFar {
+pub enum SoFar {
     /// Nothing yet: the version is next.
     Nothing,
     /// The version: the height is next.

@@ -14,3 +14,8 @@ pub mod OneRun
 pub mod OneDialogue
 pub mod TurnSteps
 pub mod Commands
+pub mod LegalLogs
+pub mod LogThere
+pub mod OneLines
+pub mod Asides
+pub mod Transcribed

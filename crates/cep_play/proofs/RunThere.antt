@@ -7,7 +7,6 @@ use Rattle.cep_base.specs.declared.limits.TheConstants.{MOST_OFFERS}
 use Rattle.cep_base.proofs.Elements.{contains_none, contains_first}
 use Rattle.cep_base.proofs.Lists.{holds_at}
 use Rattle.cep_term.specs.Multiset.{Multiset}
-use Rattle.cep_rule.specs.declared.rule.Rule.{Rule}
 use Rattle.cep_rule.specs.declared.parts.Parts.{Parts}
 use Rattle.cep_rule.specs.declared.offer.Offer.{Offer}
 use Rattle.cep_rule.specs.Instances.{full_instances, left_of, kept_of}
@@ -99,7 +98,7 @@ module _ (laws : ThereLaws) (program : Parts) (settings : Settings) (kept : IsPr
             | inl fits ↦ inl (record {
               turn = record { before = at; question = question; offer = offer; rule = rule; proofs = proofs.0; after = record { spot = record { stage = stage_after rule at.spot.stage; state = next }; turns = at.turns + 1 }; left = left };
               is = record { here = refl; asks = asks; chosen = chosen; proved = proofs.1; steps = record { fit = fit; step = step; fits = fits; stage = refl }; counted = refl };
-              state = next_is_state laws signature rule values typed divided applies.values state next is_state fit step;
+              state = next_is_state laws.states signature rule values typed divided applies.values state next is_state fit step;
             })
           ]
         ]

@@ -1,5 +1,5 @@
 -- Where an offer applies its step is there, what proves its backward premises is there too, and the state after the step is one again.
-use Rattle.std.proofs.Common.{◌≡◌, ◌⊎◌, inl, inr, ℕ, zero, suc, ◌+◌, ◌<◌, ◌≤◌, true, false, cond, List, [], ◌∷◌, ◌++◌, length, map, Contains, refl, sym, ap, ◌∙◌, subst, arith}
+use Rattle.std.proofs.Common.{◌≡◌, ◌⊎◌, inl, inr, ℕ, zero, suc, ◌+◌, ◌<◌, ◌≤◌, true, false, cond, List, [], ◌∷◌, ◌++◌, map, refl, sym, ap, ◌∙◌, subst, arith}
 use Rattle.std.specs.Prelude.{filter}
 use Rattle.std.specs.List.{AllByRecursion}
 use Rattle.std.proofs.lemmas.Bool.{cases_lt}
@@ -27,12 +27,16 @@ use Rattle.cep_rule.specs.Matching.{state_after}
 use Rattle.cep_rule.specs.Program.{IsTypedRule, IsDividedRule, IsProgram}
 use Rattle.cep_choice.specs.Draws.{place_drawn}
 
--- What runs rest on: lists of offers are there, edits are steps, and a place that is drawn is one of those among which it is.
-pub record ThereLaws : Type 0 where
-  pub lists : (program : Parts) (height : ℕ) (state : Multiset) (group : ℕ) → IsProgram program → IsState program.signature state → (offers : List Offer) × AreOffers program height state group offers
+-- What states rest on: the laws of multisets and of types, and that both sides of a rule are multisets of ground atoms.
+pub record StateLaws : Type 0 where
   pub bags : BagLaws
   pub types : TypeLaws
   pub right_bag : (signature : Signature) (rule : Rule) (values : List Tree) → IsTypedRule signature rule → AreValues signature.cons rule.kinds values → IsBag (right_of signature rule values)
+
+-- What runs rest on besides: lists of offers are there, edits are steps, and a place that is drawn is one of those among which it is.
+pub record ThereLaws : Type 0 where
+  pub states : StateLaws
+  pub lists : (program : Parts) (height : ℕ) (state : Multiset) (group : ℕ) → IsProgram program → IsState program.signature state → (offers : List Offer) × AreOffers program height state group offers
   pub edit : (signature : Signature) (rule : Rule) (values : List Tree) (state : Multiset) → IsTypedRule signature rule → AreValues signature.cons rule.kinds values → IsBag state → IsContained (left_of signature rule values) state
       → Step signature rule values state (state_after signature state (left_of signature rule values) (full_instances values (rule.right ++ kept_of rule)))
   pub places : (seed drawn n : ℕ) → 0 < n → (0 < place_drawn seed drawn n) × (place_drawn seed drawn n ≤ n)
@@ -86,7 +90,7 @@ all_kept P values (premise ∷ premises) all =
     let others = filter (λ (other : PremiseTree). other.kept) premises in
     elim premise.kept as (λ t. AllByRecursion P (full_instances values (map (λ (it : PremiseTree). it.atom) (cond t (premise ∷ others) others)))) [ true ↦ (all.0, rest) | false ↦ rest ]
 
-module _ (laws : ThereLaws) (signature : Signature) (rule : Rule) (values : List Tree) (typed : IsTypedRule signature rule) (divided : IsDividedRule signature rule) (are : AreValues signature.cons rule.kinds values) where
+module _ (laws : StateLaws) (signature : Signature) (rule : Rule) (values : List Tree) (typed : IsTypedRule signature rule) (divided : IsDividedRule signature rule) (are : AreValues signature.cons rule.kinds values) where
   -- the atoms that the rule makes may be in a state, where they are fit
   made_atoms : (atoms : List AtomTree) → AllByRecursion (IsTyped signature rule.kinds) atoms → AllByRecursion (IsLinear signature) atoms → AllByRecursion IsFit (full_instances values atoms) → AllByRecursion (IsStateAtom signature) (full_instances values atoms)
   made_atoms [] all linear fit = tt

@@ -2,6 +2,7 @@ pub mod Choice
 pub mod Deciding
 pub mod Run
 pub mod Dialogue
+pub mod Logs
 pub mod Turn
 pub mod Command
 pub mod Outcome

@@ -7,9 +7,11 @@ mod command;
 mod deciding;
 mod dialogue;
 mod laws;
+mod log_laws;
 mod proving;
 mod settings;
 mod turn;
 
 pub use command::ceptre;
 pub use laws::{dialogues_are_there, one_dialogue};
+pub use log_laws::{dialogues_have_logs, runs_have_logs};

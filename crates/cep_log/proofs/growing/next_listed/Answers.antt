@@ -1,4 +1,3 @@
-use Rattle.std.proofs.Common.{false}
 use Rattle.cep_rule.specs.Program.{IsProgram}
 use Rattle.cep_log.specs.Listed.{have_of}
 use Rattle.cep_log.proofs.Once.{OneValue}

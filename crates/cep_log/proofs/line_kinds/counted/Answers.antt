@@ -1,5 +1,4 @@
-use Rattle.std.proofs.Common.{◌≡◌, ◌^◌, ◌<◌, ◌≤◌, ℕ, ap, sym, ◌∙◌, subst, arith}
-use Rattle.cep_base.specs.declared.limits.TheConstants.{MOST_COPIES}
+use Rattle.std.proofs.Common.{◌≡◌, arith}
 use Rattle.cep_log.proofs.LineKindLemmas.{counted_as, match_none, same_decimal}
 use Rattle.cep_log.proofs.line_kinds.counted.Goals as goal
 use Rattle.cep_log.proofs.line_kinds.counted.Goals.{else-count-ge1-via-then-count-ge1+else-from-le-MOST_COPIES, else-count-ge1-via-else-count-ge1}

@@ -1,4 +1,3 @@
-use Rattle.std.proofs.Common.{◌∙◌}
 use Rattle.cep_log.proofs.LineKindLemmas.{named_as}
 use Rattle.cep_log.proofs.line_kinds.names_no_rule.Goals as goal
 

@@ -1,4 +1,4 @@
-use Rattle.std.proofs.Common.{◌≡◌, ◌≢◌, ℕ, ◌<◌}
+use Rattle.std.proofs.Common.{◌≢◌, ℕ, ◌<◌}
 use Rattle.std.specs.Prelude.{slice_get}
 use Rattle.cep_log.specs.Lines.{stage_name}
 use Rattle.cep_log.proofs.line_kinds.stage_line.Given as goal
