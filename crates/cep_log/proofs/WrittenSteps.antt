@@ -1,22 +1,21 @@
 -- The lines of a step, as they are written, are read as the step.
-use Rattle.std.proofs.Common.{◌≡◌, ◌≢◌, ◌⊎◌, inl, inr, ℕ, zero, suc, ◌+◌, ◌<◌, ◌≤◌, ◌&&◌, ◌||◌, cond, List, [], ◌∷◌, ◌++◌, length, map, Bool, true, false, Option, Some, None, refl, sym, ap, ◌∙◌, subst, arith, append_assoc, length-append}
+use Rattle.std.proofs.Common.{◌≡◌, inl, inr, ℕ, ◌+◌, ◌<◌, ◌&&◌, ◌||◌, cond, List, [], ◌∷◌, ◌++◌, length, map, Bool, true, false, Option, Some, None, refl, sym, ap, ◌∙◌, subst, arith, append_assoc, length-append}
 use Rattle.std.specs.Prelude.{codes, slice_get, nat_le, is_none, is_some}
 use Rattle.std.specs.List.{AllByRecursion}
 use Rattle.std.proofs.lemmas.List.{append-nil}
 use Rattle.std.proofs.lemmas.Bool.{le-leb, lt-leb}
-use Rattle.cep_base.specs.declared.limits.TheConstants.{MOST_HEIGHT}
 use Rattle.cep_rule.specs.declared.rule.Rule.{Rule}
 use Rattle.cep_rule.specs.declared.parts.Parts.{Parts}
 use Rattle.cep_rule.specs.declared.offer.Offer.{Offer}
-use Rattle.cep_rule.specs.Derivations.{ProofTree, proof_height}
-use Rattle.cep_rule.specs.Shapes.{IsOfferOf, IsProofOf, IsSmallTerm, HasSmallValues}
+use Rattle.cep_rule.specs.Derivations.{ProofTree}
+use Rattle.cep_rule.specs.Shapes.{IsOfferOf, IsSmallTerm}
 use Rattle.cep_log.specs.Lines.{stage_name}
 use Rattle.cep_text.specs.Texts.{offer_text, proof_text}
 use Rattle.cep_log.specs.declared.log.Log.{Log}
 use Rattle.cep_log.specs.declared.log.LogStep.{LogStep}
 use Rattle.cep_log.specs.declared.so_far.SoFar.{SoFar}
 use Rattle.cep_log.specs.declared.so_far.SoFar.TheVariants.{Whole, Within}
-use Rattle.cep_log.specs.Transcript.{IsPassedOver, IsByLine, MovesOn, Leads, IsReadable, step_text, by_text, stage_texts, has_own_lines, with_step, step_begun}
+use Rattle.cep_log.specs.Transcript.{IsByLine, MovesOn, Leads, IsReadable, step_text, by_text, stage_texts, has_own_lines, with_step, step_begun}
 
 -- whether a step has all its own lines
 own_all : (next stage : Option ℕ) (full : Bool) → full ≡ true → next ≡ None → (full && (is_none next || is_some stage)) ≡ true
