@@ -25,6 +25,13 @@ use Rattle.cep_play.specs.declared.settings.Settings.{Settings}
 use Rattle.cep_play.specs.Deciding.{Supply}
 use Rattle.cep_play.specs.Run.{Position, start_of, whole_supply, Turn, Ending, AreTurns, AreMachineSteps, unproved}
 use Rattle.cep_play.specs.Dialogue.{Dialogue}
+use Rattle.cep_play.specs.Logs.{written_bytes, HoldsRun}
+use Rattle.cep_base.specs.declared.limits.TheConstants.{MOST_LOG}
+use Rattle.cep_rule.specs.Limits.{IsHeight}
+use Rattle.cep_rule.specs.Program.{IsProgram}
+use Rattle.cep_log.specs.declared.log.Log.{Log}
+use Rattle.cep_log.specs.Legal.{IsLegal}
+use Rattle.cep_log.specs.Transcript.{HasLog}
 use Rattle.cep_play.specs.Command.{settings_of, IsSaid, Says, Writes, Refuses, refusal_text, usage}
 use Rattle.cep_play.specs.Outcome.{AsksFile, AskedAsSaid, OfText, OfRun, OfWords, code_of, status_of}
 use Rattle.cep_base.proofs.Did.{did_map}
@@ -54,9 +61,16 @@ abbrev pub AreAllCounted : Type 0
 AreAllCounted =
     (program : Parts) (settings : Settings) (at : Position) (from : Supply) (turns : List Turn) (last : Position) (to : Supply) → AreTurns program settings at from turns last to → last.turns ≡ at.turns + length turns
 
+-- that what is written of dialogues is a transcript, told for any
+abbrev pub HaveLogs : Type 0
+HaveLogs =
+    (program : Parts) (settings : Settings) (come : List ℕ) (turns : List Turn) (ending : Ending) (events : List Event) (rest : List ℕ)
+    → IsProgram program → IsHeight settings.height → Dialogue program settings come turns ending events rest → length (written_bytes events) ≤ MOST_LOG
+    → (log : Log) × HasLog program (written_bytes events) log × HoldsRun program settings turns ending log × IsLegal program log × (length log.steps ≡ length turns)
+
 -- what is told is what is said, and what is typed allows no other
-pub is_said : (program : Parts) (settings wanted : Settings) (word : EndWord) → IsOneDialogue → IsOneToTheByte → AreAllSteps → AreAllCounted → settings ≡ wanted → (come : List ℕ) (events : List Event) (rest : List ℕ) → IsTold program settings word come events rest → IsSaid program wanted (λ end. end ≡ word) come events rest
-is_said program settings wanted word one to_the_byte steps counted same come events rest told =
+pub is_said : (program : Parts) (settings wanted : Settings) (word : EndWord) → IsOneDialogue → IsOneToTheByte → AreAllSteps → AreAllCounted → HaveLogs → IsProgram program → IsHeight settings.height → settings ≡ wanted → (come : List ℕ) (events : List Event) (rest : List ℕ) → IsTold program settings word come events rest → IsSaid program wanted (λ end. end ≡ word) come events rest
+is_said program settings wanted word one to_the_byte steps counted logs kept height same come events rest told =
     let dialogue = subst (λ s. Dialogue program s come told.turns told.ending events rest) same told.dialogue in
     record {
       turns = told.turns;
@@ -67,6 +81,9 @@ is_said program settings wanted word one to_the_byte steps counted same come eve
       counted =
           let last = counted program wanted (start_of program) (whole_supply come) told.turns dialogue.run.last dialogue.run.between dialogue.run.done in
           omega (arith, last);
+      logged = λ short.
+          let has = logs program settings come told.turns told.ending events rest kept height told.dialogue short in
+          (has.0, has.1, has.3, has.4);
       only = λ turns' ending' events' rest' other. one program wanted come turns' told.turns ending' told.ending events' events rest' rest other dialogue;
       to_the_byte = λ plain turns' ending' events' rest' other. to_the_byte program wanted come turns' told.turns ending' told.ending events' events rest' rest plain other dialogue;
     }
@@ -74,7 +91,7 @@ is_said program settings wanted word one to_the_byte steps counted same come eve
 module _ {C : Type 0} (talk : C → Option (List Event)) (left : C → Option (List ℕ)) (old new : C) where
   says_word : (program : Parts) (settings : Settings) (word : EndWord) (P : EndWord → Type 0) → P word → Says talk left old new program settings (λ end. end ≡ word) → Says talk left old new program settings P
   says_word program settings word P holds says =
-      did_map talk left old new _ _ (λ come events rest said. record { turns = said.turns; ending = said.ending; dialogue = said.dialogue; word = subst P (sym said.word) holds; steps = said.steps; counted = said.counted; only = said.only; to_the_byte = said.to_the_byte }) says
+      did_map talk left old new _ _ (λ come events rest said. record { turns = said.turns; ending = said.ending; dialogue = said.dialogue; word = subst P (sym said.word) holds; steps = said.steps; counted = said.counted; logged = said.logged; only = said.only; to_the_byte = said.to_the_byte }) says
 
   -- a played text
   pub text_played : (text : List ℕ) (options : Options) (program : Parts) (word : EndWord) → ((one other : Parts) → Spells text one → Spells text other → one ≡ other) → Spells text program → Says talk left old new program (settings_of program options) (λ end. end ≡ word) → OfText talk left old new text options (status_of word)

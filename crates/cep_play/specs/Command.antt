@@ -1,8 +1,8 @@
 -- What the command does with its words, a shelf and a console.
-use Rattle.std.specs.Prelude.{◌≡◌, ◌⊎◌, ℕ, List, [], ◌∷◌, ◌++◌, length, map, codes, decimal, Option, None, Some, IfSome, unwrap_or}
+use Rattle.std.specs.Prelude.{◌≡◌, ◌⊎◌, ℕ, ◌≤◌, List, [], ◌∷◌, ◌++◌, length, map, codes, decimal, Option, Some, unwrap_or, Contains}
 use Rattle.std.specs.List.{AllByRecursion}
-use Rattle.std.specs.Option.{option_map}
-use Rattle.cep_base.specs.declared.limits.TheConstants.{DEFAULT_HEIGHT, DEFAULT_SEED, DEFAULT_TURNS}
+use Rattle.std.specs.Option.{option_map, IsSomeAnd}
+use Rattle.cep_base.specs.declared.limits.TheConstants.{DEFAULT_HEIGHT, DEFAULT_SEED, DEFAULT_TURNS, MOST_LOG}
 use Rattle.cep_base.specs.declared.console.Event.{Event}
 use Rattle.cep_base.specs.Talk.{outs, Did}
 use Rattle.cep_base.specs.Files.{Files, HasFile}
@@ -19,8 +19,12 @@ use Rattle.cep_words.specs.declared.options.Options.{Options}
 use Rattle.cep_words.specs.Words.{Request, Play, AskFor, HaveNoForm}
 use Rattle.cep_play.specs.declared.settings.Settings.{Settings}
 use Rattle.cep_log.specs.Lines.{line}
+use Rattle.cep_log.specs.declared.log.Log.{Log}
+use Rattle.cep_log.specs.Legal.{IsLegal}
+use Rattle.cep_log.specs.Transcript.{HasLog}
 use Rattle.cep_play.specs.Run.{Turn, Ending, AreMachineSteps, unproved}
 use Rattle.cep_play.specs.Dialogue.{Dialogue}
+use Rattle.cep_play.specs.Logs.{written_bytes}
 
 -- the files that are asked of the shelf for a request
 abbrev pub names_asked : Request → List (List ℕ)
@@ -61,7 +65,7 @@ Writes talk left old new text = Did talk left old new (λ come events rest. (eve
 abbrev pub settings_of : Parts → Options → Settings
 settings_of program options = record { height = unwrap_or options.height DEFAULT_HEIGHT; limit = unwrap_or options.turns (unwrap_or program.turns DEFAULT_TURNS); seed = unwrap_or options.seed DEFAULT_SEED }
 
--- What is said is a dialogue of the program that ends with a word which has P: its turns are steps of the machine, as many as were done when it ended. What is typed allows no other dialogue but for the derivations of its turns, and no other at all where no rule has a backward premise.
+-- What is said is a dialogue of the program that ends with a word which has P: its turns are steps of the machine, as many as were done when it ended. What is written of it is a transcript, if it is not too long, and its log is legal, with as many steps as turns. What is typed allows no other dialogue but for the derivations of its turns, and no other at all where no rule has a backward premise.
 pub record IsSaid (program : Parts) (settings : Settings) (P : EndWord → Type 0) (come : List ℕ) (events : List Event) (rest : List ℕ) : Type 0 where
   pub turns : List Turn
   pub ending : Ending
@@ -70,6 +74,7 @@ pub record IsSaid (program : Parts) (settings : Settings) (P : EndWord → Type 
   pub steps : AreMachineSteps program settings.height turns
   pub counted : dialogue.run.last.turns ≡ length turns
   pub only : (turns' : List Turn) (ending' : Ending) (events' : List Event) (rest' : List ℕ) → Dialogue program settings come turns' ending' events' rest' → (map unproved turns' ≡ map unproved turns) × (ending' ≡ ending) × (rest' ≡ rest)
+  pub logged : length (written_bytes events) ≤ MOST_LOG → (log : Log) × HasLog program (written_bytes events) log × IsLegal program log × (length log.steps ≡ length turns)
   pub to_the_byte : AllByRecursion (λ rule. rule.backs ≡ []) program.rules → (turns' : List Turn) (ending' : Ending) (events' : List Event) (rest' : List ℕ) → Dialogue program settings come turns' ending' events' rest' → events' ≡ events
 
 abbrev pub Says : {C : Type 0} → (C → Option (List Event)) → (C → Option (List ℕ)) → C → C → Parts → Settings → (EndWord → Type 0) → Type 0
@@ -98,3 +103,25 @@ IsFinished word = (word ≡ Quiet) ⊎ (word ≡ Input)
 -- the run ended by a limit
 abbrev pub IsLimited : EndWord → Type 0
 IsLimited word = (word ≡ Turns) ⊎ ((word ≡ Offers) ⊎ ((word ≡ Typed) ⊎ ((word ≡ Atom) ⊎ (word ≡ State))))
+
+-- the status that tells how a run ended
+abbrev pub code_told : EndWord → ℕ
+code_told Quiet = 0
+code_told Input = 0
+code_told Turns = 4
+code_told Offers = 4
+code_told Typed = 4
+code_told Atom = 4
+code_told State = 4
+
+-- the shelf tells its files, and this one has this text
+abbrev pub IsOnShelf : Option Files → List ℕ → List ℕ → Type 0
+IsOnShelf files name text = IsSomeAnd files (λ file. file name ≡ Some text)
+
+-- What is due: where the words ask for the program in a file to be played, the file's text is told and spells one, and what is to come is told, there is a dialogue of it, and the status tells how it ends, but for faults and want of memory.
+abbrev pub IsDue : List (List ℕ) → Option Files → Option (List ℕ) → ℕ → Type 0
+IsDue words files left status =
+    (file : List ℕ) (options : Options) (text : List ℕ) (program : Parts) (come : List ℕ)
+    → AskFor words (Play file options) → IsOnShelf files file text → Spells text program → left ≡ Some come
+    → (turns : List Turn) × (ending : Ending) × (events : List Event) × (rest : List ℕ)
+    × Dialogue program (settings_of program options) come turns ending events rest × Contains (code_told ending.word ∷ 6 ∷ 7 ∷ 9 ∷ []) status

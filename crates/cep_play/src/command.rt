@@ -5,18 +5,20 @@ ghost use Rattle.cep_base.specs.Faults.{Rose};
 ghost use Rattle.std.specs.Prelude.{OnOk, ◌++◌};
 ghost use Rattle.cep_log.specs.Lines.{line};
 ghost use Rattle.cep_words.specs.Words.{HaveNoForm, AreWithin};
-ghost use Rattle.cep_play.specs.Command.{OfPlay, OfNames, OfFile, settings_of, Adds, Plays, Refuses, Says, Writes, IsFinished, IsLimited, usage, no_program, refusal_text};
+ghost use Rattle.cep_play.specs.Command.{OfPlay, OfNames, OfFile, settings_of, Adds, Plays, Refuses, Says, Writes, IsFinished, IsLimited, IsDue, usage, no_program, refusal_text};
 ghost use Rattle.cep_play.specs.Outcome.{OfText, OfRun, OfWords, CountsFaults, AsksFile, AskedAsSaid, code_of, status_of};
 
 use crate::dialogue::play;
+use crate::laws::dialogues_are_there;
 use cep_base::limits::MOST_TEXT;
 use cep_base::{Console, ConsoleFault, Shelf, ShelfFault, Steps, Text};
-use cep_ground::laws::{no_program_is_refused, one_program};
+use cep_ground::laws::{clean_parts_are_a_program, no_program_is_refused, one_program};
 use cep_ground::{accept, too_long};
 use cep_log::EndWord;
 use cep_refusal::Refusal;
 use cep_rule::Program;
 use cep_scratch::Scratch;
+use cep_words::laws::one_request;
 use cep_words::{Options, Session};
 use std::alloc::{AllocError, Global};
 use std::sync::ledger::Ledger;
@@ -232,6 +234,9 @@ pub fn ceptre<C: Console, H: Shelf, L: Ledger>(
     // There is no further status, so each of these comes exactly where its case holds, but for faults and want of memory.
     ensures no_other { Contains (0 ∷ 2 ∷ 3 ∷ 4 ∷ 6 ∷ 7 ∷ 9 ∷ []) result }
 
+    // What is due comes: a dialogue is there whatever is typed, and the status tells how it ends.
+    ensures due { IsDue (map string_bytes words.now) (H.files shelf.old) (C.left console.old) result }
+
     // Faults of the outside have their statuses, and these come for nothing else.
     ensures shelf_failed { result ≡ 7 → Rose (H.faults shelf.old) (H.faults shelf.new) }
     ensures shelf_fails { H.faults shelf.old < H.faults shelf.new → Contains (6 ∷ 7 ∷ 9 ∷ []) result }
@@ -246,6 +251,9 @@ pub fn ceptre<C: Console, H: Shelf, L: Ledger>(
     // The counter of matching steps never falls.
     ensures counted { steps.old ≤ steps.new }
 {
+    one_request();
+    dialogues_are_there();
+    clean_parts_are_a_program();
     match command(alloc, words, console, shelf, steps) {
         Ok(status) => status.code(),
         Err(ConsoleFault::Failed) => Status::Console.code(),

@@ -10,6 +10,7 @@ ghost use Rattle.cep_play.specs.Command.{Says, settings_of};
 
 use crate::deciding::Spent;
 use crate::laws::{one_dialogue, turns_are_counted, turns_are_steps};
+use crate::log_laws::dialogues_have_logs;
 use crate::settings::Settings;
 use crate::turn::{Ended, Turned, turn};
 use cep_base::{Console, ConsoleFault, Steps, Text};
@@ -110,6 +111,7 @@ pub fn play<M: Matcher, C: Console, L: Ledger>(
     one_dialogue();
     turns_are_steps();
     turns_are_counted();
+    dialogues_have_logs();
     let settings = Settings::of(program, options);
     let config = Config::<M>::begin(alloc, program, settings.height, steps)?;
     begin(alloc, program, settings.height, console)?;

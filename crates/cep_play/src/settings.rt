@@ -1,6 +1,7 @@
 ghost use Rattle.std.specs.Prelude.{◌≡◌, ◌≤◌};
 ghost use Rattle.cep_base.specs.declared.limits.TheConstants.{MOST_TURNS};
 ghost use Rattle.cep_rule.specs.Limits.{IsHeight};
+ghost use Rattle.cep_rule.specs.Program.{IsProgram};
 ghost use Rattle.cep_words.specs.Words.{AreWithin};
 ghost use Rattle.cep_play.specs.Command.{settings_of};
 
@@ -24,6 +25,7 @@ impl Settings {
         ensures settings { result ≡ settings_of program.now options }
         ensures height { IsHeight result.height }
         ensures few { result.limit ≤ MOST_TURNS }
+        ensures kept { IsProgram program.now }
     {
         let told = program.parts().turns.unwrap_or(DEFAULT_TURNS);
         Settings {

@@ -1,6 +1,8 @@
 use Rattle.std.proofs.Common.{map, sym, ◌∙◌, subst, [], ◌∷◌}
 use Rattle.std.specs.Prelude.{string_bytes, Contains}
+use Rattle.cep_play.specs.Command.{IsDue}
 use Rattle.cep_play.proofs.Commands.{code_among, usage_from_code}
+use Rattle.cep_play.proofs.Due.{due_of, due_anyway}
 use Rattle.cep_play.proofs.command.ceptre.Goals as goal
 
 pub returns-in-Ok-clause-usage : goal.returns-in-Ok-clause-usage
@@ -10,3 +12,15 @@ returns-in-Ok-clause-usage g c = λ e.
 pub returns-in-Ok-clause-no_other : goal.returns-in-Ok-clause-no_other
 returns-in-Ok-clause-no_other g c =
     subst (λ code. Contains (0 ∷ 2 ∷ 3 ∷ 4 ∷ 6 ∷ 7 ∷ 9 ∷ []) code) (sym c.code.ensures) (code_among c.in-Ok.status)
+
+pub returns-in-Ok-clause-due : goal.returns-in-Ok-clause-due
+returns-in-Ok-clause-due g c =
+    subst (IsDue (map string_bytes c.args.words.now) (g.H.Shelf.files c.args.shelf.now) (g.C.Console.left c.args.console.now)) (sym c.code.ensures)
+    (due_of c.one_request.ensures c.dialogues_are_there.ensures (λ text program spells. c.clean_parts_are_a_program.ensures.program spells.source program spells.clean spells.bound spells.declared spells.grounded)
+    g.C.Console.talk g.C.Console.left c.args.console.now c.command.new.console (map string_bytes c.args.words.now) (g.H.Shelf.files c.args.shelf.now) c.in-Ok.status c.in-Ok.ensures.outcome)
+
+pub returns-in-Err-Failed-clause-due : goal.returns-in-Err-Failed-clause-due
+returns-in-Err-Failed-clause-due g c = ?
+
+pub returns-in-Err-Memory-clause-due : goal.returns-in-Err-Memory-clause-due
+returns-in-Err-Memory-clause-due g c = ?

@@ -37,4 +37,4 @@ returns-clause-said g c =
     (did_then talk left c.begin-2.new.console c.all_turns.new.console c.finish.new.console _ _ (RunFrom program settings end.word start last)
     (λ come second late third rest turns ends. run_ends program settings end.word start last come late rest second third turns ends)
     c.in_ok-end.ensures.said told) in
-    did_map talk left c.args.console.now c.finish.new.console _ _ (λ come events rest is. is_said program settings (settings_of program c.args.options) end.word c.one_dialogue.ensures.but_for_proofs c.one_dialogue.ensures.to_the_byte c.turns_are_steps.ensures c.turns_are_counted.ensures c.of-settings.ensures.settings come events rest is) whole
+    did_map talk left c.args.console.now c.finish.new.console _ _ (λ come events rest is. is_said program settings (settings_of program c.args.options) end.word c.one_dialogue.ensures.but_for_proofs c.one_dialogue.ensures.to_the_byte c.turns_are_steps.ensures c.turns_are_counted.ensures c.dialogues_have_logs.ensures c.of-settings.ensures.kept c.of-settings.ensures.height c.of-settings.ensures.settings come events rest is) whole
