@@ -20,10 +20,10 @@ use Rattle.cep_play.specs.Dialogue.{Dialogue}
 use Rattle.cep_play.specs.Command.{OfPlay, OfFile, settings_of, Plays, Refuses, IsFinished, IsLimited, code_told, IsOnShelf, IsDue}
 use Rattle.cep_play.specs.Outcome.{OfWords, code_of}
 
-file_of : Request → List ℕ
+abbrev file_of : Request → List ℕ
 file_of (Play file options) = file
 
-options_of : Request → Options
+abbrev options_of : Request → Options
 options_of (Play file options) = options
 
 -- where the files are told, a file has one text

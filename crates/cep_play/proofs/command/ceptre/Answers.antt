@@ -1,4 +1,4 @@
-use Rattle.std.proofs.Common.{map, sym, ◌∙◌, subst, [], ◌∷◌}
+use Rattle.std.proofs.Common.{map, sym, refl, ◌∙◌, subst, [], ◌∷◌, lit<}
 use Rattle.std.specs.Prelude.{string_bytes, Contains}
 use Rattle.cep_play.specs.Command.{IsDue}
 use Rattle.cep_play.proofs.Commands.{code_among, usage_from_code}
@@ -20,7 +20,13 @@ returns-in-Ok-clause-due g c =
     g.C.Console.talk g.C.Console.left c.args.console.now c.command.new.console (map string_bytes c.args.words.now) (g.H.Shelf.files c.args.shelf.now) c.in-Ok.status c.in-Ok.ensures.outcome)
 
 pub returns-in-Err-Failed-clause-due : goal.returns-in-Err-Failed-clause-due
-returns-in-Err-Failed-clause-due g c = ?
+returns-in-Err-Failed-clause-due g c =
+    subst (IsDue (map string_bytes c.args.words.now) (g.H.Shelf.files c.args.shelf.now) (g.C.Console.left c.args.console.now)) (sym c.code-in-Err-Failed.ensures)
+    (due_anyway c.one_request.ensures c.dialogues_are_there.ensures (λ text program spells. c.clean_parts_are_a_program.ensures.program spells.source program spells.clean spells.bound spells.declared spells.grounded)
+    g.C.Console.talk g.C.Console.left c.args.console.now c.command.new.console (map string_bytes c.args.words.now) (g.H.Shelf.files c.args.shelf.now) 6 (0, lit< tt, refl))
 
 pub returns-in-Err-Memory-clause-due : goal.returns-in-Err-Memory-clause-due
-returns-in-Err-Memory-clause-due g c = ?
+returns-in-Err-Memory-clause-due g c =
+    subst (IsDue (map string_bytes c.args.words.now) (g.H.Shelf.files c.args.shelf.now) (g.C.Console.left c.args.console.now)) (sym c.code-in-Err-Memory.ensures)
+    (due_anyway c.one_request.ensures c.dialogues_are_there.ensures (λ text program spells. c.clean_parts_are_a_program.ensures.program spells.source program spells.clean spells.bound spells.declared spells.grounded)
+    g.C.Console.talk g.C.Console.left c.args.console.now c.command.new.console (map string_bytes c.args.words.now) (g.H.Shelf.files c.args.shelf.now) 9 (2, lit< tt, refl))
