@@ -113,7 +113,13 @@ have 2 c
 fn the_seed_chooses_where_nobody_is_asked(rt: HostRuntime) -> Result<(), Fail> {
     expect_entries(&rt, rt.alloc(), drawn(), 0)?;
     expect_entries_by(&rt, rt.alloc(), "play f seed=42", drawn(), 0)?;
-    expect_entries_by(&rt, rt.alloc(), "play f turns=3 height=128 seed=42", drawn(), 0)
+    expect_entries_by(
+        &rt,
+        rt.alloc(),
+        "play f turns=3 height=128 seed=42",
+        drawn(),
+        0,
+    )
 }
 
 // A rule that always applies.
