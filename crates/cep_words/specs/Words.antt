@@ -14,14 +14,14 @@ option_text (Height levels) = codes "height=" ++ decimal levels
 option_text (Turns turns) = codes "turns=" ++ decimal turns
 
 -- a number from 1 to the most
-abbrev pub IsCount : ℕ → ℕ → Type 0
-IsCount most n = (1 ≤ n) × (n ≤ most)
+abbrev pub IsUpTo : ℕ → ℕ → Type 0
+IsUpTo most n = (1 ≤ n) × (n ≤ most)
 
 -- what is asked is within its bounds
 abbrev pub IsInBounds : RunOption → Type 0
 IsInBounds (Seed seed) = seed < 2 ^ 64
-IsInBounds (Height levels) = IsCount MOST_HEIGHT levels
-IsInBounds (Turns turns) = IsCount MOST_TURNS turns
+IsInBounds (Height levels) = IsUpTo MOST_HEIGHT levels
+IsInBounds (Turns turns) = IsUpTo MOST_TURNS turns
 
 -- one thing that is asked, or none
 abbrev pub asked_if : (ℕ → RunOption) → Option ℕ → List RunOption

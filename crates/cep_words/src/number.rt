@@ -1,5 +1,5 @@
 ghost use Rattle.std.specs.Prelude.{◌≡◌, ℕ, ◌^◌, ◌<◌, decimal, MatchOption};
-ghost use Rattle.cep_words.specs.Words.{IsCount};
+ghost use Rattle.cep_words.specs.Words.{IsUpTo};
 ghost use Rattle.cep_words.specs.Numerals.{begins_as_decimal};
 
 // The number that is spelled in decimal without leading zeros, if one below 2^64 is.
@@ -21,8 +21,8 @@ pub(crate) fn number_of(digits: &[u8]) -> Option<u64>
 // The number that is spelled so, if it is from 1 to the most.
 pub(crate) fn number_within(digits: &[u8], most: u32) -> Option<u32>
     ensures { MatchOption result
-        ((value : ℕ) → IsCount most value → digits.now ≡ decimal value → ⊥)
-        (λ value. IsCount most value × (digits.now ≡ decimal value)) }
+        ((value : ℕ) → IsUpTo most value → digits.now ≡ decimal value → ⊥)
+        (λ value. IsUpTo most value × (digits.now ≡ decimal value)) }
 {
     let value = number_of(digits)?;
     if 1 <= value && value <= u64::from(most) {

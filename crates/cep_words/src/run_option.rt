@@ -1,5 +1,5 @@
 ghost use Rattle.std.specs.Prelude.{◌≡◌, ℕ, ◌^◌, ◌<◌, ◌++◌, codes, decimal, MatchOption};
-ghost use Rattle.cep_words.specs.Words.{option_text, IsInBounds, IsCount};
+ghost use Rattle.cep_words.specs.Words.{option_text, IsInBounds, IsUpTo};
 ghost use Rattle.cep_words.specs.declared.run_option.RunOption.{RunOption};
 
 use crate::number::{number_of, number_within};
@@ -47,16 +47,16 @@ fn seed_in(word: &[u8]) -> Option<u64>
 
 fn height_in(word: &[u8]) -> Option<u32>
     ensures { MatchOption result
-        ((levels : ℕ) → IsCount MOST_HEIGHT levels → word.now ≡ codes "height=" ++ decimal levels → ⊥)
-        (λ levels. IsCount MOST_HEIGHT levels × (word.now ≡ codes "height=" ++ decimal levels)) }
+        ((levels : ℕ) → IsUpTo MOST_HEIGHT levels → word.now ≡ codes "height=" ++ decimal levels → ⊥)
+        (λ levels. IsUpTo MOST_HEIGHT levels × (word.now ≡ codes "height=" ++ decimal levels)) }
 {
     number_within(word.strip_prefix(b"height=")?, MOST_HEIGHT)
 }
 
 fn turns_in(word: &[u8]) -> Option<u32>
     ensures { MatchOption result
-        ((turns : ℕ) → IsCount MOST_TURNS turns → word.now ≡ codes "turns=" ++ decimal turns → ⊥)
-        (λ turns. IsCount MOST_TURNS turns × (word.now ≡ codes "turns=" ++ decimal turns)) }
+        ((turns : ℕ) → IsUpTo MOST_TURNS turns → word.now ≡ codes "turns=" ++ decimal turns → ⊥)
+        (λ turns. IsUpTo MOST_TURNS turns × (word.now ≡ codes "turns=" ++ decimal turns)) }
 {
     number_within(word.strip_prefix(b"turns=")?, MOST_TURNS)
 }

@@ -3,7 +3,7 @@ use Rattle.std.specs.Prelude.{codes}
 use Rattle.std.proofs.Common.{◌≡◌, ◌≤◌, ◌∙◌, ◌+◌, ◌-◌, ◌/◌, ℕ, List, [], ◌∷◌, ◌++◌, map, refl, sym, ap, arith, append_assoc, append-nil}
 use Rattle.std.specs.List.{flat_map, join_by}
 use Rattle.std.proofs.lemmas.Grind.{flat_map-append}
-use Rattle.cep_world.specs.World.{numbers_below, walker_count, room_atoms, walker_atoms, good_atom, start_atoms}
+use Rattle.cep_world.specs.World.{numbers_below, walker_count, room_atoms, walker_atoms, good_atom, world_atoms}
 use Rattle.cep_world.specs.Pieces.{with_commas}
 use Rattle.cep_world.proofs.Repeats.{map-numbers, with_commas-append}
 
@@ -36,8 +36,8 @@ abbrev pub atoms_but_last : ℕ → List (List ℕ)
 atoms_but_last n =
     flat_map (room_atoms n) (numbers_below n) ++ flat_map (walker_atoms n) (numbers_below (walker_count n)) ++ map (good_atom n) (numbers_below (n - 1))
 
-start_atoms_last : (n : ℕ) → 1 ≤ n → start_atoms n ≡ atoms_but_last n ++ good_atom n (n - 1) ∷ []
-start_atoms_last n some =
+world_atoms_last : (n : ℕ) → 1 ≤ n → world_atoms n ≡ atoms_but_last n ++ good_atom n (n - 1) ∷ []
+world_atoms_last n some =
     let others : List (List ℕ) = flat_map (room_atoms n) (numbers_below n) ++ flat_map (walker_atoms n) (numbers_below (walker_count n)) in
     let count : n ≡ n - 1 + 1 = omega arith in
     ap (λ k. others ++ map (good_atom n) (numbers_below k)) count
@@ -51,7 +51,7 @@ pub start_added : (n : ℕ) (out rooms walkers goods new : List ℕ)
     → walkers ≡ rooms ++ with_commas (flat_map (walker_atoms n) (numbers_below (walker_count n)))
     → goods ≡ walkers ++ with_commas (map (good_atom n) (numbers_below (n - 1)))
     → new ≡ goods ++ good_atom n (n - 1)
-    → new ≡ out ++ apart (start_atoms n)
+    → new ≡ out ++ apart (world_atoms n)
 start_added n out rooms walkers goods new some r w g last =
     let rs : List (List ℕ) = flat_map (room_atoms n) (numbers_below n) in
     let ws : List (List ℕ) = flat_map (walker_atoms n) (numbers_below (walker_count n)) in
@@ -62,7 +62,7 @@ start_added n out rooms walkers goods new some r w g last =
     ∙ ap (λ text. text ++ x) (three_added out (with_commas rs) (with_commas ws) (with_commas gs))
     ∙ append_assoc out (with_commas rs ++ with_commas ws ++ with_commas gs) x
     ∙ ap (λ text. out ++ (text ++ x)) (sym (with_commas-append (rs ++ ws) gs ∙ ap (λ text. text ++ with_commas gs) (with_commas-append rs ws)))
-    ∙ ap (λ text. out ++ text) (sym (ap apart (start_atoms_last n some) ∙ apart_last (rs ++ ws ++ gs) x))
+    ∙ ap (λ text. out ++ text) (sym (ap apart (world_atoms_last n some) ∙ apart_last (rs ++ ws ++ gs) x))
 
 -- The text is its parts, however they are grouped.
 pub parts_grouped : (types names rules start end : List ℕ) (rooms walkers goods : List ℕ) → names ≡ rooms ++ walkers ++ goods → (((types ++ names) ++ rules) ++ start) ++ end ≡ types ++ rooms ++ walkers ++ goods ++ rules ++ start ++ end

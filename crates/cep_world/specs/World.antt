@@ -31,8 +31,8 @@ abbrev pub good_atom : ℕ → ℕ → List ℕ
 good_atom n i = atom_with_room (codes "lies g") i ((5 * i) % n)
 
 -- the atoms of the start state of a world of n rooms
-abbrev pub start_atoms : ℕ → List (List ℕ)
-start_atoms n =
+abbrev pub world_atoms : ℕ → List (List ℕ)
+world_atoms n =
     flat_map (room_atoms n) (numbers_below n) ++ flat_map (walker_atoms n) (numbers_below (walker_count n)) ++ map (good_atom n) (numbers_below n)
 
 -- the lines of the predicates, stages and rules, and the first line of the start state
@@ -62,5 +62,5 @@ world n =
     ++ numbered_names (codes "w") (codes "walker") (walker_count n)
     ++ numbered_names (codes "g") (codes "good") n
     ++ rule_lines
-    ++ join_by (λ atom. atom) (codes ",\n") (start_atoms n)
+    ++ join_by (λ atom. atom) (codes ",\n") (world_atoms n)
     ++ codes "\n}.\n#trace _ main start.\n"

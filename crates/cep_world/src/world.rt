@@ -1,6 +1,6 @@
 ghost use Rattle.std.specs.Prelude.{◌≡◌, ◌≤◌, ◌++◌, codes, OnOk, IfOk};
 ghost use Rattle.std.specs.List.{join_by};
-ghost use Rattle.cep_world.specs.World.{numbered_names, walker_count, start_atoms, rule_lines, world};
+ghost use Rattle.cep_world.specs.World.{numbered_names, walker_count, world_atoms, rule_lines, world};
 
 use crate::pieces::{put_atom, put_goods, put_names, put_rooms, put_walkers};
 use cep_base::Text;
@@ -45,7 +45,7 @@ context start = {
 fn put_start(out: &mut Text, n: u32) -> Result<(), AllocError>
     requires some { 1 ≤ n }
     requires few { n ≤ MOST_WORLD }
-    ensures { OnOk result (out.new ≡ out.old ++ join_by (λ atom. atom) (codes ",\n") (start_atoms n)) }
+    ensures { OnOk result (out.new ≡ out.old ++ join_by (λ atom. atom) (codes ",\n") (world_atoms n)) }
 {
     put_rooms(out, n)?;
     put_walkers(out, n, 1 + n / 100)?;
