@@ -1,22 +1,22 @@
 -- The backward premises of an offer that applies: they may be asked, each has a derivation, and their lines are put one after another.
-use Rattle.std.proofs.Common.{◌≡◌, ◌⊎◌, inl, inr, ⊎_elim, ℕ, zero, suc, ◌+◌, ◌<◌, ◌≤◌, Bool, true, false, ◌&&◌, List, [], ◌∷◌, ◌++◌, length, map, take, Option, Some, None, refl, sym, ap, subst, ◌∙◌, arith, append_assoc, Contains}
-use Rattle.std.specs.Prelude.{slice_get, is_some, IsSome, IsSomeAnd}
+use Rattle.std.proofs.Common.{◌≡◌, ◌⊎◌, ⊎_elim, ℕ, zero, suc, ◌+◌, ◌<◌, ◌≤◌, Bool, true, false, ◌&&◌, List, [], ◌∷◌, ◌++◌, length, take, Option, Some, None, refl, sym, ap, subst, ◌∙◌, arith, append_assoc, Contains}
+use Rattle.std.specs.Prelude.{slice_get, IsSome}
 use Rattle.std.specs.List.{AllByRecursion, flat_map}
 use Rattle.std.proofs.lemmas.Grind.{flat_map-append}
 use Rattle.std.proofs.lemmas.List.{append-nil, length-map}
-use Rattle.cep_base.proofs.Lists.{none_some, some_same, holds_at, holds_at_mapped, get_mapped, take_next, map_last}
-use Rattle.cep_term.specs.Tree.{Tree, Trees, AtomTree, variable, node, none, more, IsGround, IsGroundAtom, OccursIn, Occurs, OccursAmong, IsInRange, AreInRange, IsAtomInRange}
+use Rattle.cep_base.proofs.Lists.{none_some, some_same, holds_at, holds_at_mapped, take_next, map_last}
+use Rattle.cep_term.specs.Tree.{Tree, Trees, AtomTree, variable, node, none, more, IsGround, OccursIn, Occurs, OccursAmong, IsInRange, AreInRange, IsAtomInRange}
 use Rattle.cep_term.specs.Multiset.{Multiset}
-use Rattle.cep_term.specs.Values.{Values, value_of, atom_instance, AreGroundValues, HasValues, Extends, Meets}
+use Rattle.cep_term.specs.Values.{Values, value_of, atom_instance, AreGroundValues, HasValues}
 use Rattle.cep_rule.specs.declared.signature.Con.{Con}
 use Rattle.cep_rule.specs.declared.rule.Rule.{Rule}
 use Rattle.cep_rule.specs.declared.parts.Parts.{Parts}
 use Rattle.cep_rule.specs.declared.offer.Offer.{Offer}
 use Rattle.cep_rule.specs.Patterns.{ClauseTree}
 use Rattle.cep_rule.specs.Binding.{needed_of}
-use Rattle.cep_rule.specs.Typing.{IsTyped, IsTypedAt, IsBackward, AreValues}
+use Rattle.cep_rule.specs.Typing.{IsTyped, IsBackward, AreValues}
 use Rattle.cep_rule.specs.TypeLaws.{TypeLaws}
-use Rattle.cep_rule.specs.Groundness.{Known, nothing, is_known, are_known, positions_known, known_after, known_after_all, CallsAt, IsBad, IsUngroundedAt, IsGrounded}
+use Rattle.cep_rule.specs.Groundness.{Known, nothing, is_known, are_known, positions_known, known_after, known_after_all, CallsAt, IsBad, IsGrounded}
 use Rattle.cep_rule.specs.Instances.{given, full_instance, full_instances}
 use Rattle.cep_rule.specs.Derivations.{ProofTree, Proves, proof_height, IsDerivable}
 use Rattle.cep_rule.specs.Offers.{Applies}

@@ -1,7 +1,5 @@
 -- What is due is there, and the status tells how it ended.
-use Rattle.std.proofs.Common.{◌≡◌, ℕ, List, [], ◌∷◌, refl, sym, ap, ◌∙◌, subst, inl, inr, lit<, ⊎_elim, Option, None, Some, Contains}
-use Rattle.std.specs.Option.{IsSomeAnd}
-use Rattle.std.specs.List.{AllByRecursion}
+use Rattle.std.proofs.Common.{◌≡◌, ℕ, List, [], ◌∷◌, refl, sym, ap, ◌∙◌, subst, lit<, ⊎_elim, Option, None, Some, Contains}
 use Rattle.cep_base.specs.declared.console.Event.{Event}
 use Rattle.cep_base.specs.Files.{Files, HasFile}
 use Rattle.cep_base.proofs.Elements.{contains_behind, contains_same}

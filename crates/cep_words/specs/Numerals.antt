@@ -1,6 +1,6 @@
 -- Private.
 -- How a decimal begins.
-use Rattle.std.specs.Prelude.{ℕ, ◌<◌, Bool, false, List, [], ◌∷◌, nat_le, nat_lt}
+use Rattle.std.specs.Prelude.{ℕ, Bool, false, List, [], ◌∷◌, nat_le, nat_lt}
 
 -- whether a digit that stands alone is at least 0, or the first of several is greater
 abbrev pub begins_as_decimal : List ℕ → Bool

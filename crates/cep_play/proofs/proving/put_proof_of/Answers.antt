@@ -1,4 +1,4 @@
-use Rattle.std.proofs.Common.{map, subst, sym, length, arith, refl}
+use Rattle.std.proofs.Common.{map, arith}
 use Rattle.std.proofs.lemmas.List.{length-map}
 use Rattle.std.proofs.lemmas.Result.{on_ok_weaker}
 use Rattle.cep_base.proofs.Lists.{holds_at, get_mapped}

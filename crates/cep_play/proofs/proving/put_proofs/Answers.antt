@@ -1,9 +1,8 @@
-use Rattle.std.proofs.Common.{◌≡◌, subst, sym, map, take, ap, ◌∙◌, refl, arith}
+use Rattle.std.proofs.Common.{◌≡◌, subst, sym, ap, ◌∙◌, refl, arith}
 use Rattle.std.proofs.lemmas.List.{take_all}
-use Rattle.std.proofs.lemmas.Option.{slice_get_within}
 use Rattle.std.specs.Prelude.{slice_get, Some}
 use Rattle.std.specs.List.{AllByRecursion}
-use Rattle.cep_term.specs.Tree.{atom_of, tree_of, IsGround}
+use Rattle.cep_term.specs.Tree.{atom_of, IsGround}
 use Rattle.cep_term.specs.Values.{Values, atom_instance, HasValues}
 use Rattle.cep_rule.specs.Instances.{given, full_instances}
 use Rattle.cep_rule.specs.Derivations.{IsDerivable}
