@@ -5,7 +5,7 @@ use cep_base::limits::MOST_WORLD;
 use cep_ground::accept;
 use cep_rule::Program;
 use cep_world::world_text;
-use std::alloc::{AllocError, Global};
+use std::alloc::Global;
 use std::process::Abort;
 use std::test::Fail;
 
