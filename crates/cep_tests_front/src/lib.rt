@@ -14,3 +14,5 @@ mod programs;
 mod source;
 #[cfg(test)]
 mod tokens;
+#[cfg(test)]
+mod worlds;

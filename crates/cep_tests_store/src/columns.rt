@@ -1,5 +1,5 @@
 // The rows of a column of arity 1.
-ghost use Rattle.std.specs.Prelude.{◌≡◌, ℕ, ◌+◌, ◌^◌, ◌<◌, [], IfSome, IfOk, OnOk};
+ghost use Rattle.std.specs.Prelude.{◌≡◌, ℕ, ◌+◌, ◌-◌, ◌^◌, ◌<◌, [], IfSome, IfOk, OnOk};
 ghost use Rattle.cep_column.specs.Rows.{row_at, live_count, IsLive};
 
 use cep_column::Column;

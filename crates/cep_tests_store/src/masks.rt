@@ -1,6 +1,5 @@
 // Masks of columns, and the places of a mask.
-ghost use Rattle.std.specs.Prelude.{◌≡◌, length, IfOk, IfOk};
-ghost use Rattle.cep_lanes.specs.Masks.{words_for};
+ghost use Rattle.std.specs.Prelude.{◌≤◌};
 
 use cep_lanes::{and_mask, equal_mask, exclude, include, next_set};
 use std::alloc::{AllocError, Global};
@@ -25,7 +24,10 @@ fn masks() -> &'static str {
 }
 
 // The numbers of a text, in this base.
-fn numbers(alloc: Global, text: &str, radix: u32) -> Result<Vec<u64>, Fail> {
+fn numbers(alloc: Global, text: &str, radix: u32) -> Result<Vec<u64>, Fail>
+    requires low { 2 ≤ radix }
+    requires high { radix ≤ 36 }
+{
     let mut numbers = Vec::new(alloc);
     for word in text.split_whitespace() {
         numbers.push(u64::from_str_radix(word, radix).ok().ok_or("no number")?)?;

@@ -1,8 +1,7 @@
 -- A comma behind each atom but the last is a comma between each two.
 use Rattle.std.specs.Prelude.{codes}
-use Rattle.std.proofs.Common.{◌≡◌, ◌≤◌, ◌∙◌, ◌+◌, ◌-◌, ◌/◌, ℕ, List, [], ◌∷◌, ◌++◌, map, refl, sym, ap, arith, append_assoc, append-nil}
+use Rattle.std.proofs.Common.{◌≡◌, ◌≤◌, ◌∙◌, ◌+◌, ◌-◌, ℕ, List, [], ◌∷◌, ◌++◌, map, sym, ap, arith, append_assoc, append-nil}
 use Rattle.std.specs.List.{flat_map, join_by}
-use Rattle.std.proofs.lemmas.Grind.{flat_map-append}
 use Rattle.cep_world.specs.World.{numbers_below, walker_count, room_atoms, walker_atoms, good_atom, world_atoms}
 use Rattle.cep_world.specs.Pieces.{with_commas}
 use Rattle.cep_world.proofs.Repeats.{map-numbers, with_commas-append}
