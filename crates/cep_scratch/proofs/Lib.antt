@@ -14,3 +14,4 @@ pub mod Finding
 pub mod Rising
 pub mod OffersThere
 pub mod FirstOffers
+pub mod Sides

@@ -2,14 +2,15 @@
 //! state again.
 //!
 //! A rule is matched premise by premise, in written order. For each linear premise the entries of the
-//! state that have its predicate are tried, one after another, and each that meets it is followed before
-//! the next. Then each backward premise is asked of backward chaining, and each of its answers is
+//! state that have its predicate, and begin as it does so far as its variables have values, are tried, one
+//! after another, and each that meets it is followed before the next. Then each backward premise is asked of backward chaining, and each of its answers is
 //! followed before the next. What was found of a rule is sorted, and put behind what its group's rules
 //! before it have.
 #![tactic(auto)]
 
 mod backs;
 mod first;
+mod fronts;
 mod groups;
 pub mod laws;
 mod partial;
