@@ -1,0 +1,151 @@
+-- What a step of a log does to where the steps have led.
+use Rattle.std.proofs.Common.{◌≡◌, ◌⊎◌, inl, inr, ⊎_elim, ℕ, zero, suc, ◌+◌, ◌-◌, ◌*◌, ◌<◌, ◌≤◌, true, false, not, cond, List, [], ◌∷◌, ◌++◌, length, map, Option, Some, None, unwrap_or, refl, sym, ap, subst, ◌∙◌, arith, Contains, Ok, Err}
+use Rattle.std.specs.Prelude.{slice_get, filter, IfSome, IsSome, Result, ◌↔◌, ◌/◌, ◌%◌}
+use Rattle.std.specs.List.{AllByRecursion}
+use Rattle.std.proofs.lemmas.List.{map-append, length-map}
+use Rattle.cep_base.specs.declared.limits.TheConstants.{MOST_PREMISES, MOST_RIGHT}
+use Rattle.cep_base.proofs.Elements.{both_all, all_at, all_of}
+use Rattle.cep_base.proofs.Lists.{some_same, holds_at, all_weaker, all_mapped}
+use Rattle.cep_term.specs.BagLaws.{BagLaws}
+use Rattle.cep_term.specs.Tree.{Tree, AtomTree, IsGroundAtom, IsFit, IsAtomInRange}
+use Rattle.cep_term.specs.Multiset.{Multiset, count_of, gathered, difference_of, sum_of, copies_in, nodes_in_all, IsContained, IsBag}
+use Rattle.cep_rule.specs.declared.signature.Signature.{Signature}
+use Rattle.cep_rule.specs.declared.rule.Rule.{Rule}
+use Rattle.cep_rule.specs.declared.parts.Parts.{Parts}
+use Rattle.cep_rule.specs.Patterns.{PremiseTree}
+use Rattle.cep_rule.specs.Typing.{IsTyped, IsLinear, AreValues}
+use Rattle.cep_rule.specs.TypeLaws.{TypeLaws}
+use Rattle.cep_rule.specs.Binding.{needed_of}
+use Rattle.cep_rule.specs.State.{IsStateAtom, IsState, Fits}
+use Rattle.cep_rule.specs.Instances.{full_instance, full_instances, kept_of, left_of, right_of}
+use Rattle.cep_rule.specs.Program.{IsTypedRule, IsDividedRule, IsProgram}
+use Rattle.cep_rule.specs.Limits.{IsSmallRule}
+use Rattle.cep_rule.specs.Step.{Step, StepsByCounts}
+use Rattle.cep_check.specs.Walking.{used_by, edited, CanEdit}
+use Rattle.cep_check.proofs.Parted.{atom_in, kept_among, used_among, few_used, all_kept, all_used}
+
+-- A step can be told by counts.
+abbrev pub ToldByCounts : Type 0
+ToldByCounts = (signature : Signature) (rule : Rule) (values : List Tree) (old new : Multiset) → IsBag (left_of signature rule values) → IsBag old → IsBag new → (Step signature rule values old new ↔ StepsByCounts signature rule values old new)
+
+-- The sides of a rule are multisets.
+abbrev pub SidesAreBags : Type 0
+SidesAreBags = (signature : Signature) (rule : Rule) (values : List Tree) → IsTypedRule signature rule → AreValues signature.cons rule.kinds values → IsBag (left_of signature rule values)
+
+-- the laws of the crates below that a step rests on
+pub record DoingLaws : Type 0 where
+  pub bags : BagLaws
+  pub types : TypeLaws
+  pub told : ToldByCounts
+  pub left : SidesAreBags
+
+-- the instances of typed atoms by values of the right types
+pub in_range_all : TypeLaws → (signature : Signature) (kinds : List ℕ) (values : List Tree) → AreValues signature.cons kinds values → (atoms : List AtomTree) → AllByRecursion (IsTyped signature kinds) atoms → AllByRecursion (IsAtomInRange (length values)) atoms
+in_range_all types signature kinds values are atoms typed = all_weaker (IsTyped signature kinds) (IsAtomInRange (length values)) atoms
+    (λ a typed. subst (λ n. IsAtomInRange n a) (sym (types.as_many signature.cons kinds values are)) (types.in_range signature kinds a typed)) typed
+
+pub ground_all : TypeLaws → (signature : Signature) (kinds : List ℕ) (values : List Tree) → AreValues signature.cons kinds values → (atoms : List AtomTree) → AllByRecursion (IsTyped signature kinds) atoms → AllByRecursion IsGroundAtom (full_instances values atoms)
+ground_all types signature kinds values are atoms typed = all_mapped (IsTyped signature kinds) IsGroundAtom (full_instance values) atoms (λ a typed. types.ground signature kinds values a are typed) typed
+
+-- the stage after a step is one of the program's
+pub stage_in_range : (stages stage : ℕ) (next : Option ℕ) → stage < stages → IfSome next (λ other. other < stages) → unwrap_or next stage < stages
+stage_in_range stages stage None within next = within
+stage_in_range stages stage (Some other) within next = next
+
+module _ (laws : DoingLaws) (program : Parts) (rule : Rule) (values : List Tree) (typed : IsTypedRule program.signature rule) (divided : IsDividedRule program.signature rule) (small : IsSmallRule rule) (are : AreValues program.signature.cons rule.kinds values) (state : Multiset) (is_state : IsState program.signature state) (contained : IsContained (left_of program.signature rule values) state) where
+  needed_ground : AllByRecursion IsGroundAtom (full_instances values (needed_of rule))
+  needed_ground = ground_all laws.types program.signature rule.kinds values are (needed_of rule) typed.premises
+
+  right_ground : AllByRecursion IsGroundAtom (full_instances values rule.right)
+  right_ground = ground_all laws.types program.signature rule.kinds values are rule.right typed.right
+
+  needed_there : AllByRecursion (IsStateAtom program.signature) (full_instances values (needed_of rule))
+  needed_there = all_of (IsStateAtom program.signature) (full_instances values (needed_of rule))
+      (λ a there.
+      let some = (laws.bags.gathered_there (full_instances values (needed_of rule)) a).1 there in
+      let most = contained a in
+      is_state.each a (omega arith))
+
+  -- one atom in front, by counts
+  count_first : (x : AtomTree) (xs : List AtomTree) (a : AtomTree) → IsGroundAtom x → AllByRecursion IsGroundAtom xs → count_of (gathered (x ∷ xs)) a ≡ count_of (gathered (x ∷ [])) a + count_of (gathered xs) a
+  count_first x xs a ground grounds = ap (λ bag. count_of bag a) (laws.bags.gathered_joined (x ∷ []) xs (ground, tt) grounds) ∙ laws.bags.sum (gathered (x ∷ [])) (gathered xs) a
+
+  -- the premises are those that are kept and those that are not
+  count_parted : (premises : List PremiseTree) (a : AtomTree) → AllByRecursion IsGroundAtom (full_instances values (map atom_in premises)) → count_of (gathered (full_instances values (map atom_in premises))) a ≡ count_of (gathered (full_instances values (kept_among premises))) a + count_of (gathered (full_instances values (used_among premises))) a
+  count_parted [] a ground = let none = laws.bags.empty a in omega arith
+  count_parted (premise ∷ premises) a ground =
+      let rest = count_parted premises a ground.1 in
+      let all = count_first (full_instance values premise.atom) (full_instances values (map atom_in premises)) a ground.0 ground.1 in
+      let kept = count_first (full_instance values premise.atom) (full_instances values (kept_among premises)) a ground.0 (all_kept IsGroundAtom values premises ground.1) in
+      let used = count_first (full_instance values premise.atom) (full_instances values (used_among premises)) a ground.0 (all_used IsGroundAtom values premises ground.1) in
+      let kept_rest = filter (λ (other : PremiseTree). other.kept) premises in
+      let used_rest = filter (λ (other : PremiseTree). not other.kept) premises in
+      elim premise.kept as (λ t. count_of (gathered (full_instances values (map atom_in (premise ∷ premises)))) a ≡ count_of (gathered (full_instances values (map atom_in (cond t (premise ∷ kept_rest) kept_rest)))) a + count_of (gathered (full_instances values (map atom_in (cond (not t) (premise ∷ used_rest) used_rest)))) a) [
+        | true ↦ omega arith
+        | false ↦ omega arith
+      ]
+
+  used_contained : IsContained (gathered (full_instances values (used_by rule))) state
+  used_contained = λ a.
+      let parted = count_parted rule.premises a needed_ground in
+      let most = contained a in
+      omega arith
+
+  -- the atoms of the premises that are not kept can be taken
+  pub can_edit : Fits state → CanEdit state (full_instances values (used_by rule))
+  can_edit fits = record {
+    bag = is_state.bag;
+    ground = all_used IsGroundAtom values rule.premises needed_ground;
+    fits = fits;
+    contained = used_contained;
+    fit = all_weaker (IsStateAtom program.signature) IsFit (full_instances values (used_by rule)) (λ a (is : IsStateAtom program.signature a). is.fit) (all_used (IsStateAtom program.signature) values rule.premises needed_there);
+    few =
+        let same : length (full_instances values (used_by rule)) ≡ length (used_among rule.premises) = length-map (used_among rule.premises) (full_instance values) in
+        let few = few_used rule.premises in
+        let most = small.premises in
+        omega arith;
+  }
+
+  new_bag : IsBag (edited state (full_instances values (used_by rule)) (full_instances values rule.right))
+  new_bag = laws.bags.sum_kept (difference_of state (gathered (full_instances values (used_by rule)))) (gathered (full_instances values rule.right))
+      (laws.bags.difference_kept state (gathered (full_instances values (used_by rule))) is_state.bag (laws.bags.gathered_kept (full_instances values (used_by rule)) (all_used IsGroundAtom values rule.premises needed_ground)))
+      (laws.bags.gathered_kept (full_instances values rule.right) right_ground)
+
+  -- taking those and adding the right atoms is a step
+  pub edit_steps : Step program.signature rule values state (edited state (full_instances values (used_by rule)) (full_instances values rule.right))
+  edit_steps = (laws.told program.signature rule values state (edited state (full_instances values (used_by rule)) (full_instances values rule.right)) (laws.left program.signature rule values typed are) is_state.bag new_bag).1 (record {
+    contained = contained;
+    counts = λ a.
+        let parted = count_parted rule.premises a needed_ground in
+        let most = used_contained a in
+        let sum = laws.bags.sum (difference_of state (gathered (full_instances values (used_by rule)))) (gathered (full_instances values rule.right)) a in
+        let less = laws.bags.difference state (gathered (full_instances values (used_by rule))) a in
+        let right : count_of (right_of program.signature rule values) a ≡ count_of (gathered (full_instances values rule.right)) a + count_of (gathered (full_instances values (kept_among rule.premises))) a =
+            ap (λ atoms. count_of (gathered atoms) a) (map-append (full_instance values) rule.right (kept_of rule))
+            ∙ ap (λ bag. count_of bag a) (laws.bags.gathered_joined (full_instances values rule.right) (full_instances values (kept_of rule)) right_ground (all_kept IsGroundAtom values rule.premises needed_ground))
+            ∙ laws.bags.sum (gathered (full_instances values rule.right)) (gathered (full_instances values (kept_of rule))) a in
+        omega arith;
+  })
+
+  made_there : (atoms : List AtomTree) → AllByRecursion (IsTyped program.signature rule.kinds) atoms → AllByRecursion (IsLinear program.signature) atoms → AllByRecursion IsFit (full_instances values atoms) → AllByRecursion (IsStateAtom program.signature) (full_instances values atoms)
+  made_there [] typed linear fit = tt
+  made_there (a ∷ atoms) typed linear fit = (
+    (record {
+      ground = laws.types.ground program.signature rule.kinds values a are typed.0;
+      typed = laws.types.typed program.signature rule.kinds values a are typed.0;
+      linear = linear.0;
+      fit = fit.0;
+    }),
+    (made_there atoms typed.1 linear.1 fit.1),
+  )
+
+  -- and what it leads to is a state
+  pub edit_leads : AllByRecursion IsFit (full_instances values rule.right) → IsState program.signature (edited state (full_instances values (used_by rule)) (full_instances values rule.right))
+  edit_leads fit = record { bag = new_bag; each = λ a some. by a some (count_of state a) refl }
+    where
+      by : (a : AtomTree) → 0 < count_of (edited state (full_instances values (used_by rule)) (full_instances values rule.right)) a → (n : ℕ) → count_of state a ≡ n → IsStateAtom program.signature a
+      by a some zero none =
+          let sum = laws.bags.sum (difference_of state (gathered (full_instances values (used_by rule)))) (gathered (full_instances values rule.right)) a in
+          let less = laws.bags.difference state (gathered (full_instances values (used_by rule))) a in
+          all_at (IsStateAtom program.signature) (full_instances values rule.right) a (made_there rule.right typed.right divided.right fit) ((laws.bags.gathered_there (full_instances values rule.right) a).0 (omega arith))
+      by a some (suc n) is_there = is_state.each a (omega arith)
