@@ -3,13 +3,13 @@ use Rattle.std.proofs.Common.{◌≡◌, ◌⊎◌, inl, inr, ⊎_elim, ℕ, zer
 use Rattle.std.specs.Prelude.{slice_get, ◌/◌, ◌%◌, IsSomeAnd}
 use Rattle.std.proofs.lemmas.Bool.{eqb-true, eqb-false}
 use Rattle.std.proofs.lemmas.List.{take_all}
-use Rattle.cep_base.proofs.Lists.{some_same}
-use Rattle.cep_term.specs.Tree.{AtomTree}
+use Rattle.cep_base.proofs.Lists.{some_same, get_mapped}
+use Rattle.cep_term.specs.Tree.{Tree, AtomTree, IsFit}
 use Rattle.cep_term.specs.Multiset.{Multiset, gathered, IsContained}
 use Rattle.cep_rule.specs.declared.rule.Rule.{Rule}
 use Rattle.cep_rule.specs.declared.parts.Parts.{Parts}
-use Rattle.cep_rule.specs.Instances.{full_instances, left_of}
-use Rattle.cep_rule.specs.Derivations.{ProofTree, Proves, proof_height}
+use Rattle.cep_rule.specs.Instances.{full_instance, full_instances, left_of}
+use Rattle.cep_rule.specs.Derivations.{ProofTree, by_clause, Proves, proof_height}
 use Rattle.cep_rule.specs.Stages.{own_group, leaving_group, HasOffer}
 use Rattle.cep_rule.specs.Steps.{Spot, AreProofs}
 use Rattle.cep_log.specs.declared.log.Log.{Log}
@@ -122,3 +122,11 @@ refused_here program log (x ∷ steps) zero step old cause at comes =
     let same : step ≡ x = sym (some_same x step at) in
     inl (ap (λ (s : LogStep). s.line) same, subst (λ (s : LogStep). (rule : Rule) × (slice_get program.rules s.offer.rule ≡ Some rule) × IsStepCause program log.height old rule s cause) same comes)
 refused_here program log (x ∷ steps) (suc n) step old cause at comes = refused_here program log steps n step old cause at comes
+
+-- no proof is of what is not fit
+pub only_fit : (program : Parts) (proof : ProofTree) (a : AtomTree) → Proves program proof a → IsFit a
+only_fit program (by_clause number values subs) a proves = proves.0
+
+-- the instance of a premise is at the premise's place
+pub instance_at : (values : List Tree) (atoms : List AtomTree) (n : ℕ) (a : AtomTree) → slice_get atoms n ≡ Some a → slice_get (full_instances values atoms) n ≡ Some (full_instance values a)
+instance_at values atoms n a is = get_mapped (full_instance values) atoms n a is

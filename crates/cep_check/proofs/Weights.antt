@@ -17,7 +17,7 @@ module _ (laws : BagLaws) (state : Multiset) (used : List AtomTree) (can : CanEd
   whole : sum_of (difference_of state (gathered used)) (gathered used) ≡ state
   whole = laws.taken_and_added state (gathered used) can.bag (laws.gathered_kept used can.ground) can.contained
 
-  rest_copies : copies_in (difference_of state (gathered used)) + length used ≡ copies_in state
+  pub rest_copies : copies_in (difference_of state (gathered used)) + length used ≡ copies_in state
   rest_copies =
       let all = ap (λ (bag : Multiset). copies_in bag) whole in
       let sum = laws.sum_copies (difference_of state (gathered used)) (gathered used) in

@@ -1,11 +1,11 @@
 // The atoms of a rule's sides under values, and what a step does to a state.
-ghost use Rattle.std.specs.Prelude.{◌≡◌, ◌+◌, ◌<◌, ◌^◌, ◌∷◌, [], ◌++◌, length, IfOk, OnOk};
+ghost use Rattle.std.specs.Prelude.{◌≡◌, ◌≤◌, length, IfOk, OnOk};
 ghost use Rattle.std.specs.List.{AllByRecursion};
 ghost use Rattle.cep_term.specs.Tree.{atom_of, IsAtomInRange, IsGroundAtom};
-ghost use Rattle.cep_term.specs.Multiset.{gathered, copies_in};
+ghost use Rattle.cep_base.specs.declared.limits.TheConstants.{MOST_RIGHT};
 ghost use Rattle.cep_rule.specs.Binding.{needed_of};
 ghost use Rattle.cep_rule.specs.Instances.{full_instance, full_instances};
-ghost use Rattle.cep_check.specs.Walking.{used_by, edited};
+ghost use Rattle.cep_check.specs.Walking.{used_by, edited, CanEdit};
 
 use cep_rule::{AtomList, Rule, Terms, instance};
 use cep_term::laws::bags_are_lawful;
@@ -67,11 +67,10 @@ pub(crate) fn edit(
     right: &AtomList,
     values: &Terms,
 ) -> Result<(), AllocError>
+    requires can { CanEdit state.old used.now }
     requires in_range { AllByRecursion (IsAtomInRange (length values.now)) right.now }
-    requires used_ground { AllByRecursion IsGroundAtom used.now }
-    requires made_ground { AllByRecursion IsGroundAtom (full_instances values.now right.now) }
-    requires few_used { length used.now < 2 ^ 32 }
-    requires few { copies_in state.old + length right.now < 2 ^ 32 }
+    requires ground { AllByRecursion IsGroundAtom (full_instances values.now right.now) }
+    requires few { length right.now ≤ MOST_RIGHT }
     ensures { OnOk result (state.new ≡ edited state.old used.now (full_instances values.now right.now)) }
 {
     bags_are_lawful();

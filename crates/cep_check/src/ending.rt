@@ -84,9 +84,8 @@ fn first_asked<L: Ledger>(
     ensures never_falls { steps.old ≤ steps.new }
 {
     let own = 2 * walk.stage;
-    let first = applies_any(alloc, program, &walk.state, own, height, steps)?;
-    if first.is_some() {
-        return Ok(first);
+    match applies_any(alloc, program, &walk.state, own, height, steps)? {
+        Some(first) => Ok(Some(first)),
+        None => applies_any(alloc, program, &walk.state, own + 1, height, steps),
     }
-    applies_any(alloc, program, &walk.state, own + 1, height, steps)
 }

@@ -1,11 +1,10 @@
 // What a step would come to, known before any atom is built that it makes.
-ghost use Rattle.std.specs.Prelude.{◌≡◌, ◌*◌, ◌≤◌, length, sum_by, map, SomeIff};
+ghost use Rattle.std.specs.Prelude.{◌≡◌, ◌*◌, ◌≤◌, length, sum_by, IfSome, SomeIff};
 ghost use Rattle.std.specs.List.{AllByRecursion};
 ghost use Rattle.cep_base.specs.declared.limits.TheConstants.{MOST_NODES, MOST_PREMISES, MOST_RIGHT};
 ghost use Rattle.cep_term.specs.Tree.{atom_nodes, IsFit};
-ghost use Rattle.cep_term.specs.Multiset.{gathered, nodes_in_all, IsContained, IsBag};
+ghost use Rattle.cep_term.specs.Multiset.{nodes_in_all};
 ghost use Rattle.cep_rule.specs.Instances.{full_instances};
-ghost use Rattle.cep_rule.specs.State.{Fits};
 ghost use Rattle.cep_check.specs.Walking.{IsWeighed, CanEdit};
 
 use crate::cause::CheckLimit;
@@ -30,10 +29,16 @@ pub(crate) fn weigh(
     ensures { IsWeighed state.now used.now (full_instances values.now right.now) result }
 {
     bags_are_lawful();
-    let made = nodes_made(right, values).ok_or(CheckLimit::Atom)?;
+    let made = match nodes_made(right, values) {
+        Some(made) => made,
+        None => return Err(CheckLimit::Atom),
+    };
     let copies = state.copies() + right.len() as u64 - used.len() as u64;
     let nodes = before + made - nodes_among(used);
-    if copies > MOST_COPIES || nodes > MOST_STATE_NODES {
+    if copies > MOST_COPIES {
+        return Err(CheckLimit::State);
+    }
+    if nodes > MOST_STATE_NODES {
         return Err(CheckLimit::State);
     }
     Ok(nodes)
@@ -42,11 +47,16 @@ pub(crate) fn weigh(
 // How many nodes the instances of these atoms have together, where all are fit.
 fn nodes_made(right: &AtomList, values: &Terms) -> Option<u64>
     requires { length right.now ≤ MOST_RIGHT }
-    ensures { SomeIff result (AllByRecursion IsFit (full_instances values.now right.now)) (sum_by atom_nodes (full_instances values.now right.now)) }
+    ensures nodes { SomeIff result (AllByRecursion IsFit (full_instances values.now right.now)) (sum_by atom_nodes (full_instances values.now right.now)) }
+    ensures few { IfSome result (λ made. made ≤ MOST_RIGHT * MOST_NODES) }
 {
+    let terms = values.as_slice();
     let mut made = 0;
     for i in 0..right.len() {
-        made += fit_nodes(right.get(i), values.as_slice())?;
+        match fit_nodes(right.get(i), terms) {
+            Some(nodes) => made += nodes,
+            None => return None,
+        }
     }
     Some(made)
 }

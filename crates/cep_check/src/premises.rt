@@ -34,9 +34,9 @@ pub(crate) fn first_failure(
 {
     for i in 0..backs.len() {
         let place = i as u32 + 1;
-        let cause = failure(alloc, program, most, backs.get(i), values, proofs.get(i), place)?;
-        if cause.is_some() {
-            return Ok(cause);
+        let (back, proof) = (backs.get(i), proofs.get(i));
+        if let Some(cause) = failure(alloc, program, most, back, values, proof, place)? {
+            return Ok(Some(cause));
         }
     }
     Ok(None)

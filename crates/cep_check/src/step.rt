@@ -44,11 +44,10 @@ pub(crate) fn advance<L: Ledger>(
     ensures never_falls { steps.old ≤ steps.new }
 {
     let rule = program.parts().rules.get(step.offer.rule as usize);
-    let cause = cause_before(alloc, program, height, rule, step, walk, steps)?;
-    if cause.is_some() {
-        return Ok(cause);
+    match cause_before(alloc, program, height, rule, step, walk, steps)? {
+        Some(cause) => Ok(Some(cause)),
+        None => change(alloc, program, height, rule, step, walk),
     }
-    change(alloc, program, height, rule, step, walk)
 }
 
 // Why the step is not legal, as far as it is seen before anything changes.
@@ -74,20 +73,12 @@ fn cause_before<L: Ledger>(
     if rule.group / 2 != walk.stage {
         return Ok(Some(Cause::OtherStage { rule: offer.rule }));
     }
-    let cause = not_contained(alloc, rule, &offer.values, &walk.state)?;
-    if cause.is_some() {
-        return Ok(cause);
+    if let Some(cause) = not_contained(alloc, rule, &offer.values, &walk.state)? {
+        return Ok(Some(cause));
     }
-    let cause = first_failure(
-        alloc,
-        program,
-        height,
-        &rule.backs,
-        &offer.values,
-        &step.proofs,
-    )?;
-    if cause.is_some() {
-        return Ok(cause);
+    let (values, proofs) = (&offer.values, &step.proofs);
+    if let Some(cause) = first_failure(alloc, program, height, &rule.backs, values, proofs)? {
+        return Ok(Some(cause));
     }
     not_quiet(alloc, program, height, rule, walk, steps)
 }
