@@ -3,7 +3,7 @@ use Rattle.std.proofs.Common.{◌≡◌, ◌⊎◌, inl, inr, ⊎_elim, ℕ, zer
 use Rattle.std.specs.Prelude.{slice_get, filter, IfSome, IsSome, Result, ◌↔◌, ◌/◌, ◌%◌}
 use Rattle.std.specs.List.{AllByRecursion}
 use Rattle.std.proofs.lemmas.List.{map-append, length-map}
-use Rattle.cep_base.specs.declared.limits.TheConstants.{MOST_PREMISES, MOST_RIGHT}
+use Rattle.cep_base.specs.declared.limits.TheConstants.{MOST_PREMISES, MOST_RIGHT, MOST_STAGES}
 use Rattle.cep_base.proofs.Elements.{both_all, all_at, all_of}
 use Rattle.cep_base.proofs.Lists.{some_same, holds_at, all_weaker, all_mapped}
 use Rattle.cep_term.specs.BagLaws.{BagLaws}
@@ -21,7 +21,16 @@ use Rattle.cep_rule.specs.Instances.{full_instance, full_instances, kept_of, lef
 use Rattle.cep_rule.specs.Program.{IsTypedRule, IsDividedRule, IsProgram}
 use Rattle.cep_rule.specs.Limits.{IsSmallRule}
 use Rattle.cep_rule.specs.Step.{Step, StepsByCounts}
-use Rattle.cep_check.specs.Walking.{used_by, edited, CanEdit}
+use Rattle.cep_rule.specs.Steps.{Spot, stage_after}
+use Rattle.cep_log.specs.declared.log.LogStep.{LogStep}
+use Rattle.cep_log.specs.Legal.{IsLegalStep}
+use Rattle.cep_check.specs.declared.cause.CheckLimit.{CheckLimit}
+use Rattle.cep_check.specs.declared.cause.CheckLimit.TheVariants.{Atom, State}
+use Rattle.cep_check.specs.declared.cause.Cause.{Cause}
+use Rattle.cep_check.specs.declared.cause.Cause.TheVariants.{StartStage, StartState, OtherStage, NotContained, NotProved, TooHigh, NotQuiet, OverLimit, StageLine, NotEnded, EndState}
+use Rattle.cep_check.specs.declared.walk.Walk.{Walk}
+use Rattle.cep_check.specs.Causes.{IsInTurn, IsWithinLimits, IsStepCause}
+use Rattle.cep_check.specs.Walking.{used_by, edited, CanEdit, IsWeighed, IsStageCause, IsReadyStep, IsWalkOf}
 use Rattle.cep_check.proofs.Parted.{atom_in, kept_among, used_among, few_used, all_kept, all_used}
 
 -- A step can be told by counts.
@@ -149,3 +158,68 @@ module _ (laws : DoingLaws) (program : Parts) (rule : Rule) (values : List Tree)
           let less = laws.bags.difference state (gathered (full_instances values (used_by rule))) a in
           all_at (IsStateAtom program.signature) (full_instances values rule.right) a (made_there rule.right typed.right divided.right fit) ((laws.bags.gathered_there (full_instances values rule.right) a).0 (omega arith))
       by a some (suc n) is_there = is_state.each a (omega arith)
+
+-- what a step in turn comes to
+module _ (laws : DoingLaws) (program : Parts) (height : ℕ) (old : Spot) (rule : Rule) (step : LogStep) (ready : IsReadyStep program rule step) (is_state : IsState program.signature old.state) (fits : Fits old.state) (in_turn : IsInTurn program height old rule step) where
+  pub ready_edit : CanEdit old.state (full_instances step.offer.values (used_by rule))
+  ready_edit = can_edit laws program rule step.offer.values ready.typed ready.divided ready.small ready.values old.state is_state in_turn.is_proved.can_take.contained fits
+
+  leads : Step program.signature rule step.offer.values old.state (edited old.state (full_instances step.offer.values (used_by rule)) (full_instances step.offer.values rule.right))
+  leads = edit_steps laws program rule step.offer.values ready.typed ready.divided ready.small ready.values old.state is_state in_turn.is_proved.can_take.contained
+
+  -- it passes a limit
+  pub over_cause : (which : CheckLimit) → IsWeighed old.state (full_instances step.offer.values (used_by rule)) (full_instances step.offer.values rule.right) (Err which) → IsStepCause program height old rule step (OverLimit which)
+  over_cause Atom weighed = (in_turn, weighed)
+  over_cause State weighed = (in_turn, weighed.0, (edited old.state (full_instances step.offer.values (used_by rule)) (full_instances step.offer.values rule.right), leads, weighed.1))
+
+  within : (nodes : ℕ) → IsWeighed old.state (full_instances step.offer.values (used_by rule)) (full_instances step.offer.values rule.right) (Ok nodes) → IsWithinLimits program height old rule step
+  within nodes weighed = record {
+    in_turn = in_turn;
+    fit = weighed.0;
+    new = edited old.state (full_instances step.offer.values (used_by rule)) (full_instances step.offer.values rule.right);
+    leads = leads;
+    fits = weighed.1;
+  }
+
+  -- it is followed by another stage than the rule's
+  pub stage_cause : (nodes : ℕ) (cause : Cause) → IsWeighed old.state (full_instances step.offer.values (used_by rule)) (full_instances step.offer.values rule.right) (Ok nodes) → IsStageCause step.stage rule.next cause → IsStepCause program height old rule step cause
+  stage_cause nodes (StageLine said is) weighed other = (within nodes weighed, other.0, other.1, other.2)
+  stage_cause nodes (StartStage said is) weighed other = other
+  stage_cause nodes (StartState atom said is) weighed other = other
+  stage_cause nodes (OtherStage number) weighed other = absurd other
+  stage_cause nodes (NotContained atom have need) weighed other = absurd other
+  stage_cause nodes (NotProved place) weighed other = absurd other
+  stage_cause nodes (TooHigh place high) weighed other = absurd other
+  stage_cause nodes (NotQuiet offer) weighed other = absurd other
+  stage_cause nodes (OverLimit which) weighed other = absurd other
+  stage_cause nodes NotEnded weighed other = other
+  stage_cause nodes (EndState atom said is) weighed other = other
+
+  -- it is legal
+  pub legal : (nodes stage : ℕ) (state : Multiset) → IsWeighed old.state (full_instances step.offer.values (used_by rule)) (full_instances step.offer.values rule.right) (Ok nodes) → stage ≡ stage_after rule old.stage → state ≡ edited old.state (full_instances step.offer.values (used_by rule)) (full_instances step.offer.values rule.right) → step.stage ≡ rule.next → IsLegalStep program height old (record { stage = stage; state = state }) step
+  legal nodes stage state weighed stage_is state_is said = record {
+    rule = rule;
+    machine = record {
+      numbered = ready.numbered;
+      values = ready.values;
+      in_turn = ⊎_elim (λ own. inl own) (λ leaving. inr (leaving, in_turn.quiet leaving)) in_turn.is_proved.can_take.of_stage;
+      proved = in_turn.is_proved.proved;
+      steps = record {
+        fit = weighed.0;
+        step = subst (Step program.signature rule step.offer.values old.state) (sym state_is) leads;
+        fits = subst Fits (sym state_is) weighed.1;
+        stage = stage_is;
+      };
+    };
+    stage = said;
+  }
+
+  -- and leads to a stage and a state of the program
+  pub walks : (nodes : ℕ) (new : Walk) → length program.stages ≤ MOST_STAGES → old.stage < length program.stages → IsWeighed old.state (full_instances step.offer.values (used_by rule)) (full_instances step.offer.values rule.right) (Ok nodes) → new.stage ≡ stage_after rule old.stage → new.state ≡ edited old.state (full_instances step.offer.values (used_by rule)) (full_instances step.offer.values rule.right) → new.nodes ≡ nodes → IsWalkOf program new
+  walks nodes new few in_range weighed stage_is state_is nodes_is = record {
+    few_stages = few;
+    in_range = subst (λ stage. stage < length program.stages) (sym stage_is) (stage_in_range (length program.stages) old.stage rule.next in_range ready.next);
+    is_state = subst (IsState program.signature) (sym state_is) (edit_leads laws program rule step.offer.values ready.typed ready.divided ready.small ready.values old.state is_state in_turn.is_proved.can_take.contained weighed.0);
+    fits = subst Fits (sym state_is) weighed.1;
+    counted = nodes_is ∙ weighed.2 ∙ ap (λ (bag : Multiset). nodes_in_all bag) (sym state_is);
+  }

@@ -1,24 +1,27 @@
 -- Causes of a step, from what each part of the check finds.
 use Rattle.std.proofs.Common.{◌≡◌, ◌⊎◌, inl, inr, ⊎_elim, ℕ, zero, suc, ◌+◌, ◌*◌, ◌<◌, ◌≤◌, ◌==◌, true, false, List, [], ◌∷◌, length, take, drop, Option, Some, None, refl, sym, ap, subst, ◌∙◌, arith, add-one}
-use Rattle.std.specs.Prelude.{slice_get, ◌/◌, ◌%◌, IsSomeAnd}
+use Rattle.std.specs.Prelude.{slice_get, ◌/◌, ◌%◌, ◌↔◌, IsSome, IfSome, IsSomeAnd}
 use Rattle.std.proofs.lemmas.Bool.{eqb-true, eqb-false}
 use Rattle.std.proofs.lemmas.List.{take_all}
-use Rattle.cep_base.proofs.Lists.{some_same, get_mapped}
+use Rattle.cep_base.proofs.Lists.{some_same, get_mapped, holds_at}
 use Rattle.cep_term.specs.Tree.{Tree, AtomTree, IsFit}
 use Rattle.cep_term.specs.Multiset.{Multiset, gathered, IsContained}
 use Rattle.cep_rule.specs.declared.rule.Rule.{Rule}
 use Rattle.cep_rule.specs.declared.parts.Parts.{Parts}
 use Rattle.cep_rule.specs.Instances.{full_instance, full_instances, left_of}
 use Rattle.cep_rule.specs.Derivations.{ProofTree, by_clause, Proves, proof_height}
+use Rattle.cep_rule.specs.Typing.{AreValues}
+use Rattle.cep_rule.specs.Limits.{IsSmallRule}
+use Rattle.cep_rule.specs.Program.{IsTypedRule, IsDividedRule, IsProgram}
 use Rattle.cep_rule.specs.Stages.{own_group, leaving_group, HasOffer}
 use Rattle.cep_rule.specs.Steps.{Spot, AreProofs}
 use Rattle.cep_log.specs.declared.log.Log.{Log}
 use Rattle.cep_log.specs.declared.log.LogStep.{LogStep}
-use Rattle.cep_log.specs.Legal.{IsLegalStep, AreLegalSteps}
+use Rattle.cep_log.specs.Legal.{IsStepOf, IsLegalStep, AreLegalSteps}
 use Rattle.cep_check.specs.declared.cause.Cause.{Cause}
 use Rattle.cep_check.specs.declared.cause.Cause.TheVariants.{StartStage, StartState, OtherStage, NotContained, NotProved, TooHigh, NotQuiet, OverLimit, StageLine, NotEnded, EndState}
 use Rattle.cep_check.specs.Causes.{IsRuleOf, IsAtPremise, CanTake, IsProvedStep, IsInTurn, IsStepCause, IsRefusedFrom}
-use Rattle.cep_check.specs.Walking.{IsLackCause, IsProofAt, IsOneProofCause, IsProofCause, IsQuietCause}
+use Rattle.cep_check.specs.Walking.{IsReadyStep, IsLackCause, IsProofAt, IsOneProofCause, IsProofCause, IsQuietCause}
 
 -- a rule's group says of which stage it is
 pub of_stage : (stage : ℕ) (rule : Rule) → rule.group / 2 ≡ stage → IsRuleOf stage rule
@@ -130,3 +133,20 @@ only_fit program (by_clause number values subs) a proves = proves.0
 -- the instance of a premise is at the premise's place
 pub instance_at : (values : List Tree) (atoms : List AtomTree) (n : ℕ) (a : AtomTree) → slice_get atoms n ≡ Some a → slice_get (full_instances values atoms) n ≡ Some (full_instance values a)
 instance_at values atoms n a is = get_mapped (full_instance values) atoms n a is
+
+-- what is known of a step of the program
+pub ready : (program : Parts) (rule : Rule) (step : LogStep) → IsProgram program → IsStepOf program step → slice_get program.rules step.offer.rule ≡ Some rule → IsReadyStep program rule step
+ready program rule step kept of_program numbered =
+    let n = step.offer.rule in
+    let same : of_program.rule ≡ rule = some_same of_program.rule rule (sym of_program.numbered ∙ numbered) in
+    record {
+      numbered = numbered;
+      typed = holds_at (IsTypedRule program.signature) program.rules n rule kept.typed_rules numbered;
+      divided = holds_at (IsDividedRule program.signature) program.rules n rule kept.divided_rules numbered;
+      small = holds_at IsSmallRule program.rules n rule kept.small.each_rule numbered;
+      next = holds_at (λ (r : Rule). IfSome r.next (λ stage. stage < length program.stages)) program.rules n rule kept.in_range.next_stages numbered;
+      values = subst (λ (r : Rule). AreValues program.signature.cons r.kinds step.offer.values) same of_program.values;
+      as_many = of_program.as_many ∙ ap (λ (r : Rule). length r.backs) same;
+      low = of_program.low;
+      stage = subst (λ (r : Rule). IsSome step.stage ↔ IsSome r.next) same of_program.stage;
+    }

@@ -1,8 +1,8 @@
 -- Private.
 -- Where the steps of a log have led, and what each part of the check finds.
-use Rattle.std.specs.Prelude.{◌≡◌, ℕ, ◌≤◌, ◌<◌, not, List, length, map, filter, Result, Ok, Err, Option, Some, None, slice_get, IsSomeAnd}
+use Rattle.std.specs.Prelude.{◌≡◌, ◌≢◌, ◌↔◌, ℕ, ◌≤◌, ◌<◌, not, List, length, map, filter, Result, Ok, Err, Option, Some, None, slice_get, IsSome, IfSome, IsSomeAnd}
 use Rattle.std.specs.List.{AllByRecursion}
-use Rattle.cep_base.specs.declared.limits.TheConstants.{MOST_PREMISES, MOST_STAGES}
+use Rattle.cep_base.specs.declared.limits.TheConstants.{MOST_HEIGHT, MOST_PREMISES, MOST_STAGES}
 use Rattle.cep_term.specs.Tree.{AtomTree, IsFit, IsGroundAtom, atom_of}
 use Rattle.cep_term.specs.Multiset.{Multiset, gathered, sum_of, difference_of, nodes_in_all, IsContained, IsBag}
 use Rattle.cep_rule.specs.declared.signature.Signature.{Signature}
@@ -10,6 +10,9 @@ use Rattle.cep_rule.specs.declared.rule.Rule.{Rule}
 use Rattle.cep_rule.specs.declared.parts.Parts.{Parts}
 use Rattle.cep_rule.specs.Instances.{full_instances}
 use Rattle.cep_rule.specs.Derivations.{ProofTree, Proves, proof_height}
+use Rattle.cep_rule.specs.Typing.{AreValues}
+use Rattle.cep_rule.specs.Limits.{IsSmallRule}
+use Rattle.cep_rule.specs.Program.{IsTypedRule, IsDividedRule}
 use Rattle.cep_rule.specs.State.{IsState, Fits}
 use Rattle.cep_rule.specs.Stages.{own_group, leaving_group}
 use Rattle.cep_rule.specs.Steps.{Spot}
@@ -20,7 +23,7 @@ use Rattle.cep_scratch.specs.First.{IsFirstOffer}
 use Rattle.cep_check.specs.declared.cause.CheckLimit.{CheckLimit}
 use Rattle.cep_check.specs.declared.cause.CheckLimit.TheVariants.{Atom, State}
 use Rattle.cep_check.specs.declared.cause.Cause.{Cause}
-use Rattle.cep_check.specs.declared.cause.Cause.TheVariants.{NotContained, NotProved, TooHigh, NotQuiet}
+use Rattle.cep_check.specs.declared.cause.Cause.TheVariants.{NotContained, NotProved, TooHigh, NotQuiet, StageLine}
 use Rattle.cep_check.specs.declared.cause.Verdict.{Verdict}
 use Rattle.cep_check.specs.declared.cause.Verdict.TheVariants.{Accepted, Refused}
 use Rattle.cep_check.specs.declared.walk.Walk.{Walk}
@@ -37,6 +40,18 @@ pub record IsWalkOf (program : Parts) (walk : Walk) : Type 0 where
   pub is_state : IsState program.signature walk.state
   pub fits : Fits walk.state
   pub counted : walk.nodes ≡ nodes_in_all walk.state
+
+-- What is known of a step that is of the program, and of its rule.
+pub record IsReadyStep (program : Parts) (rule : Rule) (step : LogStep) : Type 0 where
+  pub numbered : slice_get program.rules step.offer.rule ≡ Some rule
+  pub typed : IsTypedRule program.signature rule
+  pub divided : IsDividedRule program.signature rule
+  pub small : IsSmallRule rule
+  pub next : IfSome rule.next (λ stage. stage < length program.stages)
+  pub values : AreValues program.signature.cons rule.kinds step.offer.values
+  pub as_many : length step.proofs ≡ length rule.backs
+  pub low : AllByRecursion (λ proof. proof_height proof ≤ MOST_HEIGHT) step.proofs
+  pub stage : IsSome step.stage ↔ IsSome rule.next
 
 -- the atoms of the premises that are not kept
 abbrev pub used_by : Rule → List AtomTree
@@ -86,6 +101,11 @@ IsProofCause program height proofs goals cause = ⊥
 abbrev pub IsQuietCause : Parts → ℕ → Spot → Rule → Cause → Type 0
 IsQuietCause program height old rule (NotQuiet offer) = (rule.group ≡ leaving_group old.stage) × IsFirstOffer program height old.state (own_group old.stage) offer
 IsQuietCause program height old rule cause = ⊥
+
+-- The cause is that another stage is said than is named.
+abbrev pub IsStageCause : Option ℕ → Option ℕ → Cause → Type 0
+IsStageCause said named (StageLine one other) = (said ≡ Some one) × (named ≡ Some other) × (one ≢ other)
+IsStageCause said named cause = ⊥
 
 -- The cause is that of a step from this spot, by the rule that its offer names.
 abbrev pub IsStepCauseOf : Parts → ℕ → Spot → LogStep → Cause → Type 0

@@ -1,4 +1,4 @@
-ghost use Rattle.std.specs.Prelude.{◌≡◌, ◌≤◌, ◌<◌, length, IfOk, MatchOption, Some, slice_get};
+ghost use Rattle.std.specs.Prelude.{◌≡◌, ◌↔◌, ◌≤◌, length, IfOk, MatchOption, IsSome};
 ghost use Rattle.std.specs.List.{AllByRecursion};
 ghost use Rattle.cep_base.specs.declared.limits.TheConstants.{MOST_PREMISES};
 ghost use Rattle.cep_term.specs.Tree.{IsAtomInRange, IsGroundAtom};
@@ -9,7 +9,7 @@ ghost use Rattle.cep_rule.specs.Limits.{IsHeight};
 ghost use Rattle.cep_rule.specs.Stages.{HasOffer, own_group, leaving_group};
 ghost use Rattle.cep_log.specs.Legal.{IsStepOf, IsLegalStep};
 ghost use Rattle.cep_check.specs.Causes.{IsRuleOf, IsInTurn, IsStepCause};
-ghost use Rattle.cep_check.specs.Walking.{spot_of, IsWalkOf, IsLackCause, IsQuietCause, IsStepCauseOf};
+ghost use Rattle.cep_check.specs.Walking.{spot_of, IsWalkOf, IsReadyStep, IsLackCause, IsQuietCause, IsStageCause, IsStepCauseOf};
 
 use crate::cause::Cause;
 use crate::counts::first_lack;
@@ -19,8 +19,10 @@ use crate::premises::first_failure;
 use crate::walk::Walk;
 use cep_base::Steps;
 use cep_log::LogStep;
+use cep_rule::laws::{sides_are_bags, steps_can_be_told_by_counts, types_are_lawful};
 use cep_rule::{Program, Rule, Terms};
 use cep_scratch::applies_any;
+use cep_term::laws::bags_are_lawful;
 use cep_term::{Bag, copy};
 use std::alloc::{AllocError, Global};
 use std::sync::ledger::Ledger;
@@ -61,14 +63,14 @@ fn cause_before<L: Ledger>(
     steps: &mut Steps<L>,
 ) -> Result<Option<Cause>, AllocError>
     requires height { IsHeight height }
-    requires of_program { IsStepOf program.now step.now }
-    requires rule { slice_get program.now.rules step.now.offer.rule ≡ Some rule.now }
+    requires ready { IsReadyStep program.now rule.now step.now }
     requires walk { IsWalkOf program.now walk.now }
     ensures cause { IfOk result (λ cause. MatchOption cause
         (IsInTurn program.now height (spot_of walk.now) rule.now step.now)
         (IsStepCause program.now height (spot_of walk.now) rule.now step.now)) }
     ensures never_falls { steps.old ≤ steps.new }
 {
+    types_are_lawful();
     let offer = &step.offer;
     if rule.group / 2 != walk.stage {
         return Ok(Some(Cause::OtherStage { rule: offer.rule }));
@@ -144,27 +146,48 @@ fn change(
     walk: &mut Walk,
 ) -> Result<Option<Cause>, AllocError>
     requires in_turn { IsInTurn program.now height (spot_of walk.old) rule.now step.now }
-    requires of_program { IsStepOf program.now step.now }
-    requires rule { slice_get program.now.rules step.now.offer.rule ≡ Some rule.now }
+    requires ready { IsReadyStep program.now rule.now step.now }
     requires walk { IsWalkOf program.now walk.old }
     ensures cause { IfOk result (λ cause. MatchOption cause
         (IsLegalStep program.now height (spot_of walk.old) (spot_of walk.new) step.now)
         (IsStepCause program.now height (spot_of walk.old) rule.now step.now)) }
     ensures walk { IfOk result (λ cause. MatchOption cause (IsWalkOf program.now walk.new) (λ _. Unit {0})) }
 {
+    bags_are_lawful();
+    types_are_lawful();
+    sides_are_bags();
+    steps_can_be_told_by_counts();
     let values = &step.offer.values;
     let used = used_atoms(alloc, rule, values)?;
     let nodes = match weigh(&rule.right, values, &used, &walk.state, walk.nodes) {
         Ok(nodes) => nodes,
         Err(which) => return Ok(Some(Cause::OverLimit { which })),
     };
-    if let (Some(said), Some(is)) = (step.stage, rule.next) {
-        if said != is {
-            return Ok(Some(Cause::StageLine { said, is }));
-        }
-        walk.stage = is;
+    if let Some(cause) = stage_cause(step.stage, rule.next) {
+        return Ok(Some(cause));
     }
     edit(alloc, &mut walk.state, &used, &rule.right, values)?;
+    walk.stage = rule.next.unwrap_or(walk.stage);
     walk.nodes = nodes;
     Ok(None)
+}
+
+// Whether the stage that is said is another than the one that the rule names.
+fn stage_cause(said: Option<u32>, named: Option<u32>) -> Option<Cause>
+    requires { IsSome said ↔ IsSome named }
+    ensures { MatchOption result (said ≡ named) (IsStageCause said named) }
+{
+    match named {
+        None => None,
+        Some(is) => match said {
+            None => None,
+            Some(said) => {
+                if said == is {
+                    None
+                } else {
+                    Some(Cause::StageLine { said, is })
+                }
+            }
+        },
+    }
 }

@@ -7,7 +7,7 @@ use Rattle.cep_check.proofs.Steps.{proofs_more, proofs_all, proof_cause, instanc
 use Rattle.cep_check.proofs.premises.first_failure.Goals as goal
 
 pub loop-i-preserved : goal.loop-i-preserved
-loop-i-preserved c = proofs_more c.args.program.now c.args.most c.args.proofs.now (full_instances c.args.values.now c.args.backs.now) c.loop-i.i (proof_of c.get-proof.result.now) (full_instance c.args.values.now (atom_of c.get-back.result.now)) c.loop-i.invariant c.get-proof.ensures (instance_at c.args.values.now c.args.backs.now c.loop-i.i (atom_of c.get-back.result.now) c.get-back.ensures) ?
+loop-i-preserved c = proofs_more c.args.program.now c.args.most c.args.proofs.now (full_instances c.args.values.now c.args.backs.now) c.loop-i.i (proof_of c.get-proof.result.now) (full_instance c.args.values.now (atom_of c.get-back.result.now)) c.loop-i.invariant c.get-proof.ensures (instance_at c.args.values.now c.args.backs.now c.loop-i.i (atom_of c.get-back.result.now) c.get-back.ensures) (rw c.in_default.is at c.in_ok-cause.ensures)
 
 pub returns-in-Some : goal.returns-in-Some
 returns-in-Some c = proof_cause c.args.program.now c.args.most c.args.proofs.now (full_instances c.args.values.now c.args.backs.now) c.loop-i.i (c.loop-i.i + 1) (proof_of c.get-proof.result.now) (full_instance c.args.values.now (atom_of c.get-back.result.now)) c.in-Some.cause refl c.loop-i.invariant c.get-proof.ensures (instance_at c.args.values.now c.args.backs.now c.loop-i.i (atom_of c.get-back.result.now) c.get-back.ensures) (rw c.in-Some.is at c.in_ok-cause.ensures)
