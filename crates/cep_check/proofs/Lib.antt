@@ -7,3 +7,4 @@ pub mod Steps
 pub mod Options
 pub mod Weights
 pub mod Told
+pub mod Verdicts

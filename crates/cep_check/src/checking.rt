@@ -1,7 +1,8 @@
 ghost use Rattle.std.specs.Prelude.{◌≡◌, ◌≤◌, IfOk, MatchOption};
 ghost use Rattle.std.specs.FinMap as finite;
+ghost use Rattle.cep_log.specs.declared.log.TheConstants.{MOST_TRANSCRIPT};
 ghost use Rattle.cep_log.specs.Legal.{IsLogOf, start_spot, AreLegalSteps};
-ghost use Rattle.cep_check.specs.Causes.{IsStartCause, IsVerdict};
+ghost use Rattle.cep_check.specs.Causes.{IsStartCause, end_line, IsVerdict};
 ghost use Rattle.cep_check.specs.Walking.{spot_of, IsWalkOf, AreStepsDone, IsEndVerdict};
 
 use crate::cause::{Cause, Verdict};
@@ -105,9 +106,20 @@ fn finish<L: Ledger>(
         None => Ok(Verdict::Accepted {
             steps: log.steps.len() as u32,
         }),
-        Some(cause) => {
-            let line = log.end.as_ref().map_or(log.lines + 1, |end| end.line);
-            Ok(Verdict::Refused { line, cause })
-        }
+        Some(cause) => Ok(Verdict::Refused {
+            line: end_line(log),
+            cause,
+        }),
+    }
+}
+
+// The line of the end, and where there is none the one behind the last.
+fn end_line(log: &Log) -> u32
+    requires { log.now.lines ≤ MOST_TRANSCRIPT }
+    ensures { result ≡ end_line log.now log.now.end }
+{
+    match &log.end {
+        None => log.lines + 1,
+        Some(end) => end.line,
     }
 }
