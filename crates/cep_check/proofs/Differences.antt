@@ -1,7 +1,6 @@
 -- The first atom of which a listing says another count than a state has, and the first that lacks.
-use Rattle.std.proofs.Common.{◌≡◌, ◌≢◌, ◌⊎◌, inl, inr, ⊎_elim, ℕ, zero, suc, ◌+◌, ◌-◌, ◌<◌, ◌≤◌, ◌==◌, true, false, List, [], ◌∷◌, length, Some, None, Contains, refl, sym, ap, subst, ◌∙◌, arith, Less, Equal, Greater}
+use Rattle.std.proofs.Common.{◌≡◌, ◌⊎◌, inl, inr, ⊎_elim, ℕ, zero, suc, ◌+◌, ◌-◌, ◌<◌, ◌≤◌, ◌==◌, true, false, List, [], ◌∷◌, length, Some, Contains, refl, sym, ap, subst, ◌∙◌, arith, Less, Equal, Greater}
 use Rattle.std.specs.Prelude.{slice_get, nat_lt}
-use Rattle.std.specs.List.{AllByRecursion}
 use Rattle.std.specs.Ordering.{ordering_reverse}
 use Rattle.std.specs.FinMap.{len-entries}
 use Rattle.std.specs.FinMap as finite
@@ -62,11 +61,11 @@ module _ (laws : BagLaws) where
   not_below xs rises place x y n at low j a m behind there less = ⊎_elim
       (λ (after : place < j). not_itself a (laws.total.trans a y a below_y (rises place j y a n m after at there)))
       (λ either. ⊎_elim
-        (λ (here : place ≡ j).
-          let same : y ≡ a = ap (λ (e : AtomTree × ℕ). e.0) (some_same (y, n) (a, m) (sym at ∙ ap (slice_get xs) here ∙ there)) in
-          not_itself a (subst (λ b. atom_cmp a b ≡ Less) same below_y))
-        (λ (before : j < place). absurd (omega arith))
-        either)
+      (λ (here : place ≡ j).
+      let same : y ≡ a = ap (λ (e : AtomTree × ℕ). e.0) (some_same (y, n) (a, m) (sym at ∙ ap (slice_get xs) here ∙ there)) in
+      not_itself a (subst (λ b. atom_cmp a b ≡ Less) same below_y))
+      (λ (before : j < place). absurd (omega arith))
+      either)
       (three_ways place j)
     where
       below_y : atom_cmp a y ≡ Less
@@ -77,11 +76,11 @@ module _ (laws : BagLaws) where
   not_from xs rises place x y n at less j m behind there = ⊎_elim
       (λ (after : place < j). not_itself x (laws.total.trans x y x less (rises place j y x n m after at there)))
       (λ either. ⊎_elim
-        (λ (here : place ≡ j).
-          let same : y ≡ x = ap (λ (e : AtomTree × ℕ). e.0) (some_same (y, n) (x, m) (sym at ∙ ap (slice_get xs) here ∙ there)) in
-          not_itself x (subst (λ b. atom_cmp x b ≡ Less) same less))
-        (λ (before : j < place). absurd (omega arith))
-        either)
+      (λ (here : place ≡ j).
+      let same : y ≡ x = ap (λ (e : AtomTree × ℕ). e.0) (some_same (y, n) (x, m) (sym at ∙ ap (slice_get xs) here ∙ there)) in
+      not_itself x (subst (λ b. atom_cmp x b ≡ Less) same less))
+      (λ (before : j < place). absurd (omega arith))
+      either)
       (three_ways place j)
 
   entries_rise : (state : Multiset) → Rises (finite.entries state)
@@ -95,27 +94,29 @@ module _ (laws : BagLaws) where
   ] refl
 
   module _ (signature : Signature) (listing : List (AtomTree × ℕ)) (is : IsListing signature listing) (state : Multiset) (place : ℕ) (below : AgreeBelow place listing state) where
-
     -- atoms below one that no later place goes below are told alike
     alike_before : (x : AtomTree) → ((j : ℕ) (a : AtomTree) (m : ℕ) → place ≤ j → slice_get listing j ≡ Some (a, m) → atom_cmp a x ≡ Less → ⊥) → ((j : ℕ) (a : AtomTree) (m : ℕ) → place ≤ j → slice_get (finite.entries state) j ≡ Some (a, m) → atom_cmp a x ≡ Less → ⊥) → (a : AtomTree) → atom_cmp a x ≡ Less → Says listing a (count_of state a)
     alike_before x listed there a less = elim (nat_lt 0 (count_of state a)) as (λ t. nat_lt 0 (count_of state a) ≡ t → Says listing a (count_of state a)) [
       | true ↦ λ e.
-        let at = laws.entry_there state a (ltb-true 0 (count_of state a) e) in
-        ⊎_elim
-            (λ (before : at.0 < place). inl (contains_at listing at.0 (a, count_of state a) (below at.0 before ∙ at.1)))
-            (λ (behind : (at.0 ≡ place) ⊎ (place < at.0)). absurd (there at.0 a (count_of state a) (not_before at.0 behind) at.1 less))
-            (three_ways at.0 place)
-      | false ↦ λ e.
-        let low = ltb-false 0 (count_of state a) e in
-        inr ((omega arith), λ other there'.
-          let at = place_in listing (a, other) there' in
+          let at = laws.entry_there state a (ltb-true 0 (count_of state a) e) in
           ⊎_elim
-            (λ (before : at.0 < place).
-              let count : count_of state a ≡ other = laws.entry_counted state at.0 a other (sym (below at.0 before) ∙ at.1) in
-              let some = (holds_at (IsHave signature) listing at.0 (a, other) is.each at.1).some in
-              absurd (omega arith))
-            (λ (behind : (at.0 ≡ place) ⊎ (place < at.0)). listed at.0 a other (not_before at.0 behind) at.1 less)
-            (three_ways at.0 place))
+          (λ (before : at.0 < place). inl (contains_at listing at.0 (a, count_of state a) (below at.0 before ∙ at.1)))
+          (λ (behind : (at.0 ≡ place) ⊎ (place < at.0)). absurd (there at.0 a (count_of state a) (not_before at.0 behind) at.1 less))
+          (three_ways at.0 place)
+      | false ↦ λ e.
+          let low = ltb-false 0 (count_of state a) e in
+          inr (
+            (omega arith),
+            λ other there'.
+                let at = place_in listing (a, other) there' in
+                ⊎_elim
+                (λ (before : at.0 < place).
+                let count : count_of state a ≡ other = laws.entry_counted state at.0 a other (sym (below at.0 before) ∙ at.1) in
+                let some = (holds_at (IsHave signature) listing at.0 (a, other) is.each at.1).some in
+                absurd (omega arith))
+                (λ (behind : (at.0 ≡ place) ⊎ (place < at.0)). listed at.0 a other (not_before at.0 behind) at.1 less)
+                (three_ways at.0 place),
+          )
     ] refl
       where
         not_before : (j : ℕ) → (j ≡ place) ⊎ (place < j) → place ≤ j
@@ -123,19 +124,22 @@ module _ (laws : BagLaws) where
 
     -- an entry that the listing does not have behind here it does not have at all
     unlisted : (x : AtomTree) (n : ℕ) → slice_get (finite.entries state) place ≡ Some (x, n) → ((j : ℕ) (m : ℕ) → place ≤ j → slice_get listing j ≡ Some (x, m) → ⊥) → Says listing x 0
-    unlisted x n at none = inr (refl, λ other there.
-      let found = place_in listing (x, other) there in
-      ⊎_elim
-        (λ (before : found.0 < place). not_itself x (entries_rise state found.0 place x x other n before (sym (below found.0 before) ∙ found.1) at))
-        (λ (behind : (found.0 ≡ place) ⊎ (place < found.0)). none found.0 other (⊎_elim (λ (here : found.0 ≡ place). omega arith) (λ (after : place < found.0). omega arith) behind) found.1)
-        (three_ways found.0 place))
+    unlisted x n at none = inr (
+      refl,
+      λ other there.
+          let found = place_in listing (x, other) there in
+          ⊎_elim
+          (λ (before : found.0 < place). not_itself x (entries_rise state found.0 place x x other n before (sym (below found.0 before) ∙ found.1) at))
+          (λ (behind : (found.0 ≡ place) ⊎ (place < found.0)). none found.0 other (⊎_elim (λ (here : found.0 ≡ place). omega arith) (λ (after : place < found.0). omega arith) behind) found.1)
+          (three_ways found.0 place),
+    )
 
     -- and a line whose atom the state does not have behind here is of an atom that is not there
     not_there : (x : AtomTree) (n : ℕ) → slice_get listing place ≡ Some (x, n) → ((j : ℕ) (m : ℕ) → place ≤ j → slice_get (finite.entries state) j ≡ Some (x, m) → ⊥) → 0 ≡ count_of state x
     not_there x n at none = no_entry state x (λ j m there. ⊎_elim
-      (λ (before : j < place). not_itself x (listing_rises listing is.rising j place x x m n before (below j before ∙ there) at))
-      (λ (behind : (j ≡ place) ⊎ (place < j)). none j m (⊎_elim (λ (here : j ≡ place). omega arith) (λ (after : place < j). omega arith) behind) there)
-      (three_ways j place))
+        (λ (before : j < place). not_itself x (listing_rises listing is.rising j place x x m n before (below j before ∙ there) at))
+        (λ (behind : (j ≡ place) ⊎ (place < j)). none j m (⊎_elim (λ (here : j ≡ place). omega arith) (λ (after : place < j). omega arith) behind) there)
+        (three_ways j place))
 
     beyond : {P : Type 0} (xs : List (AtomTree × ℕ)) (j : ℕ) (e : AtomTree × ℕ) → length xs ≤ place → place ≤ j → slice_get xs j ≡ Some e → P
     beyond xs j e short behind there = let within = slice_get_within xs j e there in absurd (omega arith)
@@ -220,16 +224,16 @@ module _ (laws : BagLaws) (needed state : Multiset) where
   pub enough_more : (n : ℕ) (x : AtomTree) (m : ℕ) → slice_get (finite.entries needed) n ≡ Some (x, m) → m ≤ count_of state x → EnoughBelow n needed state → EnoughBelow (n + 1) needed state
   enough_more n x m at enough below = λ place a k within there. elim (place == n) as (λ t. (place == n) ≡ t → k ≤ count_of state a) [
     | true ↦ λ e.
-      let same = some_same (x, m) (a, k) (sym at ∙ ap (slice_get (finite.entries needed)) (sym (eqb-true place n e)) ∙ there) in
-      subst (λ (entry : AtomTree × ℕ). entry.1 ≤ count_of state entry.0) same enough
+        let same = some_same (x, m) (a, k) (sym at ∙ ap (slice_get (finite.entries needed)) (sym (eqb-true place n e)) ∙ there) in
+        subst (λ (entry : AtomTree × ℕ). entry.1 ≤ count_of state entry.0) same enough
     | false ↦ λ e. let apart = eqb-false place n e in below place a k (omega arith) there
   ] refl
 
   enough_of : (n : ℕ) → EnoughBelow n needed state → (a : AtomTree) → ((j : ℕ) (m : ℕ) → n ≤ j → slice_get (finite.entries needed) j ≡ Some (a, m) → ⊥) → count_of needed a ≤ count_of state a
   enough_of n below a none = elim (nat_lt 0 (count_of needed a)) as (λ t. nat_lt 0 (count_of needed a) ≡ t → count_of needed a ≤ count_of state a) [
     | true ↦ λ e.
-      let at = laws.entry_there needed a (ltb-true 0 (count_of needed a) e) in
-      ⊎_elim
+        let at = laws.entry_there needed a (ltb-true 0 (count_of needed a) e) in
+        ⊎_elim
         (λ (before : at.0 < n). below at.0 a (count_of needed a) before at.1)
         (λ (behind : (at.0 ≡ n) ⊎ (n < at.0)). absurd (none at.0 (count_of needed a) (⊎_elim (λ (here : at.0 ≡ n). omega arith) (λ (after : n < at.0). omega arith) behind) at.1))
         (three_ways at.0 n)
@@ -248,6 +252,6 @@ module _ (laws : BagLaws) (needed state : Multiset) where
   -- where none lacks, all are there
   pub enough_all : (n : ℕ) → finite.len needed ≤ n → EnoughBelow n needed state → IsContained needed state
   enough_all n all below = λ a. enough_of n below a (λ j m behind there.
-    let within = slice_get_within (finite.entries needed) j (a, m) there in
-    let same = len-entries needed in
-    omega arith)
+      let within = slice_get_within (finite.entries needed) j (a, m) there in
+      let same = len-entries needed in
+      omega arith)

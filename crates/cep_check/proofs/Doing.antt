@@ -1,14 +1,14 @@
 -- What a step of a log does to where the steps have led.
-use Rattle.std.proofs.Common.{◌≡◌, ◌⊎◌, inl, inr, ⊎_elim, ℕ, zero, suc, ◌+◌, ◌-◌, ◌*◌, ◌<◌, ◌≤◌, true, false, not, cond, List, [], ◌∷◌, ◌++◌, length, map, Option, Some, None, unwrap_or, refl, sym, ap, subst, ◌∙◌, arith, Contains, Ok, Err}
-use Rattle.std.specs.Prelude.{slice_get, filter, IfSome, IsSome, Result, ◌↔◌, ◌/◌, ◌%◌}
+use Rattle.std.proofs.Common.{◌≡◌, inl, inr, ⊎_elim, ℕ, zero, suc, ◌+◌, ◌<◌, ◌≤◌, true, false, not, cond, List, [], ◌∷◌, length, map, Option, Some, None, unwrap_or, refl, sym, ap, subst, ◌∙◌, arith, Ok, Err}
+use Rattle.std.specs.Prelude.{filter, IfSome, ◌↔◌}
 use Rattle.std.specs.List.{AllByRecursion}
 use Rattle.std.proofs.lemmas.List.{map-append, length-map}
-use Rattle.cep_base.specs.declared.limits.TheConstants.{MOST_PREMISES, MOST_RIGHT, MOST_STAGES}
-use Rattle.cep_base.proofs.Elements.{both_all, all_at, all_of}
-use Rattle.cep_base.proofs.Lists.{some_same, holds_at, all_weaker, all_mapped}
+use Rattle.cep_base.specs.declared.limits.TheConstants.{MOST_STAGES}
+use Rattle.cep_base.proofs.Elements.{all_at, all_of}
+use Rattle.cep_base.proofs.Lists.{all_weaker, all_mapped}
 use Rattle.cep_term.specs.BagLaws.{BagLaws}
 use Rattle.cep_term.specs.Tree.{Tree, AtomTree, IsGroundAtom, IsFit, IsAtomInRange}
-use Rattle.cep_term.specs.Multiset.{Multiset, count_of, gathered, difference_of, sum_of, copies_in, nodes_in_all, IsContained, IsBag}
+use Rattle.cep_term.specs.Multiset.{Multiset, count_of, gathered, difference_of, nodes_in_all, IsContained, IsBag}
 use Rattle.cep_rule.specs.declared.signature.Signature.{Signature}
 use Rattle.cep_rule.specs.declared.rule.Rule.{Rule}
 use Rattle.cep_rule.specs.declared.parts.Parts.{Parts}
@@ -18,7 +18,7 @@ use Rattle.cep_rule.specs.TypeLaws.{TypeLaws}
 use Rattle.cep_rule.specs.Binding.{needed_of}
 use Rattle.cep_rule.specs.State.{IsStateAtom, IsState, Fits}
 use Rattle.cep_rule.specs.Instances.{full_instance, full_instances, kept_of, left_of, right_of}
-use Rattle.cep_rule.specs.Program.{IsTypedRule, IsDividedRule, IsProgram}
+use Rattle.cep_rule.specs.Program.{IsTypedRule, IsDividedRule}
 use Rattle.cep_rule.specs.Limits.{IsSmallRule}
 use Rattle.cep_rule.specs.Step.{Step, StepsByCounts}
 use Rattle.cep_rule.specs.Steps.{Spot, stage_after}
@@ -130,9 +130,9 @@ module _ (laws : DoingLaws) (program : Parts) (rule : Rule) (values : List Tree)
         let sum = laws.bags.sum (difference_of state (gathered (full_instances values (used_by rule)))) (gathered (full_instances values rule.right)) a in
         let less = laws.bags.difference state (gathered (full_instances values (used_by rule))) a in
         let right : count_of (right_of program.signature rule values) a ≡ count_of (gathered (full_instances values rule.right)) a + count_of (gathered (full_instances values (kept_among rule.premises))) a =
-            ap (λ atoms. count_of (gathered atoms) a) (map-append (full_instance values) rule.right (kept_of rule))
-            ∙ ap (λ bag. count_of bag a) (laws.bags.gathered_joined (full_instances values rule.right) (full_instances values (kept_of rule)) right_ground (all_kept IsGroundAtom values rule.premises needed_ground))
-            ∙ laws.bags.sum (gathered (full_instances values rule.right)) (gathered (full_instances values (kept_of rule))) a in
+        ap (λ atoms. count_of (gathered atoms) a) (map-append (full_instance values) rule.right (kept_of rule))
+        ∙ ap (λ bag. count_of bag a) (laws.bags.gathered_joined (full_instances values rule.right) (full_instances values (kept_of rule)) right_ground (all_kept IsGroundAtom values rule.premises needed_ground))
+        ∙ laws.bags.sum (gathered (full_instances values rule.right)) (gathered (full_instances values (kept_of rule))) a in
         omega arith;
   })
 

@@ -1,6 +1,6 @@
 -- A log that is refused is not legal.
-use Rattle.std.proofs.Common.{◌≡◌, ◌⊎◌, inl, inr, ⊎_elim, ℕ, zero, suc, ◌+◌, ◌*◌, ◌<◌, ◌≤◌, List, [], ◌∷◌, Some, None, refl, sym, ap, subst, ◌∙◌, arith, Contains}
-use Rattle.std.specs.Prelude.{slice_get, Option, IsSomeAnd, unwrap_or}
+use Rattle.std.proofs.Common.{◌≡◌, inl, inr, ⊎_elim, ℕ, zero, suc, ◌+◌, ◌≤◌, List, [], ◌∷◌, Some, None, sym, ap, subst, ◌∙◌, arith, Contains}
+use Rattle.std.specs.Prelude.{slice_get, Option, IsSomeAnd}
 use Rattle.std.specs.FinMap as finite
 use Rattle.cep_base.proofs.Elements.{contains_at}
 use Rattle.cep_base.proofs.Lists.{some_same}
@@ -10,7 +10,6 @@ use Rattle.cep_term.specs.Multiset.{Multiset, count_of, IsContained}
 use Rattle.cep_rule.specs.declared.signature.Signature.{Signature}
 use Rattle.cep_rule.specs.declared.rule.Rule.{Rule}
 use Rattle.cep_rule.specs.declared.parts.Parts.{Parts}
-use Rattle.cep_rule.specs.declared.offer.Offer.{Offer}
 use Rattle.cep_rule.specs.Instances.{full_instances, left_of}
 use Rattle.cep_rule.specs.Derivations.{ProofTree, Proves, proof_height}
 use Rattle.cep_rule.specs.State.{Fits}

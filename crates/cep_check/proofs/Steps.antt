@@ -1,26 +1,25 @@
 -- Causes of a step, from what each part of the check finds.
-use Rattle.std.proofs.Common.{◌≡◌, ◌⊎◌, inl, inr, ⊎_elim, ℕ, zero, suc, ◌+◌, ◌*◌, ◌<◌, ◌≤◌, ◌==◌, true, false, List, [], ◌∷◌, length, take, drop, Option, Some, None, refl, sym, ap, subst, ◌∙◌, arith, add-one}
-use Rattle.std.specs.Prelude.{slice_get, ◌/◌, ◌%◌, ◌↔◌, IsSome, IfSome, IsSomeAnd}
+use Rattle.std.proofs.Common.{◌≡◌, inl, inr, ⊎_elim, ℕ, zero, suc, ◌+◌, ◌<◌, ◌≤◌, ◌==◌, true, false, List, [], ◌∷◌, length, take, drop, Some, refl, sym, ap, subst, ◌∙◌, arith, add-one}
+use Rattle.std.specs.Prelude.{slice_get, ◌/◌, ◌%◌, ◌↔◌, IsSome, IfSome}
 use Rattle.std.proofs.lemmas.Bool.{eqb-true, eqb-false}
 use Rattle.std.proofs.lemmas.List.{take_all}
 use Rattle.cep_base.proofs.Lists.{some_same, get_mapped, holds_at}
 use Rattle.cep_term.specs.Tree.{Tree, AtomTree, IsFit}
-use Rattle.cep_term.specs.Multiset.{Multiset, gathered, IsContained}
 use Rattle.cep_rule.specs.declared.rule.Rule.{Rule}
 use Rattle.cep_rule.specs.declared.parts.Parts.{Parts}
 use Rattle.cep_rule.specs.Instances.{full_instance, full_instances, left_of}
-use Rattle.cep_rule.specs.Derivations.{ProofTree, by_clause, Proves, proof_height}
+use Rattle.cep_rule.specs.Derivations.{ProofTree, by_clause, Proves}
 use Rattle.cep_rule.specs.Typing.{AreValues}
 use Rattle.cep_rule.specs.Limits.{IsSmallRule}
 use Rattle.cep_rule.specs.Program.{IsTypedRule, IsDividedRule, IsProgram}
-use Rattle.cep_rule.specs.Stages.{own_group, leaving_group, HasOffer}
+use Rattle.cep_rule.specs.Stages.{own_group, leaving_group}
 use Rattle.cep_rule.specs.Steps.{Spot, AreProofs}
 use Rattle.cep_log.specs.declared.log.Log.{Log}
 use Rattle.cep_log.specs.declared.log.LogStep.{LogStep}
 use Rattle.cep_log.specs.Legal.{IsStepOf, IsLegalStep, AreLegalSteps}
 use Rattle.cep_check.specs.declared.cause.Cause.{Cause}
 use Rattle.cep_check.specs.declared.cause.Cause.TheVariants.{StartStage, StartState, OtherStage, NotContained, NotProved, TooHigh, NotQuiet, OverLimit, StageLine, NotEnded, EndState}
-use Rattle.cep_check.specs.Causes.{IsRuleOf, IsAtPremise, CanTake, IsProvedStep, IsInTurn, IsStepCause, IsRefusedFrom}
+use Rattle.cep_check.specs.Causes.{IsRuleOf, CanTake, IsProvedStep, IsStepCause, IsRefusedFrom}
 use Rattle.cep_check.specs.Walking.{IsReadyStep, IsLackCause, IsProofAt, IsOneProofCause, IsProofCause, IsQuietCause}
 
 -- a rule's group says of which stage it is

@@ -1,15 +1,14 @@
 -- Copies and nodes of a state that is edited.
-use Rattle.std.proofs.Common.{◌≡◌, ℕ, ◌+◌, ◌-◌, ◌*◌, ◌<◌, ◌≤◌, List, [], ◌∷◌, ◌++◌, length, take, Some, sym, ap, subst, ◌∙◌, arith}
+use Rattle.std.proofs.Common.{◌≡◌, ℕ, ◌+◌, ◌≤◌, List, [], ◌∷◌, length, take, Some, sym, ap, subst, ◌∙◌, arith}
 use Rattle.std.specs.Prelude.{slice_get, sum_by}
 use Rattle.std.specs.List.{AllByRecursion}
-use Rattle.std.proofs.lemmas.List.Sums.{sum_by_push, sum_by-cons}
+use Rattle.std.proofs.lemmas.List.Sums.{sum_by_push}
 use Rattle.cep_base.proofs.Elements.{both_all}
 use Rattle.cep_base.proofs.Lists.{take_next}
 use Rattle.cep_term.specs.BagLaws.{BagLaws}
 use Rattle.cep_term.specs.Tree.{Tree, AtomTree, IsFit, atom_nodes}
-use Rattle.cep_term.specs.Multiset.{Multiset, gathered, sum_of, difference_of, copies_in, nodes_in_all, IsBag}
+use Rattle.cep_term.specs.Multiset.{Multiset, gathered, sum_of, difference_of, copies_in, nodes_in_all}
 use Rattle.cep_rule.specs.Instances.{full_instance, full_instances}
-use Rattle.cep_rule.specs.State.{Fits}
 use Rattle.cep_check.specs.Walking.{edited, CanEdit}
 use Rattle.cep_check.proofs.Parted.{next_instances}
 

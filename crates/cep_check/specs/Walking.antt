@@ -5,10 +5,8 @@ use Rattle.std.specs.List.{AllByRecursion}
 use Rattle.cep_base.specs.declared.limits.TheConstants.{MOST_HEIGHT, MOST_PREMISES, MOST_STAGES}
 use Rattle.cep_term.specs.Tree.{AtomTree, IsFit, IsGroundAtom, atom_of}
 use Rattle.cep_term.specs.Multiset.{Multiset, gathered, sum_of, difference_of, nodes_in_all, IsContained, IsBag}
-use Rattle.cep_rule.specs.declared.signature.Signature.{Signature}
 use Rattle.cep_rule.specs.declared.rule.Rule.{Rule}
 use Rattle.cep_rule.specs.declared.parts.Parts.{Parts}
-use Rattle.cep_rule.specs.Instances.{full_instances}
 use Rattle.cep_rule.specs.Derivations.{ProofTree, Proves, proof_height}
 use Rattle.cep_rule.specs.Typing.{AreValues}
 use Rattle.cep_rule.specs.Limits.{IsSmallRule}

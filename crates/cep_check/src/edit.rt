@@ -29,11 +29,7 @@ pub(crate) fn needed_atoms(
 }
 
 // The instances of the premises that are not kept.
-pub(crate) fn used_atoms(
-    alloc: Global,
-    rule: &Rule,
-    values: &Terms,
-) -> Result<AtomList, AllocError>
+pub(crate) fn used_atoms(alloc: Global, rule: &Rule, values: &Terms) -> Result<AtomList, AllocError>
     requires { AllByRecursion (IsAtomInRange (length values.now)) (needed_of rule.now) }
     ensures { IfOk result (λ atoms. atoms ≡ full_instances values.now (used_by rule.now)) }
 {

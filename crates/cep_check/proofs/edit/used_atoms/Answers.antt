@@ -13,11 +13,11 @@ instance-requires c = holds_at_mapped (IsAtomInRange (length c.args.values.now))
 pub loop-i-preserved : goal.loop-i-preserved
 loop-i-preserved c = elim c.if-not-premise.branch [
   | then-not-premise+in_ok-instance+in_ok-push w ↦
-    w.atoms-is
-    ∙ w.in_ok-push.ensures.ok
-    ∙ ap (λ (a : AtomTree). c.loop-i.atoms ++ a ∷ []) w.in_ok-instance.ensures
-    ∙ ap (λ (atoms : List AtomTree). atoms ++ full_instance c.args.values.now (premise_of c.get-premise.result.now).atom ∷ []) c.loop-i.invariant
-    ∙ sym (next_used c.args.values.now c.args.rule.now.premises c.loop-i.i (premise_of c.get-premise.result.now) c.get-premise.ensures w.if-not-premise.true)
+      w.atoms-is
+      ∙ w.in_ok-push.ensures.ok
+      ∙ ap (λ (a : AtomTree). c.loop-i.atoms ++ a ∷ []) w.in_ok-instance.ensures
+      ∙ ap (λ (atoms : List AtomTree). atoms ++ full_instance c.args.values.now (premise_of c.get-premise.result.now).atom ∷ []) c.loop-i.invariant
+      ∙ sym (next_used c.args.values.now c.args.rule.now.premises c.loop-i.i (premise_of c.get-premise.result.now) c.get-premise.ensures w.if-not-premise.true)
   | else-not-premise w ↦
-    w.atoms-is ∙ c.loop-i.invariant ∙ sym (next_kept c.args.values.now c.args.rule.now.premises c.loop-i.i (premise_of c.get-premise.result.now) c.get-premise.ensures w.if-not-premise.false)
+      w.atoms-is ∙ c.loop-i.invariant ∙ sym (next_kept c.args.values.now c.args.rule.now.premises c.loop-i.i (premise_of c.get-premise.result.now) c.get-premise.ensures w.if-not-premise.false)
 ]

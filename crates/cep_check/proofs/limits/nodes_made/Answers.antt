@@ -1,9 +1,9 @@
-use Rattle.std.proofs.Common.{◌≡◌, ◌+◌, ◌*◌, ◌≤◌, List, length, ap, sym, subst, ◌∙◌, arith}
+use Rattle.std.proofs.Common.{◌≡◌, ◌≤◌, List, length, ap, sym, subst, ◌∙◌, arith}
 use Rattle.std.specs.Prelude.{sum_by}
 use Rattle.std.specs.List.{AllByRecursion}
 use Rattle.std.proofs.lemmas.List.{take_all}
 use Rattle.cep_base.proofs.Lists.{holds_at_mapped}
-use Rattle.cep_term.specs.Tree.{Tree, AtomTree, atom_of, atom_nodes, IsFit}
+use Rattle.cep_term.specs.Tree.{Tree, atom_of, atom_nodes, IsFit}
 use Rattle.cep_rule.specs.Instances.{full_instance, full_instances}
 use Rattle.cep_check.proofs.Weights.{made_next, fit_next}
 use Rattle.cep_check.proofs.limits.nodes_made.Goals as goal

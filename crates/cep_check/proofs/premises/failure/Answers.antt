@@ -1,6 +1,6 @@
-use Rattle.std.proofs.Common.{◌≡◌, true, false, List, refl, sym, ap, subst, ◌∙◌, map}
+use Rattle.std.proofs.Common.{◌≡◌, false, List, refl, sym, ap, subst, ◌∙◌}
 use Rattle.std.specs.Prelude.{Option, Some, None, is_some, not, SomeIff}
-use Rattle.cep_term.specs.Tree.{Tree, atom_of, tree_of, IsFit}
+use Rattle.cep_term.specs.Tree.{Tree, atom_of, IsFit}
 use Rattle.cep_rule.specs.Instances.{full_instance}
 use Rattle.cep_rule.specs.Derivations.{proof_of}
 use Rattle.cep_check.proofs.Steps.{only_fit}

@@ -1,8 +1,6 @@
 use Rattle.std.proofs.Common.{refl}
-use Rattle.std.specs.Prelude.{IfOk}
 use Rattle.std.proofs.lemmas.Result.{IfOk-weaker}
 use Rattle.cep_rule.specs.Binding.{needed_of}
-use Rattle.cep_rule.specs.Steps.{Spot}
 use Rattle.cep_check.specs.Causes.{CanTake, IsProvedStep}
 use Rattle.cep_check.specs.Walking.{spot_of}
 use Rattle.cep_check.proofs.Options.{in_either}

@@ -1,9 +1,9 @@
-use Rattle.std.proofs.Common.{◌≡◌, List, refl, sym, ap, subst, ◌∙◌, Ok, Err}
+use Rattle.std.proofs.Common.{List, refl, sym, ap, subst, ◌∙◌, Ok, Err}
 use Rattle.cep_term.specs.Tree.{AtomTree}
 use Rattle.cep_rule.specs.Binding.{needed_of}
 use Rattle.cep_rule.specs.Instances.{full_instances}
-use Rattle.cep_check.specs.Walking.{spot_of, edited, used_by, CanEdit, IsWeighed}
-use Rattle.cep_check.proofs.Doing.{DoingLaws, in_range_all, ground_all, ready_edit, over_cause, stage_cause, legal, walks}
+use Rattle.cep_check.specs.Walking.{spot_of, edited, CanEdit, IsWeighed}
+use Rattle.cep_check.proofs.Doing.{in_range_all, ground_all, ready_edit, over_cause, stage_cause, legal, walks}
 use Rattle.cep_check.proofs.step.change.Goals as goal
 
 pub used_atoms-requires : goal.used_atoms-requires
