@@ -170,6 +170,11 @@ IsRefused program log line cause =
     ((line ≡ log.stage_line) × IsStartCause program log cause)
     ⊎ ((log.stage ≡ program.start_stage) × (log.start ≡ finite.entries program.start) × IsRefusedFrom program log (start_spot program) log.steps line cause)
 
+-- The verdict is that the log is accepted.
+abbrev pub IsAccepted : Verdict → Type 0
+IsAccepted (Accepted steps) = Unit {0}
+IsAccepted (Refused line cause) = ⊥
+
 -- What checking a log comes to: it is legal and has so many steps, or it is refused.
 abbrev pub IsVerdict : Parts → Log → Verdict → Type 0
 IsVerdict program log (Accepted steps) = IsLegal program log × (steps ≡ length log.steps)

@@ -1,13 +1,14 @@
-ghost use Rattle.std.specs.Prelude.{◌≡◌, ◌≤◌, IfOk, MatchOption};
+ghost use Rattle.std.specs.Prelude.{◌≡◌, ◌↔◌, ◌≤◌, IfOk, MatchOption};
 ghost use Rattle.std.specs.FinMap as finite;
 ghost use Rattle.cep_log.specs.declared.log.TheConstants.{MOST_TRANSCRIPT};
-ghost use Rattle.cep_log.specs.Legal.{IsLogOf, start_spot, AreLegalSteps};
-ghost use Rattle.cep_check.specs.Causes.{IsStartCause, end_line, IsVerdict};
+ghost use Rattle.cep_log.specs.Legal.{IsLogOf, IsLegal};
+ghost use Rattle.cep_check.specs.Causes.{IsStartCause, end_line, IsAccepted, IsVerdict};
 ghost use Rattle.cep_check.specs.Walking.{spot_of, IsWalkOf, AreStepsDone, IsEndVerdict};
 
 use crate::cause::{Cause, Verdict};
 use crate::counts::first_difference;
 use crate::ending::end_cause;
+use crate::laws::refused_logs_are_not_legal;
 use crate::step::advance;
 use crate::walk::Walk;
 use cep_base::Steps;
@@ -17,10 +18,27 @@ use cep_term::copy;
 use std::alloc::{AllocError, Global};
 use std::sync::ledger::Ledger;
 
-/// Whether a log of the program is legal for it, and if not, the first cause that comes, with its
-/// line. The offers are those within the log's height. Which logs are legal is said with the log. Only
-/// want of memory is refused, after any ticks.
+/// Whether a log of the program is legal for it: it is accepted exactly where it is, with the number of
+/// its steps, and else refused for the first cause that comes, with its line. The offers are those
+/// within the log's height. Which logs are legal is said with the log. Only want of memory is refused,
+/// after any ticks.
 pub fn check<L: Ledger>(
+    alloc: Global,
+    program: &Program,
+    log: &Log,
+    steps: &mut Steps<L>,
+) -> Result<Verdict, AllocError>
+    requires { IsLogOf program.now log.now }
+    ensures accepted { IfOk result (λ verdict. IsAccepted verdict ↔ IsLegal program.now log.now) }
+    ensures verdict { IfOk result (IsVerdict program.now log.now) }
+    ensures never_falls { steps.old ≤ steps.new }
+{
+    refused_logs_are_not_legal();
+    judge(alloc, program, log, steps)
+}
+
+// The verdict on the log.
+fn judge<L: Ledger>(
     alloc: Global,
     program: &Program,
     log: &Log,

@@ -1,16 +1,20 @@
+use Rattle.std.proofs.Common.{◌↔◌}
 use Rattle.std.proofs.lemmas.Result.{IfOk-weaker}
-use Rattle.cep_check.specs.Walking.{spot_of}
-use Rattle.cep_check.proofs.Verdicts.{verdict_refused, verdict_end}
+use Rattle.cep_rule.specs.declared.parts.Parts.{Parts}
+use Rattle.cep_log.specs.declared.log.Log.{Log}
+use Rattle.cep_log.specs.Legal.{IsLegal}
+use Rattle.std.specs.Prelude.{ℕ}
+use Rattle.cep_check.specs.declared.cause.Cause.{Cause}
+use Rattle.cep_check.specs.declared.cause.Verdict.{Verdict}
+use Rattle.cep_check.specs.declared.cause.Verdict.TheVariants.{Accepted, Refused}
+use Rattle.cep_check.specs.Causes.{IsAccepted, IsRefused, IsVerdict}
 use Rattle.cep_check.proofs.checking.check.Goals as goal
 
-pub returns-in-Some-2-clause-verdict : goal.returns-in-Some-2-clause-verdict
-returns-in-Some-2-clause-verdict g c =
-    let begun = rw c.in_default.is at c.in_ok-cause.ensures in
-    verdict_refused c.args.program.now c.args.log.now c.requires begun.0 begun.1 (spot_of c.in_ok-walk.walk) (spot_of c.steps_refused.new.walk) c.in-Some-2.refused c.in_ok-walk.ensures.spot (rw c.in-Some-2.is at c.in_ok-refused.ensures.done)
+by_law : (program : Parts) (log : Log) → ((line : ℕ) (cause : Cause) → IsRefused program log line cause → IsLegal program log → ⊥) → (verdict : Verdict) → IsVerdict program log verdict → IsAccepted verdict ↔ IsLegal program log
+by_law program log clash (Accepted steps) is = ((λ accepted. is.0), (λ legal. tt))
+by_law program log clash (Refused line cause) is = ((λ accepted. absurd accepted), (λ legal. clash line cause is legal))
 
-pub returns-clause-verdict : goal.returns-clause-verdict
-returns-clause-verdict g c =
-    let begun = rw c.in_default.is at c.in_ok-cause.ensures in
-    IfOk-weaker c.finish.result _ _
-    (λ verdict ends. verdict_end c.args.program.now c.args.log.now c.requires begun.0 begun.1 (spot_of c.in_ok-walk.walk) (spot_of c.steps_refused.new.walk) verdict c.in_ok-walk.ensures.spot (rw c.in_default-2.is at c.in_ok-refused.ensures.done) ends)
-    c.finish.ensures.verdict
+pub returns-clause-accepted : goal.returns-clause-accepted
+returns-clause-accepted g c = IfOk-weaker c.judge.result _ _
+    (λ verdict is. by_law c.args.program.now c.args.log.now (c.refused_logs_are_not_legal.ensures c.args.program.now c.args.log.now) verdict is)
+    c.judge.ensures.verdict
