@@ -16,7 +16,7 @@ use Rattle.cep_term.specs.Order.{atom_cmp}
 use Rattle.cep_term.specs.Multiset.{Multiset, count_of, IsContained}
 use Rattle.cep_rule.specs.declared.signature.Signature.{Signature}
 use Rattle.cep_log.specs.Legal.{AtomsRise, IsListing, IsHave}
-use Rattle.cep_check.specs.Causes.{Says, IsFirstDifference, IsFirstLack}
+use Rattle.cep_check.specs.Causes.{ListsCount, IsFirstDifference, IsFirstLack}
 use Rattle.cep_check.specs.Places.{Agree, AgreeBelow}
 
 -- a place of a listing is before, at or behind another
@@ -95,8 +95,8 @@ module _ (laws : BagLaws) where
 
   module _ (signature : Signature) (listing : List (AtomTree × ℕ)) (is : IsListing signature listing) (state : Multiset) (place : ℕ) (below : AgreeBelow place listing state) where
     -- atoms below one that no later place goes below are told alike
-    alike_before : (x : AtomTree) → ((j : ℕ) (a : AtomTree) (m : ℕ) → place ≤ j → slice_get listing j ≡ Some (a, m) → atom_cmp a x ≡ Less → ⊥) → ((j : ℕ) (a : AtomTree) (m : ℕ) → place ≤ j → slice_get (finite.entries state) j ≡ Some (a, m) → atom_cmp a x ≡ Less → ⊥) → (a : AtomTree) → atom_cmp a x ≡ Less → Says listing a (count_of state a)
-    alike_before x listed there a less = elim (nat_lt 0 (count_of state a)) as (λ t. nat_lt 0 (count_of state a) ≡ t → Says listing a (count_of state a)) [
+    alike_before : (x : AtomTree) → ((j : ℕ) (a : AtomTree) (m : ℕ) → place ≤ j → slice_get listing j ≡ Some (a, m) → atom_cmp a x ≡ Less → ⊥) → ((j : ℕ) (a : AtomTree) (m : ℕ) → place ≤ j → slice_get (finite.entries state) j ≡ Some (a, m) → atom_cmp a x ≡ Less → ⊥) → (a : AtomTree) → atom_cmp a x ≡ Less → ListsCount listing a (count_of state a)
+    alike_before x listed there a less = elim (nat_lt 0 (count_of state a)) as (λ t. nat_lt 0 (count_of state a) ≡ t → ListsCount listing a (count_of state a)) [
       | true ↦ λ e.
           let at = laws.entry_there state a (ltb-true 0 (count_of state a) e) in
           ⊎_elim
@@ -123,7 +123,7 @@ module _ (laws : BagLaws) where
         not_before j behind = ⊎_elim (λ (here : j ≡ place). omega arith) (λ (after : place < j). omega arith) behind
 
     -- an entry that the listing does not have behind here it does not have at all
-    unlisted : (x : AtomTree) (n : ℕ) → slice_get (finite.entries state) place ≡ Some (x, n) → ((j : ℕ) (m : ℕ) → place ≤ j → slice_get listing j ≡ Some (x, m) → ⊥) → Says listing x 0
+    unlisted : (x : AtomTree) (n : ℕ) → slice_get (finite.entries state) place ≡ Some (x, n) → ((j : ℕ) (m : ℕ) → place ≤ j → slice_get listing j ≡ Some (x, m) → ⊥) → ListsCount listing x 0
     unlisted x n at none = inr (
       refl,
       λ other there.

@@ -30,7 +30,7 @@ use Rattle.cep_check.specs.declared.cause.Cause.{Cause}
 use Rattle.cep_check.specs.declared.cause.Cause.TheVariants.{StartStage, StartState, OtherStage, NotContained, NotProved, TooHigh, NotQuiet, OverLimit, StageLine, NotEnded, EndState}
 use Rattle.cep_check.specs.declared.walk.Walk.{Walk}
 use Rattle.cep_check.specs.Causes.{IsInTurn, IsWithinLimits, IsStepCause}
-use Rattle.cep_check.specs.Walking.{used_by, edited, CanEdit, IsWeighed, IsStageCause, IsReadyStep, IsWalkOf}
+use Rattle.cep_check.specs.Walking.{used_by, edited, CanEdit, IsEditWeighed, IsStageCause, IsReadyStep, IsWalkOf}
 use Rattle.cep_check.proofs.Parted.{atom_in, kept_among, used_among, few_used, all_kept, all_used}
 
 -- A step can be told by counts.
@@ -168,11 +168,11 @@ module _ (laws : DoingLaws) (program : Parts) (height : ℕ) (old : Spot) (rule 
   leads = edit_steps laws program rule step.offer.values ready.typed ready.divided ready.small ready.values old.state is_state in_turn.is_proved.can_take.contained
 
   -- it passes a limit
-  pub over_cause : (which : CheckLimit) → IsWeighed old.state (full_instances step.offer.values (used_by rule)) (full_instances step.offer.values rule.right) (Err which) → IsStepCause program height old rule step (OverLimit which)
+  pub over_cause : (which : CheckLimit) → IsEditWeighed old.state (full_instances step.offer.values (used_by rule)) (full_instances step.offer.values rule.right) (Err which) → IsStepCause program height old rule step (OverLimit which)
   over_cause Atom weighed = (in_turn, weighed)
   over_cause State weighed = (in_turn, weighed.0, (edited old.state (full_instances step.offer.values (used_by rule)) (full_instances step.offer.values rule.right), leads, weighed.1))
 
-  within : (nodes : ℕ) → IsWeighed old.state (full_instances step.offer.values (used_by rule)) (full_instances step.offer.values rule.right) (Ok nodes) → IsWithinLimits program height old rule step
+  within : (nodes : ℕ) → IsEditWeighed old.state (full_instances step.offer.values (used_by rule)) (full_instances step.offer.values rule.right) (Ok nodes) → IsWithinLimits program height old rule step
   within nodes weighed = record {
     in_turn = in_turn;
     fit = weighed.0;
@@ -182,7 +182,7 @@ module _ (laws : DoingLaws) (program : Parts) (height : ℕ) (old : Spot) (rule 
   }
 
   -- it is followed by another stage than the rule's
-  pub stage_cause : (nodes : ℕ) (cause : Cause) → IsWeighed old.state (full_instances step.offer.values (used_by rule)) (full_instances step.offer.values rule.right) (Ok nodes) → IsStageCause step.stage rule.next cause → IsStepCause program height old rule step cause
+  pub stage_cause : (nodes : ℕ) (cause : Cause) → IsEditWeighed old.state (full_instances step.offer.values (used_by rule)) (full_instances step.offer.values rule.right) (Ok nodes) → IsStageCause step.stage rule.next cause → IsStepCause program height old rule step cause
   stage_cause nodes (StageLine said is) weighed other = (within nodes weighed, other.0, other.1, other.2)
   stage_cause nodes (StartStage said is) weighed other = other
   stage_cause nodes (StartState atom said is) weighed other = other
@@ -196,7 +196,7 @@ module _ (laws : DoingLaws) (program : Parts) (height : ℕ) (old : Spot) (rule 
   stage_cause nodes (EndState atom said is) weighed other = other
 
   -- it is legal
-  pub legal : (nodes stage : ℕ) (state : Multiset) → IsWeighed old.state (full_instances step.offer.values (used_by rule)) (full_instances step.offer.values rule.right) (Ok nodes) → stage ≡ stage_after rule old.stage → state ≡ edited old.state (full_instances step.offer.values (used_by rule)) (full_instances step.offer.values rule.right) → step.stage ≡ rule.next → IsLegalStep program height old (record { stage = stage; state = state }) step
+  pub legal : (nodes stage : ℕ) (state : Multiset) → IsEditWeighed old.state (full_instances step.offer.values (used_by rule)) (full_instances step.offer.values rule.right) (Ok nodes) → stage ≡ stage_after rule old.stage → state ≡ edited old.state (full_instances step.offer.values (used_by rule)) (full_instances step.offer.values rule.right) → step.stage ≡ rule.next → IsLegalStep program height old (record { stage = stage; state = state }) step
   legal nodes stage state weighed stage_is state_is said = record {
     rule = rule;
     machine = record {
@@ -215,7 +215,7 @@ module _ (laws : DoingLaws) (program : Parts) (height : ℕ) (old : Spot) (rule 
   }
 
   -- and leads to a stage and a state of the program
-  pub walks : (nodes : ℕ) (new : Walk) → length program.stages ≤ MOST_STAGES → old.stage < length program.stages → IsWeighed old.state (full_instances step.offer.values (used_by rule)) (full_instances step.offer.values rule.right) (Ok nodes) → new.stage ≡ stage_after rule old.stage → new.state ≡ edited old.state (full_instances step.offer.values (used_by rule)) (full_instances step.offer.values rule.right) → new.nodes ≡ nodes → IsWalkOf program new
+  pub walks : (nodes : ℕ) (new : Walk) → length program.stages ≤ MOST_STAGES → old.stage < length program.stages → IsEditWeighed old.state (full_instances step.offer.values (used_by rule)) (full_instances step.offer.values rule.right) (Ok nodes) → new.stage ≡ stage_after rule old.stage → new.state ≡ edited old.state (full_instances step.offer.values (used_by rule)) (full_instances step.offer.values rule.right) → new.nodes ≡ nodes → IsWalkOf program new
   walks nodes new few in_range weighed stage_is state_is nodes_is = record {
     few_stages = few;
     in_range = subst (λ stage. stage < length program.stages) (sym stage_is) (stage_in_range (length program.stages) old.stage rule.next in_range ready.next);

@@ -23,7 +23,7 @@ use Rattle.cep_log.specs.Legal.{IsLegalStep, AreLegalSteps, IsLegalEnd, IsLegal,
 use Rattle.cep_check.specs.declared.cause.CheckLimit.TheVariants.{Atom, State}
 use Rattle.cep_check.specs.declared.cause.Cause.{Cause}
 use Rattle.cep_check.specs.declared.cause.Cause.TheVariants.{StartStage, StartState, OtherStage, NotContained, NotProved, TooHigh, NotQuiet, OverLimit, StageLine, NotEnded, EndState}
-use Rattle.cep_check.specs.Causes.{Says, IsFirstDifference, IsStartCause, IsStepCause, IsEndCause, IsRefusedFrom, IsRefused}
+use Rattle.cep_check.specs.Causes.{ListsCount, IsFirstDifference, IsStartCause, IsStepCause, IsEndCause, IsRefusedFrom, IsLogRefused}
 use Rattle.cep_check.proofs.Differences.{place_in, no_entry}
 
 -- A step leads to one state.
@@ -40,7 +40,7 @@ proofs_at program height (x ∷ proofs) (y ∷ goals) (suc n) proof goal all p q
 
 module _ (laws : BagLaws) (one : LeadsToOne) (program : Parts) where
   -- the listing that is a state's says its counts
-  says_count : (state : Multiset) (a : AtomTree) (n : ℕ) → Says (finite.entries state) a n → n ≡ count_of state a
+  says_count : (state : Multiset) (a : AtomTree) (n : ℕ) → ListsCount (finite.entries state) a n → n ≡ count_of state a
   says_count state a n says = ⊎_elim
       (λ there. let at = place_in (finite.entries state) (a, n) there in sym (laws.entry_counted state at.0 a n at.1))
       (λ none. none.0 ∙ no_entry laws state a (λ j m at. none.1 m (contains_there (finite.entries state) j (a, m) at)))
@@ -51,7 +51,7 @@ module _ (laws : BagLaws) (one : LeadsToOne) (program : Parts) where
 
   no_difference : (listing : List (AtomTree × ℕ)) (state : Multiset) (atom : AtomTree) (said is : ℕ) → listing ≡ finite.entries state → IsFirstDifference listing state atom said is → ⊥
   no_difference listing state atom said is same differs =
-      differs.differ (says_count state atom said (subst (λ entries. Says entries atom said) same differs.listed) ∙ sym differs.there)
+      differs.differ (says_count state atom said (subst (λ entries. ListsCount entries atom said) same differs.listed) ∙ sym differs.there)
 
   step_contains : (rule : Rule) (values : List Tree) (old new : Multiset) → Step program.signature rule values old new → IsContained (left_of program.signature rule values) old
   step_contains rule values old new step = λ a.
@@ -154,7 +154,7 @@ module _ (laws : BagLaws) (one : LeadsToOne) (program : Parts) where
   start_clash log NotEnded comes stage start = comes
   start_clash log (EndState atom said is) comes stage start = comes
 
-  pub refused_clash : (log : Log) (line : ℕ) (cause : Cause) → IsRefused program log line cause → IsLegal program log → ⊥
+  pub refused_clash : (log : Log) (line : ℕ) (cause : Cause) → IsLogRefused program log line cause → IsLegal program log → ⊥
   refused_clash log line cause refused legal = ⊎_elim
       (λ start. start_clash log cause start.1 legal.stage legal.start)
       (λ later. from_clash log log.steps (start_spot program) legal.last line cause later.2 legal.steps legal.ending)

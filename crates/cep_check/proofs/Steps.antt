@@ -19,17 +19,17 @@ use Rattle.cep_log.specs.declared.log.LogStep.{LogStep}
 use Rattle.cep_log.specs.Legal.{IsStepOf, IsLegalStep, AreLegalSteps}
 use Rattle.cep_check.specs.declared.cause.Cause.{Cause}
 use Rattle.cep_check.specs.declared.cause.Cause.TheVariants.{StartStage, StartState, OtherStage, NotContained, NotProved, TooHigh, NotQuiet, OverLimit, StageLine, NotEnded, EndState}
-use Rattle.cep_check.specs.Causes.{IsRuleOf, CanTake, IsProvedStep, IsStepCause, IsRefusedFrom}
+use Rattle.cep_check.specs.Causes.{IsOfStage, CanTake, IsProvedStep, IsStepCause, IsRefusedFrom}
 use Rattle.cep_check.specs.Walking.{IsReadyStep, IsLackCause, IsProofAt, IsOneProofCause, IsProofCause, IsQuietCause}
 
 -- a rule's group says of which stage it is
-pub of_stage : (stage : ℕ) (rule : Rule) → rule.group / 2 ≡ stage → IsRuleOf stage rule
-of_stage stage rule half = elim (rule.group % 2 == 0) as (λ t. (rule.group % 2 == 0) ≡ t → IsRuleOf stage rule) [
+pub of_stage : (stage : ℕ) (rule : Rule) → rule.group / 2 ≡ stage → IsOfStage stage rule
+of_stage stage rule half = elim (rule.group % 2 == 0) as (λ t. (rule.group % 2 == 0) ≡ t → IsOfStage stage rule) [
   | true ↦ λ e. let even = eqb-true (rule.group % 2) 0 e in inl (omega arith)
   | false ↦ λ e. let odd = eqb-false (rule.group % 2) 0 e in inr (omega arith)
 ] refl
 
-pub of_no_stage : (stage : ℕ) (rule : Rule) → (rule.group / 2 ≡ stage → ⊥) → ¬ (IsRuleOf stage rule)
+pub of_no_stage : (stage : ℕ) (rule : Rule) → (rule.group / 2 ≡ stage → ⊥) → ¬ (IsOfStage stage rule)
 of_no_stage stage rule apart = λ is. ⊎_elim (λ (own : rule.group ≡ own_group stage). apart (omega arith)) (λ (leaving : rule.group ≡ leaving_group stage). apart (omega arith)) is
 
 -- where one more derivation proves its goal, all up to it do
@@ -62,7 +62,7 @@ proof_cause program height proofs goals n place proof goal NotEnded is all p q f
 proof_cause program height proofs goals n place proof goal (EndState atom said told) is all p q fails = fails
 
 module _ (program : Parts) (height : ℕ) (old : Spot) (rule : Rule) (step : LogStep) where
-  pub lack_cause : (cause : Cause) → IsRuleOf old.stage rule → IsLackCause (left_of program.signature rule step.offer.values) old.state cause → IsStepCause program height old rule step cause
+  pub lack_cause : (cause : Cause) → IsOfStage old.stage rule → IsLackCause (left_of program.signature rule step.offer.values) old.state cause → IsStepCause program height old rule step cause
   lack_cause (NotContained atom have need) of_stage lacks = (of_stage, lacks)
   lack_cause (StartStage said told) of_stage lacks = lacks
   lack_cause (StartState atom said told) of_stage lacks = lacks

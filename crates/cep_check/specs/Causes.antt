@@ -27,15 +27,15 @@ use Rattle.cep_check.specs.declared.cause.Verdict.TheVariants.{Accepted, Refused
 use Rattle.cep_check.specs.declared.cause.Cause.TheVariants.{StartStage, StartState, OtherStage, NotContained, NotProved, TooHigh, NotQuiet, OverLimit, StageLine, NotEnded, EndState}
 
 -- A listing says that there are so many copies of the atom: 0 where no line of it is of the atom.
-abbrev pub Says : List (AtomTree × ℕ) → AtomTree → ℕ → Type 0
-Says listing a count = Contains listing (a, count) ⊎ ((count ≡ 0) × ((other : ℕ) → ¬ (Contains listing (a, other))))
+abbrev pub ListsCount : List (AtomTree × ℕ) → AtomTree → ℕ → Type 0
+ListsCount listing a count = Contains listing (a, count) ⊎ ((count ≡ 0) × ((other : ℕ) → ¬ (Contains listing (a, other))))
 
 -- The first atom, in the order of atoms, of which a listing says another count than the state has.
 pub record IsFirstDifference (listing : List (AtomTree × ℕ)) (state : Multiset) (atom : AtomTree) (said is : ℕ) : Type 0 where
-  pub listed : Says listing atom said
+  pub listed : ListsCount listing atom said
   pub there : is ≡ count_of state atom
   pub differ : said ≢ is
-  pub before : (a : AtomTree) → atom_cmp a atom ≡ Less → Says listing a (count_of state a)
+  pub before : (a : AtomTree) → atom_cmp a atom ≡ Less → ListsCount listing a (count_of state a)
 
 -- The first atom, in the order of atoms, of which more copies are needed than the state has.
 pub record IsFirstLack (needed state : Multiset) (atom : AtomTree) (have need : ℕ) : Type 0 where
@@ -45,8 +45,8 @@ pub record IsFirstLack (needed state : Multiset) (atom : AtomTree) (have need : 
   pub before : (a : AtomTree) → atom_cmp a atom ≡ Less → count_of needed a ≤ count_of state a
 
 -- The rule is one of the stage's own, or one that leaves the stage.
-abbrev pub IsRuleOf : ℕ → Rule → Type 0
-IsRuleOf stage rule = (rule.group ≡ own_group stage) ⊎ (rule.group ≡ leaving_group stage)
+abbrev pub IsOfStage : ℕ → Rule → Type 0
+IsOfStage stage rule = (rule.group ≡ own_group stage) ⊎ (rule.group ≡ leaving_group stage)
 
 -- A derivation and what it is to prove, at a place counted from 1: those before it prove what they are to, and none of them is higher than the height.
 pub record IsAtPremise (program : Parts) (height : ℕ) (proofs : List ProofTree) (goals : List AtomTree) (place : ℕ) (proof : ProofTree) (goal : AtomTree) : Type 0 where
@@ -67,7 +67,7 @@ IsTooHigh program height proofs goals place high =
 
 -- The rule is of the stage, and the state contains the left side.
 pub record CanTake (program : Parts) (old : Spot) (rule : Rule) (offer : Offer) : Type 0 where
-  pub of_stage : IsRuleOf old.stage rule
+  pub of_stage : IsOfStage old.stage rule
   pub contained : IsContained (left_of program.signature rule offer.values) old.state
 
 -- Besides, the derivations prove the backward premises within the height.
@@ -104,9 +104,9 @@ IsStartCause program log (EndState atom said is) = ⊥
 
 -- The cause comes at a step from this spot, and none of those above it does: the rule is neither of the stage nor leaves it; the left side is not contained; a derivation does not prove its premise, or it does and is too high; the rule leaves its stage while one of the stage's own has an offer, of which the first is told; an atom that the rule makes is not fit, or all are and the new state does not fit; or the stage that is said is another than the rule's.
 abbrev pub IsStepCause : Parts → ℕ → Spot → Rule → LogStep → Cause → Type 0
-IsStepCause program height old rule step (OtherStage number) = (number ≡ step.offer.rule) × (¬ IsRuleOf old.stage rule)
+IsStepCause program height old rule step (OtherStage number) = (number ≡ step.offer.rule) × (¬ IsOfStage old.stage rule)
 IsStepCause program height old rule step (NotContained atom have need) =
-    IsRuleOf old.stage rule × IsFirstLack (left_of program.signature rule step.offer.values) old.state (atom_of atom) have need
+    IsOfStage old.stage rule × IsFirstLack (left_of program.signature rule step.offer.values) old.state (atom_of atom) have need
 IsStepCause program height old rule step (NotProved place) =
     CanTake program old rule step.offer × IsUnproved program height step.proofs (full_instances step.offer.values rule.backs) place
 IsStepCause program height old rule step (TooHigh place high) =
@@ -165,17 +165,17 @@ IsRefusedFrom program log old (step ∷ steps) line cause =
     ⊎ ((new : Spot) × IsLegalStep program log.height old new step × IsRefusedFrom program log new steps line cause)
 
 -- The log is refused at this line for this cause, which is the first that comes.
-abbrev pub IsRefused : Parts → Log → ℕ → Cause → Type 0
-IsRefused program log line cause =
+abbrev pub IsLogRefused : Parts → Log → ℕ → Cause → Type 0
+IsLogRefused program log line cause =
     ((line ≡ log.stage_line) × IsStartCause program log cause)
     ⊎ ((log.stage ≡ program.start_stage) × (log.start ≡ finite.entries program.start) × IsRefusedFrom program log (start_spot program) log.steps line cause)
 
 -- The verdict is that the log is accepted.
-abbrev pub IsAccepted : Verdict → Type 0
-IsAccepted (Accepted steps) = Unit {0}
-IsAccepted (Refused line cause) = ⊥
+abbrev pub AcceptsLog : Verdict → Type 0
+AcceptsLog (Accepted steps) = Unit {0}
+AcceptsLog (Refused line cause) = ⊥
 
 -- What checking a log comes to: it is legal and has so many steps, or it is refused.
 abbrev pub IsVerdict : Parts → Log → Verdict → Type 0
 IsVerdict program log (Accepted steps) = IsLegal program log × (steps ≡ length log.steps)
-IsVerdict program log (Refused line cause) = IsRefused program log line cause
+IsVerdict program log (Refused line cause) = IsLogRefused program log line cause

@@ -28,8 +28,8 @@ use Rattle.cep_check.specs.declared.walk.Walk.{Walk}
 use Rattle.cep_check.specs.Causes.{IsFirstLack, IsUnproved, IsTooHigh, IsStepCause, IsEndCause, end_line, IsRefusedFrom}
 
 -- where the steps have led
-abbrev pub spot_of : Walk → Spot
-spot_of walk = record { stage = walk.stage; state = walk.state }
+abbrev pub stands_at : Walk → Spot
+stands_at walk = record { stage = walk.stage; state = walk.state }
 
 -- The stage is one of the program's, and the state one of its states that fits, with its nodes counted.
 pub record IsWalkOf (program : Parts) (walk : Walk) : Type 0 where
@@ -69,10 +69,10 @@ pub record CanEdit (state : Multiset) (used : List AtomTree) : Type 0 where
   pub few : length used ≤ MOST_PREMISES
 
 -- What weighing an edit comes to: the nodes of the new state, which fits; or the limit that it passes.
-abbrev pub IsWeighed : Multiset → List AtomTree → List AtomTree → Result ℕ CheckLimit → Type 0
-IsWeighed state used made (Ok nodes) = AllByRecursion IsFit made × Fits (edited state used made) × (nodes ≡ nodes_in_all (edited state used made))
-IsWeighed state used made (Err Atom) = ¬ (AllByRecursion IsFit made)
-IsWeighed state used made (Err State) = AllByRecursion IsFit made × (¬ (Fits (edited state used made)))
+abbrev pub IsEditWeighed : Multiset → List AtomTree → List AtomTree → Result ℕ CheckLimit → Type 0
+IsEditWeighed state used made (Ok nodes) = AllByRecursion IsFit made × Fits (edited state used made) × (nodes ≡ nodes_in_all (edited state used made))
+IsEditWeighed state used made (Err Atom) = ¬ (AllByRecursion IsFit made)
+IsEditWeighed state used made (Err State) = AllByRecursion IsFit made × (¬ (Fits (edited state used made)))
 
 -- The cause is the first atom that is needed and lacks.
 abbrev pub IsLackCause : Multiset → Multiset → Cause → Type 0

@@ -2,8 +2,8 @@ ghost use Rattle.std.specs.Prelude.{◌≡◌, ◌↔◌, ◌≤◌, IfOk, Match
 ghost use Rattle.std.specs.FinMap as finite;
 ghost use Rattle.cep_log.specs.declared.log.TheConstants.{MOST_TRANSCRIPT};
 ghost use Rattle.cep_log.specs.Legal.{IsLogOf, IsLegal};
-ghost use Rattle.cep_check.specs.Causes.{IsStartCause, end_line, IsAccepted, IsVerdict};
-ghost use Rattle.cep_check.specs.Walking.{spot_of, IsWalkOf, AreStepsDone, IsEndVerdict};
+ghost use Rattle.cep_check.specs.Causes.{IsStartCause, end_line, AcceptsLog, IsVerdict};
+ghost use Rattle.cep_check.specs.Walking.{stands_at, IsWalkOf, AreStepsDone, IsEndVerdict};
 
 use crate::cause::{Cause, Verdict};
 use crate::counts::first_difference;
@@ -29,7 +29,7 @@ pub fn check<L: Ledger>(
     steps: &mut Steps<L>,
 ) -> Result<Verdict, AllocError>
     requires { IsLogOf program.now log.now }
-    ensures accepted { IfOk result (λ verdict. IsAccepted verdict ↔ IsLegal program.now log.now) }
+    ensures accepted { IfOk result (λ verdict. AcceptsLog verdict ↔ IsLegal program.now log.now) }
     ensures verdict { IfOk result (IsVerdict program.now log.now) }
     ensures never_falls { steps.old ≤ steps.new }
 {
@@ -93,7 +93,7 @@ fn steps_refused<L: Ledger>(
 ) -> Result<Option<Verdict>, AllocError>
     requires of_program { IsLogOf program.now log.now }
     requires walk { IsWalkOf program.now walk.old }
-    ensures done { IfOk result (AreStepsDone program.now log.now (spot_of walk.old) (spot_of walk.new)) }
+    ensures done { IfOk result (AreStepsDone program.now log.now (stands_at walk.old) (stands_at walk.new)) }
     ensures walk { IfOk result (λ refused. MatchOption refused (IsWalkOf program.now walk.new) (λ _. Unit {0})) }
     ensures never_falls { steps.old ≤ steps.new }
 {
@@ -117,7 +117,7 @@ fn finish<L: Ledger>(
 ) -> Result<Verdict, AllocError>
     requires of_program { IsLogOf program.now log.now }
     requires walk { IsWalkOf program.now walk.now }
-    ensures verdict { IfOk result (IsEndVerdict program.now log.now (spot_of walk.now)) }
+    ensures verdict { IfOk result (IsEndVerdict program.now log.now (stands_at walk.now)) }
     ensures never_falls { steps.old ≤ steps.new }
 {
     match end_cause(alloc, program, log, walk, steps)? {

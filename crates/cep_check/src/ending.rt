@@ -3,7 +3,7 @@ ghost use Rattle.cep_rule.specs.Limits.{IsHeight};
 ghost use Rattle.cep_rule.specs.Stages.{IsQuiet};
 ghost use Rattle.cep_log.specs.Legal.{IsListing, IsLogOf, IsLegalEnd};
 ghost use Rattle.cep_check.specs.Causes.{IsEndCause, IsFirstAsked};
-ghost use Rattle.cep_check.specs.Walking.{spot_of, IsWalkOf};
+ghost use Rattle.cep_check.specs.Walking.{stands_at, IsWalkOf};
 
 use crate::cause::Cause;
 use crate::counts::first_difference;
@@ -27,8 +27,8 @@ pub(crate) fn end_cause<L: Ledger>(
     requires of_program { IsLogOf program.now log.now }
     requires walk { IsWalkOf program.now walk.now }
     ensures cause { IfOk result (λ cause. MatchOption cause
-        (IsSomeAnd log.now.end (IsLegalEnd program.now log.now.height (spot_of walk.now)))
-        (IsEndCause program.now log.now.height (spot_of walk.now) log.now.end)) }
+        (IsSomeAnd log.now.end (IsLegalEnd program.now log.now.height (stands_at walk.now)))
+        (IsEndCause program.now log.now.height (stands_at walk.now) log.now.end)) }
     ensures never_falls { steps.old ≤ steps.new }
 {
     match &log.end {
@@ -50,8 +50,8 @@ fn end_refused<L: Ledger>(
     requires listing { IsListing program.now.signature end.now.state }
     requires walk { IsWalkOf program.now walk.now }
     ensures cause { IfOk result (λ cause. MatchOption cause
-        (IsLegalEnd program.now height (spot_of walk.now) end.now)
-        (IsEndCause program.now height (spot_of walk.now) (Some end.now))) }
+        (IsLegalEnd program.now height (stands_at walk.now) end.now)
+        (IsEndCause program.now height (stands_at walk.now) (Some end.now))) }
     ensures never_falls { steps.old ≤ steps.new }
 {
     if end.word == EndWord::Quiet {
@@ -80,7 +80,7 @@ fn first_asked<L: Ledger>(
 ) -> Result<Option<Offer>, AllocError>
     requires height { IsHeight height }
     requires walk { IsWalkOf program.now walk.now }
-    ensures first { IfOk result (λ first. MatchOption first (IsQuiet program.now height walk.now.state walk.now.stage) (IsFirstAsked program.now height (spot_of walk.now))) }
+    ensures first { IfOk result (λ first. MatchOption first (IsQuiet program.now height walk.now.state walk.now.stage) (IsFirstAsked program.now height (stands_at walk.now))) }
     ensures never_falls { steps.old ≤ steps.new }
 {
     let own = 2 * walk.stage;

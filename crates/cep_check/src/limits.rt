@@ -5,7 +5,7 @@ ghost use Rattle.cep_base.specs.declared.limits.TheConstants.{MOST_NODES, MOST_P
 ghost use Rattle.cep_term.specs.Tree.{atom_nodes, IsFit};
 ghost use Rattle.cep_term.specs.Multiset.{nodes_in_all};
 ghost use Rattle.cep_rule.specs.Instances.{full_instances};
-ghost use Rattle.cep_check.specs.Walking.{IsWeighed, CanEdit};
+ghost use Rattle.cep_check.specs.Walking.{IsEditWeighed, CanEdit};
 
 use crate::cause::CheckLimit;
 use crate::sizes::fit_nodes;
@@ -26,7 +26,7 @@ pub(crate) fn weigh(
     requires can { CanEdit state.now used.now }
     requires few { length right.now ≤ MOST_RIGHT }
     requires nodes { before ≡ nodes_in_all state.now }
-    ensures { IsWeighed state.now used.now (full_instances values.now right.now) result }
+    ensures { IsEditWeighed state.now used.now (full_instances values.now right.now) result }
 {
     bags_are_lawful();
     let made = match nodes_made(right, values) {

@@ -8,8 +8,8 @@ ghost use Rattle.cep_rule.specs.Instances.{full_instances};
 ghost use Rattle.cep_rule.specs.Limits.{IsHeight};
 ghost use Rattle.cep_rule.specs.Stages.{HasOffer, own_group, leaving_group};
 ghost use Rattle.cep_log.specs.Legal.{IsStepOf, IsLegalStep};
-ghost use Rattle.cep_check.specs.Causes.{IsRuleOf, IsInTurn, IsStepCause};
-ghost use Rattle.cep_check.specs.Walking.{spot_of, IsWalkOf, IsReadyStep, IsLackCause, IsQuietCause, IsStageCause, IsStepCauseOf};
+ghost use Rattle.cep_check.specs.Causes.{IsOfStage, IsInTurn, IsStepCause};
+ghost use Rattle.cep_check.specs.Walking.{stands_at, IsWalkOf, IsReadyStep, IsLackCause, IsQuietCause, IsStageCause, IsStepCauseOf};
 
 use crate::cause::Cause;
 use crate::counts::first_lack;
@@ -40,8 +40,8 @@ pub(crate) fn advance<L: Ledger>(
     requires of_program { IsStepOf program.now step.now }
     requires walk { IsWalkOf program.now walk.old }
     ensures cause { IfOk result (λ cause. MatchOption cause
-        (IsLegalStep program.now height (spot_of walk.old) (spot_of walk.new) step.now)
-        (IsStepCauseOf program.now height (spot_of walk.old) step.now)) }
+        (IsLegalStep program.now height (stands_at walk.old) (stands_at walk.new) step.now)
+        (IsStepCauseOf program.now height (stands_at walk.old) step.now)) }
     ensures walk { IfOk result (λ cause. MatchOption cause (IsWalkOf program.now walk.new) (λ _. Unit {0})) }
     ensures never_falls { steps.old ≤ steps.new }
 {
@@ -66,8 +66,8 @@ fn cause_before<L: Ledger>(
     requires ready { IsReadyStep program.now rule.now step.now }
     requires walk { IsWalkOf program.now walk.now }
     ensures cause { IfOk result (λ cause. MatchOption cause
-        (IsInTurn program.now height (spot_of walk.now) rule.now step.now)
-        (IsStepCause program.now height (spot_of walk.now) rule.now step.now)) }
+        (IsInTurn program.now height (stands_at walk.now) rule.now step.now)
+        (IsStepCause program.now height (stands_at walk.now) rule.now step.now)) }
     ensures never_falls { steps.old ≤ steps.new }
 {
     types_are_lawful();
@@ -122,10 +122,10 @@ fn not_quiet<L: Ledger>(
 ) -> Result<Option<Cause>, AllocError>
     requires height { IsHeight height }
     requires walk { IsWalkOf program.now walk.now }
-    requires of_stage { IsRuleOf walk.now.stage rule.now }
+    requires of_stage { IsOfStage walk.now.stage rule.now }
     ensures cause { IfOk result (λ cause. MatchOption cause
         (rule.now.group ≡ leaving_group walk.now.stage → ¬ HasOffer program.now height walk.now.state (own_group walk.now.stage))
-        (IsQuietCause program.now height (spot_of walk.now) rule.now)) }
+        (IsQuietCause program.now height (stands_at walk.now) rule.now)) }
     ensures never_falls { steps.old ≤ steps.new }
 {
     if rule.group % 2 == 0 {
@@ -145,12 +145,12 @@ fn change(
     step: &LogStep,
     walk: &mut Walk,
 ) -> Result<Option<Cause>, AllocError>
-    requires in_turn { IsInTurn program.now height (spot_of walk.old) rule.now step.now }
+    requires in_turn { IsInTurn program.now height (stands_at walk.old) rule.now step.now }
     requires ready { IsReadyStep program.now rule.now step.now }
     requires walk { IsWalkOf program.now walk.old }
     ensures cause { IfOk result (λ cause. MatchOption cause
-        (IsLegalStep program.now height (spot_of walk.old) (spot_of walk.new) step.now)
-        (IsStepCause program.now height (spot_of walk.old) rule.now step.now)) }
+        (IsLegalStep program.now height (stands_at walk.old) (stands_at walk.new) step.now)
+        (IsStepCause program.now height (stands_at walk.old) rule.now step.now)) }
     ensures walk { IfOk result (λ cause. MatchOption cause (IsWalkOf program.now walk.new) (λ _. Unit {0})) }
 {
     bags_are_lawful();

@@ -2,7 +2,7 @@ ghost use Rattle.std.specs.Prelude.{◌≡◌, ◌*◌, ◌≤◌, ◌<◌, leng
 ghost use Rattle.cep_term.specs.Multiset.{nodes_in_all};
 ghost use Rattle.cep_rule.specs.State.{Fits};
 ghost use Rattle.cep_log.specs.Legal.{start_spot};
-ghost use Rattle.cep_check.specs.Walking.{spot_of, IsWalkOf};
+ghost use Rattle.cep_check.specs.Walking.{stands_at, IsWalkOf};
 
 use cep_rule::Program;
 use cep_term::{Bag, nodes};
@@ -20,7 +20,7 @@ pub(crate) struct Walk {
 impl Walk {
     // Where every run of the program begins.
     pub(crate) fn start(alloc: Global, program: &Program) -> Result<Walk, AllocError>
-        ensures spot { IfOk result (λ walk. spot_of walk ≡ start_spot program.now) }
+        ensures spot { IfOk result (λ walk. stands_at walk ≡ start_spot program.now) }
         ensures of_program { IfOk result (IsWalkOf program.now) }
     {
         let parts = program.parts();

@@ -7,10 +7,10 @@ use Rattle.std.specs.Prelude.{ℕ}
 use Rattle.cep_check.specs.declared.cause.Cause.{Cause}
 use Rattle.cep_check.specs.declared.cause.Verdict.{Verdict}
 use Rattle.cep_check.specs.declared.cause.Verdict.TheVariants.{Accepted, Refused}
-use Rattle.cep_check.specs.Causes.{IsAccepted, IsRefused, IsVerdict}
+use Rattle.cep_check.specs.Causes.{AcceptsLog, IsLogRefused, IsVerdict}
 use Rattle.cep_check.proofs.checking.check.Goals as goal
 
-by_law : (program : Parts) (log : Log) → ((line : ℕ) (cause : Cause) → IsRefused program log line cause → IsLegal program log → ⊥) → (verdict : Verdict) → IsVerdict program log verdict → IsAccepted verdict ↔ IsLegal program log
+by_law : (program : Parts) (log : Log) → ((line : ℕ) (cause : Cause) → IsLogRefused program log line cause → IsLegal program log → ⊥) → (verdict : Verdict) → IsVerdict program log verdict → AcceptsLog verdict ↔ IsLegal program log
 by_law program log clash (Accepted steps) is = ((λ accepted. is.0), (λ legal. tt))
 by_law program log clash (Refused line cause) is = ((λ accepted. absurd accepted), (λ legal. clash line cause is legal))
 

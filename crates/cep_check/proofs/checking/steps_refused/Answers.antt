@@ -1,7 +1,7 @@
 use Rattle.std.proofs.Common.{◌≤◌, length, arith}
 use Rattle.cep_base.proofs.Lists.{holds_at}
 use Rattle.cep_log.specs.Legal.{IsStepOf}
-use Rattle.cep_check.specs.Walking.{spot_of}
+use Rattle.cep_check.specs.Walking.{stands_at}
 use Rattle.cep_check.proofs.Steps.{legal_next, refused_next, refused_here}
 use Rattle.cep_check.proofs.Verdicts.{none_left}
 use Rattle.cep_check.proofs.checking.steps_refused.Goals as goal
@@ -18,15 +18,15 @@ advance-requires-clause-of_program g c = holds_at (IsStepOf c.args.program.now) 
 pub loop-i-preserved : goal.loop-i-preserved
 loop-i-preserved g c = record {
   walk = rw c.in_default.is at c.in_ok-cause.ensures.walk;
-  legal = λ last all. c.loop-i.invariant.legal last (legal_next c.args.program.now c.args.log.now.height c.args.log.now.steps c.loop-i.i c.get-step.result.now (spot_of c.loop-i.walk) (spot_of c.advance.new.walk) last c.get-step.ensures (rw c.in_default.is at c.in_ok-cause.ensures.cause) all);
-  refused = λ line cause comes. c.loop-i.invariant.refused line cause (refused_next c.args.program.now c.args.log.now c.args.log.now.steps c.loop-i.i c.get-step.result.now (spot_of c.loop-i.walk) (spot_of c.advance.new.walk) line cause c.get-step.ensures (rw c.in_default.is at c.in_ok-cause.ensures.cause) comes);
+  legal = λ last all. c.loop-i.invariant.legal last (legal_next c.args.program.now c.args.log.now.height c.args.log.now.steps c.loop-i.i c.get-step.result.now (stands_at c.loop-i.walk) (stands_at c.advance.new.walk) last c.get-step.ensures (rw c.in_default.is at c.in_ok-cause.ensures.cause) all);
+  refused = λ line cause comes. c.loop-i.invariant.refused line cause (refused_next c.args.program.now c.args.log.now c.args.log.now.steps c.loop-i.i c.get-step.result.now (stands_at c.loop-i.walk) (stands_at c.advance.new.walk) line cause c.get-step.ensures (rw c.in_default.is at c.in_ok-cause.ensures.cause) comes);
   risen = omega arith;
 }
 
 pub returns-in-Some-clause-done : goal.returns-in-Some-clause-done
-returns-in-Some-clause-done g c = c.loop-i.invariant.refused c.get-step.result.now.line c.in-Some.cause (refused_here c.args.program.now c.args.log.now c.args.log.now.steps c.loop-i.i c.get-step.result.now (spot_of c.loop-i.walk) c.in-Some.cause c.get-step.ensures (rw c.in-Some.is at c.in_ok-cause.ensures.cause))
+returns-in-Some-clause-done g c = c.loop-i.invariant.refused c.get-step.result.now.line c.in-Some.cause (refused_here c.args.program.now c.args.log.now c.args.log.now.steps c.loop-i.i c.get-step.result.now (stands_at c.loop-i.walk) c.in-Some.cause c.get-step.ensures (rw c.in-Some.is at c.in_ok-cause.ensures.cause))
 
 pub returns-clause-done : goal.returns-clause-done
 returns-clause-done g c =
     let all : length c.args.log.now.steps ≤ c.loop-i.i = let len = c.len-i-end.ensures in let test = c.loop-i-test.false in omega arith in
-    c.loop-i.invariant.legal (spot_of c.loop-i.walk) (none_left c.args.program.now c.args.log.now.height c.args.log.now.steps c.loop-i.i (spot_of c.loop-i.walk) all)
+    c.loop-i.invariant.legal (stands_at c.loop-i.walk) (none_left c.args.program.now c.args.log.now.height c.args.log.now.steps c.loop-i.i (stands_at c.loop-i.walk) all)
