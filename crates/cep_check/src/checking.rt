@@ -1,0 +1,143 @@
+ghost use Rattle.std.specs.Prelude.{◌≡◌, ◌↔◌, ◌≤◌, IfOk, MatchOption};
+ghost use Rattle.std.specs.FinMap as finite;
+ghost use Rattle.cep_base.specs.declared.limits.TheConstants.{MOST_LOG};
+ghost use Rattle.cep_log.specs.Legal.{IsLogOf, IsLegal};
+ghost use Rattle.cep_check.specs.Causes.{IsStartCause, end_line, AcceptsLog, IsVerdict};
+ghost use Rattle.cep_check.specs.Walking.{stands_at, IsWalkOf, AreStepsDone, IsEndVerdict};
+
+use crate::cause::{Cause, Verdict};
+use crate::counts::first_difference;
+use crate::ending::end_cause;
+use crate::laws::refused_logs_are_not_legal;
+use crate::step::advance;
+use crate::walk::Walk;
+use cep_base::Steps;
+use cep_log::Log;
+use cep_rule::Program;
+use cep_term::copy;
+use std::alloc::{AllocError, Global};
+use std::sync::ledger::Ledger;
+
+/// Whether a log of the program is legal for it: it is accepted exactly where it is, with the number of
+/// its steps, and else refused for the first cause that comes, with its line. The offers are those
+/// within the log's height. Which logs are legal is said with the log. Only want of memory is refused,
+/// after any ticks.
+pub fn check<L: Ledger>(
+    alloc: Global,
+    program: &Program,
+    log: &Log,
+    steps: &mut Steps<L>,
+) -> Result<Verdict, AllocError>
+    requires { IsLogOf program.now log.now }
+    ensures accepted { IfOk result (λ verdict. AcceptsLog verdict ↔ IsLegal program.now log.now) }
+    ensures verdict { IfOk result (IsVerdict program.now log.now) }
+    ensures never_falls { steps.old ≤ steps.new }
+{
+    refused_logs_are_not_legal();
+    judge(alloc, program, log, steps)
+}
+
+// The verdict on the log.
+fn judge<L: Ledger>(
+    alloc: Global,
+    program: &Program,
+    log: &Log,
+    steps: &mut Steps<L>,
+) -> Result<Verdict, AllocError>
+    requires { IsLogOf program.now log.now }
+    ensures verdict { IfOk result (IsVerdict program.now log.now) }
+    ensures never_falls { steps.old ≤ steps.new }
+{
+    if let Some(cause) = start_cause(alloc, program, log)? {
+        let line = log.stage_line;
+        return Ok(Verdict::Refused { line, cause });
+    }
+    let mut walk = Walk::start(alloc, program)?;
+    if let Some(refused) = steps_refused(alloc, program, log, &mut walk, steps)? {
+        return Ok(refused);
+    }
+    finish(alloc, program, log, &walk, steps)
+}
+
+// Why the header or the start listing is not the program's.
+fn start_cause(alloc: Global, program: &Program, log: &Log) -> Result<Option<Cause>, AllocError>
+    requires { IsLogOf program.now log.now }
+    ensures { IfOk result (λ cause. MatchOption cause
+        ((log.now.stage ≡ program.now.start_stage) × (log.now.start ≡ finite.entries program.now.start))
+        (IsStartCause program.now log.now)) }
+{
+    let parts = program.parts();
+    if log.stage != parts.start_stage {
+        return Ok(Some(Cause::StartStage {
+            said: log.stage,
+            is: parts.start_stage,
+        }));
+    }
+    match first_difference(&log.start, &parts.start) {
+        None => Ok(None),
+        Some(difference) => Ok(Some(Cause::StartState {
+            atom: copy(alloc, difference.atom)?,
+            said: difference.said,
+            is: difference.is,
+        })),
+    }
+}
+
+// Does all steps, up to the first that is not legal, and says then why it is not.
+fn steps_refused<L: Ledger>(
+    alloc: Global,
+    program: &Program,
+    log: &Log,
+    walk: &mut Walk,
+    steps: &mut Steps<L>,
+) -> Result<Option<Verdict>, AllocError>
+    requires of_program { IsLogOf program.now log.now }
+    requires walk { IsWalkOf program.now walk.old }
+    ensures done { IfOk result (AreStepsDone program.now log.now (stands_at walk.old) (stands_at walk.new)) }
+    ensures walk { IfOk result (λ refused. MatchOption refused (IsWalkOf program.now walk.new) (λ _. Unit {0})) }
+    ensures never_falls { steps.old ≤ steps.new }
+{
+    for i in 0..log.steps.len() {
+        let step = log.steps.get(i);
+        if let Some(cause) = advance(alloc, program, log.height, step, walk, steps)? {
+            let line = step.line;
+            return Ok(Some(Verdict::Refused { line, cause }));
+        }
+    }
+    Ok(None)
+}
+
+// What is left where all steps are legal: the end.
+fn finish<L: Ledger>(
+    alloc: Global,
+    program: &Program,
+    log: &Log,
+    walk: &Walk,
+    steps: &mut Steps<L>,
+) -> Result<Verdict, AllocError>
+    requires of_program { IsLogOf program.now log.now }
+    requires walk { IsWalkOf program.now walk.now }
+    ensures verdict { IfOk result (IsEndVerdict program.now log.now (stands_at walk.now)) }
+    ensures never_falls { steps.old ≤ steps.new }
+{
+    match end_cause(alloc, program, log, walk, steps)? {
+        None => Ok(Verdict::Accepted {
+            steps: log.steps.len() as u32,
+        }),
+        Some(cause) => Ok(Verdict::Refused {
+            line: end_line(log),
+            cause,
+        }),
+    }
+}
+
+// The line of the end, and where there is none the one behind the last.
+fn end_line(log: &Log) -> u32
+    requires { log.now.lines ≤ MOST_LOG }
+    ensures { result ≡ end_line log.now log.now.end }
+{
+    match &log.end {
+        None => log.lines + 1,
+        Some(end) => end.line,
+    }
+}

@@ -1,0 +1,91 @@
+ghost use Rattle.std.specs.Prelude.{◌≡◌, ◌≤◌, IfOk, MatchOption, IsSomeAnd, Some};
+ghost use Rattle.cep_rule.specs.Limits.{IsHeight};
+ghost use Rattle.cep_rule.specs.Stages.{IsQuiet};
+ghost use Rattle.cep_log.specs.Legal.{IsListing, IsLogOf, IsLegalEnd};
+ghost use Rattle.cep_check.specs.Causes.{IsEndCause, IsFirstAsked};
+ghost use Rattle.cep_check.specs.Walking.{stands_at, IsWalkOf};
+
+use crate::cause::Cause;
+use crate::counts::first_difference;
+use crate::walk::Walk;
+use cep_base::Steps;
+use cep_log::{EndWord, Log, LogEnd};
+use cep_rule::{Offer, Program};
+use cep_scratch::applies_any;
+use cep_term::copy;
+use std::alloc::{AllocError, Global};
+use std::sync::ledger::Ledger;
+
+// Why the end is not legal where the steps have led.
+pub(crate) fn end_cause<L: Ledger>(
+    alloc: Global,
+    program: &Program,
+    log: &Log,
+    walk: &Walk,
+    steps: &mut Steps<L>,
+) -> Result<Option<Cause>, AllocError>
+    requires of_program { IsLogOf program.now log.now }
+    requires walk { IsWalkOf program.now walk.now }
+    ensures cause { IfOk result (λ cause. MatchOption cause
+        (IsSomeAnd log.now.end (IsLegalEnd program.now log.now.height (stands_at walk.now)))
+        (IsEndCause program.now log.now.height (stands_at walk.now) log.now.end)) }
+    ensures never_falls { steps.old ≤ steps.new }
+{
+    match &log.end {
+        None => Ok(Some(Cause::NotEnded)),
+        Some(end) => end_refused(alloc, program, log.height, end, walk, steps),
+    }
+}
+
+// The same where there is an end.
+fn end_refused<L: Ledger>(
+    alloc: Global,
+    program: &Program,
+    height: u32,
+    end: &LogEnd,
+    walk: &Walk,
+    steps: &mut Steps<L>,
+) -> Result<Option<Cause>, AllocError>
+    requires height { IsHeight height }
+    requires listing { IsListing program.now.signature end.now.state }
+    requires walk { IsWalkOf program.now walk.now }
+    ensures cause { IfOk result (λ cause. MatchOption cause
+        (IsLegalEnd program.now height (stands_at walk.now) end.now)
+        (IsEndCause program.now height (stands_at walk.now) (Some end.now))) }
+    ensures never_falls { steps.old ≤ steps.new }
+{
+    if end.word == EndWord::Quiet {
+        if let Some(offer) = first_asked(alloc, program, height, walk, steps)? {
+            return Ok(Some(Cause::NotQuiet { offer }));
+        }
+    }
+    match first_difference(&end.state, &walk.state) {
+        None => Ok(None),
+        Some(difference) => Ok(Some(Cause::EndState {
+            atom: copy(alloc, difference.atom)?,
+            said: difference.said,
+            is: difference.is,
+        })),
+    }
+}
+
+// The first offer of the group that the stage asks: its own, or, where that has none, the one that
+// leaves it.
+fn first_asked<L: Ledger>(
+    alloc: Global,
+    program: &Program,
+    height: u32,
+    walk: &Walk,
+    steps: &mut Steps<L>,
+) -> Result<Option<Offer>, AllocError>
+    requires height { IsHeight height }
+    requires walk { IsWalkOf program.now walk.now }
+    ensures first { IfOk result (λ first. MatchOption first (IsQuiet program.now height walk.now.state walk.now.stage) (IsFirstAsked program.now height (stands_at walk.now))) }
+    ensures never_falls { steps.old ≤ steps.new }
+{
+    let own = 2 * walk.stage;
+    match applies_any(alloc, program, &walk.state, own, height, steps)? {
+        Some(first) => Ok(Some(first)),
+        None => applies_any(alloc, program, &walk.state, own + 1, height, steps),
+    }
+}

@@ -1,0 +1,193 @@
+ghost use Rattle.std.specs.Prelude.{◌≡◌, ◌↔◌, ◌≤◌, length, IfOk, MatchOption, IsSome};
+ghost use Rattle.std.specs.List.{AllByRecursion};
+ghost use Rattle.cep_base.specs.declared.limits.TheConstants.{MOST_PREMISES};
+ghost use Rattle.cep_term.specs.Tree.{IsAtomInRange, IsGroundAtom};
+ghost use Rattle.cep_term.specs.Multiset.{gathered, IsContained};
+ghost use Rattle.cep_rule.specs.Binding.{needed_of};
+ghost use Rattle.cep_rule.specs.Instances.{full_instances};
+ghost use Rattle.cep_rule.specs.Limits.{IsHeight};
+ghost use Rattle.cep_rule.specs.Stages.{HasOffer, own_group, leaving_group};
+ghost use Rattle.cep_log.specs.Legal.{IsStepOf, IsLegalStep};
+ghost use Rattle.cep_check.specs.Causes.{IsOfStage, IsInTurn, IsStepCause};
+ghost use Rattle.cep_check.specs.Walking.{stands_at, IsWalkOf, IsReadyStep, IsLackCause, IsQuietCause, IsStageCause, IsStepCauseOf};
+
+use crate::cause::Cause;
+use crate::counts::first_lack;
+use crate::edit::{edit, needed_atoms, used_atoms};
+use crate::limits::weigh;
+use crate::premises::first_failure;
+use crate::walk::Walk;
+use cep_base::Steps;
+use cep_log::LogStep;
+use cep_rule::laws::{sides_are_bags, steps_can_be_told_by_counts, types_are_lawful};
+use cep_rule::{Program, Rule, Terms};
+use cep_scratch::applies_any;
+use cep_term::laws::bags_are_lawful;
+use cep_term::{Bag, copy};
+use std::alloc::{AllocError, Global};
+use std::sync::ledger::Ledger;
+
+// Does the step, or says why it is not legal. Where it is not, the walk may stand anywhere.
+pub(crate) fn advance<L: Ledger>(
+    alloc: Global,
+    program: &Program,
+    height: u32,
+    step: &LogStep,
+    walk: &mut Walk,
+    steps: &mut Steps<L>,
+) -> Result<Option<Cause>, AllocError>
+    requires height { IsHeight height }
+    requires of_program { IsStepOf program.now step.now }
+    requires walk { IsWalkOf program.now walk.old }
+    ensures cause { IfOk result (λ cause. MatchOption cause
+        (IsLegalStep program.now height (stands_at walk.old) (stands_at walk.new) step.now)
+        (IsStepCauseOf program.now height (stands_at walk.old) step.now)) }
+    ensures walk { IfOk result (λ cause. MatchOption cause (IsWalkOf program.now walk.new) (λ _. Unit {0})) }
+    ensures never_falls { steps.old ≤ steps.new }
+{
+    let rule = program.parts().rules.get(step.offer.rule as usize);
+    match cause_before(alloc, program, height, rule, step, walk, steps)? {
+        Some(cause) => Ok(Some(cause)),
+        None => change(alloc, program, height, rule, step, walk),
+    }
+}
+
+// Why the step is not legal, as far as it is seen before anything changes.
+fn cause_before<L: Ledger>(
+    alloc: Global,
+    program: &Program,
+    height: u32,
+    rule: &Rule,
+    step: &LogStep,
+    walk: &Walk,
+    steps: &mut Steps<L>,
+) -> Result<Option<Cause>, AllocError>
+    requires height { IsHeight height }
+    requires ready { IsReadyStep program.now rule.now step.now }
+    requires walk { IsWalkOf program.now walk.now }
+    ensures cause { IfOk result (λ cause. MatchOption cause
+        (IsInTurn program.now height (stands_at walk.now) rule.now step.now)
+        (IsStepCause program.now height (stands_at walk.now) rule.now step.now)) }
+    ensures never_falls { steps.old ≤ steps.new }
+{
+    types_are_lawful();
+    let offer = &step.offer;
+    if rule.group / 2 != walk.stage {
+        return Ok(Some(Cause::OtherStage { rule: offer.rule }));
+    }
+    if let Some(cause) = not_contained(alloc, rule, &offer.values, &walk.state)? {
+        return Ok(Some(cause));
+    }
+    let (values, proofs) = (&offer.values, &step.proofs);
+    if let Some(cause) = first_failure(alloc, program, height, &rule.backs, values, proofs)? {
+        return Ok(Some(cause));
+    }
+    not_quiet(alloc, program, height, rule, walk, steps)
+}
+
+// The first atom of the rule's left side of which the state has too few copies.
+fn not_contained(
+    alloc: Global,
+    rule: &Rule,
+    values: &Terms,
+    state: &Bag,
+) -> Result<Option<Cause>, AllocError>
+    requires in_range { AllByRecursion (IsAtomInRange (length values.now)) (needed_of rule.now) }
+    requires ground { AllByRecursion IsGroundAtom (full_instances values.now (needed_of rule.now)) }
+    requires few { length rule.now.premises ≤ MOST_PREMISES }
+    ensures { IfOk result (λ cause. MatchOption cause
+        (IsContained (gathered (full_instances values.now (needed_of rule.now))) state.now)
+        (IsLackCause (gathered (full_instances values.now (needed_of rule.now))) state.now)) }
+{
+    let needed = Bag::of(alloc, &needed_atoms(alloc, rule, values)?)?;
+    match first_lack(&needed, state) {
+        None => Ok(None),
+        Some(lack) => Ok(Some(Cause::NotContained {
+            atom: copy(alloc, lack.atom)?,
+            have: lack.have,
+            need: lack.need,
+        })),
+    }
+}
+
+// The first offer of the stage's own group, where the rule leaves the stage. Only there are offers
+// looked for.
+fn not_quiet<L: Ledger>(
+    alloc: Global,
+    program: &Program,
+    height: u32,
+    rule: &Rule,
+    walk: &Walk,
+    steps: &mut Steps<L>,
+) -> Result<Option<Cause>, AllocError>
+    requires height { IsHeight height }
+    requires walk { IsWalkOf program.now walk.now }
+    requires of_stage { IsOfStage walk.now.stage rule.now }
+    ensures cause { IfOk result (λ cause. MatchOption cause
+        (rule.now.group ≡ leaving_group walk.now.stage → ¬ HasOffer program.now height walk.now.state (own_group walk.now.stage))
+        (IsQuietCause program.now height (stands_at walk.now) rule.now)) }
+    ensures never_falls { steps.old ≤ steps.new }
+{
+    if rule.group % 2 == 0 {
+        return Ok(None);
+    }
+    let own = 2 * walk.stage;
+    let first = applies_any(alloc, program, &walk.state, own, height, steps)?;
+    Ok(first.map(|offer| Cause::NotQuiet { offer }))
+}
+
+// Goes on by a step that is in turn, where it passes no limit and its stage is the rule's.
+fn change(
+    alloc: Global,
+    program: &Program,
+    height: u32,
+    rule: &Rule,
+    step: &LogStep,
+    walk: &mut Walk,
+) -> Result<Option<Cause>, AllocError>
+    requires in_turn { IsInTurn program.now height (stands_at walk.old) rule.now step.now }
+    requires ready { IsReadyStep program.now rule.now step.now }
+    requires walk { IsWalkOf program.now walk.old }
+    ensures cause { IfOk result (λ cause. MatchOption cause
+        (IsLegalStep program.now height (stands_at walk.old) (stands_at walk.new) step.now)
+        (IsStepCause program.now height (stands_at walk.old) rule.now step.now)) }
+    ensures walk { IfOk result (λ cause. MatchOption cause (IsWalkOf program.now walk.new) (λ _. Unit {0})) }
+{
+    bags_are_lawful();
+    types_are_lawful();
+    sides_are_bags();
+    steps_can_be_told_by_counts();
+    let values = &step.offer.values;
+    let used = used_atoms(alloc, rule, values)?;
+    let nodes = match weigh(&rule.right, values, &used, &walk.state, walk.nodes) {
+        Ok(nodes) => nodes,
+        Err(which) => return Ok(Some(Cause::OverLimit { which })),
+    };
+    if let Some(cause) = stage_cause(step.stage, rule.next) {
+        return Ok(Some(cause));
+    }
+    edit(alloc, &mut walk.state, &used, &rule.right, values)?;
+    walk.stage = rule.next.unwrap_or(walk.stage);
+    walk.nodes = nodes;
+    Ok(None)
+}
+
+// Whether the stage that is said is another than the one that the rule names.
+fn stage_cause(said: Option<u32>, named: Option<u32>) -> Option<Cause>
+    requires { IsSome said ↔ IsSome named }
+    ensures { MatchOption result (said ≡ named) (IsStageCause said named) }
+{
+    match named {
+        None => None,
+        Some(is) => match said {
+            None => None,
+            Some(said) => {
+                if said == is {
+                    None
+                } else {
+                    Some(Cause::StageLine { said, is })
+                }
+            }
+        },
+    }
+}
