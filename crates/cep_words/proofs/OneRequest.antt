@@ -8,11 +8,15 @@ use Rattle.cep_base.proofs.Elements.{contains_none, contains_cases, contains_eit
 use Rattle.cep_words.specs.declared.run_option.RunOption.{RunOption}
 use Rattle.cep_words.specs.declared.run_option.RunOption.TheVariants.{Seed, Height, Turns}
 use Rattle.cep_words.specs.declared.options.Options.{Options}
-use Rattle.cep_words.specs.Words.{option_text, IsInBounds, asked_if, all_asked, Give, Request, Play, AskFor}
+use Rattle.cep_words.specs.Words.{option_text, IsInBounds, asked_if, all_asked, Give, Request, Play, Check, AskFor}
 
 abbrev head : List ℕ → ℕ
 head [] = 0
 head (byte ∷ bytes) = byte
+
+abbrev first : List (List ℕ) → List ℕ
+first [] = []
+first (word ∷ words) = word
 
 abbrev second : List (List ℕ) → List ℕ
 second [] = []
@@ -109,3 +113,16 @@ one_request words (Play file options) (Play file' options') ask ask' =
     let others : ask.0 ≡ ask'.0 = ap behind_two same in
     let given = given_once ask'.0 options options' (subst (λ ws. Give ws options) others ask.2) ask'.2 in
     λ i. Play (files i) (given i)
+one_request words (Check file log) (Check file' log') ask ask' =
+    let same : codes "check" ∷ file ∷ log ∷ [] ≡ codes "check" ∷ file' ∷ log' ∷ [] = sym ask ∙ ask' in
+    let files : file ≡ file' = ap second same in
+    let logs : log ≡ log' = ap (λ ws. first (behind_two ws)) same in
+    λ i. Check (files i) (logs i)
+one_request words (Play file options) (Check file' log) ask ask' =
+    let same : codes "play" ∷ file ∷ ask.0 ≡ codes "check" ∷ file' ∷ log ∷ [] = sym ask.1 ∙ ask' in
+    let letter : 112 ≡ 99 = ap (λ ws. head (first ws)) same in
+    absurd (omega (arith, letter))
+one_request words (Check file log) (Play file' options) ask ask' =
+    let same : codes "check" ∷ file ∷ log ∷ [] ≡ codes "play" ∷ file' ∷ ask'.0 = sym ask ∙ ask'.1 in
+    let letter : 99 ≡ 112 = ap (λ ws. head (first ws)) same in
+    absurd (omega (arith, letter))

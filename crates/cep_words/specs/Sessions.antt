@@ -1,8 +1,20 @@
--- What the code's word for a program that is to be played asks.
+-- What the code's words for tasks ask.
 use Rattle.std.specs.Prelude.{ℕ, List, string_bytes}
 use Rattle.cep_words.specs.declared.session.Session.{Session}
-use Rattle.cep_words.specs.Words.{AskFor, Play}
+use Rattle.cep_words.specs.declared.audit.Audit.{Audit}
+use Rattle.cep_words.specs.declared.task.Task.{Task}
+use Rattle.cep_words.specs.declared.task.Task.TheVariants as task
+use Rattle.cep_words.specs.Words.{Request, AskFor, Play, Check}
+
+-- the request that a session is
+abbrev pub session_request : Session → Request
+session_request session = Play (string_bytes session.file.now) session.options
+
+-- the request that an audit is
+abbrev pub audit_request : Audit → Request
+audit_request audit = Check (string_bytes audit.file.now) (string_bytes audit.log.now)
 
 -- These words ask for this.
-abbrev pub IsAskedBy : List (List ℕ) → Session → Type 0
-IsAskedBy words session = AskFor words (Play (string_bytes session.file.now) session.options)
+abbrev pub IsAskedBy : List (List ℕ) → Task → Type 0
+IsAskedBy words (task.Play session) = AskFor words (session_request session)
+IsAskedBy words (task.Check audit) = AskFor words (audit_request audit)

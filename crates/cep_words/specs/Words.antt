@@ -40,13 +40,15 @@ AreWithin options = AllByRecursion IsInBounds (all_asked options)
 abbrev pub Give : List (List ℕ) → Options → Type 0
 Give words options = AreWithin options × IsPermutation (map option_text (all_asked options)) words
 
--- What words may ask for: that the program in a file is played, with options.
+-- What words may ask for: that the program in a file is played, with options; or that the transcript in a file is checked against it.
 pub data Request : Type 0 where
   Play : (file : List ℕ) → (options : Options) → Request
+  Check : (file : List ℕ) → (log : List ℕ) → Request
 
 -- These words ask for this.
 abbrev pub AskFor : List (List ℕ) → Request → Type 0
 AskFor words (Play file options) = (others : List (List ℕ)) × (words ≡ codes "play" ∷ file ∷ others) × Give others options
+AskFor words (Check file log) = words ≡ codes "check" ∷ file ∷ log ∷ []
 
 -- the words have no form: they ask for nothing
 abbrev pub HaveNoForm : List (List ℕ) → Type 0

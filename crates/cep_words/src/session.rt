@@ -1,6 +1,7 @@
-ghost use Rattle.std.specs.Prelude.{map, string_bytes, MatchOption};
-ghost use Rattle.cep_words.specs.Words.{HaveNoForm};
-ghost use Rattle.cep_words.specs.Sessions.{IsAskedBy};
+ghost use Rattle.std.specs.Prelude.{ℕ, List, map, string_bytes, MatchOption};
+ghost use Rattle.cep_words.specs.declared.options.Options.{Options};
+ghost use Rattle.cep_words.specs.Words.{AskFor, Play};
+ghost use Rattle.cep_words.specs.Sessions.{session_request};
 
 use crate::options::Options;
 
@@ -12,9 +13,11 @@ pub struct Session<'a> {
 }
 
 impl Session<'_> {
-    /// What these words ask for. `None` exactly where they have no form.
-    pub fn of(words: &[String]) -> Option<Session<'_>>
-        ensures { MatchOption result (HaveNoForm (map string_bytes words.now)) (IsAskedBy (map string_bytes words.now)) }
+    // What these words ask for, if they ask for a program to be played.
+    pub(crate) fn of(words: &[String]) -> Option<Session<'_>>
+        ensures { MatchOption result
+            ((file : List ℕ) (options : Options) → ¬ (AskFor (map string_bytes words.now) (Play file options)))
+            (λ session. AskFor (map string_bytes words.now) (session_request session)) }
     {
         match words {
             [play, file, options @ ..] if play.as_str() == "play" => {
