@@ -16,7 +16,7 @@ use Rattle.cep_ground.specs.Refusals.{IsRefusedFor}
 use Rattle.cep_log.specs.declared.end_word.EndWord.{EndWord}
 use Rattle.cep_log.specs.declared.end_word.EndWord.TheVariants.{Quiet, Input, Turns, Offers, Typed, Atom, State}
 use Rattle.cep_words.specs.declared.options.Options.{Options}
-use Rattle.cep_words.specs.Words.{Request, Play, AskFor, HaveNoForm}
+use Rattle.cep_words.specs.Words.{Request, Play, Check, AskFor}
 use Rattle.cep_play.specs.declared.settings.Settings.{Settings}
 use Rattle.cep_log.specs.Lines.{line}
 use Rattle.cep_log.specs.declared.log.Log.{Log}
@@ -26,21 +26,40 @@ use Rattle.cep_play.specs.Run.{Turn, Ending, AreMachineSteps, unproved}
 use Rattle.cep_play.specs.Dialogue.{Dialogue}
 use Rattle.cep_play.specs.Logs.{written_bytes}
 
--- the files that are asked of the shelf for a request
-abbrev pub names_asked : Request → List (List ℕ)
-names_asked (Play file options) = file ∷ []
+-- the file of the program that a request is about
+abbrev pub program_file : Request → List ℕ
+program_file (Play file options) = file
+program_file (Check file log) = file
+
+-- P holds of what the words ask for
+abbrev pub OfRequest : List (List ℕ) → (Request → Type 0) → Type 0
+OfRequest words P = (request : Request) × AskFor words request × P request
 
 -- the words ask for the program in a file to be played with options, and P holds of the file's name and of these
 abbrev pub OfPlay : List (List ℕ) → (List ℕ → Options → Type 0) → Type 0
 OfPlay words P = (file : List ℕ) × (options : Options) × AskFor words (Play file options) × P file options
 
--- P holds of the names that the words ask of the shelf: none, where they have no form
-abbrev pub OfNames : List (List ℕ) → (List (List ℕ) → Type 0) → Type 0
-OfNames words P = ((request : Request) × AskFor words request × P (names_asked request)) ⊎ (HaveNoForm words × P [])
+-- the words ask for the transcript in one file to be checked against the program in another, and P holds of both names
+abbrev pub OfCheck : List (List ℕ) → (List ℕ → List ℕ → Type 0) → Type 0
+OfCheck words P = (file : List ℕ) × (log : List ℕ) × AskFor words (Check file log) × P file log
 
 -- P holds of the text of a file: of the one that is there, where the files are told
 abbrev pub OfFile : Option Files → List ℕ → (List ℕ → Type 0) → Type 0
 OfFile files name P = (text : List ℕ) × HasFile files name text × P text
+
+-- a text spells a program
+abbrev pub IsProgramText : List ℕ → Type 0
+IsProgramText text = (program : Parts) × Spells text program
+
+-- The names that are asked of the shelf for a request have P: the program's file; and for a check, the transcript's behind it where the program's was read and spells one.
+abbrev pub AsksFor : Option Files → (unread : Type 0) → (List (List ℕ) → Type 0) → Request → Type 0
+AsksFor files unread P (Play file options) = P (file ∷ [])
+AsksFor files unread P (Check file log) = (OfFile files file IsProgramText × P (file ∷ log ∷ [])) ⊎ ((OfFile files file (λ text. ¬ (IsProgramText text)) ⊎ unread) × P (file ∷ []))
+
+-- Where memory ran out, the names that were asked of the shelf have P: not more than are asked for the request.
+abbrev pub AsksUpTo : Option Files → (List (List ℕ) → Type 0) → Request → Type 0
+AsksUpTo files P (Play file options) = P (file ∷ [])
+AsksUpTo files P (Check file log) = (OfFile files file IsProgramText × P (file ∷ log ∷ [])) ⊎ P (file ∷ [])
 
 -- where the names asked for are told, these were added
 abbrev pub Adds : Option (List (List ℕ)) → Option (List (List ℕ)) → List (List ℕ) → Type 0
@@ -56,6 +75,9 @@ refusal_text refusal =
 
 abbrev pub no_program : List ℕ
 no_program = codes "cannot read program"
+
+abbrev pub no_transcript : List ℕ
+no_transcript = codes "cannot read transcript"
 
 -- this line is written, and nothing is read
 abbrev pub Writes : {C : Type 0} → (C → Option (List Event)) → (C → Option (List ℕ)) → C → C → List ℕ → Type 0

@@ -5,4 +5,5 @@ pub mod Dialogue
 pub mod Logs
 pub mod Turn
 pub mod Command
+pub mod Checked
 pub mod Outcome

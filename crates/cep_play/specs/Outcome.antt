@@ -6,13 +6,18 @@ use Rattle.cep_base.specs.declared.console.ConsoleFault.{ConsoleFault}
 use Rattle.cep_base.specs.declared.console.ConsoleFault.TheVariants as faults
 use Rattle.cep_base.specs.Files.{Files}
 use Rattle.cep_base.specs.Faults.{Rose}
-use Rattle.cep_play.specs.declared.command.Status.{Status}
-use Rattle.cep_play.specs.declared.command.Status.TheVariants.{Ended, Usage, Refused, Limited, Console, Unread, Memory}
+use Rattle.cep_rule.specs.declared.parts.Parts.{Parts}
+use Rattle.cep_ground.specs.Texts.{Spells}
+use Rattle.cep_play.specs.declared.status.Status.{Status}
+use Rattle.cep_play.specs.declared.status.Status.TheVariants.{Ended, Accepted, Rejected, Usage, Refused, Limited, Console, Unread, UnreadLog, Memory}
 use Rattle.cep_log.specs.declared.end_word.EndWord.{EndWord}
+use Rattle.cep_check.specs.declared.cause.Verdict.{Verdict}
+use Rattle.cep_check.specs.declared.cause.Verdict.TheVariants as verdicts
 use Rattle.cep_words.specs.declared.options.Options.{Options}
-use Rattle.cep_words.specs.Words.{HaveNoForm}
+use Rattle.cep_words.specs.Words.{Play, Check, HaveNoForm}
 use Rattle.cep_log.specs.declared.end_word.EndWord.TheVariants.{Quiet, Input, Turns, Offers, Typed, Atom, State}
-use Rattle.cep_play.specs.Command.{OfPlay, OfNames, OfFile, Adds, Writes, Plays, Refuses, IsFinished, IsLimited, usage, no_program}
+use Rattle.cep_play.specs.Command.{program_file, OfRequest, OfPlay, OfCheck, OfFile, IsProgramText, AsksFor, AsksUpTo, Adds, Writes, Plays, Refuses, IsFinished, IsLimited, usage, no_program, no_transcript}
+use Rattle.cep_play.specs.Checked.{Accepts, Rejects, Checks}
 
 -- the status of a run that ended with this word
 abbrev pub status_of : EndWord → Status
@@ -24,15 +29,35 @@ status_of Typed = Limited
 status_of Atom = Limited
 status_of State = Limited
 
--- what a status says of a text that is played with options
-abbrev pub OfText : {C : Type 0} → (C → Option (List Event)) → (C → Option (List ℕ)) → C → C → List ℕ → Options → Status → Type 0
-OfText talk left old new text options Ended = Plays talk left old new text options IsFinished
-OfText talk left old new text options Limited = Plays talk left old new text options IsLimited
-OfText talk left old new text options Refused = Refuses talk left old new text
-OfText talk left old new text options Usage = ⊥
-OfText talk left old new text options Console = ⊥
-OfText talk left old new text options Unread = ⊥
-OfText talk left old new text options Memory = ⊥
+-- the status of a verdict
+abbrev pub status_of_verdict : Verdict → Status
+status_of_verdict (verdicts.Accepted steps) = Accepted
+status_of_verdict (verdicts.Refused line cause) = Rejected
+
+-- a text spells this program, and no other
+abbrev pub IsSpelledBy : Parts → List ℕ → Type 0
+IsSpelledBy program text = Spells text program × ((other : Parts) → Spells text other → other ≡ program)
+
+-- the text of a file spells this program, and no other
+abbrev pub IsProgramIn : Option Files → List ℕ → Parts → Type 0
+IsProgramIn files name program = OfFile files name (IsSpelledBy program)
+
+-- no program was read: the file's text spells none, or the file was not read
+abbrev pub NoneIsRead : Option Files → Type 0 → List ℕ → Type 0
+NoneIsRead files unread name = OfFile files name (λ text. ¬ (IsProgramText text)) ⊎ unread
+
+-- what a status says of a file in which no program is found
+abbrev pub IsNoProgram : {C : Type 0} → (C → Option (List Event)) → (C → Option (List ℕ)) → C → C → Option Files → List ℕ → Status → Type 0
+IsNoProgram talk left old new files name Refused = OfFile files name (Refuses talk left old new)
+IsNoProgram talk left old new files name Unread = Writes talk left old new no_program
+IsNoProgram talk left old new files name Ended = ⊥
+IsNoProgram talk left old new files name Accepted = ⊥
+IsNoProgram talk left old new files name Rejected = ⊥
+IsNoProgram talk left old new files name Usage = ⊥
+IsNoProgram talk left old new files name Limited = ⊥
+IsNoProgram talk left old new files name Console = ⊥
+IsNoProgram talk left old new files name UnreadLog = ⊥
+IsNoProgram talk left old new files name Memory = ⊥
 
 -- what a status says of a file that is played with options
 abbrev pub OfRun : {C : Type 0} → (C → Option (List Event)) → (C → Option (List ℕ)) → C → C → Option Files → List ℕ → Options → Status → Type 0
@@ -40,14 +65,63 @@ OfRun talk left old new files name options Ended = OfFile files name (λ text. P
 OfRun talk left old new files name options Limited = OfFile files name (λ text. Plays talk left old new text options IsLimited)
 OfRun talk left old new files name options Refused = OfFile files name (Refuses talk left old new)
 OfRun talk left old new files name options Unread = Writes talk left old new no_program
+OfRun talk left old new files name options Accepted = ⊥
+OfRun talk left old new files name options Rejected = ⊥
 OfRun talk left old new files name options Usage = ⊥
 OfRun talk left old new files name options Console = ⊥
+OfRun talk left old new files name options UnreadLog = ⊥
 OfRun talk left old new files name options Memory = ⊥
 
--- the shelf's count of faults rose where the file could not be read, and stays where it could
+-- what a status says of bytes that are checked, and of the line that tells what was found
+abbrev pub OfBytes : Parts → List ℕ → List ℕ → Status → Type 0
+OfBytes program bytes text Accepted = Accepts program bytes text
+OfBytes program bytes text Rejected = Rejects program bytes text
+OfBytes program bytes text Ended = ⊥
+OfBytes program bytes text Usage = ⊥
+OfBytes program bytes text Refused = ⊥
+OfBytes program bytes text Limited = ⊥
+OfBytes program bytes text Console = ⊥
+OfBytes program bytes text Unread = ⊥
+OfBytes program bytes text UnreadLog = ⊥
+OfBytes program bytes text Memory = ⊥
+
+-- Bytes are checked against a program: the line is written that tells what was found.
+abbrev pub IsChecked : {C : Type 0} → (C → Option (List Event)) → (C → Option (List ℕ)) → C → C → Parts → List ℕ → Status → Type 0
+IsChecked talk left old new program bytes status = (text : List ℕ) × OfBytes program bytes text status × Writes talk left old new text
+
+-- A transcript in a file is checked against a program, or it was not read.
+abbrev pub OfTranscript : {C : Type 0} → (C → Option (List Event)) → (C → Option (List ℕ)) → C → C → Option Files → Parts → List ℕ → Status → Type 0
+OfTranscript talk left old new files program name UnreadLog = Writes talk left old new no_transcript
+OfTranscript talk left old new files program name Accepted = OfFile files name (λ bytes. IsChecked talk left old new program bytes Accepted)
+OfTranscript talk left old new files program name Rejected = OfFile files name (λ bytes. IsChecked talk left old new program bytes Rejected)
+OfTranscript talk left old new files program name Ended = ⊥
+OfTranscript talk left old new files program name Usage = ⊥
+OfTranscript talk left old new files program name Refused = ⊥
+OfTranscript talk left old new files program name Limited = ⊥
+OfTranscript talk left old new files program name Console = ⊥
+OfTranscript talk left old new files program name Unread = ⊥
+OfTranscript talk left old new files program name Memory = ⊥
+
+-- what a status says of a file against which the transcript in another is checked
+abbrev pub OfAudit : {C : Type 0} → (C → Option (List Event)) → (C → Option (List ℕ)) → C → C → Option Files → List ℕ → List ℕ → Status → Type 0
+OfAudit talk left old new files name log Accepted = OfFile files name (λ text. Checks talk left old new files text log Accepts)
+OfAudit talk left old new files name log Rejected = OfFile files name (λ text. Checks talk left old new files text log Rejects)
+OfAudit talk left old new files name log Refused = OfFile files name (Refuses talk left old new)
+OfAudit talk left old new files name log Unread = Writes talk left old new no_program
+OfAudit talk left old new files name log UnreadLog = OfFile files name IsProgramText × Writes talk left old new no_transcript
+OfAudit talk left old new files name log Ended = ⊥
+OfAudit talk left old new files name log Usage = ⊥
+OfAudit talk left old new files name log Limited = ⊥
+OfAudit talk left old new files name log Console = ⊥
+OfAudit talk left old new files name log Memory = ⊥
+
+-- the shelf's count of faults rose where a file could not be read, and stays where all could
 abbrev pub CountsFaults : ℕ → ℕ → Status → Type 0
 CountsFaults before after Unread = Rose before after
+CountsFaults before after UnreadLog = Rose before after
 CountsFaults before after Ended = after ≡ before
+CountsFaults before after Accepted = after ≡ before
+CountsFaults before after Rejected = after ≡ before
 CountsFaults before after Limited = after ≡ before
 CountsFaults before after Refused = after ≡ before
 CountsFaults before after Usage = after ≡ before
@@ -57,31 +131,43 @@ CountsFaults before after Memory = Unit {0}
 -- what a status says of the words
 abbrev pub OfWords : {C : Type 0} → (C → Option (List Event)) → (C → Option (List ℕ)) → C → C → Option Files → List (List ℕ) → Status → Type 0
 OfWords talk left old new files words Usage = HaveNoForm words × Writes talk left old new usage
-OfWords talk left old new files words Ended = OfPlay words (λ name options. OfRun talk left old new files name options Ended)
-OfWords talk left old new files words Limited = OfPlay words (λ name options. OfRun talk left old new files name options Limited)
-OfWords talk left old new files words Refused = OfPlay words (λ name options. OfRun talk left old new files name options Refused)
-OfWords talk left old new files words Unread = OfPlay words (λ name options. OfRun talk left old new files name options Unread)
+OfWords talk left old new files words Ended = OfPlay words (λ name options. OfFile files name (λ text. Plays talk left old new text options IsFinished))
+OfWords talk left old new files words Limited = OfPlay words (λ name options. OfFile files name (λ text. Plays talk left old new text options IsLimited))
+OfWords talk left old new files words Accepted = OfCheck words (λ name log. OfFile files name (λ text. Checks talk left old new files text log Accepts))
+OfWords talk left old new files words Rejected = OfCheck words (λ name log. OfFile files name (λ text. Checks talk left old new files text log Rejects))
+OfWords talk left old new files words Refused = OfRequest words (λ request. OfFile files (program_file request) (Refuses talk left old new))
+OfWords talk left old new files words Unread = OfRequest words (λ request. Writes talk left old new no_program)
+OfWords talk left old new files words UnreadLog = OfCheck words (λ name log. OfFile files name IsProgramText × Writes talk left old new no_transcript)
 OfWords talk left old new files words Console = ⊥
 OfWords talk left old new files words Memory = ⊥
 
 -- the file was asked for, but for want of memory perhaps
-abbrev pub AsksFile : Option (List (List ℕ)) → List ℕ → Option (List (List ℕ)) → Result Status ConsoleFault → Type 0
-AsksFile before name after (Ok status) = Adds before after (name ∷ [])
+abbrev pub AsksFile : {T : Type 0} → Option (List (List ℕ)) → List ℕ → Option (List (List ℕ)) → Result T ConsoleFault → Type 0
+AsksFile before name after (Ok found) = Adds before after (name ∷ [])
 AsksFile before name after (Err faults.Failed) = Adds before after (name ∷ [])
 AsksFile before name after (Err (faults.Memory error)) = Adds before after (name ∷ []) ⊎ (after ≡ before)
 
+-- what is asked for a check was asked for, but for want of memory perhaps
+abbrev pub AsksFiles : Option Files → Type 0 → Option (List (List ℕ)) → List ℕ → List ℕ → Option (List (List ℕ)) → Result Status ConsoleFault → Type 0
+AsksFiles files unread before name log after (Ok status) = AsksFor files unread (Adds before after) (Check name log)
+AsksFiles files unread before name log after (Err faults.Failed) = AsksFor files unread (Adds before after) (Check name log)
+AsksFiles files unread before name log after (Err (faults.Memory error)) = AsksUpTo files (Adds before after) (Check name log) ⊎ (after ≡ before)
+
 -- what the words ask for was asked for, but for want of memory perhaps
-abbrev pub AskedAsSaid : Option (List (List ℕ)) → List (List ℕ) → Option (List (List ℕ)) → Result Status ConsoleFault → Type 0
-AskedAsSaid before words after (Ok status) = OfNames words (Adds before after)
-AskedAsSaid before words after (Err faults.Failed) = OfNames words (Adds before after)
-AskedAsSaid before words after (Err (faults.Memory error)) = OfNames words (Adds before after) ⊎ (after ≡ before)
+abbrev pub AskedAsSaid : Option Files → Type 0 → Option (List (List ℕ)) → List (List ℕ) → Option (List (List ℕ)) → Result Status ConsoleFault → Type 0
+AskedAsSaid files unread before words after (Ok status) = OfRequest words (AsksFor files unread (Adds before after)) ⊎ (HaveNoForm words × Adds before after [])
+AskedAsSaid files unread before words after (Err faults.Failed) = OfRequest words (AsksFor files unread (Adds before after)) ⊎ (HaveNoForm words × Adds before after [])
+AskedAsSaid files unread before words after (Err (faults.Memory error)) = OfRequest words (AsksUpTo files (Adds before after)) ⊎ (after ≡ before)
 
 -- the status of the process
 abbrev pub code_of : Status → ℕ
 code_of Ended = 0
+code_of Accepted = 0
+code_of Rejected = 1
 code_of Usage = 2
 code_of Refused = 3
 code_of Limited = 4
 code_of Console = 6
 code_of Unread = 7
+code_of UnreadLog = 7
 code_of Memory = 9

@@ -1,15 +1,18 @@
-//! The whole command over any console and shelf: reads a program's text, plays it with a person,
-//! and answers the status that the process ends with.
+//! The whole command over any console and shelf: reads a program's text, plays it with a person
+//! or checks a transcript against it, and answers the status that the process ends with.
 #![tactic(auto)]
 
+mod checking;
 mod choice;
 mod command;
 mod deciding;
 mod dialogue;
 mod laws;
+mod loading;
 mod log_laws;
 mod proving;
 mod settings;
+mod status;
 mod turn;
 
 pub use command::ceptre;

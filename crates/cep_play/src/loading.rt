@@ -1,0 +1,97 @@
+// The program in a file of the shelf.
+ghost use Rattle.std.specs.Prelude.{◌≡◌, ◌++◌, IfOk, IfErr, IsErrOf, OnOk};
+ghost use Rattle.cep_base.specs.declared.console.ConsoleFault.TheVariants.{Failed};
+ghost use Rattle.cep_base.specs.Faults.{Rose};
+ghost use Rattle.cep_base.specs.Talk.{ConsoleCause};
+ghost use Rattle.cep_log.specs.Lines.{line};
+ghost use Rattle.cep_play.specs.declared.status.Status.TheVariants.{Refused};
+ghost use Rattle.cep_play.specs.Command.{IsProgramText, Refuses, Writes, refusal_text};
+ghost use Rattle.cep_play.specs.Outcome.{IsSpelledBy, IsProgramIn, IsNoProgram, NoneIsRead, CountsFaults, AsksFile};
+
+use crate::status::Status;
+use cep_base::limits::MOST_TEXT;
+use cep_base::{Console, ConsoleFault, Shelf, ShelfFault, Text};
+use cep_ground::laws::{no_program_is_refused, one_program};
+use cep_ground::{accept, too_long};
+use cep_refusal::Refusal;
+use cep_rule::Program;
+use std::alloc::{AllocError, Global};
+
+// The line of a refusal.
+#[tactic(auto, using(std::proofs::Common::append_assoc), unfolding(crate::specs::Command::refusal_text))]
+fn put_refusal(out: &mut Text, refusal: Refusal) -> Result<(), AllocError>
+    ensures { OnOk result (out.new ≡ out.old ++ line (refusal_text refusal)) }
+{
+    out.append(b"refused ")?;
+    out.number(u64::from(refusal.pos.line))?;
+    out.append(b":")?;
+    out.number(u64::from(refusal.pos.col))?;
+    out.append(b" ")?;
+    out.number(u64::from(refusal.reason.number()))?;
+    out.append(b" ")?;
+    out.append(refusal.reason.name().as_bytes())?;
+    out.append(b"\n")
+}
+
+/// Writes why a text is refused.
+fn refuse<C: Console>(alloc: Global, refusal: Refusal, console: &mut C) -> Result<(), ConsoleFault>
+    ensures told { OnOk result (Writes C.talk C.left console.old console.new (refusal_text refusal)) }
+    ensures cause { ConsoleCause (C.faults console.old) (C.faults console.new) result }
+{
+    let mut line = Text::new(alloc);
+    put_refusal(&mut line, refusal)?;
+    console.put(line.bytes())
+}
+
+// The program that a text spells, or else the status of a text that is refused, whose line was written.
+fn program_of<C: Console>(
+    alloc: Global,
+    text: &[u8],
+    console: &mut C,
+) -> Result<Result<Program, Status>, ConsoleFault>
+    ensures program { IfOk result (λ found. IfOk found (λ program. IsSpelledBy program.now text.now × (console.new ≡ console.old))) }
+    ensures refused { IfOk result (λ found. IfErr found (λ status. (status ≡ Refused) × Refuses C.talk C.left console.old console.new text.now)) }
+    ensures failed { IsErrOf result Failed → ¬ (IsProgramText text.now) }
+    ensures cause { ConsoleCause (C.faults console.old) (C.faults console.new) result }
+{
+    one_program();
+    no_program_is_refused();
+    match accept(alloc, text)? {
+        Ok(program) => Ok(Ok(program)),
+        Err(refusal) => {
+            refuse(alloc, refusal, console)?;
+            Ok(Err(Status::Refused))
+        }
+    }
+}
+
+/// The program in a file of the shelf, or else the status that tells why there is none, whose line
+/// was written.
+pub(crate) fn program_in<C: Console, H: Shelf>(
+    alloc: Global,
+    file: &str,
+    console: &mut C,
+    shelf: &mut H,
+) -> Result<Result<Program, Status>, ConsoleFault>
+    ensures program { IfOk result (λ found. IfOk found (λ program. IsProgramIn (H.files shelf.old) file.now program.now × (console.new ≡ console.old) × (H.faults shelf.new ≡ H.faults shelf.old))) }
+    ensures none { IfOk result (λ found. IfErr found (IsNoProgram C.talk C.left console.old console.new (H.files shelf.old) file.now)) }
+    ensures faults { IfOk result (λ found. IfErr found (CountsFaults (H.faults shelf.old) (H.faults shelf.new))) }
+    ensures failed { IsErrOf result Failed → NoneIsRead (H.files shelf.old) (Rose (H.faults shelf.old) (H.faults shelf.new)) file.now }
+    ensures cause { ConsoleCause (C.faults console.old) (C.faults console.new) result }
+    ensures asked { AsksFile (H.asked shelf.old) file.now (H.asked shelf.new) result }
+    ensures files { H.files shelf.new ≡ H.files shelf.old }
+{
+    no_program_is_refused();
+    match shelf.load(alloc, file, MOST_TEXT) {
+        Ok(text) => program_of(alloc, &text, console),
+        Err(ShelfFault::TooLong) => {
+            refuse(alloc, too_long(), console)?;
+            Ok(Err(Status::Refused))
+        }
+        Err(ShelfFault::Failed) => {
+            console.put(b"cannot read program\n")?;
+            Ok(Err(Status::Unread))
+        }
+        Err(ShelfFault::Memory(error)) => Err(ConsoleFault::Memory(error)),
+    }
+}
