@@ -86,43 +86,41 @@ fn put_cause(program: &Program, cause: &Cause, out: &mut Text) -> Result<(), All
     ensures err { OnErr result (IsBegun out.old (cause_text program.now cause.now) out.new) }
 {
     match cause {
-        Cause::StartStage { said, is } => {
-            put_stages(program, b"StartStage said ", *said, *is, out)
-        }
+        Cause::StartStage { said, is } => { put_stages(program, b"StartStage", *said, *is, out) }
         Cause::StartState { atom, said, is } => {
-            put_difference(program, b"StartState said ", atom, *said, *is, out)
+            put_difference(program, b"StartState", atom, *said, *is, out)
         }
         Cause::OtherStage { rule } => put_other_stage(program, b"OtherStage ", *rule, out),
         Cause::NotContained { atom, have, need } => {
-            put_lack(program, b"NotContained have ", atom, *have, *need, out)
+            put_lack(program, b"NotContained", atom, *have, *need, out)
         }
         Cause::NotProved { premise } => put_not_proved(*premise, out),
         Cause::TooHigh { premise, height } => put_too_high(*premise, *height, out),
         Cause::NotQuiet { offer } => put_not_quiet(program, offer, out),
         Cause::OverLimit { which } => out.append(limit_text(*which)),
-        Cause::StageLine { said, is } => put_stages(program, b"StageLine said ", *said, *is, out),
+        Cause::StageLine { said, is } => put_stages(program, b"StageLine", *said, *is, out),
         Cause::NotEnded => out.append(b"NotEnded"),
         Cause::EndState { atom, said, is } => {
-            put_difference(program, b"EndState said ", atom, *said, *is, out)
+            put_difference(program, b"EndState", atom, *said, *is, out)
         }
     }
 }
 
-// The two stages behind the words.
+// The two stages behind the cause's name.
 #[tactic(auto, using(std::proofs::Common::append_assoc))]
 fn put_stages(
     program: &Program,
-    words: &[u8],
+    name: &[u8],
     said: u32,
     is: u32,
     out: &mut Text,
 ) -> Result<(), AllocError>
     requires said { said < length program.now.stages }
     requires is { is < length program.now.stages }
-    ensures ok { OnOk result (out.new ≡ out.old ++ (words.now ++ stages_text program.now said is)) }
-    ensures err { OnErr result (IsBegun out.old (words.now ++ stages_text program.now said is) out.new) }
+    ensures ok { OnOk result (out.new ≡ out.old ++ (name.now ++ stages_text program.now said is)) }
+    ensures err { OnErr result (IsBegun out.old (name.now ++ stages_text program.now said is) out.new) }
 {
-    out.append(words)?;
+    out.append(name)?;
     put_both_stages(program, said, is, out)
 }
 
@@ -134,6 +132,7 @@ fn put_both_stages(program: &Program, said: u32, is: u32, out: &mut Text) -> Res
     ensures ok { OnOk result (out.new ≡ out.old ++ stages_text program.now said is) }
     ensures err { OnErr result (IsBegun out.old (stages_text program.now said is) out.new) }
 {
+    out.append(b" said ")?;
     put_stage_name(program, said, out)?;
     out.append(b" is ")?;
     put_stage_name(program, is, out)
@@ -159,21 +158,21 @@ fn put_rule_name(program: &Program, rule: u32, out: &mut Text) -> Result<(), All
     out.append(rules.get(rule as usize).name.bytes())
 }
 
-// The atom whose copies differ, behind the words.
+// The atom whose copies differ, behind the cause's name.
 #[tactic(auto, using(std::proofs::Common::append_assoc))]
 fn put_difference(
     program: &Program,
-    words: &[u8],
+    name: &[u8],
     atom: &Atom,
     said: u32,
     is: u32,
     out: &mut Text,
 ) -> Result<(), AllocError>
     requires { IsTypedGround program.now.signature (atom_of atom.now) }
-    ensures ok { OnOk result (out.new ≡ out.old ++ (words.now ++ difference_text program.now.signature said is (atom_of atom.now))) }
-    ensures err { OnErr result (IsBegun out.old (words.now ++ difference_text program.now.signature said is (atom_of atom.now)) out.new) }
+    ensures ok { OnOk result (out.new ≡ out.old ++ (name.now ++ difference_text program.now.signature said is (atom_of atom.now))) }
+    ensures err { OnErr result (IsBegun out.old (name.now ++ difference_text program.now.signature said is (atom_of atom.now)) out.new) }
 {
-    out.append(words)?;
+    out.append(name)?;
     put_said_and_is(program, atom, said, is, out)
 }
 
@@ -190,6 +189,7 @@ fn put_said_and_is(
     ensures ok { OnOk result (out.new ≡ out.old ++ difference_text program.now.signature said is (atom_of atom.now)) }
     ensures err { OnErr result (IsBegun out.old (difference_text program.now.signature said is (atom_of atom.now)) out.new) }
 {
+    out.append(b" said ")?;
     out.number(u64::from(said))?;
     out.append(b" is ")?;
     put_copies(program, is, atom, out)
@@ -207,21 +207,21 @@ fn put_copies(program: &Program, count: u32, atom: &Atom, out: &mut Text) -> Res
     put_atom(program, atom, out)
 }
 
-// The atom that lacks, behind the words.
+// The atom that lacks, behind the cause's name.
 #[tactic(auto, using(std::proofs::Common::append_assoc))]
 fn put_lack(
     program: &Program,
-    words: &[u8],
+    name: &[u8],
     atom: &Atom,
     have: u32,
     need: u32,
     out: &mut Text,
 ) -> Result<(), AllocError>
     requires { IsTypedGround program.now.signature (atom_of atom.now) }
-    ensures ok { OnOk result (out.new ≡ out.old ++ (words.now ++ lack_text program.now.signature have need (atom_of atom.now))) }
-    ensures err { OnErr result (IsBegun out.old (words.now ++ lack_text program.now.signature have need (atom_of atom.now)) out.new) }
+    ensures ok { OnOk result (out.new ≡ out.old ++ (name.now ++ lack_text program.now.signature have need (atom_of atom.now))) }
+    ensures err { OnErr result (IsBegun out.old (name.now ++ lack_text program.now.signature have need (atom_of atom.now)) out.new) }
 {
-    out.append(words)?;
+    out.append(name)?;
     put_have_and_need(program, atom, have, need, out)
 }
 
@@ -238,24 +238,25 @@ fn put_have_and_need(
     ensures ok { OnOk result (out.new ≡ out.old ++ lack_text program.now.signature have need (atom_of atom.now)) }
     ensures err { OnErr result (IsBegun out.old (lack_text program.now.signature have need (atom_of atom.now)) out.new) }
 {
+    out.append(b" have ")?;
     out.number(u64::from(have))?;
     out.append(b" need ")?;
     put_copies(program, need, atom, out)
 }
 
-// The rule that is of another stage, behind the word.
+// The rule that is of another stage, behind the cause's name.
 #[tactic(auto, using(std::proofs::Common::append_assoc))]
 fn put_other_stage(
     program: &Program,
-    word: &[u8],
+    name: &[u8],
     rule: u32,
     out: &mut Text,
 ) -> Result<(), AllocError>
     requires { rule < length program.now.rules }
-    ensures ok { OnOk result (out.new ≡ out.old ++ (word.now ++ offer_name (slice_get program.now.rules rule))) }
-    ensures err { OnErr result (IsBegun out.old (word.now ++ offer_name (slice_get program.now.rules rule)) out.new) }
+    ensures ok { OnOk result (out.new ≡ out.old ++ (name.now ++ offer_name (slice_get program.now.rules rule))) }
+    ensures err { OnErr result (IsBegun out.old (name.now ++ offer_name (slice_get program.now.rules rule)) out.new) }
 {
-    out.append(word)?;
+    out.append(name)?;
     put_rule_name(program, rule, out)
 }
 
