@@ -1,5 +1,5 @@
 -- What checking a log comes to can be told.
-use Rattle.std.proofs.Common.{◌≡◌, ⊎_elim, ℕ, zero, suc, ◌+◌, ◌<◌, List, [], ◌∷◌, ◌++◌, length, map, Option, Some, None, refl, sym, ap, subst, ◌∙◌, arith, Contains}
+use Rattle.std.proofs.Common.{◌≡◌, ⊎_elim, ℕ, zero, suc, ◌+◌, ◌<◌, List, [], ◌∷◌, ◌++◌, length, Option, Some, None, refl, sym, ap, subst, ◌∙◌, arith}
 use Rattle.std.specs.Prelude.{slice_get, IfSome, IsSomeAnd}
 use Rattle.std.specs.List.{AllByRecursion}
 use Rattle.std.proofs.lemmas.List.{map-append}
@@ -7,7 +7,7 @@ use Rattle.cep_base.proofs.Elements.{all_at, both_all}
 use Rattle.cep_base.proofs.Lists.{all_mapped, holds_at}
 use Rattle.cep_term.specs.BagLaws.{BagLaws}
 use Rattle.cep_term.specs.Tree.{Tree, AtomTree, atom_of}
-use Rattle.cep_term.specs.Multiset.{Multiset, count_of, gathered}
+use Rattle.cep_term.specs.Multiset.{Multiset, count_of}
 use Rattle.cep_rule.specs.declared.rule.Rule.{Rule}
 use Rattle.cep_rule.specs.declared.parts.Parts.{Parts}
 use Rattle.cep_rule.specs.declared.offer.Offer.{Offer}
@@ -29,9 +29,8 @@ use Rattle.cep_check.specs.declared.cause.Cause.{Cause}
 use Rattle.cep_check.specs.declared.cause.Cause.TheVariants.{StartStage, StartState, OtherStage, NotContained, NotProved, TooHigh, NotQuiet, OverLimit, StageLine, NotEnded, EndState}
 use Rattle.cep_check.specs.declared.cause.Verdict.{Verdict}
 use Rattle.cep_check.specs.declared.cause.Verdict.TheVariants.{Accepted, Refused}
-use Rattle.cep_check.specs.Causes.{IsFirstDifference, IsFirstLack, IsStartCause, IsStepCause, IsEndCause, IsRefusedFrom, IsLogRefused, IsVerdict}
+use Rattle.cep_check.specs.Causes.{IsFirstDifference, IsFirstLack, IsStartCause, IsStepCause, IsEndCause, IsRefusedFrom, IsVerdict}
 use Rattle.cep_check.specs.Telling.{IsTellableCause, IsTellable}
-use Rattle.cep_check.specs.Walking.{IsReadyStep}
 use Rattle.cep_check.proofs.Parted.{all_kept}
 use Rattle.cep_check.proofs.Steps.{ready}
 
