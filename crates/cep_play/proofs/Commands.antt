@@ -1,7 +1,7 @@
 -- What the statuses of the command say.
 use Rattle.std.proofs.Common.{◌≡◌, ℕ, ◌+◌, ◌<◌, ◌≤◌, List, [], ◌∷◌, ◌++◌, length, map, refl, ap, ◌∙◌, append_assoc, sym, subst, inl, inr, lit<, arith, Option, None, Some}
 use Rattle.std.proofs.lemmas.List.{length-replicate}
-use Rattle.std.specs.Prelude.{Contains, replicate}
+use Rattle.std.specs.Prelude.{◌⊎◌, Contains, replicate}
 use Rattle.std.specs.Option.{option_map, IsSomeAnd}
 use Rattle.std.specs.List.{AllByRecursion}
 use Rattle.cep_base.specs.declared.console.Event.{Event}
@@ -125,11 +125,11 @@ module _ {C : Type 0} (talk : C → Option (List Event)) (left : C → Option (L
   pub none_played : (files : Option Files) (name : List ℕ) (options : Options) (status : Status) → IsNoProgram talk left old new files name status → OfRun talk left old new files name options status
   none_played files name options Refused is = is
   none_played files name options Unread is = is
-  none_played files name options Ended is = is
+  none_played files name options Ended is = absurd is
   none_played files name options Accepted is = is
   none_played files name options Rejected is = is
   none_played files name options Usage is = is
-  none_played files name options Limited is = is
+  none_played files name options Limited is = absurd is
   none_played files name options Console is = is
   none_played files name options UnreadLog is = is
   none_played files name options Memory is = is
@@ -151,7 +151,7 @@ module _ {C : Type 0} (talk : C → Option (List Event)) (left : C → Option (L
   pub program_checked : (files : Option Files) (name log : List ℕ) (program : Parts) (status : Status) → IsProgramIn files name program → OfTranscript talk left old new files program log status → OfAudit talk left old new files name log status
   program_checked files name log program Accepted is_in of = (is_in.0, is_in.1, record { program = program; spells = is_in.2.0; only = is_in.2.1; bytes = of.0; in_file = of.1; line = of.2.0; tells = of.2.1; writes = of.2.2 })
   program_checked files name log program Rejected is_in of = (is_in.0, is_in.1, record { program = program; spells = is_in.2.0; only = is_in.2.1; bytes = of.0; in_file = of.1; line = of.2.0; tells = of.2.1; writes = of.2.2 })
-  program_checked files name log program UnreadLog is_in of = ((is_in.0, is_in.1, program, is_in.2.0), of)
+  program_checked files name log program UnreadLog is_in of = ((is_in.0, is_in.1, (program, is_in.2.0)), of)
   program_checked files name log program Ended is_in of = of
   program_checked files name log program Usage is_in of = of
   program_checked files name log program Refused is_in of = absurd of
@@ -212,9 +212,9 @@ adds_twice before between after one other first second = second ∙ ap (option_m
 -- the transcript is asked for behind a program that was read
 pub both_asked : (files : Option Files) (unread : Type 0) (before between : Option (List (List ℕ))) (name log : List ℕ) (after : Option (List (List ℕ))) (result : Result Status ConsoleFault) (program : Parts)
     → IsProgramIn files name program → Adds before between (name ∷ []) → AsksFile between log after result → AsksFiles files unread before name log after result
-both_asked files unread before between name log after (Ok status) program is_in first second = inl ((is_in.0, is_in.1, program, is_in.2.0), adds_twice before between after name log first second)
-both_asked files unread before between name log after (Err faults.Failed) program is_in first second = inl ((is_in.0, is_in.1, program, is_in.2.0), adds_twice before between after name log first second)
-both_asked files unread before between name log after (Err (faults.Memory error)) program is_in first (inl second) = inl (inl ((is_in.0, is_in.1, program, is_in.2.0), adds_twice before between after name log first second))
+both_asked files unread before between name log after (Ok status) program is_in first second = inl ((is_in.0, is_in.1, (program, is_in.2.0)), adds_twice before between after name log first second)
+both_asked files unread before between name log after (Err faults.Failed) program is_in first second = inl ((is_in.0, is_in.1, (program, is_in.2.0)), adds_twice before between after name log first second)
+both_asked files unread before between name log after (Err (faults.Memory error)) program is_in first (inl second) = inl (inl ((is_in.0, is_in.1, (program, is_in.2.0)), adds_twice before between after name log first second))
 both_asked files unread before between name log after (Err (faults.Memory error)) program is_in first (inr same) = inl (inr (subst (λ asked. Adds before asked (name ∷ [])) (sym same) first))
 
 -- where no program was read, it alone was asked for
@@ -232,7 +232,7 @@ one_asked talk left old new files was is before name log after UnreadLog none co
 one_asked talk left old new files was is before name log after Memory none counts adds = absurd none
 
 pub one_asked_in_vain : (files : Option Files) (unread : Type 0) (before : Option (List (List ℕ))) (name log : List ℕ) (after : Option (List (List ℕ))) (fault : ConsoleFault)
-    → (fault ≡ faults.Failed → NoneIsRead files unread name) → AsksFile {Status} before name after (Err fault) → AsksFiles files unread before name log after (Err fault)
+    → (fault ≡ faults.Failed → NoneIsRead files unread name) → AsksFile {T = Status} before name after (Err fault) → AsksFiles files unread before name log after (Err fault)
 one_asked_in_vain files unread before name log after faults.Failed none adds = inr (none refl, adds)
 one_asked_in_vain files unread before name log after (faults.Memory error) none (inl adds) = inl (inr adds)
 one_asked_in_vain files unread before name log after (faults.Memory error) none (inr same) = inr same

@@ -14,6 +14,7 @@ pub mod OneRun
 pub mod OneDialogue
 pub mod TurnSteps
 pub mod Commands
+pub mod Judged
 pub mod Due
 pub mod LegalLogs
 pub mod LogThere

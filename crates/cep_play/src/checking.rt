@@ -1,5 +1,5 @@
 // Checks a transcript against a program, and tells what was found.
-ghost use Rattle.std.specs.Prelude.{◌≡◌, ◌≤◌, ◌++◌, ℕ, List, length, string_bytes, IfOk};
+ghost use Rattle.std.specs.Prelude.{◌≡◌, ◌≤◌, ◌++◌, ℕ, List, length, IfOk, OnOk};
 ghost use Rattle.cep_base.specs.declared.limits.TheConstants.{MOST_LOG};
 ghost use Rattle.cep_base.specs.Faults.{Rose};
 ghost use Rattle.cep_base.specs.Talk.{ConsoleCause};
@@ -8,6 +8,8 @@ ghost use Rattle.cep_log.specs.Lines.{line};
 ghost use Rattle.cep_check.specs.declared.cause.Verdict.{Verdict};
 ghost use Rattle.cep_check.specs.Causes.{IsVerdict};
 ghost use Rattle.cep_check.specs.Telling.{verdict_text};
+ghost use Rattle.cep_play.specs.Command.{Writes};
+ghost use Rattle.cep_play.specs.Checked.{too_long_text};
 ghost use Rattle.cep_play.specs.Outcome.{status_of_verdict, OfBytes, IsChecked, OfTranscript, OfAudit, CountsFaults, AsksFile, AsksFiles};
 
 use crate::loading::program_in;
@@ -19,7 +21,6 @@ use cep_check::{Verdict, check, put_fault, put_verdict};
 use cep_log::laws::one_log;
 use cep_log::{Log, read_log};
 use cep_rule::Program;
-use cep_words::Audit;
 use std::alloc::{AllocError, Global};
 use std::sync::ledger::Ledger;
 
@@ -64,6 +65,7 @@ fn judge<L: Ledger>(
 {
     one_log();
     refused_logs_are_not_legal();
+    program.parts();
     match read_log(alloc, program, bytes)? {
         Ok(log) => judge_log(alloc, program, &log, out, steps),
         Err(fault) => {
@@ -92,6 +94,14 @@ fn check_bytes<C: Console, L: Ledger>(
     Ok(status)
 }
 
+/// Tells that a transcript is too long.
+fn put_too_long<C: Console>(console: &mut C) -> Result<(), ConsoleFault>
+    ensures told { OnOk result (Writes C.talk C.left console.old console.new too_long_text) }
+    ensures cause { ConsoleCause (C.faults console.old) (C.faults console.new) result }
+{
+    console.put(b"refused 0 TooLong\n")
+}
+
 /// Checks the transcript in a file of the shelf.
 fn check_transcript<C: Console, H: Shelf, L: Ledger>(
     alloc: Global,
@@ -111,7 +121,7 @@ fn check_transcript<C: Console, H: Shelf, L: Ledger>(
     match shelf.load(alloc, log, MOST_LOG) {
         Ok(bytes) => check_bytes(alloc, program, &bytes, console, steps),
         Err(ShelfFault::TooLong) => {
-            console.put(b"refused 0 TooLong\n")?;
+            put_too_long(console)?;
             Ok(Status::Rejected)
         }
         Err(ShelfFault::Failed) => {
@@ -125,20 +135,21 @@ fn check_transcript<C: Console, H: Shelf, L: Ledger>(
 /// Checks a transcript against a program, both in files of the shelf.
 pub(crate) fn check_file<C: Console, H: Shelf, L: Ledger>(
     alloc: Global,
-    audit: Audit,
+    file: &str,
+    log: &str,
     console: &mut C,
     shelf: &mut H,
     steps: &mut Steps<L>,
 ) -> Result<Status, ConsoleFault>
-    ensures outcome { IfOk result (OfAudit C.talk C.left console.old console.new (H.files shelf.old) (string_bytes audit.file.now) (string_bytes audit.log.now)) }
+    ensures outcome { IfOk result (OfAudit C.talk C.left console.old console.new (H.files shelf.old) file.now log.now) }
     ensures cause { ConsoleCause (C.faults console.old) (C.faults console.new) result }
     ensures faults { IfOk result (CountsFaults (H.faults shelf.old) (H.faults shelf.new)) }
-    ensures asked { AsksFiles (H.files shelf.old) (Rose (H.faults shelf.old) (H.faults shelf.new)) (H.asked shelf.old) (string_bytes audit.file.now) (string_bytes audit.log.now) (H.asked shelf.new) result }
+    ensures asked { AsksFiles (H.files shelf.old) (Rose (H.faults shelf.old) (H.faults shelf.new)) (H.asked shelf.old) file.now log.now (H.asked shelf.new) result }
     ensures files { H.files shelf.new ≡ H.files shelf.old }
     ensures counted { steps.old ≤ steps.new }
 {
-    match program_in(alloc, audit.file.as_str(), console, shelf)? {
-        Ok(program) => check_transcript(alloc, &program, audit.log.as_str(), console, shelf, steps),
+    match program_in(alloc, file, console, shelf)? {
+        Ok(program) => check_transcript(alloc, &program, log, console, shelf, steps),
         Err(status) => Ok(status),
     }
 }

@@ -2,6 +2,7 @@
 ghost use Rattle.std.specs.Prelude.{◌≡◌, ◌≢◌, ◌⊎◌, ◌<◌, ◌≤◌, [], ◌∷◌, map, string_bytes, IfOk, Contains};
 ghost use Rattle.cep_base.specs.Talk.{ConsoleCause};
 ghost use Rattle.cep_base.specs.Faults.{Rose};
+ghost use Rattle.cep_log.specs.declared.end_word.EndWord.{EndWord};
 ghost use Rattle.cep_words.specs.Words.{HaveNoForm, AreWithin};
 ghost use Rattle.cep_play.specs.Command.{program_file, OfRequest, OfPlay, OfCheck, OfFile, IsProgramText, AsksFor, AsksUpTo, settings_of, Adds, Plays, Refuses, Says, Writes, IsFinished, IsLimited, IsDue, usage, no_program, no_transcript};
 ghost use Rattle.cep_play.specs.Checked.{Accepts, Rejects, Checks};
@@ -17,7 +18,7 @@ use cep_ground::laws::clean_parts_are_a_program;
 use cep_rule::Program;
 use cep_scratch::Scratch;
 use cep_words::laws::one_request;
-use cep_words::{Options, Session, Task};
+use cep_words::{Options, Task};
 use std::alloc::Global;
 use std::sync::ledger::Ledger;
 
@@ -44,21 +45,22 @@ fn play_program<C: Console, L: Ledger>(
 /// Plays the program in a file of the shelf.
 fn play_file<C: Console, H: Shelf, L: Ledger>(
     alloc: Global,
-    session: Session,
+    file: &str,
+    options: Options,
     console: &mut C,
     shelf: &mut H,
     steps: &mut Steps<L>,
 ) -> Result<Status, ConsoleFault>
-    requires { AreWithin session.options }
-    ensures outcome { IfOk result (OfRun C.talk C.left console.old console.new (H.files shelf.old) (string_bytes session.file.now) session.options) }
+    requires { AreWithin options }
+    ensures outcome { IfOk result (OfRun C.talk C.left console.old console.new (H.files shelf.old) file.now options) }
     ensures cause { ConsoleCause (C.faults console.old) (C.faults console.new) result }
     ensures faults { IfOk result (CountsFaults (H.faults shelf.old) (H.faults shelf.new)) }
-    ensures asked { AsksFile (H.asked shelf.old) (string_bytes session.file.now) (H.asked shelf.new) result }
+    ensures asked { AsksFile (H.asked shelf.old) file.now (H.asked shelf.new) result }
     ensures files { H.files shelf.new ≡ H.files shelf.old }
     ensures counted { steps.old ≤ steps.new }
 {
-    match program_in(alloc, session.file.as_str(), console, shelf)? {
-        Ok(program) => play_program(alloc, &program, session.options, console, steps),
+    match program_in(alloc, file, console, shelf)? {
+        Ok(program) => play_program(alloc, &program, options, console, steps),
         Err(status) => Ok(status),
     }
 }
@@ -79,8 +81,14 @@ fn command<C: Console, H: Shelf, L: Ledger>(
     ensures counted { steps.old ≤ steps.new }
 {
     match Task::of(words) {
-        Some(Task::Play(session)) => play_file(alloc, session, console, shelf, steps),
-        Some(Task::Check(audit)) => check_file(alloc, audit, console, shelf, steps),
+        Some(Task::Play(session)) => {
+            let file = session.file.as_str();
+            play_file(alloc, file, session.options, console, shelf, steps)
+        }
+        Some(Task::Check(audit)) => {
+            let (file, log) = (audit.file.as_str(), audit.log.as_str());
+            check_file(alloc, file, log, console, shelf, steps)
+        }
         None => {
             console.put(USAGE)?;
             Ok(Status::Usage)

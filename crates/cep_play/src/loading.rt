@@ -49,7 +49,7 @@ fn program_of<C: Console>(
     text: &[u8],
     console: &mut C,
 ) -> Result<Result<Program, Status>, ConsoleFault>
-    ensures program { IfOk result (λ found. IfOk found (λ program. IsSpelledBy program.now text.now × (console.new ≡ console.old))) }
+    ensures program { IfOk result (λ found. IfOk found (λ program. IsSpelledBy program text.now × (console.new ≡ console.old))) }
     ensures refused { IfOk result (λ found. IfErr found (λ status. (status ≡ Refused) × Refuses C.talk C.left console.old console.new text.now)) }
     ensures failed { IsErrOf result Failed → ¬ (IsProgramText text.now) }
     ensures cause { ConsoleCause (C.faults console.old) (C.faults console.new) result }
@@ -73,7 +73,7 @@ pub(crate) fn program_in<C: Console, H: Shelf>(
     console: &mut C,
     shelf: &mut H,
 ) -> Result<Result<Program, Status>, ConsoleFault>
-    ensures program { IfOk result (λ found. IfOk found (λ program. IsProgramIn (H.files shelf.old) file.now program.now × (console.new ≡ console.old) × (H.faults shelf.new ≡ H.faults shelf.old))) }
+    ensures program { IfOk result (λ found. IfOk found (λ program. IsProgramIn (H.files shelf.old) file.now program × (console.new ≡ console.old) × (H.faults shelf.new ≡ H.faults shelf.old))) }
     ensures none { IfOk result (λ found. IfErr found (IsNoProgram C.talk C.left console.old console.new (H.files shelf.old) file.now)) }
     ensures faults { IfOk result (λ found. IfErr found (CountsFaults (H.faults shelf.old) (H.faults shelf.new))) }
     ensures failed { IsErrOf result Failed → NoneIsRead (H.files shelf.old) (Rose (H.faults shelf.old) (H.faults shelf.new)) file.now }

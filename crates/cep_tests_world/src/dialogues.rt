@@ -333,7 +333,7 @@ fn a_run_ends_where_no_more_may_be_typed(rt: HostRuntime) -> Result<(), Fail> {
 }
 
 // The command answers the words of this line so.
-fn expect_answer(
+pub fn expect_answer(
     rt: &impl Abort,
     alloc: Global,
     shelf: &mut MemShelf,

@@ -4,6 +4,8 @@
 #[cfg(test)]
 mod backward;
 #[cfg(test)]
+mod checks;
+#[cfg(test)]
 mod dialogues;
 #[cfg(test)]
 mod limits;

@@ -2,6 +2,7 @@ use Rattle.std.proofs.Common.{map, sym, refl, ◌∙◌, subst, [], ◌∷◌, l
 use Rattle.std.specs.Prelude.{string_bytes, Contains}
 use Rattle.cep_play.specs.Command.{IsDue}
 use Rattle.cep_play.proofs.Commands.{code_among, usage_from_code, ended_from_code, unread_from_code}
+use Rattle.cep_play.proofs.Judged.{fails_from_code}
 use Rattle.cep_play.proofs.Due.{due_of, due_anyway}
 use Rattle.cep_play.proofs.command.ceptre.Goals as goal
 
@@ -20,6 +21,14 @@ returns-in-Ok-clause-unread g c = λ e.
 pub returns-in-Ok-clause-no_other : goal.returns-in-Ok-clause-no_other
 returns-in-Ok-clause-no_other g c =
     subst (λ code. Contains (0 ∷ 1 ∷ 2 ∷ 3 ∷ 4 ∷ 6 ∷ 7 ∷ 9 ∷ []) code) (sym c.code.ensures) (code_among c.in-Ok.status)
+
+pub returns-in-Ok-clause-shelf_fails : goal.returns-in-Ok-clause-shelf_fails
+returns-in-Ok-clause-shelf_fails g c = λ rose.
+    subst (λ code. Contains (6 ∷ 7 ∷ 9 ∷ []) code) (sym c.code.ensures) (fails_from_code (g.H.Shelf.faults c.args.shelf.now) (g.H.Shelf.faults c.command.new.shelf) c.in-Ok.status c.in-Ok.ensures.faults rose)
+
+pub returns-in-Err-Failed-clause-no_other : goal.returns-in-Err-Failed-clause-no_other
+returns-in-Err-Failed-clause-no_other g c =
+    subst (λ code. Contains (0 ∷ 1 ∷ 2 ∷ 3 ∷ 4 ∷ 6 ∷ 7 ∷ 9 ∷ []) code) (sym c.code-in-Err-Failed.ensures) (5, lit< tt, refl)
 
 pub returns-in-Ok-clause-due : goal.returns-in-Ok-clause-due
 returns-in-Ok-clause-due g c =
