@@ -156,7 +156,12 @@ fn what_is_not_legal_is_told(rt: HostRuntime) -> Result<(), Fail> {
 #[test]
 fn what_was_played_is_accepted(rt: HostRuntime) -> Result<(), Fail> {
     let outcome = run_text(rt.alloc(), "play f", world(), "")?;
-    expect_check(&rt, rt.alloc(), outcome.written.as_str(), (0, "accepted 3\n"))
+    expect_check(
+        &rt,
+        rt.alloc(),
+        outcome.written.as_str(),
+        (0, "accepted 3\n"),
+    )
 }
 
 #[test]
@@ -174,5 +179,11 @@ fn a_transcript_that_is_not_there_is_told(rt: HostRuntime) -> Result<(), Fail> {
 #[test]
 fn a_refused_text_is_told_before_the_transcript(rt: HostRuntime) -> Result<(), Fail> {
     let mut shelf = shelf_of(rt.alloc(), "a : pred.")?;
-    expect_answer(&rt, rt.alloc(), &mut shelf, "check f g", (3, "refused 1:10 14 NoTrace\n"))
+    expect_answer(
+        &rt,
+        rt.alloc(),
+        &mut shelf,
+        "check f g",
+        (3, "refused 1:10 14 NoTrace\n"),
+    )
 }

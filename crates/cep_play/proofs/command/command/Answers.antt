@@ -2,6 +2,7 @@ use Rattle.std.proofs.Common.{map, subst}
 use Rattle.std.specs.Prelude.{string_bytes}
 use Rattle.std.proofs.lemmas.Result.{IfOk-weaker}
 use Rattle.cep_base.specs.Faults.{Rose}
+use Rattle.cep_words.specs.Sessions.{IsAskedBy}
 use Rattle.cep_play.specs.Outcome.{OfRun, OfAudit, AsksFile, AsksFiles}
 use Rattle.cep_play.proofs.Commands.{words_played, words_checked, played_asked, checked_asked}
 use Rattle.cep_play.proofs.command.command.Goals as goal
@@ -14,14 +15,14 @@ returns-in-Some-Play-clause-outcome g c =
     let files = g.H.Shelf.files c.args.shelf.now in
     let session = c.in-Some-Play.session in
     IfOk-weaker c.play_file.result _ _
-    (λ status of. words_played talk left c.args.console.now new files (map string_bytes c.args.words.now) (string_bytes session.file.now) session.options status c.in-Some-Play.ensures
+    (λ status of. words_played talk left c.args.console.now new files (map string_bytes c.args.words.now) (string_bytes session.file.now) session.options status (subst (IsAskedBy (map string_bytes c.args.words.now)) c.in-Some-Play.field-0-is c.in-Some-Play.ensures)
     (subst (λ name. OfRun talk left c.args.console.now new files name session.options status) c.as_str-file.ensures.value of))
     c.play_file.ensures.outcome
 
 pub returns-in-Some-Play-clause-asked : goal.returns-in-Some-Play-clause-asked
 returns-in-Some-Play-clause-asked g c =
     let asked = g.H.Shelf.asked in
-    played_asked (g.H.Shelf.files c.args.shelf.now) (Rose (g.H.Shelf.faults c.args.shelf.now) (g.H.Shelf.faults c.play_file.new.shelf)) (asked c.args.shelf.now) (map string_bytes c.args.words.now) (string_bytes c.in-Some-Play.session.file.now) c.in-Some-Play.session.options (asked c.play_file.new.shelf) c.play_file.result c.in-Some-Play.ensures
+    played_asked (g.H.Shelf.files c.args.shelf.now) (Rose (g.H.Shelf.faults c.args.shelf.now) (g.H.Shelf.faults c.play_file.new.shelf)) (asked c.args.shelf.now) (map string_bytes c.args.words.now) (string_bytes c.in-Some-Play.session.file.now) c.in-Some-Play.session.options (asked c.play_file.new.shelf) c.play_file.result (subst (IsAskedBy (map string_bytes c.args.words.now)) c.in-Some-Play.field-0-is c.in-Some-Play.ensures)
     (subst (λ name. AsksFile (asked c.args.shelf.now) name (asked c.play_file.new.shelf) c.play_file.result) c.as_str-file.ensures.value c.play_file.ensures.asked)
 
 pub returns-in-Some-Check-clause-outcome : goal.returns-in-Some-Check-clause-outcome
@@ -32,7 +33,7 @@ returns-in-Some-Check-clause-outcome g c =
     let files = g.H.Shelf.files c.args.shelf.now in
     let audit = c.in-Some-Check.audit in
     IfOk-weaker c.check_file.result _ _
-    (λ status of. words_checked talk left c.args.console.now new files (map string_bytes c.args.words.now) (string_bytes audit.file.now) (string_bytes audit.log.now) status c.in-Some-Check.ensures
+    (λ status of. words_checked talk left c.args.console.now new files (map string_bytes c.args.words.now) (string_bytes audit.file.now) (string_bytes audit.log.now) status (subst (IsAskedBy (map string_bytes c.args.words.now)) c.in-Some-Check.field-0-is c.in-Some-Check.ensures)
     (subst (λ name. OfAudit talk left c.args.console.now new files name (string_bytes audit.log.now) status) c.as_str-file-in-Some-Check.ensures.value
     (subst (λ log. OfAudit talk left c.args.console.now new files c.as_str-file-in-Some-Check.result.now log status) c.as_str-log.ensures.value of)))
     c.check_file.ensures.outcome
@@ -43,6 +44,6 @@ returns-in-Some-Check-clause-asked g c =
     let files = g.H.Shelf.files c.args.shelf.now in
     let unread = Rose (g.H.Shelf.faults c.args.shelf.now) (g.H.Shelf.faults c.check_file.new.shelf) in
     let audit = c.in-Some-Check.audit in
-    checked_asked files unread (asked c.args.shelf.now) (map string_bytes c.args.words.now) (string_bytes audit.file.now) (string_bytes audit.log.now) (asked c.check_file.new.shelf) c.check_file.result c.in-Some-Check.ensures
+    checked_asked files unread (asked c.args.shelf.now) (map string_bytes c.args.words.now) (string_bytes audit.file.now) (string_bytes audit.log.now) (asked c.check_file.new.shelf) c.check_file.result (subst (IsAskedBy (map string_bytes c.args.words.now)) c.in-Some-Check.field-0-is c.in-Some-Check.ensures)
     (subst (λ name. AsksFiles files unread (asked c.args.shelf.now) name (string_bytes audit.log.now) (asked c.check_file.new.shelf) c.check_file.result) c.as_str-file-in-Some-Check.ensures.value
     (subst (λ log. AsksFiles files unread (asked c.args.shelf.now) c.as_str-file-in-Some-Check.result.now log (asked c.check_file.new.shelf) c.check_file.result) c.as_str-log.ensures.value c.check_file.ensures.asked))
