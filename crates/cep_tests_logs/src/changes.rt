@@ -121,7 +121,7 @@ fn returned(alloc: Global, transcript: &str) -> Result<String, AllocError> {
 }
 
 // A text without the line feed at its end.
-fn open(text: &str) -> Result<&str, Fail> {
+pub fn open(text: &str) -> Result<&str, Fail> {
     Ok(text.strip_suffix('\n').ok_or("no line feed")?)
 }
 
