@@ -8,3 +8,4 @@ pub mod Options
 pub mod Weights
 pub mod Told
 pub mod Verdicts
+pub mod Tellable

@@ -1,3 +1,4 @@
 pub mod Causes
 pub mod Places
+pub mod Telling
 pub mod Walking

@@ -3,12 +3,13 @@ ghost use Rattle.std.specs.FinMap as finite;
 ghost use Rattle.cep_base.specs.declared.limits.TheConstants.{MOST_LOG};
 ghost use Rattle.cep_log.specs.Legal.{IsLogOf, IsLegal};
 ghost use Rattle.cep_check.specs.Causes.{IsStartCause, end_line, AcceptsLog, IsVerdict};
+ghost use Rattle.cep_check.specs.Telling.{IsTellable};
 ghost use Rattle.cep_check.specs.Walking.{stands_at, IsWalkOf, AreStepsDone, IsEndVerdict};
 
 use crate::cause::{Cause, Verdict};
 use crate::counts::first_difference;
 use crate::ending::end_cause;
-use crate::laws::refused_logs_are_not_legal;
+use crate::laws::{refused_logs_are_not_legal, verdicts_can_be_told};
 use crate::step::advance;
 use crate::walk::Walk;
 use cep_base::Steps;
@@ -20,8 +21,8 @@ use std::sync::ledger::Ledger;
 
 /// Whether a log of the program is legal for it: it is accepted exactly where it is, with the number of
 /// its steps, and else refused for the first cause that comes, with its line. The offers are those
-/// within the log's height. Which logs are legal is said with the log. Only want of memory is refused,
-/// after any ticks.
+/// within the log's height. Which logs are legal is said with the log. Each verdict can be told as a
+/// line. Only want of memory is refused, after any ticks.
 pub fn check<L: Ledger>(
     alloc: Global,
     program: &Program,
@@ -31,9 +32,11 @@ pub fn check<L: Ledger>(
     requires { IsLogOf program.now log.now }
     ensures accepted { IfOk result (λ verdict. AcceptsLog verdict ↔ IsLegal program.now log.now) }
     ensures verdict { IfOk result (IsVerdict program.now log.now) }
+    ensures tellable { IfOk result (IsTellable program.now) }
     ensures never_falls { steps.old ≤ steps.new }
 {
     refused_logs_are_not_legal();
+    verdicts_can_be_told(program);
     judge(alloc, program, log, steps)
 }
 

@@ -1,13 +1,16 @@
-//! A law of logs that are refused, for the crates that rest on it. The function computes nothing, and
+//! Laws of logs and verdicts, for the crates that rest on them. Each function computes nothing, and
 //! its contract is the law.
 ghost use Rattle.std.specs.Prelude.{ℕ};
 ghost use Rattle.cep_rule.specs.declared.parts.Parts.{Parts};
 ghost use Rattle.cep_log.specs.declared.log.Log.{Log};
 ghost use Rattle.cep_check.specs.declared.cause.Cause.{Cause};
-ghost use Rattle.cep_check.specs.Causes.{IsLogRefused};
-ghost use Rattle.cep_log.specs.Legal.{IsLegal};
+ghost use Rattle.cep_check.specs.declared.cause.Verdict.{Verdict};
+ghost use Rattle.cep_check.specs.Causes.{IsLogRefused, IsVerdict};
+ghost use Rattle.cep_check.specs.Telling.{IsTellable};
+ghost use Rattle.cep_log.specs.Legal.{IsLegal, IsLogOf};
 
-use cep_rule::laws::one_state_after_a_step;
+use cep_rule::Program;
+use cep_rule::laws::{one_state_after_a_step, types_are_lawful};
 use cep_term::laws::bags_are_lawful;
 
 /// A log that is refused is not legal: so a log is accepted exactly where it is legal.
@@ -18,4 +21,17 @@ pub fn refused_logs_are_not_legal()
 {
     bags_are_lawful();
     one_state_after_a_step();
+}
+
+/// What checking a log of the program comes to can be told: the stages and rules of the cause are the
+/// program's, and its atoms and its offer have a text.
+pub fn verdicts_can_be_told(program: &Program)
+    ensures { (log : Log) (verdict : Verdict)
+        → IsLogOf program.now log
+        → IsVerdict program.now log verdict
+        → IsTellable program.now verdict }
+{
+    bags_are_lawful();
+    types_are_lawful();
+    program.parts();
 }

@@ -16,7 +16,9 @@ mod limits;
 mod premises;
 mod sizes;
 mod step;
+mod telling;
 mod walk;
 
 pub use cause::{Cause, CheckLimit, Verdict};
 pub use checking::check;
+pub use telling::{put_fault, put_verdict};

@@ -18,3 +18,8 @@ pub returns-clause-accepted : goal.returns-clause-accepted
 returns-clause-accepted g c = IfOk-weaker c.judge.result _ _
     (λ verdict is. by_law c.args.program.now c.args.log.now (c.refused_logs_are_not_legal.ensures c.args.program.now c.args.log.now) verdict is)
     c.judge.ensures.verdict
+
+pub returns-clause-tellable : goal.returns-clause-tellable
+returns-clause-tellable g c = IfOk-weaker c.judge.result _ _
+    (λ verdict is. c.verdicts_can_be_told.ensures c.args.log.now verdict c.requires is)
+    c.judge.ensures.verdict
