@@ -1,5 +1,5 @@
 -- Words ask for one thing at most.
-use Rattle.std.proofs.Common.{◌≡◌, ◌⊎◌, ⊎_elim, ℕ, Option, None, Some, List, [], ◌∷◌, ◌++◌, map, refl, sym, ap, subst, ◌∙◌, arith, Contains}
+use Rattle.std.proofs.Common.{◌≡◌, ⊎_elim, ℕ, Option, None, Some, List, [], ◌∷◌, ◌++◌, map, refl, sym, ap, subst, ◌∙◌, arith, Contains}
 use Rattle.std.specs.Prelude.{codes, decimal}
 use Rattle.std.proofs.lemmas.Fmt.{decimal_injective}
 use Rattle.std.proofs.lemmas.List.Sorted.{IsPermutation-sym, Contains-permutation}
@@ -8,7 +8,7 @@ use Rattle.cep_base.proofs.Elements.{contains_none, contains_cases, contains_eit
 use Rattle.cep_words.specs.declared.run_option.RunOption.{RunOption}
 use Rattle.cep_words.specs.declared.run_option.RunOption.TheVariants.{Seed, Height, Turns}
 use Rattle.cep_words.specs.declared.options.Options.{Options}
-use Rattle.cep_words.specs.Words.{option_text, IsInBounds, asked_if, all_asked, Give, Request, Play, Check, AskFor}
+use Rattle.cep_words.specs.Words.{option_text, IsInBounds, asked_if, all_asked, Give, Request, Play, Check, World, AskFor}
 
 abbrev head : List ℕ → ℕ
 head [] = 0
@@ -125,4 +125,28 @@ one_request words (Play file options) (Check file' log) ask ask' =
 one_request words (Check file log) (Play file' options) ask ask' =
     let same : codes "check" ∷ file ∷ log ∷ [] ≡ codes "play" ∷ file' ∷ ask'.0 = sym ask ∙ ask'.1 in
     let letter : 99 ≡ 112 = ap (λ ws. head (first ws)) same in
+    absurd (omega (arith, letter))
+one_request words (World rooms options) (World rooms' options') ask ask' =
+    let same : codes "world" ∷ decimal rooms ∷ ask.1.0 ≡ codes "world" ∷ decimal rooms' ∷ ask'.1.0 = sym ask.1.1 ∙ ask'.1.1 in
+    let few = ask.0.1 in
+    let few' = ask'.0.1 in
+    let numbers : rooms ≡ rooms' = decimal_injective rooms rooms' (omega (arith, few)) (omega (arith, few')) (ap second same) in
+    let others : ask.1.0 ≡ ask'.1.0 = ap behind_two same in
+    let given = given_once ask'.1.0 options options' (subst (λ ws. Give ws options) others ask.1.2) ask'.1.2 in
+    λ i. World (numbers i) (given i)
+one_request words (World rooms options) (Play file options') ask ask' =
+    let same : codes "world" ∷ decimal rooms ∷ ask.1.0 ≡ codes "play" ∷ file ∷ ask'.0 = sym ask.1.1 ∙ ask'.1 in
+    let letter : 119 ≡ 112 = ap (λ ws. head (first ws)) same in
+    absurd (omega (arith, letter))
+one_request words (Play file options) (World rooms options') ask ask' =
+    let same : codes "play" ∷ file ∷ ask.0 ≡ codes "world" ∷ decimal rooms ∷ ask'.1.0 = sym ask.1 ∙ ask'.1.1 in
+    let letter : 112 ≡ 119 = ap (λ ws. head (first ws)) same in
+    absurd (omega (arith, letter))
+one_request words (World rooms options) (Check file log) ask ask' =
+    let same : codes "world" ∷ decimal rooms ∷ ask.1.0 ≡ codes "check" ∷ file ∷ log ∷ [] = sym ask.1.1 ∙ ask' in
+    let letter : 119 ≡ 99 = ap (λ ws. head (first ws)) same in
+    absurd (omega (arith, letter))
+one_request words (Check file log) (World rooms options) ask ask' =
+    let same : codes "check" ∷ file ∷ log ∷ [] ≡ codes "world" ∷ decimal rooms ∷ ask'.1.0 = sym ask ∙ ask'.1.1 in
+    let letter : 99 ≡ 119 = ap (λ ws. head (first ws)) same in
     absurd (omega (arith, letter))

@@ -2,7 +2,7 @@
 use Rattle.std.specs.Prelude.{◌≡◌, ℕ, ◌<◌, ◌≤◌, ◌^◌, List, [], ◌∷◌, ◌++◌, map, codes, decimal, Option, None, Some}
 use Rattle.std.specs.List.{AllByRecursion}
 use Rattle.std.specs.List.Sorted.{IsPermutation}
-use Rattle.cep_base.specs.declared.limits.TheConstants.{MOST_HEIGHT, MOST_TURNS}
+use Rattle.cep_base.specs.declared.limits.TheConstants.{MOST_HEIGHT, MOST_TURNS, MOST_WORLD}
 use Rattle.cep_words.specs.declared.run_option.RunOption.{RunOption}
 use Rattle.cep_words.specs.declared.run_option.RunOption.TheVariants.{Seed, Height, Turns}
 use Rattle.cep_words.specs.declared.options.Options.{Options}
@@ -40,15 +40,17 @@ AreWithin options = AllByRecursion IsInBounds (all_asked options)
 abbrev pub Give : List (List ℕ) → Options → Type 0
 Give words options = AreWithin options × IsPermutation (map option_text (all_asked options)) words
 
--- What words may ask for: that the program in a file is played, with options; or that the transcript in a file is checked against it.
+-- What words may ask for: that the program in a file is played, with options; that the transcript in a file is checked against it; or that the generated world of so many rooms is run, with options.
 pub data Request : Type 0 where
   Play : (file : List ℕ) → (options : Options) → Request
   Check : (file : List ℕ) → (log : List ℕ) → Request
+  World : (rooms : ℕ) → (options : Options) → Request
 
 -- These words ask for this.
 abbrev pub AskFor : List (List ℕ) → Request → Type 0
 AskFor words (Play file options) = (others : List (List ℕ)) × (words ≡ codes "play" ∷ file ∷ others) × Give others options
 AskFor words (Check file log) = words ≡ codes "check" ∷ file ∷ log ∷ []
+AskFor words (World rooms options) = IsUpTo MOST_WORLD rooms × ((others : List (List ℕ)) × (words ≡ codes "world" ∷ decimal rooms ∷ others) × Give others options)
 
 -- the words have no form: they ask for nothing
 abbrev pub HaveNoForm : List (List ℕ) → Type 0

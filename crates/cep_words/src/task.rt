@@ -4,6 +4,7 @@ ghost use Rattle.cep_words.specs.Sessions.{IsAskedBy};
 
 use crate::audit::Audit;
 use crate::session::Session;
+use crate::tour::Tour;
 
 /// What words ask of the program.
 #[derive(Clone, Copy)]
@@ -12,6 +13,8 @@ pub enum Task<'a> {
     Play(Session<'a>),
     /// To check a transcript.
     Check(Audit<'a>),
+    /// To run a generated world.
+    World(Tour),
 }
 
 impl Task<'_> {
@@ -23,7 +26,10 @@ impl Task<'_> {
             Some(session) => Some(Task::Play(session)),
             None => match Audit::of(words) {
                 Some(audit) => Some(Task::Check(audit)),
-                None => None,
+                None => match Tour::of(words) {
+                    Some(tour) => Some(Task::World(tour)),
+                    None => None,
+                },
             },
         }
     }
