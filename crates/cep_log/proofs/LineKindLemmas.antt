@@ -1,15 +1,17 @@
 -- What lines of each kind say.
-use Rattle.std.proofs.Common.{◌≡◌, inr, ℕ, ◌<◌, ◌≤◌, ◌^◌, List, ◌∷◌, ◌++◌, Bool, true, false, Option, Some, None, refl, sym, ap, ◌∙◌, subst, arith}
+use Rattle.std.proofs.Common.{◌≡◌, inr, ℕ, zero, suc, ◌<◌, ◌≤◌, ◌^◌, List, [], ◌∷◌, ◌++◌, length, Bool, true, false, Option, Some, None, refl, sym, ap, ◌∙◌, subst, arith}
 use Rattle.std.specs.Prelude.{codes, decimal, slice_get, MatchOption, Contains, IsTrue, not, ◌↔◌}
 use Rattle.std.proofs.lemmas.Fmt.{decimal_injective}
+use Rattle.std.proofs.lemmas.Option.{slice_get_within}
 use Rattle.cep_base.specs.declared.limits.TheConstants.{MOST_COPIES}
 use Rattle.cep_term.specs.Tree.{AtomTree}
 use Rattle.cep_rule.specs.declared.rule.Rule.{Rule}
 use Rattle.cep_rule.specs.declared.parts.Parts.{Parts}
 use Rattle.cep_rule.specs.declared.parts.Stage.{Stage}
 use Rattle.cep_text.specs.Reads.{IsAtomText}
+use Rattle.cep_text.specs.StageNames.{IsStageNamed}
 use Rattle.cep_log.specs.Lines.{stage_name}
-use Rattle.cep_log.specs.Transcript.{IsHaveLine, NamesNoRule}
+use Rattle.cep_log.specs.Transcript.{IsHaveLine, IsStageLine, NamesNoRule}
 use Rattle.cep_log.proofs.Parted.{HasNone, Stops, one_parting}
 use Rattle.cep_log.proofs.Once.{decimal_unspaced, one_count}
 
@@ -45,13 +47,33 @@ pub high_as : (line word : List ℕ) (height : ℕ) → line ≡ codes "height "
 high_as line word height is said =
     let h : codes "height " ++ word ≡ codes "height " ++ decimal height = sym is ∙ said in cc
 
--- the stage that the line names
-pub stage_at : (stages : List Stage) (i : ℕ) (stage : Stage) → slice_get stages i ≡ Some stage → stage_name (slice_get stages i) ≡ stage.name
-stage_at stages i stage e = ap stage_name e
+-- a place within a list has an item
+none_at : {A : Type 0} (xs : List A) (i : ℕ) → i < length xs → slice_get xs i ≡ None → ⊥
+none_at [] i within e = omega arith
+none_at (x ∷ xs) zero within e = absurd cc
+none_at (x ∷ xs) (suc i) within e = none_at xs i (omega arith) e
 
-pub staged_as : (line name : List ℕ) (other : List ℕ) → line ≡ codes "stage " ++ name → line ≡ codes "stage " ++ other → name ≡ other
-staged_as line name other is said =
-    let h : codes "stage " ++ name ≡ codes "stage " ++ other = sym is ∙ said in cc
+-- the stage that the line names
+stage_told : (program : Parts) (line name : List ℕ) (stage : ℕ) → line ≡ codes "stage " ++ name → IsStageNamed program.stages stage name → IsStageLine program line stage
+stage_told program line name stage is named = record {
+  in_range = slice_get_within program.stages stage named.0 named.1;
+  written = is ∙ ap (λ text. codes "stage " ++ text) (sym (ap stage_name named.1 ∙ named.2));
+}
+
+stage_untold : (program : Parts) (line name : List ℕ) (stage : ℕ) → line ≡ codes "stage " ++ name → ¬ (IsStageNamed program.stages stage name) → IsStageLine program line stage → ⊥
+stage_untold program line name stage is none said = by_place (slice_get program.stages stage) refl where
+  same : name ≡ stage_name (slice_get program.stages stage)
+  same = let h : codes "stage " ++ name ≡ codes "stage " ++ stage_name (slice_get program.stages stage) = sym is ∙ said.written in cc
+
+  by_place : (found : Option Stage) → slice_get program.stages stage ≡ found → ⊥
+  by_place None e = let within = said.in_range in none_at program.stages stage within e
+  by_place (Some there) e = none (there, e, sym (same ∙ ap stage_name e))
+
+pub stage_line_told : (program : Parts) (line name : List ℕ) (found : Option ℕ) → line ≡ codes "stage " ++ name
+    → MatchOption found (Unit {0}) (λ stage. IsStageNamed program.stages stage name) → MatchOption found ((stage : ℕ) → ¬ (IsStageNamed program.stages stage name)) (λ stage. Unit {0})
+    → MatchOption found ((stage : ℕ) → ¬ (IsStageLine program line stage)) (IsStageLine program line)
+stage_line_told program line name None is some none = λ stage. stage_untold program line name stage is (none stage)
+stage_line_told program line name (Some stage) is some none = stage_told program line name stage is some
 
 -- a line of a step that names a rule, or none
 pub named_as : (program : Parts) (line rest word behind : List ℕ) → line ≡ codes "step " ++ rest → rest ≡ word ++ behind → HasNone 32 word → Stops 32 behind → (found : Bool)

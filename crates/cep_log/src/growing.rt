@@ -13,8 +13,9 @@ use crate::listing::{Have, Haves};
 use crate::log::{Log, LogEnd, LogStep, LogSteps};
 use crate::proofs::Proofs;
 use crate::so_far::SoFar;
-use cep_rule::{Offer, Program, Rule};
+use cep_rule::{Offer, Rule};
 use cep_term::order;
+use cep_text::Vocabulary;
 use cep_text::laws::one_value;
 use std::alloc::{AllocError, Global};
 
@@ -69,23 +70,23 @@ pub(crate) fn finished(so_far: SoFar, lines: u32) -> Option<Log>
 // A line behind the start listing or behind a whole step.
 pub(crate) fn behind_whole(
     alloc: Global,
-    program: &Program,
+    vocabulary: &Vocabulary,
     number: u32,
     line: &[u8],
     log: Log,
 ) -> Result<Option<SoFar>, AllocError>
-    ensures some { IfOk result (λ read. IfSome read (Becomes program.now number line.now (Whole log))) }
-    ensures none { IfOk result (λ read. IfNone read ((new : SoFar) → ¬ (Becomes program.now number line.now (Whole log) new))) }
+    ensures some { IfOk result (λ read. IfSome read (Becomes vocabulary.now number line.now (Whole log))) }
+    ensures none { IfOk result (λ read. IfNone read ((new : SoFar) → ¬ (Becomes vocabulary.now number line.now (Whole log) new))) }
 {
     if let Some(word) = end_line(line) {
         return Ok(Some(SoFar::Ended(log, end_begun(alloc, number, word))));
     }
-    match step_line(alloc, program, line)? {
+    match step_line(alloc, vocabulary, line)? {
         Some(offer) => {
-            let rule = program.parts().rules.get(offer.rule as usize);
+            let rule = vocabulary.parts().rules.get(offer.rule as usize);
             Ok(Some(joined(rule, log, step_begun(alloc, number, offer))?))
         }
-        None => behind_listing(alloc, program, line, log),
+        None => behind_listing(alloc, vocabulary, line, log),
     }
 }
 
@@ -103,17 +104,17 @@ fn end_begun(alloc: Global, number: u32, word: EndWord) -> LogEnd
 // A line of the start listing.
 fn behind_listing(
     alloc: Global,
-    program: &Program,
+    vocabulary: &Vocabulary,
     line: &[u8],
     mut log: Log,
 ) -> Result<Option<SoFar>, AllocError>
-    ensures some { IfOk result (λ read. IfSome read (GoesOnStart program.now line.now log)) }
-    ensures none { IfOk result (λ read. IfNone read ((new : SoFar) → ¬ (GoesOnStart program.now line.now log new))) }
+    ensures some { IfOk result (λ read. IfSome read (GoesOnStart vocabulary.now line.now log)) }
+    ensures none { IfOk result (λ read. IfNone read ((new : SoFar) → ¬ (GoesOnStart vocabulary.now line.now log new))) }
 {
     if !log.steps.is_empty() {
         return Ok(None);
     }
-    match next_listed(alloc, program, line, &log.start)? {
+    match next_listed(alloc, vocabulary, line, &log.start)? {
         Some(have) => {
             log.start.push(have)?;
             Ok(Some(SoFar::Whole(log)))
@@ -125,18 +126,18 @@ fn behind_listing(
 // The next own line of a step.
 pub(crate) fn behind_part(
     alloc: Global,
-    program: &Program,
+    vocabulary: &Vocabulary,
     line: &[u8],
     log: Log,
     mut step: LogStep,
 ) -> Result<Option<SoFar>, AllocError>
-    requires { step.offer.rule < length program.now.rules }
-    ensures some { IfOk result (λ read. IfSome read (GoesOnStep program.now line.now log step)) }
-    ensures none { IfOk result (λ read. IfNone read ((new : SoFar) → ¬ (GoesOnStep program.now line.now log step new))) }
+    requires { step.offer.rule < length vocabulary.now.rules }
+    ensures some { IfOk result (λ read. IfSome read (GoesOnStep vocabulary.now line.now log step)) }
+    ensures none { IfOk result (λ read. IfNone read ((new : SoFar) → ¬ (GoesOnStep vocabulary.now line.now log step new))) }
 {
-    let rule = program.parts().rules.get(step.offer.rule as usize);
+    let rule = vocabulary.parts().rules.get(step.offer.rule as usize);
     if step.proofs.len() < rule.backs.len() {
-        match by_line(alloc, program, line)? {
+        match by_line(alloc, vocabulary, line)? {
             Some(proof) => {
                 step.proofs.push(proof)?;
                 Ok(Some(joined(rule, log, step)?))
@@ -144,7 +145,7 @@ pub(crate) fn behind_part(
             None => Ok(None),
         }
     } else {
-        match stage_line(program, line) {
+        match stage_line(vocabulary, line) {
             Some(stage) => {
                 step.stage = Some(stage);
                 Ok(Some(joined(rule, log, step)?))
@@ -157,15 +158,15 @@ pub(crate) fn behind_part(
 // A line of the last listing.
 pub(crate) fn behind_end(
     alloc: Global,
-    program: &Program,
+    vocabulary: &Vocabulary,
     line: &[u8],
     log: Log,
     mut end: LogEnd,
 ) -> Result<Option<SoFar>, AllocError>
-    ensures some { IfOk result (λ read. IfSome read (GoesOnEnd program.now line.now log end)) }
-    ensures none { IfOk result (λ read. IfNone read ((new : SoFar) → ¬ (GoesOnEnd program.now line.now log end new))) }
+    ensures some { IfOk result (λ read. IfSome read (GoesOnEnd vocabulary.now line.now log end)) }
+    ensures none { IfOk result (λ read. IfNone read ((new : SoFar) → ¬ (GoesOnEnd vocabulary.now line.now log end new))) }
 {
-    match next_listed(alloc, program, line, &end.state)? {
+    match next_listed(alloc, vocabulary, line, &end.state)? {
         Some(have) => {
             end.state.push(have)?;
             Ok(Some(SoFar::Ended(log, end)))
@@ -196,17 +197,17 @@ fn has_own_lines(rule: &Rule, step: &LogStep) -> bool
 // The line of a listing that stands behind these.
 fn next_listed(
     alloc: Global,
-    program: &Program,
+    vocabulary: &Vocabulary,
     line: &[u8],
     haves: &Haves,
 ) -> Result<Option<Have>, AllocError>
-    ensures some { IfOk result (λ read. IfSome read (λ have. IsHaveLine program.now line.now (have_of have) × IsBehind haves.now (have_of have).0)) }
-    ensures none { IfOk result (λ read. IfNone read ((entry : AtomTree × ℕ) → IsHaveLine program.now line.now entry → IsBehind haves.now entry.0 → ⊥)) }
+    ensures some { IfOk result (λ read. IfSome read (λ have. IsHaveLine vocabulary.now line.now (have_of have) × IsBehind haves.now (have_of have).0)) }
+    ensures none { IfOk result (λ read. IfNone read ((entry : AtomTree × ℕ) → IsHaveLine vocabulary.now line.now entry → IsBehind haves.now entry.0 → ⊥)) }
 {
     // No line says two entries: that is known from here on.
     one_value();
-    program.parts();
-    match have_line(alloc, program, line)? {
+    vocabulary.parts();
+    match have_line(alloc, vocabulary, line)? {
         Some(have) => {
             if is_behind(haves, &have) {
                 Ok(Some(have))

@@ -14,8 +14,8 @@ use crate::end_word::EndWord;
 use crate::listing::Have;
 use crate::words::{cut_word, plain, strip};
 use cep_base::limits::{MOST_COPIES, MOST_HEIGHT};
-use cep_rule::{Derivation, Offer, Program};
-use cep_text::{read_atom, read_offer, read_proof};
+use cep_rule::{Derivation, Offer};
+use cep_text::{Vocabulary, read_atom, read_offer, read_proof};
 use std::alloc::{AllocError, Global};
 
 // Whether the line is passed over.
@@ -40,32 +40,25 @@ pub(crate) fn height_line(line: &[u8]) -> Option<u32>
 }
 
 // The stage that the line names.
-pub(crate) fn stage_line(program: &Program, line: &[u8]) -> Option<u32>
-    ensures { MatchOption result ((stage : ℕ) → ¬ (IsStageLine program.now line.now stage)) (IsStageLine program.now line.now) }
+pub(crate) fn stage_line(vocabulary: &Vocabulary, line: &[u8]) -> Option<u32>
+    ensures { MatchOption result ((stage : ℕ) → ¬ (IsStageLine vocabulary.now line.now stage)) (IsStageLine vocabulary.now line.now) }
 {
-    let name = strip(b"stage ", line)?;
-    let stages = &program.parts().stages;
-    for i in 0..stages.len() {
-        if stages.get(i).name.bytes() == name {
-            return Some(i as u32);
-        }
-    }
-    None
+    vocabulary.stage(strip(b"stage ", line)?)
 }
 
 // The entry of a listing that the line says.
 pub(crate) fn have_line(
     alloc: Global,
-    program: &Program,
+    vocabulary: &Vocabulary,
     line: &[u8],
 ) -> Result<Option<Have>, AllocError>
-    ensures some { IfOk result (λ read. IfSome read (λ have. IsHaveLine program.now line.now (have_of have))) }
-    ensures none { IfOk result (λ read. IfNone read ((entry : AtomTree × ℕ) → ¬ (IsHaveLine program.now line.now entry))) }
+    ensures some { IfOk result (λ read. IfSome read (λ have. IsHaveLine vocabulary.now line.now (have_of have))) }
+    ensures none { IfOk result (λ read. IfNone read ((entry : AtomTree × ℕ) → ¬ (IsHaveLine vocabulary.now line.now entry))) }
 {
     let Some((count, text)) = counted(line) else {
         return Ok(None);
     };
-    match read_atom(alloc, program, text)? {
+    match read_atom(alloc, vocabulary, text)? {
         Some(atom) => Ok(Some(Have { count, atom })),
         None => Ok(None),
     }
@@ -90,14 +83,14 @@ fn counted(line: &[u8]) -> Option<(u32, &[u8])>
 // The offer of the step that the line says.
 pub(crate) fn step_line(
     alloc: Global,
-    program: &Program,
+    vocabulary: &Vocabulary,
     line: &[u8],
 ) -> Result<Option<Offer>, AllocError>
-    ensures some { IfOk result (λ read. IfSome read (IsStepLine program.now line.now)) }
-    ensures none { IfOk result (λ read. IfNone read ((offer : Offer) → ¬ (IsStepLine program.now line.now offer))) }
+    ensures some { IfOk result (λ read. IfSome read (IsStepLine vocabulary.now line.now)) }
+    ensures none { IfOk result (λ read. IfNone read ((offer : Offer) → ¬ (IsStepLine vocabulary.now line.now offer))) }
 {
     match strip(b"step ", line) {
-        Some(text) => read_offer(alloc, program, text),
+        Some(text) => read_offer(alloc, vocabulary, text),
         None => Ok(None),
     }
 }
@@ -105,14 +98,14 @@ pub(crate) fn step_line(
 // The derivation that the line says.
 pub(crate) fn by_line(
     alloc: Global,
-    program: &Program,
+    vocabulary: &Vocabulary,
     line: &[u8],
 ) -> Result<Option<Derivation>, AllocError>
-    ensures some { IfOk result (λ read. IfSome read (λ proof. IsByLine program.now line.now (proof_of proof))) }
-    ensures none { IfOk result (λ read. IfNone read ((proof : ProofTree) → ¬ (IsByLine program.now line.now proof))) }
+    ensures some { IfOk result (λ read. IfSome read (λ proof. IsByLine vocabulary.now line.now (proof_of proof))) }
+    ensures none { IfOk result (λ read. IfNone read ((proof : ProofTree) → ¬ (IsByLine vocabulary.now line.now proof))) }
 {
     match strip(b"by ", line) {
-        Some(text) => read_proof(alloc, program, text),
+        Some(text) => read_proof(alloc, vocabulary, text),
         None => Ok(None),
     }
 }
@@ -141,20 +134,20 @@ fn end_word(text: &[u8]) -> Option<EndWord>
 }
 
 // Whether the line begins like a step, of a rule that the program has not got.
-pub(crate) fn names_no_rule(program: &Program, line: &[u8]) -> bool
-    ensures { IsTrue result ↔ NamesNoRule program.now line.now }
+pub(crate) fn names_no_rule(vocabulary: &Vocabulary, line: &[u8]) -> bool
+    ensures { IsTrue result ↔ NamesNoRule vocabulary.now line.now }
 {
     match strip(b"step ", line) {
-        Some(text) => !is_rule(program, cut_word(text).0),
+        Some(text) => !is_rule(vocabulary, cut_word(text).0),
         None => false,
     }
 }
 
 // Whether some rule has the name.
-fn is_rule(program: &Program, name: &[u8]) -> bool
-    ensures { IsTrue result ↔ ((rule : Rule) × Contains program.now.rules rule × (rule.name ≡ name.now)) }
+fn is_rule(vocabulary: &Vocabulary, name: &[u8]) -> bool
+    ensures { IsTrue result ↔ ((rule : Rule) × Contains vocabulary.now.rules rule × (rule.name ≡ name.now)) }
 {
-    program
+    vocabulary
         .parts()
         .rules
         .iter()

@@ -14,6 +14,7 @@ use bstr::ByteSlice;
 use cep_base::limits::MOST_LOG;
 use cep_rule::Program;
 use cep_term::laws::order_is_total;
+use cep_text::Vocabulary;
 use std::alloc::{AllocError, Global};
 
 /// The log that a transcript says, or else the first line of the bytes that does not fit. The bytes
@@ -36,12 +37,27 @@ pub fn read_log(
     ensures of_program { IfOk result (λ read. IfOk read (IsLogOf program.now)) }
     ensures fault { IfOk result (λ read. IfErr read (HasMisfit program.now bytes.now)) }
 {
+    let vocabulary = Vocabulary::of(alloc, program)?;
+    read_by(alloc, &vocabulary, bytes)
+}
+
+// The same, of the program of a vocabulary.
+fn read_by(
+    alloc: Global,
+    vocabulary: &Vocabulary,
+    bytes: &[u8],
+) -> Result<Result<Log, LogFault>, AllocError>
+    requires { length bytes.now ≤ MOST_LOG }
+    ensures log { IfOk result (λ read. IfOk read (HasLog vocabulary.now bytes.now)) }
+    ensures of_program { IfOk result (λ read. IfOk read (IsLogOf vocabulary.now)) }
+    ensures fault { IfOk result (λ read. IfErr read (HasMisfit vocabulary.now bytes.now)) }
+{
     order_is_total();
     let mut so_far = SoFar::Nothing;
     let mut number = 0;
     for line in bytes.lines() {
         number += 1;
-        match passed(alloc, program, number, line, so_far)? {
+        match passed(alloc, vocabulary, number, line, so_far)? {
             Ok(next) => so_far = next,
             Err(fault) => return Ok(Err(fault)),
         }
@@ -55,23 +71,23 @@ pub fn read_log(
 // What was read with one line more, or why the line does not fit.
 fn passed(
     alloc: Global,
-    program: &Program,
+    vocabulary: &Vocabulary,
     number: u32,
     line: &[u8],
     so_far: SoFar,
 ) -> Result<Result<SoFar, LogFault>, AllocError>
-    requires { HasRule program.now so_far }
-    ensures taken { IfOk result (λ read. IfOk read (MovesOn program.now number line.now so_far)) }
-    ensures nowhere { IfOk result (λ read. IfErr read (λ fault. (new : SoFar) → ¬ (MovesOn program.now number line.now so_far new))) }
-    ensures fault { IfOk result (λ read. IfErr read (IsFaultOf program.now number line.now so_far)) }
+    requires { HasRule vocabulary.now so_far }
+    ensures taken { IfOk result (λ read. IfOk read (MovesOn vocabulary.now number line.now so_far)) }
+    ensures nowhere { IfOk result (λ read. IfErr read (λ fault. (new : SoFar) → ¬ (MovesOn vocabulary.now number line.now so_far new))) }
+    ensures fault { IfOk result (λ read. IfErr read (IsFaultOf vocabulary.now number line.now so_far)) }
 {
     if is_passed_over(line) {
         return Ok(Ok(so_far));
     }
     let may_step = may_step(&so_far);
-    match taken(alloc, program, number, line, so_far)? {
+    match taken(alloc, vocabulary, number, line, so_far)? {
         Some(next) => Ok(Ok(next)),
-        None => Ok(Err(fault_of(program, number, line, may_step))),
+        None => Ok(Err(fault_of(vocabulary, number, line, may_step))),
     }
 }
 
@@ -83,10 +99,10 @@ fn may_step(so_far: &SoFar) -> bool
 }
 
 // Why the line does not fit, by whether a step may stand there.
-fn fault_of(program: &Program, number: u32, line: &[u8], may_step: bool) -> LogFault
-    ensures { (so_far : SoFar) → (IsTrue may_step ↔ MayStep so_far) → IsFaultOf program.now number line.now so_far result }
+fn fault_of(vocabulary: &Vocabulary, number: u32, line: &[u8], may_step: bool) -> LogFault
+    ensures { (so_far : SoFar) → (IsTrue may_step ↔ MayStep so_far) → IsFaultOf vocabulary.now number line.now so_far result }
 {
-    if may_step && names_no_rule(program, line) {
+    if may_step && names_no_rule(vocabulary, line) {
         LogFault::NoRule { line: number }
     } else {
         LogFault::Line { line: number }
@@ -96,14 +112,14 @@ fn fault_of(program: &Program, number: u32, line: &[u8], may_step: bool) -> LogF
 // What was read with a line more that is not passed over, if it fits.
 fn taken(
     alloc: Global,
-    program: &Program,
+    vocabulary: &Vocabulary,
     number: u32,
     line: &[u8],
     so_far: SoFar,
 ) -> Result<Option<SoFar>, AllocError>
-    requires { HasRule program.now so_far }
-    ensures some { IfOk result (λ read. IfSome read (Becomes program.now number line.now so_far)) }
-    ensures none { IfOk result (λ read. IfNone read ((new : SoFar) → ¬ (Becomes program.now number line.now so_far new))) }
+    requires { HasRule vocabulary.now so_far }
+    ensures some { IfOk result (λ read. IfSome read (Becomes vocabulary.now number line.now so_far)) }
+    ensures none { IfOk result (λ read. IfNone read ((new : SoFar) → ¬ (Becomes vocabulary.now number line.now so_far new))) }
 {
     match so_far {
         SoFar::Nothing => {
@@ -117,12 +133,12 @@ fn taken(
             Some(height) => Ok(Some(SoFar::Height(height))),
             None => Ok(None),
         },
-        SoFar::Height(height) => match stage_line(program, line) {
+        SoFar::Height(height) => match stage_line(vocabulary, line) {
             Some(stage) => Ok(Some(SoFar::Whole(log_begun(alloc, height, number, stage)))),
             None => Ok(None),
         },
-        SoFar::Whole(log) => behind_whole(alloc, program, number, line, log),
-        SoFar::Within(log, step) => behind_part(alloc, program, line, log, step),
-        SoFar::Ended(log, end) => behind_end(alloc, program, line, log, end),
+        SoFar::Whole(log) => behind_whole(alloc, vocabulary, number, line, log),
+        SoFar::Within(log, step) => behind_part(alloc, vocabulary, line, log, step),
+        SoFar::Ended(log, end) => behind_end(alloc, vocabulary, line, log, end),
     }
 }

@@ -9,7 +9,7 @@ use cep_check::{Cause, CheckLimit, Verdict, check};
 use cep_log::{Log, LogFault, read_log};
 use cep_rule::{Offer, Program, order_offer};
 use cep_term::{Atom, same};
-use cep_text::{read_atom, read_offer};
+use cep_text::{Vocabulary, read_atom, read_offer};
 use std::alloc::{AllocError, Global};
 use std::marker::Brand;
 use std::process::Abort;
@@ -98,9 +98,25 @@ fn line_of(alloc: Global, outcome: &Outcome) -> Result<String, AllocError> {
     }
 }
 
+// What is read of a text as an atom.
+fn atom_read(alloc: Global, program: &Program, text: &str) -> Result<Option<Atom>, AllocError> {
+    let vocabulary = Vocabulary::of(alloc, program)?;
+    let read = read_atom(alloc, &vocabulary, text.as_bytes());
+    drop(vocabulary);
+    read
+}
+
+// What is read of a text as an offer.
+fn offer_read(alloc: Global, program: &Program, text: &str) -> Result<Option<Offer>, AllocError> {
+    let vocabulary = Vocabulary::of(alloc, program)?;
+    let read = read_offer(alloc, &vocabulary, text.as_bytes());
+    drop(vocabulary);
+    read
+}
+
 // Whether this is the text of the atom.
 fn is_atom(alloc: Global, program: &Program, atom: &Atom, text: &str) -> Result<bool, AllocError> {
-    match read_atom(alloc, program, text.as_bytes())? {
+    match atom_read(alloc, program, text)? {
         Some(read) => Ok(same(&read, atom)),
         None => Ok(false),
     }
@@ -113,7 +129,7 @@ fn is_offer(
     offer: &Offer,
     text: &str,
 ) -> Result<bool, AllocError> {
-    match read_offer(alloc, program, text.as_bytes())? {
+    match offer_read(alloc, program, text)? {
         Some(read) => Ok(order_offer(&read, offer).is_eq()),
         None => Ok(false),
     }

@@ -11,13 +11,14 @@ ghost use Rattle.cep_rule.specs.Shapes.{IsProofOf};
 ghost use Rattle.cep_rule.specs.Program.{IsProgram};
 ghost use Rattle.cep_prove.specs.Answers.{IsGoal, IsLowestProof};
 
+use crate::reading::read_term;
 use cep_base::limits::{MOST_HEIGHT, MOST_VARIABLES};
 use cep_base::{List, Steps, Text};
 use cep_prove::{Answer, AnswerList, answers, extensions};
 use cep_rule::laws::{derivations_have_shape, more_positions_known_are_no_worse};
 use cep_rule::{Program, Rule, proves};
 use cep_term::{Atom, Binding, Term, apply, same};
-use cep_text::{put_proof, read_term};
+use cep_text::put_proof;
 use std::alloc::{AllocError, Global};
 use std::marker::Brand;
 use std::sync::ledger::{Blank, Ledger};

@@ -1,7 +1,7 @@
 // Which derivations prove which atoms, and how high they are.
+use crate::reading::{read_atom, read_proof};
 use crate::sample::numbers;
 use cep_rule::{Program, height, proves};
-use cep_text::{read_atom, read_proof};
 use std::alloc::Global;
 use std::process::Abort;
 use std::test::Fail;

@@ -2,6 +2,7 @@
 ghost use Rattle.std.specs.Prelude.{◌≡◌, ◌<◌, IfOk};
 ghost use Rattle.cep_term.specs.Tree.{tree_of, trees_of, atom_of, variable, node, none, more, IsFit, IsGroundAtom};
 
+use crate::reading::{read_atom, read_offer};
 use crate::sample::numbers;
 use cep_base::Steps;
 use cep_rule::{Offer, Program, order_offer};
@@ -9,7 +10,6 @@ use cep_term::{
     Args, Atom, Bag, Binding, Term, apply, copy, copy_term, depth, meet, nodes, order, order_term,
     same,
 };
-use cep_text::{read_atom, read_offer};
 use std::alloc::{AllocError, Global};
 use std::cmp::Ordering;
 use std::marker::Brand;

@@ -1,11 +1,12 @@
 // The canonical texts of terms, atoms, offers and derivations, which are read and written again, and
 // texts that are of nothing.
+use crate::reading::{read_atom, read_offer, read_proof, read_term};
 use crate::sample::numbers;
 use cep_base::Text;
+use cep_ground::accept;
 use cep_rule::Program;
-use cep_text::{
-    put_atom, put_offer, put_proof, put_term, read_atom, read_offer, read_proof, read_term,
-};
+use cep_term::Term;
+use cep_text::{put_atom, put_offer, put_proof, put_term};
 use std::alloc::{AllocError, Global};
 use std::process::Abort;
 use std::test::Fail;
@@ -206,5 +207,46 @@ fn derivation() -> (&'static str, &'static str, &'static str) {
 fn a_derivation_has_at_most_512_open_brackets(rt: HostRuntime) -> Result<(), Fail> {
     assert!(rt; has_levels(rt.alloc(), "proof", 512, derivation())?);
     assert!(rt; !has_levels(rt.alloc(), "proof", 513, derivation())?);
+    Ok(())
+}
+
+// Adds so many constructors without arguments, `c0` and so on.
+fn put_constructors(count: u32, text: &mut Text) -> Result<(), AllocError> {
+    for i in 0..count {
+        text.append(b"c")?;
+        text.number(u64::from(i))?;
+        text.append(b" : nat.\n")?;
+    }
+    Ok(())
+}
+
+// A program with so many constructors.
+fn with_constructors(alloc: Global, count: u32) -> Result<Program, Fail> {
+    let mut text = Text::new(alloc);
+    text.append(b"nat : type.\nnum nat : pred.\n")?;
+    put_constructors(count, &mut text)?;
+    text.append(b"stage main = { r : num N -o num N. }\n#interactive main.\n#trace _ main {}.\n")?;
+    Ok(accept(alloc, text.bytes())?.map_err(|_| "refused")?)
+}
+
+// The number of the constructor of this name.
+fn number_in(alloc: Global, program: &Program, name: &str) -> Result<Option<u32>, AllocError> {
+    match read_term(alloc, program, 0, name.as_bytes())? {
+        Some(Term::App(number, _)) => Ok(Some(number)),
+        Some(Term::Var(_)) => Ok(None),
+        None => Ok(None),
+    }
+}
+
+// The number of the constructor of this name, in a program with so many.
+fn number_among(alloc: Global, count: u32, name: &str) -> Result<Option<u32>, Fail> {
+    let program = with_constructors(alloc, count)?;
+    Ok(number_in(alloc, &program, name)?)
+}
+
+#[test]
+fn the_last_of_many_names_is_found(rt: HostRuntime) -> Result<(), Fail> {
+    assert_eq!(rt; number_among(rt.alloc(), 300, "c299")?, Some(299));
+    assert_eq!(rt; number_among(rt.alloc(), 300, "c300")?, None);
     Ok(())
 }

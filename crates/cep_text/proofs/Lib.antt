@@ -5,6 +5,8 @@ pub mod Valued
 pub mod Nodes
 pub mod Literals
 pub mod Numbers
+pub mod TableLemmas
+pub mod StageLemmas
 pub mod Steps
 pub mod Heads
 pub mod ClauseNumbers

@@ -48,7 +48,7 @@ unfolding number_among
 not_before_none names name = refl
 
 -- of the first name and the rest neither is this one
-first_apart : (same : Bool) (rest : Option ℕ) → cond same (Some zero) (rest >>= λ number. Some (suc number)) ≡ None → (same ≡ false) × (rest ≡ None)
+pub first_apart : (same : Bool) (rest : Option ℕ) → cond same (Some zero) (rest >>= λ number. Some (suc number)) ≡ None → (same ≡ false) × (rest ≡ None)
 first_apart true rest e = absurd cc
 first_apart false None e = (refl, refl)
 first_apart false (Some number) e = absurd cc
@@ -99,3 +99,16 @@ pub number_within : {X : Type 0} (name_of : X → List ℕ) (items : List X) (na
 number_within name_of items name i e =
     let within = slice_get_within (map name_of items) i name (number_is (map name_of items) name i e) in
     omega (arith, within, length-map items name_of)
+
+-- a name without a number stands nowhere
+pub not_among : (names : List (List ℕ)) (name : List ℕ) (i : ℕ) → number_among names name ≡ None → slice_get names i ≡ Some name → ⊥
+unfolding number_among
+not_among [] name i none e = absurd cc
+not_among (other ∷ names) name zero none e =
+    let parts = first_apart (bytes_eq other name) (number_among names name) none in
+    let p : other ≡ name = cc in
+    let same : bytes_eq other name ≡ true = (bytes_eq-Decides other name).1 p in
+    let apart = parts.0 in absurd cc
+not_among (other ∷ names) name (suc i) none e =
+    let parts = first_apart (bytes_eq other name) (number_among names name) none in
+    not_among names name i parts.1 e

@@ -9,6 +9,7 @@ use Rattle.cep_rule.specs.declared.signature.PredDecl.{PredDecl}
 use Rattle.cep_rule.specs.declared.signature.Signature.{Signature}
 use Rattle.cep_rule.specs.declared.rule.Rule.{Rule}
 use Rattle.cep_rule.specs.declared.offer.Offer.{Offer}
+use Rattle.cep_rule.specs.declared.parts.Stage.{Stage}
 use Rattle.cep_rule.specs.declared.parts.Parts.{Parts}
 use Rattle.cep_base.specs.Spelling.{is_name_byte}
 use Rattle.cep_rule.specs.Patterns.{ClauseTree}
@@ -56,12 +57,15 @@ unfoldable pub number_among : List (List ℕ) → List ℕ → Option ℕ
 number_among [] name = None
 number_among (other ∷ names) name = if bytes_eq other name then Some zero else (number_among names name >>= λ number. Some (suc number))
 
--- the names of constructors, of predicates, and of rules
+-- the names of constructors, of predicates, of stages, and of rules
 abbrev pub con_names : List Con → List (List ℕ)
 con_names cons = map (λ con. con.name) cons
 
 abbrev pub pred_names : List PredDecl → List (List ℕ)
 pred_names preds = map (λ pred. pred.name) preds
+
+abbrev pub stage_names : List Stage → List (List ℕ)
+stage_names stages = map (λ stage. stage.name) stages
 
 abbrev pub rule_names : List Rule → List (List ℕ)
 rule_names rules = map (λ rule. rule.name) rules

@@ -7,9 +7,10 @@ ghost use Rattle.cep_text.specs.Reading.{Gives, clause_at, begin_at, proofs_at, 
 
 use crate::read_offers::givens;
 use crate::stop::Stop;
+use crate::vocabulary::Vocabulary;
 use crate::words::{literal, name_len, numbered};
 use cep_base::limits::MOST_HEIGHT;
-use cep_rule::{Clause, Derivation, Derivations, Program, Terms};
+use cep_rule::{Clause, Derivation, Derivations, Terms};
 use std::alloc::{AllocError, Global};
 
 /// The derivation that the bytes are the text of, or `None` exactly where they are the text of none.
@@ -19,13 +20,13 @@ use std::alloc::{AllocError, Global};
 /// sizes are this profile's. Only want of memory is refused.
 pub fn read_proof(
     alloc: Global,
-    program: &Program,
+    vocabulary: &Vocabulary,
     bytes: &[u8],
 ) -> Result<Option<Derivation>, AllocError>
-    ensures some { IfOk result (λ read. IfSome read (λ d. IsProofText program.now bytes.now (proof_of d))) }
-    ensures none { IfOk result (λ read. IfNone read ((proof : ProofTree) → ¬ (IsProofText program.now bytes.now proof))) }
+    ensures some { IfOk result (λ read. IfSome read (λ d. IsProofText vocabulary.now bytes.now (proof_of d))) }
+    ensures none { IfOk result (λ read. IfNone read ((proof : ProofTree) → ¬ (IsProofText vocabulary.now bytes.now proof))) }
 {
-    match whole_proof(alloc, program, bytes) {
+    match whole_proof(alloc, vocabulary, bytes) {
         Ok(d) => Ok(Some(d)),
         Err(Stop::Unread) => Ok(None),
         Err(Stop::Memory(error)) => Err(error),
@@ -34,13 +35,13 @@ pub fn read_proof(
 
 // All of the bytes as a derivation.
 #[tactic(auto, unfolding(crate::specs::Reading::proof_read))]
-fn whole_proof(alloc: Global, program: &Program, bytes: &[u8]) -> Result<Derivation, Stop>
-    ensures read { Gives proof_of result (proof_read program.now (small_at program.now.signature.cons) MOST_HEIGHT bytes.now) }
-    ensures kept { IsProgram program.now }
+fn whole_proof(alloc: Global, vocabulary: &Vocabulary, bytes: &[u8]) -> Result<Derivation, Stop>
+    ensures read { Gives proof_of result (proof_read vocabulary.now (small_at vocabulary.now.signature.cons) MOST_HEIGHT bytes.now) }
+    ensures kept { IsProgram vocabulary.now }
 {
     // What each program keeps is known from here on.
-    program.parts();
-    let (d, rest) = proof(alloc, program, MOST_HEIGHT, bytes)?;
+    vocabulary.parts();
+    let (d, rest) = proof(alloc, vocabulary, MOST_HEIGHT, bytes)?;
     if !rest.is_empty() {
         return Err(Stop::Unread);
     }
@@ -51,17 +52,17 @@ fn whole_proof(alloc: Global, program: &Program, bytes: &[u8]) -> Result<Derivat
 #[cycle(proof)]
 fn proof<'a>(
     alloc: Global,
-    program: &Program,
+    vocabulary: &Vocabulary,
     height: u32,
     bytes: &'a [u8],
 ) -> Result<(Derivation, &'a [u8]), Stop>
-    ensures read { Gives (λ x. (proof_of x.0, x.1.now)) result (proof_at program.now (small_at program.now.signature.cons) height bytes.now) }
+    ensures read { Gives (λ x. (proof_of x.0, x.1.now)) result (proof_at vocabulary.now (small_at vocabulary.now.signature.cons) height bytes.now) }
     ensures shorter { IfOk result (λ x. length x.1.now ≤ length bytes.now) }
 {
     if height == 0 {
         return Err(Stop::Unread);
     }
-    node(alloc, program, height - 1, bytes)
+    node(alloc, vocabulary, height - 1, bytes)
 }
 
 // A derivation at the front, whose goals' derivations are at most so high.
@@ -69,15 +70,15 @@ fn proof<'a>(
 #[tactic(auto, unfolding(crate::specs::Reading::node_at))]
 fn node<'a>(
     alloc: Global,
-    program: &Program,
+    vocabulary: &Vocabulary,
     height: u32,
     bytes: &'a [u8],
 ) -> Result<(Derivation, &'a [u8]), Stop>
-    ensures read { Gives (λ x. (proof_of x.0, x.1.now)) result (node_at program.now (small_at program.now.signature.cons) (proof_at program.now (small_at program.now.signature.cons) height) bytes.now) }
+    ensures read { Gives (λ x. (proof_of x.0, x.1.now)) result (node_at vocabulary.now (small_at vocabulary.now.signature.cons) (proof_at vocabulary.now (small_at vocabulary.now.signature.cons) height) bytes.now) }
     ensures shorter { IfOk result (λ x. length x.1.now ≤ length bytes.now) }
 {
-    let (number, values, goals, rest) = begin(alloc, program, bytes)?;
-    let (subs, rest) = proofs(alloc, program, height, goals, rest)?;
+    let (number, values, goals, rest) = begin(alloc, vocabulary, bytes)?;
+    let (subs, rest) = proofs(alloc, vocabulary, height, goals, rest)?;
     let rest = literal(b"]", rest)?;
     let subs = Box::new(alloc, subs)?;
     Ok((Derivation::Node(number, values, subs), rest))
@@ -87,20 +88,20 @@ fn node<'a>(
 #[cycle(proof)]
 fn proofs<'a>(
     alloc: Global,
-    program: &Program,
+    vocabulary: &Vocabulary,
     height: u32,
     goals: usize,
     bytes: &'a [u8],
 ) -> Result<(Derivations, &'a [u8]), Stop>
-    ensures read { Gives (λ x. (proofs_of x.0, x.1.now)) result (proofs_at (proof_at program.now (small_at program.now.signature.cons) height) goals bytes.now) }
+    ensures read { Gives (λ x. (proofs_of x.0, x.1.now)) result (proofs_at (proof_at vocabulary.now (small_at vocabulary.now.signature.cons) height) goals bytes.now) }
     ensures shorter { IfOk result (λ x. length x.1.now ≤ length bytes.now) }
 {
     if goals == 0 {
         return Ok((Derivations::Nil, bytes));
     }
     let rest = literal(b" ", bytes)?;
-    let (first, rest) = proof(alloc, program, height, rest)?;
-    let (others, rest) = proofs(alloc, program, height, goals - 1, rest)?;
+    let (first, rest) = proof(alloc, vocabulary, height, rest)?;
+    let (others, rest) = proofs(alloc, vocabulary, height, goals - 1, rest)?;
     Ok((Derivations::Cons(first, Box::new(alloc, others)?), rest))
 }
 
@@ -108,29 +109,29 @@ fn proofs<'a>(
 #[tactic(auto, unfolding(crate::specs::Reading::begin_at))]
 fn begin<'a>(
     alloc: Global,
-    program: &Program,
+    vocabulary: &Vocabulary,
     bytes: &'a [u8],
 ) -> Result<(u32, Terms, usize, &'a [u8]), Stop>
-    ensures read { Gives (λ x. ((x.0, x.1, x.2), x.3.now)) result (begin_at program.now (small_at program.now.signature.cons) bytes.now) }
+    ensures read { Gives (λ x. ((x.0, x.1, x.2), x.3.now)) result (begin_at vocabulary.now (small_at vocabulary.now.signature.cons) bytes.now) }
     ensures shorter { IfOk result (λ x. length x.3.now < length bytes.now) }
 {
     let rest = literal(b"[", bytes)?;
-    let (number, clause, rest) = clause(program, rest)?;
-    let (values, rest) = givens(alloc, program, &clause.vars, &clause.kinds, rest)?;
+    let (number, clause, rest) = clause(vocabulary, rest)?;
+    let (values, rest) = givens(alloc, vocabulary, &clause.vars, &clause.kinds, rest)?;
     Ok((number, values, clause.goals.len(), rest))
 }
 
 // A clause at the front by its number, counted from 1: its place, counted from 0, and the clause.
 #[tactic(auto, unfolding(crate::specs::Reading::clause_at))]
 fn clause<'p, 'a>(
-    program: &'p Program,
+    vocabulary: &Vocabulary<'p>,
     bytes: &'a [u8],
 ) -> Result<(u32, &'p Clause, &'a [u8]), Stop>
-    ensures read { Gives (λ x. ((x.0, clause_of x.1.now), x.2.now)) result (clause_at program.now.clauses bytes.now) }
+    ensures read { Gives (λ x. ((x.0, clause_of x.1.now), x.2.now)) result (clause_at vocabulary.now.clauses bytes.now) }
     ensures as_many { IfOk result (λ x. length x.1.now.kinds ≡ length x.1.now.vars) }
     ensures shorter { IfOk result (λ x. length x.2.now ≤ length bytes.now) }
 {
-    let clauses = &program.parts().clauses;
+    let clauses = &vocabulary.parts().clauses;
     let (word, rest) = bytes.split_at(name_len(bytes));
     match numbered(word, clauses.len()) {
         Some(number) => Ok((number as u32, clauses.get(number), rest)),

@@ -3,25 +3,26 @@ ghost use Rattle.cep_term.specs.Tree.{tree_of, trees_of, term_nodes, argument_no
 ghost use Rattle.cep_text.specs.Reading.{Gives, con_at, bare_at, argument_at, arguments_at, inside_at, enclosed_at, value_at, small_at};
 
 use crate::stop::Stop;
-use crate::words::{find, literal, name_len, strip};
+use crate::vocabulary::Vocabulary;
+use crate::words::{literal, name_len, strip};
 use cep_base::limits::{MOST_DEPTH, MOST_NODES};
-use cep_rule::{Kinds, Program};
+use cep_rule::Kinds;
 use cep_term::{Args, Term};
 use std::alloc::Global;
 
 // A constructor of the type at the front: its number, and the types of its arguments.
 #[tactic(auto, unfolding(crate::specs::Reading::con_at))]
 fn con<'p, 'a>(
-    program: &'p Program,
+    vocabulary: &Vocabulary<'p>,
     sort: u32,
     bytes: &'a [u8],
 ) -> Result<(u32, &'p Kinds, &'a [u8]), Stop>
-    ensures read { Gives (λ x. ((x.0, x.1.now), x.2.now)) result (con_at program.now.signature.cons sort bytes.now) }
+    ensures read { Gives (λ x. ((x.0, x.1.now), x.2.now)) result (con_at vocabulary.now.signature.cons sort bytes.now) }
     ensures shorter { IfOk result (λ x. length x.2.now ≤ length bytes.now) }
 {
-    let cons = &program.parts().signature.cons;
+    let cons = &vocabulary.parts().signature.cons;
     let (name, rest) = bytes.split_at(name_len(bytes));
-    let Some(number) = find(cons, name) else {
+    let Some(number) = vocabulary.constructor(name) else {
         return Err(Stop::Unread);
     };
     let con = cons.get(number);
@@ -35,14 +36,14 @@ fn con<'p, 'a>(
 #[tactic(auto, unfolding(crate::specs::Reading::bare_at))]
 fn bare<'a>(
     alloc: Global,
-    program: &Program,
+    vocabulary: &Vocabulary,
     sort: u32,
     bytes: &'a [u8],
 ) -> Result<(Term, &'a [u8]), Stop>
-    ensures read { Gives (λ x. (tree_of x.0, x.1.now)) result (bare_at program.now.signature.cons sort bytes.now) }
+    ensures read { Gives (λ x. (tree_of x.0, x.1.now)) result (bare_at vocabulary.now.signature.cons sort bytes.now) }
     ensures shorter { IfOk result (λ x. length x.1.now ≤ length bytes.now) }
 {
-    let (number, kinds, rest) = con(program, sort, bytes)?;
+    let (number, kinds, rest) = con(vocabulary, sort, bytes)?;
     if kinds.len() != 0 {
         return Err(Stop::Unread);
     }
@@ -53,20 +54,20 @@ fn bare<'a>(
 #[cycle(value)]
 pub(crate) fn value<'a>(
     alloc: Global,
-    program: &Program,
+    vocabulary: &Vocabulary,
     depth: u32,
     sort: u32,
     bytes: &'a [u8],
 ) -> Result<(Term, &'a [u8]), Stop>
-    ensures read { Gives (λ x. (tree_of x.0, x.1.now)) result (value_at program.now.signature.cons depth sort bytes.now) }
+    ensures read { Gives (λ x. (tree_of x.0, x.1.now)) result (value_at vocabulary.now.signature.cons depth sort bytes.now) }
     ensures shorter { IfOk result (λ x. length x.1.now ≤ length bytes.now) }
 {
     if depth == 0 {
         return Err(Stop::Unread);
     }
     match strip(b"(", bytes) {
-        Some(inside) => enclosed(alloc, program, depth - 1, sort, inside),
-        None => bare(alloc, program, sort, bytes),
+        Some(inside) => enclosed(alloc, vocabulary, depth - 1, sort, inside),
+        None => bare(alloc, vocabulary, sort, bytes),
     }
 }
 
@@ -75,16 +76,16 @@ pub(crate) fn value<'a>(
 #[tactic(auto, unfolding(crate::specs::Reading::enclosed_at))]
 fn enclosed<'a>(
     alloc: Global,
-    program: &Program,
+    vocabulary: &Vocabulary,
     depth: u32,
     sort: u32,
     bytes: &'a [u8],
 ) -> Result<(Term, &'a [u8]), Stop>
-    ensures read { Gives (λ x. (tree_of x.0, x.1.now)) result (enclosed_at (value_at program.now.signature.cons depth) program.now.signature.cons sort bytes.now) }
+    ensures read { Gives (λ x. (tree_of x.0, x.1.now)) result (enclosed_at (value_at vocabulary.now.signature.cons depth) vocabulary.now.signature.cons sort bytes.now) }
     ensures shorter { IfOk result (λ x. length x.1.now ≤ length bytes.now) }
 {
-    let (number, kinds, rest) = con(program, sort, bytes)?;
-    let (args, rest) = inside(alloc, program, depth, kinds, rest)?;
+    let (number, kinds, rest) = con(vocabulary, sort, bytes)?;
+    let (args, rest) = inside(alloc, vocabulary, depth, kinds, rest)?;
     Ok((Term::App(number, Box::new(alloc, args)?), rest))
 }
 
@@ -93,18 +94,18 @@ fn enclosed<'a>(
 #[tactic(auto, unfolding(crate::specs::Reading::inside_at))]
 fn inside<'a>(
     alloc: Global,
-    program: &Program,
+    vocabulary: &Vocabulary,
     depth: u32,
     kinds: &Kinds,
     bytes: &'a [u8],
 ) -> Result<(Args, &'a [u8]), Stop>
-    ensures read { Gives (λ x. (trees_of x.0, x.1.now)) result (inside_at (value_at program.now.signature.cons depth) kinds.now bytes.now) }
+    ensures read { Gives (λ x. (trees_of x.0, x.1.now)) result (inside_at (value_at vocabulary.now.signature.cons depth) kinds.now bytes.now) }
     ensures shorter { IfOk result (λ x. length x.1.now ≤ length bytes.now) }
 {
     if kinds.len() == 0 {
         return Err(Stop::Unread);
     }
-    let (args, rest) = arguments(alloc, program, depth, kinds, 0, bytes)?;
+    let (args, rest) = arguments(alloc, vocabulary, depth, kinds, 0, bytes)?;
     Ok((args, literal(b")", rest)?))
 }
 
@@ -112,21 +113,21 @@ fn inside<'a>(
 #[cycle(value)]
 pub(crate) fn arguments<'a>(
     alloc: Global,
-    program: &Program,
+    vocabulary: &Vocabulary,
     depth: u32,
     kinds: &Kinds,
     from: usize,
     bytes: &'a [u8],
 ) -> Result<(Args, &'a [u8]), Stop>
     requires { from ≤ length kinds.now }
-    ensures read { Gives (λ x. (trees_of x.0, x.1.now)) result (arguments_at (value_at program.now.signature.cons depth) (drop from kinds.now) bytes.now) }
+    ensures read { Gives (λ x. (trees_of x.0, x.1.now)) result (arguments_at (value_at vocabulary.now.signature.cons depth) (drop from kinds.now) bytes.now) }
     ensures shorter { IfOk result (λ x. length x.1.now ≤ length bytes.now) }
 {
     if from == kinds.len() {
         return Ok((Args::Nil, bytes));
     }
-    let (first, rest) = argument(alloc, program, depth, *kinds.get(from), bytes)?;
-    let (others, rest) = arguments(alloc, program, depth, kinds, from + 1, rest)?;
+    let (first, rest) = argument(alloc, vocabulary, depth, *kinds.get(from), bytes)?;
+    let (others, rest) = arguments(alloc, vocabulary, depth, kinds, from + 1, rest)?;
     Ok((Args::Cons(first, Box::new(alloc, others)?), rest))
 }
 
@@ -135,30 +136,30 @@ pub(crate) fn arguments<'a>(
 #[tactic(auto, unfolding(crate::specs::Reading::argument_at))]
 fn argument<'a>(
     alloc: Global,
-    program: &Program,
+    vocabulary: &Vocabulary,
     depth: u32,
     sort: u32,
     bytes: &'a [u8],
 ) -> Result<(Term, &'a [u8]), Stop>
-    ensures read { Gives (λ x. (tree_of x.0, x.1.now)) result (argument_at (value_at program.now.signature.cons depth sort) bytes.now) }
+    ensures read { Gives (λ x. (tree_of x.0, x.1.now)) result (argument_at (value_at vocabulary.now.signature.cons depth sort) bytes.now) }
     ensures shorter { IfOk result (λ x. length x.1.now < length bytes.now) }
 {
     let rest = literal(b" ", bytes)?;
-    value(alloc, program, depth, sort, rest)
+    value(alloc, vocabulary, depth, sort, rest)
 }
 
 // A term of the type at the front, within the sizes of one.
 #[tactic(auto, unfolding(crate::specs::Reading::small_at))]
 pub(crate) fn small_value<'a>(
     alloc: Global,
-    program: &Program,
+    vocabulary: &Vocabulary,
     sort: u32,
     bytes: &'a [u8],
 ) -> Result<(Term, &'a [u8]), Stop>
-    ensures read { Gives (λ x. (tree_of x.0, x.1.now)) result (small_at program.now.signature.cons sort bytes.now) }
+    ensures read { Gives (λ x. (tree_of x.0, x.1.now)) result (small_at vocabulary.now.signature.cons sort bytes.now) }
     ensures shorter { IfOk result (λ x. length x.1.now ≤ length bytes.now) }
 {
-    let (t, rest) = value(alloc, program, MOST_DEPTH as u32, sort, bytes)?;
+    let (t, rest) = value(alloc, vocabulary, MOST_DEPTH as u32, sort, bytes)?;
     match left_after(&t, MOST_NODES) {
         Some(_) => Ok((t, rest)),
         None => Err(Stop::Unread),

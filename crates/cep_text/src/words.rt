@@ -1,10 +1,8 @@
-ghost use Rattle.std.specs.Prelude.{◌≡◌, ◌≢◌, ℕ, ◌≤◌, ◌<◌, ◌+◌, ◌^◌, List, length, map, decimal, MatchOption, IfOk, IfSome, IfNone};
+ghost use Rattle.std.specs.Prelude.{◌≡◌, ◌≢◌, ℕ, ◌≤◌, ◌<◌, ◌+◌, ◌^◌, length, decimal, MatchOption, IfOk, IfSome, IfNone};
 ghost use Rattle.cep_base.specs.Spelling.{is_name_byte};
-ghost use Rattle.cep_text.specs.Reading.{Gives, literal_at, name_len, number_among, numbered_by};
+ghost use Rattle.cep_text.specs.Reading.{Gives, literal_at, name_len, numbered_by};
 
 use crate::stop::Stop;
-use cep_base::{List, Name};
-use cep_rule::{Con, PredDecl, Rule};
 use itoa::Buffer;
 
 // The bytes behind a word, if it stands at the front.
@@ -39,50 +37,6 @@ fn is_name_byte(byte: u8) -> bool
     ensures { result ≡ is_name_byte byte }
 {
     byte.is_ascii_alphanumeric() || byte == b'_' || byte == b'/' || byte == b'\''
-}
-
-// What a program declares by a name.
-pub(crate) trait Named {
-    ghost name_of: { Self → List ℕ };
-
-    fn name(&self) -> &Name
-        ensures { result.now ≡ name_of self.now };
-}
-
-impl Named for Con {
-    ghost name_of = { λ con. con.name };
-
-    fn name(&self) -> &Name {
-        &self.name
-    }
-}
-
-impl Named for PredDecl {
-    ghost name_of = { λ pred. pred.name };
-
-    fn name(&self) -> &Name {
-        &self.name
-    }
-}
-
-impl Named for Rule {
-    ghost name_of = { λ rule. rule.name };
-
-    fn name(&self) -> &Name {
-        &self.name
-    }
-}
-
-// The number of the item of this name.
-pub(crate) fn find<T: Named>(items: &List<T>, name: &[u8]) -> Option<usize>
-    ensures { result ≡ number_among (map T.name_of items.now) name.now }
-{
-    for i in 0..items.len() {
-        if items.get(i).name().bytes() == name {
-            return Some(i);
-        }
-    }
-    None
 }
 
 // The place, counted from 0, of which the word is the number, counted from 1, among so many.

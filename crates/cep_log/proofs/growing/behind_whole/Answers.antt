@@ -9,7 +9,7 @@ use Rattle.cep_log.proofs.growing.behind_whole.Goals as goal
 
 pub returns-in-None-clause-none : goal.returns-in-None-clause-none
 returns-in-None-clause-none c =
-    let program = c.args.program.now in
+    let program = c.args.vocabulary.now in
     let line = c.args.line.now in
     IfOk-weaker c.behind_listing.result
     (λ read. IfNone read ((new : SoFar) → ¬ (GoesOnStart program line c.args.log new)))

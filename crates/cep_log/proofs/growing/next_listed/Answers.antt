@@ -7,7 +7,7 @@ use Rattle.cep_log.proofs.growing.next_listed.Goals as goal
 
 pub returns-else-is_behind-clause-none : goal.returns-else-is_behind-clause-none
 returns-else-is_behind-clause-none c = λ entry said behind.
-    let program = c.args.program.now in
+    let program = c.args.vocabulary.now in
     let is : IsProgram program = c.parts.ensures.kept in
     let laws : OneValue program = record {
       atoms = λ x y p q e. c.one_value.ensures.atoms program x y is p q e;

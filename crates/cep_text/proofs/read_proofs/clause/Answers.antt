@@ -17,6 +17,6 @@ overflow_cast-result c =
 
 pub returns-in-Some-clause-as_many : goal.returns-in-Some-clause-as_many
 returns-in-Some-clause-as_many c =
-    let program = c.args.program.now in
+    let program = c.args.vocabulary.now in
     let there : slice_get program.clauses c.in-Some.number ≡ Some (clause_of c.get.result.now) = rw c.parts.ensures.parts at c.get.ensures in
     (all_at (IsTypedClause program.signature) program.clauses c.in-Some.number (clause_of c.get.result.now) c.parts.ensures.kept.typed_clauses there).kinds

@@ -10,12 +10,12 @@ value-returns-then-depth-eq0-clause-read t c = value_zero _ _ _ _ c.if-depth-eq0
 pub value-returns-in-Some-clause-read : goal.value-returns-in-Some-clause-read
 value-returns-in-Some-clause-read t c =
     let more : c.args.depth ≡ suc (c.args.depth - 1) = omega arith in
-    rw (value_more c.args.program.now.signature.cons c.args.depth (c.args.depth - 1) c.args.sort c.args.bytes.now more, c.in-Some.ensures.read) c.enclosed.ensures.read
+    rw (value_more c.args.vocabulary.now.signature.cons c.args.depth (c.args.depth - 1) c.args.sort c.args.bytes.now more, c.in-Some.ensures.read) c.enclosed.ensures.read
 
 pub value-returns-in-None-clause-read : goal.value-returns-in-None-clause-read
 value-returns-in-None-clause-read t c =
     let more : c.args.depth ≡ suc (c.args.depth - 1) = omega arith in
-    rw (value_more c.args.program.now.signature.cons c.args.depth (c.args.depth - 1) c.args.sort c.args.bytes.now more, c.in-None.ensures.read) c.bare.ensures.read
+    rw (value_more c.args.vocabulary.now.signature.cons c.args.depth (c.args.depth - 1) c.args.sort c.args.bytes.now more, c.in-None.ensures.read) c.bare.ensures.read
 
 pub arguments-returns-then-from-len-clause-read : goal.arguments-returns-then-from-len-clause-read
 arguments-returns-then-from-len-clause-read t c = arguments_end _ c.args.kinds.now c.args.from c.args.bytes.now (omega arith)
@@ -23,15 +23,15 @@ arguments-returns-then-from-len-clause-read t c = arguments_end _ c.args.kinds.n
 pub arguments-returns-in_err-first-clause-read : goal.arguments-returns-in_err-first-clause-read
 arguments-returns-in_err-first-clause-read t c =
     let p = err_from_is_err_and c.from_residual.result c.from_residual.ensures.1 in
-    rw (p.1, p.2, arguments_next (value_at c.args.program.now.signature.cons c.args.depth) c.args.kinds.now c.args.from c.get.result.now c.args.bytes.now c.get.ensures)
+    rw (p.1, p.2, arguments_next (value_at c.args.vocabulary.now.signature.cons c.args.depth) c.args.kinds.now c.args.from c.get.result.now c.args.bytes.now c.get.ensures)
     (fails_first c.in_err-first.field-0.0 _ _ c.in_err-first.ensures.read)
 
 pub arguments-returns-in_err-others-clause-read : goal.arguments-returns-in_err-others-clause-read
 arguments-returns-in_err-others-clause-read t c =
     let p = err_from_is_err_and c.from_residual-in_err-others.result c.from_residual-in_err-others.ensures.1 in
-    rw (p.1, p.2, arguments_next (value_at c.args.program.now.signature.cons c.args.depth) c.args.kinds.now c.args.from c.get.result.now c.args.bytes.now c.get.ensures, c.in_ok-first.ensures.read)
+    rw (p.1, p.2, arguments_next (value_at c.args.vocabulary.now.signature.cons c.args.depth) c.args.kinds.now c.args.from c.get.result.now c.args.bytes.now c.get.ensures, c.in_ok-first.ensures.read)
     (fails_first c.in_err-others.field-0.0 _ _ c.in_err-others.ensures.read)
 
 pub arguments-returns-clause-read : goal.arguments-returns-clause-read
 arguments-returns-clause-read t c =
-    rw (arguments_next (value_at c.args.program.now.signature.cons c.args.depth) c.args.kinds.now c.args.from c.get.result.now c.args.bytes.now c.get.ensures, c.in_ok-first.ensures.read, c.in_ok-others.ensures.read, c.in_ok-new.ensures.ok) refl
+    rw (arguments_next (value_at c.args.vocabulary.now.signature.cons c.args.depth) c.args.kinds.now c.args.from c.get.result.now c.args.bytes.now c.get.ensures, c.in_ok-first.ensures.read, c.in_ok-others.ensures.read, c.in_ok-new.ensures.ok) refl

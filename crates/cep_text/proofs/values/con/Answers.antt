@@ -4,10 +4,10 @@ use Rattle.cep_text.proofs.Numbers.{number_within}
 use Rattle.cep_text.proofs.values.con.Goals as goal
 
 pub get-con-requires : goal.get-con-requires
-get-con-requires c = number_within (λ con. con.name) c.parts.result.now.signature.cons _ c.in-Some.number (sym c.in-Some.ensures)
+get-con-requires c = rw c.parts.ensures.parts (number_within (λ con. con.name) c.args.vocabulary.now.signature.cons _ c.in-Some.number (sym c.in-Some.ensures))
 
 pub overflow_cast-result : goal.overflow_cast-result
 overflow_cast-result c =
-    let within : c.in-Some.number < length c.parts.result.now.signature.cons = number_within (λ con. con.name) c.parts.result.now.signature.cons _ c.in-Some.number (sym c.in-Some.ensures) in
-    let few : length c.parts.result.now.signature.cons ≤ MOST_CONS = rw c.parts.ensures.parts c.parts.ensures.kept.small.signature.cons in
+    let within : c.in-Some.number < length c.args.vocabulary.now.signature.cons = number_within (λ con. con.name) c.args.vocabulary.now.signature.cons _ c.in-Some.number (sym c.in-Some.ensures) in
+    let few : length c.args.vocabulary.now.signature.cons ≤ MOST_CONS = c.parts.ensures.kept.small.signature.cons in
     omega arith
