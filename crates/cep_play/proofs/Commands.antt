@@ -1,6 +1,6 @@
 -- What the statuses of the command say.
-use Rattle.std.proofs.Common.{◌≡◌, ℕ, ◌+◌, ◌<◌, ◌≤◌, List, [], ◌∷◌, ◌++◌, length, map, refl, ap, ◌∙◌, append_assoc, sym, subst, inl, inr, lit<, arith, Option, None, Some}
-use Rattle.std.proofs.lemmas.List.{length-replicate}
+use Rattle.std.proofs.Common.{◌≡◌, ℕ, ◌+◌, ◌<◌, ◌≤◌, List, [], ◌∷◌, ◌++◌, length, map, refl, ap, ◌∙◌, append_assoc, sym, subst, inl, inr, ⊎_elim, lit<, arith, Option, None, Some}
+use Rattle.std.proofs.lemmas.List.{length-replicate, append-nil}
 use Rattle.std.specs.Prelude.{◌⊎◌, Contains, replicate}
 use Rattle.std.specs.Option.{option_map, IsSomeAnd}
 use Rattle.std.specs.List.{AllByRecursion}
@@ -9,6 +9,7 @@ use Rattle.cep_base.specs.declared.console.ConsoleFault.{ConsoleFault}
 use Rattle.cep_base.specs.declared.console.ConsoleFault.TheVariants as faults
 use Rattle.cep_base.specs.Faults.{Rose}
 use Rattle.cep_base.specs.Files.{Files, HasFile, HasLongerFile}
+use Rattle.cep_term.specs.Multiset.{copies_in}
 use Rattle.cep_rule.specs.declared.rule.Rule.{Rule}
 use Rattle.cep_rule.specs.declared.parts.Parts.{Parts}
 use Rattle.cep_refusal.specs.declared.refusal.Refusal.{Refusal}
@@ -21,7 +22,7 @@ use Rattle.cep_play.specs.declared.status.Status.TheVariants.{Ended, Accepted, R
 use Rattle.cep_log.specs.declared.end_word.EndWord.{EndWord}
 use Rattle.cep_log.specs.declared.end_word.EndWord.TheVariants.{Quiet, Input, Turns, Offers, Typed, Atom, State}
 use Rattle.cep_words.specs.declared.options.Options.{Options}
-use Rattle.cep_words.specs.Words.{Play, Check, AskFor, HaveNoForm}
+use Rattle.cep_words.specs.Words.{Play, Check, World, AskFor, HaveNoForm}
 use Rattle.cep_play.specs.declared.settings.Settings.{Settings}
 use Rattle.cep_play.specs.Deciding.{Supply}
 use Rattle.cep_play.specs.Run.{Position, start_of, whole_supply, Turn, Ending, AreTurns, AreMachineSteps, unproved}
@@ -33,9 +34,11 @@ use Rattle.cep_rule.specs.Program.{IsProgram}
 use Rattle.cep_log.specs.declared.log.Log.{Log}
 use Rattle.cep_log.specs.Legal.{IsLegal}
 use Rattle.cep_log.specs.Transcript.{HasLog}
-use Rattle.cep_play.specs.Command.{OfRequest, OfPlay, OfCheck, OfFile, IsProgramText, Adds, settings_of, IsSaid, Says, Plays, Writes, Refuses, IsFinished, refusal_text, usage, no_program, no_transcript}
+use Rattle.cep_play.specs.declared.summary.Tally.{Tally}
+use Rattle.cep_play.specs.Command.{OfPlay, OfCheck, OfWorld, OfFile, IsProgramText, Adds, settings_of, IsSaid, Says, Plays, Writes, Refuses, IsFinished, IsLimited, refusal_text, usage, no_program, no_transcript}
 use Rattle.cep_play.specs.Checked.{Accepts, Checks}
-use Rattle.cep_play.specs.Outcome.{IsSpelledBy, IsProgramIn, NoneIsRead, IsNoProgram, OfRun, OfTranscript, OfAudit, OfWords, CountsFaults, AsksFile, AsksFiles, AskedAsSaid, code_of, status_of}
+use Rattle.cep_play.specs.Summary.{IsTally, Tours}
+use Rattle.cep_play.specs.Outcome.{IsSpelledBy, IsProgramIn, NoneIsRead, IsNoProgram, OfRun, OfTranscript, OfAudit, OfTour, OfWords, CountsFaults, AsksFile, AsksFiles, AskedAsSaid, code_of, status_of}
 use Rattle.cep_base.proofs.Did.{did_map}
 use Rattle.cep_play.proofs.Runs.{IsTold}
 
@@ -70,15 +73,25 @@ HaveLogs =
     → IsProgram program → IsHeight settings.height → Dialogue program settings come turns ending events rest → length (written_bytes events) ≤ MOST_LOG
     → (log : Log) × HasLog program (written_bytes events) log × HoldsRun program settings turns ending log × IsLegal program log × (length log.steps ≡ length turns)
 
--- what is told is what is said, and what is typed allows no other
-pub is_said : (program : Parts) (settings wanted : Settings) (word : EndWord) → IsOneDialogue → IsOneToTheByte → AreAllSteps → AreAllCounted → HaveLogs → IsProgram program → IsHeight settings.height → settings ≡ wanted → (come : List ℕ) (events : List Event) (rest : List ℕ) → IsTold program settings word come events rest → IsSaid program wanted (λ end. end ≡ word) come events rest
-is_said program settings wanted word one to_the_byte steps counted logs kept height same come events rest told =
+-- what is told is what is said, with its tally, and what is typed allows no other
+pub is_said : (program : Parts) (settings wanted : Settings) (tally : Tally) (last : Position) → IsOneDialogue → IsOneToTheByte → AreAllSteps → AreAllCounted → HaveLogs → IsProgram program → IsHeight settings.height → settings ≡ wanted
+    → tally.turns ≡ last.turns → tally.copies ≡ copies_in last.spot.state
+    → (come : List ℕ) (events : List Event) (rest : List ℕ) → IsTold program settings tally.word last tally.offers come events rest → IsSaid program wanted (λ turns ending. IsTally turns ending tally) come events rest
+is_said program settings wanted tally last one to_the_byte steps counted logs kept height same turns copies come events rest told =
     let dialogue = subst (λ s. Dialogue program s come told.turns told.ending events rest) same told.dialogue in
+    let run = told.dialogue.run in
+    let many = counted program settings (start_of program) (whole_supply come) told.turns run.last run.between run.done in
+    let last_turns : run.last.turns ≡ last.turns = ap (λ (at : Position). at.turns) told.last_is in
     record {
       turns = told.turns;
       ending = told.ending;
       dialogue = dialogue;
-      word = told.word_is;
+      holds = record {
+        word = sym told.word_is;
+        turns = omega (arith, turns, many, last_turns);
+        offers = told.listed;
+        copies = copies ∙ ap (λ (at : Position). copies_in at.spot.state) (sym told.last_is) ∙ ap copies_in (sym run.state);
+      };
       steps = steps program wanted (start_of program) (whole_supply come) told.turns dialogue.run.last dialogue.run.between dialogue.run.done;
       counted =
           let last = counted program wanted (start_of program) (whole_supply come) told.turns dialogue.run.last dialogue.run.between dialogue.run.done in
@@ -91,17 +104,18 @@ is_said program settings wanted word one to_the_byte steps counted logs kept hei
     }
 
 module _ {C : Type 0} (talk : C → Option (List Event)) (left : C → Option (List ℕ)) (old new : C) where
-  says_word : (program : Parts) (settings : Settings) (word : EndWord) (P : EndWord → Type 0) → P word → Says talk left old new program settings (λ end. end ≡ word) → Says talk left old new program settings P
-  says_word program settings word P holds says =
-      did_map talk left old new _ _ (λ come events rest said. record { turns = said.turns; ending = said.ending; dialogue = said.dialogue; word = subst P (sym said.word) holds; steps = said.steps; counted = said.counted; logged = said.logged; only = said.only; to_the_byte = said.to_the_byte }) says
+  -- less may be said of the turns and the end
+  pub says_less : (program : Parts) (settings : Settings) (P Q : List Turn → Ending → Type 0) → ((turns : List Turn) (ending : Ending) → P turns ending → Q turns ending) → Says talk left old new program settings P → Says talk left old new program settings Q
+  says_less program settings P Q less says =
+      did_map talk left old new _ _ (λ come events rest said. record { turns = said.turns; ending = said.ending; dialogue = said.dialogue; holds = less said.turns said.ending said.holds; steps = said.steps; counted = said.counted; logged = said.logged; only = said.only; to_the_byte = said.to_the_byte }) says
 
   -- a played program
-  pub program_played : (files : Option Files) (name : List ℕ) (options : Options) (program : Parts) (word : EndWord) → IsProgramIn files name program → Says talk left old new program (settings_of program options) (λ end. end ≡ word) → OfRun talk left old new files name options (status_of word)
+  pub program_played : (files : Option Files) (name : List ℕ) (options : Options) (program : Parts) (word : EndWord) → IsProgramIn files name program → Says talk left old new program (settings_of program options) (λ turns ending. ending.word ≡ word) → OfRun talk left old new files name options (status_of word)
   program_played files name options program word is_in says = by word says where
-    plays : (end : EndWord) (P : EndWord → Type 0) → P end → Says talk left old new program (settings_of program options) (λ w. w ≡ end) → OfFile files name (λ text. Plays talk left old new text options P)
-    plays end P holds said = (is_in.0, is_in.1, record { program = program; spells = is_in.2.0; only = is_in.2.1; says = says_word program (settings_of program options) end P holds said })
+    plays : (end : EndWord) (P : EndWord → Type 0) → P end → Says talk left old new program (settings_of program options) (λ turns ending. ending.word ≡ end) → OfFile files name (λ text. Plays talk left old new text options P)
+    plays end P holds said = (is_in.0, is_in.1, record { program = program; spells = is_in.2.0; only = is_in.2.1; says = says_less program (settings_of program options) (λ turns ending. ending.word ≡ end) (λ turns ending. P ending.word) (λ turns ending is. subst P (sym is) holds) said })
 
-    by : (end : EndWord) → Says talk left old new program (settings_of program options) (λ w. w ≡ end) → OfRun talk left old new files name options (status_of end)
+    by : (end : EndWord) → Says talk left old new program (settings_of program options) (λ turns ending. ending.word ≡ end) → OfRun talk left old new files name options (status_of end)
     by Quiet said = plays Quiet _ (inl refl) said
     by Input said = plays Input _ (inr refl) said
     by Turns said = plays Turns _ (inl refl) said
@@ -162,10 +176,10 @@ module _ {C : Type 0} (talk : C → Option (List Event)) (left : C → Option (L
 
   -- words that ask for the run
   pub words_played : (files : Option Files) (words : List (List ℕ)) (name : List ℕ) (options : Options) (status : Status) → AskFor words (Play name options) → OfRun talk left old new files name options status → OfWords talk left old new files words status
-  words_played files words name options Ended ask of = (name, options, ask, of)
-  words_played files words name options Limited ask of = (name, options, ask, of)
+  words_played files words name options Ended ask of = inl (name, options, ask, of)
+  words_played files words name options Limited ask of = inl (name, options, ask, of)
   words_played files words name options Refused ask of = (Play name options, ask, of)
-  words_played files words name options Unread ask of = (Play name options, ask, of)
+  words_played files words name options Unread ask of = inl (name, options, ask, of)
   words_played files words name options Accepted ask of = absurd of
   words_played files words name options Rejected ask of = absurd of
   words_played files words name options Usage ask of = absurd of
@@ -178,13 +192,50 @@ module _ {C : Type 0} (talk : C → Option (List Event)) (left : C → Option (L
   words_checked files words name log Accepted ask of = (name, log, ask, of)
   words_checked files words name log Rejected ask of = (name, log, ask, of)
   words_checked files words name log Refused ask of = (Check name log, ask, of)
-  words_checked files words name log Unread ask of = (Check name log, ask, of)
+  words_checked files words name log Unread ask of = inr (name, log, ask, of)
   words_checked files words name log UnreadLog ask of = (name, log, ask, of)
   words_checked files words name log Ended ask of = absurd of
   words_checked files words name log Limited ask of = absurd of
   words_checked files words name log Usage ask of = absurd of
   words_checked files words name log Console ask of = of
   words_checked files words name log Memory ask of = of
+
+  -- words that ask for a generated world
+  pub words_toured : (files : Option Files) (words : List (List ℕ)) (rooms : ℕ) (options : Options) (status : Status) → AskFor words (World rooms options) → OfTour talk left old new rooms options status → OfWords talk left old new files words status
+  words_toured files words rooms options Ended ask of = inr (rooms, options, ask, of)
+  words_toured files words rooms options Limited ask of = inr (rooms, options, ask, of)
+  words_toured files words rooms options Refused ask of = (World rooms options, ask, of)
+  words_toured files words rooms options Accepted ask of = absurd of
+  words_toured files words rooms options Rejected ask of = absurd of
+  words_toured files words rooms options Usage ask of = absurd of
+  words_toured files words rooms options Unread ask of = absurd of
+  words_toured files words rooms options Console ask of = of
+  words_toured files words rooms options UnreadLog ask of = absurd of
+  words_toured files words rooms options Memory ask of = of
+
+  -- and no shelf fails for it
+  pub tour_counts : (faults rooms : ℕ) (options : Options) (status : Status) → OfTour talk left old new rooms options status → CountsFaults faults faults status
+  tour_counts faults rooms options Ended of = refl
+  tour_counts faults rooms options Limited of = refl
+  tour_counts faults rooms options Refused of = refl
+  tour_counts faults rooms options Accepted of = absurd of
+  tour_counts faults rooms options Rejected of = absurd of
+  tour_counts faults rooms options Usage of = absurd of
+  tour_counts faults rooms options Unread of = absurd of
+  tour_counts faults rooms options Console of = absurd of
+  tour_counts faults rooms options UnreadLog of = absurd of
+  tour_counts faults rooms options Memory of = absurd of
+
+-- nothing is asked of the shelf for a generated world
+adds_none : (told : Option (List (List ℕ))) → Adds told told []
+adds_none None = refl
+adds_none (Some asked) = ap Some (sym (append-nil asked))
+
+pub toured_asked : (files : Option Files) (unread : Type 0) (asked : Option (List (List ℕ))) (words : List (List ℕ)) (rooms : ℕ) (options : Options) (result : Result Status ConsoleFault)
+    → AskFor words (World rooms options) → AskedAsSaid files unread asked words asked result
+toured_asked files unread asked words rooms options (Ok status) ask = inl (World rooms options, ask, adds_none asked)
+toured_asked files unread asked words rooms options (Err faults.Failed) ask = inl (World rooms options, ask, adds_none asked)
+toured_asked files unread asked words rooms options (Err (faults.Memory error)) ask = inr refl
 
 -- the file that was asked for is the one that the words name
 pub played_asked : (files : Option Files) (unread : Type 0) (before : Option (List (List ℕ))) (words : List (List ℕ)) (name : List ℕ) (options : Options) (after : Option (List (List ℕ))) (result : Result Status ConsoleFault)
@@ -279,9 +330,11 @@ module _ {C : Type 0} (talk : C → Option (List Event)) (left : C → Option (L
 
   -- a run that ended and a transcript that is accepted have one status
   pub ended_from_code : (status : Status) → code_of status ≡ 0 → OfWords talk left old new files words status
-      → OfPlay words (λ name options. OfFile files name (λ text. Plays talk left old new text options IsFinished)) ⊎ OfCheck words (λ name log. OfFile files name (λ text. Checks talk left old new files text log Accepts))
-  ended_from_code Ended e of = inl of
-  ended_from_code Accepted e of = inr of
+      → OfPlay words (λ name options. OfFile files name (λ text. Plays talk left old new text options IsFinished))
+      ⊎ (OfWorld words (λ rooms options. Tours talk left old new rooms options IsFinished)
+      ⊎ OfCheck words (λ name log. OfFile files name (λ text. Checks talk left old new files text log Accepts)))
+  ended_from_code Ended e of = ⊎_elim inl (λ toured. inr (inl toured)) of
+  ended_from_code Accepted e of = inr (inr of)
   ended_from_code Usage e of = absurd (omega arith)
   ended_from_code Rejected e of = absurd (omega arith)
   ended_from_code Refused e of = absurd (omega arith)
@@ -291,11 +344,27 @@ module _ {C : Type 0} (talk : C → Option (List Event)) (left : C → Option (L
   ended_from_code UnreadLog e of = absurd (omega arith)
   ended_from_code Memory e of = absurd (omega arith)
 
+  -- only a run has the status of a limit
+  pub limited_from_code : (status : Status) → code_of status ≡ 4 → OfWords talk left old new files words status
+      → OfPlay words (λ name options. OfFile files name (λ text. Plays talk left old new text options IsLimited))
+      ⊎ OfWorld words (λ rooms options. Tours talk left old new rooms options IsLimited)
+  limited_from_code Limited e of = of
+  limited_from_code Ended e of = absurd (omega arith)
+  limited_from_code Accepted e of = absurd (omega arith)
+  limited_from_code Rejected e of = absurd (omega arith)
+  limited_from_code Usage e of = absurd (omega arith)
+  limited_from_code Refused e of = absurd (omega arith)
+  limited_from_code Console e of = absurd (omega arith)
+  limited_from_code Unread e of = absurd (omega arith)
+  limited_from_code UnreadLog e of = absurd (omega arith)
+  limited_from_code Memory e of = absurd (omega arith)
+
   -- and so have the two files that may not be read
   pub unread_from_code : (status : Status) → code_of status ≡ 7 → OfWords talk left old new files words status
-      → OfRequest words (λ request. Writes talk left old new no_program) ⊎ OfCheck words (λ name log. OfFile files name IsProgramText × Writes talk left old new no_transcript)
-  unread_from_code Unread e of = inl of
-  unread_from_code UnreadLog e of = inr of
+      → OfPlay words (λ name options. Writes talk left old new no_program)
+      ⊎ OfCheck words (λ name log. Writes talk left old new no_program ⊎ (OfFile files name IsProgramText × Writes talk left old new no_transcript))
+  unread_from_code Unread e of = ⊎_elim inl (λ checked. inr (checked.0, checked.1, checked.2, inl checked.3)) of
+  unread_from_code UnreadLog e of = inr (of.0, of.1, of.2, inr of.3)
   unread_from_code Usage e of = absurd (omega arith)
   unread_from_code Ended e of = absurd (omega arith)
   unread_from_code Accepted e of = absurd (omega arith)

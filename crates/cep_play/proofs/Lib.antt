@@ -21,3 +21,4 @@ pub mod LogThere
 pub mod OneLines
 pub mod Asides
 pub mod Transcribed
+pub mod SummedUp

@@ -227,7 +227,7 @@ module _ (program : Parts) (settings : Settings) (at : Position) (spent : Spent)
         is_chosen offer rule placed = record { place = place; chosen = refl; at_place = placed.at_place; of_rule = placed.of_rule }
 
         -- one turn is done
-        pub done_turn : (new : Position) → new.turns ≡ at.turns + 1 → Acts program settings.height offers place at new between second rest → DoesTurn program settings at spent new spent' come (first ++ second) rest
+        pub done_turn : (new : Position) → new.turns ≡ at.turns + 1 → Acts program settings.height offers place at new between second rest → DoesTurn program settings offers at spent new spent' come (first ++ second) rest
         done_turn new counted acts = record {
           turn = record { before = at; question = answered settles.how (Place place); offer = acts.offer; rule = acts.rule; proofs = acts.proofs; after = new; left = supply_with rest spent' };
           is = record {
@@ -240,6 +240,7 @@ module _ (program : Parts) (settings : Settings) (at : Position) (spent : Spent)
           };
           after = refl;
           left = refl;
+          listed = refl;
           written = ap (λ es. es ++ second) settles.whole ∙ ap (λ es. asked_events program offers settles.how ++ es) acts.written;
         }
 
@@ -255,10 +256,11 @@ module _ (program : Parts) (settings : Settings) (at : Position) (spent : Spent)
 module _ {C M : Type 0} (talk : C → Option (List Event)) (left : C → Option (List ℕ)) (old between new : C) (program : Parts) (settings : Settings) (config : Configuration M) (spent spent' : Spent) (place group : ℕ) (offers : List Offer)
     (here : IsAskedHere program settings (position_of config) group offers) (remain : config.turns < settings.limit) (few : length offers ≤ MOST_OFFERS)
     (settled : Did talk left old between (Settles program settings.seed config.stage group offers spent (Place place) spent')) where
-  pub chosen_turn : (turned : Turned M) → IsActed talk left between new program settings.height offers place config turned → IsTurned talk left old new program settings config spent spent' turned
+  pub chosen_turn : (turned : Turned M) → IsActed talk left between new program settings.height offers place config turned → IsTurned talk left old new program settings offers config spent spent' turned
   chosen_turn (Done next) acted = (
     did_then talk left old between new _ _ _ (λ come first middle others rest settles acts. done_turn program settings (position_of config) spent group offers here remain few spent' place come middle rest first others settles (position_of next) acted.1 acts) settled acted.0,
     acted.1,
+    few,
   )
   chosen_turn (Over last) acted = (
     did_then talk left old between new _ _ _ (λ come first middle others rest settles fails. failed_turn program settings (position_of config) spent group offers here remain few spent' place come middle rest first others settles last.word fails) settled acted.0,
@@ -270,16 +272,17 @@ module _ {M : Type 0} (is_of : Parts → M → Type 0) (height_held : M → ℕ)
     (played : IsPlayed is_of height_held program settings config)
     (lists : AreListed program (height_held config.matcher) (state_held config.matcher) (offers_held config.matcher)) (same_state : state_held config.matcher ≡ config.state)
     (low : 2 * config.stage + 1 < length (offers_held config.matcher)) (asked_in : IsAskedIn (offers_held config.matcher) config.stage group)
-    (asked : IsAsked program (height_held config.matcher) config.state config.stage group) where
+    (asked : IsAsked program (height_held config.matcher) config.state config.stage group)
+    (listing : List Offer) (list : offers_of (offers_held config.matcher) group ≡ listing) where
   pub asks_here : IsAskedHere program settings (position_of config) group (offers_of (offers_held config.matcher) group)
   asks_here = asked_here is_of height_held program settings group (height_held config.matcher) (state_held config.matcher) (offers_held config.matcher) config played.height same_state lists (group_listed (offers_held config.matcher) config.stage group asked_in low) asked
 
   module _ (remain : config.turns < settings.limit) {C : Type 0} (talk : C → Option (List Event)) (left : C → Option (List ℕ)) (console : C) (spent : Spent) where
     -- the offers are too many, as this view of the matcher has it
-    pub crowds_here : (seen : M) → seen ≡ config.matcher → (ok : Bool) → (IsTrue ok ↔ (length (offers_of (offers_held seen) group) ≤ MOST_OFFERS)) → ok ≡ false → (turned : Turned M) → turned ≡ Over (record { config = config; word = Offers }) → IsTurned talk left console console program settings config spent spent turned
+    pub crowds_here : (seen : M) → seen ≡ config.matcher → (ok : Bool) → (IsTrue ok ↔ (length (offers_of (offers_held seen) group) ≤ MOST_OFFERS)) → ok ≡ false → (turned : Turned M) → turned ≡ Over (record { config = config; word = Offers }) → IsTurned talk left console console program settings listing config spent spent turned
     crowds_here seen view ok iff not turned is =
         let many : MOST_OFFERS < length (offers_of (offers_held config.matcher) group) = subst (λ m. MOST_OFFERS < length (offers_of (offers_held m) group)) view (too_many ok _ MOST_OFFERS iff not) in
-        subst (λ t. IsTurned talk left console console program settings config spent spent t) (sym is) (
+        subst (λ t. IsTurned talk left console console program settings listing config spent spent t) (sym is) (
           did_map talk left console console _ _ (λ come events rest same. crowded_turn program settings (position_of config) spent group (offers_of (offers_held config.matcher) group) asks_here remain many come events rest same) (did_same talk left console console refl refl),
           refl,
         )
@@ -294,22 +297,23 @@ module _ {M : Type 0} (is_of : Parts → M → Type 0) (height_held : M → ℕ)
       settled_here choice choice' same settled = subst (λ (it : Choice). Did talk left console settled_on (Settles program settings.seed config.stage group (offers_of (offers_held config.matcher) group) spent it spent')) same settled
 
       unmade_here : (word : EndWord) (choice choice' : Choice) → choice ≡ choice' → Did talk left console settled_on (Settles program settings.seed config.stage group (offers_of (offers_held config.matcher) group) spent choice spent')
-          → ((question : Question) → LeadsNowhere program config.state question choice' word) → (turned : Turned M) → turned ≡ Over (record { config = config; word = word }) → IsTurned talk left console settled_on program settings config spent spent' turned
+          → ((question : Question) → LeadsNowhere program config.state question choice' word) → (turned : Turned M) → turned ≡ Over (record { config = config; word = word }) → IsTurned talk left console settled_on program settings listing config spent spent' turned
       unmade_here word choice choice' same settled nowhere turned is =
-          subst (λ t. IsTurned talk left console settled_on program settings config spent spent' t) (sym is) (
+          subst (λ t. IsTurned talk left console settled_on program settings listing config spent spent' t) (sym is) (
             did_map talk left console settled_on _ _ (λ come events rest settles. unmade_turn program settings (position_of config) spent group (offers_of (offers_held config.matcher) group) asks_here remain few_here spent' come rest choice' events settles word (nowhere _)) (settled_here choice choice' same settled),
             refl,
           )
 
       pub no_more_here : (choice : Choice) → choice ≡ NoMore → Did talk left console settled_on (Settles program settings.seed config.stage group (offers_of (offers_held config.matcher) group) spent choice spent')
-          → (turned : Turned M) → turned ≡ Over (record { config = config; word = Input }) → IsTurned talk left console settled_on program settings config spent spent' turned
+          → (turned : Turned M) → turned ≡ Over (record { config = config; word = Input }) → IsTurned talk left console settled_on program settings listing config spent spent' turned
       no_more_here choice same settled turned is = unmade_here Input choice NoMore same settled (λ _. refl) turned is
 
       pub no_room_here : (choice : Choice) → choice ≡ NoRoom → Did talk left console settled_on (Settles program settings.seed config.stage group (offers_of (offers_held config.matcher) group) spent choice spent')
-          → (turned : Turned M) → turned ≡ Over (record { config = config; word = Typed }) → IsTurned talk left console settled_on program settings config spent spent' turned
+          → (turned : Turned M) → turned ≡ Over (record { config = config; word = Typed }) → IsTurned talk left console settled_on program settings listing config spent spent' turned
       no_room_here choice same settled turned is = unmade_here Typed choice NoRoom same settled (λ _. refl) turned is
 
       pub chosen_here : (place : ℕ) (choice : Choice) → choice ≡ Place place → Did talk left console settled_on (Settles program settings.seed config.stage group (offers_of (offers_held config.matcher) group) spent choice spent')
-          → (new : C) (turned : Turned M) → IsActed talk left settled_on new program settings.height (offers_of (offers_held config.matcher) group) place config turned → IsTurned talk left console new program settings config spent spent' turned
+          → (new : C) (turned : Turned M) → IsActed talk left settled_on new program settings.height (offers_of (offers_held config.matcher) group) place config turned → IsTurned talk left console new program settings listing config spent spent' turned
       chosen_here place choice same settled new turned acted =
-          chosen_turn talk left console settled_on new program settings config spent spent' place group (offers_of (offers_held config.matcher) group) asks_here remain few_here (settled_here choice (Place place) same settled) turned acted
+          subst (λ offers. IsTurned talk left console new program settings offers config spent spent' turned) list
+          (chosen_turn talk left console settled_on new program settings config spent spent' place group (offers_of (offers_held config.matcher) group) asks_here remain few_here (settled_here choice (Place place) same settled) turned acted)

@@ -1,7 +1,7 @@
 -- What the command does with its words, a shelf and a console.
-use Rattle.std.specs.Prelude.{◌≡◌, ◌⊎◌, ℕ, ◌≤◌, List, [], ◌∷◌, ◌++◌, length, map, codes, decimal, Option, Some, unwrap_or, Contains}
+use Rattle.std.specs.Prelude.{◌≡◌, ◌⊎◌, ℕ, ◌≤◌, List, [], ◌∷◌, ◌++◌, length, map, codes, decimal, Option, unwrap_or}
 use Rattle.std.specs.List.{AllByRecursion}
-use Rattle.std.specs.Option.{option_map, IsSomeAnd}
+use Rattle.std.specs.Option.{option_map}
 use Rattle.cep_base.specs.declared.limits.TheConstants.{DEFAULT_HEIGHT, DEFAULT_SEED, DEFAULT_TURNS, MOST_LOG}
 use Rattle.cep_base.specs.declared.console.Event.{Event}
 use Rattle.cep_base.specs.Talk.{outs, Did}
@@ -15,8 +15,9 @@ use Rattle.cep_refusal.specs.Told.{Tells}
 use Rattle.cep_ground.specs.Refusals.{IsRefusedFor}
 use Rattle.cep_log.specs.declared.end_word.EndWord.{EndWord}
 use Rattle.cep_log.specs.declared.end_word.EndWord.TheVariants.{Quiet, Input, Turns, Offers, Typed, Atom, State}
+use Rattle.cep_world.specs.World.{world}
 use Rattle.cep_words.specs.declared.options.Options.{Options}
-use Rattle.cep_words.specs.Words.{Request, Play, Check, AskFor}
+use Rattle.cep_words.specs.Words.{Request, Play, Check, World, AskFor}
 use Rattle.cep_play.specs.declared.settings.Settings.{Settings}
 use Rattle.cep_log.specs.Lines.{line}
 use Rattle.cep_log.specs.declared.log.Log.{Log}
@@ -25,11 +26,6 @@ use Rattle.cep_log.specs.Transcript.{HasLog}
 use Rattle.cep_play.specs.Run.{Turn, Ending, AreMachineSteps, unproved}
 use Rattle.cep_play.specs.Dialogue.{Dialogue}
 use Rattle.cep_play.specs.Logs.{written_bytes}
-
--- the file of the program that a request is about
-abbrev pub program_file : Request → List ℕ
-program_file (Play file options) = file
-program_file (Check file log) = file
 
 -- P holds of what the words ask for
 abbrev pub OfRequest : List (List ℕ) → (Request → Type 0) → Type 0
@@ -43,23 +39,35 @@ OfPlay words P = (file : List ℕ) × (options : Options) × AskFor words (Play 
 abbrev pub OfCheck : List (List ℕ) → (List ℕ → List ℕ → Type 0) → Type 0
 OfCheck words P = (file : List ℕ) × (log : List ℕ) × AskFor words (Check file log) × P file log
 
+-- the words ask for the world of so many rooms to be run with options, and P holds of both
+abbrev pub OfWorld : List (List ℕ) → (ℕ → Options → Type 0) → Type 0
+OfWorld words P = (rooms : ℕ) × (options : Options) × AskFor words (World rooms options) × P rooms options
+
 -- P holds of the text of a file: of the one that is there, where the files are told
 abbrev pub OfFile : Option Files → List ℕ → (List ℕ → Type 0) → Type 0
 OfFile files name P = (text : List ℕ) × HasFile files name text × P text
+
+-- P holds of the text of the program that a request is about: of its file's, or of the generated one
+abbrev pub OfProgram : Option Files → Request → (List ℕ → Type 0) → Type 0
+OfProgram files (Play file options) P = OfFile files file P
+OfProgram files (Check file log) P = OfFile files file P
+OfProgram files (World rooms options) P = P (world rooms)
 
 -- a text spells a program
 abbrev pub IsProgramText : List ℕ → Type 0
 IsProgramText text = (program : Parts) × Spells text program
 
--- The names that are asked of the shelf for a request have P: the program's file; and for a check, the transcript's behind it where the program's was read and spells one.
+-- The names that are asked of the shelf for a request have P: the program's file; for a check, the transcript's behind it where the program's was read and spells one; and none for a generated world.
 abbrev pub AsksFor : Option Files → (unread : Type 0) → (List (List ℕ) → Type 0) → Request → Type 0
 AsksFor files unread P (Play file options) = P (file ∷ [])
 AsksFor files unread P (Check file log) = (OfFile files file IsProgramText × P (file ∷ log ∷ [])) ⊎ ((OfFile files file (λ text. ¬ (IsProgramText text)) ⊎ unread) × P (file ∷ []))
+AsksFor files unread P (World rooms options) = P []
 
 -- Where memory ran out, the names that were asked of the shelf have P: not more than are asked for the request.
 abbrev pub AsksUpTo : Option Files → (List (List ℕ) → Type 0) → Request → Type 0
 AsksUpTo files P (Play file options) = P (file ∷ [])
 AsksUpTo files P (Check file log) = (OfFile files file IsProgramText × P (file ∷ log ∷ [])) ⊎ P (file ∷ [])
+AsksUpTo files P (World rooms options) = P []
 
 -- where the names asked for are told, these were added
 abbrev pub Adds : Option (List (List ℕ)) → Option (List (List ℕ)) → List (List ℕ) → Type 0
@@ -79,6 +87,10 @@ no_program = codes "cannot read program"
 abbrev pub no_transcript : List ℕ
 no_transcript = codes "cannot read transcript"
 
+-- these bytes are written, and nothing is read
+abbrev pub Puts : {C : Type 0} → (C → Option (List Event)) → (C → Option (List ℕ)) → C → C → List ℕ → Type 0
+Puts talk left old new bytes = Did talk left old new (λ come events rest. (events ≡ outs bytes) × (rest ≡ come))
+
 -- this line is written, and nothing is read
 abbrev pub Writes : {C : Type 0} → (C → Option (List Event)) → (C → Option (List ℕ)) → C → C → List ℕ → Type 0
 Writes talk left old new text = Did talk left old new (λ come events rest. (events ≡ outs (line text)) × (rest ≡ come))
@@ -87,19 +99,19 @@ Writes talk left old new text = Did talk left old new (λ come events rest. (eve
 abbrev pub settings_of : Parts → Options → Settings
 settings_of program options = record { height = unwrap_or options.height DEFAULT_HEIGHT; limit = unwrap_or options.turns (unwrap_or program.turns DEFAULT_TURNS); seed = unwrap_or options.seed DEFAULT_SEED }
 
--- What is said is a dialogue of the program that ends with a word which has P: its turns are steps of the machine, as many as were done when it ended. What is written of it is a transcript, if it is not too long, and its log is legal, with as many steps as turns. What is typed allows no other dialogue but for the derivations of its turns, and no other at all where no rule has a backward premise.
-pub record IsSaid (program : Parts) (settings : Settings) (P : EndWord → Type 0) (come : List ℕ) (events : List Event) (rest : List ℕ) : Type 0 where
+-- What is said is a dialogue of the program, and P holds of its turns and its end: its turns are steps of the machine, as many as were done when it ended. What is written of it is a transcript, if it is not too long, and its log is legal, with as many steps as turns. What is typed allows no other dialogue but for the derivations of its turns, and no other at all where no rule has a backward premise.
+pub record IsSaid (program : Parts) (settings : Settings) (P : List Turn → Ending → Type 0) (come : List ℕ) (events : List Event) (rest : List ℕ) : Type 0 where
   pub turns : List Turn
   pub ending : Ending
   pub dialogue : Dialogue program settings come turns ending events rest
-  pub word : P ending.word
+  pub holds : P turns ending
   pub steps : AreMachineSteps program settings.height turns
   pub counted : dialogue.run.last.turns ≡ length turns
   pub only : (turns' : List Turn) (ending' : Ending) (events' : List Event) (rest' : List ℕ) → Dialogue program settings come turns' ending' events' rest' → (map unproved turns' ≡ map unproved turns) × (ending' ≡ ending) × (rest' ≡ rest)
   pub logged : length (written_bytes events) ≤ MOST_LOG → (log : Log) × HasLog program (written_bytes events) log × IsLegal program log × (length log.steps ≡ length turns)
   pub to_the_byte : AllByRecursion (λ rule. rule.backs ≡ []) program.rules → (turns' : List Turn) (ending' : Ending) (events' : List Event) (rest' : List ℕ) → Dialogue program settings come turns' ending' events' rest' → events' ≡ events
 
-abbrev pub Says : {C : Type 0} → (C → Option (List Event)) → (C → Option (List ℕ)) → C → C → Parts → Settings → (EndWord → Type 0) → Type 0
+abbrev pub Says : {C : Type 0} → (C → Option (List Event)) → (C → Option (List ℕ)) → C → C → Parts → Settings → (List Turn → Ending → Type 0) → Type 0
 Says talk left old new program settings P = Did talk left old new (IsSaid program settings P)
 
 -- The text spells a program, and no other; and what is said is its dialogue with these options, which ends with a word that has P.
@@ -107,7 +119,7 @@ pub record Plays {C : Type 0} (talk : C → Option (List Event)) (left : C → O
   pub program : Parts
   pub spells : Spells text program
   pub only : (other : Parts) → Spells text other → other ≡ program
-  pub says : Says talk left old new program (settings_of program options) P
+  pub says : Says talk left old new program (settings_of program options) (λ turns ending. P ending.word)
 
 -- The text spells no program: it is refused for the fault that is told first of all that is wrong with it, and the line that tells it is written.
 pub record Refuses {C : Type 0} (talk : C → Option (List Event)) (left : C → Option (List ℕ)) (old new : C) (text : List ℕ) : Type 0 where
@@ -125,25 +137,3 @@ IsFinished word = (word ≡ Quiet) ⊎ (word ≡ Input)
 -- the run ended by a limit
 abbrev pub IsLimited : EndWord → Type 0
 IsLimited word = (word ≡ Turns) ⊎ ((word ≡ Offers) ⊎ ((word ≡ Typed) ⊎ ((word ≡ Atom) ⊎ (word ≡ State))))
-
--- the status that tells how a run ended
-abbrev pub code_told : EndWord → ℕ
-code_told Quiet = 0
-code_told Input = 0
-code_told Turns = 4
-code_told Offers = 4
-code_told Typed = 4
-code_told Atom = 4
-code_told State = 4
-
--- the shelf tells its files, and this one has this text
-abbrev pub IsOnShelf : Option Files → List ℕ → List ℕ → Type 0
-IsOnShelf files name text = IsSomeAnd files (λ file. file name ≡ Some text)
-
--- What is due: where the words ask for the program in a file to be played, the file's text is told and spells one, and what is to come is told, there is a dialogue of it, and the status tells how it ends, but for faults and want of memory.
-abbrev pub IsDue : List (List ℕ) → Option Files → Option (List ℕ) → ℕ → Type 0
-IsDue words files left status =
-    (file : List ℕ) (options : Options) (text : List ℕ) (program : Parts) (come : List ℕ)
-    → AskFor words (Play file options) → IsOnShelf files file text → Spells text program → left ≡ Some come
-    → (turns : List Turn) × (ending : Ending) × (events : List Event) × (rest : List ℕ)
-    × Dialogue program (settings_of program options) come turns ending events rest × Contains (code_told ending.word ∷ 6 ∷ 7 ∷ 9 ∷ []) status

@@ -5,5 +5,7 @@ pub mod Dialogue
 pub mod Logs
 pub mod Turn
 pub mod Command
+pub mod Summary
 pub mod Checked
+pub mod Due
 pub mod Outcome

@@ -1,6 +1,7 @@
 -- Private.
 -- What the parts of the command come to, by its status.
-use Rattle.std.specs.Prelude.{◌≡◌, ◌⊎◌, ℕ, List, [], ◌∷◌, Option, Result, Ok, Err}
+use Rattle.std.specs.Prelude.{◌≡◌, ◌⊎◌, ℕ, List, [], ◌∷◌, Option, Result, Ok, Err, unwrap_or}
+use Rattle.cep_base.specs.declared.limits.TheConstants.{DEFAULT_SEED}
 use Rattle.cep_base.specs.declared.console.Event.{Event}
 use Rattle.cep_base.specs.declared.console.ConsoleFault.{ConsoleFault}
 use Rattle.cep_base.specs.declared.console.ConsoleFault.TheVariants as faults
@@ -13,11 +14,17 @@ use Rattle.cep_play.specs.declared.status.Status.TheVariants.{Ended, Accepted, R
 use Rattle.cep_log.specs.declared.end_word.EndWord.{EndWord}
 use Rattle.cep_check.specs.declared.cause.Verdict.{Verdict}
 use Rattle.cep_check.specs.declared.cause.Verdict.TheVariants as verdicts
+use Rattle.cep_world.specs.World.{world}
 use Rattle.cep_words.specs.declared.options.Options.{Options}
+use Rattle.cep_words.specs.declared.tour.Tour.{Tour}
+use Rattle.cep_play.specs.declared.summary.Tally.{Tally}
 use Rattle.cep_words.specs.Words.{Play, Check, HaveNoForm}
 use Rattle.cep_log.specs.declared.end_word.EndWord.TheVariants.{Quiet, Input, Turns, Offers, Typed, Atom, State}
-use Rattle.cep_play.specs.Command.{program_file, OfRequest, OfPlay, OfCheck, OfFile, IsProgramText, AsksFor, AsksUpTo, Adds, Writes, Plays, Refuses, IsFinished, IsLimited, usage, no_program, no_transcript}
+use Rattle.cep_play.specs.Run.{Turn, Ending}
+use Rattle.cep_play.specs.Dialogue.{Dialogue}
+use Rattle.cep_play.specs.Command.{OfRequest, OfPlay, OfCheck, OfWorld, OfFile, OfProgram, IsProgramText, AsksFor, AsksUpTo, Adds, settings_of, IsSaid, Puts, Writes, Plays, Refuses, IsFinished, IsLimited, usage, no_program, no_transcript}
 use Rattle.cep_play.specs.Checked.{Accepts, Rejects, Checks}
+use Rattle.cep_play.specs.Summary.{IsTally, summary, Tours}
 
 -- the status of a run that ended with this word
 abbrev pub status_of : EndWord → Status
@@ -71,6 +78,27 @@ OfRun talk left old new files name options Usage = ⊥
 OfRun talk left old new files name options Console = ⊥
 OfRun talk left old new files name options UnreadLog = ⊥
 OfRun talk left old new files name options Memory = ⊥
+
+-- A run of a program is summed up as that of a world: it was played with nothing typed, to the end that the status tells, and its summary is written, which is that of each other such run.
+abbrev pub IsSummedUp : {C : Type 0} → (C → Option (List Event)) → (C → Option (List ℕ)) → C → C → Parts → Tour → Status → Type 0
+IsSummedUp talk left old new program tour status =
+    (tally : Tally) × (status ≡ status_of tally.word)
+    × ((events : List Event) × (rest : List ℕ) × IsSaid program (settings_of program tour.options) (λ turns ending. IsTally turns ending tally) [] events rest)
+    × ((turns : List Turn) (ending : Ending) (events : List Event) (rest : List ℕ) → Dialogue program (settings_of program tour.options) [] turns ending events rest → IsTally turns ending tally)
+    × Puts talk left old new (summary tour.rooms (unwrap_or tour.options.seed DEFAULT_SEED) tally)
+
+-- what a status says of the world of so many rooms that is run with options
+abbrev pub OfTour : {C : Type 0} → (C → Option (List Event)) → (C → Option (List ℕ)) → C → C → ℕ → Options → Status → Type 0
+OfTour talk left old new rooms options Ended = Tours talk left old new rooms options IsFinished
+OfTour talk left old new rooms options Limited = Tours talk left old new rooms options IsLimited
+OfTour talk left old new rooms options Refused = Refuses talk left old new (world rooms)
+OfTour talk left old new rooms options Accepted = ⊥
+OfTour talk left old new rooms options Rejected = ⊥
+OfTour talk left old new rooms options Usage = ⊥
+OfTour talk left old new rooms options Console = ⊥
+OfTour talk left old new rooms options Unread = ⊥
+OfTour talk left old new rooms options UnreadLog = ⊥
+OfTour talk left old new rooms options Memory = ⊥
 
 -- what a status says of bytes that are checked, and of the line that tells what was found
 abbrev pub OfBytes : Parts → List ℕ → List ℕ → Status → Type 0
@@ -131,12 +159,16 @@ CountsFaults before after Memory = Unit {0}
 -- what a status says of the words
 abbrev pub OfWords : {C : Type 0} → (C → Option (List Event)) → (C → Option (List ℕ)) → C → C → Option Files → List (List ℕ) → Status → Type 0
 OfWords talk left old new files words Usage = HaveNoForm words × Writes talk left old new usage
-OfWords talk left old new files words Ended = OfPlay words (λ name options. OfFile files name (λ text. Plays talk left old new text options IsFinished))
-OfWords talk left old new files words Limited = OfPlay words (λ name options. OfFile files name (λ text. Plays talk left old new text options IsLimited))
+OfWords talk left old new files words Ended =
+    OfPlay words (λ name options. OfFile files name (λ text. Plays talk left old new text options IsFinished))
+    ⊎ OfWorld words (λ rooms options. Tours talk left old new rooms options IsFinished)
+OfWords talk left old new files words Limited =
+    OfPlay words (λ name options. OfFile files name (λ text. Plays talk left old new text options IsLimited))
+    ⊎ OfWorld words (λ rooms options. Tours talk left old new rooms options IsLimited)
 OfWords talk left old new files words Accepted = OfCheck words (λ name log. OfFile files name (λ text. Checks talk left old new files text log Accepts))
 OfWords talk left old new files words Rejected = OfCheck words (λ name log. OfFile files name (λ text. Checks talk left old new files text log Rejects))
-OfWords talk left old new files words Refused = OfRequest words (λ request. OfFile files (program_file request) (Refuses talk left old new))
-OfWords talk left old new files words Unread = OfRequest words (λ request. Writes talk left old new no_program)
+OfWords talk left old new files words Refused = OfRequest words (λ request. OfProgram files request (Refuses talk left old new))
+OfWords talk left old new files words Unread = OfPlay words (λ name options. Writes talk left old new no_program) ⊎ OfCheck words (λ name log. Writes talk left old new no_program)
 OfWords talk left old new files words UnreadLog = OfCheck words (λ name log. OfFile files name IsProgramText × Writes talk left old new no_transcript)
 OfWords talk left old new files words Console = ⊥
 OfWords talk left old new files words Memory = ⊥

@@ -89,6 +89,11 @@ abbrev pub AreTurns : Parts → Settings → Position → Supply → List Turn �
 AreTurns program settings at from [] last to = (last ≡ at) × (to ≡ from)
 AreTurns program settings at from (turn ∷ turns) last to = IsTurn program settings at from turn × AreTurns program settings turn.after turn.left turns last to
 
+-- how many offers were listed in turns
+abbrev pub offers_listed : List Turn → ℕ
+offers_listed [] = 0
+offers_listed (turn ∷ turns) = length turn.question.offers + offers_listed turns
+
 -- Each turn is a step of the machine, seen by itself: it can be checked without what was typed.
 abbrev pub AreMachineSteps : Parts → ℕ → List Turn → Type 0
 AreMachineSteps program height turns = AllByRecursion (λ turn. IsMachineStep program height turn.before.spot turn.after.spot turn.offer turn.rule turn.proofs) turns

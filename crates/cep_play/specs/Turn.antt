@@ -3,7 +3,7 @@
 use Rattle.std.specs.Prelude.{◌≡◌, ℕ, ◌+◌, ◌-◌, ◌≤◌, List, [], ◌++◌, Option, Some, length, slice_get}
 use Rattle.std.specs.List.{flat_map}
 use Rattle.cep_base.specs.declared.console.Event.{Event}
-use Rattle.cep_base.specs.declared.limits.TheConstants.{MOST_TYPED}
+use Rattle.cep_base.specs.declared.limits.TheConstants.{MOST_OFFERS, MOST_TYPED}
 use Rattle.cep_base.specs.Talk.{outs, Did}
 use Rattle.cep_choice.specs.Draws.{generator_behind}
 use Rattle.cep_term.specs.Tree.{AtomTree}
@@ -26,7 +26,7 @@ use Rattle.cep_play.specs.Choice.{Hears}
 use Rattle.cep_play.specs.declared.deciding.Spent.{Spent}
 use Rattle.cep_play.specs.Deciding.{Supply, How, Decides}
 use Rattle.cep_log.specs.Lines.{question, step_lines, by_line, by_lines}
-use Rattle.cep_play.specs.Run.{Position, Question, Turn, IsTurn, AreTurns, PassesLimit, EndsAt, whole_supply}
+use Rattle.cep_play.specs.Run.{Position, Question, Turn, IsTurn, AreTurns, offers_listed, PassesLimit, EndsAt, whole_supply}
 use Rattle.cep_play.specs.Dialogue.{asked_events, turn_events, last_events}
 
 -- where a configuration stands
@@ -124,12 +124,13 @@ IsActed talk left old new program height offers place config (Done next) =
 IsActed talk left old new program height offers place config (Over last) =
     Did talk left old new (WouldPass program offers place last.word (position_of config)) × (last.config ≡ config)
 
--- These events do a turn.
-pub record DoesTurn (program : Parts) (settings : Settings) (at : Position) (spent : Spent) (next : Position) (spent' : Spent) (come : List ℕ) (events : List Event) (rest : List ℕ) : Type 0 where
+-- These events do a turn, in which these offers are listed.
+pub record DoesTurn (program : Parts) (settings : Settings) (offers : List Offer) (at : Position) (spent : Spent) (next : Position) (spent' : Spent) (come : List ℕ) (events : List Event) (rest : List ℕ) : Type 0 where
   pub turn : Turn
   pub is : IsTurn program settings at (supply_with come spent) turn
   pub after : turn.after ≡ next
   pub left : turn.left ≡ supply_with rest spent'
+  pub listed : turn.question.offers ≡ offers
   pub written : events ≡ turn_events program turn
 
 -- These events come before the end of a run at this position.
@@ -138,11 +139,11 @@ pub record Stops (program : Parts) (settings : Settings) (at : Position) (spent 
   pub ends : EndsAt program settings at (supply_with come spent) word asked (supply_with rest spent')
   pub written : events ≡ last_events program asked
 
--- What a turn from a position comes to: it was done, with one more turn done, or the run ends here.
-abbrev pub IsTurned : {C M : Type 0} → (C → Option (List Event)) → (C → Option (List ℕ)) → C → C → Parts → Settings → Configuration M → Spent → Spent → Turned M → Type 0
-IsTurned talk left old new program settings config spent spent' (Done next) =
-    Did talk left old new (DoesTurn program settings (position_of config) spent (position_of next) spent') × (next.turns ≡ config.turns + 1)
-IsTurned talk left old new program settings config spent spent' (Over last) =
+-- What a turn from a position comes to: it was done, with one more turn done and not too many offers listed, or the run ends here.
+abbrev pub IsTurned : {C M : Type 0} → (C → Option (List Event)) → (C → Option (List ℕ)) → C → C → Parts → Settings → List Offer → Configuration M → Spent → Spent → Turned M → Type 0
+IsTurned talk left old new program settings offers config spent spent' (Done next) =
+    Did talk left old new (DoesTurn program settings offers (position_of config) spent (position_of next) spent') × (next.turns ≡ config.turns + 1) × (length offers ≤ MOST_OFFERS)
+IsTurned talk left old new program settings offers config spent spent' (Over last) =
     Did talk left old new (Stops program settings (position_of config) spent last.word spent') × (last.config ≡ config)
 
 -- the configuration that is there after a turn
@@ -150,19 +151,21 @@ abbrev pub config_left : {M : Type 0} → Turned M → Configuration M
 config_left (Done config) = config
 config_left (Over last) = last.config
 
--- Some turns are done from the start to here, and what was said is their events.
-pub record SoFar (program : Parts) (settings : Settings) (start here : Position) (spent : Spent) (come : List ℕ) (events : List Event) (rest : List ℕ) : Type 0 where
+-- Some turns are done from the start to here, in which so many offers were listed, and what was said is their events.
+pub record SoFar (program : Parts) (settings : Settings) (start here : Position) (spent : Spent) (offers : ℕ) (come : List ℕ) (events : List Event) (rest : List ℕ) : Type 0 where
   pub turns : List Turn
   pub done : AreTurns program settings start (whole_supply come) turns here (supply_with rest spent)
+  pub listed : offers ≡ offers_listed turns
   pub written : events ≡ flat_map (turn_events program) turns
 
--- All turns of a run are done from the start to here, and what was said is their events and what comes before the end.
-pub record IsWholeRun (program : Parts) (settings : Settings) (word : EndWord) (start last : Position) (come : List ℕ) (events : List Event) (rest : List ℕ) : Type 0 where
+-- All turns of a run are done from the start to here, in which so many offers were listed, and what was said is their events and what comes before the end.
+pub record IsWholeRun (program : Parts) (settings : Settings) (word : EndWord) (start last : Position) (offers : ℕ) (come : List ℕ) (events : List Event) (rest : List ℕ) : Type 0 where
   pub turns : List Turn
   pub between : Supply
   pub left : Supply
   pub asked : Option Question
   pub done : AreTurns program settings start (whole_supply come) turns last between
   pub ends : EndsAt program settings last between word asked left
+  pub listed : offers ≡ offers_listed turns
   pub written : events ≡ flat_map (turn_events program) turns ++ last_events program asked
   pub rest_is : rest ≡ left.come

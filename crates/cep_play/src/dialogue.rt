@@ -1,18 +1,21 @@
 // A run: turn by turn the offers are written, one of them is chosen, and the step is done.
-ghost use Rattle.std.specs.Prelude.{◌≡◌, ◌≤◌, IfOk, OnOk};
+ghost use Rattle.std.specs.Prelude.{◌≡◌, ◌≤◌, length, IfOk, OnOk};
 ghost use Rattle.cep_base.specs.declared.limits.TheConstants.{MOST_TURNS};
 ghost use Rattle.cep_base.specs.Talk.{outs, Did, ConsoleCause};
 ghost use Rattle.cep_rule.specs.State.{IsState};
+ghost use Rattle.cep_machine.specs.Asking.{asked_offers};
 ghost use Rattle.cep_log.specs.Lines.{end_lines, header};
 ghost use Rattle.cep_play.specs.Turn.{position_of, IsPlayed, IsWholeRun};
 ghost use Rattle.cep_words.specs.Words.{AreWithin};
 ghost use Rattle.cep_play.specs.Command.{Says, settings_of};
+ghost use Rattle.cep_play.specs.Summary.{IsTally};
 
 use crate::deciding::Spent;
 use crate::laws::{one_dialogue, turns_are_counted, turns_are_steps};
 use crate::log_laws::dialogues_have_logs;
 use crate::settings::Settings;
-use crate::turn::{Ended, Turned, turn};
+use crate::summary::Tally;
+use crate::turn::{Turned, turn};
 use cep_base::{Console, ConsoleFault, Steps, Text};
 use cep_log::{EndWord, put_end, put_start};
 use cep_machine::Config;
@@ -22,6 +25,24 @@ use cep_words::Options;
 use std::alloc::Global;
 use std::sync::ledger::Ledger;
 
+/// Where a run ended, why, and how many offers were listed in the turns that were done.
+#[derive(Drop)]
+struct Finished<M: Matcher> {
+    config: Config<M>,
+    word: EndWord,
+    offers: u64,
+}
+
+/// How many offers the stage asks about.
+fn offers_asked<M: Matcher>(config: &Config<M>) -> usize
+    ensures { result ≡ length (asked_offers (M.offers_held config.now.matcher) config.now.stage) }
+{
+    match config.asked() {
+        Some(group) => config.matcher().count(group),
+        None => 0,
+    }
+}
+
 /// Does turn after turn, until the run ends.
 fn all_turns<C: Console, M: Matcher, L: Ledger>(
     alloc: Global,
@@ -30,32 +51,43 @@ fn all_turns<C: Console, M: Matcher, L: Ledger>(
     start: Config<M>,
     console: &mut C,
     steps: &mut Steps<L>,
-) -> Result<Ended<M>, ConsoleFault>
+) -> Result<Finished<M>, ConsoleFault>
     requires played { IsPlayed M.is_of M.height_held program.now settings start }
     requires begins { start.turns ≡ 0 }
     requires limit { settings.limit ≤ MOST_TURNS }
     ensures said { IfOk result (λ end. Did C.talk C.left console.old console.new
-        (IsWholeRun program.now settings end.word (position_of start) (position_of end.config))) }
+        (IsWholeRun program.now settings end.word (position_of start) (position_of end.config) end.offers)) }
     ensures played { IfOk result (λ end. IsPlayed M.is_of M.height_held program.now settings end.config) }
     ensures counted { steps.old ≤ steps.new }
     ensures cause { ConsoleCause (C.faults console.old) (C.faults console.new) result }
 {
     let mut config = start;
     let mut spent = Spent::nothing(settings.seed);
+    let mut offers = 0;
     for _done in 0..settings.limit {
+        let asked = offers_asked(&config);
         config = match turn(alloc, program, settings, config, console, &mut spent, steps)? {
             Turned::Done(next) => next,
-            Turned::Over(end) => return Ok(end),
+            Turned::Over(end) => {
+                return Ok(Finished {
+                    config: end.config,
+                    word: end.word,
+                    offers,
+                });
+            }
         };
+        offers += asked as u64;
     }
     match config.asked() {
-        Some(_) => Ok(Ended {
+        Some(_) => Ok(Finished {
             config,
             word: EndWord::Turns,
+            offers,
         }),
-        None => Ok(Ended {
+        None => Ok(Finished {
             config,
             word: EndWord::Quiet,
+            offers,
         }),
     }
 }
@@ -95,16 +127,16 @@ fn finish<C: Console>(
 }
 
 /// Plays a program with options and the person at a console, from its start until the run ends.
-/// Answers why it ended.
+/// Answers what it came to.
 pub fn play<M: Matcher, C: Console, L: Ledger>(
     alloc: Global,
     program: &Program,
     options: Options,
     console: &mut C,
     steps: &mut Steps<L>,
-) -> Result<EndWord, ConsoleFault>
+) -> Result<Tally, ConsoleFault>
     requires within { AreWithin options }
-    ensures said { IfOk result (λ word. Says C.talk C.left console.old console.new program.now (settings_of program.now options) (λ end. end ≡ word)) }
+    ensures said { IfOk result (λ tally. Says C.talk C.left console.old console.new program.now (settings_of program.now options) (λ turns ending. IsTally turns ending tally)) }
     ensures counted { steps.old ≤ steps.new }
     ensures cause { ConsoleCause (C.faults console.old) (C.faults console.new) result }
 {
@@ -117,5 +149,10 @@ pub fn play<M: Matcher, C: Console, L: Ledger>(
     begin(alloc, program, settings.height, console)?;
     let end = all_turns(alloc, program, settings, config, console, steps)?;
     finish(alloc, program, end.word, end.config.state(), console)?;
-    Ok(end.word)
+    Ok(Tally {
+        word: end.word,
+        turns: end.config.turns(),
+        offers: end.offers,
+        copies: end.config.state().copies(),
+    })
 }

@@ -1,5 +1,6 @@
 //! The whole command over any console and shelf: reads a program's text, plays it with a person
-//! or checks a transcript against it, and answers the status that the process ends with.
+//! or checks a transcript against it, or runs a generated world, and answers the status that the
+//! process ends with.
 #![tactic(auto)]
 
 mod checking;
@@ -12,7 +13,10 @@ mod loading;
 mod log_laws;
 mod proving;
 mod settings;
+mod silence;
 mod status;
+mod summary;
+mod touring;
 mod turn;
 
 pub use command::ceptre;

@@ -43,8 +43,9 @@ fn refuse<C: Console>(alloc: Global, refusal: Refusal, console: &mut C) -> Resul
     console.put(line.bytes())
 }
 
-// The program that a text spells, or else the status of a text that is refused, whose line was written.
-fn program_of<C: Console>(
+/// The program that a text spells, or else the status of a text that is refused, whose line was
+/// written.
+pub(crate) fn program_of<C: Console>(
     alloc: Global,
     text: &[u8],
     console: &mut C,

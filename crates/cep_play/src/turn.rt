@@ -102,7 +102,7 @@ pub fn turn<C: Console, M: Matcher, L: Ledger>(
     requires limit { settings.limit ≤ MOST_TURNS }
     requires remain { config.turns < settings.limit }
     requires spent { HasSpent settings.seed config.turns spent.old }
-    ensures turned { IfOk result (IsTurned C.talk C.left console.old console.new program.now settings config spent.old spent.new) }
+    ensures turned { IfOk result (IsTurned C.talk C.left console.old console.new program.now settings (asked_offers (M.offers_held config.matcher) config.stage) config spent.old spent.new) }
     ensures played { IfOk result (λ turned. IsPlayed M.is_of M.height_held program.now settings (config_left turned)) }
     ensures spent { IfOk result (λ _. HasSpent settings.seed (config.turns + 1) spent.new) }
     ensures counted { steps.old ≤ steps.new }

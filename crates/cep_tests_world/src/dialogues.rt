@@ -354,7 +354,14 @@ fn without_a_form() -> &'static str {
     "
 play
 check f
+world
 world 0
+world 01
+world 5001
+world one
+world 1 f
+world seed=1
+world 1 seed=1 turns=2 seed=1
 play f height=
 play f height=0
 play f height=01

@@ -13,3 +13,5 @@ mod limits;
 mod outside;
 #[cfg(test)]
 mod stages;
+#[cfg(test)]
+mod worlds;

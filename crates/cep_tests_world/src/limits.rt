@@ -1,5 +1,7 @@
 // Runs that end by a limit on offers, atoms or states.
-use crate::outside::{Outcome, play};
+use crate::dialogues::expect_answer;
+use crate::outside::{Outcome, play, shelf_of};
+use cep_base::limits::MOST_LOG;
 use std::alloc::{AllocError, Global};
 use std::process::Abort;
 use std::test::Fail;
@@ -120,4 +122,36 @@ fn a_run_ends_before_a_state_grows_too_large(rt: HostRuntime) -> Result<(), Fail
     expect_lines(&rt, &outcome, 4, 3 + 3_125 * 3 + 2 + 1 + 1, 3_126 * 2);
     assert!(rt; outcome.written.ends_with("\nend state\nhave 100000 a\n"));
     Ok(())
+}
+
+// The command checks a transcript of `flooding` that says this, and tells that.
+fn expect_told(rt: &impl Abort, alloc: Global, log: &str, told: &str) -> Result<(), Fail> {
+    let mut shelf = shelf_of(alloc, flooding())?;
+    shelf.file("g", log.as_bytes())?;
+    expect_answer(rt, alloc, &mut shelf, "check f g", (1, told))
+}
+
+// The header of a transcript of `flooding`, with so many steps behind it.
+fn flooded(alloc: Global, steps: usize) -> Result<String, AllocError> {
+    let mut log = String::from_str(alloc, "ceptre 1\nheight 128\nstage main\n")?;
+    let lines = "step r\n".repeat(alloc, steps)?;
+    log.push_str(lines.as_str())?;
+    Ok(log)
+}
+
+#[test]
+fn a_transcript_is_refused_where_a_state_grows_too_large(rt: HostRuntime) -> Result<(), Fail> {
+    let log = flooded(rt.alloc(), 3_126)?;
+    expect_told(
+        &rt,
+        rt.alloc(),
+        log.as_str(),
+        "refused 3129 OverLimit state\n",
+    )
+}
+
+#[test]
+fn a_transcript_that_is_too_long_is_refused(rt: HostRuntime) -> Result<(), Fail> {
+    let log = "?".repeat(rt.alloc(), MOST_LOG + 1)?;
+    expect_told(&rt, rt.alloc(), log.as_str(), "refused 0 TooLong\n")
 }

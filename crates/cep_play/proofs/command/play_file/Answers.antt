@@ -17,7 +17,7 @@ returns-in-Ok-clause-outcome g c =
     (λ status played.
     subst (OfRun talk left c.args.console.now new files c.args.file.now c.args.options) (sym played.1)
     (program_played talk left c.args.console.now new files c.args.file.now c.args.options c.in-Ok.program played.0 found.0
-    (subst (λ old. Says talk left old new c.in-Ok.program (settings_of c.in-Ok.program c.args.options) (λ end. end ≡ played.0)) found.1 played.2)))
+    (subst (λ old. Says talk left old new c.in-Ok.program (settings_of c.in-Ok.program c.args.options) (λ turns ending. ending.word ≡ played.0)) found.1 played.2)))
     c.play_program.ensures.said
 
 pub returns-in-Err-clause-outcome : goal.returns-in-Err-clause-outcome

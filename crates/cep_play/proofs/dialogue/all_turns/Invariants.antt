@@ -1,9 +1,10 @@
-use Rattle.std.proofs.Common.{◌≡◌, ◌≤◌}
+use Rattle.std.proofs.Common.{◌≡◌, ◌*◌, ◌≤◌}
+use Rattle.cep_base.specs.declared.limits.TheConstants.{MOST_OFFERS}
 use Rattle.cep_base.specs.Talk.{Did}
 use Rattle.cep_play.specs.Turn.{position_of, HasSpent, IsPlayed, SoFar}
 use Rattle.cep_play.proofs.dialogue.all_turns.Given as goal
 
--- Some turns are done from the start to here, and what was said is their events.
+-- Some turns are done from the start to here, in which so many offers were listed, and what was said is their events.
 abbrev pub invariant-loop-done : goal.invariant-loop-done
 invariant-loop-done g l =
     record {
@@ -12,5 +13,6 @@ invariant-loop-done g l =
       spent : HasSpent l.settings.seed l.config.turns l.spent;
       counted : l.fn.steps ≤ l.steps;
       cause : g.C.Console.faults l.console ≡ g.C.Console.faults l.fn.console;
-      so_far : Did g.C.Console.talk g.C.Console.left l.fn.console l.console (SoFar l.program l.settings (position_of l.fn.start) (position_of l.config) l.spent);
+      few : l.offers ≤ MOST_OFFERS * l._done;
+      so_far : Did g.C.Console.talk g.C.Console.left l.fn.console l.console (SoFar l.program l.settings (position_of l.fn.start) (position_of l.config) l.spent l.offers);
     }

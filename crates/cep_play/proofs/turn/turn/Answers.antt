@@ -3,6 +3,7 @@ use Rattle.std.specs.Prelude.{IsNone}
 use Rattle.std.proofs.lemmas.Result.{IfOk-weaker}
 use Rattle.cep_rule.specs.Stages.{IsQuiet}
 use Rattle.cep_rule.specs.Matching.{offers_of}
+use Rattle.cep_machine.specs.Asking.{asked_offers}
 use Rattle.cep_play.specs.Turn.{position_of, IsTurned}
 use Rattle.cep_base.proofs.Did.{did_same, did_map}
 use Rattle.cep_play.proofs.Turns.{offers_have_texts, group_listed, group_offers, quiet_turn, crowds_here, no_more_here, no_room_here, chosen_here}
@@ -18,7 +19,7 @@ returns-in_default-clause-turned g c =
     let spent = c.args.spent.now in
     let quiet = (c.asked.ensures.quiet program c.requires.played.of_program).0 (subst (λ o. IsNone o) (sym c.in_default.is) refl) in
     let is = subst (λ h. IsQuiet program h config.state config.stage) c.requires.played.height quiet in
-    subst (λ t. IsTurned talk left console console program c.args.settings config spent spent t) (sym c.over.ensures) (
+    subst (λ t. IsTurned talk left console console program c.args.settings (asked_offers (g.M.Matcher.offers_held config.matcher) config.stage) config spent spent t) (sym c.over.ensures) (
       did_map talk left console console _ _ (λ come events rest same. quiet_turn program c.args.settings (position_of config) spent come events rest is same) (did_same talk left console console refl refl),
       refl,
     )
@@ -26,7 +27,7 @@ returns-in_default-clause-turned g c =
 pub returns-then-not-len_ok-clause-turned : goal.returns-then-not-len_ok-clause-turned
 returns-then-not-len_ok-clause-turned g c =
     crowds_here g.M.Matcher.is_of g.M.Matcher.height_held g.M.Matcher.state_held g.M.Matcher.offers_held c.args.program.now c.args.settings c.args.config c.in-Some.group c.requires.played
-    (g.met.M.Matcher.exact c.args.program.now c.args.config.matcher c.requires.played.of_program.matcher) c.matcher.ensures.same_state c.matcher.ensures.listed c.in-Some.ensures.listed (c.in-Some.ensures.asked c.args.program.now c.requires.played.of_program)
+    (g.met.M.Matcher.exact c.args.program.now c.args.config.matcher c.requires.played.of_program.matcher) c.matcher.ensures.same_state c.matcher.ensures.listed c.in-Some.ensures.listed (c.in-Some.ensures.asked c.args.program.now c.requires.played.of_program) _ c.in-Some.ensures.offers
     c.requires.remain g.C.Console.talk g.C.Console.left c.args.console.now c.args.spent.now
     c.matcher.result.now c.matcher.ensures.matcher c.len_ok.result c.len_ok.ensures c.if-not-len_ok.true _ c.over-then-not-len_ok.ensures
 
@@ -44,7 +45,7 @@ decide-requires-clause-some g c = group_offers (g.M.Matcher.offers_held c.args.c
 pub returns-in-Place-clause-turned : goal.returns-in-Place-clause-turned
 returns-in-Place-clause-turned g c = IfOk-weaker c.act.result _ _ (λ turned acted.
     chosen_here g.M.Matcher.is_of g.M.Matcher.height_held g.M.Matcher.state_held g.M.Matcher.offers_held c.args.program.now c.args.settings c.args.config c.in-Some.group c.requires.played
-    (g.met.M.Matcher.exact c.args.program.now c.args.config.matcher c.requires.played.of_program.matcher) c.matcher.ensures.same_state c.matcher.ensures.listed c.in-Some.ensures.listed (c.in-Some.ensures.asked c.args.program.now c.requires.played.of_program)
+    (g.met.M.Matcher.exact c.args.program.now c.args.config.matcher c.requires.played.of_program.matcher) c.matcher.ensures.same_state c.matcher.ensures.listed c.in-Some.ensures.listed (c.in-Some.ensures.asked c.args.program.now c.requires.played.of_program) _ c.in-Some.ensures.offers
     c.requires.remain g.C.Console.talk g.C.Console.left c.args.console.now c.args.spent.now c.decide.new.console c.decide.new.spent c.matcher.result.now c.matcher.ensures.matcher
     (c.len_ok.ensures.0 c.if-not-len_ok.false)
     c.in-Place.place _ c.in-Place.is c.in_ok-place.ensures.settled c.act.new.console turned acted) c.act.ensures.acted
@@ -52,7 +53,7 @@ returns-in-Place-clause-turned g c = IfOk-weaker c.act.result _ _ (λ turned act
 pub returns-in-NoMore-clause-turned : goal.returns-in-NoMore-clause-turned
 returns-in-NoMore-clause-turned g c =
     no_more_here g.M.Matcher.is_of g.M.Matcher.height_held g.M.Matcher.state_held g.M.Matcher.offers_held c.args.program.now c.args.settings c.args.config c.in-Some.group c.requires.played
-    (g.met.M.Matcher.exact c.args.program.now c.args.config.matcher c.requires.played.of_program.matcher) c.matcher.ensures.same_state c.matcher.ensures.listed c.in-Some.ensures.listed (c.in-Some.ensures.asked c.args.program.now c.requires.played.of_program)
+    (g.met.M.Matcher.exact c.args.program.now c.args.config.matcher c.requires.played.of_program.matcher) c.matcher.ensures.same_state c.matcher.ensures.listed c.in-Some.ensures.listed (c.in-Some.ensures.asked c.args.program.now c.requires.played.of_program) _ c.in-Some.ensures.offers
     c.requires.remain g.C.Console.talk g.C.Console.left c.args.console.now c.args.spent.now c.decide.new.console c.decide.new.spent c.matcher.result.now c.matcher.ensures.matcher
     (c.len_ok.ensures.0 c.if-not-len_ok.false)
     _ c.in-NoMore.is c.in_ok-place.ensures.settled _ c.over-in-NoMore.ensures
@@ -60,7 +61,7 @@ returns-in-NoMore-clause-turned g c =
 pub returns-in-NoRoom-clause-turned : goal.returns-in-NoRoom-clause-turned
 returns-in-NoRoom-clause-turned g c =
     no_room_here g.M.Matcher.is_of g.M.Matcher.height_held g.M.Matcher.state_held g.M.Matcher.offers_held c.args.program.now c.args.settings c.args.config c.in-Some.group c.requires.played
-    (g.met.M.Matcher.exact c.args.program.now c.args.config.matcher c.requires.played.of_program.matcher) c.matcher.ensures.same_state c.matcher.ensures.listed c.in-Some.ensures.listed (c.in-Some.ensures.asked c.args.program.now c.requires.played.of_program)
+    (g.met.M.Matcher.exact c.args.program.now c.args.config.matcher c.requires.played.of_program.matcher) c.matcher.ensures.same_state c.matcher.ensures.listed c.in-Some.ensures.listed (c.in-Some.ensures.asked c.args.program.now c.requires.played.of_program) _ c.in-Some.ensures.offers
     c.requires.remain g.C.Console.talk g.C.Console.left c.args.console.now c.args.spent.now c.decide.new.console c.decide.new.spent c.matcher.result.now c.matcher.ensures.matcher
     (c.len_ok.ensures.0 c.if-not-len_ok.false)
     _ c.in-NoRoom.is c.in_ok-place.ensures.settled _ c.over-in-NoRoom.ensures

@@ -1,0 +1,18 @@
+use Rattle.std.proofs.Common.{◌≡◌, ◌∙◌, subst}
+use Rattle.std.proofs.lemmas.Result.{IfOk-weaker}
+use Rattle.std.specs.Prelude.{IfOk, IfErr}
+use Rattle.cep_world.specs.World.{world}
+use Rattle.cep_play.specs.declared.status.Status.TheVariants.{Refused}
+use Rattle.cep_play.specs.Command.{Refuses}
+use Rattle.cep_play.specs.Outcome.{IsSpelledBy}
+use Rattle.cep_play.proofs.touring.program_of_world.Goals as goal
+
+pub returns-clause-program : goal.returns-clause-program
+returns-clause-program g c =
+    let text : c.bytes.result.now ≡ world c.args.rooms = c.bytes.ensures ∙ c.in_ok-text.ensures in
+    subst (λ bytes. IfOk c.program_of.result (λ found. IfOk found (λ program. IsSpelledBy program bytes × (c.program_of.new.console ≡ c.args.console.now)))) text c.program_of.ensures.program
+
+pub returns-clause-refused : goal.returns-clause-refused
+returns-clause-refused g c =
+    let text : c.bytes.result.now ≡ world c.args.rooms = c.bytes.ensures ∙ c.in_ok-text.ensures in
+    subst (λ bytes. IfOk c.program_of.result (λ found. IfErr found (λ status. (status ≡ Refused) × Refuses g.C.Console.talk g.C.Console.left c.args.console.now c.program_of.new.console bytes))) text c.program_of.ensures.refused

@@ -1,0 +1,80 @@
+// Runs a generated world, which nobody plays, and sums it up.
+ghost use Rattle.std.specs.Prelude.{◌≡◌, ◌≤◌, IfOk, IfErr};
+ghost use Rattle.cep_base.specs.declared.limits.TheConstants.{MOST_WORLD};
+ghost use Rattle.cep_base.specs.Talk.{ConsoleCause};
+ghost use Rattle.cep_words.specs.Words.{AreWithin, IsUpTo};
+ghost use Rattle.cep_world.specs.World.{world};
+ghost use Rattle.cep_play.specs.declared.status.Status.TheVariants.{Refused};
+ghost use Rattle.cep_play.specs.Command.{Refuses};
+ghost use Rattle.cep_play.specs.Outcome.{IsSpelledBy, OfTour, IsSummedUp};
+
+use crate::dialogue::play;
+use crate::loading::program_of;
+use crate::silence::Silence;
+use crate::status::{Status, status_of};
+use crate::summary::put_summary;
+use cep_base::limits::DEFAULT_SEED;
+use cep_base::{Console, ConsoleFault, Steps, Text};
+use cep_rule::Program;
+use cep_scratch::Scratch;
+use cep_words::Tour;
+use cep_world::world_text;
+use std::alloc::Global;
+use std::sync::ledger::Ledger;
+
+/// Plays the program of a world with nothing typed, and writes the summary of the run alone.
+fn tour_program<C: Console, L: Ledger>(
+    alloc: Global,
+    program: &Program,
+    tour: Tour,
+    console: &mut C,
+    steps: &mut Steps<L>,
+) -> Result<Status, ConsoleFault>
+    requires { AreWithin tour.options }
+    ensures summed { IfOk result (IsSummedUp C.talk C.left console.old console.new program.now tour) }
+    ensures counted { steps.old ≤ steps.new }
+    ensures cause { ConsoleCause (C.faults console.old) (C.faults console.new) result }
+{
+    let mut silence = Silence;
+    let tally = play::<Scratch, Silence, L>(alloc, program, tour.options, &mut silence, steps)?;
+    let seed = tour.options.seed.unwrap_or(DEFAULT_SEED);
+    let mut lines = Text::new(alloc);
+    put_summary(tour.rooms, seed, tally, &mut lines)?;
+    console.put(lines.bytes())?;
+    Ok(status_of(tally.word))
+}
+
+/// The program that the text of the world of so many rooms spells, or else the status of a text that
+/// is refused, whose line was written.
+fn program_of_world<C: Console>(
+    alloc: Global,
+    rooms: u32,
+    console: &mut C,
+) -> Result<Result<Program, Status>, ConsoleFault>
+    requires { IsUpTo MOST_WORLD rooms }
+    ensures program { IfOk result (λ found. IfOk found (λ program. IsSpelledBy program (world rooms) × (console.new ≡ console.old))) }
+    ensures refused { IfOk result (λ found. IfErr found (λ status. (status ≡ Refused) × Refuses C.talk C.left console.old console.new (world rooms))) }
+    ensures cause { ConsoleCause (C.faults console.old) (C.faults console.new) result }
+{
+    let text = world_text(alloc, rooms)?;
+    program_of(alloc, text.bytes(), console)
+}
+
+/// Runs the world of so many rooms.
+pub(crate) fn run_world<C: Console, L: Ledger>(
+    alloc: Global,
+    tour: Tour,
+    console: &mut C,
+    steps: &mut Steps<L>,
+) -> Result<Status, ConsoleFault>
+    requires rooms { IsUpTo MOST_WORLD tour.rooms }
+    requires within { AreWithin tour.options }
+    ensures outcome { IfOk result (OfTour C.talk C.left console.old console.new tour.rooms tour.options) }
+    ensures counted { steps.old ≤ steps.new }
+    ensures cause { ConsoleCause (C.faults console.old) (C.faults console.new) result }
+{
+    match program_of_world(alloc, tour.rooms, console)? {
+        Ok(program) => tour_program(alloc, &program, tour, console, steps),
+        Err(status) => Ok(status),
+    }
+}
