@@ -8,3 +8,4 @@ pub mod Calls
 pub mod CalmConsole
 pub mod MemConsole
 pub mod MemShelf
+pub mod Kinds
