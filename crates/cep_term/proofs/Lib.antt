@@ -11,3 +11,4 @@ pub mod Additions
 pub mod Gathered
 pub mod EntryPlaces
 pub mod Instances
+pub mod Once

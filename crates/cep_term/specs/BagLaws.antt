@@ -1,12 +1,12 @@
 -- The laws of multisets on which proofs of other crates rest.
-use Rattle.std.specs.Prelude.{◌≡◌, ◌≢◌, ℕ, ◌+◌, ◌-◌, ◌*◌, ◌≤◌, ◌<◌, ◌↔◌, List, ◌++◌, length, sum_by, slice_get, Some, Contains}
+use Rattle.std.specs.Prelude.{◌≡◌, ◌≢◌, ℕ, ◌+◌, ◌-◌, ◌*◌, ◌≤◌, ◌<◌, ◌↔◌, Bool, true, false, List, ◌++◌, length, sum_by, slice_get, Some, Contains}
 use Rattle.std.specs.List.{AllByRecursion}
 use Rattle.std.specs.declared.cmp.Ordering.TheVariants.{Less}
 use Rattle.std.specs.Cmp.{IsTotalOrder}
 use Rattle.std.specs.FinMap as finite
 use Rattle.cep_term.specs.Tree.{AtomTree, IsGroundAtom, atom_nodes}
 use Rattle.cep_term.specs.Order.{atom_cmp}
-use Rattle.cep_term.specs.Multiset.{Multiset, count_of, with_count, with_one, gathered, sum_of, difference_of, copies_in, nodes_in_all, IsContained, IsBag}
+use Rattle.cep_term.specs.Multiset.{Multiset, count_of, with_count, with_one, gathered, sum_of, difference_of, copies_in, nodes_in_all, IsContained, IsBag, held, once, IsOnce, gained, without}
 
 -- What setting a count, sums, differences and gathering do to counts, copies and nodes, and that the counts say which multiset it is.
 pub record BagLaws : Type 0 where
@@ -49,3 +49,17 @@ pub record BagLaws : Type 0 where
   pub gathered_nodes : (atoms : List AtomTree) → nodes_in_all (gathered atoms) ≡ sum_by atom_nodes atoms
   pub gathered_there : (atoms : List AtomTree) (a : AtomTree) → (0 < count_of (gathered atoms) a) ↔ Contains atoms a
   pub sum_with_one : (bag other : Multiset) (a : AtomTree) → IsGroundAtom a → IsBag bag → IsBag other → sum_of (with_one bag a) other ≡ with_one (sum_of bag other) a
+  pub joined_count : (xs ys : List AtomTree) (a : AtomTree) → count_of (gathered (xs ++ ys)) a ≡ count_of (gathered xs) a + count_of (gathered ys) a
+  -- atoms that are held once
+  pub once_count : (test : AtomTree → Bool) (bag : Multiset) (a : AtomTree) → count_of (once test bag) a ≡ held (test a) (count_of bag a)
+  pub once_kept : (test : AtomTree → Bool) (bag : Multiset) → IsBag bag → IsBag (once test bag)
+  pub once_copies : (test : AtomTree → Bool) (bag : Multiset) → ((a : AtomTree) → finite.get bag a ≢ Some 0) → (a : AtomTree) → finite.get (once test bag) a ≢ Some 0
+  pub once_same : (test : AtomTree → Bool) (bag : Multiset) → IsBag bag → IsOnce test bag → once test bag ≡ bag
+  pub once_gains : (test : AtomTree → Bool) (bag : Multiset) (atoms : List AtomTree) → IsBag bag → IsOnce test bag → AllByRecursion IsGroundAtom atoms → once test (sum_of bag (gathered atoms)) ≡ sum_of bag (gathered (gained test bag atoms))
+  pub once_gathered : (test : AtomTree → Bool) (atoms : List AtomTree) → AllByRecursion IsGroundAtom atoms → once test (gathered atoms) ≡ gathered (gained test finite.empty atoms)
+  pub gained_alike : (test : AtomTree → Bool) (bag other : Multiset) (atoms : List AtomTree) → ((a : AtomTree) → test a ≡ true → count_of bag a ≡ count_of other a) → gained test bag atoms ≡ gained test other atoms
+  pub gained_among : (test : AtomTree → Bool) (bag : Multiset) (atoms : List AtomTree) (x : AtomTree) → Contains (gained test bag atoms) x → Contains atoms x
+  pub gained_few : (test : AtomTree → Bool) (bag : Multiset) (atoms : List AtomTree) → length (gained test bag atoms) ≤ length atoms
+  pub gained_ground : (test : AtomTree → Bool) (bag : Multiset) (atoms : List AtomTree) → AllByRecursion IsGroundAtom atoms → AllByRecursion IsGroundAtom (gained test bag atoms)
+  pub without_others : (test : AtomTree → Bool) (atoms : List AtomTree) (a : AtomTree) → test a ≡ false → count_of (gathered (without test atoms)) a ≡ count_of (gathered atoms) a
+  pub without_those : (test : AtomTree → Bool) (atoms : List AtomTree) (a : AtomTree) → test a ≡ true → count_of (gathered (without test atoms)) a ≡ 0

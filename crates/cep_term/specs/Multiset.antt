@@ -1,5 +1,5 @@
 -- Multisets of atoms: for each atom that is there how many copies there are.
-use Rattle.std.specs.Prelude.{ℕ, ◌+◌, ◌-◌, ◌*◌, ◌≡◌, ◌≤◌, ◌<◌, ◌==◌, if◌then◌else◌, List, [], ◌∷◌, length, take, fold, sum_by, unwrap_or}
+use Rattle.std.specs.Prelude.{ℕ, ◌+◌, ◌-◌, ◌*◌, ◌≡◌, ◌≤◌, ◌<◌, ◌==◌, ◌&&◌, if◌then◌else◌, Bool, true, false, not, min, nat_lt, List, [], ◌∷◌, length, map, filter, take, fold, sum_by, unwrap_or}
 use Rattle.std.specs.List.{AllByRecursion}
 use Rattle.std.specs.FinMap as finite
 use Rattle.cep_term.specs.Tree.{AtomTree, IsGroundAtom, atom_nodes}
@@ -63,3 +63,25 @@ pub record AddsFront (old new : Multiset) (atoms : List AtomTree) : Type 0 where
   pub added : ℕ
   pub before : added < length atoms
   pub sum : new ≡ sum_of old (gathered (take added atoms))
+
+-- how many copies are held where so many come together: one at most of an atom that is held once, and else all
+abbrev pub held : Bool → ℕ → ℕ
+held true n = min 1 n
+held false n = n
+
+-- the multiset with at most one copy of each atom that passes the test
+abbrev pub once : (AtomTree → Bool) → Multiset → Multiset
+once test bag = finite.from_sorted (map (λ e. (e.0, held (test e.0) e.1)) (finite.entries bag))
+
+-- Of each atom that passes the test there is one copy at most.
+abbrev pub IsOnce : (AtomTree → Bool) → Multiset → Type 0
+IsOnce test bag = (a : AtomTree) → test a ≡ true → count_of bag a ≤ 1
+
+-- of atoms that are added in this order, those that are gained: all but those that pass the test and are there, or stand earlier
+abbrev pub gained : (AtomTree → Bool) → Multiset → List AtomTree → List AtomTree
+gained test bag [] = []
+gained test bag (a ∷ atoms) = if test a && nat_lt 0 (count_of bag a) then gained test bag atoms else a ∷ gained test (with_one bag a) atoms
+
+-- the atoms that do not pass the test
+abbrev pub without : (AtomTree → Bool) → List AtomTree → List AtomTree
+without test atoms = filter (λ a. not (test a)) atoms
