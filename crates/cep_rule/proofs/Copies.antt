@@ -1,16 +1,17 @@
 -- Multisets in which each atom that is there has a copy: the counts alone say which one it is.
-use Rattle.std.proofs.Common.{◌≡◌, ◌≢◌, ℕ, ◌+◌, ◌<◌, Bool, true, false, cond, ◌==◌, List, [], ◌∷◌, Option, Some, None, unwrap_or, refl, sym, ap, ◌∙◌, arith}
+use Rattle.std.proofs.Common.{◌≡◌, ◌≢◌, ℕ, ◌+◌, ◌<◌, Bool, true, false, cond, ◌==◌, List, [], ◌∷◌, Option, Some, None, unwrap_or, refl, sym, ap, subst, ◌∙◌, arith}
 use Rattle.std.specs.Prelude.{fold}
 use Rattle.std.specs.List.{AllByRecursion}
-use Rattle.std.proofs.lemmas.Bool.{eqb-false}
-use Rattle.std.specs.Ordering.{eq_by_cmp}
+use Rattle.std.proofs.lemmas.Bool.{eqb-false, false≢true}
+use Rattle.std.specs.Ordering.{is_eq, eq_by_cmp}
+use Rattle.std.specs.Cmp.{tied_itself, Equal-is}
 use Rattle.std.specs.FinMap.{get-entries, get-empty, get-insert, get-remove, same_map}
 use Rattle.std.specs.FinMap.Entries.{find}
 use Rattle.std.specs.FinMap as finite
 use Rattle.cep_term.specs.Tree.{AtomTree}
 use Rattle.cep_term.specs.Order.{atom_cmp}
 use Rattle.cep_term.specs.BagLaws.{BagLaws}
-use Rattle.cep_term.specs.Multiset.{Multiset, count_of, with_count, gathered, sum_of, IsBag, IsEntry}
+use Rattle.cep_term.specs.Multiset.{Multiset, count_of, with_count, with_one, gathered, sum_of, IsBag, IsEntry}
 
 -- Each atom that is there has a copy.
 abbrev pub HasCopies : Multiset → Type 0
@@ -73,3 +74,18 @@ module _ (laws : BagLaws) where
   pub same_counts : (one other : Multiset) → HasCopies one → HasCopies other → ((a : AtomTree) → count_of one a ≡ count_of other a) → one ≡ other
   same_counts one other has has' same =
       same_map laws.total laws.ties one other (λ a. same_found (finite.get one a) (finite.get other a) (has a) (has' a) (same a))
+
+-- how much a test adds to a count
+abbrev pub one_if : Bool → ℕ
+one_if t = cond t 1 0
+
+module _ (laws : BagLaws) where
+  -- one more copy
+  pub count_more : (bag : Multiset) (a b : AtomTree) → count_of (with_one bag a) b ≡ count_of bag b + one_if (eq_by_cmp atom_cmp a b)
+  count_more bag a b = by (eq_by_cmp atom_cmp a b) refl
+    where
+      by : (t : Bool) → eq_by_cmp atom_cmp a b ≡ t → count_of (with_one bag a) b ≡ count_of bag b + one_if t
+      by true e = subst (λ x. count_of (with_one bag a) x ≡ count_of bag x + 1) (laws.ties a b ((Equal-is (atom_cmp a b)).0 e)) (laws.own bag a (count_of bag a + 1))
+      by false e =
+          let apart : b ≢ a = λ same. false≢true (sym e ∙ ap (eq_by_cmp atom_cmp a) same ∙ ap is_eq (tied_itself laws.total a)) in
+          laws.others bag a b (count_of bag a + 1) apart ∙ (omega arith)

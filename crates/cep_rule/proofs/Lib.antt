@@ -10,3 +10,5 @@ pub mod SmallValues
 pub mod SideLaws
 pub mod GroundLaws
 pub mod Telling
+pub mod Gains
+pub mod Sums

@@ -1,15 +1,16 @@
 -- The atoms of both sides of a rule by values of the right types are ground.
-use Rattle.std.proofs.Common.{ℕ, true, false, cond, List, [], ◌∷◌, ◌++◌, map}
+use Rattle.std.proofs.Common.{ℕ, Bool, true, false, not, ◌||◌, cond, List, [], ◌∷◌, ◌++◌, map}
 use Rattle.std.specs.Prelude.{filter}
 use Rattle.std.specs.List.{AllByRecursion}
 use Rattle.cep_base.proofs.Elements.{both_all}
 use Rattle.cep_term.specs.Tree.{Tree, AtomTree, IsGroundAtom}
+use Rattle.cep_term.specs.Multiset.{without}
 use Rattle.cep_rule.specs.declared.signature.Signature.{Signature}
 use Rattle.cep_rule.specs.declared.rule.Rule.{Rule}
 use Rattle.cep_rule.specs.Patterns.{PremiseTree}
-use Rattle.cep_rule.specs.Typing.{IsTyped, AreValues}
+use Rattle.cep_rule.specs.Typing.{IsTyped, AreValues, is_fact}
 use Rattle.cep_rule.specs.Binding.{needed_of}
-use Rattle.cep_rule.specs.Instances.{full_instances, kept_of}
+use Rattle.cep_rule.specs.Instances.{full_instances, kept_of, taken_by, added_by, used_by}
 use Rattle.cep_rule.specs.Program.{IsTypedRule}
 use Rattle.cep_rule.proofs.InstanceLaws.{ground_instance}
 
@@ -17,18 +18,44 @@ ground_all : (signature : Signature) (kinds : List ℕ) (values : List Tree) →
 ground_all signature kinds values are [] typed = tt
 ground_all signature kinds values are (a ∷ atoms) typed = ((ground_instance signature kinds values a are typed.0), (ground_all signature kinds values are atoms typed.1))
 
--- what holds of the atoms of all premises holds of those that are kept
-all_kept : (P : AtomTree → Type 0) (premises : List PremiseTree) → AllByRecursion P (map (λ premise. premise.atom) premises) → AllByRecursion P (map (λ premise. premise.atom) (filter (λ premise. premise.kept) premises))
-all_kept P [] all = tt
-all_kept P (premise ∷ premises) all =
-    let rest = all_kept P premises all.1 in
-    let others = filter (λ (other : PremiseTree). other.kept) premises in
-    elim premise.kept as (λ t. AllByRecursion P (map (λ other. other.atom) (cond t (premise ∷ others) others))) [ true ↦ (all.0, rest) | false ↦ rest ]
+-- what holds of all elements holds of those that pass a test
+all_filtered : {A : Type 0} (P : A → Type 0) (test : A → Bool) (xs : List A) → AllByRecursion P xs → AllByRecursion P (filter test xs)
+all_filtered P test [] all = tt
+all_filtered P test (x ∷ xs) all =
+    let rest = all_filtered P test xs all.1 in
+    elim (test x) as (λ t. AllByRecursion P (cond t (x ∷ filter test xs) (filter test xs))) [ true ↦ (all.0, rest) | false ↦ rest ]
 
-pub ground_left : (signature : Signature) (rule : Rule) (values : List Tree) → IsTypedRule signature rule → AreValues signature.cons rule.kinds values → AllByRecursion IsGroundAtom (full_instances values (needed_of rule))
-ground_left signature rule values typed are = ground_all signature rule.kinds values are (needed_of rule) typed.premises
+-- what holds of the atoms of all premises holds of those that stay
+all_kept : (P : AtomTree → Type 0) (test : PremiseTree → Bool) (premises : List PremiseTree) → AllByRecursion P (map (λ premise. premise.atom) premises) → AllByRecursion P (map (λ premise. premise.atom) (filter test premises))
+all_kept P test [] all = tt
+all_kept P test (premise ∷ premises) all =
+    let rest = all_kept P test premises all.1 in
+    let others = filter test premises in
+    elim (test premise) as (λ t. AllByRecursion P (map (λ (other : PremiseTree). other.atom) (cond t (premise ∷ others) others))) [ true ↦ (all.0, rest) | false ↦ rest ]
 
-pub ground_right : (signature : Signature) (rule : Rule) (values : List Tree) → IsTypedRule signature rule → AreValues signature.cons rule.kinds values → AllByRecursion IsGroundAtom (full_instances values (rule.right ++ kept_of rule))
-ground_right signature rule values typed are =
-    ground_all signature rule.kinds values are (rule.right ++ kept_of rule)
-    (both_all (IsTyped signature rule.kinds) rule.right (kept_of rule) typed.right (all_kept (IsTyped signature rule.kinds) rule.premises typed.premises))
+module _ (signature : Signature) (rule : Rule) (values : List Tree) (typed : IsTypedRule signature rule) (are : AreValues signature.cons rule.kinds values) where
+  typed_kept : AllByRecursion (IsTyped signature rule.kinds) (kept_of signature rule)
+  typed_kept = all_kept (IsTyped signature rule.kinds) (λ premise. premise.kept || is_fact signature premise.atom) rule.premises typed.premises
+
+  pub ground_left : AllByRecursion IsGroundAtom (full_instances values (needed_of rule))
+  ground_left = ground_all signature rule.kinds values are (needed_of rule) typed.premises
+
+  pub ground_right : AllByRecursion IsGroundAtom (full_instances values (rule.right ++ kept_of signature rule))
+  ground_right = ground_all signature rule.kinds values are (rule.right ++ kept_of signature rule)
+      (both_all (IsTyped signature rule.kinds) rule.right (kept_of signature rule) typed.right typed_kept)
+
+  pub ground_taken : AllByRecursion IsGroundAtom (taken_by signature rule values)
+  ground_taken = ground_all signature rule.kinds values are (without (is_fact signature) (needed_of rule))
+      (all_filtered (IsTyped signature rule.kinds) (λ a. not (is_fact signature a)) (needed_of rule) typed.premises)
+
+  pub ground_added : AllByRecursion IsGroundAtom (added_by signature rule values)
+  ground_added = ground_all signature rule.kinds values are (rule.right ++ without (is_fact signature) (kept_of signature rule))
+      (both_all (IsTyped signature rule.kinds) rule.right (without (is_fact signature) (kept_of signature rule)) typed.right
+      (all_filtered (IsTyped signature rule.kinds) (λ a. not (is_fact signature a)) (kept_of signature rule) typed_kept))
+
+  pub ground_used : AllByRecursion IsGroundAtom (used_by signature rule values)
+  ground_used = ground_all signature rule.kinds values are (map (λ (premise : PremiseTree). premise.atom) (filter (λ premise. not (premise.kept || is_fact signature premise.atom)) rule.premises))
+      (all_kept (IsTyped signature rule.kinds) (λ premise. not (premise.kept || is_fact signature premise.atom)) rule.premises typed.premises)
+
+  pub ground_made : AllByRecursion IsGroundAtom (full_instances values rule.right)
+  ground_made = ground_all signature rule.kinds values are rule.right typed.right

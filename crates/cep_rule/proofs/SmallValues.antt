@@ -21,6 +21,7 @@ use Rattle.cep_rule.specs.Derivations.{ProofTree, ProofTrees, by_clause, no_goal
 use Rattle.cep_rule.specs.Offers.{Applies}
 use Rattle.cep_rule.specs.Program.{IsTypedRule, IsTypedClause, IsProgram}
 use Rattle.cep_rule.specs.Shapes.{IsSmallTerm, HasSmallValues, HaveSmallValues}
+use Rattle.cep_rule.proofs.StepLaws.{needed_there}
 use Rattle.cep_rule.proofs.TypedAtoms.{as_many_values}
 
 from_found : {X : Type 0} (o : Option X) (P : X → Type 0) (Q : Type 0) → ((x : X) → o ≡ Some x → P x → Q) → IsSomeAnd o P → Q
@@ -94,10 +95,7 @@ module _ (program : Parts) (kept : IsProgram program) where
   -- the instances of the linear premises are in the state, and so they are fit
   needed_fit : BagLaws → (state : Multiset) (rule : Rule) (values : List Tree) → IsState program.signature state → IsContained (left_of program.signature rule values) state → AllByRecursion IsFit (full_instances values (needed_of rule))
   needed_fit laws state rule values is contained = all_of IsFit (full_instances values (needed_of rule))
-      (λ a there.
-      let some = (laws.gathered_there (full_instances values (needed_of rule)) a).1 there in
-      let most = contained a in
-      (is.each a (omega arith)).fit)
+      (λ a there. (is.each a (needed_there laws program.signature rule values state a contained there)).fit)
 
   pub offer_small : BagLaws → (height : ℕ) (state : Multiset) (offer : Offer) → IsState program.signature state → Applies program height state offer → AllByRecursion IsSmallTerm offer.values
   offer_small laws height state offer is applies =

@@ -1,12 +1,13 @@
 -- What the parts of every program keep.
-use Rattle.std.specs.Prelude.{◌≡◌, ◌↔◌, ℕ, ◌*◌, ◌%◌, ◌<◌, List, [], length, map, IsSome, IfSome}
+use Rattle.std.specs.Prelude.{◌≡◌, ◌↔◌, ℕ, ◌*◌, ◌%◌, ◌<◌, true, false, List, [], length, map, IsSome, IfSome}
 use Rattle.std.specs.List.{AllByRecursion}
+use Rattle.cep_base.specs.Kinds.{is_of_facts}
 use Rattle.cep_rule.specs.declared.signature.Signature.{Signature}
 use Rattle.cep_rule.specs.declared.rule.Rule.{Rule}
 use Rattle.cep_rule.specs.declared.parts.Parts.{Parts}
 use Rattle.cep_rule.specs.Patterns.{ClauseTree}
 use Rattle.cep_rule.specs.Names.{AreNames, IsVariableName}
-use Rattle.cep_rule.specs.Typing.{IsTyped, IsLinear, IsBackward}
+use Rattle.cep_rule.specs.Typing.{IsTyped, IsOfState, IsBackward, is_fact}
 use Rattle.cep_rule.specs.Limits.{IsSmall}
 use Rattle.cep_rule.specs.Binding.{needed_of, IsBoundRule, IsBoundClause}
 use Rattle.cep_rule.specs.Groundness.{IsGrounded}
@@ -49,10 +50,11 @@ pub record IsTypedClause (signature : Signature) (clause : ClauseTree) : Type 0 
   pub head : IsTyped signature clause.kinds clause.head
   pub goals : AllByRecursion (IsTyped signature clause.kinds) clause.goals
 
--- A rule needs and makes atoms of linear predicates, and its backward premises are of backward ones.
+-- A rule needs and makes atoms that states may have, it keeps each fact that it needs, and its backward premises are of backward predicates.
 pub record IsDividedRule (signature : Signature) (rule : Rule) : Type 0 where
-  pub premises : AllByRecursion (IsLinear signature) (needed_of rule)
-  pub right : AllByRecursion (IsLinear signature) rule.right
+  pub premises : AllByRecursion (IsOfState signature) (needed_of rule)
+  pub facts : AllByRecursion (λ premise. is_fact signature premise.atom ≡ true → premise.kept ≡ true) rule.premises
+  pub right : AllByRecursion (IsOfState signature) rule.right
   pub backs : AllByRecursion (IsBackward signature) rule.backs
 
 -- The head and the goals of a clause are of backward predicates.
@@ -79,7 +81,7 @@ pub record IsProgram (parts : Parts) : Type 0 where
   -- each variable occurs where it can get its value
   pub bound_rules : AllByRecursion IsBoundRule parts.rules
   pub bound_clauses : AllByRecursion IsBoundClause parts.clauses
-  -- linear and backward predicates stand where each may
+  -- predicates stand where those of their kind may
   pub divided_rules : AllByRecursion (IsDividedRule parts.signature) parts.rules
   pub divided_clauses : AllByRecursion (IsDividedClause parts.signature) parts.clauses
   -- each rule is in a group of a stage
@@ -89,3 +91,7 @@ pub record IsProgram (parts : Parts) : Type 0 where
   -- the start is a state that fits
   pub start : IsState parts.signature parts.start
   pub start_fits : Fits parts.start
+
+-- No predicate is one of facts: so it is of each program that a text spells, since no text declares a fact yet.
+abbrev pub HasNoFacts : Signature → Type 0
+HasNoFacts signature = AllByRecursion (λ pred. is_of_facts pred.kind ≡ false) signature.preds

@@ -1,5 +1,6 @@
 -- Which terms and atoms are well typed, where each variable has a type.
-use Rattle.std.specs.Prelude.{◌≡◌, ℕ, true, false, List, [], ◌∷◌, Some, slice_get, IsSomeAnd}
+use Rattle.std.specs.Prelude.{◌≡◌, ℕ, Bool, true, false, List, [], ◌∷◌, Some, slice_get, unwrap_or, option_map, IsSomeAnd}
+use Rattle.cep_base.specs.Kinds.{is_backward, is_of_facts}
 use Rattle.cep_term.specs.Tree.{Tree, Trees, AtomTree, variable, node, none, more, IsGround}
 use Rattle.cep_term.specs.Values.{Values, value_of}
 use Rattle.cep_rule.specs.declared.signature.Con.{Con}
@@ -21,13 +22,17 @@ abbrev mutual
 abbrev pub IsTyped : Signature → List ℕ → AtomTree → Type 0
 IsTyped signature kinds a = IsSomeAnd (slice_get signature.preds a.pred) (λ pred. HaveSorts signature.cons kinds pred.args a.args)
 
--- The atom's predicate is linear: states have atoms of it.
-abbrev pub IsLinear : Signature → AtomTree → Type 0
-IsLinear signature a = IsSomeAnd (slice_get signature.preds a.pred) (λ pred. pred.back ≡ false)
+-- The atom's predicate is linear or one of facts: states have atoms of it.
+abbrev pub IsOfState : Signature → AtomTree → Type 0
+IsOfState signature a = IsSomeAnd (slice_get signature.preds a.pred) (λ pred. is_backward pred.kind ≡ false)
 
 -- The atom's predicate is backward: clauses define it.
 abbrev pub IsBackward : Signature → AtomTree → Type 0
-IsBackward signature a = IsSomeAnd (slice_get signature.preds a.pred) (λ pred. pred.back ≡ true)
+IsBackward signature a = IsSomeAnd (slice_get signature.preds a.pred) (λ pred. is_backward pred.kind ≡ true)
+
+-- whether the atom is a fact: one of a predicate of facts
+abbrev pub is_fact : Signature → AtomTree → Bool
+is_fact signature a = unwrap_or (option_map (λ pred. is_of_facts pred.kind) (slice_get signature.preds a.pred)) false
 
 -- A value of a type: a ground term of it.
 pub record IsValue (cons : List Con) (sort : ℕ) (t : Tree) : Type 0 where

@@ -1,26 +1,28 @@
 //! Laws of what programs mean, for the crates that rest on them. Each function computes nothing, and
 //! its contract is the law.
-ghost use Rattle.std.specs.Prelude.{◌≡◌, ◌↔◌, ℕ, List, ◌++◌, true};
+ghost use Rattle.std.specs.Prelude.{◌≡◌, ◌↔◌, ◌⊎◌, ℕ, ◌+◌, ◌<◌, max, List, ◌++◌, Contains, true, false};
 ghost use Rattle.std.specs.declared.cmp.Ordering.TheVariants.{Equal};
 ghost use Rattle.std.specs.Cmp.{IsTotalOrder};
 ghost use Rattle.std.specs.List.{AllByRecursion};
-ghost use Rattle.cep_term.specs.Tree.{Tree, AtomTree};
-ghost use Rattle.cep_term.specs.Multiset.{Multiset, IsContained, IsBag};
+ghost use Rattle.cep_term.specs.Tree.{Tree, AtomTree, IsGroundAtom};
+ghost use Rattle.cep_term.specs.Multiset.{Multiset, count_of, gathered, sum_of, difference_of, IsContained, IsBag, IsOnce, gained};
 ghost use Rattle.cep_rule.specs.declared.signature.Signature.{Signature};
 ghost use Rattle.cep_rule.specs.declared.rule.Rule.{Rule};
 ghost use Rattle.cep_rule.specs.declared.parts.Parts.{Parts};
 ghost use Rattle.cep_rule.specs.declared.offer.Offer.{Offer};
 ghost use Rattle.cep_rule.specs.Patterns.{ClauseTree};
-ghost use Rattle.cep_rule.specs.Typing.{AreValues};
+ghost use Rattle.cep_rule.specs.Typing.{AreValues, is_fact};
+ghost use Rattle.cep_rule.specs.Binding.{needed_of};
 ghost use Rattle.cep_rule.specs.Groundness.{Known, IsBad, SomeFails};
-ghost use Rattle.cep_rule.specs.Instances.{full_instances, kept_of, left_of, right_of};
+ghost use Rattle.cep_rule.specs.Instances.{full_instances, kept_of, left_of, right_of, taken_by, added_by, used_by};
 ghost use Rattle.cep_rule.specs.Offers.{offer_cmp, Applies, AreOffers};
 ghost use Rattle.cep_rule.specs.Derivations.{ProofTree, Proves};
 ghost use Rattle.cep_rule.specs.Shapes.{IsProofOf, IsSmallTerm, HasSmallValues};
-ghost use Rattle.cep_rule.specs.State.{IsState};
+ghost use Rattle.cep_rule.specs.State.{IsState, joined};
 ghost use Rattle.cep_rule.specs.Step.{Step, StepsByCounts};
+ghost use Rattle.cep_rule.specs.Steps.{MakesFit};
 ghost use Rattle.cep_rule.specs.Matching.{state_after};
-ghost use Rattle.cep_rule.specs.Program.{IsTypedRule, IsProgram};
+ghost use Rattle.cep_rule.specs.Program.{IsTypedRule, IsDividedRule, IsProgram};
 ghost use Rattle.cep_rule.specs.TypeLaws.{TypeLaws};
 
 use cep_term::laws::{bags_are_lawful, order_is_total};
@@ -44,15 +46,16 @@ pub fn offers_have_one_order()
 }
 
 /// A step by a rule with values for its variables leads from a state to one state, and leaves one
-/// rest alone.
+/// rest alone but for the facts of the left side.
 pub fn one_state_after_a_step()
     ensures state { (signature : Signature) (rule : Rule) (values : List Tree) (old one other : Multiset)
         → Step signature rule values old one
         → Step signature rule values old other
         → one ≡ other }
     ensures rest { (signature : Signature) (rule : Rule) (values : List Tree) (old one other : Multiset)
-        (step : Step signature rule values old one) (step' : Step signature rule values old other)
-        → step.rest ≡ step'.rest }
+        (step : Step signature rule values old one) (step' : Step signature rule values old other) (a : AtomTree)
+        → (0 < count_of (left_of signature rule values) a → is_fact signature a ≡ false)
+        → count_of step.rest a ≡ count_of step'.rest a }
 {
     bags_are_lawful();
 }
@@ -63,21 +66,114 @@ pub fn steps_can_be_told_by_counts()
     ensures { (signature : Signature) (rule : Rule) (values : List Tree) (old new : Multiset)
         → IsBag (left_of signature rule values)
         → IsBag old
+        → IsOnce (is_fact signature) old
         → IsBag new
         → (Step signature rule values old new ↔ StepsByCounts signature rule values old new) }
 {
     bags_are_lawful();
 }
 
-/// Taking the left side from a state that contains it, and adding the instances of the right atoms
-/// and of the premises that are kept, is a step.
+/// Where a state contains the left side, it has each atom that the rule needs; and the linear ones
+/// among them, none of which is a fact, can be taken from it.
+pub fn what_is_needed_is_there()
+    ensures needed { (signature : Signature) (rule : Rule) (values : List Tree) (state : Multiset) (a : AtomTree)
+        → IsContained (left_of signature rule values) state
+        → Contains (full_instances values (needed_of rule)) a
+        → 0 < count_of state a }
+    ensures contained { (signature : Signature) (rule : Rule) (values : List Tree) (old new : Multiset)
+        → Step signature rule values old new
+        → IsContained (left_of signature rule values) old }
+    ensures taken { (signature : Signature) (rule : Rule) (values : List Tree) (state : Multiset)
+        → IsContained (left_of signature rule values) state
+        → IsContained (gathered (taken_by signature rule values)) state }
+    ensures no_facts { (signature : Signature) (rule : Rule) (values : List Tree) (a : AtomTree)
+        → is_fact signature a ≡ true
+        → count_of (gathered (taken_by signature rule values)) a ≡ 0 }
+    ensures used { (signature : Signature) (rule : Rule) (values : List Tree) (state : Multiset)
+        → IsContained (left_of signature rule values) state
+        → IsContained (gathered (used_by signature rule values)) state }
+    ensures no_facts_used { (signature : Signature) (rule : Rule) (values : List Tree) (a : AtomTree)
+        → is_fact signature a ≡ true
+        → count_of (gathered (used_by signature rule values)) a ≡ 0 }
+{
+    bags_are_lawful();
+}
+
+/// Taking the linear part of the left side from a state that contains that side, and adding the
+/// instances of the right atoms and of the linear premises that are kept, is a step; and so is taking
+/// what is used up, and adding the instances of the right atoms alone.
 pub fn edits_are_steps()
-    ensures { (signature : Signature) (rule : Rule) (values : List Tree) (state : Multiset)
+    ensures lean { (signature : Signature) (rule : Rule) (values : List Tree) (state : Multiset)
         → IsTypedRule signature rule
         → AreValues signature.cons rule.kinds values
-        → IsBag state
+        → IsState signature state
         → IsContained (left_of signature rule values) state
-        → Step signature rule values state (state_after signature state (left_of signature rule values) (full_instances values (rule.right ++ kept_of rule))) }
+        → Step signature rule values state (state_after signature state (gathered (used_by signature rule values)) (full_instances values rule.right)) }
+    ensures whole { (signature : Signature) (rule : Rule) (values : List Tree) (state : Multiset)
+        → IsTypedRule signature rule
+        → AreValues signature.cons rule.kinds values
+        → IsState signature state
+        → IsContained (left_of signature rule values) state
+        → Step signature rule values state (state_after signature state (gathered (taken_by signature rule values)) (added_by signature rule values)) }
+{
+    sides_are_bags();
+    bags_are_lawful();
+}
+
+/// The state after an edit is the old one without what is taken, and with those of the added atoms
+/// that it gains.
+pub fn edits_gain()
+    ensures { (signature : Signature) (state taken : Multiset) (added : List AtomTree)
+        → IsBag state
+        → IsOnce (is_fact signature) state
+        → IsBag taken
+        → AllByRecursion IsGroundAtom added
+        → state_after signature state taken added ≡ sum_of (difference_of state taken) (gathered (gained (is_fact signature) (difference_of state taken) added)) }
+{
+    bags_are_lawful();
+}
+
+/// An atom that is there after a step is of the right side, or was there before.
+pub fn atoms_come_from_somewhere()
+    ensures { (signature : Signature) (rule : Rule) (values : List Tree) (old new : Multiset) (a : AtomTree)
+        → Step signature rule values old new
+        → 0 < count_of new a
+        → Contains (full_instances values (rule.right ++ kept_of signature rule)) a ⊎ (0 < count_of old a) }
+{
+    bags_are_lawful();
+}
+
+/// A sum of states adds the copies of each atom that is no fact, and of a fact takes the greater
+/// count; and a part of a state that is taken from it is restored by a sum.
+pub fn sums_of_states()
+    ensures linear { (signature : Signature) (state other : Multiset) (a : AtomTree)
+        → is_fact signature a ≡ false
+        → count_of (joined signature state other) a ≡ count_of state a + count_of other a }
+    ensures facts { (signature : Signature) (state other : Multiset) (a : AtomTree)
+        → IsOnce (is_fact signature) state
+        → IsOnce (is_fact signature) other
+        → is_fact signature a ≡ true
+        → count_of (joined signature state other) a ≡ max (count_of state a) (count_of other a) }
+    ensures restored { (signature : Signature) (state part : Multiset)
+        → IsBag state
+        → IsOnce (is_fact signature) state
+        → IsBag part
+        → IsContained part state
+        → joined signature part (difference_of state part) ≡ state }
+{
+    bags_are_lawful();
+}
+
+/// A step that makes fit atoms leads from a state to a state.
+pub fn steps_lead_to_states()
+    ensures { (signature : Signature) (rule : Rule) (values : List Tree) (old new : Multiset)
+        → IsTypedRule signature rule
+        → IsDividedRule signature rule
+        → AreValues signature.cons rule.kinds values
+        → IsState signature old
+        → MakesFit rule values
+        → Step signature rule values old new
+        → IsState signature new }
 {
     sides_are_bags();
     bags_are_lawful();
@@ -100,6 +196,22 @@ pub fn sides_are_bags()
         → IsTypedRule signature rule
         → AreValues signature.cons rule.kinds values
         → IsBag (right_of signature rule values) }
+    ensures taken { (signature : Signature) (rule : Rule) (values : List Tree)
+        → IsTypedRule signature rule
+        → AreValues signature.cons rule.kinds values
+        → AllByRecursion IsGroundAtom (taken_by signature rule values) }
+    ensures added { (signature : Signature) (rule : Rule) (values : List Tree)
+        → IsTypedRule signature rule
+        → AreValues signature.cons rule.kinds values
+        → AllByRecursion IsGroundAtom (added_by signature rule values) }
+    ensures used { (signature : Signature) (rule : Rule) (values : List Tree)
+        → IsTypedRule signature rule
+        → AreValues signature.cons rule.kinds values
+        → AllByRecursion IsGroundAtom (used_by signature rule values) }
+    ensures made { (signature : Signature) (rule : Rule) (values : List Tree)
+        → IsTypedRule signature rule
+        → AreValues signature.cons rule.kinds values
+        → AllByRecursion IsGroundAtom (full_instances values rule.right) }
 {
     bags_are_lawful();
 }

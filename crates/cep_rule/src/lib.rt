@@ -11,6 +11,7 @@
 
 mod clause;
 mod derivation;
+mod gaining;
 mod instances;
 pub mod laws;
 mod matcher;
@@ -26,6 +27,7 @@ mod values;
 pub use cep_term::{AtomList, Terms};
 pub use clause::{Clause, Clauses};
 pub use derivation::{Derivation, Derivations};
+pub use gaining::{gained, is_fact};
 pub use instances::instance;
 pub use matcher::Matcher;
 pub use offer::{Offer, order_offer};

@@ -1,8 +1,9 @@
-ghost use Rattle.std.specs.Prelude.{◌≡◌, ◌↔◌, ℕ, ◌<◌, ◌≤◌, List, length, slice_get, Some, IfOk, IsTrue};
+ghost use Rattle.std.specs.Prelude.{◌≡◌, ◌↔◌, ℕ, ◌<◌, ◌≤◌, List, length, slice_get, Some, IfOk, IsTrue, true};
 ghost use Rattle.cep_term.specs.Tree.{AtomTree};
-ghost use Rattle.cep_term.specs.Multiset.{Multiset, IsContained};
+ghost use Rattle.cep_term.specs.Multiset.{Multiset, count_of, IsContained};
 ghost use Rattle.cep_rule.specs.declared.parts.Parts.{Parts};
 ghost use Rattle.cep_rule.specs.declared.offer.Offer.{Offer};
+ghost use Rattle.cep_rule.specs.Typing.{is_fact};
 ghost use Rattle.cep_rule.specs.Limits.{IsHeight};
 ghost use Rattle.cep_rule.specs.State.{IsState, Fits};
 ghost use Rattle.cep_rule.specs.Matching.{offers_of, AreListed, state_after, RoseBy};
@@ -58,7 +59,8 @@ pub trait Matcher: Sized + Drop {
         ensures ticked { IfOk result (λ matcher. RoseBy (may_begin program.now state.now height) steps.old steps.new) }
         ensures never_falls { steps.old ≤ steps.new };
 
-    /// The matcher after these atoms are taken from its state and those are added, in this order.
+    /// The matcher after these atoms, none of which is a fact, are taken from its state and those are
+    /// added, in this order. A fact that is there changes nothing.
     /// The counter rises by what `may_edit` allows. Only want of memory is refused, after any
     /// ticks, and then the matcher is gone.
     fn edit<L: Ledger>(
@@ -71,6 +73,7 @@ pub trait Matcher: Sized + Drop {
     ) -> Result<Self, AllocError>
         requires of_program { is_of program.now self }
         requires contained { IsContained taken.now (state_held self) }
+        requires no_facts { (a : AtomTree) → is_fact program.now.signature a ≡ true → count_of taken.now a ≡ 0 }
         requires is_state { IsState program.now.signature (state_after program.now.signature (state_held self) taken.now added.now) }
         requires fits { Fits (state_after program.now.signature (state_held self) taken.now added.now) }
         ensures of_program { IfOk result (λ matcher. is_of program.now matcher) }

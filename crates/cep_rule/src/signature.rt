@@ -1,4 +1,4 @@
-use cep_base::{List, Name};
+use cep_base::{List, Name, PredKind};
 
 /// A list of names: those of the types of a program, or those of the variables of a rule.
 pub type Names = List<Name>;
@@ -21,12 +21,12 @@ pub struct Con {
     pub args: Kinds,
 }
 
-/// A predicate, linear or backward, with the types of its arguments. As in Ceptre, a state has atoms
-/// of linear ones, and clauses define the backward ones.
+/// A predicate of a kind, with the types of its arguments. As in Ceptre, a state has atoms of linear
+/// ones, and clauses define the backward ones; facts are this profile's.
 #[derive(Debug, Drop)]
 pub struct PredDecl {
     pub name: Name,
-    pub back: bool,
+    pub kind: PredKind,
     pub args: Kinds,
 }
 
