@@ -38,7 +38,11 @@ proofs_at program height (x ∷ proofs) (y ∷ goals) zero proof goal all p q =
     subst (λ z. Proves program z goal × (proof_height z ≤ height)) (some_same x proof p) (subst (λ z. Proves program x z × (proof_height x ≤ height)) (some_same y goal q) (all.0, all.1))
 proofs_at program height (x ∷ proofs) (y ∷ goals) (suc n) proof goal all p q = proofs_at program height proofs goals n proof goal all.2 p q
 
-module _ (laws : BagLaws) (one : LeadsToOne) (program : Parts) where
+-- a step needs its left side
+abbrev pub NeedsLeft : Type 0
+NeedsLeft = (signature : Signature) (rule : Rule) (values : List Tree) (old new : Multiset) → Step signature rule values old new → IsContained (left_of signature rule values) old
+
+module _ (laws : BagLaws) (one : LeadsToOne) (needs : NeedsLeft) (program : Parts) where
   -- the listing that is a state's says its counts
   says_count : (state : Multiset) (a : AtomTree) (n : ℕ) → ListsCount (finite.entries state) a n → n ≡ count_of state a
   says_count state a n says = ⊎_elim
@@ -52,11 +56,6 @@ module _ (laws : BagLaws) (one : LeadsToOne) (program : Parts) where
   no_difference : (listing : List (AtomTree × ℕ)) (state : Multiset) (atom : AtomTree) (said is : ℕ) → listing ≡ finite.entries state → IsFirstDifference listing state atom said is → ⊥
   no_difference listing state atom said is same differs =
       differs.differ (says_count state atom said (subst (λ entries. ListsCount entries atom said) same differs.listed) ∙ sym differs.there)
-
-  step_contains : (rule : Rule) (values : List Tree) (old new : Multiset) → Step program.signature rule values old new → IsContained (left_of program.signature rule values) old
-  step_contains rule values old new step = λ a.
-      let before : count_of old a ≡ count_of (left_of program.signature rule values) a + count_of step.rest a = ap (λ state. count_of state a) step.before ∙ laws.sum (left_of program.signature rule values) step.rest a in
-      omega arith
 
   groups_apart : {P : Type 0} (group stage : ℕ) → group ≡ own_group stage → group ≡ leaving_group stage → P
   groups_apart group stage own leaving = absurd (omega arith)
@@ -75,7 +74,7 @@ module _ (laws : BagLaws) (one : LeadsToOne) (program : Parts) where
       by (OtherStage number) comes = comes.1 (⊎_elim (λ own. inl own) (λ leaving. inr leaving.0) machine.in_turn)
       by (NotContained atom have need) comes =
           let lack = comes.1 in
-          let enough = step_contains rule step.offer.values old.state new.state machine.steps.step (atom_of atom) in
+          let enough = needs program.signature rule step.offer.values old.state new.state machine.steps.step (atom_of atom) in
           let wanted = lack.wanted in
           let there = lack.there in
           let lacks = lack.lacks in

@@ -1,18 +1,20 @@
 -- What checking a log comes to can be told.
-use Rattle.std.proofs.Common.{◌≡◌, ⊎_elim, ℕ, zero, suc, ◌+◌, ◌<◌, List, [], ◌∷◌, ◌++◌, length, Option, Some, None, refl, sym, ap, subst, ◌∙◌, arith}
-use Rattle.std.specs.Prelude.{slice_get, IfSome, IsSomeAnd}
+use Rattle.std.proofs.Common.{◌≡◌, ◌⊎◌, ⊎_elim, ℕ, zero, suc, ◌+◌, ◌<◌, Bool, true, false, cond, ◌||◌, List, [], ◌∷◌, ◌++◌, map, length, Contains, Option, Some, None, refl, sym, ap, subst, ◌∙◌, arith}
+use Rattle.std.specs.Prelude.{slice_get, min, filter, IfSome, IsSomeAnd}
 use Rattle.std.specs.List.{AllByRecursion}
 use Rattle.std.proofs.lemmas.List.{map-append}
 use Rattle.cep_base.proofs.Elements.{all_at, both_all}
 use Rattle.cep_base.proofs.Lists.{all_mapped, holds_at}
 use Rattle.cep_term.specs.BagLaws.{BagLaws}
 use Rattle.cep_term.specs.Tree.{Tree, AtomTree, atom_of}
-use Rattle.cep_term.specs.Multiset.{Multiset, count_of}
+use Rattle.cep_term.specs.Multiset.{Multiset, count_of, gathered, held}
+use Rattle.cep_rule.specs.declared.signature.Signature.{Signature}
+use Rattle.cep_rule.specs.Patterns.{PremiseTree}
 use Rattle.cep_rule.specs.declared.rule.Rule.{Rule}
 use Rattle.cep_rule.specs.declared.parts.Parts.{Parts}
 use Rattle.cep_rule.specs.declared.offer.Offer.{Offer}
 use Rattle.cep_rule.specs.Binding.{needed_of}
-use Rattle.cep_rule.specs.Typing.{IsTyped, AreValues}
+use Rattle.cep_rule.specs.Typing.{IsTyped, AreValues, is_fact}
 use Rattle.cep_rule.specs.TypeLaws.{TypeLaws}
 use Rattle.cep_rule.specs.Instances.{full_instance, full_instances, kept_of, left_of, right_of}
 use Rattle.cep_rule.specs.Program.{IsTypedRule, IsProgram}
@@ -31,7 +33,6 @@ use Rattle.cep_check.specs.declared.cause.Verdict.{Verdict}
 use Rattle.cep_check.specs.declared.cause.Verdict.TheVariants.{Accepted, Refused}
 use Rattle.cep_check.specs.Causes.{IsFirstDifference, IsFirstLack, IsStartCause, IsStepCause, IsEndCause, IsRefusedFrom, IsVerdict}
 use Rattle.cep_check.specs.Telling.{IsTellableCause, IsTellable}
-use Rattle.cep_check.proofs.Parted.{all_kept}
 use Rattle.cep_check.proofs.Steps.{ready}
 
 -- what stands at a place stands within the list
@@ -49,7 +50,22 @@ some_number (suc n) apart = omega arith
 abbrev AreWritable : Parts → Multiset → Type 0
 AreWritable program state = (a : AtomTree) → 0 < count_of state a → IsTypedGround program.signature a
 
-module _ (bags : BagLaws) (types : TypeLaws) (program : Parts) (kept : IsProgram program) where
+-- an atom that is there after a step is of the right side, or was there
+abbrev pub ComesFrom : Type 0
+ComesFrom = (signature : Signature) (rule : Rule) (values : List Tree) (old new : Multiset) (a : AtomTree) → Step signature rule values old new → 0 < count_of new a → Contains (full_instances values (rule.right ++ kept_of signature rule)) a ⊎ (0 < count_of old a)
+
+-- what holds of the atoms of all premises holds of those that pass a test
+all_passing : (P : AtomTree → Type 0) (test : PremiseTree → Bool) (premises : List PremiseTree) → AllByRecursion P (map (λ premise. premise.atom) premises) → AllByRecursion P (map (λ premise. premise.atom) (filter test premises))
+all_passing P test [] all = tt
+all_passing P test (premise ∷ premises) all =
+    let rest = all_passing P test premises all.1 in
+    elim (test premise) as (λ t. AllByRecursion P (map (λ (other : PremiseTree). other.atom) (cond t (premise ∷ filter test premises) (filter test premises)))) [ true ↦ (all.0, rest) | false ↦ rest ]
+
+some_held : (t : Bool) (n m : ℕ) → m ≡ held t n → 0 < m → 0 < n
+some_held true n m e some = omega arith
+some_held false n m e some = omega arith
+
+module _ (bags : BagLaws) (types : TypeLaws) (comes_from : ComesFrom) (program : Parts) (kept : IsProgram program) where
   start_writable : AreWritable program program.start
   start_writable = λ a some. let is = kept.start.each a some in record { is_ground = is.ground; typed = is.typed }
 
@@ -57,23 +73,18 @@ module _ (bags : BagLaws) (types : TypeLaws) (program : Parts) (kept : IsProgram
   instances_writable rule values atoms are typed = all_mapped (IsTyped program.signature rule.kinds) (IsTypedGround program.signature) (full_instance values) atoms
       (λ a typed. record { is_ground = types.ground program.signature rule.kinds values a are typed; typed = types.typed program.signature rule.kinds values a are typed }) typed
 
-  right_writable : (rule : Rule) (values : List Tree) → AreValues program.signature.cons rule.kinds values → IsTypedRule program.signature rule → AllByRecursion (IsTypedGround program.signature) (full_instances values (rule.right ++ kept_of rule))
-  right_writable rule values are typed = subst (AllByRecursion (IsTypedGround program.signature)) (sym (map-append (full_instance values) rule.right (kept_of rule)))
-      (both_all (IsTypedGround program.signature) (full_instances values rule.right) (full_instances values (kept_of rule))
-      (instances_writable rule values rule.right are typed.right)
-      (all_kept (IsTypedGround program.signature) values rule.premises (instances_writable rule values (needed_of rule) are typed.premises)))
+  right_writable : (rule : Rule) (values : List Tree) → AreValues program.signature.cons rule.kinds values → IsTypedRule program.signature rule → AllByRecursion (IsTypedGround program.signature) (full_instances values (rule.right ++ kept_of program.signature rule))
+  right_writable rule values are typed =
+      instances_writable rule values (rule.right ++ kept_of program.signature rule) are
+      (both_all (IsTyped program.signature rule.kinds) rule.right (kept_of program.signature rule) typed.right
+      (all_passing (IsTyped program.signature rule.kinds) (λ premise. premise.kept || is_fact program.signature premise.atom) rule.premises typed.premises))
 
   -- a step leads from writable atoms to writable ones
   step_writable : (rule : Rule) (values : List Tree) (old new : Multiset) → AreValues program.signature.cons rule.kinds values → IsTypedRule program.signature rule → Step program.signature rule values old new → AreWritable program old → AreWritable program new
-  step_writable rule values old new are typed step writable = λ a some. by a some (count_of step.rest a) refl
-    where
-      by : (a : AtomTree) → 0 < count_of new a → (n : ℕ) → count_of step.rest a ≡ n → IsTypedGround program.signature a
-      by a some zero none =
-          let after : count_of new a ≡ count_of (right_of program.signature rule values) a + count_of step.rest a = ap (λ (state : Multiset). count_of state a) step.after ∙ bags.sum (right_of program.signature rule values) step.rest a in
-          all_at (IsTypedGround program.signature) (full_instances values (rule.right ++ kept_of rule)) a (right_writable rule values are typed) ((bags.gathered_there (full_instances values (rule.right ++ kept_of rule)) a).0 (omega arith))
-      by a some (suc n) is_there =
-          let before : count_of old a ≡ count_of (left_of program.signature rule values) a + count_of step.rest a = ap (λ (state : Multiset). count_of state a) step.before ∙ bags.sum (left_of program.signature rule values) step.rest a in
-          writable a (omega arith)
+  step_writable rule values old new are typed step writable = λ a some. ⊎_elim
+      (λ right. all_at (IsTypedGround program.signature) (full_instances values (rule.right ++ kept_of program.signature rule)) a (right_writable rule values are typed) right)
+      (λ there. writable a there)
+      (comes_from program.signature rule values old new a step some)
 
   -- an atom of which a listing says another number of copies than there are
   difference_writable : (listing : List (AtomTree × ℕ)) (state : Multiset) (atom : AtomTree) (said is : ℕ) → AllByRecursion (IsHave program.signature) listing → AreWritable program state → IsFirstDifference listing state atom said is → IsTypedGround program.signature atom
@@ -87,7 +98,7 @@ module _ (bags : BagLaws) (types : TypeLaws) (program : Parts) (kept : IsProgram
   lack_writable rule values state atom have need are typed lacks =
       let wanted = lacks.wanted in
       let fewer = lacks.lacks in
-      all_at (IsTypedGround program.signature) (full_instances values (needed_of rule)) atom (instances_writable rule values (needed_of rule) are typed.premises) ((bags.gathered_there (full_instances values (needed_of rule)) atom).0 (omega arith))
+      all_at (IsTypedGround program.signature) (full_instances values (needed_of rule)) atom (instances_writable rule values (needed_of rule) are typed.premises) ((bags.gathered_there (full_instances values (needed_of rule)) atom).0 (some_held (is_fact program.signature atom) (count_of (gathered (full_instances values (needed_of rule))) atom) (count_of (left_of program.signature rule values) atom) (bags.once_count (is_fact program.signature) (gathered (full_instances values (needed_of rule))) atom) (omega arith)))
 
   offer_of : (height : ℕ) (state : Multiset) (offer : Offer) → Applies program height state offer → IsOfferOf program offer
   offer_of height state offer applies = subst (λ found. IsSomeAnd found (λ (rule : Rule). AreValues program.signature.cons rule.kinds offer.values)) (sym applies.numbered) applies.values

@@ -12,7 +12,7 @@ use Rattle.cep_rule.specs.Instances.{full_instance, full_instances}
 use Rattle.cep_check.specs.Walking.{edited, CanEdit}
 use Rattle.cep_check.proofs.Parted.{next_instances}
 
-module _ (laws : BagLaws) (state : Multiset) (used : List AtomTree) (can : CanEdit state used) where
+module _ (laws : BagLaws) (state : Multiset) (used gains : List AtomTree) (can : CanEdit state used gains) where
   whole : sum_of (difference_of state (gathered used)) (gathered used) ≡ state
   whole = laws.taken_and_added state (gathered used) can.bag (laws.gathered_kept used can.ground) can.contained
 

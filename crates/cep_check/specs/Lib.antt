@@ -2,3 +2,4 @@ pub mod Causes
 pub mod Places
 pub mod Telling
 pub mod Walking
+pub mod DoingLaws

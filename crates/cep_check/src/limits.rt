@@ -1,7 +1,7 @@
 // What a step would come to, known before any atom is built that it makes.
 ghost use Rattle.std.specs.Prelude.{◌≡◌, ◌*◌, ◌≤◌, length, sum_by, IfSome, SomeIff};
 ghost use Rattle.std.specs.List.{AllByRecursion};
-ghost use Rattle.cep_base.specs.declared.limits.TheConstants.{MOST_NODES, MOST_PREMISES, MOST_RIGHT};
+ghost use Rattle.cep_base.specs.declared.limits.TheConstants.{MOST_NODES, MOST_RIGHT};
 ghost use Rattle.cep_term.specs.Tree.{atom_nodes, IsFit};
 ghost use Rattle.cep_term.specs.Multiset.{nodes_in_all};
 ghost use Rattle.cep_rule.specs.Instances.{full_instances};
@@ -14,27 +14,21 @@ use cep_rule::{AtomList, Terms};
 use cep_term::laws::bags_are_lawful;
 use cep_term::{Bag, nodes};
 
-// How many nodes the state has once these atoms are taken and the instances of the right atoms added,
-// or which limit that passes. Before, the state has so many nodes.
+// How many nodes the state has once these atoms are taken and those gained, or that it does not fit.
+// Before, the state has so many nodes.
 pub(crate) fn weigh(
-    right: &AtomList,
-    values: &Terms,
     used: &AtomList,
+    gains: &AtomList,
     state: &Bag,
     before: u64,
 ) -> Result<u64, CheckLimit>
-    requires can { CanEdit state.now used.now }
-    requires few { length right.now ≤ MOST_RIGHT }
+    requires can { CanEdit state.now used.now gains.now }
     requires nodes { before ≡ nodes_in_all state.now }
-    ensures { IsEditWeighed state.now used.now (full_instances values.now right.now) result }
+    ensures { IsEditWeighed state.now used.now gains.now result }
 {
     bags_are_lawful();
-    let made = match nodes_made(right, values) {
-        Some(made) => made,
-        None => return Err(CheckLimit::Atom),
-    };
-    let copies = state.copies() + right.len() as u64 - used.len() as u64;
-    let nodes = before + made - nodes_among(used);
+    let copies = state.copies() + gains.len() as u64 - used.len() as u64;
+    let nodes = before + nodes_among(gains) - nodes_among(used);
     if copies > MOST_COPIES {
         return Err(CheckLimit::State);
     }
@@ -45,7 +39,7 @@ pub(crate) fn weigh(
 }
 
 // How many nodes the instances of these atoms have together, where all are fit.
-fn nodes_made(right: &AtomList, values: &Terms) -> Option<u64>
+pub(crate) fn nodes_made(right: &AtomList, values: &Terms) -> Option<u64>
     requires { length right.now ≤ MOST_RIGHT }
     ensures nodes { SomeIff result (AllByRecursion IsFit (full_instances values.now right.now)) (sum_by atom_nodes (full_instances values.now right.now)) }
     ensures few { IfSome result (λ made. made ≤ MOST_RIGHT * MOST_NODES) }
@@ -64,8 +58,9 @@ fn nodes_made(right: &AtomList, values: &Terms) -> Option<u64>
 // How many nodes these atoms have together, which are all fit.
 fn nodes_among(used: &AtomList) -> u64
     requires fit { AllByRecursion IsFit used.now }
-    requires few { length used.now ≤ MOST_PREMISES }
-    ensures { result ≡ sum_by atom_nodes used.now }
+    requires few { length used.now ≤ MOST_RIGHT }
+    ensures nodes { result ≡ sum_by atom_nodes used.now }
+    ensures few { result ≤ MOST_RIGHT * MOST_NODES }
 {
     let mut sum = 0;
     for i in 0..used.len() {

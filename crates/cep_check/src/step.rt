@@ -2,25 +2,26 @@ ghost use Rattle.std.specs.Prelude.{◌≡◌, ◌↔◌, ◌≤◌, length, IfO
 ghost use Rattle.std.specs.List.{AllByRecursion};
 ghost use Rattle.cep_base.specs.declared.limits.TheConstants.{MOST_PREMISES};
 ghost use Rattle.cep_term.specs.Tree.{IsAtomInRange, IsGroundAtom};
-ghost use Rattle.cep_term.specs.Multiset.{gathered, IsContained};
+ghost use Rattle.cep_term.specs.Multiset.{IsContained};
 ghost use Rattle.cep_rule.specs.Binding.{needed_of};
-ghost use Rattle.cep_rule.specs.Instances.{full_instances};
+ghost use Rattle.cep_rule.specs.Instances.{full_instances, left_of};
 ghost use Rattle.cep_rule.specs.Limits.{IsHeight};
 ghost use Rattle.cep_rule.specs.Stages.{HasOffer, own_group, leaving_group};
 ghost use Rattle.cep_log.specs.Legal.{IsStepOf, IsLegalStep};
 ghost use Rattle.cep_check.specs.Causes.{IsOfStage, IsInTurn, IsStepCause};
 ghost use Rattle.cep_check.specs.Walking.{stands_at, IsWalkOf, IsReadyStep, IsLackCause, IsQuietCause, IsStageCause, IsStepCauseOf};
 
-use crate::cause::Cause;
+use crate::cause::{Cause, CheckLimit};
 use crate::counts::first_lack;
-use crate::edit::{edit, needed_atoms, used_atoms};
-use crate::limits::weigh;
+use crate::edit::{edit, edit_of, needed_atoms};
+use crate::laws::steps_are_done;
+use crate::limits::{nodes_made, weigh};
 use crate::premises::first_failure;
 use crate::walk::Walk;
 use cep_base::Steps;
 use cep_log::LogStep;
-use cep_rule::laws::{sides_are_bags, steps_can_be_told_by_counts, types_are_lawful};
-use cep_rule::{Program, Rule, Terms};
+use cep_rule::laws::types_are_lawful;
+use cep_rule::{Program, Rule, Terms, gained};
 use cep_scratch::applies_any;
 use cep_term::laws::bags_are_lawful;
 use cep_term::{Bag, copy};
@@ -75,7 +76,7 @@ fn cause_before<L: Ledger>(
     if rule.group / 2 != walk.stage {
         return Ok(Some(Cause::OtherStage { rule: offer.rule }));
     }
-    if let Some(cause) = not_contained(alloc, rule, &offer.values, &walk.state)? {
+    if let Some(cause) = not_contained(alloc, program, rule, &offer.values, &walk.state)? {
         return Ok(Some(cause));
     }
     let (values, proofs) = (&offer.values, &step.proofs);
@@ -88,6 +89,7 @@ fn cause_before<L: Ledger>(
 // The first atom of the rule's left side of which the state has too few copies.
 fn not_contained(
     alloc: Global,
+    program: &Program,
     rule: &Rule,
     values: &Terms,
     state: &Bag,
@@ -96,11 +98,15 @@ fn not_contained(
     requires ground { AllByRecursion IsGroundAtom (full_instances values.now (needed_of rule.now)) }
     requires few { length rule.now.premises ≤ MOST_PREMISES }
     ensures { IfOk result (λ cause. MatchOption cause
-        (IsContained (gathered (full_instances values.now (needed_of rule.now))) state.now)
-        (IsLackCause (gathered (full_instances values.now (needed_of rule.now))) state.now)) }
+        (IsContained (left_of program.now.signature rule.now values.now) state.now)
+        (IsLackCause (left_of program.now.signature rule.now values.now) state.now)) }
 {
-    let needed = Bag::of(alloc, &needed_atoms(alloc, rule, values)?)?;
-    match first_lack(&needed, state) {
+    bags_are_lawful();
+    let needed = needed_atoms(alloc, rule, values)?;
+    let signature = &program.parts().signature;
+    let left = gained(alloc, signature, &Bag::new(alloc), &needed)?;
+    let left = Bag::of(alloc, &left)?;
+    match first_lack(&left, state) {
         None => Ok(None),
         Some(lack) => Ok(Some(Cause::NotContained {
             atom: copy(alloc, lack.atom)?,
@@ -153,20 +159,22 @@ fn change(
         (IsStepCause program.now height (stands_at walk.old) rule.now step.now)) }
     ensures walk { IfOk result (λ cause. MatchOption cause (IsWalkOf program.now walk.new) (λ _. Unit {0})) }
 {
-    bags_are_lawful();
-    types_are_lawful();
-    sides_are_bags();
-    steps_can_be_told_by_counts();
+    steps_are_done();
     let values = &step.offer.values;
-    let used = used_atoms(alloc, rule, values)?;
-    let nodes = match weigh(&rule.right, values, &used, &walk.state, walk.nodes) {
+    if nodes_made(&rule.right, values).is_none() {
+        return Ok(Some(Cause::OverLimit {
+            which: CheckLimit::Atom,
+        }));
+    }
+    let done = edit_of(alloc, program, rule, values, &walk.state)?;
+    let nodes = match weigh(&done.used, &done.gains, &walk.state, walk.nodes) {
         Ok(nodes) => nodes,
         Err(which) => return Ok(Some(Cause::OverLimit { which })),
     };
     if let Some(cause) = stage_cause(step.stage, rule.next) {
         return Ok(Some(cause));
     }
-    edit(alloc, &mut walk.state, &used, &rule.right, values)?;
+    edit(alloc, &mut walk.state, &done)?;
     walk.stage = rule.next.unwrap_or(walk.stage);
     walk.nodes = nodes;
     Ok(None)

@@ -5,3 +5,4 @@ pub mod Weights
 pub mod Ranges
 pub mod Ready
 pub mod Entries
+pub mod Edits

@@ -1,21 +1,21 @@
 -- What is known of a rule with values that apply to a state.
-use Rattle.std.proofs.Common.{◌≡◌, ℕ, zero, suc, ◌+◌, ◌<◌, true, false, cond, List, [], ◌∷◌, length, Option, Some, None, unwrap_or, refl, sym, ap, subst, ◌∙◌, arith}
+use Rattle.std.proofs.Common.{◌≡◌, ℕ, zero, suc, ◌+◌, ◌<◌, ◌≤◌, Bool, true, false, cond, not, ◌||◌, List, [], ◌∷◌, ◌++◌, length, Option, Some, None, unwrap_or, refl, sym, ap, subst, ◌∙◌, arith}
 use Rattle.std.specs.Prelude.{slice_get, slice_index_or, filter, IfSome}
 use Rattle.std.specs.List.{AllByRecursion}
-use Rattle.std.proofs.lemmas.List.{map-append, length-map}
+use Rattle.std.proofs.lemmas.List.{map-append, length-map, length-append}
 use Rattle.std.proofs.lemmas.Option.{slice_get_within}
-use Rattle.cep_base.specs.declared.limits.TheConstants.{MOST_NODES}
+use Rattle.cep_base.specs.declared.limits.TheConstants.{MOST_NODES, MOST_PREMISES, MOST_RIGHT}
 use Rattle.cep_term.specs.Tree.{Tree, AtomTree, IsGroundAtom, IsFit, IsAtomInRange}
-use Rattle.cep_term.specs.Multiset.{Multiset, count_of, gathered, difference_of, IsContained}
+use Rattle.cep_term.specs.Multiset.{Multiset, gathered, IsContained, without}
 use Rattle.cep_rule.specs.declared.signature.Signature.{Signature}
 use Rattle.cep_rule.specs.declared.rule.Rule.{Rule}
 use Rattle.cep_rule.specs.declared.parts.Parts.{Parts}
 use Rattle.cep_rule.specs.declared.offer.Offer.{Offer}
-use Rattle.cep_rule.specs.Typing.{IsTyped, IsLinear, AreValues}
+use Rattle.cep_rule.specs.Typing.{IsTyped, AreValues, is_fact}
 use Rattle.cep_rule.specs.Limits.{IsSmallRule, IsSmallPattern}
 use Rattle.cep_rule.specs.Binding.{needed_of}
 use Rattle.cep_rule.specs.State.{IsStateAtom, IsState, Fits}
-use Rattle.cep_rule.specs.Instances.{full_instance, full_instances, kept_of}
+use Rattle.cep_rule.specs.Instances.{full_instance, full_instances, kept_of, left_of, taken_by, added_by}
 use Rattle.cep_rule.specs.Patterns.{PremiseTree}
 use Rattle.cep_rule.specs.Program.{IsTypedRule, IsDividedRule, IsProgram}
 use Rattle.cep_rule.specs.Offers.{Applies}
@@ -28,14 +28,13 @@ use Rattle.cep_machine.specs.declared.weighing.Weighed.TheVariants.{TooMuch, Wit
 use Rattle.cep_machine.specs.Configuration.{Configuration}
 use Rattle.cep_machine.specs.Changing.{CanChange}
 use Rattle.cep_machine.specs.Asking.{asked_offers}
-use Rattle.cep_machine.specs.Stepping.{added_by, IsAskedAt, Passes, IsNext}
+use Rattle.cep_machine.specs.Stepping.{IsAskedAt, Passes, IsNext}
 use Rattle.cep_machine.specs.Sizes.{IsSmallValue, IsMeasurable}
-use Rattle.cep_machine.specs.Weighing.{premise_atoms, needs_of, next_state, CanWeigh, IsWeighed}
+use Rattle.cep_machine.specs.Weighing.{premise_atoms, next_state, CanWeigh, IsWeighed}
 use Rattle.cep_machine.specs.StepLaws.{StepLaws}
 use Rattle.cep_base.proofs.Elements.{both_all, all_at, all_of}
 use Rattle.cep_base.proofs.Lists.{none_some, some_same, holds_at, all_weaker}
 use Rattle.cep_machine.proofs.SizesOf.{IsBelow, instance_bounded}
-use Rattle.cep_machine.proofs.Premises.{kept_in}
 use Rattle.cep_machine.proofs.Ranges.{small_values}
 
 -- A rule with values that apply to a state.
@@ -46,7 +45,7 @@ pub record IsReady (program : Parts) (state : Multiset) (rule : Rule) (values : 
   pub next : IfSome rule.next (λ stage. stage < length program.stages)
   pub are : AreValues program.signature.cons rule.kinds values
   pub small_values : AllByRecursion IsSmallTerm values
-  pub contained : IsContained (needs_of rule values) state
+  pub contained : IsContained (left_of program.signature rule values) state
 
 same_some : {A : Type 0} (o : Option A) (x y : A) → o ≡ Some x → o ≡ Some y → x ≡ y
 same_some o x y e f = cc
@@ -79,7 +78,7 @@ ready laws program height state offer rule kept is_state applies numbered =
       next = holds_at (λ (r : Rule). IfSome r.next (λ stage. stage < length program.stages)) program.rules n rule kept.in_range.next_stages numbered;
       are = subst (λ (r : Rule). AreValues program.signature.cons r.kinds offer.values) same applies.values;
       small_values = laws.small program height state offer kept is_state applies;
-      contained = subst (λ (r : Rule). IsContained (needs_of r offer.values) state) same applies.contained;
+      contained = subst (λ (r : Rule). IsContained (left_of program.signature r offer.values) state) same applies.contained;
     }
 
 -- the stage after a step is one of the program's
@@ -87,17 +86,23 @@ pub stage_in_range : (stages stage : ℕ) (next : Option ℕ) → stage < stages
 stage_in_range stages stage None within next = within
 stage_in_range stages stage (Some other) within next = next
 
--- what holds of the instances of all premises holds of those that are kept
-all_kept : (P : AtomTree → Type 0) (values : List Tree) (premises : List PremiseTree) → AllByRecursion P (full_instances values (premise_atoms premises)) → AllByRecursion P (full_instances values (kept_in premises))
-all_kept P values [] all = tt
-all_kept P values (premise ∷ premises) all =
-    let rest = all_kept P values premises all.1 in
-    let others = filter (λ (other : PremiseTree). other.kept) premises in
-    elim premise.kept as (λ t. AllByRecursion P (full_instances values (premise_atoms (cond t (premise ∷ others) others)))) [ true ↦ (all.0, rest) | false ↦ rest ]
+-- what holds of the instances of all atoms holds of those of the linear ones
+all_linear : (P : AtomTree → Type 0) (signature : Signature) (values : List Tree) (atoms : List AtomTree) → AllByRecursion P (full_instances values atoms) → AllByRecursion P (full_instances values (without (is_fact signature) atoms))
+all_linear P signature values [] all = tt
+all_linear P signature values (a ∷ atoms) all =
+    let rest = all_linear P signature values atoms all.1 in
+    elim (not (is_fact signature a)) as (λ t. AllByRecursion P (full_instances values (cond t (a ∷ without (is_fact signature) atoms) (without (is_fact signature) atoms)))) [ true ↦ (all.0, rest) | false ↦ rest ]
 
-small_atoms : (premises : List PremiseTree) → AllByRecursion (λ premise. IsSmallPattern premise.atom) premises → AllByRecursion IsSmallPattern (premise_atoms premises)
-small_atoms [] small = tt
-small_atoms (premise ∷ premises) small = (small.0, (small_atoms premises small.1))
+-- what holds of the instances of all premises holds of those that pass a test
+all_passing : (P : AtomTree → Type 0) (test : PremiseTree → Bool) (values : List Tree) (premises : List PremiseTree) → AllByRecursion P (full_instances values (premise_atoms premises)) → AllByRecursion P (full_instances values (premise_atoms (filter test premises)))
+all_passing P test values [] all = tt
+all_passing P test values (premise ∷ premises) all =
+    let rest = all_passing P test values premises all.1 in
+    elim (test premise) as (λ t. AllByRecursion P (full_instances values (premise_atoms (cond t (premise ∷ filter test premises) (filter test premises))))) [ true ↦ (all.0, rest) | false ↦ rest ]
+
+few_pass : {A : Type 0} (test : A → Bool) (xs : List A) → length (filter test xs) ≤ length xs
+few_pass test [] = omega arith
+few_pass {A} test (x ∷ xs) = let rest = few_pass test xs in elim (test x) as (λ t. length {A = A} (cond t (x ∷ filter test xs) (filter test xs)) ≤ length (x ∷ xs)) [ true ↦ omega arith | false ↦ omega arith ]
 
 measurable_all : StepLaws → (signature : Signature) (kinds : List ℕ) (values : List Tree) → length values ≡ length kinds → AllByRecursion IsSmallValue values → (atoms : List AtomTree) → AllByRecursion (IsTyped signature kinds) atoms → AllByRecursion IsSmallPattern atoms → AllByRecursion (IsMeasurable values) atoms
 measurable_all laws signature kinds values many all [] typed small = tt
@@ -112,25 +117,10 @@ measurable_all laws signature kinds values many all (a ∷ atoms) typed small = 
   (measurable_all laws signature kinds values many all atoms typed.1 small.1),
 )
 
-right_state_atoms_of : (laws : StepLaws) (signature : Signature) (kinds : List ℕ) (values : List Tree) → AreValues signature.cons kinds values → (atoms : List AtomTree) → AllByRecursion (IsTyped signature kinds) atoms → AllByRecursion (IsLinear signature) atoms → AllByRecursion IsFit (full_instances values atoms) → AllByRecursion (IsStateAtom signature) (full_instances values atoms)
-right_state_atoms_of laws signature kinds values are [] typed linear fit = tt
-right_state_atoms_of laws signature kinds values are (a ∷ atoms) typed linear fit = (
-  (record {
-    ground = laws.types.ground signature kinds values a are typed.0;
-    typed = laws.types.typed signature kinds values a are typed.0;
-    linear = linear.0;
-    fit = fit.0;
-  }),
-  (right_state_atoms_of laws signature kinds values are atoms typed.1 linear.1 fit.1),
-)
-
 module _ (laws : StepLaws) (program : Parts) (state : Multiset) (rule : Rule) (values : List Tree) (is : IsReady program state rule values) (is_state : IsState program.signature state) (fits : Fits state) where
   needed_state_atoms : AllByRecursion (IsStateAtom program.signature) (full_instances values (needed_of rule))
   needed_state_atoms = all_of (IsStateAtom program.signature) (full_instances values (needed_of rule))
-      (λ a there.
-      let some = (laws.bags.gathered_there (full_instances values (needed_of rule)) a).1 there in
-      let most = is.contained a in
-      is_state.each a (omega arith))
+      (λ a there. is_state.each a (laws.there program.signature rule values state a is.contained there))
 
   needed_fit : AllByRecursion IsFit (full_instances values (needed_of rule))
   needed_fit = all_weaker (IsStateAtom program.signature) IsFit (full_instances values (needed_of rule)) (λ a (atom_is : IsStateAtom program.signature a). atom_is.fit) needed_state_atoms
@@ -149,51 +139,55 @@ module _ (laws : StepLaws) (program : Parts) (state : Multiset) (rule : Rule) (v
   right_in_range = all_weaker (IsTyped program.signature rule.kinds) (IsAtomInRange (length values)) rule.right
       (λ a typed. subst (λ n. IsAtomInRange n a) (sym many_values) (laws.types.in_range program.signature rule.kinds a typed)) is.typed.right
 
-  pub can_weigh : CanWeigh rule values state
+  added_fit : AllByRecursion IsFit (full_instances values rule.right) → AllByRecursion IsFit (added_by program.signature rule values)
+  added_fit fit =
+      subst (AllByRecursion IsFit) (sym (map-append (full_instance values) rule.right (without (is_fact program.signature) (kept_of program.signature rule))))
+      (both_all IsFit (full_instances values rule.right) (full_instances values (without (is_fact program.signature) (kept_of program.signature rule))) fit
+      (all_linear IsFit program.signature values (kept_of program.signature rule) (all_passing IsFit (λ premise. premise.kept || is_fact program.signature premise.atom) values rule.premises needed_fit)))
+
+  few_taken : length (taken_by program.signature rule values) ≤ MOST_PREMISES
+  few_taken =
+      let most = is.small.premises in
+      let many = length-map (without (is_fact program.signature) (needed_of rule)) (full_instance values) in
+      let few = few_pass (λ a. not (is_fact program.signature a)) (needed_of rule) in
+      let all = length-map rule.premises (λ premise. premise.atom) in
+      omega arith
+
+  few_added : length (added_by program.signature rule values) ≤ MOST_PREMISES + MOST_RIGHT
+  few_added =
+      let most = is.small.premises in
+      let most' = is.small.right in
+      let many = length-map (rule.right ++ without (is_fact program.signature) (kept_of program.signature rule)) (full_instance values) in
+      let both = length-append rule.right (without (is_fact program.signature) (kept_of program.signature rule)) in
+      let few = few_pass (λ a. not (is_fact program.signature a)) (kept_of program.signature rule) in
+      let kept = length-map (filter (λ premise. premise.kept || is_fact program.signature premise.atom) rule.premises) (λ premise. premise.atom) in
+      let few' = few_pass (λ (premise : PremiseTree). premise.kept || is_fact program.signature premise.atom) rule.premises in
+      omega arith
+
+  pub can_weigh : CanWeigh program.signature rule values state
   can_weigh = record {
     small_values = all_small;
-    premises = measurable_all laws program.signature rule.kinds values many_values all_small (needed_of rule) is.typed.premises (small_atoms rule.premises is.small.premise_nodes);
+    needed_in_range = needed_in_range;
+    right_in_range = right_in_range;
     right = measurable_all laws program.signature rule.kinds values many_values all_small rule.right is.typed.right is.small.right_nodes;
-    needed_fit = needed_fit;
-    few_premises = is.small.premises;
-    few_right = is.small.right;
+    taken_ground = laws.taken_ground program.signature rule values is.typed is.are;
+    taken_fit = all_linear IsFit program.signature values (needed_of rule) needed_fit;
+    added_ground = laws.added_ground program.signature rule values is.typed is.are;
+    added_fit = added_fit;
+    few_taken = few_taken;
+    few_added = few_added;
     bag = is_state.bag;
-    left_bag = laws.left_bag program.signature rule values is.typed is.are;
+    once = is_state.once;
     fits = fits;
-    contained = is.contained;
+    contained = laws.taken program.signature rule values state is.contained;
+    no_facts = laws.no_facts program.signature rule values;
   }
 
-  right_state_atoms : AllByRecursion IsFit (full_instances values rule.right) → AllByRecursion (IsStateAtom program.signature) (full_instances values rule.right)
-  right_state_atoms fit = right_state_atoms_of laws program.signature rule.kinds values is.are rule.right is.typed.right is.divided.right fit
+  pub next_state_leads : Step program.signature rule values state (next_state program.signature rule values state)
+  next_state_leads = laws.edit program.signature rule values state is.typed is.are is_state is.contained
 
-  added_state_atoms : AllByRecursion IsFit (full_instances values rule.right) → AllByRecursion (IsStateAtom program.signature) (added_by rule values)
-  added_state_atoms fit =
-      subst (AllByRecursion (IsStateAtom program.signature)) (sym (map-append (full_instance values) rule.right (kept_of rule)))
-      (both_all (IsStateAtom program.signature) (full_instances values rule.right) (full_instances values (kept_of rule)) (right_state_atoms fit) (all_kept (IsStateAtom program.signature) values rule.premises needed_state_atoms))
-
-  pub left_ground : AllByRecursion IsGroundAtom (full_instances values (needed_of rule))
-  left_ground = all_weaker (IsStateAtom program.signature) IsGroundAtom (full_instances values (needed_of rule)) (λ a (atom_is : IsStateAtom program.signature a). atom_is.ground) needed_state_atoms
-
-  pub added_ground : AllByRecursion IsFit (full_instances values rule.right) → AllByRecursion IsGroundAtom (added_by rule values)
-  added_ground fit = all_weaker (IsStateAtom program.signature) IsGroundAtom (added_by rule values) (λ a (atom_is : IsStateAtom program.signature a). atom_is.ground) (added_state_atoms fit)
-
-  pub few_left : length (full_instances values (needed_of rule)) ≡ length rule.premises
-  few_left = length-map (needed_of rule) (full_instance values) ∙ length-map rule.premises (λ premise. premise.atom)
-
-  pub next_state_atoms : AllByRecursion IsFit (full_instances values rule.right) → IsState program.signature (next_state rule values state)
-  next_state_atoms fit = record {
-    bag = laws.bags.sum_kept (difference_of state (needs_of rule values)) (gathered (added_by rule values))
-        (laws.bags.difference_kept state (needs_of rule values) is_state.bag (laws.left_bag program.signature rule values is.typed is.are))
-        (laws.bags.gathered_kept (added_by rule values) (added_ground fit));
-    each = λ a some. by a some (count_of state a) refl;
-  }
-    where
-      by : (a : AtomTree) → 0 < count_of (next_state rule values state) a → (n : ℕ) → count_of state a ≡ n → IsStateAtom program.signature a
-      by a some zero none =
-          let sum = laws.bags.sum (difference_of state (needs_of rule values)) (gathered (added_by rule values)) a in
-          let less = laws.bags.difference state (needs_of rule values) a in
-          all_at (IsStateAtom program.signature) (added_by rule values) a (added_state_atoms fit) ((laws.bags.gathered_there (added_by rule values) a).0 (omega arith))
-      by a some (suc n) is_there = is_state.each a (omega arith)
+  pub next_state_is : AllByRecursion IsFit (full_instances values rule.right) → IsState program.signature (next_state program.signature rule values state)
+  next_state_is fit = laws.lead program.signature rule values state (next_state program.signature rule values state) is.typed is.divided is.are is_state fit next_state_leads
 
 -- the rule and the values that are chosen are those of the offer at the place
 pub chosen_once : (program : Parts) (lists : List (List Offer)) (stage place : ℕ) (offers : List Offer) (offer : Offer) (rule : Rule) → offers ≡ asked_offers lists stage → slice_get offers place ≡ Some offer → slice_get program.rules offer.rule ≡ Some rule → (P : Rule → List Tree → Type 0) → P rule offer.values → (other : Rule) (values : List Tree) → IsAskedAt program lists stage place other values → P other values
@@ -203,9 +197,9 @@ chosen_once program lists stage place offers offer rule same is numbered P holds
     subst (λ (r : Rule). P r values) rules (subst (P rule) (ap (λ (o : Offer). o.values) one) holds)
 
 -- a limit that is told from sizes is passed by a step
-pub passes : (signature : Signature) (rule : Rule) (values : List Tree) (state : Multiset) (which : Which) (number : ℕ) → Step signature rule values state (next_state rule values state) → IsWeighed rule values state (TooMuch which number) → Passes signature rule values state which number
+pub passes : (signature : Signature) (rule : Rule) (values : List Tree) (state : Multiset) (which : Which) (number : ℕ) → Step signature rule values state (next_state signature rule values state) → IsWeighed signature rule values state (TooMuch which number) → Passes signature rule values state which number
 passes signature rule values state Atom number step weighed = weighed
-passes signature rule values state State number step weighed = (weighed.0, (next_state rule values state, step, weighed.1))
+passes signature rule values state State number step weighed = (weighed.0, (next_state signature rule values state, step, weighed.1))
 
 -- what holds of the group that is asked
 pub of_asked : (Q : ℕ → Type 0) (o : Option ℕ) (group : ℕ) → IfSome o Q → o ≡ Some group → Q group
@@ -216,38 +210,39 @@ pub ready_offer : StepLaws → (program parts : Parts) (height : ℕ) (held stat
 ready_offer laws program parts height held state lists group place offer rule is_state kept whole are same is numbered =
     ready laws program height state offer rule kept is_state (offer_applies program height held state lists group place offer are same is) (ap (λ (p : Parts). slice_get p.rules offer.rule) (sym whole) ∙ numbered)
 
-module _ (laws : StepLaws) (program : Parts) (state : Multiset) (rule : Rule) (values : List Tree) (is : IsReady program state rule values) (is_state : IsState program.signature state) (fits : Fits state) (nodes : ℕ) (weighed : IsWeighed rule values state (Within nodes)) where
+module _ (laws : StepLaws) (program : Parts) (state : Multiset) (rule : Rule) (values : List Tree) (is : IsReady program state rule values) (is_state : IsState program.signature state) (fits : Fits state) (nodes : ℕ) (weighed : IsWeighed program.signature rule values state (Within nodes)) where
   -- the change of a step that is within the limits can be made
-  pub can_change : IsProgram program → (stage : ℕ) → stage < length program.stages → (left added : List AtomTree) → left ≡ full_instances values (needed_of rule) → added ≡ added_by rule values → CanChange program state (record { stage = stage; nodes = nodes; left = left; added = added })
+  pub can_change : IsProgram program → (stage : ℕ) → stage < length program.stages → (left added : List AtomTree) → left ≡ taken_by program.signature rule values → added ≡ added_by program.signature rule values → CanChange program state (record { stage = stage; nodes = nodes; left = left; added = added })
   can_change kept stage within left added same_left same_added =
       subst (λ (atoms : List AtomTree). CanChange program state (record { stage = stage; nodes = nodes; left = atoms; added = added })) (sym same_left)
-      (subst (λ (atoms : List AtomTree). CanChange program state (record { stage = stage; nodes = nodes; left = full_instances values (needed_of rule); added = atoms })) (sym same_added)
+      (subst (λ (atoms : List AtomTree). CanChange program state (record { stage = stage; nodes = nodes; left = taken_by program.signature rule values; added = atoms })) (sym same_added)
       (record {
         stage = within;
         low = let most = kept.small.stages in omega arith;
-        left = left_ground laws program state rule values is is_state fits;
-        added = added_ground laws program state rule values is is_state fits weighed.0;
-        few = let many = few_left laws program state rule values is is_state fits in let most = is.small.premises in omega arith;
-        contained = is.contained;
-        is_state = next_state_atoms laws program state rule values is is_state fits weighed.0;
+        left = laws.taken_ground program.signature rule values is.typed is.are;
+        added = laws.added_ground program.signature rule values is.typed is.are;
+        few = few_taken laws program state rule values is is_state fits;
+        contained = laws.taken program.signature rule values state is.contained;
+        no_facts = laws.no_facts program.signature rule values;
+        is_state = next_state_is laws program state rule values is is_state fits weighed.0;
         fits = weighed.1;
         nodes = weighed.2;
       }))
 
   -- what the change leads to is the configuration after the step
-  pub is_next : {M : Type 0} (old new : Configuration M) (left added : List AtomTree) → old.state ≡ state → left ≡ full_instances values (needed_of rule) → added ≡ added_by rule values → new.state ≡ state_after program.signature old.state (gathered left) added → new.stage ≡ unwrap_or rule.next old.stage → new.turns ≡ old.turns + 1 → IsNext program rule values old new
+  pub is_next : {M : Type 0} (old new : Configuration M) (left added : List AtomTree) → old.state ≡ state → left ≡ taken_by program.signature rule values → added ≡ added_by program.signature rule values → new.state ≡ state_after program.signature old.state (gathered left) added → new.stage ≡ unwrap_or rule.next old.stage → new.turns ≡ old.turns + 1 → IsNext program rule values old new
   is_next old new left added same same_left same_added after stage turns =
-      let state' : new.state ≡ next_state rule values state =
+      let state' : new.state ≡ next_state program.signature rule values state =
       after
       ∙ ap (λ (bag : Multiset). state_after program.signature bag (gathered left) added) same
       ∙ ap (λ (atoms : List AtomTree). state_after program.signature state (gathered atoms) added) same_left
-      ∙ ap (λ (atoms : List AtomTree). state_after program.signature state (needs_of rule values) atoms) same_added in
+      ∙ ap (λ (atoms : List AtomTree). state_after program.signature state (gathered (taken_by program.signature rule values)) atoms) same_added in
       record {
         steps = record {
           fit = weighed.0;
           step =
               subst (λ (bag : Multiset). Step program.signature rule values bag new.state) (sym same)
-              (subst (λ (bag : Multiset). Step program.signature rule values state bag) (sym state') (laws.edit program.signature rule values state is.typed is.are is_state.bag is.contained));
+              (subst (λ (bag : Multiset). Step program.signature rule values state bag) (sym state') (next_state_leads laws program state rule values is is_state fits));
           fits = subst Fits (sym state') weighed.1;
           stage = stage;
         };

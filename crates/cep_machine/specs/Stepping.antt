@@ -1,12 +1,12 @@
 -- What a step of a configuration comes to.
-use Rattle.std.specs.Prelude.{◌≡◌, ℕ, ◌+◌, List, ◌++◌, Some, slice_get}
+use Rattle.std.specs.Prelude.{◌≡◌, ℕ, ◌+◌, List, Some, slice_get}
 use Rattle.cep_term.specs.Tree.{Tree, AtomTree}
 use Rattle.cep_term.specs.Multiset.{Multiset}
 use Rattle.cep_rule.specs.declared.signature.Signature.{Signature}
 use Rattle.cep_rule.specs.declared.rule.Rule.{Rule}
 use Rattle.cep_rule.specs.declared.parts.Parts.{Parts}
 use Rattle.cep_rule.specs.declared.offer.Offer.{Offer}
-use Rattle.cep_rule.specs.Instances.{full_instances, kept_of}
+use Rattle.cep_rule.specs.Instances.{full_instances}
 use Rattle.cep_rule.specs.Step.{Step}
 use Rattle.cep_rule.specs.Steps.{MakesFit, StepsTo}
 use Rattle.cep_rule.specs.Matching.{RoseBy}
@@ -23,10 +23,6 @@ pub record IsAskedAt (program : Parts) (lists : List (List Offer)) (stage place 
   pub number : ℕ
   pub offered : slice_get (asked_offers lists stage) place ≡ Some (record { rule = number; values = values })
   pub numbered : slice_get program.rules number ≡ Some rule
-
--- the atoms that a step adds: the right ones in written order, and then those of the premises that are kept
-abbrev pub added_by : Rule → List Tree → List AtomTree
-added_by rule values = full_instances values (rule.right ++ kept_of rule)
 
 -- The configuration after a step: the step leads to where it stands, and one more turn is done.
 pub record IsNext {M : Type 0} (program : Parts) (rule : Rule) (values : List Tree) (old new : Configuration M) : Type 0 where

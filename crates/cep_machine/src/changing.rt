@@ -7,7 +7,8 @@ ghost use Rattle.cep_machine.specs.Changing.{CanChange};
 
 use crate::config::Config;
 use cep_base::Steps;
-use cep_rule::{AtomList, Matcher, Program};
+use cep_rule::laws::edits_gain;
+use cep_rule::{AtomList, Matcher, Program, gained};
 use cep_term::Bag;
 use cep_term::laws::bags_are_lawful;
 use std::alloc::{AllocError, Global};
@@ -44,6 +45,7 @@ impl<M: Matcher> Config<M> {
         ensures never_falls { steps.old ≤ steps.new }
     {
         bags_are_lawful();
+        edits_gain();
         let Config {
             stage: _,
             mut state,
@@ -53,7 +55,8 @@ impl<M: Matcher> Config<M> {
         } = self;
         let taken = Bag::of(alloc, &change.left)?;
         state.take_all(&taken);
-        state.add_all(&change.added)?;
+        let gains = gained(alloc, &program.parts().signature, &state, &change.added)?;
+        state.add_all(&gains)?;
         let matcher = matcher.edit(alloc, program, &taken, &change.added, steps)?;
         Ok(Config {
             stage: change.stage,

@@ -1,10 +1,14 @@
 // The laws that the proofs of this crate rest on, gathered. The function computes nothing.
 ghost use Rattle.cep_machine.specs.StepLaws.{StepLaws};
 
-use cep_rule::laws::{edits_are_steps, sides_are_bags, types_are_lawful, values_are_small};
+use cep_rule::laws::{
+    edits_are_steps, sides_are_bags, steps_lead_to_states, types_are_lawful, values_are_small,
+    what_is_needed_is_there,
+};
 use cep_term::laws::bags_are_lawful;
 
-// What instances of rules are, that values of those that apply are small, and that edits are steps.
+// What instances of rules are, that values of those that apply are small, that edits are steps,
+// and that steps lead to states.
 pub(crate) fn steps_are_lawful()
     ensures { StepLaws }
 {
@@ -13,4 +17,6 @@ pub(crate) fn steps_are_lawful()
     values_are_small();
     sides_are_bags();
     edits_are_steps();
+    steps_lead_to_states();
+    what_is_needed_is_there();
 }

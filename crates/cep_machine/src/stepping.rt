@@ -1,17 +1,18 @@
 ghost use Rattle.std.specs.Prelude.{◌≡◌, ◌<◌, ◌≤◌, List, length, IfOk};
 ghost use Rattle.cep_base.specs.declared.limits.TheConstants.{MOST_TURNS};
 ghost use Rattle.cep_term.specs.Tree.{Tree};
+ghost use Rattle.cep_term.specs.Multiset.{gathered};
 ghost use Rattle.cep_rule.specs.declared.rule.Rule.{Rule};
-ghost use Rattle.cep_rule.specs.Instances.{left_of};
+ghost use Rattle.cep_rule.specs.Instances.{taken_by, added_by};
 ghost use Rattle.cep_rule.specs.Matching.{RoseBy};
 ghost use Rattle.cep_machine.specs.Configuration.{IsConfigurationOf};
 ghost use Rattle.cep_machine.specs.Asking.{asked_offers};
-ghost use Rattle.cep_machine.specs.Stepping.{IsAskedAt, IsStepped, config_after, added_by, RoseIfDone};
+ghost use Rattle.cep_machine.specs.Stepping.{IsAskedAt, IsStepped, config_after, RoseIfDone};
 
 use crate::changing::Change;
 use crate::config::Config;
 use crate::laws::steps_are_lawful;
-use crate::sides::{added_atoms, left_atoms};
+use crate::sides::{added_atoms, taken_atoms};
 use crate::stepped::Stepped;
 use crate::weighing::{Weighed, weigh};
 use cep_base::Steps;
@@ -22,8 +23,8 @@ use std::sync::ledger::Ledger;
 impl<M: Matcher> Config<M> {
     /// Does a step by the offer at this place of the group that is asked, counted from 0, or says which
     /// limit it would pass. A step is Ceptre's; the limits are this profile's. Fewer than 1,000,000
-    /// turns may be done before. The matcher is told of all premises as taken, kept ones included, and
-    /// as added of the right atoms in written order and then of the premises that are kept. Only want
+    /// turns may be done before. The matcher is told of all linear premises as taken, kept ones included,
+    /// and as added of the right atoms in written order and then of the linear premises that are kept. Only want
     /// of memory is refused, and then the configuration is gone.
     pub fn step<L: Ledger>(
         self,
@@ -40,7 +41,7 @@ impl<M: Matcher> Config<M> {
             → IfOk result (IsStepped program.now rule values self) }
         ensures ticked { (rule : Rule) (values : List Tree)
             → IsAskedAt program.now (M.offers_held self.matcher) self.stage i rule values
-            → IfOk result (λ stepped. RoseIfDone (M.may_edit program.now self.state (M.height_held self.matcher) (left_of program.now.signature rule values) (added_by rule values)) stepped steps.old steps.new) }
+            → IfOk result (λ stepped. RoseIfDone (M.may_edit program.now self.state (M.height_held self.matcher) (gathered (taken_by program.now.signature rule values)) (added_by program.now.signature rule values)) stepped steps.old steps.new) }
         ensures of_program { IfOk result (λ stepped. IsConfigurationOf M.is_of program.now (config_after stepped)) }
         ensures same_height { IfOk result (λ stepped. M.height_held (config_after stepped).matcher ≡ M.height_held self.matcher) }
         ensures never_falls { steps.old ≤ steps.new }
@@ -48,8 +49,17 @@ impl<M: Matcher> Config<M> {
         steps_are_lawful();
         let group = self.asked().unwrap();
         let offer = self.matcher.offer(group, i);
-        let rule = program.parts().rules.get(offer.rule as usize);
-        match weigh(alloc, rule, &offer.values, &self.state, self.nodes)? {
+        let parts = program.parts();
+        let rule = parts.rules.get(offer.rule as usize);
+        let signature = &parts.signature;
+        match weigh(
+            alloc,
+            signature,
+            rule,
+            &offer.values,
+            &self.state,
+            self.nodes,
+        )? {
             Weighed::TooMuch(which, number) => Ok(Stepped::Limit {
                 config: self,
                 which,
@@ -59,8 +69,8 @@ impl<M: Matcher> Config<M> {
                 let change = Change {
                     stage: rule.next.unwrap_or(self.stage),
                     nodes,
-                    left: left_atoms(alloc, rule, &offer.values)?,
-                    added: added_atoms(alloc, rule, &offer.values)?,
+                    left: taken_atoms(alloc, signature, rule, &offer.values)?,
+                    added: added_atoms(alloc, signature, rule, &offer.values)?,
                 };
                 Ok(Stepped::Done(self.changed(alloc, program, &change, steps)?))
             }

@@ -1,20 +1,22 @@
 // What a step would pass, known before any of its atoms is built.
-ghost use Rattle.std.specs.Prelude.{◌≡◌, ◌*◌, ◌≤◌, length, sum_by, IfOk, MatchOption};
+ghost use Rattle.std.specs.Prelude.{◌≡◌, ◌+◌, ◌*◌, ◌≤◌, length, sum_by, IfOk, MatchOption};
 ghost use Rattle.cep_base.specs.declared.limits.TheConstants.{MOST_NODES, MOST_PREMISES, MOST_RIGHT};
 ghost use Rattle.std.specs.List.{AllByRecursion};
 ghost use Rattle.cep_term.specs.Tree.{atom_nodes, IsFit};
-ghost use Rattle.cep_term.specs.Multiset.{nodes_in_all};
+ghost use Rattle.cep_term.specs.Multiset.{gathered, sum_of, difference_of, nodes_in_all};
 ghost use Rattle.cep_rule.specs.Instances.{full_instances};
 ghost use Rattle.cep_machine.specs.Passing.{IsFirstTooLarge};
 ghost use Rattle.cep_machine.specs.Sizes.{IsMeasurable};
-ghost use Rattle.cep_machine.specs.Weighing.{used_of, premise_atoms, CanWeigh, IsWeighed};
+ghost use Rattle.cep_machine.specs.Weighing.{CanWeigh, IsWeighed, CanEdit, IsEditWeighed};
 
 use crate::measured::Measured;
+use crate::sides::{added_atoms, taken_atoms};
 use crate::stepped::Which;
 use cep_base::limits::{MOST_COPIES, MOST_STATE_NODES};
-use cep_rule::{AtomList, Premises, Rule, Terms};
-use cep_term::Bag;
+use cep_rule::laws::edits_gain;
+use cep_rule::{AtomList, Rule, Signature, Terms, gained};
 use cep_term::laws::bags_are_lawful;
+use cep_term::{Bag, nodes};
 use std::alloc::{AllocError, Global};
 
 // What a step comes to: a limit that it would pass, with the number that passes it, or how many nodes
@@ -28,32 +30,37 @@ pub(crate) enum Weighed {
 // Weighs a step by the rule with these values, where the state has so many nodes.
 pub(crate) fn weigh(
     alloc: Global,
+    signature: &Signature,
     rule: &Rule,
     values: &Terms,
     state: &Bag,
     nodes: u64,
 ) -> Result<Weighed, AllocError>
-    requires can { CanWeigh rule.now values.now state.now }
+    requires can { CanWeigh signature.now rule.now values.now state.now }
     requires nodes { nodes ≡ nodes_in_all state.now }
-    ensures { IfOk result (IsWeighed rule.now values.now state.now) }
+    ensures { IfOk result (IsWeighed signature.now rule.now values.now state.now) }
 {
+    bags_are_lawful();
+    edits_gain();
     let measured = Measured::new(alloc, values)?;
     if let Some(number) = first_too_large(&rule.right, &measured) {
         return Ok(Weighed::TooMuch(Which::Atom, number));
     }
-    Ok(weigh_state(rule, &measured, state, nodes))
+    let taken = taken_atoms(alloc, signature, rule, values)?;
+    let added = added_atoms(alloc, signature, rule, values)?;
+    let gains = gained(alloc, signature, state, &added)?;
+    Ok(weigh_edit(state, nodes, &taken, &gains))
 }
 
-// Weighs the state after a step whose right atoms are all fit.
-fn weigh_state(rule: &Rule, measured: &Measured, state: &Bag, nodes: u64) -> Weighed
-    requires can { CanWeigh rule.now measured.now.values.now state.now }
-    requires fit { AllByRecursion IsFit (full_instances measured.now.values.now rule.now.right) }
+// Weighs an edit that takes some atoms from the state and adds those that it gains.
+fn weigh_edit(state: &Bag, nodes: u64, taken: &AtomList, gains: &AtomList) -> Weighed
+    requires can { CanEdit state.now taken.now gains.now }
     requires nodes { nodes ≡ nodes_in_all state.now }
-    ensures { IsWeighed rule.now measured.now.values.now state.now result }
+    ensures { IsEditWeighed (sum_of (difference_of state.now (gathered taken.now)) (gathered gains.now)) result }
 {
     bags_are_lawful();
-    let copies = state.copies() + rule.right.len() as u64 - used_count(&rule.premises);
-    let nodes = nodes + nodes_made(&rule.right, measured) - nodes_used(&rule.premises, measured);
+    let copies = state.copies() - taken.len() as u64 + gains.len() as u64;
+    let nodes = nodes - nodes_in(taken) + nodes_in(gains);
     if copies > MOST_COPIES {
         Weighed::TooMuch(Which::State, copies)
     } else if nodes > MOST_STATE_NODES {
@@ -61,6 +68,20 @@ fn weigh_state(rule: &Rule, measured: &Measured, state: &Bag, nodes: u64) -> Wei
     } else {
         Weighed::Within(nodes)
     }
+}
+
+// How many nodes these atoms have, which are all fit.
+fn nodes_in(atoms: &AtomList) -> u64
+    requires fit { AllByRecursion IsFit atoms.now }
+    requires few { length atoms.now ≤ MOST_PREMISES + MOST_RIGHT }
+    ensures nodes { result ≡ sum_by atom_nodes atoms.now }
+    ensures few { result ≤ (MOST_PREMISES + MOST_RIGHT) * MOST_NODES }
+{
+    let mut sum = 0;
+    for i in 0..atoms.len() {
+        sum += nodes(atoms.get(i));
+    }
+    sum
 }
 
 // The number by which the first of these atoms whose instance is not fit is too large.
@@ -74,50 +95,4 @@ pub(crate) fn first_too_large(right: &AtomList, measured: &Measured) -> Option<u
         }
     }
     None
-}
-
-// How many nodes the instances of these atoms have, which are all fit.
-fn nodes_made(right: &AtomList, measured: &Measured) -> u64
-    requires measurable { AllByRecursion (IsMeasurable measured.now.values.now) right.now }
-    requires fit { AllByRecursion IsFit (full_instances measured.now.values.now right.now) }
-    requires few { length right.now ≤ MOST_RIGHT }
-    ensures nodes { result ≡ sum_by atom_nodes (full_instances measured.now.values.now right.now) }
-    ensures few { result ≤ MOST_RIGHT * MOST_NODES }
-{
-    let mut nodes = 0;
-    for i in 0..right.len() {
-        nodes += measured.size(right.get(i)).nodes;
-    }
-    nodes
-}
-
-// How many premises are not kept.
-fn used_count(premises: &Premises) -> u64
-    requires { length premises.now ≤ MOST_PREMISES }
-    ensures { result ≡ length (used_of premises.now) }
-{
-    let mut count = 0;
-    for i in 0..premises.len() {
-        if !premises.get(i).kept {
-            count += 1;
-        }
-    }
-    count
-}
-
-// How many nodes the instances of the premises have that are not kept, which are all fit.
-fn nodes_used(premises: &Premises, measured: &Measured) -> u64
-    requires measurable { AllByRecursion (IsMeasurable measured.now.values.now) (premise_atoms premises.now) }
-    requires fit { AllByRecursion IsFit (full_instances measured.now.values.now (premise_atoms premises.now)) }
-    requires few { length premises.now ≤ MOST_PREMISES }
-    ensures { result ≡ sum_by atom_nodes (full_instances measured.now.values.now (used_of premises.now)) }
-{
-    let mut nodes = 0;
-    for i in 0..premises.len() {
-        let premise = premises.get(i);
-        if !premise.kept {
-            nodes += measured.size(&premise.atom).nodes;
-        }
-    }
-    nodes
 }

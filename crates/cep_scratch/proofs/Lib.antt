@@ -15,3 +15,4 @@ pub mod Rising
 pub mod OffersThere
 pub mod FirstOffers
 pub mod Sides
+pub mod Edited

@@ -4,4 +4,4 @@ use Rattle.cep_check.proofs.Parted.{used_among}
 use Rattle.cep_check.proofs.edit.used_atoms.Given as goal
 
 abbrev pub invariant-loop-i : goal.invariant-loop-i
-invariant-loop-i l = l.atoms ≡ full_instances l.values (used_among (take l.i l.rule.premises))
+invariant-loop-i l = l.atoms ≡ full_instances l.values (used_among l.signature (take l.i l.rule.premises))

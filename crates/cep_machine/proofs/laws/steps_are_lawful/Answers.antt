@@ -5,6 +5,11 @@ returns c = record {
   bags = c.bags_are_lawful.ensures;
   types = c.types_are_lawful.ensures;
   small = c.values_are_small.ensures.offers;
-  left_bag = c.sides_are_bags.ensures.left;
-  edit = c.edits_are_steps.ensures;
+  taken_ground = c.sides_are_bags.ensures.taken;
+  added_ground = c.sides_are_bags.ensures.added;
+  there = c.what_is_needed_is_there.ensures.needed;
+  taken = c.what_is_needed_is_there.ensures.taken;
+  no_facts = c.what_is_needed_is_there.ensures.no_facts;
+  edit = c.edits_are_steps.ensures.whole;
+  lead = c.steps_lead_to_states.ensures;
 }

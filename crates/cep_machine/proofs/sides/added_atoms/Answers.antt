@@ -1,6 +1,8 @@
 use Rattle.std.proofs.Common.{List, [], ◌∷◌, ◌++◌, length, sym, ap, ◌∙◌, arith}
 use Rattle.std.proofs.lemmas.List.{map-append}
 use Rattle.cep_term.specs.Tree.{AtomTree, IsAtomInRange, atom_of}
+use Rattle.cep_term.specs.Multiset.{without}
+use Rattle.cep_rule.specs.Typing.{is_fact}
 use Rattle.cep_rule.specs.Instances.{full_instance, full_instances, kept_of}
 use Rattle.cep_base.proofs.Lists.{holds_at}
 use Rattle.cep_machine.proofs.Premises.{next_instances, all_instances}
@@ -20,5 +22,5 @@ returns c =
     let rule = c.args.rule.now in
     let values = c.args.values.now in
     c.in_ok-push_kept.ensures
-    ∙ ap (λ (atoms : List AtomTree). atoms ++ full_instances values (kept_of rule)) (c.loop-i.invariant ∙ all_instances values rule.right c.loop-i.i (omega arith))
-    ∙ sym (map-append (full_instance values) rule.right (kept_of rule))
+    ∙ ap (λ (atoms : List AtomTree). atoms ++ full_instances values (without (is_fact c.args.signature.now) (kept_of c.args.signature.now rule))) (c.loop-i.invariant ∙ all_instances values rule.right c.loop-i.i (omega arith))
+    ∙ sym (map-append (full_instance values) rule.right (without (is_fact c.args.signature.now) (kept_of c.args.signature.now rule)))

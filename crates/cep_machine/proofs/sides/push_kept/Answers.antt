@@ -1,11 +1,13 @@
-use Rattle.std.proofs.Common.{List, ◌++◌, length, sym, ap, ◌∙◌, arith}
+use Rattle.std.proofs.Common.{List, ◌++◌, ◌&&◌, not, length, sym, ap, ◌∙◌, arith}
 use Rattle.std.proofs.lemmas.List.{take_all}
 use Rattle.cep_term.specs.Tree.{IsAtomInRange}
 use Rattle.cep_rule.specs.Patterns.{PremiseTree, premise_of}
+use Rattle.cep_rule.specs.Typing.{is_fact}
 use Rattle.cep_rule.specs.Instances.{full_instances}
+use Rattle.cep_machine.specs.Weighing.{linear_kept_among}
 use Rattle.cep_base.proofs.Lists.{holds_at_mapped}
-use Rattle.cep_machine.proofs.Premises.{kept_in, nothing_more, push_kept_next, push_kept_same}
-use Rattle.cep_machine.proofs.sides.push_kept.Goals.{then-premise+in_ok-push_instance, else-premise}
+use Rattle.cep_machine.proofs.Premises.{nothing_more, linear_kept_next, pushed_behind, not_pushed_behind}
+use Rattle.cep_machine.proofs.sides.push_kept.Goals.{then-is_linear_kept+in_ok-push_instance, else-is_linear_kept}
 use Rattle.cep_machine.proofs.sides.push_kept.Goals as goal
 
 pub loop-i-init : goal.loop-i-init
@@ -18,14 +20,15 @@ push_instance-requires c =
 pub loop-i-preserved : goal.loop-i-preserved
 loop-i-preserved c =
     let values = c.args.values.now in
-    let premises = c.args.rule.now.premises in
+    let signature = c.args.signature.now in
     let premise = premise_of c.get-premise.result.now in
-    elim c.if-premise.branch [
-      | then-premise+in_ok-push_instance w ↦ push_kept_next values premises c.loop-i.i premise c.args.atoms.now c.loop-i.atoms c.if-premise.atoms c.loop-i.invariant c.get-premise.ensures w.if-premise.true (w.atoms-is ∙ w.in_ok-push_instance.ensures)
-      | else-premise w ↦ push_kept_same values premises c.loop-i.i premise c.args.atoms.now c.loop-i.atoms c.if-premise.atoms c.loop-i.invariant c.get-premise.ensures w.if-premise.false w.atoms-is
+    let longer = linear_kept_next signature c.args.rule.now.premises c.loop-i.i premise c.get-premise.ensures in
+    elim c.if-is_linear_kept.branch [
+      | then-is_linear_kept+in_ok-push_instance w ↦ pushed_behind values (premise.kept && not (is_fact signature premise.atom)) premise.atom c.args.atoms.now _ _ c.loop-i.atoms c.if-is_linear_kept.atoms longer c.loop-i.invariant (sym c.is_linear_kept.ensures ∙ w.if-is_linear_kept.true) (w.atoms-is ∙ w.in_ok-push_instance.ensures)
+      | else-is_linear_kept w ↦ not_pushed_behind values (premise.kept && not (is_fact signature premise.atom)) premise.atom c.args.atoms.now _ _ c.loop-i.atoms c.if-is_linear_kept.atoms longer c.loop-i.invariant (sym c.is_linear_kept.ensures ∙ w.if-is_linear_kept.false) w.atoms-is
     ]
 
 pub returns : goal.returns
 returns c =
     c.loop-i.invariant
-    ∙ ap (λ (premises : List PremiseTree). c.args.atoms.now ++ full_instances c.args.values.now (kept_in premises)) (take_all c.loop-i.i c.args.rule.now.premises (omega arith))
+    ∙ ap (λ (premises : List PremiseTree). c.args.atoms.now ++ full_instances c.args.values.now (linear_kept_among c.args.signature.now premises)) (take_all c.loop-i.i c.args.rule.now.premises (omega arith))
