@@ -1,11 +1,13 @@
 -- What a text declares: the parts of a program, each from what is written.
-use Rattle.std.specs.Prelude.{◌≡◌, ℕ, ◌+◌, ◌*◌, Bool, false, not, List, [], ◌∷◌, Option, Some, None, map, filter, unwrap_or, slice_get}
+use Rattle.std.specs.Prelude.{◌≡◌, ℕ, ◌+◌, ◌*◌, Bool, true, false, not, List, [], ◌∷◌, Option, Some, None, map, filter, unwrap_or, slice_get}
 use Rattle.std.specs.Option.{option_map, option_and_then}
 use Rattle.std.specs.List.{flat_map}
 use Rattle.cep_parse.specs.declared.raw.Span.{Span}
 use Rattle.cep_parse.specs.declared.raw.RawAtom.{RawAtom}
 use Rattle.cep_parse.specs.declared.raw.RawElem.{RawElem}
 use Rattle.cep_parse.specs.declared.raw.RawElem.TheVariants as elem
+use Rattle.cep_base.specs.declared.kind.PredKind.{PredKind}
+use Rattle.cep_base.specs.declared.kind.PredKind.TheVariants.{Linear, Back}
 use Rattle.cep_term.specs.Tree.{AtomTree}
 use Rattle.cep_term.specs.Multiset.{Multiset, gathered}
 use Rattle.cep_rule.specs.declared.signature.Con.{Con}
@@ -26,12 +28,17 @@ use Rattle.cep_types.specs.Sites.{type_of, rule_scope, clause_scope}
 use Rattle.cep_types.specs.Heads.{number_of, sorts_said, blanks_after}
 use Rattle.cep_infer.specs.Heads.{IsAtomBy, AreAtomsBy}
 
+-- the kind of a predicate, by whether it is declared to be backward; no text declares one of facts yet
+abbrev pub kind_by : Bool → PredKind
+kind_by true = Back
+kind_by false = Linear
+
 -- a constructor and a predicate
 abbrev pub con_by : Source → ConItem → Con
 con_by source con = record { name = said source con.name; sort = number_of source space.Sorts (said source con.sort); args = sorts_said source con.args }
 
 abbrev pub pred_by : Source → PredItem → PredDecl
-pred_by source pred = record { name = said source pred.name; back = pred.back; args = sorts_said source pred.args }
+pred_by source pred = record { name = said source pred.name; kind = kind_by pred.back; args = sorts_said source pred.args }
 
 -- what is declared of terms and atoms
 abbrev pub signature_of : Source → Signature

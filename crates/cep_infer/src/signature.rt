@@ -3,9 +3,9 @@ ghost use Rattle.std.specs.Prelude.{◌≡◌, ◌++◌, ◌||◌, List, ℕ, ma
 ghost use Rattle.cep_names.specs.Items.{said, sorts_in, sorts_of, stages_in, stages_of, interactives_in, is_said, cons_of, preds_of};
 ghost use Rattle.cep_types.specs.Kept.{con_item, pred_item};
 ghost use Rattle.cep_types.specs.Met.{is_met, AreInteractive};
-ghost use Rattle.cep_infer.specs.Meaning.{con_by, pred_by, signature_of, stage_by};
+ghost use Rattle.cep_infer.specs.Meaning.{kind_by, con_by, pred_by, signature_of, stage_by};
 
-use cep_base::Name;
+use cep_base::{Name, PredKind};
 use cep_names::Space;
 use cep_parse::{RawItem, Span};
 use cep_rule::{Con, Cons, Names, PredDecl, Preds, Signature, Stage, Stages};
@@ -81,12 +81,23 @@ fn con_decls(declared: &Declarations) -> Result<Cons, AllocError>
     Ok(cons)
 }
 
+// The kind of a predicate: `bwd` declares backward ones, and `pred` linear ones.
+fn pred_kind(back: bool) -> PredKind
+    ensures { result ≡ kind_by back }
+{
+    if back {
+        PredKind::Back
+    } else {
+        PredKind::Linear
+    }
+}
+
 fn pred_decl(declared: &Declarations, pred: &RawPred) -> Result<PredDecl, AllocError>
     ensures { IfOk result (λ decl. decl ≡ pred_by declared.now (pred_item pred.now)) }
 {
     Ok(PredDecl {
         name: name(declared, pred.name)?,
-        back: pred.back,
+        kind: pred_kind(pred.back),
         args: declared.kinds(pred.args)?,
     })
 }
