@@ -11,11 +11,12 @@ use Rattle.cep_parse.specs.declared.raw.RawNode.{RawNode}
 use Rattle.cep_parse.specs.declared.raw.RawAtom.{RawAtom}
 use Rattle.cep_parse.specs.declared.raw.RawElem.{RawElem}
 use Rattle.cep_parse.specs.declared.raw.RawElem.TheVariants as elem
+use Rattle.cep_base.specs.Kinds.{is_backward}
 use Rattle.cep_term.specs.Tree.{AtomTree, atom_nodes}
 use Rattle.cep_rule.specs.declared.signature.PredDecl.{PredDecl}
 use Rattle.cep_rule.specs.declared.rule.Rule.{Rule}
 use Rattle.cep_rule.specs.Patterns.{PremiseTree, ClauseTree}
-use Rattle.cep_rule.specs.Typing.{IsTyped, IsLinear, IsBackward}
+use Rattle.cep_rule.specs.Typing.{IsTyped, IsOfState, IsBackward, is_fact}
 use Rattle.cep_rule.specs.Binding.{needed_of}
 use Rattle.cep_rule.specs.Program.{IsTypedRule, IsDividedRule, IsTypedClause, IsDividedClause}
 use Rattle.cep_refusal.specs.declared.reason.Reason.TheVariants.{BwdInState, LinearInClause}
@@ -33,10 +34,11 @@ use Rattle.cep_names.specs.Misnamed.Misnamed.{backward_in_state, linear_in_claus
 use Rattle.cep_types.specs.Sites.{sites_of, wanted_from, type_of, rule_scope, clause_scope}
 use Rattle.cep_types.specs.Heads.{number_of, heads_from, blanks_after}
 use Rattle.cep_infer.specs.Heads.{IsAtomBy, AreAtomsBy}
-use Rattle.cep_infer.specs.Meaning.{pred_by, signature_of, names_of, kinds_of, is_back, ArePremisesBy, IsRuleBy, IsClauseBy}
+use Rattle.cep_infer.specs.Meaning.{kind_by, pred_by, signature_of, names_of, kinds_of, is_back, ArePremisesBy, IsRuleBy, IsClauseBy}
 use Rattle.cep_ground.specs.Texts.{IsClean}
-use Rattle.cep_base.proofs.Elements.{contains_first, contains_behind, contains_left, contains_right}
+use Rattle.cep_base.proofs.Elements.{contains_first, contains_behind, contains_left, contains_right, all_of}
 use Rattle.cep_ground.proofs.Known.{pred_known}
+use Rattle.cep_ground.proofs.NoFacts.{backward_by, never_a_fact}
 use Rattle.cep_ground.proofs.Located.{located}
 use Rattle.cep_ground.proofs.Limits.{all_filter, all_map, all_pass}
 use Rattle.cep_ground.proofs.HeadLaws.{terms_nodes}
@@ -120,17 +122,17 @@ module _ (source : Source) (clean : IsClean source) (atoms_made : AtomsMade sour
     judged_atoms vars (blanks_after blanks raw.nodes) raws list (λ other there. here other (contains_behind raw raws other there)) by.1,
   )
 
-  linear_is : (atom : AtomTree) (j : IsJudged atom) → is_back source atom ≡ false → IsLinear (signature_of source) atom
-  linear_is atom j linear =
+  of_state : (atom : AtomTree) (j : IsJudged atom) → is_back source atom ≡ false → IsOfState (signature_of source) atom
+  of_state atom j linear =
       let is = j.of_pred in
-      let e : is.pred.back ≡ false = is.back_is ∙ sym is.judged ∙ linear in
-      subst (λ f. IsSomeAnd f (λ (pred : PredDecl). pred.back ≡ false)) (sym is.found) e
+      let e : is_backward (kind_by is.pred.back) ≡ false = backward_by is.pred.back ∙ is.back_is ∙ sym is.judged ∙ linear in
+      subst (λ f. IsSomeAnd f (λ (pred : PredDecl). is_backward pred.kind ≡ false)) (sym is.found) e
 
   backward_is : (atom : AtomTree) (j : IsJudged atom) → is_back source atom ≡ true → IsBackward (signature_of source) atom
   backward_is atom j yes_ =
       let is = j.of_pred in
-      let e : is.pred.back ≡ true = is.back_is ∙ sym is.judged ∙ yes_ in
-      subst (λ f. IsSomeAnd f (λ (pred : PredDecl). pred.back ≡ true)) (sym is.found) e
+      let e : is_backward (kind_by is.pred.back) ≡ true = backward_by is.pred.back ∙ is.back_is ∙ sym is.judged ∙ yes_ in
+      subst (λ f. IsSomeAnd f (λ (pred : PredDecl). is_backward pred.kind ≡ true)) (sym is.found) e
 
   -- the linear premises of those that are judged
   pub linear_part : (P : AtomTree → Type 0) (list : List PremiseTree) → AllByRecursion (λ p. P p.atom) list → AllByRecursion P (map (λ p. p.atom) (filter (λ p. not (is_back source p.atom)) list))
@@ -139,11 +141,11 @@ module _ (source : Source) (clean : IsClean source) (atoms_made : AtomsMade sour
   pub back_part : (P : AtomTree → Type 0) (list : List PremiseTree) → AllByRecursion (λ p. P p.atom) list → AllByRecursion P (map (λ p. p.atom) (filter (λ p. is_back source p.atom) list))
   back_part P list all = all_map P (λ (p : PremiseTree). p.atom) (filter (λ p. is_back source p.atom) list) (all_filter (λ (p : PremiseTree). P p.atom) (λ p. is_back source p.atom) list all)
 
-  pub divided_premises : (list : List PremiseTree) → AllByRecursion (λ p. IsJudged p.atom) list → AllByRecursion (IsLinear (signature_of source)) (map (λ p. p.atom) (filter (λ p. not (is_back source p.atom)) list))
+  pub divided_premises : (list : List PremiseTree) → AllByRecursion (λ p. IsJudged p.atom) list → AllByRecursion (IsOfState (signature_of source)) (map (λ p. p.atom) (filter (λ p. not (is_back source p.atom)) list))
   divided_premises list all =
       let some = filter (λ (p : PremiseTree). not (is_back source p.atom)) list in
-      all_map (IsLinear (signature_of source)) (λ (p : PremiseTree). p.atom) some
-      (all_follow (λ (p : PremiseTree). IsJudged p.atom × (not (is_back source p.atom) ≡ true)) (λ p. IsLinear (signature_of source) p.atom) some (λ p h. linear_is p.atom h.0 (not_true (is_back source p.atom) h.1))
+      all_map (IsOfState (signature_of source)) (λ (p : PremiseTree). p.atom) some
+      (all_follow (λ (p : PremiseTree). IsJudged p.atom × (not (is_back source p.atom) ≡ true)) (λ p. IsOfState (signature_of source) p.atom) some (λ p h. of_state p.atom h.0 (not_true (is_back source p.atom) h.1))
       (all_both (λ (p : PremiseTree). IsJudged p.atom) (λ p. not (is_back source p.atom) ≡ true) some (all_filter (λ (p : PremiseTree). IsJudged p.atom) (λ p. not (is_back source p.atom)) list all) (all_pass (λ p. not (is_back source p.atom)) list)))
 
   pub divided_backs : (list : List PremiseTree) → AllByRecursion (λ p. IsJudged p.atom) list → AllByRecursion (IsBackward (signature_of source)) (map (λ p. p.atom) (filter (λ p. is_back source p.atom) list))
@@ -200,18 +202,18 @@ module _ (source : Source) (clean : IsClean source) (atoms_made : AtomsMade sour
   atoms_count vars blanks (raw ∷ raws) [] by = absurd by
   atoms_count vars blanks (raw ∷ raws) (atom ∷ list) by = ap suc (atoms_count vars (blanks_after blanks raw.nodes) raws list by.1)
 
-  -- the atoms of a right side are of linear predicates
-  pub right_linear : (vars : List (List ℕ)) (blanks : ℕ) (raws : List RawAtom) (list : List AtomTree) → ((raw : RawAtom) → Contains raws raw → Contains (placed_of source) (placed role.Made raw)) → ((raw : RawAtom) → Contains raws raw → IsHere source raw) → AreAtomsBy source vars blanks raws list → AllByRecursion (IsLinear (signature_of source)) list
-  right_linear vars blanks [] [] at here by = tt
-  right_linear vars blanks [] (atom ∷ list) at here by = absurd by
-  right_linear vars blanks (raw ∷ raws) [] at here by = absurd by
-  right_linear vars blanks (raw ∷ raws) (atom ∷ list) at here by =
+  -- the atoms of a right side are of predicates that states may have
+  pub right_of_state : (vars : List (List ℕ)) (blanks : ℕ) (raws : List RawAtom) (list : List AtomTree) → ((raw : RawAtom) → Contains raws raw → Contains (placed_of source) (placed role.Made raw)) → ((raw : RawAtom) → Contains raws raw → IsHere source raw) → AreAtomsBy source vars blanks raws list → AllByRecursion (IsOfState (signature_of source)) list
+  right_of_state vars blanks [] [] at here by = tt
+  right_of_state vars blanks [] (atom ∷ list) at here by = absurd by
+  right_of_state vars blanks (raw ∷ raws) [] at here by = absurd by
+  right_of_state vars blanks (raw ∷ raws) (atom ∷ list) at here by =
       let is = here raw (contains_first raw raws) in
       let known = back_known source clean atoms_made raw is in
       let b = (pred_known source (placed is.role raw) clean.names is.there is.plain).pred.back in
       let linear = no_back b (λ (e : b ≡ true). clean.names (wrong BwdInState raw.name.from) (backward_in_state (placed role.Made raw) (at raw (contains_first raw raws)) made (known ∙ ap Some e) refl)) in (
-        linear_is atom (judged_at vars blanks raw atom is by.0) ((pred_at vars blanks raw atom is by.0).judged ∙ linear),
-        right_linear vars (blanks_after blanks raw.nodes) raws list (λ other there. at other (contains_behind raw raws other there)) (λ other there. here other (contains_behind raw raws other there)) by.1,
+        of_state atom (judged_at vars blanks raw atom is by.0) ((pred_at vars blanks raw atom is by.0).judged ∙ linear),
+        right_of_state vars (blanks_after blanks raw.nodes) raws list (λ other there. at other (contains_behind raw raws other there)) (λ other there. here other (contains_behind raw raws other there)) by.1,
       )
     where
       no_back : (b : Bool) → (b ≡ true → ⊥) → b ≡ false
@@ -275,9 +277,10 @@ module _ (source : Source) (clean : IsClean source) (atoms_made : AtomsMade sour
   rule_divided name item rule there by =
       let judged = judged_premises rule.vars 0 item.raw.left by.left (left_here source clean atoms_made item there) by.left_is in
       record {
-        premises = subst (λ (ps : List PremiseTree). AllByRecursion (IsLinear (signature_of source)) (map (λ p. p.atom) ps)) (sym by.premises_are) (divided_premises by.left judged);
+        premises = subst (λ (ps : List PremiseTree). AllByRecursion (IsOfState (signature_of source)) (map (λ p. p.atom) ps)) (sym by.premises_are) (divided_premises by.left judged);
+        facts = all_of (λ (premise : PremiseTree). is_fact (signature_of source) premise.atom ≡ true → premise.kept ≡ true) rule.premises (λ premise there fact. never_a_fact source premise.atom fact);
         backs = subst (AllByRecursion (IsBackward (signature_of source))) (sym by.backs_are) (divided_backs by.left judged);
-        right = right_linear rule.vars _ (atoms_of item.raw.right) rule.right (right_at source clean atoms_made item there) (right_here source clean atoms_made item there) by.right_is;
+        right = right_of_state rule.vars _ (atoms_of item.raw.right) rule.right (right_at source clean atoms_made item there) (right_here source clean atoms_made item there) by.right_is;
       }
 
   -- a clause is well typed

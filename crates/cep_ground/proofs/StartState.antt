@@ -9,11 +9,12 @@ use Rattle.cep_parse.specs.declared.raw.RawKind.{RawKind}
 use Rattle.cep_parse.specs.declared.raw.RawKind.TheVariants as kind
 use Rattle.cep_parse.specs.declared.raw.RawNode.{RawNode}
 use Rattle.cep_parse.specs.declared.raw.RawAtom.{RawAtom}
+use Rattle.cep_base.specs.Kinds.{is_backward}
 use Rattle.cep_term.specs.Tree.{AtomTree, IsGroundAtom, atom_nodes, IsFit}
 use Rattle.cep_term.specs.BagLaws.{BagLaws}
 use Rattle.cep_term.specs.Multiset.{Multiset}
 use Rattle.cep_rule.specs.declared.signature.PredDecl.{PredDecl}
-use Rattle.cep_rule.specs.Typing.{IsTyped, IsLinear}
+use Rattle.cep_rule.specs.Typing.{IsTyped, IsOfState}
 use Rattle.cep_rule.specs.State.{IsStateAtom, IsState, Fits}
 use Rattle.cep_refusal.specs.declared.reason.Reason.TheVariants.{OverLimit, BwdInState}
 use Rattle.cep_names.specs.Items.{Source, TraceItem, traces_of}
@@ -36,6 +37,7 @@ use Rattle.cep_infer.specs.States.{IsStateWritten, AreClosed}
 use Rattle.cep_ground.specs.Texts.{IsClean}
 use Rattle.cep_base.proofs.Elements.{contains_none, contains_first, contains_behind, contains_cases, all_at}
 use Rattle.cep_ground.proofs.Known.{pred_known}
+use Rattle.cep_ground.proofs.NoFacts.{backward_by, never_a_fact}
 use Rattle.cep_ground.proofs.Scopes.{IsHere, typed_atoms}
 use Rattle.cep_ground.proofs.RuleScopes.{AtomsMade, AreHere, atom_of_tokens, words, short, back_known}
 use Rattle.cep_ground.proofs.RuleParts.{atom_size, pred_at}
@@ -89,14 +91,14 @@ module _ (source : Source) (clean : IsClean source) (made : AtomsMade source) (s
       (λ site inside. inside) (λ wanted inside. inside) (same, tt) in
       subst (λ ks. IsTyped (signature_of source) ks atom) (no_kinds raw listed) typed.0
 
-  listed_linear : (raw : RawAtom) (blanks : ℕ) (atom : AtomTree) (listed : IsStateWritten source raw) → IsAtomBy source [] blanks raw atom → IsLinear (signature_of source) atom
-  listed_linear raw blanks atom listed by =
+  listed_of_state : (raw : RawAtom) (blanks : ℕ) (atom : AtomTree) (listed : IsStateWritten source raw) → IsAtomBy source [] blanks raw atom → IsOfState (signature_of source) atom
+  listed_of_state raw blanks atom listed by =
       let here = listed_here raw listed in
       let known = back_known source clean made raw here in
       let is = pred_at source clean made [] blanks raw atom here by in
       let b = (pred_known source (placed here.role raw) clean.names here.there here.plain).pred.back in
       let linear = no_back b (λ (e : b ≡ true). clean.names (wrong BwdInState raw.name.from) (backward_in_state (placed listed.role raw) listed.there (comes.state listed.role listed.of_state) (known ∙ ap Some e) refl)) in
-      subst (λ f. IsSomeAnd f (λ (pred : PredDecl). pred.back ≡ false)) (sym is.found) (is.back_is ∙ linear)
+      subst (λ f. IsSomeAnd f (λ (pred : PredDecl). is_backward pred.kind ≡ false)) (sym is.found) (backward_by is.pred.back ∙ is.back_is ∙ linear)
     where
       no_back : (b : Bool) → (b ≡ true → ⊥) → b ≡ false
       no_back true never = absurd (never refl)
@@ -116,7 +118,7 @@ module _ (source : Source) (clean : IsClean source) (made : AtomsMade source) (s
   listed_state_atom raw blanks atom listed by = record {
     ground = starts.ground source [] blanks raw atom by (listed_closed raw listed);
     typed = listed_typed raw blanks atom listed by;
-    linear = listed_linear raw blanks atom listed by;
+    of_state = listed_of_state raw blanks atom listed by;
     fit = listed_fit raw blanks atom listed by;
   }
 
@@ -158,6 +160,7 @@ start_good source clean made starts laws trace rest start_ first by =
       state = record {
         bag = laws.gathered_kept by.atoms (ground_all by.atoms is_state);
         each = λ a some. all_at (IsStateAtom (signature_of source)) by.atoms a is_state ((laws.gathered_there by.atoms a).0 some);
+        once = λ a fact. never_a_fact source a fact;
       };
       fits = record {
         copies = let s = sizes.0 in omega (arith, copies_are, s, few_copies);

@@ -1,4 +1,5 @@
 ghost use Rattle.std.specs.Prelude.{IfOk};
+ghost use Rattle.cep_rule.specs.Program.{HasNoFacts};
 ghost use Rattle.cep_ground.specs.Refusals.{IsAccepted};
 
 use crate::refusals::{of_grammar, of_tokens};
@@ -14,9 +15,11 @@ use std::alloc::{AllocError, Global};
 /// The program that a text spells, or why it is refused: of all that is wrong with it what is told
 /// first, by the phase in which it is judged, its place and its number. The syntax, the limits and
 /// the refusals are this profile's; that atoms are well typed, that linear and backward predicates
-/// do not mix, and that each variable of a right side occurs on the left, is Ceptre's.
+/// do not mix, and that each variable of a right side occurs on the left, is Ceptre's. No predicate
+/// of the program is one of facts, since no text declares a fact yet.
 pub fn accept(alloc: Global, text: &[u8]) -> Result<Result<Program, Refusal>, AllocError>
-    ensures { IfOk result (λ answer. IsAccepted text.now answer) }
+    ensures answered { IfOk result (λ answer. IsAccepted text.now answer) }
+    ensures no_facts { IfOk result (λ answer. IfOk answer (λ program. HasNoFacts program.signature)) }
 {
     lexed_once();
     one_raw_file();
