@@ -2,6 +2,7 @@
 ghost use Rattle.cep_infer.specs.Shapes.{IsSource};
 
 use crate::source::file_of;
+use cep_base::PredKind;
 use cep_base::limits::MOST_TEXT;
 use cep_infer::{Draft, resolve};
 use cep_parse::RawFile;
@@ -61,6 +62,14 @@ fn is_leaving(rule: &Rule) -> bool {
     rule.group == 1 && rule.next == Some(1)
 }
 
+// The predicate of `pred` is linear, and that of `bwd` a backward one.
+fn expect_kinds(rt: &impl Abort, parts: &Parts) {
+    let preds = &parts.signature.preds;
+    assert_eq!(rt; preds.len(), 2);
+    assert_eq!(rt; preds.get(0).kind, PredKind::Linear);
+    assert_eq!(rt; preds.get(1).kind, PredKind::Back);
+}
+
 fn expect_rules(rt: &impl Abort, parts: &Parts) {
     assert_eq!(rt; parts.rules.len(), 3);
     assert!(rt; is_stay(parts.rules.get(1)));
@@ -77,6 +86,7 @@ fn expect_start(rt: &impl Abort, parts: &Parts) {
 #[test]
 fn a_text_declares_its_parts(rt: HostRuntime) -> Result<(), Fail> {
     let draft = draft_of(rt.alloc(), walking())?;
+    expect_kinds(&rt, &draft.parts);
     expect_rules(&rt, &draft.parts);
     expect_start(&rt, &draft.parts);
     Ok(())
