@@ -21,7 +21,7 @@ use Rattle.cep_log.specs.declared.log.LogStep.{LogStep}
 use Rattle.cep_log.specs.declared.log.LogEnd.{LogEnd}
 use Rattle.cep_base.specs.declared.limits.TheConstants.{MOST_LOG}
 
--- A line of a listing: a ground, well-typed, fit atom, linear or backward, with 1 to 100,000 copies.
+-- A line of a listing: a ground, well-typed, fit atom, of a predicate of any kind, with 1 to 100,000 copies.
 pub record IsHave (signature : Signature) (entry : AtomTree × ℕ) : Type 0 where
   pub atom : IsTypedGround signature entry.0
   pub fit : IsFit entry.0

@@ -16,7 +16,7 @@ pub record IsTermText (program : Parts) (sort : ℕ) (bytes : List ℕ) (t : Tre
   pub small : IsSmallTerm t
   pub text : bytes ≡ term_text program.signature t
 
--- The bytes are the text of a ground, well-typed, fit atom, linear or backward.
+-- The bytes are the text of a ground, well-typed, fit atom, of a predicate of any kind.
 pub record IsAtomText (program : Parts) (bytes : List ℕ) (a : AtomTree) : Type 0 where
   pub well_typed : IsTypedGround program.signature a
   pub fit : IsFit a

@@ -49,8 +49,8 @@ fn whole_term(alloc: Global, vocabulary: &Vocabulary, sort: u32, bytes: &[u8]) -
 }
 
 /// The atom that the bytes are the text of, or `None` exactly where they are the text of none. It is
-/// ground, well typed and fit, and its predicate may be linear or backward. The form and the sizes
-/// are this profile's. Only want of memory is refused.
+/// ground, well typed and fit, and its predicate may be of any kind. The form and the sizes are this
+/// profile's. Only want of memory is refused.
 pub fn read_atom(
     alloc: Global,
     vocabulary: &Vocabulary,
