@@ -1,11 +1,12 @@
 //! Matching from scratch: the plain matcher of Ceptre's rules, which at each step looks at the whole
 //! state again.
 //!
-//! A rule is matched premise by premise, in written order. For each linear premise the entries of the
-//! state that have its predicate, and begin as it does so far as its variables have values, are tried, one
-//! after another, and each that meets it is followed before the next. Then each backward premise is asked of backward chaining, and each of its answers is
-//! followed before the next. What was found of a rule is sorted, and put behind what its group's rules
-//! before it have.
+//! A rule is matched premise by premise, in written order. For each premise the entries of the state
+//! that have its predicate, and begin as it does so far as its variables have values, are tried, one
+//! after another, and each that meets it is followed before the next. No entry is taken more often than
+//! it has copies, but for facts, one copy of which meets any number of premises. Then each backward
+//! premise is asked of backward chaining, and each of its answers is followed before the next. What was
+//! found of a rule is sorted, and put behind what its group's rules before it have.
 #![tactic(auto)]
 
 mod backs;
