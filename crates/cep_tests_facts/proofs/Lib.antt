@@ -1,0 +1,4 @@
+mod Buying
+mod Held
+mod Sealing
+mod Spelled

@@ -1,5 +1,8 @@
-//! A trial of facts: a lamp that is needed twice and made again, and coins.
+//! Tests of facts, which a state holds once and which are never consumed. Programs with facts are
+//! sealed by hand here, and matched from scratch.
 #![tactic(auto)]
 
 #[cfg(test)]
-mod lamp;
+mod matching;
+#[cfg(test)]
+mod shop;
