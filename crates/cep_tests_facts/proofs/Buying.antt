@@ -1,11 +1,11 @@
 -- The state after a coin was taken and a lamp added.
-use Rattle.std.proofs.Common.{◌≡◌, ◌⊎◌, inl, inr, ⊎_elim, refl, sym, ap, subst, ◌∙◌, ℕ, zero, suc, ◌+◌, ◌-◌, ◌<◌, ◌≤◌, Bool, true, false, List, [], ◌∷◌, length, Contains, arith}
+use Rattle.std.proofs.Common.{◌≡◌, ◌⊎◌, inl, inr, ⊎_elim, refl, sym, ap, subst, ◌∙◌, ℕ, zero, suc, ◌+◌, ◌<◌, ◌≤◌, true, List, [], ◌∷◌, length, arith}
 use Rattle.std.specs.Prelude.{sum_by}
 use Rattle.std.specs.List.{AllByRecursion}
 use Rattle.cep_base.proofs.Elements.{all_at}
 use Rattle.cep_term.specs.BagLaws.{BagLaws}
 use Rattle.cep_term.specs.Tree.{AtomTree, IsGroundAtom, atom_nodes}
-use Rattle.cep_term.specs.Multiset.{Multiset, count_of, gathered, sum_of, difference_of, copies_in, nodes_in_all, IsBag, IsContained, IsOnce, gained, held, once}
+use Rattle.cep_term.specs.Multiset.{Multiset, count_of, gathered, sum_of, difference_of, copies_in, nodes_in_all, IsBag, IsContained, IsOnce, gained, held}
 use Rattle.cep_rule.specs.declared.parts.Parts.{Parts}
 use Rattle.cep_rule.specs.declared.signature.Signature.{Signature}
 use Rattle.cep_rule.specs.Typing.{is_fact}

@@ -1,6 +1,6 @@
 -- States that are sums of atoms in which each fact is held once.
-use Rattle.std.proofs.Common.{◌≡◌, refl, sym, ap, subst, ◌∙◌, ℕ, ◌+◌, ◌<◌, ◌≤◌, Bool, true, false, List, [], ◌∷◌, length, Contains, arith}
-use Rattle.std.specs.Prelude.{◌&&◌, min, nat_lt, if◌then◌else◌, sum_by}
+use Rattle.std.proofs.Common.{◌≡◌, sym, ap, subst, ◌∙◌, ℕ, ◌+◌, ◌<◌, ◌≤◌, Bool, true, false, List, [], ◌∷◌, length, arith}
+use Rattle.std.specs.Prelude.{◌&&◌, nat_lt, if◌then◌else◌, sum_by}
 use Rattle.std.specs.List.{AllByRecursion}
 use Rattle.std.specs.FinMap as finite
 use Rattle.std.proofs.lemmas.Bool.{false≢true}
@@ -10,7 +10,7 @@ use Rattle.cep_base.proofs.Lists.{all_weaker}
 use Rattle.cep_base.specs.declared.limits.TheConstants.{MOST_COPIES, MOST_STATE_NODES}
 use Rattle.cep_term.specs.BagLaws.{BagLaws}
 use Rattle.cep_term.specs.Tree.{AtomTree, IsGroundAtom, atom_nodes}
-use Rattle.cep_term.specs.Multiset.{Multiset, count_of, with_one, gathered, copies_in, nodes_in_all, IsBag, IsOnce, gained, held, once}
+use Rattle.cep_term.specs.Multiset.{Multiset, count_of, with_one, gathered, copies_in, nodes_in_all, gained, held, once}
 use Rattle.cep_rule.specs.declared.signature.Signature.{Signature}
 use Rattle.cep_rule.specs.Typing.{is_fact}
 use Rattle.cep_rule.specs.State.{IsStateAtom, IsState, Fits}

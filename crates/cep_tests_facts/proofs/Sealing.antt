@@ -1,23 +1,23 @@
 -- The parts of the shop are a program.
-use Rattle.std.proofs.Common.{◌≡◌, refl, sym, ap, subst, ◌∙◌, inl, inr, ℕ, zero, suc, ◌<◌, Bool, true, false, List, [], ◌∷◌, None, arith}
+use Rattle.std.proofs.Common.{◌≡◌, refl, sym, ap, subst, ◌∙◌, inl, inr, ℕ, zero, suc, ◌<◌, List, [], ◌∷◌, None, arith}
 use Rattle.std.specs.List.{AllByRecursion}
 use Rattle.std.proofs.lemmas.Bool.{false≢true}
 use Rattle.cep_term.specs.BagLaws.{BagLaws}
-use Rattle.cep_term.specs.Tree.{AtomTree, OccursIn}
+use Rattle.cep_term.specs.Tree.{AtomTree}
 use Rattle.cep_term.specs.Multiset.{Multiset, gathered, once}
 use Rattle.cep_rule.specs.declared.rule.Rule.{Rule}
 use Rattle.cep_rule.specs.declared.signature.Signature.{Signature}
 use Rattle.cep_rule.specs.declared.parts.Stage.{Stage}
 use Rattle.cep_rule.specs.declared.parts.Parts.{Parts}
 use Rattle.cep_rule.specs.Patterns.{ClauseTree}
-use Rattle.cep_rule.specs.Binding.{needed_of, IsBoundRule}
+use Rattle.cep_rule.specs.Binding.{IsBoundRule}
 use Rattle.cep_rule.specs.Groundness.{Known, nothing, known_after_all, CallsAt, IsBad, IsBadInRound, IsGrounded}
 use Rattle.cep_rule.specs.Limits.{IsSmallRule, IsSmallSignature, IsSmall}
 use Rattle.cep_rule.specs.Names.{IsVariableName}
 use Rattle.cep_rule.specs.Program.{AreNamed, AreNumbersDeclared, IsTypedRule, IsDividedRule, IsGroupedRule, IsProgram}
 use Rattle.cep_rule.specs.Typing.{is_fact}
 use Rattle.cep_rule.specs.State.{IsStateAtom, IsState, Fits}
-use Rattle.cep_tests_facts.specs.Shop.{plain, about, about_person, used, needed, plain_rule, person_rule, shop_signature, shop_stages, shop_rules, shop_clauses, shop_start, few_atoms, shop}
+use Rattle.cep_tests_facts.specs.Shop.{plain, about, used, needed, plain_rule, person_rule, shop_signature, shop_stages, shop_rules, shop_clauses, shop_start, few_atoms, shop}
 use Rattle.cep_tests_facts.proofs.Spelled.{low, less, names}
 use Rattle.cep_tests_facts.proofs.Held.{state_of, state_fits}
 

@@ -1,5 +1,5 @@
 -- Names that are spelled out, by tests that compute.
-use Rattle.std.proofs.Common.{◌≡◌, refl, sym, ap, ◌∙◌, ℕ, ◌<◌, ◌≤◌, Bool, true, false, not, List, [], ◌∷◌, length}
+use Rattle.std.proofs.Common.{◌≡◌, refl, sym, ◌∙◌, ℕ, ◌<◌, ◌≤◌, Bool, true, false, not, List, [], ◌∷◌, length}
 use Rattle.std.specs.Prelude.{◌≢◌, ◌&&◌, nat_lt}
 use Rattle.std.specs.List.{AllByRecursion}
 use Rattle.std.specs.Char.{is_ascii_lowercase}
@@ -8,7 +8,7 @@ use Rattle.std.proofs.lemmas.Bool.{false≢true, not-true, ltb-true, ltb-false}
 use Rattle.std.proofs.lemmas.Slice.Eq.{bytes_eq-Decides}
 use Rattle.cep_base.specs.Spelling.{is_name_byte, reserved_words}
 use Rattle.cep_base.specs.declared.limits.TheConstants.{MOST_NAME}
-use Rattle.cep_rule.specs.Names.{IsWord, IsName, AllDiffer, AreNames}
+use Rattle.cep_rule.specs.Names.{IsWord, IsName, AreNames}
 
 -- numbers that are written out
 pub low : {m n : ℕ} → nat_lt n m ≡ false → m ≤ n
