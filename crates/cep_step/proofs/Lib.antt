@@ -1,0 +1,6 @@
+pub mod SizesOf
+pub mod Premises
+pub mod Weights
+pub mod Ready
+pub mod Entries
+pub mod Edits

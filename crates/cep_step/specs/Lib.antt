@@ -1,0 +1,5 @@
+pub mod Passing
+pub mod Changes
+pub mod Sizes
+pub mod Weighing
+pub mod StepLaws

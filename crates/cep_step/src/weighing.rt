@@ -1,0 +1,124 @@
+// What a step comes to, known before the state is changed.
+ghost use Rattle.std.specs.Prelude.{◌≡◌, ◌+◌, ◌*◌, ◌≤◌, length, sum_by, IfOk};
+ghost use Rattle.cep_base.specs.declared.limits.TheConstants.{MOST_NODES, MOST_PREMISES, MOST_RIGHT};
+ghost use Rattle.std.specs.List.{AllByRecursion};
+ghost use Rattle.cep_term.specs.Tree.{atom_nodes, IsFit};
+ghost use Rattle.cep_term.specs.Multiset.{gathered, sum_of, difference_of, nodes_in_all};
+ghost use Rattle.cep_rule.specs.Steps.{MakesFit};
+ghost use Rattle.cep_step.specs.Changes.{CanStep, IsWeighed};
+ghost use Rattle.cep_step.specs.Weighing.{CanWeigh, IsWeight};
+
+use crate::change::Change;
+use crate::fitting::first_too_large;
+use crate::laws::steps_are_lawful;
+use crate::measured::Measured;
+use crate::sides::{added_atoms, taken_atoms};
+use cep_base::limits::{MOST_COPIES, MOST_STATE_NODES};
+use cep_rule::{AtomList, Rule, Signature, Terms, gained};
+use cep_term::laws::bags_are_lawful;
+use cep_term::{Bag, nodes};
+use std::alloc::{AllocError, Global};
+
+/// What a step comes to: a limit that it would pass, or the change that it is. The limits are this
+/// profile's.
+#[derive(Drop)]
+pub enum Weighed {
+    /// A right atom is not fit. Of the first such one this is how many nodes it has, or, where these
+    /// are within their limit, how many levels. Nodes are counted up to 2^64 - 1.
+    AtomTooLarge(u64),
+    /// The state after the step does not fit. This is how many copies it has, or, where these are
+    /// within their limit, how many nodes.
+    StateTooFull(u64),
+    /// The step is within the limits, and does this.
+    Within(Change),
+}
+
+// What the state after an edit has too much of, or how many nodes it has.
+#[derive(Clone, Copy)]
+enum Weight {
+    TooFull(u64),
+    Fits(u64),
+}
+
+/// Weighs a step by the rule with these values from the state, which has so many nodes. Only want of
+/// memory is refused.
+pub fn weigh(
+    alloc: Global,
+    signature: &Signature,
+    rule: &Rule,
+    values: &Terms,
+    state: &Bag,
+    nodes: u64,
+) -> Result<Weighed, AllocError>
+    requires can { CanStep signature.now rule.now values.now state.now }
+    requires nodes { nodes ≡ nodes_in_all state.now }
+    ensures { IfOk result (IsWeighed signature.now rule.now values.now state.now) }
+{
+    steps_are_lawful();
+    let measured = Measured::new(alloc, values)?;
+    match first_too_large(&rule.right, &measured) {
+        Some(number) => Ok(Weighed::AtomTooLarge(number)),
+        None => weigh_change(alloc, signature, rule, values, state, nodes),
+    }
+}
+
+// The same where all right atoms are fit.
+fn weigh_change(
+    alloc: Global,
+    signature: &Signature,
+    rule: &Rule,
+    values: &Terms,
+    state: &Bag,
+    nodes: u64,
+) -> Result<Weighed, AllocError>
+    requires can { CanStep signature.now rule.now values.now state.now }
+    requires nodes { nodes ≡ nodes_in_all state.now }
+    requires fit { MakesFit rule.now values.now }
+    ensures { IfOk result (IsWeighed signature.now rule.now values.now state.now) }
+{
+    steps_are_lawful();
+    let taken = taken_atoms(alloc, signature, rule, values)?;
+    let added = added_atoms(alloc, signature, rule, values)?;
+    let gains = gained(alloc, signature, state, &added)?;
+    match weigh_edit(state, nodes, &taken, &gains) {
+        Weight::TooFull(number) => Ok(Weighed::StateTooFull(number)),
+        Weight::Fits(nodes) => Ok(Weighed::Within(Change {
+            taken: Bag::of(alloc, &taken)?,
+            added,
+            gains,
+            nodes,
+        })),
+    }
+}
+
+// Weighs an edit that takes some atoms from the state and adds those that it gains.
+fn weigh_edit(state: &Bag, nodes: u64, taken: &AtomList, gains: &AtomList) -> Weight
+    requires can { CanWeigh state.now taken.now gains.now }
+    requires nodes { nodes ≡ nodes_in_all state.now }
+    ensures { IsWeight (sum_of (difference_of state.now (gathered taken.now)) (gathered gains.now)) result }
+{
+    bags_are_lawful();
+    let copies = state.copies() - taken.len() as u64 + gains.len() as u64;
+    let nodes = nodes - nodes_in(taken) + nodes_in(gains);
+    if copies > MOST_COPIES {
+        Weight::TooFull(copies)
+    } else if nodes > MOST_STATE_NODES {
+        Weight::TooFull(nodes)
+    } else {
+        Weight::Fits(nodes)
+    }
+}
+
+// How many nodes these atoms have, which are all fit.
+fn nodes_in(atoms: &AtomList) -> u64
+    requires fit { AllByRecursion IsFit atoms.now }
+    requires few { length atoms.now ≤ MOST_PREMISES + MOST_RIGHT }
+    ensures nodes { result ≡ sum_by atom_nodes atoms.now }
+    ensures few { result ≤ (MOST_PREMISES + MOST_RIGHT) * MOST_NODES }
+{
+    let mut sum = 0;
+    for i in 0..atoms.len() {
+        sum += nodes(atoms.get(i));
+    }
+    sum
+}
