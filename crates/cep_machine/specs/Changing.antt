@@ -1,25 +1,18 @@
 -- Private.
 -- Changes of a configuration.
-use Rattle.std.specs.Prelude.{◌≡◌, ◌<◌, ◌≤◌, true, length}
-use Rattle.std.specs.List.{AllByRecursion}
-use Rattle.cep_term.specs.Tree.{AtomTree, IsGroundAtom}
-use Rattle.cep_term.specs.Multiset.{Multiset, count_of, gathered, nodes_in_all, IsContained}
+use Rattle.std.specs.Prelude.{ℕ, ◌<◌, List, length}
+use Rattle.cep_base.specs.declared.limits.TheConstants.{MOST_STAGES}
+use Rattle.cep_term.specs.Tree.{Tree}
+use Rattle.cep_term.specs.Multiset.{Multiset}
+use Rattle.cep_rule.specs.declared.rule.Rule.{Rule}
 use Rattle.cep_rule.specs.declared.parts.Parts.{Parts}
-use Rattle.cep_base.specs.declared.limits.TheConstants.{MOST_PREMISES, MOST_STAGES}
-use Rattle.cep_rule.specs.Typing.{is_fact}
-use Rattle.cep_rule.specs.State.{IsState, Fits}
-use Rattle.cep_rule.specs.Matching.{state_after}
-use Rattle.cep_machine.specs.declared.changing.Change.{Change}
+use Rattle.cep_step.specs.declared.change.Change.{Change}
+use Rattle.cep_step.specs.Changes.{IsChangeOf}
 
--- A change that can be made: the atoms that it takes are there, and it leads to a stage of the program and to a state of it that fits, whose nodes it says.
-pub record CanChange (program : Parts) (state : Multiset) (change : Change) : Type 0 where
-  pub stage : change.stage < length program.stages
-  pub low : change.stage < MOST_STAGES
-  pub left : AllByRecursion IsGroundAtom change.left
-  pub added : AllByRecursion IsGroundAtom change.added
-  pub few : length change.left ≤ MOST_PREMISES
-  pub contained : IsContained (gathered change.left) state
-  pub no_facts : (a : AtomTree) → is_fact program.signature a ≡ true → count_of (gathered change.left) a ≡ 0
-  pub is_state : IsState program.signature (state_after program.signature state (gathered change.left) change.added)
-  pub fits : Fits (state_after program.signature state (gathered change.left) change.added)
-  pub nodes : change.nodes ≡ nodes_in_all (state_after program.signature state (gathered change.left) change.added)
+-- A change that can be made: it is that of a step from this state, and leads to a stage of the program.
+pub record CanChange (program : Parts) (stage : ℕ) (state : Multiset) (change : Change) : Type 0 where
+  pub in_range : stage < length program.stages
+  pub low : stage < MOST_STAGES
+  pub rule : Rule
+  pub values : List Tree
+  pub is : IsChangeOf program.signature rule values state change

@@ -1,6 +1,6 @@
 -- What a step of a configuration comes to.
 use Rattle.std.specs.Prelude.{◌≡◌, ℕ, ◌+◌, List, Some, slice_get}
-use Rattle.cep_term.specs.Tree.{Tree, AtomTree}
+use Rattle.cep_term.specs.Tree.{Tree}
 use Rattle.cep_term.specs.Multiset.{Multiset}
 use Rattle.cep_rule.specs.declared.signature.Signature.{Signature}
 use Rattle.cep_rule.specs.declared.rule.Rule.{Rule}
@@ -16,7 +16,7 @@ use Rattle.cep_machine.specs.declared.stepped.Stepped.{Stepped}
 use Rattle.cep_machine.specs.declared.stepped.Stepped.TheVariants.{Done, Limit}
 use Rattle.cep_machine.specs.Configuration.{Configuration, spot_of}
 use Rattle.cep_machine.specs.Asking.{asked_offers}
-use Rattle.cep_machine.specs.Passing.{IsFirstTooLarge, IsTooFull}
+use Rattle.cep_step.specs.Passing.{IsFirstTooLarge, IsTooFull}
 
 -- The offer at this place among those that a stage asks is of this rule, with these values for its variables.
 pub record IsAskedAt (program : Parts) (lists : List (List Offer)) (stage place : ℕ) (rule : Rule) (values : List Tree) : Type 0 where

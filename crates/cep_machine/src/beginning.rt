@@ -1,14 +1,12 @@
 ghost use Rattle.std.specs.Prelude.{◌≡◌, ◌≤◌, IfOk};
-ghost use Rattle.cep_term.specs.Multiset.{nodes_in_all};
 ghost use Rattle.cep_rule.specs.Limits.{IsHeight};
-ghost use Rattle.cep_rule.specs.State.{Fits};
 ghost use Rattle.cep_rule.specs.Matching.{RoseBy};
 ghost use Rattle.cep_machine.specs.Configuration.{IsConfigurationOf};
 
 use crate::config::Config;
 use cep_base::Steps;
 use cep_rule::{Matcher, Program};
-use cep_term::{Bag, nodes};
+use cep_step::nodes_in_state;
 use std::alloc::{AllocError, Global};
 use std::sync::ledger::Ledger;
 
@@ -42,17 +40,4 @@ impl<M: Matcher> Config<M> {
             matcher,
         })
     }
-}
-
-// How many nodes the state has, each copy counted.
-fn nodes_in_state(state: &Bag) -> u64
-    requires { Fits state.now }
-    ensures { result ≡ nodes_in_all state.now }
-{
-    let mut sum = 0;
-    for i in 0..state.len() {
-        let (atom, copies) = state.entry(i);
-        sum += copies as u64 * nodes(atom);
-    }
-    sum
 }

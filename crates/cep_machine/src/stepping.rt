@@ -9,14 +9,12 @@ ghost use Rattle.cep_machine.specs.Configuration.{IsConfigurationOf};
 ghost use Rattle.cep_machine.specs.Asking.{asked_offers};
 ghost use Rattle.cep_machine.specs.Stepping.{IsAskedAt, IsStepped, config_after, RoseIfDone};
 
-use crate::changing::Change;
 use crate::config::Config;
-use crate::laws::steps_are_lawful;
-use crate::sides::{added_atoms, taken_atoms};
-use crate::stepped::Stepped;
-use crate::weighing::{Weighed, weigh};
+use crate::stepped::{Stepped, Which};
 use cep_base::Steps;
+use cep_rule::laws::values_are_small;
 use cep_rule::{Matcher, Program};
+use cep_step::{Weighed, weigh};
 use std::alloc::{AllocError, Global};
 use std::sync::ledger::Ledger;
 
@@ -46,33 +44,32 @@ impl<M: Matcher> Config<M> {
         ensures same_height { IfOk result (λ stepped. M.height_held (config_after stepped).matcher ≡ M.height_held self.matcher) }
         ensures never_falls { steps.old ≤ steps.new }
     {
-        steps_are_lawful();
+        values_are_small();
         let group = self.asked().unwrap();
         let offer = self.matcher.offer(group, i);
         let parts = program.parts();
         let rule = parts.rules.get(offer.rule as usize);
-        let signature = &parts.signature;
         match weigh(
             alloc,
-            signature,
+            &parts.signature,
             rule,
             &offer.values,
             &self.state,
             self.nodes,
         )? {
-            Weighed::TooMuch(which, number) => Ok(Stepped::Limit {
+            Weighed::AtomTooLarge(number) => Ok(Stepped::Limit {
                 config: self,
-                which,
+                which: Which::Atom,
                 number,
             }),
-            Weighed::Within(nodes) => {
-                let change = Change {
-                    stage: rule.next.unwrap_or(self.stage),
-                    nodes,
-                    left: taken_atoms(alloc, signature, rule, &offer.values)?,
-                    added: added_atoms(alloc, signature, rule, &offer.values)?,
-                };
-                Ok(Stepped::Done(self.changed(alloc, program, &change, steps)?))
+            Weighed::StateTooFull(number) => Ok(Stepped::Limit {
+                config: self,
+                which: Which::State,
+                number,
+            }),
+            Weighed::Within(change) => {
+                let stage = rule.next.unwrap_or(self.stage);
+                Ok(Stepped::Done(self.changed(alloc, program, stage, &change, steps)?))
             }
         }
     }

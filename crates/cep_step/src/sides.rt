@@ -24,7 +24,7 @@ pub(crate) fn taken_atoms(
     let mut atoms = AtomList::new(alloc);
     for i in 0..rule.premises.len() {
         let premise = rule.premises.get(i);
-        if !is_fact(signature, &premise.atom) {
+        if is_linear(signature, premise) {
             push_instance(alloc, &premise.atom, values, &mut atoms)?;
         }
     }
@@ -71,11 +71,18 @@ fn push_kept(
     Ok(())
 }
 
+// Whether the premise is linear: its atom is no fact.
+fn is_linear(signature: &Signature, premise: &Premise) -> bool
+    ensures { result ≡ not (is_fact signature.now (atom_of premise.now.atom)) }
+{
+    !is_fact(signature, &premise.atom)
+}
+
 // Whether the premise is linear and kept.
 fn is_linear_kept(signature: &Signature, premise: &Premise) -> bool
     ensures { result ≡ (premise.now.kept && not (is_fact signature.now (atom_of premise.now.atom))) }
 {
-    premise.kept && !is_fact(signature, &premise.atom)
+    premise.kept && is_linear(signature, premise)
 }
 
 // Adds the atom's instance.

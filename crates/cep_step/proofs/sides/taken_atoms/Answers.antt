@@ -7,7 +7,7 @@ use Rattle.cep_rule.specs.Instances.{full_instances}
 use Rattle.cep_step.specs.Weighing.{linear_among}
 use Rattle.cep_base.proofs.Lists.{holds_at_mapped}
 use Rattle.cep_step.proofs.Premises.{linear_next, pushed, not_pushed}
-use Rattle.cep_step.proofs.sides.taken_atoms.Goals.{then-not-is_fact+in_ok-push_instance, else-not-is_fact}
+use Rattle.cep_step.proofs.sides.taken_atoms.Goals.{then-is_linear+in_ok-push_instance, else-is_linear}
 use Rattle.cep_step.proofs.sides.taken_atoms.Goals as goal
 
 pub push_instance-requires : goal.push_instance-requires
@@ -20,9 +20,9 @@ loop-i-preserved c =
     let signature = c.args.signature.now in
     let premise = premise_of c.get-premise.result.now in
     let longer = linear_next signature c.args.rule.now.premises c.loop-i.i premise c.get-premise.ensures in
-    elim c.if-not-is_fact.branch [
-      | then-not-is_fact+in_ok-push_instance w ↦ pushed values (not (is_fact signature premise.atom)) premise.atom _ _ c.loop-i.atoms c.if-not-is_fact.atoms longer c.loop-i.invariant (ap not (sym c.is_fact.ensures ∙ w.if-not-is_fact.true)) (w.atoms-is ∙ w.in_ok-push_instance.ensures)
-      | else-not-is_fact w ↦ not_pushed values (not (is_fact signature premise.atom)) premise.atom _ _ c.loop-i.atoms c.if-not-is_fact.atoms longer c.loop-i.invariant (ap not (sym c.is_fact.ensures ∙ w.if-not-is_fact.false)) w.atoms-is
+    elim c.if-is_linear.branch [
+      | then-is_linear+in_ok-push_instance w ↦ pushed values (not (is_fact signature premise.atom)) premise.atom _ _ c.loop-i.atoms c.if-is_linear.atoms longer c.loop-i.invariant (sym c.is_linear.ensures ∙ w.if-is_linear.true) (w.atoms-is ∙ w.in_ok-push_instance.ensures)
+      | else-is_linear w ↦ not_pushed values (not (is_fact signature premise.atom)) premise.atom _ _ c.loop-i.atoms c.if-is_linear.atoms longer c.loop-i.invariant (sym c.is_linear.ensures ∙ w.if-is_linear.false) w.atoms-is
     ]
 
 pub returns : goal.returns
