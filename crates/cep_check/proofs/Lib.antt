@@ -2,10 +2,7 @@ pub mod Differences
 pub mod Refusing
 pub mod Parted
 pub mod Doing
-pub mod Entries
 pub mod Steps
 pub mod Options
-pub mod Weights
-pub mod Told
 pub mod Verdicts
 pub mod Tellable

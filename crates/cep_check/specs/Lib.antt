@@ -2,4 +2,3 @@ pub mod Causes
 pub mod Places
 pub mod Telling
 pub mod Walking
-pub mod DoingLaws

@@ -1,10 +1,10 @@
 -- Private.
 -- Where the steps of a log have led, and what each part of the check finds.
-use Rattle.std.specs.Prelude.{◌≡◌, ◌≢◌, ◌↔◌, ℕ, ◌≤◌, ◌<◌, not, List, length, map, filter, Result, Ok, Err, Option, Some, None, slice_get, IsSome, IfSome, IsSomeAnd}
+use Rattle.std.specs.Prelude.{◌≡◌, ◌≢◌, ◌↔◌, ℕ, ◌≤◌, ◌<◌, List, length, Option, Some, None, slice_get, IsSome, IfSome, IsSomeAnd}
 use Rattle.std.specs.List.{AllByRecursion}
-use Rattle.cep_base.specs.declared.limits.TheConstants.{MOST_HEIGHT, MOST_PREMISES, MOST_RIGHT, MOST_STAGES}
-use Rattle.cep_term.specs.Tree.{AtomTree, IsFit, IsGroundAtom, atom_of}
-use Rattle.cep_term.specs.Multiset.{Multiset, gathered, sum_of, difference_of, nodes_in_all, IsContained, IsBag}
+use Rattle.cep_base.specs.declared.limits.TheConstants.{MOST_HEIGHT, MOST_STAGES}
+use Rattle.cep_term.specs.Tree.{AtomTree, atom_of}
+use Rattle.cep_term.specs.Multiset.{Multiset, nodes_in_all}
 use Rattle.cep_rule.specs.declared.rule.Rule.{Rule}
 use Rattle.cep_rule.specs.declared.parts.Parts.{Parts}
 use Rattle.cep_rule.specs.Derivations.{ProofTree, Proves, proof_height}
@@ -18,8 +18,6 @@ use Rattle.cep_log.specs.declared.log.Log.{Log}
 use Rattle.cep_log.specs.declared.log.LogStep.{LogStep}
 use Rattle.cep_log.specs.Legal.{AreLegalSteps, IsLegalEnd}
 use Rattle.cep_scratch.specs.First.{IsFirstOffer}
-use Rattle.cep_check.specs.declared.cause.CheckLimit.{CheckLimit}
-use Rattle.cep_check.specs.declared.cause.CheckLimit.TheVariants.{Atom, State}
 use Rattle.cep_check.specs.declared.cause.Cause.{Cause}
 use Rattle.cep_check.specs.declared.cause.Cause.TheVariants.{NotContained, NotProved, TooHigh, NotQuiet, StageLine}
 use Rattle.cep_check.specs.declared.cause.Verdict.{Verdict}
@@ -50,28 +48,6 @@ pub record IsReadyStep (program : Parts) (rule : Rule) (step : LogStep) : Type 0
   pub as_many : length step.proofs ≡ length rule.backs
   pub low : AllByRecursion (λ proof. proof_height proof ≤ MOST_HEIGHT) step.proofs
   pub stage : IsSome step.stage ↔ IsSome rule.next
-
--- the state with these atoms taken and those added
-abbrev pub edited : Multiset → List AtomTree → List AtomTree → Multiset
-edited state used made = sum_of (difference_of state (gathered used)) (gathered made)
-
--- What must be known of atoms that are to be taken from a state and of those that it gains: they are few and fit, and it contains the first.
-pub record CanEdit (state : Multiset) (used gains : List AtomTree) : Type 0 where
-  pub bag : IsBag state
-  pub ground : AllByRecursion IsGroundAtom used
-  pub fits : Fits state
-  pub contained : IsContained (gathered used) state
-  pub fit : AllByRecursion IsFit used
-  pub few : length used ≤ MOST_PREMISES
-  pub gains_ground : AllByRecursion IsGroundAtom gains
-  pub gains_fit : AllByRecursion IsFit gains
-  pub few_gains : length gains ≤ MOST_RIGHT
-
--- What weighing an edit comes to: the nodes of the new state, which fits; or the limit that it passes.
-abbrev pub IsEditWeighed : Multiset → List AtomTree → List AtomTree → Result ℕ CheckLimit → Type 0
-IsEditWeighed state used made (Ok nodes) = Fits (edited state used made) × (nodes ≡ nodes_in_all (edited state used made))
-IsEditWeighed state used made (Err Atom) = ⊥
-IsEditWeighed state used made (Err State) = ¬ (Fits (edited state used made))
 
 -- The cause is the first atom that is needed and lacks.
 abbrev pub IsLackCause : Multiset → Multiset → Cause → Type 0

@@ -7,13 +7,11 @@ ghost use Rattle.cep_check.specs.declared.cause.Cause.{Cause};
 ghost use Rattle.cep_check.specs.declared.cause.Verdict.{Verdict};
 ghost use Rattle.cep_check.specs.Causes.{IsLogRefused, IsVerdict};
 ghost use Rattle.cep_check.specs.Telling.{IsTellable};
-ghost use Rattle.cep_check.specs.DoingLaws.{DoingLaws};
 ghost use Rattle.cep_log.specs.Legal.{IsLegal, IsLogOf};
 
 use cep_rule::Program;
 use cep_rule::laws::{
-    atoms_come_from_somewhere, edits_are_steps, edits_gain, one_state_after_a_step, sides_are_bags,
-    steps_lead_to_states, types_are_lawful, what_is_needed_is_there,
+    atoms_come_from_somewhere, one_state_after_a_step, types_are_lawful, what_is_needed_is_there,
 };
 use cep_term::laws::bags_are_lawful;
 
@@ -40,17 +38,4 @@ pub fn verdicts_can_be_told(program: &Program)
     types_are_lawful();
     atoms_come_from_somewhere();
     program.parts();
-}
-
-// The laws of the crates below that doing a step rests on. The function computes nothing.
-pub(crate) fn steps_are_done()
-    ensures { DoingLaws }
-{
-    bags_are_lawful();
-    types_are_lawful();
-    sides_are_bags();
-    what_is_needed_is_there();
-    edits_are_steps();
-    edits_gain();
-    steps_lead_to_states();
 }

@@ -9,12 +9,10 @@
 mod cause;
 mod checking;
 mod counts;
-mod edit;
 mod ending;
 pub mod laws;
-mod limits;
+mod needed;
 mod premises;
-mod sizes;
 mod step;
 mod telling;
 mod walk;

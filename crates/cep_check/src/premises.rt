@@ -9,9 +9,9 @@ ghost use Rattle.cep_rule.specs.Steps.{AreProofs};
 ghost use Rattle.cep_check.specs.Walking.{IsProofCause, IsOneProofCause, IsProofAt};
 
 use crate::cause::Cause;
-use crate::sizes::fit_nodes;
 use cep_log::Proofs;
-use cep_rule::{AtomList, Derivation, Program, Terms, height, instance, proves};
+use cep_rule::{AtomList, Derivation, Program, Terms, height, proves};
+use cep_step::fit_instance;
 use cep_term::Atom;
 use std::alloc::{AllocError, Global};
 
@@ -59,10 +59,10 @@ fn failure(
         (IsProofAt program.now most (proof_of proof.now) (full_instance values.now (atom_of back.now)))
         (IsOneProofCause program.now most (proof_of proof.now) (full_instance values.now (atom_of back.now)) place)) }
 {
-    if fit_nodes(back, values.as_slice()).is_none() {
-        return Ok(Some(Cause::NotProved { premise: place }));
-    }
-    let atom = instance(alloc, back, values)?;
+    let atom = match fit_instance(alloc, back, values)? {
+        Some(atom) => atom,
+        None => return Ok(Some(Cause::NotProved { premise: place })),
+    };
     if !proves(program, proof, &atom) {
         return Ok(Some(Cause::NotProved { premise: place }));
     }

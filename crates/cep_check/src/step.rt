@@ -2,20 +2,19 @@ ghost use Rattle.std.specs.Prelude.{◌≡◌, ◌↔◌, ◌≤◌, length, IfO
 ghost use Rattle.std.specs.List.{AllByRecursion};
 ghost use Rattle.cep_base.specs.declared.limits.TheConstants.{MOST_PREMISES};
 ghost use Rattle.cep_term.specs.Tree.{IsAtomInRange, IsGroundAtom};
-ghost use Rattle.cep_term.specs.Multiset.{IsContained};
+ghost use Rattle.cep_term.specs.Multiset.{nodes_in_all, IsContained};
 ghost use Rattle.cep_rule.specs.Binding.{needed_of};
 ghost use Rattle.cep_rule.specs.Instances.{full_instances, left_of};
 ghost use Rattle.cep_rule.specs.Limits.{IsHeight};
 ghost use Rattle.cep_rule.specs.Stages.{HasOffer, own_group, leaving_group};
 ghost use Rattle.cep_log.specs.Legal.{IsStepOf, IsLegalStep};
+ghost use Rattle.cep_step.specs.Changes.{CanStep, IsWeighed};
 ghost use Rattle.cep_check.specs.Causes.{IsOfStage, IsInTurn, IsStepCause};
 ghost use Rattle.cep_check.specs.Walking.{stands_at, IsWalkOf, IsReadyStep, IsLackCause, IsQuietCause, IsStageCause, IsStepCauseOf};
 
 use crate::cause::{Cause, CheckLimit};
 use crate::counts::first_lack;
-use crate::edit::{edit, edit_of, needed_atoms};
-use crate::laws::steps_are_done;
-use crate::limits::{nodes_made, weigh};
+use crate::needed::needed_atoms;
 use crate::premises::first_failure;
 use crate::walk::Walk;
 use cep_base::Steps;
@@ -23,6 +22,7 @@ use cep_log::LogStep;
 use cep_rule::laws::types_are_lawful;
 use cep_rule::{Program, Rule, Terms, gained};
 use cep_scratch::applies_any;
+use cep_step::{Weighed, weigh};
 use cep_term::laws::bags_are_lawful;
 use cep_term::{Bag, copy};
 use std::alloc::{AllocError, Global};
@@ -159,25 +159,38 @@ fn change(
         (IsStepCause program.now height (stands_at walk.old) rule.now step.now)) }
     ensures walk { IfOk result (λ cause. MatchOption cause (IsWalkOf program.now walk.new) (λ _. Unit {0})) }
 {
-    steps_are_done();
-    let values = &step.offer.values;
-    if nodes_made(&rule.right, values).is_none() {
-        return Ok(Some(Cause::OverLimit {
+    let change = match weighed(alloc, program, rule, &step.offer.values, walk)? {
+        Weighed::AtomTooLarge(_) => return Ok(Some(Cause::OverLimit {
             which: CheckLimit::Atom,
-        }));
-    }
-    let done = edit_of(alloc, program, rule, values, &walk.state)?;
-    let nodes = match weigh(&done.used, &done.gains, &walk.state, walk.nodes) {
-        Ok(nodes) => nodes,
-        Err(which) => return Ok(Some(Cause::OverLimit { which })),
+        })),
+        Weighed::StateTooFull(_) => return Ok(Some(Cause::OverLimit {
+            which: CheckLimit::State,
+        })),
+        Weighed::Within(change) => change,
     };
     if let Some(cause) = stage_cause(step.stage, rule.next) {
         return Ok(Some(cause));
     }
-    edit(alloc, &mut walk.state, &done)?;
+    change.edit(&mut walk.state)?;
     walk.stage = rule.next.unwrap_or(walk.stage);
-    walk.nodes = nodes;
+    walk.nodes = change.nodes;
     Ok(None)
+}
+
+// What a step by the rule comes to from where the walk stands.
+fn weighed(
+    alloc: Global,
+    program: &Program,
+    rule: &Rule,
+    values: &Terms,
+    walk: &Walk,
+) -> Result<Weighed, AllocError>
+    requires can { CanStep program.now.signature rule.now values.now walk.now.state }
+    requires counted { walk.now.nodes ≡ nodes_in_all walk.now.state }
+    ensures { IfOk result (IsWeighed program.now.signature rule.now values.now walk.now.state) }
+{
+    let signature = &program.parts().signature;
+    weigh(alloc, signature, rule, values, &walk.state, walk.nodes)
 }
 
 // Whether the stage that is said is another than the one that the rule names.

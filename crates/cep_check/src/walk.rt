@@ -1,11 +1,10 @@
-ghost use Rattle.std.specs.Prelude.{◌≡◌, ◌*◌, ◌≤◌, ◌<◌, length, IfOk};
-ghost use Rattle.cep_term.specs.Multiset.{nodes_in_all};
-ghost use Rattle.cep_rule.specs.State.{Fits};
+ghost use Rattle.std.specs.Prelude.{◌≡◌, IfOk};
 ghost use Rattle.cep_log.specs.Legal.{start_spot};
 ghost use Rattle.cep_check.specs.Walking.{stands_at, IsWalkOf};
 
 use cep_rule::Program;
-use cep_term::{Bag, nodes};
+use cep_step::nodes_in_state;
+use cep_term::Bag;
 use std::alloc::{AllocError, Global};
 
 // Where the steps of a log have led: a stage and a state. The state is edited in place, and its nodes
@@ -30,17 +29,4 @@ impl Walk {
             nodes: nodes_in_state(&parts.start),
         })
     }
-}
-
-// How many nodes the state has, each copy counted.
-fn nodes_in_state(state: &Bag) -> u64
-    requires { Fits state.now }
-    ensures { result ≡ nodes_in_all state.now }
-{
-    let mut sum = 0;
-    for i in 0..state.len() {
-        let (atom, copies) = state.entry(i);
-        sum += copies as u64 * nodes(atom);
-    }
-    sum
 }

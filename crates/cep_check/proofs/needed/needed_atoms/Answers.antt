@@ -4,7 +4,7 @@ use Rattle.cep_term.specs.Tree.{AtomTree, IsAtomInRange}
 use Rattle.cep_rule.specs.Patterns.{premise_of}
 use Rattle.cep_rule.specs.Instances.{full_instance}
 use Rattle.cep_check.proofs.Parted.{atom_in, next_needed}
-use Rattle.cep_check.proofs.edit.needed_atoms.Goals as goal
+use Rattle.cep_check.proofs.needed.needed_atoms.Goals as goal
 
 pub instance-requires : goal.instance-requires
 instance-requires c = holds_at_mapped (IsAtomInRange (length c.args.values.now)) atom_in c.args.rule.now.premises c.loop-i.i (premise_of c.get.result.now) c.requires c.get.ensures
