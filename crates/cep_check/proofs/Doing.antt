@@ -1,11 +1,9 @@
 -- What a step of a log does to where the steps have led.
-use Rattle.std.proofs.Common.{◌≡◌, inl, inr, ⊎_elim, ℕ, ◌<◌, ◌≤◌, List, length, Option, Some, None, unwrap_or, sym, ap, subst, ◌∙◌, arith}
-use Rattle.std.specs.Prelude.{IfSome}
+use Rattle.std.proofs.Common.{⊎_elim, ℕ, List, length, sym, subst, arith}
 use Rattle.std.specs.List.{AllByRecursion}
-use Rattle.cep_base.specs.declared.limits.TheConstants.{MOST_STAGES}
 use Rattle.cep_base.proofs.Lists.{all_weaker, all_mapped}
 use Rattle.cep_term.specs.Tree.{Tree, AtomTree, IsGroundAtom, IsAtomInRange}
-use Rattle.cep_term.specs.Multiset.{Multiset, nodes_in_all}
+use Rattle.cep_term.specs.Multiset.{Multiset}
 use Rattle.cep_rule.specs.declared.signature.Signature.{Signature}
 use Rattle.cep_rule.specs.declared.rule.Rule.{Rule}
 use Rattle.cep_rule.specs.declared.parts.Parts.{Parts}
@@ -13,20 +11,17 @@ use Rattle.cep_rule.specs.Typing.{IsTyped, AreValues}
 use Rattle.cep_rule.specs.TypeLaws.{TypeLaws}
 use Rattle.cep_rule.specs.State.{IsState, Fits}
 use Rattle.cep_rule.specs.Instances.{full_instance, full_instances}
-use Rattle.cep_rule.specs.Step.{Step}
-use Rattle.cep_rule.specs.Steps.{Spot, stage_after}
+use Rattle.cep_rule.specs.Steps.{Spot}
 use Rattle.cep_log.specs.declared.log.LogStep.{LogStep}
-use Rattle.cep_log.specs.Legal.{IsLegalStep}
 use Rattle.cep_step.specs.declared.change.Change.{Change}
-use Rattle.cep_step.specs.declared.weighing.Weighed.TheVariants.{AtomTooLarge, StateTooFull, Within}
+use Rattle.cep_step.specs.declared.weighing.Weighed.TheVariants.{StateTooFull, Within}
 use Rattle.cep_step.specs.Passing.{IsTooFull}
-use Rattle.cep_step.specs.Changes.{edited, CanStep, IsWeighed}
-use Rattle.cep_check.specs.declared.cause.CheckLimit.TheVariants.{Atom, State}
+use Rattle.cep_step.specs.Changes.{edited, IsWeighed}
+use Rattle.cep_check.specs.declared.cause.CheckLimit.TheVariants.{State}
 use Rattle.cep_check.specs.declared.cause.Cause.{Cause}
 use Rattle.cep_check.specs.declared.cause.Cause.TheVariants.{StartStage, StartState, OtherStage, NotContained, NotProved, TooHigh, NotQuiet, OverLimit, StageLine, NotEnded, EndState}
-use Rattle.cep_check.specs.declared.walk.Walk.{Walk}
 use Rattle.cep_check.specs.Causes.{IsInTurn, IsWithinLimits, IsStepCause}
-use Rattle.cep_check.specs.Walking.{IsStageCause, IsReadyStep, IsWalkOf}
+use Rattle.cep_check.specs.Walking.{IsStageCause, IsReadyStep}
 
 -- the instances of typed atoms by values of the right types
 pub in_range_all : TypeLaws → (signature : Signature) (kinds : List ℕ) (values : List Tree) → AreValues signature.cons kinds values → (atoms : List AtomTree) → AllByRecursion (IsTyped signature kinds) atoms → AllByRecursion (IsAtomInRange (length values)) atoms
@@ -36,32 +31,13 @@ in_range_all types signature kinds values are atoms typed = all_weaker (IsTyped 
 pub ground_all : TypeLaws → (signature : Signature) (kinds : List ℕ) (values : List Tree) → AreValues signature.cons kinds values → (atoms : List AtomTree) → AllByRecursion (IsTyped signature kinds) atoms → AllByRecursion IsGroundAtom (full_instances values atoms)
 ground_all types signature kinds values are atoms typed = all_mapped (IsTyped signature kinds) IsGroundAtom (full_instance values) atoms (λ a typed. types.ground signature kinds values a are typed) typed
 
--- the stage after a step is one of the program's
-pub stage_in_range : (stages stage : ℕ) (next : Option ℕ) → stage < stages → IfSome next (λ other. other < stages) → unwrap_or next stage < stages
-stage_in_range stages stage None within next = within
-stage_in_range stages stage (Some other) within next = next
-
 -- a state that is too full does not fit
 not_fitting : (state : Multiset) (number : ℕ) → IsTooFull state number → ¬ Fits state
 not_fitting state number full = λ fits. let few = fits.copies in let few' = fits.nodes in ⊎_elim (λ copies. let over = copies.0 in absurd (omega arith)) (λ nodes. let over = nodes.1 in absurd (omega arith)) full
 
 -- what a step in turn comes to
 module _ (program : Parts) (height : ℕ) (old : Spot) (rule : Rule) (step : LogStep) (ready : IsReadyStep program rule step) (is_state : IsState program.signature old.state) (fits : Fits old.state) (in_turn : IsInTurn program height old rule step) where
-  pub can_step : CanStep program.signature rule step.offer.values old.state
-  can_step = record {
-    typed = ready.typed;
-    divided = ready.divided;
-    small = ready.small;
-    are = ready.values;
-    is_state = is_state;
-    fits = fits;
-    contained = in_turn.is_proved.can_take.contained;
-  }
-
   -- it passes a limit
-  pub atom_cause : (number : ℕ) → IsWeighed program.signature rule step.offer.values old.state (AtomTooLarge number) → IsStepCause program height old rule step (OverLimit Atom)
-  atom_cause number weighed = (in_turn, weighed.0)
-
   pub state_cause : (number : ℕ) → IsWeighed program.signature rule step.offer.values old.state (StateTooFull number) → IsStepCause program height old rule step (OverLimit State)
   state_cause number weighed = (in_turn, weighed.0, (weighed.1.0, weighed.1.1, not_fitting weighed.1.0 number weighed.1.2))
 
@@ -88,32 +64,3 @@ module _ (program : Parts) (height : ℕ) (old : Spot) (rule : Rule) (step : Log
     stage_cause (OverLimit which) other = absurd other
     stage_cause NotEnded other = other
     stage_cause (EndState atom said is) other = other
-
-    -- it is legal
-    pub legal : (stage : ℕ) (state : Multiset) → stage ≡ stage_after rule old.stage → state ≡ edited old.state change → step.stage ≡ rule.next → IsLegalStep program height old (record { stage = stage; state = state }) step
-    legal stage state stage_is state_is said = record {
-      rule = rule;
-      machine = record {
-        numbered = ready.numbered;
-        values = ready.values;
-        in_turn = ⊎_elim (λ own. inl own) (λ leaving. inr (leaving, in_turn.quiet leaving)) in_turn.is_proved.can_take.of_stage;
-        proved = in_turn.is_proved.proved;
-        steps = record {
-          fit = weighed.0;
-          step = subst (Step program.signature rule step.offer.values old.state) (sym state_is) weighed.1.step;
-          fits = subst Fits (sym state_is) weighed.1.can.fits;
-          stage = stage_is;
-        };
-      };
-      stage = said;
-    }
-
-    -- and leads to a stage and a state of the program
-    pub walks : (new : Walk) → length program.stages ≤ MOST_STAGES → old.stage < length program.stages → new.stage ≡ stage_after rule old.stage → new.state ≡ edited old.state change → new.nodes ≡ change.nodes → IsWalkOf program new
-    walks new few in_range stage_is state_is nodes_is = record {
-      few_stages = few;
-      in_range = subst (λ stage. stage < length program.stages) (sym stage_is) (stage_in_range (length program.stages) old.stage rule.next in_range ready.next);
-      is_state = subst (IsState program.signature) (sym state_is) weighed.1.is_state;
-      fits = subst Fits (sym state_is) weighed.1.can.fits;
-      counted = nodes_is ∙ weighed.1.nodes ∙ ap (λ (bag : Multiset). nodes_in_all bag) (sym state_is);
-    }

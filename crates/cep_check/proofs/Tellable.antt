@@ -1,8 +1,7 @@
 -- What checking a log comes to can be told.
-use Rattle.std.proofs.Common.{◌≡◌, ◌⊎◌, ⊎_elim, ℕ, zero, suc, ◌+◌, ◌<◌, Bool, true, false, cond, ◌||◌, List, [], ◌∷◌, ◌++◌, map, length, Contains, Option, Some, None, refl, sym, ap, subst, ◌∙◌, arith}
-use Rattle.std.specs.Prelude.{slice_get, min, filter, IfSome, IsSomeAnd}
+use Rattle.std.proofs.Common.{◌≡◌, ◌⊎◌, ⊎_elim, ℕ, zero, suc, ◌<◌, Bool, true, false, cond, ◌||◌, List, [], ◌∷◌, ◌++◌, map, length, Contains, Option, Some, None, refl, sym, subst, ◌∙◌, arith}
+use Rattle.std.specs.Prelude.{slice_get, filter, IfSome, IsSomeAnd}
 use Rattle.std.specs.List.{AllByRecursion}
-use Rattle.std.proofs.lemmas.List.{map-append}
 use Rattle.cep_base.proofs.Elements.{all_at, both_all}
 use Rattle.cep_base.proofs.Lists.{all_mapped, holds_at}
 use Rattle.cep_term.specs.BagLaws.{BagLaws}
@@ -16,7 +15,7 @@ use Rattle.cep_rule.specs.declared.offer.Offer.{Offer}
 use Rattle.cep_rule.specs.Binding.{needed_of}
 use Rattle.cep_rule.specs.Typing.{IsTyped, AreValues, is_fact}
 use Rattle.cep_rule.specs.TypeLaws.{TypeLaws}
-use Rattle.cep_rule.specs.Instances.{full_instance, full_instances, kept_of, left_of, right_of}
+use Rattle.cep_rule.specs.Instances.{full_instance, full_instances, kept_of, left_of}
 use Rattle.cep_rule.specs.Program.{IsTypedRule, IsProgram}
 use Rattle.cep_rule.specs.Offers.{Applies}
 use Rattle.cep_rule.specs.Shapes.{IsOfferOf}
