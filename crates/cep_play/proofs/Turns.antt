@@ -25,7 +25,7 @@ use Rattle.cep_machine.specs.declared.stepped.Which.{Which}
 use Rattle.cep_machine.specs.declared.stepped.Which.TheVariants as which
 use Rattle.cep_machine.specs.Configuration.{Configuration}
 use Rattle.cep_machine.specs.Asking.{asked_offers, IsAskedIn}
-use Rattle.cep_machine.specs.Passing.{IsTooLarge, IsFirstTooLarge, IsTooFull}
+use Rattle.cep_step.specs.Passing.{IsTooLarge, IsFirstTooLarge, IsTooFull}
 use Rattle.cep_machine.specs.Stepping.{IsAskedAt, IsNext, Passes}
 use Rattle.cep_play.specs.declared.choice.Choice.{Choice}
 use Rattle.cep_play.specs.declared.choice.Choice.TheVariants.{Place, NoMore, NoRoom}
