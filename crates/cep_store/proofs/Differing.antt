@@ -6,8 +6,8 @@ use Rattle.std.specs.Option.{option_map_or}
 use Rattle.std.proofs.lemmas.Option.{get_or_from_slice_get, slice_get-get_or, slice_get_within}
 use Rattle.cep_base.proofs.Lists.{none_some, some_same, all_from_places}
 use Rattle.cep_term.specs.Tree.{Tree, AtomTree, variable, IsGround, AreGround, IsGroundAtom}
-use Rattle.cep_store.specs.Held.{AreApart, AreIds, trees_in, parts_in}
-use Rattle.cep_store.specs.Keys.{args_by, term_by, atom_by, terms_by, atoms_by, held_by, IsKey, AreTermKeys, AreKeys}
+use Rattle.cep_store.specs.Held.{AreApart, AreIds, trees_in, parts_in, args_by}
+use Rattle.cep_store.specs.Keys.{term_by, atom_by, terms_by, atoms_by, held_by, IsKey, AreTermKeys, AreKeys}
 use Rattle.cep_store.proofs.Readings.{key_below}
 
 -- what stands in an image comes from the list

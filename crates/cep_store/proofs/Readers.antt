@@ -6,8 +6,9 @@ use Rattle.std.specs.Option.{option_map_or}
 use Rattle.std.proofs.lemmas.Option.{slice_get-get_or, slice_get_within}
 use Rattle.cep_base.proofs.Lists.{get_mapped}
 use Rattle.cep_term.specs.Tree.{Tree, Trees, AtomTree, variable, node}
-use Rattle.cep_store.specs.Held.{Held, trees_in, parts_in, parts_at, args_at}
-use Rattle.cep_store.specs.Keys.{args_by, atom_by, terms_by, held_by, AreKeys, IsTermKey, IsAtomKey}
+use Rattle.cep_store.specs.Held.{Held, trees_in, parts_in, parts_at, args_at, args_by}
+use Rattle.cep_store.specs.Keys.{atom_by, terms_by, held_by, AreKeys, IsTermKey, IsAtomKey}
+use Rattle.cep_store.proofs.Differing.{are_ids}
 use Rattle.cep_store.proofs.Weights.{has_parts, held_parts, reads_held}
 
 module _ (terms atoms : List (List ℕ)) (are : AreKeys terms atoms) (id : ℕ) (key : List ℕ) where
@@ -24,6 +25,7 @@ module _ (terms atoms : List (List ℕ)) (are : AreKeys terms atoms) (id : ℕ) 
         small = parts.small;
         within = subst (λ n. AllByRecursion (λ arg. arg < n) (drop 1 key)) (sym are.terms.count) parts.within;
         reads = get_mapped (atom_by (terms_by terms)) atoms id key at ∙ ap Some parts.reads_atom;
+        ids = are_ids terms atoms are;
       }
 
 length_trees : (terms : List Tree) (ids : List ℕ) → length (trees_in (args_by terms ids)) ≡ length ids

@@ -6,8 +6,8 @@ use Rattle.std.proofs.lemmas.List.{get_or_append_left}
 use Rattle.std.proofs.lemmas.Option.{slice_get_within, get_or_from_slice_get}
 use Rattle.cep_base.proofs.Lists.{none_some, all_weaker}
 use Rattle.cep_term.specs.Tree.{Tree, Trees, AtomTree, variable, node, none, more}
-use Rattle.cep_store.specs.Held.{AreApart, IsFrontOf}
-use Rattle.cep_store.specs.Keys.{args_by, term_by, atom_by, terms_from, terms_by, IsKey, AreTermKeys, TakesPlace, AddsIds}
+use Rattle.cep_store.specs.Held.{AreApart, IsFrontOf, args_by}
+use Rattle.cep_store.specs.Keys.{term_by, atom_by, terms_from, terms_by, IsKey, AreTermKeys, TakesPlace, AddsIds}
 use Rattle.cep_store.proofs.Places.{get_front, get_last, get_pushed, front_same, front_push, front_get}
 
 pub args_stay : (terms behind : List Tree) (ids : List ℕ) → AllByRecursion (λ id. id < length terms) ids → args_by (terms ++ behind) ids ≡ args_by terms ids

@@ -4,7 +4,8 @@ use Rattle.std.specs.Prelude.{slice_get}
 use Rattle.std.specs.List.{AllByRecursion}
 use Rattle.std.proofs.lemmas.Option.{get_or_from_slice_get, slice_get_within}
 use Rattle.cep_term.specs.Tree.{Tree, Trees, variable, node, more, term_nodes, argument_nodes}
-use Rattle.cep_store.specs.Keys.{args_by, term_by, atom_by, terms_by, IsKey, AreTermKeys}
+use Rattle.cep_store.specs.Held.{args_by}
+use Rattle.cep_store.specs.Keys.{term_by, atom_by, terms_by, IsKey, AreTermKeys}
 use Rattle.cep_store.proofs.Readings.{key_below}
 
 pub term_weight : List (List ℕ) → ℕ → ℕ

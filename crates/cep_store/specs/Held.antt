@@ -1,5 +1,5 @@
 -- What a store holds: ground terms and atoms, whose ids are their places.
-use Rattle.std.specs.Prelude.{◌≡◌, ℕ, List, [], ◌∷◌, ◌++◌, ◌⊎◌, slice_get, Some, Contains, refl}
+use Rattle.std.specs.Prelude.{◌≡◌, ℕ, List, [], ◌∷◌, ◌++◌, ◌⊎◌, slice_get, slice_index_or, Some, Contains, refl}
 use Rattle.std.specs.List.{AllByRecursion}
 use Rattle.std.specs.Option.{option_map_or}
 use Rattle.std.specs.Coded.{Coded, code_by, coded×, coded_list}
@@ -25,6 +25,11 @@ trees_in (more t rest) = t ∷ trees_in rest
 abbrev pub parts_in : Tree → List Tree
 parts_in (variable v) = []
 parts_in (node c args) = trees_in args
+
+-- the arguments with these ids
+abbrev pub args_by : List Tree → List ℕ → Trees
+args_by terms [] = none
+args_by terms (id ∷ ids) = more (slice_index_or terms id (variable 0)) (args_by terms ids)
 
 -- the arguments of the term with this id, and none where no term has it
 abbrev pub parts_at : Held → ℕ → List Tree

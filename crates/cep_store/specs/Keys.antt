@@ -1,13 +1,8 @@
 -- Private. The keys of terms and atoms: a key is the number of a head, and then the ids of its arguments.
-use Rattle.std.specs.Prelude.{◌≡◌, ℕ, ◌^◌, ◌<◌, ◌≤◌, List, [], ◌∷◌, ◌++◌, ◌⊎◌, length, drop, map, slice_get, slice_index, slice_index_or, Some}
+use Rattle.std.specs.Prelude.{◌≡◌, ℕ, ◌^◌, ◌<◌, ◌≤◌, List, [], ◌∷◌, ◌++◌, ◌⊎◌, length, drop, map, slice_get, slice_index, Some}
 use Rattle.std.specs.List.{AllByRecursion}
-use Rattle.cep_term.specs.Tree.{Tree, Trees, AtomTree, variable, node, none, more}
-use Rattle.cep_store.specs.Held.{Held, AreApart}
-
--- the arguments with these ids
-abbrev pub args_by : List Tree → List ℕ → Trees
-args_by terms [] = none
-args_by terms (id ∷ ids) = more (slice_index_or terms id (variable 0)) (args_by terms ids)
+use Rattle.cep_term.specs.Tree.{Tree, Trees, AtomTree, variable, node, none}
+use Rattle.cep_store.specs.Held.{Held, args_by, AreApart, AreIds}
 
 -- the term of a key
 abbrev pub term_by : List Tree → List ℕ → Tree
@@ -73,9 +68,10 @@ pub record IsTermKey (held : Held) (id : ℕ) (key : List ℕ) : Type 0 where
   pub within : AllByRecursion (λ part. part < length held.terms) (drop 1 key)
   pub reads : slice_get held.terms id ≡ Some (node (slice_index key 0) (args_by held.terms (drop 1 key)))
 
--- The key is that of the atom with this id.
+-- The key is that of the atom with this id, where ids are what they are to be.
 pub record IsAtomKey (held : Held) (id : ℕ) (key : List ℕ) : Type 0 where
   pub some : 1 ≤ length key
   pub small : slice_index key 0 < 2 ^ 32
   pub within : AllByRecursion (λ arg. arg < length held.terms) (drop 1 key)
   pub reads : slice_get held.atoms id ≡ Some (record { pred = slice_index key 0; args = args_by held.terms (drop 1 key) })
+  pub ids : AreIds held

@@ -1,7 +1,8 @@
 ghost use Rattle.std.specs.Prelude.{◌≡◌, ◌<◌, length, slice_get, Some, IfOk};
 ghost use Rattle.std.specs.List.{AllByRecursion};
 ghost use Rattle.cep_term.specs.Tree.{tree_of, trees_of};
-ghost use Rattle.cep_store.specs.Keys.{args_by, terms_by, AreTermKeys};
+ghost use Rattle.cep_store.specs.Held.{args_by};
+ghost use Rattle.cep_store.specs.Keys.{terms_by, AreTermKeys};
 
 use crate::keys::{Keys, head_in, ids_in};
 use cep_term::{Args, Term};

@@ -1,6 +1,7 @@
-ghost use Rattle.std.specs.Prelude.{◌≡◌, ◌<◌, [], length, slice_get, Some, IfOk, OnErr};
+ghost use Rattle.std.specs.Prelude.{◌≡◌, ℕ, ◌<◌, [], length, slice_get, Some, IfOk, OnErr};
+ghost use Rattle.std.specs.List.{AllByRecursion};
 ghost use Rattle.cep_term.specs.Tree.{Trees, node, atom_of, tree_of, IsGroundAtom};
-ghost use Rattle.cep_store.specs.Held.{parts_at, args_at, IsPartAmong, AddsOnly, AreIds, HasId, StaysHeld};
+ghost use Rattle.cep_store.specs.Held.{args_by, parts_at, args_at, IsPartAmong, AddsOnly, AreIds, HasId, StaysHeld};
 ghost use Rattle.cep_store.specs.Keys.{IsAtomKey, IsTermKey};
 
 use crate::interning::intern_args;
@@ -102,6 +103,17 @@ impl Store {
         head_in(self.atom_key(atom))
     }
 
+    /// The term ids of the atom's arguments, in order. It takes no memory.
+    pub fn args(&self, atom: u64) -> &[u64]
+        requires { atom < length self.now.atoms }
+        ensures read { (pred : ℕ) × (slice_get self.now.atoms atom ≡ Some (record { pred = pred; args = args_by self.now.terms result.now })) }
+        ensures within { AllByRecursion (λ id. id < length self.now.terms) result.now }
+        ensures ids { AreIds self.now }
+    {
+        let atom_key = self.atom_key(atom);
+        ids_in(atom_key)
+    }
+
     /// How many arguments the atom with this id has. It takes no memory.
     pub fn count_args(&self, atom: u64) -> usize
         requires { atom < length self.now.atoms }
@@ -126,6 +138,16 @@ impl Store {
     {
         let key = self.term_key(term);
         head_in(key)
+    }
+
+    /// The term ids of the term's arguments, in order. It takes no memory.
+    pub fn parts(&self, term: u64) -> &[u64]
+        requires { term < length self.now.terms }
+        ensures read { (head : ℕ) × (slice_get self.now.terms term ≡ Some (node head (args_by self.now.terms result.now))) }
+        ensures within { AllByRecursion (λ id. id < length self.now.terms) result.now }
+    {
+        let term_key = self.term_key(term);
+        ids_in(term_key)
     }
 
     /// How many arguments the term with this id has. It takes no memory.

@@ -101,6 +101,22 @@ fn first_part(store: &Store, id: u64) -> Result<u64, Fail> {
     Ok(store.part_of(id, 0))
 }
 
+// The arguments of an atom, by its id.
+fn args(store: &Store, id: u64) -> Result<&[u64], Fail> {
+    if store.atoms() <= id {
+        return Err(Fail::from("no atom"));
+    }
+    Ok(store.args(id))
+}
+
+// The arguments of a term, by its id.
+fn parts(store: &Store, id: u64) -> Result<&[u64], Fail> {
+    if store.terms() <= id {
+        return Err(Fail::from("no term"));
+    }
+    Ok(store.parts(id))
+}
+
 // The constructor of a term, by its id.
 fn head(store: &Store, id: u64) -> Result<u32, Fail> {
     if store.terms() <= id {
@@ -124,5 +140,23 @@ fn an_id_reads_its_atom_and_terms(rt: HostRuntime) -> Result<(), Fail> {
     assert!(rt; reads_atom(rt.alloc(), &store, id)?);
     assert!(rt; reads_term(rt.alloc(), &store, arg)?);
     assert_eq!(rt; (head(&store, arg)?, head(&store, part)?), (1, 0));
+    Ok(())
+}
+
+#[test]
+fn an_id_lists_its_arguments(rt: HostRuntime) -> Result<(), Fail> {
+    let mut store = Store::new(rt.alloc());
+    let id = filled(rt.alloc(), &mut store)?;
+    let arg = first_arg(&store, id)?;
+    let part = first_part(&store, arg)?;
+    assert_eq!(rt;
+        (args(&store, id)?.len(), args(&store, id)?.first()),
+        (1, Some(&arg))
+    );
+    assert_eq!(rt;
+        (parts(&store, arg)?.len(), parts(&store, arg)?.first()),
+        (1, Some(&part))
+    );
+    assert_eq!(rt; parts(&store, part)?.len(), 0);
     Ok(())
 }

@@ -1,6 +1,7 @@
 use Rattle.std.proofs.Common.{◌≡◌, ◌<◌, drop, Some, ap, ◌∙◌, sym, subst, arith}
 use Rattle.cep_term.specs.Tree.{trees_of, node}
-use Rattle.cep_store.specs.Keys.{terms_by, args_by}
+use Rattle.cep_store.specs.Held.{args_by}
+use Rattle.cep_store.specs.Keys.{terms_by}
 use Rattle.cep_store.proofs.Weights.{term_weight, args_weight, first_falls, others_fall, all_parts, args_read, held_parts, reads_held, parts_are_less}
 use Rattle.cep_store.proofs.reading.+read.Goals as goal
 
