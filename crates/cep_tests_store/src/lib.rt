@@ -7,6 +7,8 @@ mod columns;
 #[cfg(test)]
 mod masks;
 #[cfg(test)]
+mod partials;
+#[cfg(test)]
 mod stores;
 #[cfg(test)]
 mod worlds;
