@@ -9,11 +9,11 @@ abbrev pub OccursInSome : ℕ → List AtomTree → Type 0
 OccursInSome v [] = ⊥
 OccursInSome v (a ∷ atoms) = OccursIn v a ⊎ OccursInSome v atoms
 
--- the atoms of the linear premises, those that are kept included
+-- the atoms of the premises that a state has to meet, those that are kept included
 abbrev pub needed_of : Rule → List AtomTree
 needed_of rule = map (λ premise. premise.atom) rule.premises
 
--- Each variable of the rule occurs on its left side, in a linear premise or a backward one.
+-- Each variable of the rule occurs on its left side, in a premise that a state has to meet or in a backward one.
 abbrev pub IsBoundRule : Rule → Type 0
 IsBoundRule rule = (v : ℕ) → v < length rule.vars → OccursInSome v (needed_of rule ++ rule.backs)
 

@@ -6,7 +6,7 @@ use Rattle.cep_term.specs.Codes.{atom_code}
 use Rattle.cep_rule.specs.declared.rule.Premise.{Premise}
 use Rattle.cep_rule.specs.declared.clause.Clause.{Clause}
 
--- A linear premise of a rule: an atom that is needed, and whether the rule keeps it.
+-- A premise of a rule that a state has to meet: an atom that is needed, and whether the rule keeps it.
 pub record PremiseTree : Type 0 where
   pub atom : AtomTree
   pub kept : Bool

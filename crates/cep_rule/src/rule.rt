@@ -7,8 +7,8 @@ use cep_term::{Atom, AtomList};
 use std::alloc::{AllocError, Global};
 use std::marker::Model;
 
-/// A linear premise of a rule: an atom that is needed, and whether the rule keeps it, as Ceptre's
-/// `$` says.
+/// A premise of a rule that the state has to meet: an atom that is needed, and whether the rule keeps
+/// it, as Ceptre's `$` says.
 #[derive(Debug, Drop)]
 pub struct Premise {
     pub atom: Atom,
