@@ -1,0 +1,36 @@
+"""Runs the program for the tools of this folder: `./ceptre` at the top, or what CEPTRE names."""
+
+import os
+import subprocess
+
+TOP = os.path.dirname(os.path.dirname(os.path.abspath(__file__)))
+
+# Statuses of the program, as docs/FORMATS.md has them.
+DONE, REJECTED, REFUSED, LIMIT, UNREAD = 0, 1, 3, 4, 7
+
+
+class CannotRun(Exception):
+    """The program is not there, or ended without an answer."""
+
+
+def run(*words, typed=b""):
+    """The status and the lines of the program, called with these words."""
+    command = os.environ.get("CEPTRE") or os.path.join(TOP, "ceptre")
+    try:
+        done = subprocess.run([command, *words], input=typed, stdout=subprocess.PIPE, check=False)
+    except OSError as error:
+        raise CannotRun(f"{command}: {error.strerror}") from error
+    return done.returncode, done.stdout.decode("latin-1").splitlines()
+
+
+def refusal(world):
+    """The line by which a world is refused, or None where it is accepted.
+
+    An empty transcript is refused without a run, and only behind an accepted world.
+    """
+    status, lines = run("check", world, os.devnull)
+    if status == REFUSED and lines:
+        return lines[0]
+    if status == REJECTED and lines == ["refused 1 Line"]:
+        return None
+    raise CannotRun(lines[0] if lines else f"the program ended with status {status}")

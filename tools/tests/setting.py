@@ -1,0 +1,57 @@
+"""What the tests of the tools share: where things stand, and how a tool is called."""
+
+import os
+import subprocess
+import sys
+from importlib.machinery import SourceFileLoader
+from importlib.util import module_from_spec, spec_from_loader
+
+sys.dont_write_bytecode = True
+
+TOP = os.path.dirname(os.path.dirname(os.path.dirname(os.path.abspath(__file__))))
+TOOLS = os.path.join(TOP, "tools")
+WORLDS = os.path.join(TOP, "worlds")
+sys.path.insert(0, TOOLS)
+
+# The gate tests what it has built.
+os.environ.setdefault("CEPTRE", os.path.join(TOP, "crates", "ceptre", "out", "ceptre"))
+
+
+def tool(name, *words, folder=TOP, **environment):
+    """The status, the output and the errors of a tool that is called in a folder."""
+    done = subprocess.run(
+        [os.path.join(TOOLS, name), *words],
+        cwd=folder,
+        env={**os.environ, **environment},
+        capture_output=True,
+        text=True,
+        check=False,
+    )
+    return done.returncode, done.stdout, done.stderr
+
+
+def module_of(name):
+    """A tool as a module, for the tests that call it often."""
+    loader = SourceFileLoader(name, os.path.join(TOOLS, name))
+    module = module_from_spec(spec_from_loader(name, loader))
+    loader.exec_module(module)
+    return module
+
+
+def read(*path):
+    with open(os.path.join(*path), encoding="utf-8") as file:
+        return file.read()
+
+
+def world_names():
+    return sorted(name[:-4] for name in os.listdir(WORLDS) if name.endswith(".cep"))
+
+
+def typed_and_words(world):
+    """What was typed when a world was played, as a path, and its options."""
+    typed = os.path.join(WORLDS, world + ".in")
+    words = os.path.join(WORLDS, world + ".words")
+    return (
+        typed if os.path.exists(typed) else os.devnull,
+        read(words).split() if os.path.exists(words) else [],
+    )
