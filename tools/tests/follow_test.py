@@ -1,0 +1,125 @@
+"""The state at each step is that of a run that ends there, and each step is told."""
+
+import os
+import subprocess
+import tempfile
+import unittest
+
+from setting import TOP, WORLDS, module_of, read, tool, typed_and_words, world_names
+from language import read_world
+from transcript import Transcript
+
+WALK = ("worlds/walk.cep", "worlds/walk.log")
+
+# Two steps of worlds/dungeon.log: one without backward premises, and one with two.
+TOLD = """\
+step 2: take A=yard T=iron/key
+  take : $you A * lies T A -o carry T.
+  - lies iron/key yard
+  $ you yard
+  + carry iron/key
+step 3: unlock A=yard D=portal B=chapel K=iron/key
+  unlock : $you A * leads D A B * locked D * $carry K * opens K D -o open D.
+  - locked portal
+  $ you yard
+  $ carry iron/key
+  + open portal
+  by leads portal yard chapel: 6. leads D A B <- between D A B.  with D=portal A=yard B=chapel
+    2. between portal yard chapel.
+  by opens iron/key portal: 21. opens K D <- bit K S, keyhole D S.  with K=iron/key D=portal S=square
+    16. bit iron/key square.
+    18. keyhole portal square.
+"""
+
+
+def end_listing(world, turns):
+    """The listing of a run of a world as it was played, ended by a limit of turns."""
+    typed, words = typed_and_words(world)
+    path = os.path.join(WORLDS, world + ".cep")
+    with open(typed, "rb") as file:
+        done = subprocess.run(
+            [os.environ["CEPTRE"], "play", path, *words, f"turns={turns}"],
+            stdin=file,
+            stdout=subprocess.PIPE,
+            text=True,
+            check=False,
+        )
+    lines = done.stdout.splitlines()
+    ends = [i for i, line in enumerate(lines) if line.startswith("end ")]
+    return lines[ends[0] + 1 :]
+
+
+class Follow(unittest.TestCase):
+    def test_the_state_at_each_step_is_that_of_a_run_that_ends_there(self):
+        follow = module_of("follow")
+        for name in world_names():
+            world = read_world(read(WORLDS, name + ".cep"))
+            log = Transcript.of(read(WORLDS, name + ".log"))
+            self.assertEqual(follow.listing(world, log.last), end_listing(name, 1_000_000))
+            for at in range(1, len(log.steps) + 1):
+                with self.subTest(world=name, at=at):
+                    state = follow.state_at(world, log, at)
+                    self.assertEqual(state[1:], end_listing(name, at))
+
+    def test_each_world_is_told_whole(self):
+        follow = module_of("follow")
+        for name in world_names():
+            with self.subTest(world=name):
+                world = read_world(read(WORLDS, name + ".cep"))
+                log = Transcript.of(read(WORLDS, name + ".log"))
+                lines = follow.told(world, log)
+                steps = [line for line in lines if line.startswith("step ")]
+                self.assertEqual(len(steps), len(log.steps))
+                self.assertIn(f"end {log.end}", lines)
+
+    def test_what_is_told_of_a_step(self):
+        status, output, _ = tool("follow", "worlds/dungeon.cep", "worlds/dungeon.log")
+        self.assertEqual(status, 0)
+        self.assertIn(TOLD, output)
+
+    def test_a_step_that_leaves_a_stage(self):
+        _, output, _ = tool("follow", "worlds/nim.cep", "worlds/nim.log")
+        self.assertIn("  handed : qui * stage yours * moved", output)
+        self.assertIn("  + turn\n  stage others\n", output)
+
+    def test_rules_without_a_label_and_blanks(self):
+        text = (
+            "t : type. a : t. b : t. p t : pred. q t t : pred. r : pred.\n"
+            "stage one = {} stage two = {}\n"
+            "qui * stage one * p _ * $q X _ -o stage two * p X.\n"
+            "_ : qui * stage two * r -o stage one.\n"
+            "#trace _ one { p b, q a b, r, r }.\n"
+        )
+        with tempfile.TemporaryDirectory() as folder:
+            world, log = os.path.join(folder, "w.cep"), os.path.join(folder, "w.log")
+            with open(world, "w", encoding="utf-8") as file:
+                file.write(text)
+            with open(log, "w", encoding="utf-8") as file:
+                subprocess.run([os.environ["CEPTRE"], "play", world], stdout=file, check=False)
+            status, output, errors = tool("follow", world, log)
+            _, state, _ = tool("follow", world, log, "--at", "1")
+        self.assertEqual((status, errors), (0, ""))
+        self.assertIn("step 1: qui/1 _1=b X=a _2=b\n", output)
+        self.assertIn("  - p b\n  $ q a b\n  + p a\n  stage two\n", output)
+        self.assertEqual(state, "stage two\nhave 1 p a\nhave 1 q a b\nhave 2 r\n")
+
+    def test_a_state(self):
+        answer = tool("follow", *WALK, "--at", "2")
+        have = "have 1 at alice tower\nhave 1 at bob mill\nhave 1 at carol tower\n"
+        self.assertEqual(answer, (0, "stage walk\n" + have + "have 1 met alice carol\n", ""))
+        self.assertEqual(tool("follow", *WALK, "--at", "99")[0], 1)
+
+    def test_what_is_not_accepted(self):
+        answer = tool("follow", WALK[0], "worlds/nim.log")
+        self.assertEqual(answer, (1, "", "worlds/nim.log: refused 3 Line\n"))
+        self.assertEqual(tool("follow", "README.md", WALK[1])[0], 3)
+        self.assertEqual(tool("follow", WALK[0], "worlds/none.log")[0], 3)
+        self.assertEqual(tool("follow", *WALK, CEPTRE="/bin/false")[0], 3)
+        self.assertEqual(tool("follow", WALK[0])[0], 2)
+
+    def test_help(self):
+        self.assertEqual(tool("follow", "--help", folder=TOP)[0], 0)
+
+
+if __name__ == "__main__":
+    unittest.main()
