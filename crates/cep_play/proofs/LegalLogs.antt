@@ -29,7 +29,7 @@ use Rattle.cep_play.specs.declared.settings.Settings.{Settings}
 use Rattle.cep_play.specs.Deciding.{Supply}
 use Rattle.cep_play.specs.Run.{Position, Question, Turn, Ending, start_of, IsTurn, AreTurns, LeadsNowhere, EndsAt, Run}
 use Rattle.cep_play.specs.Logs.{HoldsTurn, HoldsEnding, HoldsRun}
-use Rattle.cep_play.proofs.StepThere.{StateLaws, next_is_state}
+use Rattle.cep_play.proofs.StepThere.{LeadToStates}
 use Rattle.cep_play.proofs.TurnSteps.{machine_steps}
 
 -- Steps
@@ -51,14 +51,14 @@ pub record IsKept (program : Parts) (spot : Spot) : Type 0 where
   pub is_state : IsState program.signature spot.state
   pub fits : Fits spot.state
 
-module _ (laws : StateLaws) (program : Parts) (kept : IsProgram program) (settings : Settings) (height_is : IsHeight settings.height) where
+module _ (lead : LeadToStates) (program : Parts) (kept : IsProgram program) (settings : Settings) (height_is : IsHeight settings.height) where
   -- a step of the machine leads from a state to a state
   pub step_keeps : (old new : Spot) (offer : Offer) (rule : Rule) (proofs : List ProofTree) → IsMachineStep program settings.height old new offer rule proofs → IsKept program old → IsKept program new
   step_keeps old new offer rule proofs is before =
       let typed = holds_at (IsTypedRule program.signature) program.rules offer.rule rule kept.typed_rules is.numbered in
       let divided = holds_at (IsDividedRule program.signature) program.rules offer.rule rule kept.divided_rules is.numbered in
       record {
-        is_state = next_is_state laws program.signature rule offer.values typed divided is.values old.state new.state before.is_state is.steps.fit is.steps.step;
+        is_state = lead program.signature rule offer.values old.state new.state typed divided is.values before.is_state is.steps.fit is.steps.step;
         fits = is.steps.fits;
       }
 

@@ -6,10 +6,10 @@ use Rattle.std.proofs.lemmas.Option.{slice_get_within, get_or_from_slice_get}
 use Rattle.cep_base.specs.declared.limits.TheConstants.{MOST_OFFERS}
 use Rattle.cep_base.proofs.Elements.{contains_none, contains_first}
 use Rattle.cep_base.proofs.Lists.{holds_at}
-use Rattle.cep_term.specs.Multiset.{Multiset}
+use Rattle.cep_term.specs.Multiset.{Multiset, gathered}
 use Rattle.cep_rule.specs.declared.parts.Parts.{Parts}
 use Rattle.cep_rule.specs.declared.offer.Offer.{Offer}
-use Rattle.cep_rule.specs.Instances.{full_instances, left_of, kept_of}
+use Rattle.cep_rule.specs.Instances.{full_instances, taken_by, added_by}
 use Rattle.cep_rule.specs.State.{IsState}
 use Rattle.cep_rule.specs.Offers.{Applies, AreOffers, IsOffer}
 use Rattle.cep_rule.specs.Stages.{own_group, leaving_group, HasOffer, IsAsked, IsQuiet}
@@ -25,7 +25,7 @@ use Rattle.cep_play.specs.declared.settings.Settings.{Settings}
 use Rattle.cep_play.specs.Choice.{IsChoiceWithin}
 use Rattle.cep_play.specs.Deciding.{Supply}
 use Rattle.cep_play.specs.Run.{Position, Question, Turn, Ending, IsQuestion, IsChosen, IsTurn, PassesLimit, LeadsNowhere, EndsAt, Run}
-use Rattle.cep_play.proofs.StepThere.{ThereLaws, all_fit_or_not, state_fits_or_not, proofs_there, next_is_state}
+use Rattle.cep_play.proofs.StepThere.{ThereLaws, all_fit_or_not, state_fits_or_not, proofs_there}
 use Rattle.cep_play.proofs.DecisionThere.{decision_there}
 
 -- something stands at each place of a list
@@ -87,8 +87,8 @@ module _ (laws : ThereLaws) (program : Parts) (settings : Settings) (kept : IsPr
         let typed = holds_at (IsTypedRule signature) program.rules offer.rule rule kept.typed_rules applies.numbered in
         let divided = holds_at (IsDividedRule signature) program.rules offer.rule rule kept.divided_rules applies.numbered in
         let chosen : IsChosen program question offer rule = record { place = place; chosen = is; at_place = at_place; of_rule = applies.numbered } in
-        let next = state_after signature state (left_of signature rule values) (full_instances values (rule.right ++ kept_of rule)) in
-        let step : Step signature rule values state next = laws.edit signature rule values state typed applies.values is_state.bag applies.contained in
+        let next = state_after signature state (gathered (taken_by signature rule values)) (added_by signature rule values) in
+        let step : Step signature rule values state next = laws.edit signature rule values state typed applies.values is_state applies.contained in
         let passing = λ (word : EndWord) (passes : PassesLimit program rule values state word). subst (λ (choice : Choice). LeadsNowhere program state question choice word) (sym is) (offer, rule, chosen, passes) in
         let proofs = proofs_there program settings.height (full_instances values rule.backs) applies.derivable in
         elim (all_fit_or_not (full_instances values rule.right)) [
@@ -98,7 +98,7 @@ module _ (laws : ThereLaws) (program : Parts) (settings : Settings) (kept : IsPr
             | inl fits ↦ inl (record {
               turn = record { before = at; question = question; offer = offer; rule = rule; proofs = proofs.0; after = record { spot = record { stage = stage_after rule at.spot.stage; state = next }; turns = at.turns + 1 }; left = left };
               is = record { here = refl; asks = asks; chosen = chosen; proved = proofs.1; steps = record { fit = fit; step = step; fits = fits; stage = refl }; counted = refl };
-              state = next_is_state laws.states signature rule values typed divided applies.values state next is_state fit step;
+              state = laws.lead signature rule values state next typed divided applies.values is_state fit step;
             })
           ]
         ]

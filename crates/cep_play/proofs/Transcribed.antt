@@ -44,7 +44,7 @@ use Rattle.cep_play.specs.Dialogue.{question_events, last_events, turn_events, e
 use Rattle.cep_play.specs.Logs.{written_bytes, HoldsTurn, HoldsRun}
 use Rattle.cep_play.proofs.OneLines.{TextLaws, literal, one_line_both}
 use Rattle.cep_play.proofs.Asides.{bytes_of, IsAside, no_aside, written_both, written_outs, question_aside}
-use Rattle.cep_play.proofs.StepThere.{StateLaws}
+use Rattle.cep_play.proofs.StepThere.{LeadToStates}
 use Rattle.cep_play.proofs.LegalLogs.{IsKept, held_step, step_keeps, as_many_proofs, legal_log}
 
 -- Lines
@@ -171,7 +171,7 @@ ending_one_line end_word.Typed = literal (codes "end typed") refl
 ending_one_line end_word.Atom = literal (codes "end atom") refl
 ending_one_line end_word.State = literal (codes "end state") refl
 
-module _ (laws : StateLaws) (texts : TextLaws) (program : Parts) (kept : IsProgram program) (settings : Settings) (height_is : IsHeight settings.height) where
+module _ (laws : LeadToStates) (texts : TextLaws) (program : Parts) (kept : IsProgram program) (settings : Settings) (height_is : IsHeight settings.height) where
   -- the offer of a turn applies where the turn begins
   turn_applies : (at : Position) (from : Supply) (turn : Turn) → IsTurn program settings at from turn → Applies program settings.height at.spot.state turn.offer
   turn_applies at from turn is =

@@ -12,10 +12,9 @@ ghost use Rattle.cep_play.specs.Dialogue.{Dialogue};
 
 use cep_choice::laws::drawn_places_are_within;
 use cep_rule::laws::{
-    edits_are_steps, one_list_of_offers, one_state_after_a_step, sides_are_bags, types_are_lawful,
+    edits_are_steps, one_list_of_offers, one_state_after_a_step, steps_lead_to_states,
 };
 use cep_scratch::laws::offers_are_there;
-use cep_term::laws::bags_are_lawful;
 
 /// From a position, what is typed and the seed determine the run: its turns, but for the derivations
 /// that they carry, how it ends, and what is left of the supply.
@@ -69,9 +68,7 @@ pub fn runs_are_there()
         → (turns : List Turn) × (ending : Ending) × (to : Supply) × Run program settings at from turns ending to }
 {
     offers_are_there();
-    bags_are_lawful();
-    types_are_lawful();
-    sides_are_bags();
+    steps_lead_to_states();
     edits_are_steps();
     drawn_places_are_within();
 }

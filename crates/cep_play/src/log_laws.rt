@@ -17,8 +17,7 @@ ghost use Rattle.cep_play.specs.Logs.{written_bytes, HoldsRun};
 use cep_log::laws::{
     lines_are_read_as_written, listings_are_read_as_written, steps_are_read_as_written,
 };
-use cep_rule::laws::{derivations_have_shape, sides_are_bags, types_are_lawful, values_are_small};
-use cep_term::laws::bags_are_lawful;
+use cep_rule::laws::{derivations_have_shape, steps_lead_to_states, values_are_small};
 
 /// A log that holds a run from the start is legal, however its lines are numbered: so a check accepts
 /// it.
@@ -32,9 +31,7 @@ pub fn logs_of_runs_are_legal()
         → length log.steps ≤ log.lines
         → IsLegal program log }
 {
-    bags_are_lawful();
-    types_are_lawful();
-    sides_are_bags();
+    steps_lead_to_states();
     listings_are_read_as_written();
 }
 
@@ -60,9 +57,7 @@ pub fn dialogues_have_logs()
         → length (written_bytes events) ≤ MOST_LOG
         → (log : Log) × HasLog program (written_bytes events) log × HoldsRun program settings turns ending log × IsLegal program log × (length log.steps ≡ length turns) }
 {
-    bags_are_lawful();
-    types_are_lawful();
-    sides_are_bags();
+    steps_lead_to_states();
     derivations_have_shape();
     values_are_small();
     lines_are_read_as_written();

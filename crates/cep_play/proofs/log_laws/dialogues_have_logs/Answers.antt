@@ -1,11 +1,9 @@
-use Rattle.cep_play.proofs.StepThere.{StateLaws}
 use Rattle.cep_play.proofs.OneLines.{TextLaws}
 use Rattle.cep_play.proofs.Transcribed.{transcript_there}
 use Rattle.cep_play.proofs.log_laws.dialogues_have_logs.Goals as goal
 
 pub returns : goal.returns
 returns c = λ program settings come turns ending events rest kept height_is.
-    let laws : StateLaws = record { bags = c.bags_are_lawful.ensures; types = c.types_are_lawful.ensures; right_bag = c.sides_are_bags.ensures.right } in
     let read = c.lines_are_read_as_written.ensures in
     let listings = c.listings_are_read_as_written.ensures in
     let small = c.values_are_small.ensures in
@@ -26,4 +24,4 @@ returns c = λ program settings come turns ending events rest kept height_is.
       small_offers = small.offers;
       small_proofs = small.derivations;
     } in
-    transcript_there laws texts program kept settings height_is come turns ending events rest
+    transcript_there c.steps_lead_to_states.ensures texts program kept settings height_is come turns ending events rest
