@@ -8,18 +8,17 @@ use Rattle.cep_base.proofs.Lists.{some_same}
 use Rattle.cep_rule.specs.declared.parts.Parts.{Parts}
 use Rattle.cep_rule.specs.Program.{IsProgram}
 use Rattle.cep_ground.specs.Texts.{Spells}
-use Rattle.cep_log.specs.declared.log.Log.{Log}
 use Rattle.cep_log.specs.declared.end_word.EndWord.{EndWord}
 use Rattle.cep_world.specs.World.{world}
 use Rattle.cep_words.specs.declared.options.Options.{Options}
 use Rattle.cep_words.specs.Words.{Request, Play, Check, World, AskFor, HaveNoForm}
-use Rattle.cep_play.specs.declared.settings.Settings.{Settings}
+use Rattle.cep_run.specs.declared.settings.Settings.{Settings}
 use Rattle.cep_play.specs.declared.status.Status.{Status}
 use Rattle.cep_play.specs.declared.status.Status.TheVariants.{Ended, Accepted, Rejected, Usage, Refused, Limited, Console, Unread, UnreadLog, Memory}
-use Rattle.cep_play.specs.Run.{Turn, Ending}
-use Rattle.cep_play.specs.Dialogue.{Dialogue}
+use Rattle.cep_run.specs.Run.{Turn, Ending}
+use Rattle.cep_run.specs.Dialogue.{Dialogue}
 use Rattle.cep_play.specs.Command.{OfRequest, OfPlay, OfCheck, OfWorld, OfFile, OfProgram, IsProgramText, settings_of, Plays, Writes, Refuses, IsFinished, IsLimited, no_program, no_transcript}
-use Rattle.cep_play.specs.Checked.{IsLegalTranscript, Accepts, Rejects, Checks}
+use Rattle.cep_play.specs.Checked.{Accepts, Rejects, Checks}
 use Rattle.cep_play.specs.Summary.{Tours}
 use Rattle.cep_play.specs.Due.{code_told, IsOnShelf, EndsBy, IsDue}
 use Rattle.cep_play.specs.Outcome.{OfWords, code_of}

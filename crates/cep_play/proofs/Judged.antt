@@ -1,14 +1,11 @@
 -- What judging a transcript comes to, and what loading a program does.
 use Rattle.std.proofs.Common.{◌≡◌, ℕ, ◌<◌, ◌≤◌, List, [], ◌∷◌, ◌++◌, length, lit<, Contains, refl, sym, ap, subst, arith, Option, inl, inr}
-use Rattle.std.specs.Prelude.{Result, Ok, Err, IfOk, IfErr, IsErrOf, codes, decimal}
+use Rattle.std.specs.Prelude.{Result, Ok, Err, IfOk, IfErr, codes, decimal}
 use Rattle.cep_base.specs.declared.limits.TheConstants.{MOST_LOG}
 use Rattle.cep_base.specs.declared.console.Event.{Event}
 use Rattle.cep_base.specs.declared.console.ConsoleFault.{ConsoleFault}
-use Rattle.cep_base.specs.Faults.{Rose}
 use Rattle.cep_base.specs.Files.{Files, HasFile}
 use Rattle.cep_rule.specs.declared.parts.Parts.{Parts}
-use Rattle.cep_rule.specs.Program.{IsProgram}
-use Rattle.cep_ground.specs.Texts.{Spells}
 use Rattle.cep_log.specs.declared.log.Log.{Log}
 use Rattle.cep_log.specs.declared.fault.LogFault.{LogFault}
 use Rattle.cep_log.specs.declared.end_word.EndWord.{EndWord}
@@ -22,7 +19,7 @@ use Rattle.cep_check.specs.Causes.{IsLogRefused, IsVerdict}
 use Rattle.cep_check.specs.Telling.{verdict_text, fault_text}
 use Rattle.cep_play.specs.declared.status.Status.{Status}
 use Rattle.cep_play.specs.declared.status.Status.TheVariants.{Ended, Accepted, Rejected, Usage, Refused, Limited, Console, Unread, UnreadLog, Memory}
-use Rattle.cep_play.specs.Command.{OfFile, Refuses, Writes}
+use Rattle.cep_play.specs.Command.{Refuses}
 use Rattle.cep_play.specs.Checked.{Rejects, too_long_text}
 use Rattle.cep_play.specs.Outcome.{code_of, status_of, status_of_verdict, IsSpelledBy, IsProgramIn, IsNoProgram, OfBytes, IsChecked, OfTranscript, CountsFaults}
 

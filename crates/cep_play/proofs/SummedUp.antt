@@ -1,23 +1,20 @@
 -- A run of a generated world, and its summary.
-use Rattle.std.proofs.Common.{◌≡◌, ℕ, suc, ◌+◌, List, [], ◌∷◌, length, map, refl, sym, ap, ◌∙◌, subst, inl, inr, arith, Option, None, Some}
-use Rattle.std.specs.Prelude.{◌⊎◌}
+use Rattle.std.proofs.Common.{◌≡◌, ℕ, suc, ◌+◌, List, [], ◌∷◌, length, map, refl, sym, ap, ◌∙◌, subst, inl, inr, Option}
 use Rattle.cep_base.specs.declared.console.Event.{Event}
 use Rattle.cep_term.specs.Multiset.{copies_in}
 use Rattle.cep_rule.specs.declared.parts.Parts.{Parts}
-use Rattle.cep_ground.specs.Texts.{Spells}
 use Rattle.cep_log.specs.declared.end_word.EndWord.{EndWord}
 use Rattle.cep_log.specs.declared.end_word.EndWord.TheVariants.{Quiet, Input, Turns, Offers, Typed, Atom, State}
 use Rattle.cep_world.specs.World.{world}
 use Rattle.cep_words.specs.declared.options.Options.{Options}
 use Rattle.cep_words.specs.declared.tour.Tour.{Tour}
-use Rattle.cep_play.specs.declared.settings.Settings.{Settings}
 use Rattle.cep_play.specs.declared.status.Status.{Status}
-use Rattle.cep_play.specs.declared.status.Status.TheVariants.{Ended, Accepted, Rejected, Usage, Refused, Limited, Console, Unread, UnreadLog, Memory}
-use Rattle.cep_play.specs.declared.summary.Tally.{Tally}
-use Rattle.cep_play.specs.Run.{Turn, Ending, unproved, offers_listed}
-use Rattle.cep_play.specs.Dialogue.{Dialogue}
-use Rattle.cep_play.specs.Command.{settings_of, IsSaid, Refuses, IsFinished, IsLimited}
-use Rattle.cep_play.specs.Summary.{IsTally, Tours}
+use Rattle.cep_play.specs.declared.status.Status.TheVariants.{Refused}
+use Rattle.cep_run.specs.declared.tally.Tally.{Tally}
+use Rattle.cep_run.specs.Run.{Turn, Ending, unproved, offers_listed}
+use Rattle.cep_run.specs.Said.{IsTally}
+use Rattle.cep_play.specs.Command.{Refuses, IsFinished, IsLimited}
+use Rattle.cep_play.specs.Summary.{Tours}
 use Rattle.cep_play.specs.Outcome.{status_of, IsSpelledBy, IsSummedUp, OfTour}
 
 -- derivations do not count

@@ -1,8 +1,7 @@
 -- What the command does with its words, a shelf and a console.
-use Rattle.std.specs.Prelude.{◌≡◌, ◌⊎◌, ℕ, ◌≤◌, List, [], ◌∷◌, ◌++◌, length, map, codes, decimal, Option, unwrap_or}
-use Rattle.std.specs.List.{AllByRecursion}
+use Rattle.std.specs.Prelude.{◌≡◌, ◌⊎◌, ℕ, List, [], ◌∷◌, ◌++◌, codes, decimal, Option, unwrap_or}
 use Rattle.std.specs.Option.{option_map}
-use Rattle.cep_base.specs.declared.limits.TheConstants.{DEFAULT_HEIGHT, DEFAULT_SEED, DEFAULT_TURNS, MOST_LOG}
+use Rattle.cep_base.specs.declared.limits.TheConstants.{DEFAULT_HEIGHT, DEFAULT_SEED, DEFAULT_TURNS}
 use Rattle.cep_base.specs.declared.console.Event.{Event}
 use Rattle.cep_base.specs.Talk.{outs, Did}
 use Rattle.cep_base.specs.Files.{Files, HasFile}
@@ -18,14 +17,9 @@ use Rattle.cep_log.specs.declared.end_word.EndWord.TheVariants.{Quiet, Input, Tu
 use Rattle.cep_world.specs.World.{world}
 use Rattle.cep_words.specs.declared.options.Options.{Options}
 use Rattle.cep_words.specs.Words.{Request, Play, Check, World, AskFor}
-use Rattle.cep_play.specs.declared.settings.Settings.{Settings}
+use Rattle.cep_run.specs.declared.settings.Settings.{Settings}
+use Rattle.cep_run.specs.Said.{Says}
 use Rattle.cep_log.specs.Lines.{line}
-use Rattle.cep_log.specs.declared.log.Log.{Log}
-use Rattle.cep_log.specs.Legal.{IsLegal}
-use Rattle.cep_log.specs.Transcript.{HasLog}
-use Rattle.cep_play.specs.Run.{Turn, Ending, AreMachineSteps, unproved}
-use Rattle.cep_play.specs.Dialogue.{Dialogue}
-use Rattle.cep_play.specs.Logs.{written_bytes}
 
 -- P holds of what the words ask for
 abbrev pub OfRequest : List (List ℕ) → (Request → Type 0) → Type 0
@@ -98,21 +92,6 @@ Writes talk left old new text = Did talk left old new (λ come events rest. (eve
 -- what holds for a run of the program with these options: where they say nothing of the turns the program does, and where nothing is said there are defaults
 abbrev pub settings_of : Parts → Options → Settings
 settings_of program options = record { height = unwrap_or options.height DEFAULT_HEIGHT; limit = unwrap_or options.turns (unwrap_or program.turns DEFAULT_TURNS); seed = unwrap_or options.seed DEFAULT_SEED }
-
--- What is said is a dialogue of the program, and P holds of its turns and its end: its turns are steps of the machine, as many as were done when it ended. What is written of it is a transcript, if it is not too long, and its log is legal, with as many steps as turns. What is typed allows no other dialogue but for the derivations of its turns, and no other at all where no rule has a backward premise.
-pub record IsSaid (program : Parts) (settings : Settings) (P : List Turn → Ending → Type 0) (come : List ℕ) (events : List Event) (rest : List ℕ) : Type 0 where
-  pub turns : List Turn
-  pub ending : Ending
-  pub dialogue : Dialogue program settings come turns ending events rest
-  pub holds : P turns ending
-  pub steps : AreMachineSteps program settings.height turns
-  pub counted : dialogue.run.last.turns ≡ length turns
-  pub only : (turns' : List Turn) (ending' : Ending) (events' : List Event) (rest' : List ℕ) → Dialogue program settings come turns' ending' events' rest' → (map unproved turns' ≡ map unproved turns) × (ending' ≡ ending) × (rest' ≡ rest)
-  pub logged : length (written_bytes events) ≤ MOST_LOG → (log : Log) × HasLog program (written_bytes events) log × IsLegal program log × (length log.steps ≡ length turns)
-  pub to_the_byte : AllByRecursion (λ rule. rule.backs ≡ []) program.rules → (turns' : List Turn) (ending' : Ending) (events' : List Event) (rest' : List ℕ) → Dialogue program settings come turns' ending' events' rest' → events' ≡ events
-
-abbrev pub Says : {C : Type 0} → (C → Option (List Event)) → (C → Option (List ℕ)) → C → C → Parts → Settings → (List Turn → Ending → Type 0) → Type 0
-Says talk left old new program settings P = Did talk left old new (IsSaid program settings P)
 
 -- The text spells a program, and no other; and what is said is its dialogue with these options, which ends with a word that has P.
 pub record Plays {C : Type 0} (talk : C → Option (List Event)) (left : C → Option (List ℕ)) (old new : C) (text : List ℕ) (options : Options) (P : EndWord → Type 0) : Type 0 where

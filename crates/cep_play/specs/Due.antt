@@ -10,9 +10,9 @@ use Rattle.cep_log.specs.declared.end_word.EndWord.TheVariants.{Quiet, Input, Tu
 use Rattle.cep_log.specs.declared.log.Log.{Log}
 use Rattle.cep_world.specs.World.{world}
 use Rattle.cep_words.specs.Words.{Request, Play, Check, World}
-use Rattle.cep_play.specs.declared.settings.Settings.{Settings}
-use Rattle.cep_play.specs.Run.{Turn, Ending}
-use Rattle.cep_play.specs.Dialogue.{Dialogue}
+use Rattle.cep_run.specs.declared.settings.Settings.{Settings}
+use Rattle.cep_run.specs.Run.{Turn, Ending}
+use Rattle.cep_run.specs.Dialogue.{Dialogue}
 use Rattle.cep_play.specs.Command.{settings_of}
 use Rattle.cep_play.specs.Checked.{IsLegalTranscript}
 

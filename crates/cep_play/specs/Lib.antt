@@ -1,9 +1,3 @@
-pub mod Choice
-pub mod Deciding
-pub mod Run
-pub mod Dialogue
-pub mod Logs
-pub mod Turn
 pub mod Command
 pub mod Summary
 pub mod Checked

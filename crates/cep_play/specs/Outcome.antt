@@ -17,14 +17,15 @@ use Rattle.cep_check.specs.declared.cause.Verdict.TheVariants as verdicts
 use Rattle.cep_world.specs.World.{world}
 use Rattle.cep_words.specs.declared.options.Options.{Options}
 use Rattle.cep_words.specs.declared.tour.Tour.{Tour}
-use Rattle.cep_play.specs.declared.summary.Tally.{Tally}
-use Rattle.cep_words.specs.Words.{Play, Check, HaveNoForm}
+use Rattle.cep_run.specs.declared.tally.Tally.{Tally}
+use Rattle.cep_words.specs.Words.{Check, HaveNoForm}
 use Rattle.cep_log.specs.declared.end_word.EndWord.TheVariants.{Quiet, Input, Turns, Offers, Typed, Atom, State}
-use Rattle.cep_play.specs.Run.{Turn, Ending}
-use Rattle.cep_play.specs.Dialogue.{Dialogue}
-use Rattle.cep_play.specs.Command.{OfRequest, OfPlay, OfCheck, OfWorld, OfFile, OfProgram, IsProgramText, AsksFor, AsksUpTo, Adds, settings_of, IsSaid, Puts, Writes, Plays, Refuses, IsFinished, IsLimited, usage, no_program, no_transcript}
+use Rattle.cep_run.specs.Run.{Turn, Ending}
+use Rattle.cep_run.specs.Dialogue.{Dialogue}
+use Rattle.cep_run.specs.Said.{IsSaid, IsTally}
+use Rattle.cep_play.specs.Command.{OfRequest, OfPlay, OfCheck, OfWorld, OfFile, OfProgram, IsProgramText, AsksFor, AsksUpTo, Adds, settings_of, Puts, Writes, Plays, Refuses, IsFinished, IsLimited, usage, no_program, no_transcript}
 use Rattle.cep_play.specs.Checked.{Accepts, Rejects, Checks}
-use Rattle.cep_play.specs.Summary.{IsTally, summary, Tours}
+use Rattle.cep_play.specs.Summary.{summary, Tours}
 
 -- the status of a run that ended with this word
 abbrev pub status_of : EndWord → Status

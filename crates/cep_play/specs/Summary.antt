@@ -1,25 +1,18 @@
 -- The run of a generated world, and the lines that sum it up.
-use Rattle.std.specs.Prelude.{◌≡◌, ℕ, List, [], ◌++◌, length, codes, decimal, Option, unwrap_or}
+use Rattle.std.specs.Prelude.{◌≡◌, ℕ, List, [], ◌++◌, codes, decimal, Option, unwrap_or}
 use Rattle.cep_base.specs.declared.limits.TheConstants.{DEFAULT_SEED}
 use Rattle.cep_base.specs.declared.console.Event.{Event}
-use Rattle.cep_term.specs.Multiset.{copies_in}
 use Rattle.cep_rule.specs.declared.parts.Parts.{Parts}
 use Rattle.cep_ground.specs.Texts.{Spells}
 use Rattle.cep_log.specs.declared.end_word.EndWord.{EndWord}
 use Rattle.cep_log.specs.Lines.{line, ending_word}
 use Rattle.cep_world.specs.World.{world}
 use Rattle.cep_words.specs.declared.options.Options.{Options}
-use Rattle.cep_play.specs.declared.summary.Tally.{Tally}
-use Rattle.cep_play.specs.Run.{Turn, Ending, offers_listed}
-use Rattle.cep_play.specs.Dialogue.{Dialogue}
-use Rattle.cep_play.specs.Command.{settings_of, IsSaid, Puts}
-
--- The tally of a run: the word with which it ended, how many turns were done, how many offers were listed in them, and how many copies the last state has.
-pub record IsTally (done : List Turn) (ending : Ending) (tally : Tally) : Type 0 where
-  pub word : tally.word ≡ ending.word
-  pub turns : tally.turns ≡ length done
-  pub offers : tally.offers ≡ offers_listed done
-  pub copies : tally.copies ≡ copies_in ending.state
+use Rattle.cep_run.specs.declared.tally.Tally.{Tally}
+use Rattle.cep_run.specs.Run.{Turn, Ending}
+use Rattle.cep_run.specs.Dialogue.{Dialogue}
+use Rattle.cep_run.specs.Said.{IsSaid}
+use Rattle.cep_play.specs.Command.{settings_of, Puts}
 
 -- the line of a count, as `turns 10`
 abbrev pub count_line : List ℕ → ℕ → List ℕ

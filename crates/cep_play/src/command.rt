@@ -4,21 +4,23 @@ ghost use Rattle.cep_base.specs.Talk.{ConsoleCause};
 ghost use Rattle.cep_base.specs.Faults.{Rose};
 ghost use Rattle.cep_log.specs.declared.end_word.EndWord.{EndWord};
 ghost use Rattle.cep_words.specs.Words.{Request, AskFor, HaveNoForm, AreWithin};
-ghost use Rattle.cep_play.specs.Command.{OfRequest, OfPlay, OfCheck, OfWorld, OfFile, OfProgram, IsProgramText, AsksFor, AsksUpTo, settings_of, Adds, Plays, Refuses, Says, Writes, IsFinished, IsLimited, usage, no_program, no_transcript};
+ghost use Rattle.cep_play.specs.Command.{OfRequest, OfPlay, OfCheck, OfWorld, OfFile, OfProgram, IsProgramText, AsksFor, AsksUpTo, settings_of, Adds, Plays, Refuses, Writes, IsFinished, IsLimited, usage, no_program, no_transcript};
+ghost use Rattle.cep_run.specs.Said.{Says};
 ghost use Rattle.cep_play.specs.Checked.{Accepts, Rejects, Checks};
 ghost use Rattle.cep_play.specs.Summary.{Tours};
 ghost use Rattle.cep_play.specs.Due.{IsDue};
 ghost use Rattle.cep_play.specs.Outcome.{OfRun, OfWords, CountsFaults, AsksFile, AskedAsSaid, status_of};
 
 use crate::checking::check_file;
-use crate::dialogue::play;
-use crate::laws::dialogues_are_there;
 use crate::loading::program_in;
+use crate::settings::settings_of;
 use crate::status::{Status, status_of};
 use crate::touring::run_world;
 use cep_base::{Console, ConsoleFault, Shelf, Steps};
 use cep_ground::laws::clean_parts_are_a_program;
 use cep_rule::Program;
+use cep_run::laws::dialogues_are_there;
+use cep_run::play;
 use cep_scratch::Scratch;
 use cep_words::laws::one_request;
 use cep_words::{Options, Task};
@@ -41,7 +43,8 @@ fn play_program<C: Console, L: Ledger>(
     ensures counted { steps.old ≤ steps.new }
     ensures cause { ConsoleCause (C.faults console.old) (C.faults console.new) result }
 {
-    let tally = play::<Scratch, C, L>(alloc, program, options, console, steps)?;
+    let settings = settings_of(program, options);
+    let tally = play::<Scratch, C, L>(alloc, program, settings, console, steps)?;
     Ok(status_of(tally.word))
 }
 

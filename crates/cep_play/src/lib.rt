@@ -4,21 +4,12 @@
 #![tactic(auto)]
 
 mod checking;
-mod choice;
 mod command;
-mod deciding;
-mod dialogue;
-mod laws;
 mod loading;
-mod log_laws;
-mod proving;
 mod settings;
 mod silence;
 mod status;
 mod summary;
 mod touring;
-mod turn;
 
 pub use command::ceptre;
-pub use laws::{dialogues_are_there, one_dialogue};
-pub use log_laws::{dialogues_have_logs, runs_have_logs};

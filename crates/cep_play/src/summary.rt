@@ -1,24 +1,12 @@
-// What a run came to, and the lines that sum up the run of a generated world.
+// The lines that sum up the run of a generated world.
 ghost use Rattle.std.specs.Prelude.{◌≡◌, ◌++◌, codes, OnOk};
 ghost use Rattle.cep_log.specs.Lines.{line, ending_word};
 ghost use Rattle.cep_play.specs.Summary.{count_line, summary};
 
 use cep_base::Text;
 use cep_log::EndWord;
+use cep_run::Tally;
 use std::alloc::AllocError;
-
-/// What a run came to.
-#[derive(Clone, Copy, Debug, PartialEq, Eq)]
-pub struct Tally {
-    /// Why it ended.
-    pub word: EndWord,
-    /// How many turns were done.
-    pub turns: u32,
-    /// How many offers were listed in these turns.
-    pub offers: u64,
-    /// How many copies the last state has.
-    pub copies: u64,
-}
 
 // The line of a count, as `turns 10`.
 #[tactic(auto, using(std::proofs::Common::append_assoc))]

@@ -8,14 +8,15 @@ ghost use Rattle.cep_play.specs.declared.status.Status.TheVariants.{Refused};
 ghost use Rattle.cep_play.specs.Command.{Refuses};
 ghost use Rattle.cep_play.specs.Outcome.{IsSpelledBy, OfTour, IsSummedUp};
 
-use crate::dialogue::play;
 use crate::loading::program_of;
+use crate::settings::settings_of;
 use crate::silence::Silence;
 use crate::status::{Status, status_of};
 use crate::summary::put_summary;
 use cep_base::limits::DEFAULT_SEED;
 use cep_base::{Console, ConsoleFault, Steps, Text};
 use cep_rule::Program;
+use cep_run::play;
 use cep_scratch::Scratch;
 use cep_words::Tour;
 use cep_world::world_text;
@@ -36,7 +37,8 @@ fn tour_program<C: Console, L: Ledger>(
     ensures cause { ConsoleCause (C.faults console.old) (C.faults console.new) result }
 {
     let mut silence = Silence;
-    let tally = play::<Scratch, Silence, L>(alloc, program, tour.options, &mut silence, steps)?;
+    let settings = settings_of(program, tour.options);
+    let tally = play::<Scratch, Silence, L>(alloc, program, settings, &mut silence, steps)?;
     let seed = tour.options.seed.unwrap_or(DEFAULT_SEED);
     let mut lines = Text::new(alloc);
     put_summary(tour.rooms, seed, tally, &mut lines)?;

@@ -1,4 +1,4 @@
-use Rattle.std.proofs.Common.{subst, sym}
+use Rattle.std.proofs.Common.{subst}
 use Rattle.std.proofs.lemmas.Result.{IfOk-weaker}
 use Rattle.cep_play.specs.Outcome.{OfTranscript, CountsFaults}
 use Rattle.cep_play.proofs.Commands.{program_checked, none_checked, both_asked, one_asked}

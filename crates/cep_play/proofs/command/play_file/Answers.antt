@@ -1,9 +1,9 @@
 use Rattle.std.proofs.Common.{◌≡◌, subst, sym}
 use Rattle.std.proofs.lemmas.Result.{IfOk-weaker}
-use Rattle.cep_play.specs.Command.{Says, settings_of}
-use Rattle.cep_play.specs.Outcome.{OfRun, CountsFaults}
+use Rattle.cep_run.specs.Said.{Says}
+use Rattle.cep_play.specs.Command.{settings_of}
+use Rattle.cep_play.specs.Outcome.{OfRun}
 use Rattle.cep_play.proofs.Commands.{program_played, none_played}
-use Rattle.cep_play.proofs.Judged.{run_counts}
 use Rattle.cep_play.proofs.command.play_file.Goals as goal
 
 pub returns-in-Ok-clause-outcome : goal.returns-in-Ok-clause-outcome

@@ -1,6 +1,7 @@
-use Rattle.std.proofs.Common.{◌≡◌, sym}
+use Rattle.std.proofs.Common.{◌≡◌, sym, subst}
 use Rattle.cep_play.specs.Command.{settings_of}
-use Rattle.cep_play.specs.Summary.{IsTally}
+use Rattle.cep_run.specs.declared.settings.Settings.{Settings}
+use Rattle.cep_run.specs.Said.{Says, IsTally}
 use Rattle.cep_play.proofs.Commands.{says_less}
 use Rattle.cep_play.proofs.command.play_program.Goals as goal
 
@@ -11,5 +12,6 @@ returns-clause-said g c =
       tally.word,
       c.status_of.ensures,
       says_less g.C.Console.talk g.C.Console.left c.args.console.now c.play.new.console program (settings_of program c.args.options) (λ turns ending. IsTally turns ending tally) (λ turns ending. ending.word ≡ tally.word)
-          (λ turns ending is. sym is.word) c.in_ok-tally.ensures.said,
+          (λ turns ending is. sym is.word)
+          (subst (λ (settings : Settings). Says g.C.Console.talk g.C.Console.left c.args.console.now c.play.new.console program settings (λ turns ending. IsTally turns ending tally)) c.settings_of.ensures.settings c.in_ok-tally.ensures.said),
     )

@@ -1,5 +1,4 @@
 use Rattle.std.proofs.Common.{◌≡◌, ◌∙◌, subst}
-use Rattle.std.proofs.lemmas.Result.{IfOk-weaker}
 use Rattle.std.specs.Prelude.{IfOk, IfErr}
 use Rattle.cep_world.specs.World.{world}
 use Rattle.cep_play.specs.declared.status.Status.TheVariants.{Refused}

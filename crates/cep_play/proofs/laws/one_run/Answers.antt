@@ -1,5 +1,0 @@
-use Rattle.cep_play.proofs.OneRun.{one_run}
-use Rattle.cep_play.proofs.laws.one_run.Goals as goal
-
-pub returns : goal.returns
-returns c = λ program settings. one_run c.one_list_of_offers.ensures c.one_state_after_a_step.ensures.state program settings

@@ -1,0 +1,65 @@
+-- Among some offers one choice or another is made, whoever decides.
+use Rattle.std.proofs.Common.{◌≡◌, ◌⊎◌, inl, inr, ℕ, ◌+◌, ◌<◌, Bool, true, false, Option, None, Some, refl, arith}
+use Rattle.std.specs.Prelude.{slice_get, IsSomeAnd}
+use Rattle.std.proofs.lemmas.Bool.{cases_Bool, cases_eq, cases_lt}
+use Rattle.cep_rule.specs.declared.parts.Parts.{Parts}
+use Rattle.cep_rule.specs.declared.parts.Stage.{Stage}
+use Rattle.cep_rule.specs.Stages.{own_group}
+use Rattle.cep_run.specs.declared.choice.Choice.{Choice}
+use Rattle.cep_run.specs.declared.choice.Choice.TheVariants.{Place}
+use Rattle.cep_run.specs.Choice.{IsChoiceWithin}
+use Rattle.cep_choice.specs.Draws.{place_drawn}
+use Rattle.cep_run.specs.Deciding.{Supply, How, Heard, Lone, Drawn, IsPlayers, Decides}
+use Rattle.cep_run.proofs.HearsThere.{hears_there}
+use Rattle.cep_run.proofs.StepThere.{ThereLaws}
+
+false_true : {b : Bool} {X : Type 0} → b ≡ false → b ≡ true → X
+false_true p q = absurd (cc)
+
+interactive_or_not : (stage : Option Stage) → IsSomeAnd stage (λ it. it.interactive ≡ true) ⊎ (IsSomeAnd stage (λ it. it.interactive ≡ true) → ⊥)
+interactive_or_not None = inr (λ none. none)
+interactive_or_not (Some stage) = elim (cases_Bool stage.interactive) [
+  | inl set ↦ inl set
+  | inr clear ↦ inr (λ set. false_true clear set)
+]
+
+own_or_several : (stage group n : ℕ) → ((group ≡ own_group stage) ⊎ (1 < n)) ⊎ ((group ≡ own_group stage) ⊎ (1 < n) → ⊥)
+own_or_several stage group n = elim (cases_eq group (own_group stage)) [
+  | inl own ↦ inl (inl own)
+  | inr other ↦ elim (cases_lt 1 n) [
+    | inl several ↦ inl (inr several)
+    | inr few ↦ inr (λ either. elim either [ inl own ↦ other own | inr several ↦ omega (arith, few, several) ])
+  ]
+]
+
+players_or_not : (program : Parts) (stage group n : ℕ) → IsPlayers program stage group n ⊎ (IsPlayers program stage group n → ⊥)
+players_or_not program stage group n = elim (interactive_or_not (slice_get program.stages stage)) [
+  | inr idle ↦ inr (λ players. idle players.0)
+  | inl interactive ↦ elim (own_or_several stage group n) [
+    | inl either ↦ inl (interactive, either)
+    | inr neither ↦ inr (λ players. neither players.1)
+  ]
+]
+
+-- a choice among n offers is decided, from this supply, and a place that is chosen is one of n
+pub record HasDecision (program : Parts) (seed stage group n : ℕ) (from : Supply) : Type 0 where
+  pub how : How
+  pub choice : Choice
+  pub to : Supply
+  pub decides : Decides program seed stage group n from how choice to
+  pub within : IsChoiceWithin n choice
+
+pub decision_there : ThereLaws → (program : Parts) (seed stage group n : ℕ) (from : Supply) → 0 < n → HasDecision program seed stage group n from
+decision_there laws program seed stage group n from some = elim (players_or_not program stage group n) [
+  | inl players ↦ (
+      let heard = hears_there n from.come from.taken in
+      record { how = Heard heard.events; choice = heard.choice; to = record { come = heard.rest; taken = heard.all; drawn = from.drawn }; decides = (players, heard.hears, refl); within = heard.within }
+      )
+  | inr others ↦ elim (cases_eq n 1) [
+    | inl alone ↦ record { how = Lone; choice = Place 1; to = from; decides = (others, alone, refl, refl); within = ((omega arith), (omega (arith, alone))) }
+    | inr several ↦ (
+        let place = laws.places seed from.drawn n some in
+        record { how = Drawn; choice = Place (place_drawn seed from.drawn n); to = record from { drawn = from.drawn + 1 }; decides = (others, (omega (arith, some, several)), refl, refl); within = place }
+        )
+  ]
+]

@@ -1,0 +1,175 @@
+-- From every position a run is there, whatever is typed.
+use Rattle.std.proofs.Common.{◌≡◌, ◌⊎◌, inl, inr, ℕ, zero, suc, ◌+◌, ◌-◌, ◌<◌, ◌≤◌, List, [], ◌∷◌, length, refl, sym, subst, arith, Option, None, Some}
+use Rattle.std.specs.Prelude.{slice_get}
+use Rattle.std.proofs.lemmas.Bool.{cases_lt}
+use Rattle.std.proofs.lemmas.Option.{slice_get_within, get_or_from_slice_get}
+use Rattle.cep_base.specs.declared.limits.TheConstants.{MOST_OFFERS}
+use Rattle.cep_base.proofs.Elements.{contains_none, contains_first}
+use Rattle.cep_base.proofs.Lists.{holds_at}
+use Rattle.cep_term.specs.Multiset.{Multiset, gathered}
+use Rattle.cep_rule.specs.declared.parts.Parts.{Parts}
+use Rattle.cep_rule.specs.declared.offer.Offer.{Offer}
+use Rattle.cep_rule.specs.Instances.{full_instances, taken_by, added_by}
+use Rattle.cep_rule.specs.State.{IsState}
+use Rattle.cep_rule.specs.Offers.{Applies, AreOffers, IsOffer}
+use Rattle.cep_rule.specs.Stages.{own_group, leaving_group, HasOffer, IsAsked, IsQuiet}
+use Rattle.cep_rule.specs.Step.{Step}
+use Rattle.cep_rule.specs.Steps.{stage_after}
+use Rattle.cep_rule.specs.Matching.{state_after}
+use Rattle.cep_rule.specs.Program.{IsTypedRule, IsDividedRule, IsProgram}
+use Rattle.cep_run.specs.declared.choice.Choice.{Choice}
+use Rattle.cep_run.specs.declared.choice.Choice.TheVariants.{Place, NoMore, NoRoom}
+use Rattle.cep_log.specs.declared.end_word.EndWord.{EndWord}
+use Rattle.cep_log.specs.declared.end_word.EndWord.TheVariants.{Quiet, Input, Turns, Offers, Typed, Atom, State}
+use Rattle.cep_run.specs.declared.settings.Settings.{Settings}
+use Rattle.cep_run.specs.Choice.{IsChoiceWithin}
+use Rattle.cep_run.specs.Deciding.{Supply}
+use Rattle.cep_run.specs.Run.{Position, Question, Turn, Ending, IsQuestion, IsChosen, IsTurn, PassesLimit, LeadsNowhere, EndsAt, Run}
+use Rattle.cep_run.proofs.StepThere.{ThereLaws, all_fit_or_not, state_fits_or_not, proofs_there}
+use Rattle.cep_run.proofs.DecisionThere.{decision_there}
+
+-- something stands at each place of a list
+at_place : {A : Type 0} (xs : List A) (k : ℕ) → k < length xs → (x : A) × (slice_get xs k ≡ Some x)
+at_place [] k within = absurd (omega (arith, within))
+at_place (x ∷ xs) zero within = (x, refl)
+at_place (x ∷ xs) (suc k) within = at_place xs k (omega (arith, within))
+
+module _ (laws : ThereLaws) (program : Parts) (settings : Settings) (kept : IsProgram program) where
+  -- What a stage asks
+
+  -- the stage asks a group, which has some offers
+  record AsksSome (state : Multiset) (stage : ℕ) : Type 0 where
+    group : ℕ
+    offers : List Offer
+    asked : IsAsked program settings.height state stage group
+    offered : AreOffers program settings.height state group offers
+    some : 0 < length offers
+
+  offered_or_not : (state : Multiset) (group : ℕ) (offers : List Offer) → AreOffers program settings.height state group offers → (HasOffer program settings.height state group × (0 < length offers)) ⊎ (HasOffer program settings.height state group → ⊥)
+  offered_or_not state group [] are = inr (λ has. contains_none has.0 (are.each has.0 has.1))
+  offered_or_not state group (offer ∷ offers) are = inl ((offer, are.no_other offer (contains_first offer offers)), (omega arith))
+
+  asks_or_quiet : (state : Multiset) (stage : ℕ) → IsState program.signature state → AsksSome state stage ⊎ IsQuiet program settings.height state stage
+  asks_or_quiet state stage is_state =
+      let own = laws.lists program settings.height state (own_group stage) kept is_state in
+      let leaving = laws.lists program settings.height state (leaving_group stage) kept is_state in
+      elim (offered_or_not state (own_group stage) own.0 own.1) [
+        | inl some ↦ inl (record { group = own_group stage; offers = own.0; asked = inl (refl, some.0); offered = own.1; some = some.1 })
+        | inr none ↦ elim (offered_or_not state (leaving_group stage) leaving.0 leaving.1) [
+          | inl some ↦ inl (record { group = leaving_group stage; offers = leaving.0; asked = inr (refl, none, some.0); offered = leaving.1; some = some.1 })
+          | inr quiet ↦ inr (none, quiet)
+        ]
+      ]
+
+  -- One turn
+
+  -- a turn is done here, and leads to a state
+  record HasTurn (at : Position) (from : Supply) : Type 0 where
+    turn : Turn
+    is : IsTurn program settings at from turn
+    state : IsState program.signature turn.after.spot.state
+
+  -- a run ends here
+  record HasEnd (at : Position) (from : Supply) : Type 0 where
+    word : EndWord
+    asked : Option Question
+    to : Supply
+    ends : EndsAt program settings at from word asked to
+
+  module _ (at : Position) (from : Supply) (is_state : IsState program.signature at.spot.state) (question : Question) (left : Supply) (asks : IsQuestion program settings at from question left) where
+    -- the step by an offer that is chosen and applies is done, or it passes a limit
+    step_or_end : (place : ℕ) (offer : Offer) → question.choice ≡ Place place → slice_get question.offers (place - 1) ≡ Some offer → Applies program settings.height at.spot.state offer → HasTurn at from ⊎ HasEnd at from
+    step_or_end place offer is at_place applies =
+        let signature = program.signature in
+        let rule = applies.rule in
+        let values = offer.values in
+        let state = at.spot.state in
+        let typed = holds_at (IsTypedRule signature) program.rules offer.rule rule kept.typed_rules applies.numbered in
+        let divided = holds_at (IsDividedRule signature) program.rules offer.rule rule kept.divided_rules applies.numbered in
+        let chosen : IsChosen program question offer rule = record { place = place; chosen = is; at_place = at_place; of_rule = applies.numbered } in
+        let next = state_after signature state (gathered (taken_by signature rule values)) (added_by signature rule values) in
+        let step : Step signature rule values state next = laws.edit signature rule values state typed applies.values is_state applies.contained in
+        let passing = λ (word : EndWord) (passes : PassesLimit program rule values state word). subst (λ (choice : Choice). LeadsNowhere program state question choice word) (sym is) (offer, rule, chosen, passes) in
+        let proofs = proofs_there program settings.height (full_instances values rule.backs) applies.derivable in
+        elim (all_fit_or_not (full_instances values rule.right)) [
+          | inr large ↦ inr (record { word = Atom; asked = Some question; to = left; ends = (asks, passing Atom large) })
+          | inl fit ↦ elim (state_fits_or_not next) [
+            | inr full ↦ inr (record { word = State; asked = Some question; to = left; ends = (asks, passing State (fit, (next, step, full))) })
+            | inl fits ↦ inl (record {
+              turn = record { before = at; question = question; offer = offer; rule = rule; proofs = proofs.0; after = record { spot = record { stage = stage_after rule at.spot.stage; state = next }; turns = at.turns + 1 }; left = left };
+              is = record { here = refl; asks = asks; chosen = chosen; proved = proofs.1; steps = record { fit = fit; step = step; fits = fits; stage = refl }; counted = refl };
+              state = laws.lead signature rule values state next typed divided applies.values is_state fit step;
+            })
+          ]
+        ]
+
+    by_choice : (choice : Choice) → question.choice ≡ choice → IsChoiceWithin (length question.offers) choice → HasTurn at from ⊎ HasEnd at from
+    by_choice NoMore is within = inr (record { word = Input; asked = Some question; to = left; ends = (asks, subst (λ (choice : Choice). LeadsNowhere program at.spot.state question choice Input) (sym is) refl) })
+    by_choice NoRoom is within = inr (record { word = Typed; asked = Some question; to = left; ends = (asks, subst (λ (choice : Choice). LeadsNowhere program at.spot.state question choice Typed) (sym is) refl) })
+    by_choice (Place place) is within =
+        let first = within.0 in
+        let last = within.1 in
+        let k = place - 1 in
+        let there = at_place question.offers k (omega (arith, first, last)) in
+        let is_offer : IsOffer program settings.height at.spot.state question.group there.0 = asks.offered.no_other there.0 (k, slice_get_within question.offers k there.0 there.1, get_or_from_slice_get question.offers k there.0 there.0 there.1) in
+        step_or_end place there.0 is there.1 is_offer.applies
+
+  turn_or_end : (at : Position) (from : Supply) → IsState program.signature at.spot.state → at.turns ≤ settings.limit → HasTurn at from ⊎ HasEnd at from
+  turn_or_end at from is_state within = elim (asks_or_quiet at.spot.state at.spot.stage is_state) [
+    | inr quiet ↦ inr (record { word = Quiet; asked = None; to = from; ends = (quiet, refl) })
+    | inl asked ↦ elim (cases_lt at.turns settings.limit) [
+      | inr done ↦ inr (record { word = Turns; asked = None; to = from; ends = (((asked.group, asked.asked), (omega (arith, within, done))), refl) })
+      | inl remain ↦ elim (cases_lt MOST_OFFERS (length asked.offers)) [
+        | inl many ↦ inr (record { word = Offers; asked = None; to = from; ends = ((remain, (asked.group, asked.offers, asked.asked, asked.offered, many)), refl) })
+        | inr few ↦ (
+            let decision = decision_there laws program settings.seed at.spot.stage asked.group (length asked.offers) from asked.some in
+            let question : Question = record { group = asked.group; offers = asked.offers; how = decision.how; choice = decision.choice } in
+            by_choice at from is_state question decision.to (record { remain = remain; asked = asked.asked; offered = asked.offered; few = few; decided = decision.decides }) decision.choice refl decision.within
+            )
+      ]
+    ]
+  ]
+
+  -- Whole runs
+
+  pub record HasRun (at : Position) (from : Supply) : Type 0 where
+    pub turns : List Turn
+    pub ending : Ending
+    pub to : Supply
+    pub run : Run program settings at from turns ending to
+
+  ends_here : (at : Position) (from : Supply) → HasEnd at from → HasRun at from
+  ends_here at from end = record {
+    turns = [];
+    ending = record { word = end.word; state = at.spot.state; question = end.asked };
+    to = end.to;
+    run = record { last = at; between = from; done = (refl, refl); ends = end.ends; state = refl };
+  }
+
+  goes_on : (at : Position) (from : Supply) (turn : Turn) → IsTurn program settings at from turn → HasRun turn.after turn.left → HasRun at from
+  goes_on at from turn is later = record {
+    turns = turn ∷ later.turns;
+    ending = later.ending;
+    to = later.to;
+    run = record { last = later.run.last; between = later.run.between; done = (is, later.run.done); ends = later.run.ends; state = later.run.state };
+  }
+
+  run_within : (most : ℕ) (at : Position) (from : Supply) → IsState program.signature at.spot.state → at.turns ≤ settings.limit → settings.limit ≤ at.turns + most → HasRun at from
+  run_within zero at from is_state within few = elim (turn_or_end at from is_state within) [
+    | inr end ↦ ends_here at from end
+    | inl turn ↦ (let remain = turn.is.asks.remain in absurd (omega (arith, few, remain)))
+  ]
+  run_within (suc most) at from is_state within few = elim (turn_or_end at from is_state within) [
+    | inr end ↦ ends_here at from end
+    | inl turn ↦ (
+        let remain = turn.is.asks.remain in
+        let counted = turn.is.counted in
+        goes_on at from turn.turn turn.is (run_within most turn.turn.after turn.turn.left turn.state (omega (arith, remain, counted)) (omega (arith, few, counted)))
+        )
+  ]
+
+  pub run_there : (at : Position) (from : Supply) → IsState program.signature at.spot.state → at.turns ≤ settings.limit → HasRun at from
+  run_there at from is_state within = run_within settings.limit at from is_state within (omega arith)
+
+  pub runs_there : (at : Position) (from : Supply) → IsState program.signature at.spot.state → at.turns ≤ settings.limit → (turns : List Turn) × (ending : Ending) × (to : Supply) × Run program settings at from turns ending to
+  runs_there at from is_state within = let there = run_there at from is_state within in (there.turns, there.ending, there.to, there.run)

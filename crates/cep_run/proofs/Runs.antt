@@ -1,0 +1,131 @@
+-- Turn after turn, what was said so far is the events of the turns that are done.
+use Rattle.std.proofs.Common.{◌≡◌, ℕ, ◌+◌, List, [], ◌∷◌, ◌++◌, length, refl, sym, ap, ◌∙◌, subst, append_assoc, arith, None}
+use Rattle.std.specs.List.{flat_map}
+use Rattle.std.proofs.lemmas.Grind.{flat_map-append}
+use Rattle.std.proofs.lemmas.List.{append-nil}
+use Rattle.cep_base.specs.declared.console.Event.{Event}
+use Rattle.cep_base.specs.Talk.{outs}
+use Rattle.cep_rule.specs.declared.parts.Parts.{Parts}
+use Rattle.cep_rule.specs.declared.offer.Offer.{Offer}
+use Rattle.cep_rule.specs.Stages.{IsAsked, IsQuiet}
+use Rattle.cep_log.specs.declared.end_word.EndWord.{EndWord}
+use Rattle.cep_log.specs.declared.end_word.EndWord.TheVariants.{Quiet, Turns}
+use Rattle.cep_run.specs.declared.settings.Settings.{Settings}
+use Rattle.cep_run.specs.Deciding.{Supply}
+use Rattle.cep_log.specs.Lines.{end_lines, header}
+use Rattle.cep_run.specs.Run.{Position, start_of, whole_supply, Turn, Ending, IsTurn, AreTurns, offers_listed, EndsAt}
+use Rattle.cep_run.specs.Dialogue.{turn_events, last_events, Dialogue}
+use Rattle.cep_run.specs.declared.deciding.Spent.{Spent}
+use Rattle.cep_run.specs.Turn.{supply_with, DoesTurn, Stops, SoFar, IsWholeRun}
+
+-- one more turn behind others
+turns_behind : (program : Parts) (settings : Settings) (at : Position) (from : Supply) (turns : List Turn) (last : Position) (between : Supply) (turn : Turn) → AreTurns program settings at from turns last between → IsTurn program settings last between turn → AreTurns program settings at from (turns ++ turn ∷ []) turn.after turn.left
+turns_behind program settings at from [] last between turn done is = (subst (λ place. IsTurn program settings place from turn) done.0 (subst (λ supply. IsTurn program settings last supply turn) done.1 is), (refl, refl))
+turns_behind program settings at from (first ∷ turns) last between turn done is = (done.0, turns_behind program settings first.after first.left turns last between turn done.1 is)
+
+-- and its offers behind those that were listed
+listed_behind : (turns : List Turn) (turn : Turn) → offers_listed (turns ++ turn ∷ []) ≡ offers_listed turns + length turn.question.offers
+listed_behind [] turn = omega arith
+listed_behind (first ∷ turns) turn = let more = listed_behind turns turn in omega (arith, more)
+
+module _ (program : Parts) (settings : Settings) (start : Position) where
+  -- nothing was said yet
+  pub run_begins : (spent : Spent) → spent.taken ≡ 0 → spent.drawn ≡ 0 → (come : List ℕ) (events : List Event) (rest : List ℕ) → (events ≡ []) × (rest ≡ come) → SoFar program settings start start spent 0 come events rest
+  run_begins spent untaken undrawn come events rest same = record { turns = []; listed = refl; done = (refl, λ i. record { come = same.1 i; taken = untaken i; drawn = undrawn i }); written = same.0 }
+
+  module _ (at : Position) (spent : Spent) (offers : ℕ) where
+    -- one more turn
+    pub run_goes_on : (new : Position) (spent' : Spent) (listing : List Offer) (come : List ℕ) (first : List Event) (between : List ℕ) (second : List Event) (rest : List ℕ) → SoFar program settings start at spent offers come first between → DoesTurn program settings listing at spent new spent' between second rest → SoFar program settings start new spent' (offers + length listing) come (first ++ second) rest
+    run_goes_on new spent' listing come first between second rest so does = record {
+      turns = so.turns ++ does.turn ∷ [];
+      done = subst (λ supply. AreTurns program settings start (whole_supply come) (so.turns ++ does.turn ∷ []) new supply) does.left
+          (subst (λ place. AreTurns program settings start (whole_supply come) (so.turns ++ does.turn ∷ []) place does.turn.left) does.after
+          (turns_behind program settings start (whole_supply come) so.turns at (supply_with between spent) does.turn so.done does.is));
+      listed = ap (λ n. n + length listing) so.listed ∙ ap (λ xs. offers_listed so.turns + length xs) (sym does.listed) ∙ sym (listed_behind so.turns does.turn);
+      written = ap (λ es. es ++ second) so.written ∙ ap (λ es. flat_map (turn_events program) so.turns ++ es) (does.written ∙ sym (append-nil (turn_events program does.turn))) ∙ sym (flat_map-append (turn_events program) so.turns (does.turn ∷ []));
+    }
+
+    -- the run ends within a turn
+    pub run_stops : (word : EndWord) (spent' : Spent) (come : List ℕ) (first : List Event) (between : List ℕ) (second : List Event) (rest : List ℕ) → SoFar program settings start at spent offers come first between → Stops program settings at spent word spent' between second rest → IsWholeRun program settings word start at offers come (first ++ second) rest
+    run_stops word spent' come first between second rest so stop = record {
+      turns = so.turns;
+      between = supply_with between spent;
+      left = supply_with rest spent';
+      asked = stop.asked;
+      done = so.done;
+      ends = stop.ends;
+      listed = so.listed;
+      written = ap (λ es. es ++ second) so.written ∙ ap (λ es. flat_map (turn_events program) so.turns ++ es) stop.written;
+      rest_is = refl;
+    }
+
+    run_over : (word : EndWord) (come : List ℕ) (events : List Event) (rest : List ℕ) → EndsAt program settings at (supply_with rest spent) word None (supply_with rest spent) → SoFar program settings start at spent offers come events rest → IsWholeRun program settings word start at offers come events rest
+    run_over word come events rest ends so = record {
+      turns = so.turns;
+      between = supply_with rest spent;
+      left = supply_with rest spent;
+      asked = None;
+      done = so.done;
+      ends = ends;
+      listed = so.listed;
+      written = so.written ∙ sym (append-nil (flat_map (turn_events program) so.turns));
+      rest_is = refl;
+    }
+
+    -- the run is quiet after its last turn
+    pub run_quiets : (come : List ℕ) (events : List Event) (rest : List ℕ) → IsQuiet program settings.height at.spot.state at.spot.stage → SoFar program settings start at spent offers come events rest → IsWholeRun program settings Quiet start at offers come events rest
+    run_quiets come events rest is so = run_over Quiet come events rest (is, refl) so
+
+    -- all turns are done
+    pub run_is_over : (group : ℕ) (come : List ℕ) (events : List Event) (rest : List ℕ) → IsAsked program settings.height at.spot.state at.spot.stage group → at.turns ≡ settings.limit → SoFar program settings start at spent offers come events rest → IsWholeRun program settings Turns start at offers come events rest
+    run_is_over group come events rest asked all so = run_over Turns come events rest (((group, asked), all), refl) so
+
+-- all turns and the end, from some bytes to come
+pub record RunFrom (program : Parts) (settings : Settings) (word : EndWord) (start last : Position) (offers : ℕ) (come : List ℕ) (events : List Event) (rest : List ℕ) : Type 0 where
+  pub turns : List Event
+  pub end : List Event
+  pub whole : events ≡ turns ++ end
+  pub runs : IsWholeRun program settings word start last offers come turns rest
+  pub ends : end ≡ outs (end_lines program.signature word last.spot.state)
+
+-- a dialogue with its end word, its last position and how many offers were listed in it
+pub record IsTold (program : Parts) (settings : Settings) (word : EndWord) (last : Position) (offers : ℕ) (come : List ℕ) (events : List Event) (rest : List ℕ) : Type 0 where
+  pub turns : List Turn
+  pub ending : Ending
+  pub dialogue : Dialogue program settings come turns ending events rest
+  pub word_is : ending.word ≡ word
+  pub last_is : dialogue.run.last ≡ last
+  pub listed : offers ≡ offers_listed turns
+
+module _ (program : Parts) (settings : Settings) (word : EndWord) (start last : Position) (offers : ℕ) where
+  pub run_ends : (come late rest : List ℕ) (second third : List Event) → IsWholeRun program settings word start last offers come second late → (third ≡ outs (end_lines program.signature word last.spot.state)) × (rest ≡ late) → RunFrom program settings word start last offers come (second ++ third) rest
+  run_ends come late rest second third runs ends = record { turns = second; end = third; whole = refl; runs = subst (λ bytes. IsWholeRun program settings word start last offers come second bytes) (sym ends.1) runs; ends = ends.0 }
+
+  -- The header, all turns and the end are a dialogue.
+  pub whole_dialogue : (come middle rest : List ℕ) (first others : List Event) → start ≡ start_of program → (first ≡ outs (header program settings.height)) × (middle ≡ come) → RunFrom program settings word start last offers middle others rest → IsTold program settings word last offers come (first ++ others) rest
+  whole_dialogue come middle rest first others begun begins run =
+      let runs = run.runs in
+      let end = outs (end_lines program.signature word last.spot.state) in
+      let all = flat_map (turn_events program) runs.turns in
+      record {
+        turns = runs.turns;
+        ending = record { word = word; state = last.spot.state; question = runs.asked };
+        dialogue = record {
+          left = runs.left;
+          run = record {
+            last = last;
+            between = runs.between;
+            done = subst (λ place. AreTurns program settings place (whole_supply come) runs.turns last runs.between) begun
+                (subst (λ bytes. AreTurns program settings start (whole_supply bytes) runs.turns last runs.between) begins.1 runs.done);
+            ends = runs.ends;
+            state = refl;
+          };
+          whole = ap (λ es. es ++ others) begins.0 ∙ ap (λ es. outs (header program settings.height) ++ es)
+              (run.whole ∙ ap (λ es. es ++ run.end) runs.written ∙ append_assoc all (last_events program runs.asked) run.end
+              ∙ ap (λ es. all ++ (last_events program runs.asked ++ es)) run.ends);
+          rest_is = runs.rest_is;
+        };
+        word_is = refl;
+        last_is = refl;
+        listed = runs.listed;
+      }

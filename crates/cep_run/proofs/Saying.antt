@@ -1,0 +1,81 @@
+-- What is told of a run is what is said of it, by the laws of dialogues.
+use Rattle.std.proofs.Common.{◌≡◌, ℕ, ◌+◌, ◌≤◌, List, [], length, map, ap, ◌∙◌, sym, arith}
+use Rattle.std.specs.List.{AllByRecursion}
+use Rattle.cep_base.specs.declared.console.Event.{Event}
+use Rattle.cep_base.specs.declared.console.ConsoleFault.{ConsoleFault}
+use Rattle.cep_base.specs.declared.console.ConsoleFault.TheVariants as faults
+use Rattle.cep_term.specs.Multiset.{copies_in}
+use Rattle.cep_rule.specs.declared.rule.Rule.{Rule}
+use Rattle.cep_rule.specs.declared.parts.Parts.{Parts}
+use Rattle.cep_run.specs.declared.settings.Settings.{Settings}
+use Rattle.cep_run.specs.Deciding.{Supply}
+use Rattle.cep_run.specs.Run.{Position, start_of, whole_supply, Turn, Ending, AreTurns, AreMachineSteps, unproved}
+use Rattle.cep_run.specs.Dialogue.{Dialogue}
+use Rattle.cep_run.specs.Logs.{written_bytes, HoldsRun}
+use Rattle.cep_base.specs.declared.limits.TheConstants.{MOST_LOG}
+use Rattle.cep_rule.specs.Limits.{IsHeight}
+use Rattle.cep_rule.specs.Program.{IsProgram}
+use Rattle.cep_log.specs.declared.log.Log.{Log}
+use Rattle.cep_log.specs.Legal.{IsLegal}
+use Rattle.cep_log.specs.Transcript.{HasLog}
+use Rattle.cep_run.specs.declared.tally.Tally.{Tally}
+use Rattle.cep_run.specs.Said.{IsSaid, IsTally}
+use Rattle.cep_run.proofs.Runs.{IsTold}
+
+-- that one dialogue is there but for derivations, told for any two
+abbrev pub IsOneDialogue : Type 0
+IsOneDialogue =
+    (program : Parts) (settings : Settings) (come : List ℕ) (turns turns' : List Turn) (ending ending' : Ending) (events events' : List Event) (rest rest' : List ℕ)
+    → Dialogue program settings come turns ending events rest → Dialogue program settings come turns' ending' events' rest'
+    → (map unproved turns ≡ map unproved turns') × (ending ≡ ending') × (rest ≡ rest')
+
+-- and that it is one to the byte where no rule has a backward premise
+abbrev pub IsOneToTheByte : Type 0
+IsOneToTheByte =
+    (program : Parts) (settings : Settings) (come : List ℕ) (turns turns' : List Turn) (ending ending' : Ending) (events events' : List Event) (rest rest' : List ℕ)
+    → AllByRecursion (λ (rule : Rule). rule.backs ≡ []) program.rules
+    → Dialogue program settings come turns ending events rest → Dialogue program settings come turns' ending' events' rest'
+    → events ≡ events'
+
+-- that turns are steps of the machine, and that they are counted, told for any
+abbrev pub AreAllSteps : Type 0
+AreAllSteps =
+    (program : Parts) (settings : Settings) (at : Position) (from : Supply) (turns : List Turn) (last : Position) (to : Supply) → AreTurns program settings at from turns last to → AreMachineSteps program settings.height turns
+
+abbrev pub AreAllCounted : Type 0
+AreAllCounted =
+    (program : Parts) (settings : Settings) (at : Position) (from : Supply) (turns : List Turn) (last : Position) (to : Supply) → AreTurns program settings at from turns last to → last.turns ≡ at.turns + length turns
+
+-- that what is written of dialogues is a transcript, told for any
+abbrev pub HaveLogs : Type 0
+HaveLogs =
+    (program : Parts) (settings : Settings) (come : List ℕ) (turns : List Turn) (ending : Ending) (events : List Event) (rest : List ℕ)
+    → IsProgram program → IsHeight settings.height → Dialogue program settings come turns ending events rest → length (written_bytes events) ≤ MOST_LOG
+    → (log : Log) × HasLog program (written_bytes events) log × HoldsRun program settings turns ending log × IsLegal program log × (length log.steps ≡ length turns)
+
+-- what is told is what is said, with its tally, and what is typed allows no other
+pub is_said : (program : Parts) (settings : Settings) (tally : Tally) (last : Position) → IsOneDialogue → IsOneToTheByte → AreAllSteps → AreAllCounted → HaveLogs → IsProgram program → IsHeight settings.height
+    → tally.turns ≡ last.turns → tally.copies ≡ copies_in last.spot.state
+    → (come : List ℕ) (events : List Event) (rest : List ℕ) → IsTold program settings tally.word last tally.offers come events rest → IsSaid program settings (λ turns ending. IsTally turns ending tally) come events rest
+is_said program settings tally last one to_the_byte steps counted logs kept height turns copies come events rest told =
+    let run = told.dialogue.run in
+    let many = counted program settings (start_of program) (whole_supply come) told.turns run.last run.between run.done in
+    let last_turns : run.last.turns ≡ last.turns = ap (λ (at : Position). at.turns) told.last_is in
+    record {
+      turns = told.turns;
+      ending = told.ending;
+      dialogue = told.dialogue;
+      holds = record {
+        word = sym told.word_is;
+        turns = omega (arith, turns, many, last_turns);
+        offers = told.listed;
+        copies = copies ∙ ap (λ (at : Position). copies_in at.spot.state) (sym told.last_is) ∙ ap copies_in (sym run.state);
+      };
+      steps = steps program settings (start_of program) (whole_supply come) told.turns run.last run.between run.done;
+      counted = omega (arith, many);
+      logged = λ short.
+          let has = logs program settings come told.turns told.ending events rest kept height told.dialogue short in
+          (has.0, has.1, has.3, has.4);
+      only = λ turns' ending' events' rest' other. one program settings come turns' told.turns ending' told.ending events' events rest' rest other told.dialogue;
+      to_the_byte = λ plain turns' ending' events' rest' other. to_the_byte program settings come turns' told.turns ending' told.ending events' events rest' rest plain other told.dialogue;
+    }

@@ -1,0 +1,319 @@
+-- Each way through a turn is a turn of a run, or the end of one.
+use Rattle.std.proofs.Common.{◌≡◌, ℕ, zero, suc, ◌+◌, ◌-◌, ◌*◌, ◌<◌, ◌≤◌, List, [], ◌∷◌, ◌++◌, length, get_or, inl, inr, refl, sym, ap, ◌∙◌, subst, arith, Option, None, Some, Bool, true, false}
+use Rattle.std.specs.Prelude.{slice_get, All, IsSomeAnd, IsTrue, ◌↔◌, nat_lt}
+use borrow.Author.Tests.{ltb-true, ltb-false}
+use Rattle.std.specs.List.{AllByRecursion}
+use Rattle.std.proofs.lemmas.List.{append-nil, get_or_default}
+use Rattle.std.proofs.lemmas.Option.{slice_get_within, get_or_from_slice_get}
+use Rattle.cep_base.specs.declared.limits.TheConstants.{MOST_OFFERS}
+use Rattle.cep_base.specs.declared.console.Event.{Event}
+use Rattle.cep_base.specs.Talk.{outs, Did}
+use Rattle.cep_term.specs.Tree.{Tree, AtomTree, IsFit}
+use Rattle.cep_term.specs.Multiset.{Multiset}
+use Rattle.cep_rule.specs.declared.rule.Rule.{Rule}
+use Rattle.cep_rule.specs.declared.parts.Parts.{Parts}
+use Rattle.cep_rule.specs.declared.offer.Offer.{Offer}
+use Rattle.cep_rule.specs.State.{Fits}
+use Rattle.cep_rule.specs.Instances.{full_instances}
+use Rattle.cep_rule.specs.Offers.{Applies, AreOffers, IsOffer}
+use Rattle.cep_rule.specs.Stages.{IsAsked, IsQuiet}
+use Rattle.cep_rule.specs.Steps.{AreProofs}
+use Rattle.cep_rule.specs.Typing.{AreValues}
+use Rattle.cep_rule.specs.Matching.{offers_of, AreListed}
+use Rattle.cep_rule.specs.Shapes.{IsOfferOf}
+use Rattle.cep_machine.specs.declared.stepped.Which.{Which}
+use Rattle.cep_machine.specs.declared.stepped.Which.TheVariants as which
+use Rattle.cep_machine.specs.Configuration.{Configuration}
+use Rattle.cep_machine.specs.Asking.{asked_offers, IsAskedIn}
+use Rattle.cep_step.specs.Passing.{IsTooLarge, IsFirstTooLarge, IsTooFull}
+use Rattle.cep_machine.specs.Stepping.{IsAskedAt, IsNext, Passes}
+use Rattle.cep_run.specs.declared.choice.Choice.{Choice}
+use Rattle.cep_run.specs.declared.choice.Choice.TheVariants.{Place, NoMore, NoRoom}
+use Rattle.cep_log.specs.declared.end_word.EndWord.{EndWord}
+use Rattle.cep_log.specs.declared.end_word.EndWord.TheVariants.{Quiet, Offers, Input, Typed}
+use Rattle.cep_run.specs.declared.settings.Settings.{Settings}
+use Rattle.cep_run.specs.declared.turn.Turned.{Turned}
+use Rattle.cep_run.specs.declared.turn.Turned.TheVariants.{Done, Over}
+use Rattle.cep_run.specs.declared.deciding.Spent.{Spent}
+use Rattle.cep_run.specs.Deciding.{How}
+use Rattle.cep_log.specs.Lines.{step_lines}
+use Rattle.cep_run.specs.Run.{Position, Question, IsQuestion, IsChosen, PassesLimit, LeadsNowhere}
+use Rattle.cep_run.specs.Dialogue.{asked_events}
+use Rattle.cep_run.specs.Turn.{position_of, supply_with, IsPlayed, Settles, IsPlaced, TellsStep, Acts, WouldPass, limit_word, IsActed, DoesTurn, Stops, IsTurned}
+use Rattle.cep_base.proofs.Did.{did_same, did_map, did_then}
+
+none_some : {A B : Type 0} (x : A) → ◌≡◌ {A = Option A} None (Some x) → B
+none_some x e = cc
+
+some_same : {A : Type 0} (x y : A) → Some x ≡ Some y → x ≡ y
+some_same x y e = cc
+
+-- what holds of all items holds of the one at a place
+pub all_at : {A : Type 0} (P : A → Type 0) (xs : List A) → AllByRecursion P xs → (k : ℕ) (x : A) → slice_get xs k ≡ Some x → P x
+all_at P [] all k x is = none_some x is
+all_at P (y ∷ xs) all zero x is = subst P (let same : Some y ≡ Some x = is in cc) all.0
+all_at P (y ∷ xs) all (suc k) x is = all_at P xs all.1 k x is
+
+-- Offers
+
+module _ (program : Parts) (height : ℕ) (state : Multiset) (group : ℕ) (offers : List Offer) (are : AreOffers program height state group offers) where
+  -- what stands at a place of the offers is one
+  is_offer : (k : ℕ) (offer : Offer) → slice_get offers k ≡ Some offer → IsOffer program height state group offer
+  is_offer k offer at = are.no_other offer (k, slice_get_within offers k offer at, get_or_from_slice_get offers k offer offer at)
+
+  -- and it has a text
+  pub offer_has_text : (k : ℕ) (offer : Offer) → slice_get offers k ≡ Some offer → IsOfferOf program offer
+  offer_has_text k offer at =
+      let applies = (is_offer k offer at).applies in
+      subst (λ o. IsSomeAnd o (λ rule. AreValues program.signature.cons rule.kinds offer.values)) (sym applies.numbered) applies.values
+
+  pub offers_have_texts : All (IsOfferOf program) offers
+  offers_have_texts k d h =
+      let offer = get_or offers k d in
+      let applies = (are.no_other offer (k, h, get_or_default offers k offer d h)).applies in
+      subst (λ o. IsSomeAnd o (λ rule. AreValues program.signature.cons rule.kinds offer.values)) (sym applies.numbered) applies.values
+
+-- What a stage asks, with its offers.
+pub record IsAskedHere (program : Parts) (settings : Settings) (at : Position) (group : ℕ) (offers : List Offer) : Type 0 where
+  pub asked : IsAsked program settings.height at.spot.state at.spot.stage group
+  pub offered : AreOffers program settings.height at.spot.state group offers
+
+true_false : {A : Type 0} → false ≡ true → A
+true_false e = cc
+
+-- the lists of a matcher are the offers of the group that is asked
+pub asked_here : {M : Type 0} (is_of : Parts → M → Type 0) (height_held : M → ℕ) (program : Parts) (settings : Settings) (group height : ℕ) (held : Multiset) (lists : List (List Offer)) (config : Configuration M)
+    → height ≡ settings.height → held ≡ config.state → AreListed program height held lists → group < length lists → IsAsked program height config.state config.stage group
+    → IsAskedHere program settings (position_of config) group (offers_of lists group)
+asked_here is_of height_held program settings group height held lists config high same are listed asked = record {
+  asked = subst (λ h. IsAsked program h config.state config.stage group) high asked;
+  offered = subst (λ h. AreOffers program h config.state group (offers_of lists group)) high
+      (subst (λ s. AreOffers program height s group (offers_of lists group)) same (are.each group listed));
+}
+
+-- the group that is asked has a list
+pub group_listed : (lists : List (List Offer)) (stage group : ℕ) → IsAskedIn lists stage group → 2 * stage + 1 < length lists → group < length lists
+group_listed lists stage group (inl own) low = let same = own.0 in omega arith
+group_listed lists stage group (inr leaving) low = let same = leaving.0 in omega arith
+
+-- and some offer
+pub group_offers : (lists : List (List Offer)) (stage group : ℕ) → IsAskedIn lists stage group → 0 < length (offers_of lists group)
+group_offers lists stage group (inl own) = own.1
+group_offers lists stage group (inr leaving) = leaving.2
+
+-- there are too many, or there are not
+pub too_many : (ok : Bool) (n most : ℕ) → (IsTrue ok ↔ (n ≤ most)) → ok ≡ false → most < n
+too_many ok n most iff not = elim (nat_lt most n) as (λ t. nat_lt most n ≡ t → most < n) [
+  | true ↦ λ e. ltb-true most n e
+  | false ↦ λ e. true_false (sym not ∙ iff.1 (ltb-false most n e))
+] refl
+
+-- Steps
+
+-- an atom that is too large is not fit
+too_large : (a : AtomTree) (number : ℕ) → IsTooLarge a number → IsFit a → ⊥
+too_large a number (inl large) fit = let nodes = fit.nodes in omega arith
+too_large a number (inr large) fit = let depth = fit.depth in omega arith
+
+first_too_large : (atoms : List AtomTree) (number : ℕ) → IsFirstTooLarge atoms number → AllByRecursion IsFit atoms → ⊥
+first_too_large [] number large fit = large
+first_too_large (a ∷ atoms) number (inl large) fit = too_large a number large fit.0
+first_too_large (a ∷ atoms) number (inr later) fit = first_too_large atoms number later.1 fit.1
+
+-- a state that is too full does not fit
+too_full : (state : Multiset) (number : ℕ) → IsTooFull state number → Fits state → ⊥
+too_full state number (inl full) fits = let copies = fits.copies in omega arith
+too_full state number (inr full) fits = let nodes = fits.nodes in omega arith
+
+passes : (program : Parts) (which : Which) (values : List Tree) (rule : Rule) (state : Multiset) (number : ℕ) → Passes program.signature rule values state which number → PassesLimit program rule values state (limit_word which)
+passes program which.Atom values rule state number large = first_too_large (full_instances values rule.right) number large
+passes program which.State values rule state number full = (full.0, (full.1.0, full.1.1, too_full full.1.0 number full.1.2))
+
+module _ {M : Type 0} (program : Parts) (height : ℕ) (held : Multiset) (group : ℕ) (lists : List (List Offer)) (offers : List Offer) (place i : ℕ) (offer : Offer) (old : Configuration M)
+    (are : AreOffers program height held group offers) (at : slice_get offers i ≡ Some offer) (placed : i ≡ place - 1) (asked : offers ≡ asked_offers lists old.stage) where
+  pub rule_of : Rule
+  rule_of = (is_offer program height held group offers are i offer at).applies.rule
+
+  numbered : slice_get program.rules offer.rule ≡ Some rule_of
+  unfolding rule_of is_offer
+  numbered = (is_offer program height held group offers are i offer at).applies.numbered
+
+  chosen_there : IsAskedAt program lists old.stage i rule_of offer.values
+  chosen_there = record { number = offer.rule; offered = subst (λ xs. slice_get xs i ≡ Some offer) asked at; numbered = numbered }
+
+  is_placed : IsPlaced program offers place offer rule_of
+  is_placed = record { at_place = subst (λ n. slice_get offers n ≡ Some offer) placed at; of_rule = numbered }
+
+  -- the offer applies, within the height of the run
+  pub offer_applies : (settings : Settings) → height ≡ settings.height → Applies program settings.height held offer
+  offer_applies settings same = subst (λ h. Applies program h held offer) same (is_offer program height held group offers are i offer at).applies
+
+  same_rule : (rule : Rule) → slice_get program.rules offer.rule ≡ Some rule → rule ≡ rule_of
+  same_rule rule is = some_same rule rule_of (sym is ∙ numbered)
+
+  -- the step was done
+  pub step_acts : (high : ℕ) (new : Configuration M) (first bytes : List ℕ) → ((rule : Rule) (values : List Tree) → IsAskedAt program lists old.stage i rule values → IsNext program rule values old new) → first ≡ [] → TellsStep program high offer first bytes
+      → (come : List ℕ) (events : List Event) (rest : List ℕ) → (events ≡ outs bytes) × (rest ≡ come) → Acts program high offers place (position_of old) (position_of new) come events rest
+  step_acts high new first bytes stepped none told come events rest put =
+      let next = stepped rule_of offer.values chosen_there in
+      let same = same_rule told.rule told.numbered in
+      record {
+        offer = offer;
+        rule = rule_of;
+        proofs = told.proofs;
+        placed = is_placed;
+        proved = subst (λ (rule : Rule). AreProofs program high told.proofs (full_instances offer.values rule.backs)) same told.proved;
+        steps = next.steps;
+        written = put.0 ∙ ap outs (told.added ∙ ap (λ bytes. bytes ++ step_lines program offer told.rule told.proofs) none ∙ ap (λ (rule : Rule). step_lines program offer rule told.proofs) same);
+        untaken = put.1;
+      }
+
+  pub one_turn_more : (new : Configuration M) → ((rule : Rule) (values : List Tree) → IsAskedAt program lists old.stage i rule values → IsNext program rule values old new) → new.turns ≡ old.turns + 1
+  one_turn_more new stepped = (stepped rule_of offer.values chosen_there).turns
+
+  -- the step would pass a limit
+  pub step_fails : (last : Configuration M) (which : Which) (number : ℕ) → ((rule : Rule) (values : List Tree) → IsAskedAt program lists old.stage i rule values → (last ≡ old) × Passes program.signature rule values old.state which number)
+      → (come : List ℕ) (events : List Event) (rest : List ℕ) → (events ≡ []) × (rest ≡ come) → WouldPass program offers place (limit_word which) (position_of old) come events rest
+  step_fails last which number stepped come events rest same = record {
+    offer = offer;
+    rule = rule_of;
+    placed = is_placed;
+    too_much = passes program which offer.values rule_of old.state number (stepped rule_of offer.values chosen_there).1;
+    unwritten = same.0;
+    untaken = same.1;
+  }
+
+  pub left_alone : (last : Configuration M) (which : Which) (number : ℕ) → ((rule : Rule) (values : List Tree) → IsAskedAt program lists old.stage i rule values → (last ≡ old) × Passes program.signature rule values old.state which number) → last ≡ old
+  left_alone last which number stepped = (stepped rule_of offer.values chosen_there).0
+
+-- Turns
+
+module _ (program : Parts) (settings : Settings) (at : Position) (spent : Spent) where
+  -- no rule applies
+  pub quiet_turn : (come : List ℕ) (events : List Event) (rest : List ℕ) → IsQuiet program settings.height at.spot.state at.spot.stage → (events ≡ []) × (rest ≡ come) → Stops program settings at spent Quiet spent come events rest
+  quiet_turn come events rest is same = record {
+    asked = None;
+    ends = (is, ap (λ bytes. supply_with bytes spent) same.1);
+    written = same.0;
+  }
+
+  module _ (group : ℕ) (offers : List Offer) (here : IsAskedHere program settings at group offers) (remain : at.turns < settings.limit) where
+    -- the offers are too many
+    pub crowded_turn : MOST_OFFERS < length offers → (come : List ℕ) (events : List Event) (rest : List ℕ) → (events ≡ []) × (rest ≡ come) → Stops program settings at spent Offers spent come events rest
+    crowded_turn many come events rest same = record {
+      asked = None;
+      ends = ((remain, (group, offers, here.asked, here.offered, many)), ap (λ bytes. supply_with bytes spent) same.1);
+      written = same.0;
+    }
+
+    module _ (few : length offers ≤ MOST_OFFERS) (spent' : Spent) where
+      -- a question that was decided
+      abbrev answered : How → Choice → Question
+      answered how choice = record { group = group; offers = offers; how = how; choice = choice }
+
+      module _ (come rest : List ℕ) (choice : Choice) (events : List Event) (settles : Settles program settings.seed at.spot.stage group offers spent choice spent' come events rest) where
+        is_answered : IsQuestion program settings at (supply_with come spent) (answered settles.how choice) (supply_with rest spent')
+        is_answered = record { remain = remain; asked = here.asked; offered = here.offered; few = few; decided = settles.decides }
+
+        -- the choice is not made
+        pub unmade_turn : (word : EndWord) → LeadsNowhere program at.spot.state (answered settles.how choice) choice word → Stops program settings at spent word spent' come events rest
+        unmade_turn word nowhere = record { asked = Some (answered settles.how choice); ends = (is_answered, nowhere); written = settles.whole }
+
+      module _ (place : ℕ) (come between rest : List ℕ) (first second : List Event) (settles : Settles program settings.seed at.spot.stage group offers spent (Place place) spent' come first between) where
+        untaken : rest ≡ between → IsQuestion program settings at (supply_with come spent) (answered settles.how (Place place)) (supply_with rest spent')
+        untaken same = subst (λ bytes. IsQuestion program settings at (supply_with come spent) (answered settles.how (Place place)) (supply_with bytes spent')) (sym same) (is_answered come between (Place place) first settles)
+
+        is_chosen : (offer : Offer) (rule : Rule) → IsPlaced program offers place offer rule → IsChosen program (answered settles.how (Place place)) offer rule
+        is_chosen offer rule placed = record { place = place; chosen = refl; at_place = placed.at_place; of_rule = placed.of_rule }
+
+        -- one turn is done
+        pub done_turn : (new : Position) → new.turns ≡ at.turns + 1 → Acts program settings.height offers place at new between second rest → DoesTurn program settings offers at spent new spent' come (first ++ second) rest
+        done_turn new counted acts = record {
+          turn = record { before = at; question = answered settles.how (Place place); offer = acts.offer; rule = acts.rule; proofs = acts.proofs; after = new; left = supply_with rest spent' };
+          is = record {
+            here = refl;
+            asks = untaken acts.untaken;
+            chosen = is_chosen acts.offer acts.rule acts.placed;
+            proved = acts.proved;
+            steps = acts.steps;
+            counted = counted;
+          };
+          after = refl;
+          left = refl;
+          listed = refl;
+          written = ap (λ es. es ++ second) settles.whole ∙ ap (λ es. asked_events program offers settles.how ++ es) acts.written;
+        }
+
+        -- the step passes a limit
+        pub failed_turn : (word : EndWord) → WouldPass program offers place word at between second rest → Stops program settings at spent word spent' come (first ++ second) rest
+        failed_turn word fails = record {
+          asked = Some (answered settles.how (Place place));
+          ends = (untaken fails.untaken, (fails.offer, fails.rule, is_chosen fails.offer fails.rule fails.placed, fails.too_much));
+          written = ap (λ es. first ++ es) fails.unwritten ∙ append-nil first ∙ settles.whole;
+        }
+
+-- what the choice of a place comes to is what the turn comes to
+module _ {C M : Type 0} (talk : C → Option (List Event)) (left : C → Option (List ℕ)) (old between new : C) (program : Parts) (settings : Settings) (config : Configuration M) (spent spent' : Spent) (place group : ℕ) (offers : List Offer)
+    (here : IsAskedHere program settings (position_of config) group offers) (remain : config.turns < settings.limit) (few : length offers ≤ MOST_OFFERS)
+    (settled : Did talk left old between (Settles program settings.seed config.stage group offers spent (Place place) spent')) where
+  pub chosen_turn : (turned : Turned M) → IsActed talk left between new program settings.height offers place config turned → IsTurned talk left old new program settings offers config spent spent' turned
+  chosen_turn (Done next) acted = (
+    did_then talk left old between new _ _ _ (λ come first middle others rest settles acts. done_turn program settings (position_of config) spent group offers here remain few spent' place come middle rest first others settles (position_of next) acted.1 acts) settled acted.0,
+    acted.1,
+    few,
+  )
+  chosen_turn (Over last) acted = (
+    did_then talk left old between new _ _ _ (λ come first middle others rest settles fails. failed_turn program settings (position_of config) spent group offers here remain few spent' place come middle rest first others settles last.word fails) settled acted.0,
+    acted.1,
+  )
+
+-- What a configuration asks, by its matcher: the lists that are held are those of the group, whatever view of the matcher they are taken from.
+module _ {M : Type 0} (is_of : Parts → M → Type 0) (height_held : M → ℕ) (state_held : M → Multiset) (offers_held : M → List (List Offer)) (program : Parts) (settings : Settings) (config : Configuration M) (group : ℕ)
+    (played : IsPlayed is_of height_held program settings config)
+    (lists : AreListed program (height_held config.matcher) (state_held config.matcher) (offers_held config.matcher)) (same_state : state_held config.matcher ≡ config.state)
+    (low : 2 * config.stage + 1 < length (offers_held config.matcher)) (asked_in : IsAskedIn (offers_held config.matcher) config.stage group)
+    (asked : IsAsked program (height_held config.matcher) config.state config.stage group)
+    (listing : List Offer) (list : offers_of (offers_held config.matcher) group ≡ listing) where
+  pub asks_here : IsAskedHere program settings (position_of config) group (offers_of (offers_held config.matcher) group)
+  asks_here = asked_here is_of height_held program settings group (height_held config.matcher) (state_held config.matcher) (offers_held config.matcher) config played.height same_state lists (group_listed (offers_held config.matcher) config.stage group asked_in low) asked
+
+  module _ (remain : config.turns < settings.limit) {C : Type 0} (talk : C → Option (List Event)) (left : C → Option (List ℕ)) (console : C) (spent : Spent) where
+    -- the offers are too many, as this view of the matcher has it
+    pub crowds_here : (seen : M) → seen ≡ config.matcher → (ok : Bool) → (IsTrue ok ↔ (length (offers_of (offers_held seen) group) ≤ MOST_OFFERS)) → ok ≡ false → (turned : Turned M) → turned ≡ Over (record { config = config; word = Offers }) → IsTurned talk left console console program settings listing config spent spent turned
+    crowds_here seen view ok iff not turned is =
+        let many : MOST_OFFERS < length (offers_of (offers_held config.matcher) group) = subst (λ m. MOST_OFFERS < length (offers_of (offers_held m) group)) view (too_many ok _ MOST_OFFERS iff not) in
+        subst (λ t. IsTurned talk left console console program settings listing config spent spent t) (sym is) (
+          did_map talk left console console _ _ (λ come events rest same. crowded_turn program settings (position_of config) spent group (offers_of (offers_held config.matcher) group) asks_here remain many come events rest same) (did_same talk left console console refl refl),
+          refl,
+        )
+
+    -- a choice was decided
+    module _ (settled_on : C) (spent' : Spent) (seen : M) (view : seen ≡ config.matcher) (few : length (offers_of (offers_held seen) group) ≤ MOST_OFFERS) where
+      few_here : length (offers_of (offers_held config.matcher) group) ≤ MOST_OFFERS
+      few_here = subst (λ m. length (offers_of (offers_held m) group) ≤ MOST_OFFERS) view few
+
+      settled_here : (choice choice' : Choice) → choice ≡ choice' → Did talk left console settled_on (Settles program settings.seed config.stage group (offers_of (offers_held config.matcher) group) spent choice spent')
+          → Did talk left console settled_on (Settles program settings.seed config.stage group (offers_of (offers_held config.matcher) group) spent choice' spent')
+      settled_here choice choice' same settled = subst (λ (it : Choice). Did talk left console settled_on (Settles program settings.seed config.stage group (offers_of (offers_held config.matcher) group) spent it spent')) same settled
+
+      unmade_here : (word : EndWord) (choice choice' : Choice) → choice ≡ choice' → Did talk left console settled_on (Settles program settings.seed config.stage group (offers_of (offers_held config.matcher) group) spent choice spent')
+          → ((question : Question) → LeadsNowhere program config.state question choice' word) → (turned : Turned M) → turned ≡ Over (record { config = config; word = word }) → IsTurned talk left console settled_on program settings listing config spent spent' turned
+      unmade_here word choice choice' same settled nowhere turned is =
+          subst (λ t. IsTurned talk left console settled_on program settings listing config spent spent' t) (sym is) (
+            did_map talk left console settled_on _ _ (λ come events rest settles. unmade_turn program settings (position_of config) spent group (offers_of (offers_held config.matcher) group) asks_here remain few_here spent' come rest choice' events settles word (nowhere _)) (settled_here choice choice' same settled),
+            refl,
+          )
+
+      pub no_more_here : (choice : Choice) → choice ≡ NoMore → Did talk left console settled_on (Settles program settings.seed config.stage group (offers_of (offers_held config.matcher) group) spent choice spent')
+          → (turned : Turned M) → turned ≡ Over (record { config = config; word = Input }) → IsTurned talk left console settled_on program settings listing config spent spent' turned
+      no_more_here choice same settled turned is = unmade_here Input choice NoMore same settled (λ _. refl) turned is
+
+      pub no_room_here : (choice : Choice) → choice ≡ NoRoom → Did talk left console settled_on (Settles program settings.seed config.stage group (offers_of (offers_held config.matcher) group) spent choice spent')
+          → (turned : Turned M) → turned ≡ Over (record { config = config; word = Typed }) → IsTurned talk left console settled_on program settings listing config spent spent' turned
+      no_room_here choice same settled turned is = unmade_here Typed choice NoRoom same settled (λ _. refl) turned is
+
+      pub chosen_here : (place : ℕ) (choice : Choice) → choice ≡ Place place → Did talk left console settled_on (Settles program settings.seed config.stage group (offers_of (offers_held config.matcher) group) spent choice spent')
+          → (new : C) (turned : Turned M) → IsActed talk left settled_on new program settings.height (offers_of (offers_held config.matcher) group) place config turned → IsTurned talk left console new program settings listing config spent spent' turned
+      chosen_here place choice same settled new turned acted =
+          subst (λ offers. IsTurned talk left console new program settings offers config spent spent' turned) list
+          (chosen_turn talk left console settled_on new program settings config spent spent' place group (offers_of (offers_held config.matcher) group) asks_here remain few_here (settled_here choice (Place place) same settled) turned acted)

@@ -1,0 +1,20 @@
+use Rattle.std.proofs.Common.{◌≡◌, ◌++◌, ap, ◌∙◌, subst}
+use Rattle.std.proofs.lemmas.Result.{on_ok_weaker}
+use Rattle.cep_base.specs.Talk.{outs, Did}
+use Rattle.cep_rule.specs.Matching.{offers_of}
+use Rattle.cep_log.specs.Lines.{offer_lines}
+use Rattle.cep_base.proofs.Did.{did_put}
+use Rattle.cep_run.proofs.deciding.tell.Goals as goal
+
+pub returns-clause-told : goal.returns-clause-told
+returns-clause-told g c =
+    let talk = g.C.Console.talk in
+    let left = g.C.Console.left in
+    let old = c.args.console.now in
+    let new = c.put.new.self in
+    let offers = offers_of (g.M.Matcher.offers_held c.args.matcher.now) c.args.group in
+    let lines = offer_lines c.args.program.now 1 offers in
+    let same : c.bytes.result.now ≡ lines = c.bytes.ensures ∙ c.in_ok-put_offers.ensures.ok ∙ ap (λ xs. xs ++ lines) c.new-lines.ensures in
+    on_ok_weaker c.put.result
+    (λ written. subst (λ bytes. Did talk left old new (λ come events rest. (events ≡ outs bytes) × (rest ≡ come))) same (did_put talk left old new c.bytes.result.now written c.put.ensures.left))
+    c.put.ensures.written

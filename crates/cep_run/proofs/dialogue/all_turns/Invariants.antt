@@ -1,0 +1,18 @@
+use Rattle.std.proofs.Common.{◌≡◌, ◌*◌, ◌≤◌}
+use Rattle.cep_base.specs.declared.limits.TheConstants.{MOST_OFFERS}
+use Rattle.cep_base.specs.Talk.{Did}
+use Rattle.cep_run.specs.Turn.{position_of, HasSpent, IsPlayed, SoFar}
+use Rattle.cep_run.proofs.dialogue.all_turns.Given as goal
+
+-- Some turns are done from the start to here, in which so many offers were listed, and what was said is their events.
+abbrev pub invariant-loop-done : goal.invariant-loop-done
+invariant-loop-done g l =
+    record {
+      played : IsPlayed g.M.Matcher.is_of g.M.Matcher.height_held l.program l.settings l.config;
+      turns : l.config.turns ≡ l._done;
+      spent : HasSpent l.settings.seed l.config.turns l.spent;
+      counted : l.fn.steps ≤ l.steps;
+      cause : g.C.Console.faults l.console ≡ g.C.Console.faults l.fn.console;
+      few : l.offers ≤ MOST_OFFERS * l._done;
+      so_far : Did g.C.Console.talk g.C.Console.left l.fn.console l.console (SoFar l.program l.settings (position_of l.fn.start) (position_of l.config) l.spent l.offers);
+    }

@@ -1,0 +1,7 @@
+pub mod Choice
+pub mod Deciding
+pub mod Run
+pub mod Dialogue
+pub mod Logs
+pub mod Turn
+pub mod Said

@@ -1,0 +1,171 @@
+-- Private.
+-- What a part of a run does: words for the functions that do it.
+use Rattle.std.specs.Prelude.{◌≡◌, ℕ, ◌+◌, ◌-◌, ◌≤◌, List, [], ◌++◌, Option, Some, length, slice_get}
+use Rattle.std.specs.List.{flat_map}
+use Rattle.cep_base.specs.declared.console.Event.{Event}
+use Rattle.cep_base.specs.declared.limits.TheConstants.{MOST_OFFERS, MOST_TYPED}
+use Rattle.cep_base.specs.Talk.{outs, Did}
+use Rattle.cep_choice.specs.Draws.{generator_behind}
+use Rattle.cep_term.specs.Tree.{AtomTree}
+use Rattle.cep_rule.specs.declared.parts.Parts.{Parts}
+use Rattle.cep_rule.specs.declared.offer.Offer.{Offer}
+use Rattle.cep_rule.specs.declared.rule.Rule.{Rule}
+use Rattle.cep_rule.specs.Instances.{full_instances}
+use Rattle.cep_rule.specs.Derivations.{ProofTree, Proves, proof_height}
+use Rattle.cep_rule.specs.Steps.{StepsTo, AreProofs}
+use Rattle.cep_machine.specs.declared.stepped.Which.{Which}
+use Rattle.cep_machine.specs.declared.stepped.Which.TheVariants as which
+use Rattle.cep_machine.specs.Configuration.{Configuration, spot_of, IsConfigurationOf}
+use Rattle.cep_run.specs.declared.choice.Choice.{Choice}
+use Rattle.cep_log.specs.declared.end_word.EndWord.{EndWord}
+use Rattle.cep_log.specs.declared.end_word.EndWord.TheVariants.{Atom, State}
+use Rattle.cep_run.specs.declared.settings.Settings.{Settings}
+use Rattle.cep_run.specs.declared.turn.Turned.{Turned}
+use Rattle.cep_run.specs.declared.turn.Turned.TheVariants.{Done, Over}
+use Rattle.cep_run.specs.Choice.{Hears}
+use Rattle.cep_run.specs.declared.deciding.Spent.{Spent}
+use Rattle.cep_run.specs.Deciding.{Supply, How, Decides}
+use Rattle.cep_log.specs.Lines.{question, step_lines, by_line, by_lines}
+use Rattle.cep_run.specs.Run.{Position, Question, Turn, IsTurn, AreTurns, offers_listed, PassesLimit, EndsAt, whole_supply}
+use Rattle.cep_run.specs.Dialogue.{asked_events, turn_events, last_events}
+
+-- where a configuration stands
+abbrev pub position_of : {M : Type 0} → Configuration M → Position
+position_of config = record { spot = spot_of config; turns = config.turns }
+
+-- what is left of the supply, where these bytes are to come and this was spent
+abbrev pub supply_with : List ℕ → Spent → Supply
+supply_with come spent = record { come = come; taken = spent.taken; drawn = spent.drawn }
+
+-- What was spent in so many turns of a run with this seed: no more bytes than may be taken, no more words than turns, and the next words are those behind them.
+pub record HasSpent (seed turns : ℕ) (spent : Spent) : Type 0 where
+  pub taken : spent.taken ≤ MOST_TYPED
+  pub drawn : spent.drawn ≤ turns
+  pub draw : spent.draw ≡ generator_behind seed spent.drawn
+
+-- The configuration is one of the program, at the height of the run.
+pub record IsPlayed {M : Type 0} (is_of : Parts → M → Type 0) (height_held : M → ℕ) (program : Parts) (settings : Settings) (config : Configuration M) : Type 0 where
+  pub of_program : IsConfigurationOf is_of program config
+  pub height : height_held config.matcher ≡ settings.height
+
+-- The offers are written, and a choice among them is heard.
+pub record AsksPlayer (program : Parts) (offers : List Offer) (come : List ℕ) (taken : ℕ) (events : List Event) (choice : Choice) (rest : List ℕ) (taken' : ℕ) : Type 0 where
+  pub heard : List Event
+  pub hears : Hears (length offers) come taken heard choice rest taken'
+  pub whole : events ≡ outs (question program offers) ++ heard
+
+-- A choice among the offers of a group that a stage asks is decided, and what is said of it is said.
+pub record Settles (program : Parts) (seed stage group : ℕ) (offers : List Offer) (old : Spent) (choice : Choice) (new : Spent) (come : List ℕ) (events : List Event) (rest : List ℕ) : Type 0 where
+  pub how : How
+  pub decides : Decides program seed stage group (length offers) (supply_with come old) how choice (supply_with rest new)
+  pub whole : events ≡ asked_events program offers how
+
+-- The offer at a place, counted from 1, with its rule.
+pub record IsPlaced (program : Parts) (offers : List Offer) (place : ℕ) (offer : Offer) (rule : Rule) : Type 0 where
+  pub at_place : slice_get offers (place - 1) ≡ Some offer
+  pub of_rule : slice_get program.rules offer.rule ≡ Some rule
+
+-- The line of a derivation was added, which proves the atom within the height.
+pub record AddsProof (program : Parts) (height : ℕ) (a : AtomTree) (old new : List ℕ) : Type 0 where
+  pub proof : ProofTree
+  pub proves : Proves program proof a
+  pub low : proof_height proof ≤ height
+  pub added : new ≡ old ++ by_line program proof
+
+-- The lines of derivations were added, which prove these atoms within the height, one each in order.
+pub record AddsProofs (program : Parts) (height : ℕ) (atoms : List AtomTree) (old new : List ℕ) : Type 0 where
+  pub proofs : List ProofTree
+  pub proved : AreProofs program height proofs atoms
+  pub added : new ≡ old ++ by_lines program proofs
+
+-- The same for the backward premises of an offer.
+pub record ProvesOffer (program : Parts) (height : ℕ) (offer : Offer) (old new : List ℕ) : Type 0 where
+  pub rule : Rule
+  pub numbered : slice_get program.rules offer.rule ≡ Some rule
+  pub adds : AddsProofs program height (full_instances offer.values rule.backs) old new
+
+-- The lines of a step were added: its own, those of what proves its backward premises within the height, and that of the next stage.
+pub record TellsStep (program : Parts) (height : ℕ) (offer : Offer) (old new : List ℕ) : Type 0 where
+  pub rule : Rule
+  pub numbered : slice_get program.rules offer.rule ≡ Some rule
+  pub proofs : List ProofTree
+  pub proved : AreProofs program height proofs (full_instances offer.values rule.backs)
+  pub added : new ≡ old ++ step_lines program offer rule proofs
+
+-- The step by the offer at a place leads from one position to the other, its backward premises are proved within the height, and its lines are written.
+pub record Acts (program : Parts) (height : ℕ) (offers : List Offer) (place : ℕ) (old new : Position) (come : List ℕ) (events : List Event) (rest : List ℕ) : Type 0 where
+  pub offer : Offer
+  pub rule : Rule
+  pub proofs : List ProofTree
+  pub placed : IsPlaced program offers place offer rule
+  pub proved : AreProofs program height proofs (full_instances offer.values rule.backs)
+  pub steps : StepsTo program rule offer.values old.spot new.spot
+  pub written : events ≡ outs (step_lines program offer rule proofs)
+  pub untaken : rest ≡ come
+
+-- the word for a limit that a step would pass
+abbrev pub limit_word : Which → EndWord
+limit_word which.Atom = Atom
+limit_word which.State = State
+
+-- The step by the offer at a place would pass a limit, and nothing is written.
+pub record WouldPass (program : Parts) (offers : List Offer) (place : ℕ) (word : EndWord) (at : Position) (come : List ℕ) (events : List Event) (rest : List ℕ) : Type 0 where
+  pub offer : Offer
+  pub rule : Rule
+  pub placed : IsPlaced program offers place offer rule
+  pub too_much : PassesLimit program rule offer.values at.spot.state word
+  pub unwritten : events ≡ []
+  pub untaken : rest ≡ come
+
+-- What the choice of a place comes to, in a configuration: the step is done, or it would pass a limit and the run ends here.
+abbrev pub IsActed : {C M : Type 0} → (C → Option (List Event)) → (C → Option (List ℕ)) → C → C → Parts → ℕ → List Offer → ℕ → Configuration M → Turned M → Type 0
+IsActed talk left old new program height offers place config (Done next) =
+    Did talk left old new (Acts program height offers place (position_of config) (position_of next)) × (next.turns ≡ config.turns + 1)
+IsActed talk left old new program height offers place config (Over last) =
+    Did talk left old new (WouldPass program offers place last.word (position_of config)) × (last.config ≡ config)
+
+-- These events do a turn, in which these offers are listed.
+pub record DoesTurn (program : Parts) (settings : Settings) (offers : List Offer) (at : Position) (spent : Spent) (next : Position) (spent' : Spent) (come : List ℕ) (events : List Event) (rest : List ℕ) : Type 0 where
+  pub turn : Turn
+  pub is : IsTurn program settings at (supply_with come spent) turn
+  pub after : turn.after ≡ next
+  pub left : turn.left ≡ supply_with rest spent'
+  pub listed : turn.question.offers ≡ offers
+  pub written : events ≡ turn_events program turn
+
+-- These events come before the end of a run at this position.
+pub record Stops (program : Parts) (settings : Settings) (at : Position) (spent : Spent) (word : EndWord) (spent' : Spent) (come : List ℕ) (events : List Event) (rest : List ℕ) : Type 0 where
+  pub asked : Option Question
+  pub ends : EndsAt program settings at (supply_with come spent) word asked (supply_with rest spent')
+  pub written : events ≡ last_events program asked
+
+-- What a turn from a position comes to: it was done, with one more turn done and not too many offers listed, or the run ends here.
+abbrev pub IsTurned : {C M : Type 0} → (C → Option (List Event)) → (C → Option (List ℕ)) → C → C → Parts → Settings → List Offer → Configuration M → Spent → Spent → Turned M → Type 0
+IsTurned talk left old new program settings offers config spent spent' (Done next) =
+    Did talk left old new (DoesTurn program settings offers (position_of config) spent (position_of next) spent') × (next.turns ≡ config.turns + 1) × (length offers ≤ MOST_OFFERS)
+IsTurned talk left old new program settings offers config spent spent' (Over last) =
+    Did talk left old new (Stops program settings (position_of config) spent last.word spent') × (last.config ≡ config)
+
+-- the configuration that is there after a turn
+abbrev pub config_left : {M : Type 0} → Turned M → Configuration M
+config_left (Done config) = config
+config_left (Over last) = last.config
+
+-- Some turns are done from the start to here, in which so many offers were listed, and what was said is their events.
+pub record SoFar (program : Parts) (settings : Settings) (start here : Position) (spent : Spent) (offers : ℕ) (come : List ℕ) (events : List Event) (rest : List ℕ) : Type 0 where
+  pub turns : List Turn
+  pub done : AreTurns program settings start (whole_supply come) turns here (supply_with rest spent)
+  pub listed : offers ≡ offers_listed turns
+  pub written : events ≡ flat_map (turn_events program) turns
+
+-- All turns of a run are done from the start to here, in which so many offers were listed, and what was said is their events and what comes before the end.
+pub record IsWholeRun (program : Parts) (settings : Settings) (word : EndWord) (start last : Position) (offers : ℕ) (come : List ℕ) (events : List Event) (rest : List ℕ) : Type 0 where
+  pub turns : List Turn
+  pub between : Supply
+  pub left : Supply
+  pub asked : Option Question
+  pub done : AreTurns program settings start (whole_supply come) turns last between
+  pub ends : EndsAt program settings last between word asked left
+  pub listed : offers ≡ offers_listed turns
+  pub written : events ≡ flat_map (turn_events program) turns ++ last_events program asked
+  pub rest_is : rest ≡ left.come

@@ -1,0 +1,151 @@
+// Which of the offers of a turn is chosen: by the player, or by the seed.
+ghost use Rattle.std.specs.Prelude.{◌≡◌, ◌↔◌, ℕ, ◌+◌, ◌<◌, ◌≤◌, length, All, IfOk, OnOk, IsTrue};
+ghost use Rattle.cep_base.specs.declared.limits.TheConstants.{MOST_OFFERS, MOST_TURNS, MOST_TYPED};
+ghost use Rattle.cep_base.specs.Talk.{outs, Did, ConsoleCause};
+ghost use Rattle.cep_rule.specs.Matching.{offers_of};
+ghost use Rattle.cep_rule.specs.Shapes.{IsOfferOf};
+ghost use Rattle.cep_choice.specs.Draws.{generator_behind, place_drawn};
+ghost use Rattle.cep_log.specs.Lines.{offer_lines};
+ghost use Rattle.cep_run.specs.Choice.{IsChoiceWithin};
+ghost use Rattle.cep_run.specs.Deciding.{IsPlayers};
+ghost use Rattle.cep_run.specs.Turn.{AsksPlayer, HasSpent, Settles};
+
+use crate::choice::{Choice, choose};
+use cep_base::{Console, ConsoleFault, Text};
+use cep_choice::Draw;
+use cep_log::{put_offers, put_question};
+use cep_machine::Config;
+use cep_rule::{Matcher, Program};
+use std::alloc::Global;
+
+/// What the decisions of a run have consumed.
+#[derive(Drop)]
+pub struct Spent {
+    /// How many bytes were taken of what is typed.
+    pub taken: u64,
+    /// How many words of the seed were drawn.
+    pub drawn: u32,
+    /// What the seed draws from now on.
+    pub draw: Draw,
+}
+
+impl Spent {
+    /// Nothing yet, for a run with this seed.
+    pub fn nothing(seed: u64) -> Spent
+        ensures taken { result.taken ≡ 0 }
+        ensures drawn { result.drawn ≡ 0 }
+        ensures draw { result.draw ≡ generator_behind seed 0 }
+    {
+        Spent {
+            taken: 0,
+            drawn: 0,
+            draw: Draw::new(seed),
+        }
+    }
+
+    /// The place among `n` that is taken where the player does not decide, from 1 to `n`.
+    pub fn place(&mut self, n: u32) -> u32
+        requires some { 0 < n }
+        requires few { self.old.drawn < MOST_TURNS }
+        ensures lone { n ≡ 1 → (result ≡ 1) × (self.new ≡ self.old) }
+        ensures drawn { 1 < n
+            → (seed : ℕ)
+            → self.old.draw ≡ generator_behind seed self.old.drawn
+            → (result ≡ place_drawn seed self.old.drawn n) × (self.new ≡ record { taken = self.old.taken; drawn = self.old.drawn + 1; draw = generator_behind seed (self.old.drawn + 1) }) }
+        ensures within { (0 < result) × (result ≤ n) }
+    {
+        let place = self.draw.place(n);
+        if n > 1 {
+            self.drawn += 1;
+        }
+        place
+    }
+}
+
+// Whether the player decides among so many offers of a group: in an interactive stage, where they are
+// of its own rules, even a lone one, or several that leave it.
+fn is_players(program: &Program, stage: u32, group: u32, offers: usize) -> bool
+    requires { stage < length program.now.stages }
+    ensures { IsTrue result ↔ IsPlayers program.now stage group offers }
+{
+    let parts = program.parts();
+    parts.stages.get(stage as usize).interactive && (group == 2 * stage || offers > 1)
+}
+
+/// Writes the offers of a group, and reads until one of them is chosen.
+fn ask<C: Console, M: Matcher>(
+    alloc: Global,
+    program: &Program,
+    matcher: &M,
+    group: u32,
+    console: &mut C,
+    taken: &mut u64,
+) -> Result<Choice, ConsoleFault>
+    requires listed { group < length (M.offers_held matcher.now) }
+    requires offers { All (IsOfferOf program.now) (offers_of (M.offers_held matcher.now) group) }
+    requires few { length (offers_of (M.offers_held matcher.now) group) ≤ MOST_OFFERS }
+    requires within { taken.old ≤ MOST_TYPED }
+    ensures heard { IfOk result (λ choice. Did C.talk C.left console.old console.new (λ come events rest.
+        AsksPlayer program.now (offers_of (M.offers_held matcher.now) group) come taken.old events choice rest taken.new)) }
+    ensures place { IfOk result (λ choice. IsChoiceWithin (length (offers_of (M.offers_held matcher.now) group)) choice) }
+    ensures within { taken.new ≤ MOST_TYPED }
+    ensures cause { ConsoleCause (C.faults console.old) (C.faults console.new) result }
+{
+    let mut question = Text::new(alloc);
+    put_question(program, matcher, group, &mut question)?;
+    console.put(question.bytes())?;
+    choose(console, matcher.count(group) as u32, taken)
+}
+
+/// Writes the offers of a group, and asks nobody.
+fn tell<C: Console, M: Matcher>(
+    alloc: Global,
+    program: &Program,
+    matcher: &M,
+    group: u32,
+    console: &mut C,
+) -> Result<(), ConsoleFault>
+    requires listed { group < length (M.offers_held matcher.now) }
+    requires offers { All (IsOfferOf program.now) (offers_of (M.offers_held matcher.now) group) }
+    requires few { length (offers_of (M.offers_held matcher.now) group) ≤ MOST_OFFERS }
+    ensures told { OnOk result (Did C.talk C.left console.old console.new (λ come events rest.
+        (events ≡ outs (offer_lines program.now 1 (offers_of (M.offers_held matcher.now) group))) × (rest ≡ come))) }
+    ensures cause { ConsoleCause (C.faults console.old) (C.faults console.new) result }
+{
+    let mut lines = Text::new(alloc);
+    put_offers(program, matcher, group, &mut lines)?;
+    console.put(lines.bytes())
+}
+
+/// Writes the offers of the group that a configuration asks, and has one of them chosen.
+pub fn decide<C: Console, M: Matcher>(
+    alloc: Global,
+    program: &Program,
+    seed: u64,
+    config: &Config<M>,
+    group: u32,
+    console: &mut C,
+    spent: &mut Spent,
+) -> Result<Choice, ConsoleFault>
+    requires staged { config.now.stage < length program.now.stages }
+    requires listed { group < length (M.offers_held config.now.matcher) }
+    requires offers { All (IsOfferOf program.now) (offers_of (M.offers_held config.now.matcher) group) }
+    requires some { 0 < length (offers_of (M.offers_held config.now.matcher) group) }
+    requires few { length (offers_of (M.offers_held config.now.matcher) group) ≤ MOST_OFFERS }
+    requires turns { config.now.turns < MOST_TURNS }
+    requires spent { HasSpent seed config.now.turns spent.old }
+    ensures settled { IfOk result (λ choice. Did C.talk C.left console.old console.new
+        (Settles program.now seed config.now.stage group (offers_of (M.offers_held config.now.matcher) group) spent.old choice spent.new)) }
+    ensures place { IfOk result (λ choice. IsChoiceWithin (length (offers_of (M.offers_held config.now.matcher) group)) choice) }
+    ensures spent { HasSpent seed (config.now.turns + 1) spent.new }
+    ensures cause { ConsoleCause (C.faults console.old) (C.faults console.new) result }
+{
+    let matcher = config.matcher();
+    let offers = matcher.count(group);
+    if is_players(program, config.stage(), group, offers) {
+        ask(alloc, program, matcher, group, console, &mut spent.taken)
+    } else {
+        tell(alloc, program, matcher, group, console)?;
+        Ok(Choice::Place(spent.place(offers as u32)))
+    }
+}

@@ -1,0 +1,158 @@
+// A run: turn by turn the offers are written, one of them is chosen, and the step is done.
+ghost use Rattle.std.specs.Prelude.{◌≡◌, ◌≤◌, length, IfOk, OnOk};
+ghost use Rattle.cep_base.specs.declared.limits.TheConstants.{MOST_TURNS};
+ghost use Rattle.cep_base.specs.Talk.{outs, Did, ConsoleCause};
+ghost use Rattle.cep_rule.specs.Limits.{IsHeight};
+ghost use Rattle.cep_rule.specs.State.{IsState};
+ghost use Rattle.cep_machine.specs.Asking.{asked_offers};
+ghost use Rattle.cep_log.specs.Lines.{end_lines, header};
+ghost use Rattle.cep_run.specs.Turn.{position_of, IsPlayed, IsWholeRun};
+ghost use Rattle.cep_run.specs.Said.{Says, IsTally};
+
+use crate::deciding::Spent;
+use crate::laws::{one_dialogue, turns_are_counted, turns_are_steps};
+use crate::log_laws::dialogues_have_logs;
+use crate::settings::Settings;
+use crate::tally::Tally;
+use crate::turn::{Turned, turn};
+use cep_base::{Console, ConsoleFault, Steps, Text};
+use cep_log::{EndWord, put_end, put_start};
+use cep_machine::Config;
+use cep_rule::{Matcher, Program};
+use cep_term::Bag;
+use std::alloc::Global;
+use std::sync::ledger::Ledger;
+
+/// Where a run ended, why, and how many offers were listed in the turns that were done.
+#[derive(Drop)]
+struct Finished<M: Matcher> {
+    config: Config<M>,
+    word: EndWord,
+    offers: u64,
+}
+
+/// How many offers the stage asks about.
+fn offers_asked<M: Matcher>(config: &Config<M>) -> usize
+    ensures { result ≡ length (asked_offers (M.offers_held config.now.matcher) config.now.stage) }
+{
+    match config.asked() {
+        Some(group) => config.matcher().count(group),
+        None => 0,
+    }
+}
+
+/// Does turn after turn, until the run ends.
+fn all_turns<C: Console, M: Matcher, L: Ledger>(
+    alloc: Global,
+    program: &Program,
+    settings: Settings,
+    start: Config<M>,
+    console: &mut C,
+    steps: &mut Steps<L>,
+) -> Result<Finished<M>, ConsoleFault>
+    requires played { IsPlayed M.is_of M.height_held program.now settings start }
+    requires begins { start.turns ≡ 0 }
+    requires limit { settings.limit ≤ MOST_TURNS }
+    ensures said { IfOk result (λ end. Did C.talk C.left console.old console.new
+        (IsWholeRun program.now settings end.word (position_of start) (position_of end.config) end.offers)) }
+    ensures played { IfOk result (λ end. IsPlayed M.is_of M.height_held program.now settings end.config) }
+    ensures counted { steps.old ≤ steps.new }
+    ensures cause { ConsoleCause (C.faults console.old) (C.faults console.new) result }
+{
+    let mut config = start;
+    let mut spent = Spent::nothing(settings.seed);
+    let mut offers = 0;
+    for _done in 0..settings.limit {
+        let asked = offers_asked(&config);
+        config = match turn(alloc, program, settings, config, console, &mut spent, steps)? {
+            Turned::Done(next) => next,
+            Turned::Over(end) => {
+                return Ok(Finished {
+                    config: end.config,
+                    word: end.word,
+                    offers,
+                });
+            }
+        };
+        offers += asked as u64;
+    }
+    match config.asked() {
+        Some(_) => Ok(Finished {
+            config,
+            word: EndWord::Turns,
+            offers,
+        }),
+        None => Ok(Finished {
+            config,
+            word: EndWord::Quiet,
+            offers,
+        }),
+    }
+}
+
+/// Writes the header of a transcript.
+fn begin<C: Console>(
+    alloc: Global,
+    program: &Program,
+    height: u32,
+    console: &mut C,
+) -> Result<(), ConsoleFault>
+    ensures told { OnOk result (Did C.talk C.left console.old console.new (λ come events rest.
+        (events ≡ outs (header program.now height)) × (rest ≡ come))) }
+    ensures cause { ConsoleCause (C.faults console.old) (C.faults console.new) result }
+{
+    let mut lines = Text::new(alloc);
+    put_start(program, height, &mut lines)?;
+    console.put(lines.bytes())
+}
+
+/// Writes why the run ended, and the last state.
+fn finish<C: Console>(
+    alloc: Global,
+    program: &Program,
+    word: EndWord,
+    state: &Bag,
+    console: &mut C,
+) -> Result<(), ConsoleFault>
+    requires { IsState program.now.signature state.now }
+    ensures told { OnOk result (Did C.talk C.left console.old console.new (λ come events rest.
+        (events ≡ outs (end_lines program.now.signature word state.now)) × (rest ≡ come))) }
+    ensures cause { ConsoleCause (C.faults console.old) (C.faults console.new) result }
+{
+    let mut lines = Text::new(alloc);
+    put_end(program, word, state, &mut lines)?;
+    console.put(lines.bytes())
+}
+
+/// Plays a program with these settings and the person at a console, from its start until the run
+/// ends. The height is 1 to 512, and the turns are at most 1,000,000. Answers what the run came to.
+/// Only a fault of the console and want of memory are refused.
+pub fn play<M: Matcher, C: Console, L: Ledger>(
+    alloc: Global,
+    program: &Program,
+    settings: Settings,
+    console: &mut C,
+    steps: &mut Steps<L>,
+) -> Result<Tally, ConsoleFault>
+    requires height { IsHeight settings.height }
+    requires limit { settings.limit ≤ MOST_TURNS }
+    ensures said { IfOk result (λ tally. Says C.talk C.left console.old console.new program.now settings (λ turns ending. IsTally turns ending tally)) }
+    ensures counted { steps.old ≤ steps.new }
+    ensures cause { ConsoleCause (C.faults console.old) (C.faults console.new) result }
+{
+    one_dialogue();
+    turns_are_steps();
+    turns_are_counted();
+    dialogues_have_logs();
+    program.parts();
+    let config = Config::<M>::begin(alloc, program, settings.height, steps)?;
+    begin(alloc, program, settings.height, console)?;
+    let end = all_turns(alloc, program, settings, config, console, steps)?;
+    finish(alloc, program, end.word, end.config.state(), console)?;
+    Ok(Tally {
+        word: end.word,
+        turns: end.config.turns(),
+        offers: end.offers,
+        copies: end.config.state().copies(),
+    })
+}

@@ -1,0 +1,84 @@
+//! Laws of runs and dialogues. Each function computes nothing, and its contract is the law.
+ghost use Rattle.std.specs.Prelude.{◌≡◌, ℕ, ◌+◌, ◌≤◌, List, [], length, map};
+ghost use Rattle.std.specs.List.{AllByRecursion};
+ghost use Rattle.cep_base.specs.declared.console.Event.{Event};
+ghost use Rattle.cep_rule.specs.declared.parts.Parts.{Parts};
+ghost use Rattle.cep_rule.specs.State.{IsState};
+ghost use Rattle.cep_rule.specs.Program.{IsProgram};
+ghost use Rattle.cep_run.specs.declared.settings.Settings.{Settings};
+ghost use Rattle.cep_run.specs.Deciding.{Supply};
+ghost use Rattle.cep_run.specs.Run.{Position, Turn, Ending, AreTurns, AreMachineSteps, Run, unproved};
+ghost use Rattle.cep_run.specs.Dialogue.{Dialogue};
+
+use cep_choice::laws::drawn_places_are_within;
+use cep_rule::laws::{
+    edits_are_steps, one_list_of_offers, one_state_after_a_step, steps_lead_to_states,
+};
+use cep_scratch::laws::offers_are_there;
+
+/// From a position, what is typed and the seed determine the run: its turns, but for the derivations
+/// that they carry, how it ends, and what is left of the supply.
+pub fn one_run()
+    ensures { (program : Parts) (settings : Settings) (at : Position) (from : Supply) (turns turns' : List Turn) (ending ending' : Ending) (to to' : Supply)
+        → Run program settings at from turns ending to
+        → Run program settings at from turns' ending' to'
+        → (map unproved turns ≡ map unproved turns') × (ending ≡ ending') × (to ≡ to') }
+{
+    one_list_of_offers();
+    one_state_after_a_step();
+}
+
+/// What is typed determines the whole dialogue but for the derivations of its turns, how it ends, and
+/// what is left; and where no rule has a backward premise, event by event.
+pub fn one_dialogue()
+    ensures but_for_proofs { (program : Parts) (settings : Settings) (come : List ℕ) (turns turns' : List Turn) (ending ending' : Ending) (events events' : List Event) (rest rest' : List ℕ)
+        → Dialogue program settings come turns ending events rest
+        → Dialogue program settings come turns' ending' events' rest'
+        → (map unproved turns ≡ map unproved turns') × (ending ≡ ending') × (rest ≡ rest') }
+    ensures to_the_byte { (program : Parts) (settings : Settings) (come : List ℕ) (turns turns' : List Turn) (ending ending' : Ending) (events events' : List Event) (rest rest' : List ℕ)
+        → AllByRecursion (λ rule. rule.backs ≡ []) program.rules
+        → Dialogue program settings come turns ending events rest
+        → Dialogue program settings come turns' ending' events' rest'
+        → events ≡ events' }
+{
+    one_run();
+}
+
+/// Each turn of a run is a step of the machine, which can be checked without what was typed.
+pub fn turns_are_steps()
+    ensures { (program : Parts) (settings : Settings) (at : Position) (from : Supply) (turns : List Turn) (last : Position) (to : Supply)
+        → AreTurns program settings at from turns last to
+        → AreMachineSteps program settings.height turns }
+{}
+
+/// As many turns are done as the last position counts more than the first.
+pub fn turns_are_counted()
+    ensures { (program : Parts) (settings : Settings) (at : Position) (from : Supply) (turns : List Turn) (last : Position) (to : Supply)
+        → AreTurns program settings at from turns last to
+        → last.turns ≡ at.turns + length turns }
+{}
+
+/// From each position at which turns remain or just ended, a run is there, whatever is typed: in each
+/// state of a program some turn can be done, or the run ends for a named reason.
+pub fn runs_are_there()
+    ensures { (program : Parts) (settings : Settings) (at : Position) (from : Supply)
+        → IsProgram program
+        → IsState program.signature at.spot.state
+        → at.turns ≤ settings.limit
+        → (turns : List Turn) × (ending : Ending) × (to : Supply) × Run program settings at from turns ending to }
+{
+    offers_are_there();
+    steps_lead_to_states();
+    edits_are_steps();
+    drawn_places_are_within();
+}
+
+/// Whatever is typed, there is a dialogue: so what is said of every dialogue of a program is said of
+/// some.
+pub fn dialogues_are_there()
+    ensures { (program : Parts) (settings : Settings) (come : List ℕ)
+        → IsProgram program
+        → (turns : List Turn) × (ending : Ending) × (events : List Event) × (rest : List ℕ) × Dialogue program settings come turns ending events rest }
+{
+    runs_are_there();
+}

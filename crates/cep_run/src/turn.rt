@@ -1,0 +1,132 @@
+// One turn of a run: the offers are written, one of them is chosen, and the step is done.
+ghost use Rattle.std.specs.Prelude.{◌≡◌, ◌+◌, ◌<◌, ◌≤◌, length, IfOk};
+ghost use Rattle.cep_base.specs.declared.limits.TheConstants.{MOST_TURNS};
+ghost use Rattle.cep_base.specs.Talk.{ConsoleCause};
+ghost use Rattle.cep_rule.specs.Matching.{offers_of};
+ghost use Rattle.cep_machine.specs.Asking.{asked_offers};
+ghost use Rattle.cep_run.specs.declared.turn.Turned.TheVariants.{Over};
+ghost use Rattle.cep_run.specs.Turn.{HasSpent, IsPlayed, IsActed, IsTurned, config_left, limit_word};
+
+use crate::choice::Choice;
+use crate::deciding::{Spent, decide};
+use crate::proving::put_step_lines;
+use crate::settings::Settings;
+use cep_base::{Console, ConsoleFault, Steps, Text};
+use cep_log::EndWord;
+use cep_machine::{Config, Stepped, Which};
+use cep_rule::{Matcher, Program};
+use std::alloc::Global;
+use std::sync::ledger::Ledger;
+
+/// Where a run ended, and why.
+#[derive(Drop)]
+pub struct Ended<M: Matcher> {
+    pub config: Config<M>,
+    pub word: EndWord,
+}
+
+/// What a turn comes to.
+#[derive(Drop)]
+pub enum Turned<M: Matcher> {
+    /// The step was done.
+    Done(Config<M>),
+    /// The run ends before a step.
+    Over(Ended<M>),
+}
+
+// The run ends in the configuration, for this reason.
+fn over<M: Matcher>(config: Config<M>, word: EndWord) -> Turned<M>
+    ensures { result ≡ Over (record { config = config; word = word }) }
+{
+    Turned::Over(Ended { config, word })
+}
+
+/// Does the step by the offer at a place, counted from 1, and writes it with what proves its backward
+/// premises and the stage that it leads to; or says which limit it would pass. The lines are made
+/// before the step, since the matcher that has the offer goes with it.
+fn act<C: Console, M: Matcher, L: Ledger>(
+    alloc: Global,
+    program: &Program,
+    settings: Settings,
+    config: Config<M>,
+    group: u32,
+    place: u32,
+    console: &mut C,
+    steps: &mut Steps<L>,
+) -> Result<Turned<M>, ConsoleFault>
+    requires played { IsPlayed M.is_of M.height_held program.now settings config }
+    requires listed { group < length (M.offers_held config.matcher) }
+    requires asked { offers_of (M.offers_held config.matcher) group ≡ asked_offers (M.offers_held config.matcher) config.stage }
+    requires some { 0 < place }
+    requires within { place ≤ length (offers_of (M.offers_held config.matcher) group) }
+    requires turns { config.turns < MOST_TURNS }
+    ensures acted { IfOk result (IsActed C.talk C.left console.old console.new program.now settings.height (offers_of (M.offers_held config.matcher) group) place config) }
+    ensures played { IfOk result (λ turned. IsPlayed M.is_of M.height_held program.now settings (config_left turned)) }
+    ensures counted { steps.old ≤ steps.new }
+    ensures cause { ConsoleCause (C.faults console.old) (C.faults console.new) result }
+{
+    let i = place as usize - 1;
+    let mut lines = Text::new(alloc);
+    let offer = config.matcher().offer(group, i);
+    put_step_lines(alloc, program, offer, settings.height, &mut lines, steps)?;
+    match config.step(alloc, program, i, steps)? {
+        Stepped::Done(config) => {
+            console.put(lines.bytes())?;
+            Ok(Turned::Done(config))
+        }
+        Stepped::Limit { config, which, .. } => Ok(over(config, word_of(which))),
+    }
+}
+
+// The word with which a step that passes a limit ends a run.
+fn word_of(which: Which) -> EndWord
+    ensures { result ≡ limit_word which }
+{
+    match which {
+        Which::Atom => EndWord::Atom,
+        Which::State => EndWord::State,
+    }
+}
+
+/// Does one turn, unless the run ends before its step. Some turns remain.
+pub fn turn<C: Console, M: Matcher, L: Ledger>(
+    alloc: Global,
+    program: &Program,
+    settings: Settings,
+    config: Config<M>,
+    console: &mut C,
+    spent: &mut Spent,
+    steps: &mut Steps<L>,
+) -> Result<Turned<M>, ConsoleFault>
+    requires played { IsPlayed M.is_of M.height_held program.now settings config }
+    requires limit { settings.limit ≤ MOST_TURNS }
+    requires remain { config.turns < settings.limit }
+    requires spent { HasSpent settings.seed config.turns spent.old }
+    ensures turned { IfOk result (IsTurned C.talk C.left console.old console.new program.now settings (asked_offers (M.offers_held config.matcher) config.stage) config spent.old spent.new) }
+    ensures played { IfOk result (λ turned. IsPlayed M.is_of M.height_held program.now settings (config_left turned)) }
+    ensures spent { IfOk result (λ _. HasSpent settings.seed (config.turns + 1) spent.new) }
+    ensures counted { steps.old ≤ steps.new }
+    ensures cause { ConsoleCause (C.faults console.old) (C.faults console.new) result }
+{
+    let Some(group) = config.asked() else {
+        return Ok(over(config, EndWord::Quiet));
+    };
+    if !config.matcher().len_ok(group) {
+        return Ok(over(config, EndWord::Offers));
+    }
+    match decide(
+        alloc,
+        program,
+        settings.seed,
+        &config,
+        group,
+        console,
+        spent,
+    )? {
+        Choice::Place(place) => act(
+            alloc, program, settings, config, group, place, console, steps,
+        ),
+        Choice::NoMore => Ok(over(config, EndWord::Input)),
+        Choice::NoRoom => Ok(over(config, EndWord::Typed)),
+    }
+}
