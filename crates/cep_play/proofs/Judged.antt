@@ -39,9 +39,9 @@ log_judged program bytes log (verdicts.Refused line cause) status short has once
     })
 
 -- bytes that are no transcript
-pub misfit_judged : (program : Parts) (bytes : List ℕ) (fault : LogFault) → HasMisfit program bytes fault
+pub misfit_judged : (program : Parts) (bytes : List ℕ) (fault : LogFault) → length bytes ≤ MOST_LOG → HasMisfit program bytes fault
     → ((log : Log) → HasLog program bytes log → ¬ (HasMisfit program bytes fault)) → Rejects program bytes (fault_text fault)
-misfit_judged program bytes fault misfit apart = record { no_legal = λ log legal. apart log legal.1 misfit; why = inr (inl (fault, misfit, refl)) }
+misfit_judged program bytes fault short misfit apart = record { no_legal = λ log legal. apart log legal.1 misfit; why = inr (inl (fault, short, misfit, refl)) }
 
 -- bytes that are too many
 pub long_judged : (program : Parts) (bytes : List ℕ) → MOST_LOG < length bytes → Rejects program bytes too_long_text

@@ -25,11 +25,11 @@ Accepts program bytes text = (log : Log) × IsLegalTranscript program bytes log 
 abbrev pub too_long_text : List ℕ
 too_long_text = codes "refused 0 TooLong"
 
--- The line tells why the bytes are not accepted: they are too many; they are no transcript, and this is the first misfit; or their log is refused at this line for this cause.
+-- The line tells why the bytes are not accepted: they are too many; they are not, and are no transcript, and this is the first misfit; or their log is refused at this line for this cause.
 abbrev pub TellsWhy : Parts → List ℕ → List ℕ → Type 0
 TellsWhy program bytes text =
     ((MOST_LOG < length bytes) × (text ≡ too_long_text))
-    ⊎ (((fault : LogFault) × HasMisfit program bytes fault × (text ≡ fault_text fault))
+    ⊎ (((fault : LogFault) × (length bytes ≤ MOST_LOG) × HasMisfit program bytes fault × (text ≡ fault_text fault))
     ⊎ ((log : Log) × (number : ℕ) × (cause : Cause) × HasLog program bytes log × IsLogRefused program log number cause × (text ≡ refused_text number (cause_text program cause))))
 
 -- The bytes are no legal transcript, and the line tells why.

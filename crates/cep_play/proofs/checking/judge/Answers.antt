@@ -23,6 +23,6 @@ returns-in_ok-put_fault-in-Err-clause-judged g c =
     let bytes = c.args.bytes.now in
     let fault = c.in-Err.fault in (
       fault_text fault,
-      misfit_judged program bytes fault (rw c.in-Err.is at c.in_ok-log.ensures.fault) (λ log has. c.one_log.ensures.apart program bytes log fault c.parts.ensures.kept has),
+      misfit_judged program bytes fault c.requires (rw c.in-Err.is at c.in_ok-log.ensures.fault) (λ log has. c.one_log.ensures.apart program bytes log fault c.parts.ensures.kept has),
       c.in_ok-put_fault-in-Err.ensures.ok,
     )
