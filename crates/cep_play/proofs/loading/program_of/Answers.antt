@@ -6,7 +6,7 @@ use Rattle.cep_play.proofs.loading.program_of.Goals as goal
 pub returns-in-Ok-clause-program : goal.returns-in-Ok-clause-program
 returns-in-Ok-clause-program g c =
     let text = c.args.text.now in
-    let spells = subst (λ answer. IsAccepted text answer) c.in-Ok.is c.in_ok-program.ensures in
+    let spells = subst (λ answer. IsAccepted text answer) c.in-Ok.is c.in_ok-program.ensures.answered in
     ((spells, λ other is. c.one_program.ensures text other c.in-Ok.program is spells), refl)
 
 pub returns-in_ok-refuse-in-Err-clause-refused : goal.returns-in_ok-refuse-in-Err-clause-refused
@@ -14,10 +14,10 @@ returns-in_ok-refuse-in-Err-clause-refused g c =
     let text = c.args.text.now in (
       refl,
       text_refused g.C.Console.talk g.C.Console.left c.args.console.now c.refuse.new.console text c.in-Err.refusal c.no_program_is_refused.ensures
-          (subst (λ answer. IsAccepted text answer) c.in-Err.is c.in_ok-program.ensures) c.in_ok-refuse-in-Err.ensures.told,
+          (subst (λ answer. IsAccepted text answer) c.in-Err.is c.in_ok-program.ensures.answered) c.in_ok-refuse-in-Err.ensures.told,
     )
 
 pub returns-in_err-refuse-in-Err-clause-failed : goal.returns-in_err-refuse-in-Err-clause-failed
 returns-in_err-refuse-in-Err-clause-failed g c = λ e some.
-    let refused = subst (λ answer. IsAccepted c.args.text.now answer) c.in-Err.is c.in_ok-program.ensures in
+    let refused = subst (λ answer. IsAccepted c.args.text.now answer) c.in-Err.is c.in_ok-program.ensures.answered in
     c.no_program_is_refused.ensures c.args.text.now some.0 refused.0 some.1 refused.1.holds
