@@ -1,4 +1,4 @@
-pub mod Commands
 pub mod Judged
-pub mod Due
-pub mod SummedUp
+pub mod Done
+pub mod Telling
+pub mod OneDue

@@ -1,51 +1,29 @@
--- What is due of a request.
-use Rattle.std.specs.Prelude.{◌≡◌, ℕ, List, [], ◌∷◌, Option, Some, Contains}
-use Rattle.std.specs.Option.{IsSomeAnd}
-use Rattle.cep_base.specs.declared.console.Event.{Event}
-use Rattle.cep_base.specs.Files.{Files}
-use Rattle.cep_rule.specs.declared.parts.Parts.{Parts}
-use Rattle.cep_ground.specs.Texts.{Spells}
-use Rattle.cep_log.specs.declared.end_word.EndWord.{EndWord}
-use Rattle.cep_log.specs.declared.end_word.EndWord.TheVariants.{Quiet, Input, Turns, Offers, Typed, Atom, State}
-use Rattle.cep_log.specs.declared.log.Log.{Log}
-use Rattle.cep_world.specs.World.{world}
-use Rattle.cep_words.specs.Words.{Request, Play, Check, World}
-use Rattle.cep_run.specs.declared.settings.Settings.{Settings}
-use Rattle.cep_run.specs.Run.{Turn, Ending}
-use Rattle.cep_run.specs.Dialogue.{Dialogue}
-use Rattle.cep_play.specs.Command.{settings_of}
-use Rattle.cep_play.specs.Checked.{IsLegalTranscript}
+-- What is due of a list of words, over what the outside holds.
+use Rattle.std.specs.Prelude.{◌≡◌, ◌⊎◌, ℕ, List, [], ◌∷◌}
+use Rattle.cep_words.specs.Words.{Request, Play, Check, World, HaveNoForm}
+use Rattle.cep_play.specs.Command.{OfRequest, OfFile, IsProgramText, usage, no_program, no_transcript}
+use Rattle.cep_play.specs.Outside.{Outside, Due, line_due}
+use Rattle.cep_play.specs.Play.{IsPlayDue}
+use Rattle.cep_play.specs.Check.{IsCheckDue}
+use Rattle.cep_play.specs.World.{IsWorldDue}
 
--- the status that tells how a run ended
-abbrev pub code_told : EndWord → ℕ
-code_told Quiet = 0
-code_told Input = 0
-code_told Turns = 4
-code_told Offers = 4
-code_told Typed = 4
-code_told Atom = 4
-code_told State = 4
+-- this is due of a request
+abbrev pub IsDueOf : Request → Outside → Due → Type 0
+IsDueOf (Play file options) outside due = IsPlayDue file options outside due
+IsDueOf (Check file log) outside due = IsCheckDue file log outside due
+IsDueOf (World rooms options) outside due = IsWorldDue rooms options outside due
 
--- the shelf tells its files, and this one has this text
-abbrev pub IsOnShelf : Option Files → List ℕ → List ℕ → Type 0
-IsOnShelf files name text = IsSomeAnd files (λ file. file name ≡ Some text)
+-- this is due of words: the usage line where they have no form, and else what is due of what they ask for
+abbrev pub IsDue : List (List ℕ) → Outside → Due → Type 0
+IsDue words outside due = (HaveNoForm words × (due ≡ line_due usage 2 [] outside.come)) ⊎ OfRequest words (λ request. IsDueOf request outside due)
 
--- There is a dialogue of the program for what is typed, and the status tells how it ends, or is one of the others.
-abbrev pub EndsBy : Parts → Settings → List ℕ → List ℕ → ℕ → Type 0
-EndsBy program settings come others status =
-    (turns : List Turn) × (ending : Ending) × (events : List Event) × (rest : List ℕ)
-    × Dialogue program settings come turns ending events rest × Contains (code_told ending.word ∷ others) status
+-- this is due of a request where a file could not be read: the program's, or, behind a program that was read, the transcript's
+abbrev pub IsDueUnreadOf : Request → Outside → Due → Type 0
+IsDueUnreadOf (Play file options) outside due = due ≡ line_due no_program 7 (file ∷ []) outside.come
+IsDueUnreadOf (Check file log) outside due =
+    (due ≡ line_due no_program 7 (file ∷ []) outside.come) ⊎ (OfFile outside.files file IsProgramText × (due ≡ line_due no_transcript 7 (file ∷ log ∷ []) outside.come))
+IsDueUnreadOf (World rooms options) outside due = ⊥
 
--- What is due of a request where the program's text spells one, and what is read and typed is told: but for faults of the outside (6 and 7) and want of memory (9) the status tells how a run ends, which is there whatever is typed; and it is 0 where a transcript is legal, and 1 where it is not.
-abbrev pub IsDue : Request → Option Files → Option (List ℕ) → ℕ → Type 0
-IsDue (Play file options) files left status =
-    (text : List ℕ) (program : Parts) (come : List ℕ)
-    → IsOnShelf files file text → Spells text program → left ≡ Some come
-    → EndsBy program (settings_of program options) come (6 ∷ 7 ∷ 9 ∷ []) status
-IsDue (Check file log) files left status =
-    (text : List ℕ) (program : Parts) (bytes : List ℕ)
-    → IsOnShelf files file text → Spells text program → IsOnShelf files log bytes
-    → ((legal : Log) → IsLegalTranscript program bytes legal → Contains (0 ∷ 6 ∷ 7 ∷ 9 ∷ []) status)
-    × (((legal : Log) → ¬ (IsLegalTranscript program bytes legal)) → Contains (1 ∷ 6 ∷ 7 ∷ 9 ∷ []) status)
-IsDue (World rooms options) files left status =
-    (program : Parts) → Spells (world rooms) program → EndsBy program (settings_of program options) [] (6 ∷ 9 ∷ []) status
+-- this is due of words where a file could not be read
+abbrev pub IsDueUnread : List (List ℕ) → Outside → Due → Type 0
+IsDueUnread words outside due = OfRequest words (λ request. IsDueUnreadOf request outside due)

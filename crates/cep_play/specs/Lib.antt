@@ -1,5 +1,8 @@
 pub mod Command
-pub mod Summary
-pub mod Checked
+pub mod Outside
+pub mod Play
+pub mod Check
+pub mod World
 pub mod Due
+pub mod Answered
 pub mod Outcome

@@ -1,15 +1,16 @@
 //! The whole command over any console and shelf: reads a program's text, plays it with a person
 //! or checks a transcript against it, or runs a generated world, and answers the status that the
-//! process ends with.
+//! process ends with. A module for each command, and a file of definitions for what is due of it.
 #![tactic(auto)]
 
-mod checking;
+mod check;
 mod command;
+pub mod laws;
 mod loading;
+mod play;
 mod settings;
 mod silence;
-mod status;
 mod summary;
-mod touring;
+mod world;
 
 pub use command::ceptre;

@@ -1,14 +1,13 @@
-// The program in a file of the shelf.
+// Reads the text of a program, and tells why there is none.
 ghost use Rattle.std.specs.Prelude.{◌≡◌, ◌++◌, IfOk, IfErr, IsErrOf, OnOk};
 ghost use Rattle.cep_base.specs.declared.console.ConsoleFault.TheVariants.{Failed};
 ghost use Rattle.cep_base.specs.Faults.{Rose};
 ghost use Rattle.cep_base.specs.Talk.{ConsoleCause};
 ghost use Rattle.cep_log.specs.Lines.{line};
-ghost use Rattle.cep_play.specs.declared.status.Status.TheVariants.{Refused};
-ghost use Rattle.cep_play.specs.Command.{IsProgramText, Refuses, Writes, refusal_text};
-ghost use Rattle.cep_play.specs.Outcome.{IsSpelledBy, IsProgramIn, IsNoProgram, NoneIsRead, CountsFaults, AsksFile};
+ghost use Rattle.cep_play.specs.declared.loading.NoProgram.TheVariants.{Refused};
+ghost use Rattle.cep_play.specs.Command.{IsProgramText, IsSpelledBy, refusal_text};
+ghost use Rattle.cep_play.specs.Outcome.{Wrote, Refuses, IsProgramIn, NoneIsRead, HasNoProgram, code_without, CountsBy, AsksFile};
 
-use crate::status::Status;
 use cep_base::limits::MOST_TEXT;
 use cep_base::{Console, ConsoleFault, Shelf, ShelfFault, Text};
 use cep_ground::laws::{no_program_is_refused, one_program};
@@ -16,6 +15,27 @@ use cep_ground::{accept, too_long};
 use cep_refusal::Refusal;
 use cep_rule::Program;
 use std::alloc::{AllocError, Global};
+
+/// Why no program was found. The line that tells it was written.
+#[derive(Clone, Copy, Debug, PartialEq, Eq)]
+pub(crate) enum NoProgram {
+    /// The text spells none.
+    Refused,
+    /// The file could not be read.
+    Unread,
+}
+
+impl NoProgram {
+    /// The status of the process.
+    pub(crate) fn code(self) -> u8
+        ensures { result ≡ code_without self }
+    {
+        match self {
+            NoProgram::Refused => 3,
+            NoProgram::Unread => 7,
+        }
+    }
+}
 
 // The line of a refusal.
 #[tactic(auto, using(std::proofs::Common::append_assoc), unfolding(crate::specs::Command::refusal_text))]
@@ -35,7 +55,7 @@ fn put_refusal(out: &mut Text, refusal: Refusal) -> Result<(), AllocError>
 
 /// Writes why a text is refused.
 fn refuse<C: Console>(alloc: Global, refusal: Refusal, console: &mut C) -> Result<(), ConsoleFault>
-    ensures told { OnOk result (Writes C.talk C.left console.old console.new (refusal_text refusal)) }
+    ensures told { OnOk result (Wrote C.talk C.left console.old console.new (line (refusal_text refusal))) }
     ensures cause { ConsoleCause (C.faults console.old) (C.faults console.new) result }
 {
     let mut line = Text::new(alloc);
@@ -43,15 +63,14 @@ fn refuse<C: Console>(alloc: Global, refusal: Refusal, console: &mut C) -> Resul
     console.put(line.bytes())
 }
 
-/// The program that a text spells, or else the status of a text that is refused, whose line was
-/// written.
+/// The program that a text spells, or else that it is refused, which was told.
 pub(crate) fn program_of<C: Console>(
     alloc: Global,
     text: &[u8],
     console: &mut C,
-) -> Result<Result<Program, Status>, ConsoleFault>
+) -> Result<Result<Program, NoProgram>, ConsoleFault>
     ensures program { IfOk result (λ found. IfOk found (λ program. IsSpelledBy program text.now × (console.new ≡ console.old))) }
-    ensures refused { IfOk result (λ found. IfErr found (λ status. (status ≡ Refused) × Refuses C.talk C.left console.old console.new text.now)) }
+    ensures refused { IfOk result (λ found. IfErr found (λ why. (why ≡ Refused) × Refuses C.talk C.left console.old console.new text.now)) }
     ensures failed { IsErrOf result Failed → ¬ (IsProgramText text.now) }
     ensures cause { ConsoleCause (C.faults console.old) (C.faults console.new) result }
 {
@@ -61,22 +80,21 @@ pub(crate) fn program_of<C: Console>(
         Ok(program) => Ok(Ok(program)),
         Err(refusal) => {
             refuse(alloc, refusal, console)?;
-            Ok(Err(Status::Refused))
+            Ok(Err(NoProgram::Refused))
         }
     }
 }
 
-/// The program in a file of the shelf, or else the status that tells why there is none, whose line
-/// was written.
+/// The program in a file of the shelf, or else why there is none, which was told.
 pub(crate) fn program_in<C: Console, H: Shelf>(
     alloc: Global,
     file: &str,
     console: &mut C,
     shelf: &mut H,
-) -> Result<Result<Program, Status>, ConsoleFault>
+) -> Result<Result<Program, NoProgram>, ConsoleFault>
     ensures program { IfOk result (λ found. IfOk found (λ program. IsProgramIn (H.files shelf.old) file.now program × (console.new ≡ console.old) × (H.faults shelf.new ≡ H.faults shelf.old))) }
-    ensures none { IfOk result (λ found. IfErr found (IsNoProgram C.talk C.left console.old console.new (H.files shelf.old) file.now)) }
-    ensures faults { IfOk result (λ found. IfErr found (CountsFaults (H.faults shelf.old) (H.faults shelf.new))) }
+    ensures none { IfOk result (λ found. IfErr found (HasNoProgram C.talk C.left console.old console.new (H.files shelf.old) file.now)) }
+    ensures faults { IfOk result (λ found. IfErr found (λ why. CountsBy (H.faults shelf.old) (H.faults shelf.new) (code_without why))) }
     ensures failed { IsErrOf result Failed → NoneIsRead (H.files shelf.old) (Rose (H.faults shelf.old) (H.faults shelf.new)) file.now }
     ensures cause { ConsoleCause (C.faults console.old) (C.faults console.new) result }
     ensures asked { AsksFile (H.asked shelf.old) file.now (H.asked shelf.new) result }
@@ -87,11 +105,11 @@ pub(crate) fn program_in<C: Console, H: Shelf>(
         Ok(text) => program_of(alloc, &text, console),
         Err(ShelfFault::TooLong) => {
             refuse(alloc, too_long(), console)?;
-            Ok(Err(Status::Refused))
+            Ok(Err(NoProgram::Refused))
         }
         Err(ShelfFault::Failed) => {
             console.put(b"cannot read program\n")?;
-            Ok(Err(Status::Unread))
+            Ok(Err(NoProgram::Unread))
         }
         Err(ShelfFault::Memory(error)) => Err(ConsoleFault::Memory(error)),
     }

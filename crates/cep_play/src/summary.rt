@@ -1,7 +1,7 @@
 // The lines that sum up the run of a generated world.
 ghost use Rattle.std.specs.Prelude.{◌≡◌, ◌++◌, codes, OnOk};
 ghost use Rattle.cep_log.specs.Lines.{line, ending_word};
-ghost use Rattle.cep_play.specs.Summary.{count_line, summary};
+ghost use Rattle.cep_play.specs.World.{count_line, summary};
 
 use cep_base::Text;
 use cep_log::EndWord;
@@ -30,7 +30,7 @@ fn put_word(out: &mut Text, word: EndWord) -> Result<(), AllocError>
 }
 
 // The lines that sum up the run of the world of so many rooms with a seed.
-#[tactic(auto, using(std::proofs::Common::append_assoc), unfolding(crate::specs::Summary::summary))]
+#[tactic(auto, using(std::proofs::Common::append_assoc), unfolding(crate::specs::World::summary))]
 pub(crate) fn put_summary(
     rooms: u32,
     seed: u64,

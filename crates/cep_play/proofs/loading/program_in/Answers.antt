@@ -1,8 +1,7 @@
 use Rattle.std.proofs.Common.{ap, inl}
 use Rattle.std.specs.Prelude.{Err}
 use Rattle.cep_base.specs.declared.limits.TheConstants.{MOST_TEXT}
-use Rattle.cep_play.proofs.Commands.{longer_file, text_refused}
-use Rattle.cep_play.proofs.Judged.{text_loaded, text_refused_in}
+use Rattle.cep_play.proofs.Judged.{longer_file, text_refused, text_loaded, text_refused_in}
 use Rattle.cep_play.proofs.loading.program_in.Goals as goal
 
 pub returns-in-Ok-clause-program : goal.returns-in-Ok-clause-program

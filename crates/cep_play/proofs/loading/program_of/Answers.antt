@@ -1,6 +1,6 @@
 use Rattle.std.proofs.Common.{refl, subst}
 use Rattle.cep_ground.specs.Refusals.{IsAccepted}
-use Rattle.cep_play.proofs.Commands.{text_refused}
+use Rattle.cep_play.proofs.Judged.{text_refused}
 use Rattle.cep_play.proofs.loading.program_of.Goals as goal
 
 pub returns-in-Ok-clause-program : goal.returns-in-Ok-clause-program

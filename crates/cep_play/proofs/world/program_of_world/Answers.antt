@@ -1,10 +1,10 @@
 use Rattle.std.proofs.Common.{◌≡◌, ◌∙◌, subst}
 use Rattle.std.specs.Prelude.{IfOk, IfErr}
 use Rattle.cep_world.specs.World.{world}
-use Rattle.cep_play.specs.declared.status.Status.TheVariants.{Refused}
-use Rattle.cep_play.specs.Command.{Refuses}
-use Rattle.cep_play.specs.Outcome.{IsSpelledBy}
-use Rattle.cep_play.proofs.touring.program_of_world.Goals as goal
+use Rattle.cep_play.specs.declared.loading.NoProgram.TheVariants.{Refused}
+use Rattle.cep_play.specs.Command.{IsSpelledBy}
+use Rattle.cep_play.specs.Outcome.{Refuses}
+use Rattle.cep_play.proofs.world.program_of_world.Goals as goal
 
 pub returns-clause-program : goal.returns-clause-program
 returns-clause-program g c =
@@ -14,4 +14,4 @@ returns-clause-program g c =
 pub returns-clause-refused : goal.returns-clause-refused
 returns-clause-refused g c =
     let text : c.bytes.result.now ≡ world c.args.rooms = c.bytes.ensures ∙ c.in_ok-text.ensures in
-    subst (λ bytes. IfOk c.program_of.result (λ found. IfErr found (λ status. (status ≡ Refused) × Refuses g.C.Console.talk g.C.Console.left c.args.console.now c.program_of.new.console bytes))) text c.program_of.ensures.refused
+    subst (λ bytes. IfOk c.program_of.result (λ found. IfErr found (λ why. (why ≡ Refused) × Refuses g.C.Console.talk g.C.Console.left c.args.console.now c.program_of.new.console bytes))) text c.program_of.ensures.refused

@@ -8,12 +8,10 @@ ghost use Rattle.cep_log.specs.Lines.{line};
 ghost use Rattle.cep_check.specs.declared.cause.Verdict.{Verdict};
 ghost use Rattle.cep_check.specs.Causes.{IsVerdict};
 ghost use Rattle.cep_check.specs.Telling.{verdict_text};
-ghost use Rattle.cep_play.specs.Command.{Writes};
-ghost use Rattle.cep_play.specs.Checked.{too_long_text};
-ghost use Rattle.cep_play.specs.Outcome.{status_of_verdict, OfBytes, IsChecked, OfTranscript, OfAudit, CountsFaults, AsksFile, AsksFiles};
+ghost use Rattle.cep_play.specs.Check.{too_long_text};
+ghost use Rattle.cep_play.specs.Outcome.{Wrote, accepts, TellsOf, AreChecked, IsFound, IsChecked, code_found, code_checked, CountsBy, AsksFile, AsksFiles};
 
-use crate::loading::program_in;
-use crate::status::Status;
+use crate::loading::{NoProgram, program_in};
 use cep_base::limits::MOST_LOG;
 use cep_base::{Console, ConsoleFault, Shelf, ShelfFault, Steps, Text};
 use cep_check::laws::refused_logs_are_not_legal;
@@ -24,43 +22,88 @@ use cep_rule::Program;
 use std::alloc::{AllocError, Global};
 use std::sync::ledger::Ledger;
 
-/// The status of a verdict.
-fn status_of_verdict(verdict: &Verdict) -> Status
-    ensures { result ≡ status_of_verdict verdict.now }
-{
-    match verdict {
-        Verdict::Accepted { .. } => Status::Accepted,
-        Verdict::Refused { .. } => Status::Rejected,
+/// What was found of a transcript. The line that tells it was written.
+#[derive(Clone, Copy, Debug, PartialEq, Eq)]
+pub(crate) enum Found {
+    Accepted,
+    Rejected,
+    /// The file could not be read.
+    Unread,
+}
+
+impl Found {
+    /// The status of the process.
+    fn code(self) -> u8
+        ensures { result ≡ code_found self }
+    {
+        match self {
+            Found::Accepted => 0,
+            Found::Rejected => 1,
+            Found::Unread => 7,
+        }
     }
 }
 
-/// Judges a log, and writes the line that tells the verdict at the end of a text.
+/// How checking a transcript came out.
+#[derive(Clone, Copy, Debug, PartialEq, Eq)]
+pub(crate) enum Checked {
+    /// It was checked against the program in its file.
+    Against(Found),
+    /// There is no program.
+    Without(NoProgram),
+}
+
+impl Checked {
+    /// The status of the process.
+    pub(crate) fn code(self) -> u8
+        ensures { result ≡ code_checked self }
+    {
+        match self {
+            Checked::Against(found) => found.code(),
+            Checked::Without(why) => why.code(),
+        }
+    }
+}
+
+/// Whether a verdict accepts.
+fn accepts(verdict: &Verdict) -> bool
+    ensures { result ≡ accepts verdict.now }
+{
+    match verdict {
+        Verdict::Accepted { .. } => true,
+        Verdict::Refused { .. } => false,
+    }
+}
+
+/// Judges a log, writes the line that tells the verdict at the end of a text, and answers whether it
+/// accepts.
 fn judge_log<L: Ledger>(
     alloc: Global,
     program: &Program,
     log: &Log,
     out: &mut Text,
     steps: &mut Steps<L>,
-) -> Result<Status, AllocError>
+) -> Result<bool, AllocError>
     requires { IsLogOf program.now log.now }
-    ensures judged { IfOk result (λ status. (verdict : Verdict) × IsVerdict program.now log.now verdict × (out.new ≡ out.old ++ line (verdict_text program.now verdict)) × (status ≡ status_of_verdict verdict)) }
+    ensures judged { IfOk result (λ legal. (verdict : Verdict) × IsVerdict program.now log.now verdict × (out.new ≡ out.old ++ line (verdict_text program.now verdict)) × (legal ≡ accepts verdict)) }
     ensures counted { steps.old ≤ steps.new }
 {
     let verdict = check(alloc, program, log, steps)?;
     put_verdict(program, &verdict, out)?;
-    Ok(status_of_verdict(&verdict))
+    Ok(accepts(&verdict))
 }
 
-/// Judges the bytes of a transcript, and writes the line that tells what was found at the end of a text.
+/// Judges the bytes of a transcript, writes the line that tells what was found at the end of a text,
+/// and answers whether they are a legal transcript.
 fn judge<L: Ledger>(
     alloc: Global,
     program: &Program,
     bytes: &[u8],
     out: &mut Text,
     steps: &mut Steps<L>,
-) -> Result<Status, AllocError>
+) -> Result<bool, AllocError>
     requires { length bytes.now ≤ MOST_LOG }
-    ensures judged { IfOk result (λ status. (text : List ℕ) × OfBytes program.now bytes.now text status × (out.new ≡ out.old ++ line text)) }
+    ensures judged { IfOk result (λ legal. (text : List ℕ) × TellsOf program.now bytes.now text legal × (out.new ≡ out.old ++ line text)) }
     ensures counted { steps.old ≤ steps.new }
 {
     one_log();
@@ -70,33 +113,33 @@ fn judge<L: Ledger>(
         Ok(log) => judge_log(alloc, program, &log, out, steps),
         Err(fault) => {
             put_fault(fault, out)?;
-            Ok(Status::Rejected)
+            Ok(false)
         }
     }
 }
 
-/// Tells what was found of the bytes of a transcript.
+/// Tells what was found of the bytes of a transcript, and answers whether it is legal.
 fn check_bytes<C: Console, L: Ledger>(
     alloc: Global,
     program: &Program,
     bytes: &[u8],
     console: &mut C,
     steps: &mut Steps<L>,
-) -> Result<Status, ConsoleFault>
+) -> Result<bool, ConsoleFault>
     requires { length bytes.now ≤ MOST_LOG }
-    ensures told { IfOk result (IsChecked C.talk C.left console.old console.new program.now bytes.now) }
+    ensures told { IfOk result (AreChecked C.talk C.left console.old console.new program.now bytes.now) }
     ensures cause { ConsoleCause (C.faults console.old) (C.faults console.new) result }
     ensures counted { steps.old ≤ steps.new }
 {
     let mut line = Text::new(alloc);
-    let status = judge(alloc, program, bytes, &mut line, steps)?;
+    let legal = judge(alloc, program, bytes, &mut line, steps)?;
     console.put(line.bytes())?;
-    Ok(status)
+    Ok(legal)
 }
 
 /// Tells that a transcript is too long.
 fn put_too_long<C: Console>(console: &mut C) -> Result<(), ConsoleFault>
-    ensures told { OnOk result (Writes C.talk C.left console.old console.new too_long_text) }
+    ensures told { OnOk result (Wrote C.talk C.left console.old console.new (line too_long_text)) }
     ensures cause { ConsoleCause (C.faults console.old) (C.faults console.new) result }
 {
     console.put(b"refused 0 TooLong\n")
@@ -110,23 +153,29 @@ fn check_transcript<C: Console, H: Shelf, L: Ledger>(
     console: &mut C,
     shelf: &mut H,
     steps: &mut Steps<L>,
-) -> Result<Status, ConsoleFault>
-    ensures outcome { IfOk result (OfTranscript C.talk C.left console.old console.new (H.files shelf.old) program.now log.now) }
+) -> Result<Found, ConsoleFault>
+    ensures outcome { IfOk result (IsFound C.talk C.left console.old console.new (H.files shelf.old) program.now log.now) }
     ensures cause { ConsoleCause (C.faults console.old) (C.faults console.new) result }
-    ensures faults { IfOk result (CountsFaults (H.faults shelf.old) (H.faults shelf.new)) }
+    ensures faults { IfOk result (λ found. CountsBy (H.faults shelf.old) (H.faults shelf.new) (code_found found)) }
     ensures asked { AsksFile (H.asked shelf.old) log.now (H.asked shelf.new) result }
     ensures files { H.files shelf.new ≡ H.files shelf.old }
     ensures counted { steps.old ≤ steps.new }
 {
     match shelf.load(alloc, log, MOST_LOG) {
-        Ok(bytes) => check_bytes(alloc, program, &bytes, console, steps),
+        Ok(bytes) => {
+            if check_bytes(alloc, program, &bytes, console, steps)? {
+                Ok(Found::Accepted)
+            } else {
+                Ok(Found::Rejected)
+            }
+        }
         Err(ShelfFault::TooLong) => {
             put_too_long(console)?;
-            Ok(Status::Rejected)
+            Ok(Found::Rejected)
         }
         Err(ShelfFault::Failed) => {
             console.put(b"cannot read transcript\n")?;
-            Ok(Status::UnreadLog)
+            Ok(Found::Unread)
         }
         Err(ShelfFault::Memory(error)) => Err(ConsoleFault::Memory(error)),
     }
@@ -140,16 +189,19 @@ pub(crate) fn check_file<C: Console, H: Shelf, L: Ledger>(
     console: &mut C,
     shelf: &mut H,
     steps: &mut Steps<L>,
-) -> Result<Status, ConsoleFault>
-    ensures outcome { IfOk result (OfAudit C.talk C.left console.old console.new (H.files shelf.old) file.now log.now) }
+) -> Result<Checked, ConsoleFault>
+    ensures outcome { IfOk result (IsChecked C.talk C.left console.old console.new (H.files shelf.old) file.now log.now) }
     ensures cause { ConsoleCause (C.faults console.old) (C.faults console.new) result }
-    ensures faults { IfOk result (CountsFaults (H.faults shelf.old) (H.faults shelf.new)) }
+    ensures faults { IfOk result (λ checked. CountsBy (H.faults shelf.old) (H.faults shelf.new) (code_checked checked)) }
     ensures asked { AsksFiles (H.files shelf.old) (Rose (H.faults shelf.old) (H.faults shelf.new)) (H.asked shelf.old) file.now log.now (H.asked shelf.new) result }
     ensures files { H.files shelf.new ≡ H.files shelf.old }
     ensures counted { steps.old ≤ steps.new }
 {
     match program_in(alloc, file, console, shelf)? {
-        Ok(program) => check_transcript(alloc, &program, log, console, shelf, steps),
-        Err(status) => Ok(status),
+        Ok(program) => {
+            let found = check_transcript(alloc, &program, log, console, shelf, steps)?;
+            Ok(Checked::Against(found))
+        }
+        Err(why) => Ok(Checked::Without(why)),
     }
 }

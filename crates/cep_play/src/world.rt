@@ -1,27 +1,49 @@
 // Runs a generated world, which nobody plays, and sums it up.
-ghost use Rattle.std.specs.Prelude.{◌≡◌, ◌≤◌, IfOk, IfErr};
-ghost use Rattle.cep_base.specs.declared.limits.TheConstants.{MOST_WORLD};
+ghost use Rattle.std.specs.Prelude.{◌≡◌, ◌≤◌, IfOk, IfErr, unwrap_or};
+ghost use Rattle.cep_base.specs.declared.limits.TheConstants.{MOST_WORLD, DEFAULT_SEED};
 ghost use Rattle.cep_base.specs.Talk.{ConsoleCause};
 ghost use Rattle.cep_words.specs.Words.{AreWithin, IsUpTo};
 ghost use Rattle.cep_world.specs.World.{world};
-ghost use Rattle.cep_play.specs.declared.status.Status.TheVariants.{Refused};
-ghost use Rattle.cep_play.specs.Command.{Refuses};
-ghost use Rattle.cep_play.specs.Outcome.{IsSpelledBy, OfTour, IsSummedUp};
+ghost use Rattle.cep_play.specs.declared.loading.NoProgram.TheVariants.{Refused};
+ghost use Rattle.cep_play.specs.Command.{IsSpelledBy};
+ghost use Rattle.cep_play.specs.World.{summary, IsTallied};
+ghost use Rattle.cep_play.specs.Outcome.{Wrote, Refuses, IsToured, code_toured};
 
-use crate::loading::program_of;
+use crate::loading::{NoProgram, program_of};
+use crate::play::code_of;
 use crate::settings::settings_of;
 use crate::silence::Silence;
-use crate::status::{Status, status_of};
 use crate::summary::put_summary;
 use cep_base::limits::DEFAULT_SEED;
 use cep_base::{Console, ConsoleFault, Steps, Text};
 use cep_rule::Program;
-use cep_run::play;
+use cep_run::{Tally, play};
 use cep_scratch::Scratch;
 use cep_words::Tour;
 use cep_world::world_text;
 use std::alloc::Global;
 use std::sync::ledger::Ledger;
+
+/// How running a generated world came out.
+#[derive(Clone, Copy, Debug, PartialEq, Eq)]
+pub(crate) enum Toured {
+    /// It was run, to this end, and summed up.
+    Ended(Tally),
+    /// Its text spells no program.
+    Refused,
+}
+
+impl Toured {
+    /// The status of the process.
+    pub(crate) fn code(self) -> u8
+        ensures { result ≡ code_toured self }
+    {
+        match self {
+            Toured::Ended(tally) => code_of(tally.word),
+            Toured::Refused => NoProgram::Refused.code(),
+        }
+    }
+}
 
 /// Plays the program of a world with nothing typed, and writes the summary of the run alone.
 fn tour_program<C: Console, L: Ledger>(
@@ -30,9 +52,10 @@ fn tour_program<C: Console, L: Ledger>(
     tour: Tour,
     console: &mut C,
     steps: &mut Steps<L>,
-) -> Result<Status, ConsoleFault>
+) -> Result<Tally, ConsoleFault>
     requires { AreWithin tour.options }
-    ensures summed { IfOk result (IsSummedUp C.talk C.left console.old console.new program.now tour) }
+    ensures tallied { IfOk result (IsTallied program.now tour.options) }
+    ensures summed { IfOk result (λ tally. Wrote C.talk C.left console.old console.new (summary tour.rooms (unwrap_or tour.options.seed DEFAULT_SEED) tally)) }
     ensures counted { steps.old ≤ steps.new }
     ensures cause { ConsoleCause (C.faults console.old) (C.faults console.new) result }
 {
@@ -43,19 +66,19 @@ fn tour_program<C: Console, L: Ledger>(
     let mut lines = Text::new(alloc);
     put_summary(tour.rooms, seed, tally, &mut lines)?;
     console.put(lines.bytes())?;
-    Ok(status_of(tally.word))
+    Ok(tally)
 }
 
-/// The program that the text of the world of so many rooms spells, or else the status of a text that
-/// is refused, whose line was written.
+/// The program that the text of the world of so many rooms spells, or else that it is refused, which was
+/// told.
 fn program_of_world<C: Console>(
     alloc: Global,
     rooms: u32,
     console: &mut C,
-) -> Result<Result<Program, Status>, ConsoleFault>
+) -> Result<Result<Program, NoProgram>, ConsoleFault>
     requires { IsUpTo MOST_WORLD rooms }
     ensures program { IfOk result (λ found. IfOk found (λ program. IsSpelledBy program (world rooms) × (console.new ≡ console.old))) }
-    ensures refused { IfOk result (λ found. IfErr found (λ status. (status ≡ Refused) × Refuses C.talk C.left console.old console.new (world rooms))) }
+    ensures refused { IfOk result (λ found. IfErr found (λ why. (why ≡ Refused) × Refuses C.talk C.left console.old console.new (world rooms))) }
     ensures cause { ConsoleCause (C.faults console.old) (C.faults console.new) result }
 {
     let text = world_text(alloc, rooms)?;
@@ -68,15 +91,18 @@ pub(crate) fn run_world<C: Console, L: Ledger>(
     tour: Tour,
     console: &mut C,
     steps: &mut Steps<L>,
-) -> Result<Status, ConsoleFault>
+) -> Result<Toured, ConsoleFault>
     requires rooms { IsUpTo MOST_WORLD tour.rooms }
     requires within { AreWithin tour.options }
-    ensures outcome { IfOk result (OfTour C.talk C.left console.old console.new tour.rooms tour.options) }
+    ensures outcome { IfOk result (IsToured C.talk C.left console.old console.new tour.rooms tour.options) }
     ensures counted { steps.old ≤ steps.new }
     ensures cause { ConsoleCause (C.faults console.old) (C.faults console.new) result }
 {
     match program_of_world(alloc, tour.rooms, console)? {
-        Ok(program) => tour_program(alloc, &program, tour, console, steps),
-        Err(status) => Ok(status),
+        Ok(program) => {
+            let tally = tour_program(alloc, &program, tour, console, steps)?;
+            Ok(Toured::Ended(tally))
+        }
+        Err(_why) => Ok(Toured::Refused),
     }
 }

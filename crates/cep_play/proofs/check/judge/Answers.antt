@@ -1,7 +1,7 @@
 use Rattle.std.proofs.lemmas.Result.{IfOk-weaker}
 use Rattle.cep_check.specs.Telling.{verdict_text, fault_text}
 use Rattle.cep_play.proofs.Judged.{log_judged, misfit_judged}
-use Rattle.cep_play.proofs.checking.judge.Goals as goal
+use Rattle.cep_play.proofs.check.judge.Goals as goal
 
 pub returns-in-Ok-clause-judged : goal.returns-in-Ok-clause-judged
 returns-in-Ok-clause-judged g c =
@@ -10,9 +10,9 @@ returns-in-Ok-clause-judged g c =
     let kept = c.parts.ensures.kept in
     let has = (rw c.in-Ok.is at c.in_ok-log.ensures.log) in
     IfOk-weaker c.judge_log.result _ _
-    (λ status judged. (
+    (λ legal judged. (
       verdict_text program judged.0,
-      log_judged program bytes c.in-Ok.log judged.0 status c.requires has (λ one other. c.one_log.ensures.once program bytes one other kept) (c.refused_logs_are_not_legal.ensures program c.in-Ok.log) judged.1 judged.3,
+      log_judged program bytes c.in-Ok.log judged.0 legal c.requires has (λ one other. c.one_log.ensures.once program bytes one other kept) (c.refused_logs_are_not_legal.ensures program c.in-Ok.log) judged.1 judged.3,
       judged.2,
     ))
     c.judge_log.ensures.judged

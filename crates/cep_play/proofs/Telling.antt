@@ -1,0 +1,161 @@
+-- The status tells what is due.
+use Rattle.std.proofs.Common.{◌≡◌, ◌⊎◌, inl, inr, ⊎_elim, ℕ, ◌<◌, List, [], ◌∷◌, refl, sym, ap, ◌∙◌, subst, lit<, Contains, Option, None, Some}
+use Rattle.cep_base.specs.declared.console.Event.{Event}
+use Rattle.cep_base.specs.declared.console.ConsoleFault.{ConsoleFault}
+use Rattle.cep_base.specs.declared.console.ConsoleFault.TheVariants as faults
+use Rattle.cep_base.specs.Files.{Files, HasFile}
+use Rattle.cep_base.specs.Faults.{Rose}
+use Rattle.cep_base.proofs.Elements.{contains_none, contains_cases, contains_behind, contains_same}
+use Rattle.cep_base.proofs.Lists.{some_same}
+use Rattle.cep_rule.specs.declared.parts.Parts.{Parts}
+use Rattle.cep_rule.specs.Program.{IsProgram}
+use Rattle.cep_ground.specs.Texts.{Spells}
+use Rattle.cep_log.specs.declared.log.Log.{Log}
+use Rattle.cep_check.specs.declared.cause.Verdict.{Verdict}
+use Rattle.cep_check.specs.declared.cause.Verdict.TheVariants as verdicts
+use Rattle.cep_world.specs.World.{world}
+use Rattle.cep_words.specs.declared.options.Options.{Options}
+use Rattle.cep_words.specs.Words.{Request, Play, Check, World, AskFor}
+use Rattle.cep_run.specs.declared.settings.Settings.{Settings}
+use Rattle.cep_run.specs.Run.{Turn, Ending}
+use Rattle.cep_run.specs.Dialogue.{Dialogue}
+use Rattle.cep_play.specs.declared.loading.NoProgram.{NoProgram}
+use Rattle.cep_play.specs.declared.loading.NoProgram.TheVariants as none
+use Rattle.cep_play.specs.declared.play.Played.{Played}
+use Rattle.cep_play.specs.declared.play.Played.TheVariants as played
+use Rattle.cep_play.specs.declared.check.Found.{Found}
+use Rattle.cep_play.specs.declared.check.Found.TheVariants as found
+use Rattle.cep_play.specs.declared.check.Checked.{Checked}
+use Rattle.cep_play.specs.declared.check.Checked.TheVariants as checked
+use Rattle.cep_play.specs.declared.world.Toured.{Toured}
+use Rattle.cep_play.specs.declared.world.Toured.TheVariants as toured
+use Rattle.cep_play.specs.Command.{OfRequest, Adds, no_program, settings_of}
+use Rattle.cep_play.specs.Outside.{Due, code_told}
+use Rattle.cep_play.specs.Check.{IsLegalTranscript}
+use Rattle.cep_play.specs.World.{summary}
+use Rattle.cep_play.specs.Due.{IsDueOf, IsDue, IsDueUnreadOf, IsDueUnread}
+use Rattle.cep_play.specs.Answered.{IsOnShelf, EndsBy, TellsWhatIsDue}
+use Rattle.cep_play.proofs.Done.{IsOneRequest}
+use Rattle.cep_play.specs.Outcome.{IsDone}
+
+-- where the files are told, a file has one text
+one_text : (files : Option Files) (name other text text' : List ℕ) → name ≡ other → HasFile files name text → IsOnShelf files other text' → text ≡ text'
+one_text None name other text text' same has told = absurd told
+one_text (Some file) name other text text' same has told = some_same text text' (sym has ∙ ap file same ∙ told)
+
+-- a status that comes for want of memory or a fault of the console
+with_unread : (status : ℕ) → Contains (6 ∷ 9 ∷ []) status → Contains (6 ∷ 7 ∷ 9 ∷ []) status
+with_unread status among =
+    ⊎_elim (λ six. contains_same 6 (7 ∷ 9 ∷ []) status six)
+    (λ later. ⊎_elim (λ nine. contains_behind 6 (7 ∷ 9 ∷ []) status (contains_behind 7 (9 ∷ []) status (contains_same 9 [] status nine))) (λ none. absurd (contains_none status none)) (contains_cases 9 [] status later))
+    (contains_cases 6 (9 ∷ []) status among)
+
+unread_among : (others : List ℕ) (code : ℕ) → Contains others 7 → code ≡ 7 → Contains others code
+unread_among others code has is = subst (Contains others) (sym is) has
+
+-- what is due of words is due of what they ask for
+asked_due : IsOneRequest → (words : List (List ℕ)) (request : Request) → AskFor words request → (P : Request → Type 0) → OfRequest words P → P request
+asked_due one words request ask P of = subst P (one words of.0 request of.1 ask) of.2
+
+module _ (one : IsOneRequest)
+    (there : (program : Parts) (settings : Settings) (come : List ℕ) → IsProgram program → (turns : List Turn) × (ending : Ending) × (events : List Event) × (rest : List ℕ) × Dialogue program settings come turns ending events rest)
+    (is_program : (text : List ℕ) (program : Parts) → Spells text program → IsProgram program)
+    (words : List (List ℕ)) (files : Option Files) where
+  -- these statuses may come however a run ends
+  ends_anyway : (text : List ℕ) (program : Parts) (settings : Settings) (come others : List ℕ) (status : ℕ) → Spells text program → Contains others status → EndsBy program settings come others status
+  ends_anyway text program settings come others status spells among =
+      let due = there program settings come (is_program text program spells) in
+      (due.0, due.1, due.2, due.3, due.4, contains_behind (code_told due.1.word) others status among)
+
+  -- these statuses may come whatever is due
+  pub tells_anyway : (left : Option (List ℕ)) (request : Request) (status : ℕ) → Contains (6 ∷ 9 ∷ []) status → TellsWhatIsDue request files left status
+  tells_anyway left (Play file options) status among = λ text program come told spells coming. ends_anyway text program (settings_of program options) come (6 ∷ 7 ∷ 9 ∷ []) status spells (with_unread status among)
+  tells_anyway left (Check file log) status among = λ text program bytes told spells there'. (
+    (λ legal is. contains_behind 0 (6 ∷ 7 ∷ 9 ∷ []) status (with_unread status among)),
+    (λ none. contains_behind 1 (6 ∷ 7 ∷ 9 ∷ []) status (with_unread status among)),
+  )
+  tells_anyway left (World rooms options) status among = λ program spells. ends_anyway (world rooms) program (settings_of program options) [] (6 ∷ 9 ∷ []) status spells among
+
+  module _ (unread : Type 0) (asked : List (List ℕ) → Type 0) (code : ℕ) where
+    -- a dialogue that is due
+    plays : (file : List ℕ) (options : Options) (text : List ℕ) (program : Parts) (come : List ℕ) → AskFor words (Play file options) → IsOnShelf files file text → Spells text program
+        → (due : Due) → code ≡ due.code → IsDue words (record { files = files; come = come }) due ⊎ (unread × IsDueUnread words (record { files = files; come = come }) due)
+        → EndsBy program (settings_of program options) come (6 ∷ 7 ∷ 9 ∷ []) code
+    plays file options text program come ask told spells due status (inl (inl none)) = absurd (none.0 (Play file options) ask)
+    plays file options text program come ask told spells due status (inl (inr of)) = by (asked_due one words (Play file options) ask (λ r. IsDueOf r (record { files = files; come = come }) due) of) where
+      by : IsDueOf (Play file options) (record { files = files; come = come }) due → EndsBy program (settings_of program options) come (6 ∷ 7 ∷ 9 ∷ []) code
+      by (other, has, inl refused) = absurd (refused.no_program program (subst (λ t. Spells t program) (sym (one_text files file file other text refl has told)) spells))
+      by (other, has, inr (spelled, is, said)) =
+          let programs : program ≡ spelled = is.1 program (subst (λ t. Spells t program) (sym (one_text files file file other text refl has told)) spells) in (
+            said.0.turns,
+            said.0.ending,
+            due.events,
+            due.rest,
+            subst (λ (p : Parts). Dialogue p (settings_of p options) come said.0.turns said.0.ending due.events due.rest) (sym programs) said.0.dialogue,
+            contains_same (code_told said.0.ending.word) (6 ∷ 7 ∷ 9 ∷ []) code (sym (status ∙ said.0.holds)),
+          )
+    plays file options text program come ask told spells due status (inr (_, of)) =
+        let is = asked_due one words (Play file options) ask (λ r. IsDueUnreadOf r (record { files = files; come = come }) due) of in
+        ends_anyway text program (settings_of program options) come (6 ∷ 7 ∷ 9 ∷ []) code spells (unread_among (6 ∷ 7 ∷ 9 ∷ []) code (1, lit< tt, refl) (status ∙ ap (λ (d : Due). d.code) is))
+
+    abbrev TellsOfLegal : Parts → List ℕ → Type 0
+    TellsOfLegal program bytes =
+        ((legal : Log) → IsLegalTranscript program bytes legal → Contains (0 ∷ 6 ∷ 7 ∷ 9 ∷ []) code) × (((legal : Log) → ¬ (IsLegalTranscript program bytes legal)) → Contains (1 ∷ 6 ∷ 7 ∷ 9 ∷ []) code)
+
+    -- a verdict that is due
+    checks : (file log : List ℕ) (text : List ℕ) (program : Parts) (bytes : List ℕ) → AskFor words (Check file log) → IsOnShelf files file text → Spells text program → IsOnShelf files log bytes
+        → (due : Due) → code ≡ due.code → IsDue words (record { files = files; come = [] }) due ⊎ (unread × IsDueUnread words (record { files = files; come = [] }) due) → TellsOfLegal program bytes
+    checks file log text program bytes ask told spells there' due status (inl (inl none)) = absurd (none.0 (Check file log) ask)
+    checks file log text program bytes ask told spells there' due status (inl (inr of)) = by (asked_due one words (Check file log) ask (λ r. IsDueOf r (record { files = files; come = [] }) due) of) where
+      by : IsDueOf (Check file log) (record { files = files; come = [] }) due → TellsOfLegal program bytes
+      by (other, has, inl refused) = absurd (refused.no_program program (subst (λ t. Spells t program) (sym (one_text files file file other text refl has told)) spells))
+      by (other, has, inr (spelled, is, (others, has', (told', inl (accepted, e))))) =
+          let programs : program ≡ spelled = is.1 program (subst (λ t. Spells t program) (sym (one_text files file file other text refl has told)) spells) in
+          let same : others ≡ bytes = one_text files log log others bytes refl has' there' in (
+            (λ legal it. contains_same 0 (6 ∷ 7 ∷ 9 ∷ []) code (sym (status ∙ ap (λ (d : Due). d.code) e))),
+            (λ none. absurd (none accepted.0 (subst (λ (p : Parts). IsLegalTranscript p bytes accepted.0) (sym programs) (subst (λ b. IsLegalTranscript spelled b accepted.0) same accepted.1)))),
+          )
+      by (other, has, inr (spelled, is, (others, has', (told', inr (rejected, e))))) =
+          let programs : program ≡ spelled = is.1 program (subst (λ t. Spells t program) (sym (one_text files file file other text refl has told)) spells) in
+          let same : others ≡ bytes = one_text files log log others bytes refl has' there' in (
+            (λ legal it. absurd (rejected.no_legal legal (subst (λ b. IsLegalTranscript spelled b legal) (sym same) (subst (λ (p : Parts). IsLegalTranscript p bytes legal) programs it)))),
+            (λ none. contains_same 1 (6 ∷ 7 ∷ 9 ∷ []) code (sym (status ∙ ap (λ (d : Due). d.code) e))),
+          )
+    checks file log text program bytes ask told spells there' due status (inr (_, of)) = by (asked_due one words (Check file log) ask (λ r. IsDueUnreadOf r (record { files = files; come = [] }) due) of) where
+      both : code ≡ 7 → TellsOfLegal program bytes
+      both is = ((λ legal it. unread_among (0 ∷ 6 ∷ 7 ∷ 9 ∷ []) code (2, lit< tt, refl) is), (λ none. unread_among (1 ∷ 6 ∷ 7 ∷ 9 ∷ []) code (2, lit< tt, refl) is))
+
+      by : IsDueUnreadOf (Check file log) (record { files = files; come = [] }) due → TellsOfLegal program bytes
+      by (inl is) = both (status ∙ ap (λ (d : Due). d.code) is)
+      by (inr (_, is)) = both (status ∙ ap (λ (d : Due). d.code) is)
+
+    -- a summary that is due
+    tours : (rooms : ℕ) (options : Options) (program : Parts) → AskFor words (World rooms options) → Spells (world rooms) program
+        → (due : Due) → code ≡ due.code → IsDue words (record { files = files; come = [] }) due ⊎ (unread × IsDueUnread words (record { files = files; come = [] }) due) → EndsBy program (settings_of program options) [] (6 ∷ 9 ∷ []) code
+    tours rooms options program ask spells due status (inl (inl none)) = absurd (none.0 (World rooms options) ask)
+    tours rooms options program ask spells due status (inl (inr of)) = by (asked_due one words (World rooms options) ask (λ r. IsDueOf r (record { files = files; come = [] }) due) of) where
+      by : IsDueOf (World rooms options) (record { files = files; come = [] }) due → EndsBy program (settings_of program options) [] (6 ∷ 9 ∷ []) code
+      by (inl refused) = absurd (refused.no_program program spells)
+      by (inr (spelled, is, (tally, tallied, e))) =
+          let programs : program ≡ spelled = is.1 program spells in
+          let said = tallied.said in (
+            said.turns,
+            said.ending,
+            tallied.events,
+            tallied.rest,
+            subst (λ (p : Parts). Dialogue p (settings_of p options) [] said.turns said.ending tallied.events tallied.rest) (sym programs) said.dialogue,
+            contains_same (code_told said.ending.word) (6 ∷ 9 ∷ []) code (ap code_told (sym said.holds.word) ∙ sym (status ∙ ap (λ (d : Due). d.code) e)),
+          )
+    tours rooms options program ask spells due status (inr (_, of)) = absurd (asked_due one words (World rooms options) ask (λ r. IsDueUnreadOf r (record { files = files; come = [] }) due) of)
+
+  module _ {C : Type 0} (talk : C → Option (List Event)) (left : C → Option (List ℕ)) (old new : C) (was is : ℕ) (before after : Option (List (List ℕ))) where
+    pub tells_what_is_due : (request : Request) → AskFor words request → (code : ℕ) → IsDone talk left old new files was is before after words code → TellsWhatIsDue request files (left old) code
+    tells_what_is_due (Play file options) ask code done = λ text program come told spells coming.
+        let did = done.answered come coming in
+        plays (Rose was is) (Adds before after) code file options text program come ask told spells did.4.due did.4.status did.4.is
+    tells_what_is_due (Check file log) ask code done = λ text program bytes told spells there'.
+        let wrote = done.written (λ other options ask'. let same : Check file log ≡ Play other options = one words (Check file log) (Play other options) ask ask' in absurd (cc)) [] in
+        checks (Rose was is) (Adds before after) code file log text program bytes ask told spells there' wrote.3.due wrote.3.status wrote.3.is
+    tells_what_is_due (World rooms options) ask code done = λ program spells.
+        let wrote = done.written (λ other options' ask'. let same : World rooms options ≡ Play other options' = one words (World rooms options) (Play other options') ask ask' in absurd (cc)) [] in
+        tours (Rose was is) (Adds before after) code rooms options program ask spells wrote.3.due wrote.3.status wrote.3.is

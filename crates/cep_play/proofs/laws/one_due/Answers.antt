@@ -1,0 +1,5 @@
+use Rattle.cep_play.proofs.OneDue.{one_due}
+use Rattle.cep_play.proofs.laws.one_due.Goals as goal
+
+pub returns : goal.returns
+returns c = λ words files come. one_due files come c.one_request.ensures words
