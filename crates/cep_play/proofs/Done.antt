@@ -1,5 +1,5 @@
 -- What a command came to is what is due of its words.
-use Rattle.std.proofs.Common.{◌≡◌, ◌⊎◌, inl, inr, ⊎_elim, ℕ, ◌+◌, ◌<◌, List, [], ◌∷◌, ◌++◌, refl, sym, ap, ◌∙◌, subst, arith, append_assoc, lit<, Contains, Option, None, Some}
+use Rattle.std.proofs.Common.{◌≡◌, ◌⊎◌, inl, inr, ⊎_elim, ℕ, suc, ◌+◌, ◌<◌, List, [], ◌∷◌, ◌++◌, length, map, refl, sym, ap, ◌∙◌, subst, arith, append_assoc, lit<, Contains, Option, None, Some}
 use Rattle.std.specs.Prelude.{◌≢◌, Ok, Err, unwrap_or}
 use Rattle.std.specs.Option.{option_map}
 use Rattle.std.proofs.lemmas.List.{append-nil}
@@ -20,7 +20,11 @@ use Rattle.cep_check.specs.declared.cause.Verdict.TheVariants as verdicts
 use Rattle.cep_world.specs.World.{world}
 use Rattle.cep_words.specs.declared.options.Options.{Options}
 use Rattle.cep_words.specs.Words.{Request, Play, Check, World, AskFor, HaveNoForm}
-use Rattle.cep_run.specs.Said.{Says}
+use Rattle.cep_term.specs.Multiset.{copies_in}
+use Rattle.cep_run.specs.declared.settings.Settings.{Settings}
+use Rattle.cep_run.specs.declared.tally.Tally.{Tally}
+use Rattle.cep_run.specs.Run.{Turn, Ending, unproved, offers_listed}
+use Rattle.cep_run.specs.Said.{IsSaid, Says, IsTally}
 use Rattle.cep_play.specs.declared.loading.NoProgram.{NoProgram}
 use Rattle.cep_play.specs.declared.loading.NoProgram.TheVariants as none
 use Rattle.cep_play.specs.declared.play.Played.{Played}
@@ -33,7 +37,7 @@ use Rattle.cep_play.specs.declared.world.Toured.{Toured}
 use Rattle.cep_play.specs.declared.world.Toured.TheVariants as toured
 use Rattle.cep_play.specs.Command.{OfFile, IsSpelledBy, Adds, refusal_text, usage, no_program, no_transcript, settings_of}
 use Rattle.cep_play.specs.Outside.{Outside, text_due, code_told}
-use Rattle.cep_play.specs.World.{summary}
+use Rattle.cep_play.specs.World.{summary, IsTallied}
 use Rattle.cep_play.specs.Due.{IsDue, IsDueUnread}
 use Rattle.cep_play.specs.Answered.{IsNoDialogue}
 use Rattle.cep_play.specs.Outcome.{Wrote, IsProgramIn, NoneIsRead, IsPlayed, IsChecked, IsToured, code_played, code_checked, code_toured, CountsBy, AsksFile, AsksFiles, AskedAsSaid, AskedInVain, IsDone}
@@ -64,6 +68,42 @@ told_among State = (4, lit< tt, refl)
 pub told_not_7 : (word : EndWord) → code_told word ≢ 7
 told_not_7 word e = ⊎_elim (λ ended. absurd (omega (arith, e, ended))) (λ limited. absurd (omega (arith, e, limited))) (told_is word)
 
+module _ {C : Type 0} (talk : C → Option (List Event)) (left : C → Option (List ℕ)) (old new : C) where
+  -- less may be said of the turns and the end
+  pub says_less : (program : Parts) (settings : Settings) (P Q : List Turn → Ending → Type 0) → ((turns : List Turn) (ending : Ending) → P turns ending → Q turns ending) → Says talk left old new program settings P → Says talk left old new program settings Q
+  says_less program settings P Q less says =
+      did_map talk left old new _ _ (λ come events rest said. record { turns = said.turns; ending = said.ending; dialogue = said.dialogue; holds = less said.turns said.ending said.holds; steps = said.steps; counted = said.counted; logged = said.logged; only = said.only; to_the_byte = said.to_the_byte }) says
+
+-- derivations do not count
+turns_counted : (turns : List Turn) → length (map unproved turns) ≡ length turns
+turns_counted [] = refl
+turns_counted (turn ∷ turns) = ap suc (turns_counted turns)
+
+offers_counted : (turns : List Turn) → offers_listed (map unproved turns) ≡ offers_listed turns
+offers_counted [] = refl
+offers_counted (turn ∷ turns) = ap (λ n. length turn.question.offers + n) (offers_counted turns)
+
+-- runs that differ in derivations alone have one tally
+one_tally : (tally : Tally) (turns turns' : List Turn) (ending ending' : Ending) → map unproved turns' ≡ map unproved turns → ending' ≡ ending → IsTally turns ending tally → IsTally turns' ending' tally
+one_tally tally turns turns' ending ending' same end is = record {
+  word = is.word ∙ ap (λ (e : Ending). e.word) (sym end);
+  turns = is.turns ∙ sym (turns_counted turns) ∙ ap (λ (ts : List Turn). length ts) (sym same) ∙ turns_counted turns';
+  offers = is.offers ∙ sym (offers_counted turns) ∙ ap offers_listed (sym same) ∙ offers_counted turns';
+  copies = is.copies ∙ ap (λ (e : Ending). copies_in e.state) (sym end);
+}
+
+-- the tally of a run with nothing typed is that of each other
+pub tallied : (program : Parts) (options : Options) (tally : Tally) (settings : Settings) (events : List Event) (rest : List ℕ) → settings ≡ settings_of program options
+    → IsSaid program settings (λ turns ending. IsTally turns ending tally) [] events rest → IsTallied program options tally
+tallied program options tally settings events rest same said =
+    let said' = subst (λ (s : Settings). IsSaid program s (λ turns ending. IsTally turns ending tally) [] events rest) same said in
+    record {
+      events = events;
+      rest = rest;
+      said = said';
+      alone = λ turns ending events' rest' other. let only = said'.only turns ending events' rest' other in one_tally tally said'.turns turns said'.ending ending only.0 only.1 said'.holds;
+    }
+
 -- nothing is asked of the shelf for a generated world, nor for words without a form
 pub adds_none : (told : Option (List (List ℕ))) → Adds told told []
 adds_none None = refl
@@ -83,7 +123,7 @@ checks_alone one words name log code ask file options other = let same : Check n
 tours_alone : IsOneRequest → (words : List (List ℕ)) (rooms : ℕ) (asked : Options) (code : ℕ) → AskFor words (World rooms asked) → IsNoDialogue words code
 tours_alone one words rooms asked code ask file options other = let same : World rooms asked ≡ Play file options = one words (World rooms asked) (Play file options) ask other in absurd (cc)
 
-file_played : Request → List ℕ
+abbrev file_played : Request → List ℕ
 file_played (Play file options) = file
 file_played (Check file log) = file
 file_played (World rooms options) = []

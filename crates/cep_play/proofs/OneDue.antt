@@ -54,8 +54,8 @@ module _ (files : Files) (come : List ℕ) where
   one_file : (name text text' : List ℕ) → HasFile (Some files) name text → HasFile (Some files) name text' → text ≡ text'
   one_file name text text' has has' = some_same text text' (sym has ∙ has')
 
-  played : (file : List ℕ) (options : Options) (due other : Due) → IsDueOf (Play file options) over due → IsDueOf (Play file options) over other → AreOne due other
-  played file options due other (text, has, is) (text', has', is') = of_text text text' (file ∷ []) come (λ program. IsDialogueDue program options (file ∷ []) come due) (λ program. IsDialogueDue program options (file ∷ []) come other) due other (one_file file text text' has has') is is'
+  plays_are_one : (file : List ℕ) (options : Options) (due other : Due) → IsDueOf (Play file options) over due → IsDueOf (Play file options) over other → AreOne due other
+  plays_are_one file options due other (text, has, is) (text', has', is') = of_text text text' (file ∷ []) come (λ program. IsDialogueDue program options (file ∷ []) come due) (λ program. IsDialogueDue program options (file ∷ []) come other) due other (one_file file text text' has has') is is'
       (λ program program' same one two.
       let said : IsSaid program (settings_of program options) (λ turns ending. other.code ≡ code_told ending.word) come other.events other.rest =
       subst (λ (p : Parts). IsSaid p (settings_of p options) (λ turns ending. other.code ≡ code_told ending.word) come other.events other.rest) (sym same) two.0 in
@@ -68,14 +68,14 @@ module _ (files : Files) (come : List ℕ) where
   verdicts_are_one program bytes names due other (text, inl (accepted, is)) (text', inr (rejected, is')) = absurd (rejected.no_legal accepted.0 accepted.1)
   verdicts_are_one program bytes names due other (text, inr (rejected, is)) (text', inl (accepted, is')) = absurd (rejected.no_legal accepted.0 accepted.1)
 
-  checked : (file log : List ℕ) (due other : Due) → IsDueOf (Check file log) over due → IsDueOf (Check file log) over other → AreOne due other
-  checked file log due other (text, has, is) (text', has', is') = of_text text text' (file ∷ []) come
+  checks_are_one : (file log : List ℕ) (due other : Due) → IsDueOf (Check file log) over due → IsDueOf (Check file log) over other → AreOne due other
+  checks_are_one file log due other (text, has, is) (text', has', is') = of_text text text' (file ∷ []) come
       (λ program. OfFile (Some files) log (λ bytes. IsVerdictDue program bytes (file ∷ log ∷ []) come due)) (λ program. OfFile (Some files) log (λ bytes. IsVerdictDue program bytes (file ∷ log ∷ []) come other)) due other (one_file file text text' has has') is is'
       (λ program program' same one two. verdicts_are_one program one.0 (file ∷ log ∷ []) due other one.2
       (subst (λ bytes. IsVerdictDue program bytes (file ∷ log ∷ []) come other) (sym (one_file log one.0 two.0 one.1 two.1)) (subst (λ (p : Parts). IsVerdictDue p two.0 (file ∷ log ∷ []) come other) (sym same) two.2)))
 
-  toured : (rooms : ℕ) (options : Options) (due other : Due) → IsDueOf (World rooms options) over due → IsDueOf (World rooms options) over other → AreOne due other
-  toured rooms options due other is is' = of_text (world rooms) (world rooms) [] come (λ program. IsSummaryDue rooms options program come due) (λ program. IsSummaryDue rooms options program come other) due other refl is is'
+  tours_are_one : (rooms : ℕ) (options : Options) (due other : Due) → IsDueOf (World rooms options) over due → IsDueOf (World rooms options) over other → AreOne due other
+  tours_are_one rooms options due other is is' = of_text (world rooms) (world rooms) [] come (λ program. IsSummaryDue rooms options program come due) (λ program. IsSummaryDue rooms options program come other) due other refl is is'
       (λ program program' same one two.
       let tallied : IsTallied program options two.0 = subst (λ (p : Parts). IsTallied p options two.0) (sym same) two.1 in
       let said = tallied.said in
@@ -84,9 +84,9 @@ module _ (files : Files) (come : List ℕ) where
       both_told due other _ _ one.2 two.2 (ap code_told words, refl, refl))
 
   of_request : (request : Request) (due other : Due) → IsDueOf request over due → IsDueOf request over other → AreOne due other
-  of_request (Play file options) due other = played file options due other
-  of_request (Check file log) due other = checked file log due other
-  of_request (World rooms options) due other = toured rooms options due other
+  of_request (Play file options) due other = plays_are_one file options due other
+  of_request (Check file log) due other = checks_are_one file log due other
+  of_request (World rooms options) due other = tours_are_one rooms options due other
 
   pub one_due : IsOneRequest → (words : List (List ℕ)) (due other : Due) → IsDue words over due → IsDue words over other → AreOne due other
   one_due one words due other (inl none) (inl none') = both_told due other _ _ none.1 none'.1 (refl, refl, refl)

@@ -1,11 +1,12 @@
 -- The status tells what is due.
-use Rattle.std.proofs.Common.{◌≡◌, ◌⊎◌, inl, inr, ⊎_elim, ℕ, ◌<◌, List, [], ◌∷◌, refl, sym, ap, ◌∙◌, subst, lit<, Contains, Option, None, Some}
+use Rattle.std.proofs.Common.{◌≡◌, ◌⊎◌, ◌==◌, inl, inr, ⊎_elim, ℕ, ◌<◌, Bool, true, false, List, [], ◌∷◌, refl, sym, ap, ◌∙◌, subst, lit<, arith, Contains, Option, None, Some}
+use Rattle.std.proofs.lemmas.Bool.{eqb-true, eqb-false}
 use Rattle.cep_base.specs.declared.console.Event.{Event}
 use Rattle.cep_base.specs.declared.console.ConsoleFault.{ConsoleFault}
 use Rattle.cep_base.specs.declared.console.ConsoleFault.TheVariants as faults
 use Rattle.cep_base.specs.Files.{Files, HasFile}
 use Rattle.cep_base.specs.Faults.{Rose}
-use Rattle.cep_base.proofs.Elements.{contains_none, contains_cases, contains_behind, contains_same}
+use Rattle.cep_base.proofs.Elements.{contains_none, contains_cases, contains_behind, contains_same, all_at}
 use Rattle.cep_base.proofs.Lists.{some_same}
 use Rattle.cep_rule.specs.declared.parts.Parts.{Parts}
 use Rattle.cep_rule.specs.Program.{IsProgram}
@@ -36,7 +37,7 @@ use Rattle.cep_play.specs.World.{summary}
 use Rattle.cep_play.specs.Due.{IsDueOf, IsDue, IsDueUnreadOf, IsDueUnread}
 use Rattle.cep_play.specs.Answered.{IsOnShelf, EndsBy, TellsWhatIsDue}
 use Rattle.cep_play.proofs.Done.{IsOneRequest}
-use Rattle.cep_play.specs.Outcome.{IsDone}
+use Rattle.cep_play.specs.Outcome.{CountsBy, IsDone}
 
 -- where the files are told, a file has one text
 one_text : (files : Option Files) (name other text text' : List ℕ) → name ≡ other → HasFile files name text → IsOnShelf files other text' → text ≡ text'
@@ -49,6 +50,27 @@ with_unread status among =
     ⊎_elim (λ six. contains_same 6 (7 ∷ 9 ∷ []) status six)
     (λ later. ⊎_elim (λ nine. contains_behind 6 (7 ∷ 9 ∷ []) status (contains_behind 7 (9 ∷ []) status (contains_same 9 [] status nine))) (λ none. absurd (contains_none status none)) (contains_cases 9 [] status later))
     (contains_cases 6 (9 ∷ []) status among)
+
+-- a status that a command answers is one of all, and none that a fault has
+pub among_all : (code : ℕ) → Contains (0 ∷ 1 ∷ 2 ∷ 3 ∷ 4 ∷ 7 ∷ []) code → Contains (0 ∷ 1 ∷ 2 ∷ 3 ∷ 4 ∷ 6 ∷ 7 ∷ 9 ∷ []) code
+among_all code among =
+    all_at (λ n. Contains (0 ∷ 1 ∷ 2 ∷ 3 ∷ 4 ∷ 6 ∷ 7 ∷ 9 ∷ []) n) (0 ∷ 1 ∷ 2 ∷ 3 ∷ 4 ∷ 7 ∷ []) code
+    ((0, lit< tt, refl), ((1, lit< tt, refl), ((2, lit< tt, refl), ((3, lit< tt, refl), ((4, lit< tt, refl), ((6, lit< tt, refl), tt)))))) among
+
+pub is_no_fault : (code : ℕ) → Contains (0 ∷ 1 ∷ 2 ∷ 3 ∷ 4 ∷ 7 ∷ []) code → (code ≡ 6) ⊎ (code ≡ 9) → ⊥
+is_no_fault code among =
+    all_at (λ n. (n ≡ 6) ⊎ (n ≡ 9) → ⊥) (0 ∷ 1 ∷ 2 ∷ 3 ∷ 4 ∷ 7 ∷ []) code
+    (none 0 (λ e. absurd (omega arith)) (λ e. absurd (omega arith)), (none 1 (λ e. absurd (omega arith)) (λ e. absurd (omega arith)), (none 2 (λ e. absurd (omega arith)) (λ e. absurd (omega arith)), (none 3 (λ e. absurd (omega arith)) (λ e. absurd (omega arith)), (none 4 (λ e. absurd (omega arith)) (λ e. absurd (omega arith)), (none 7 (λ e. absurd (omega arith)) (λ e. absurd (omega arith)), tt)))))) among
+  where
+    none : (n : ℕ) → (n ≡ 6 → ⊥) → (n ≡ 9 → ⊥) → (n ≡ 6) ⊎ (n ≡ 9) → ⊥
+    none n six nine is = ⊎_elim six nine is
+
+-- where the shelf failed, the status says so
+pub fails_by : (was is code : ℕ) → CountsBy was is code → was < is → Contains (6 ∷ 7 ∷ 9 ∷ []) code
+fails_by was is code counts rose = by (code == 7) refl where
+  by : (t : Bool) → (code == 7) ≡ t → Contains (6 ∷ 7 ∷ 9 ∷ []) code
+  by true e = subst (Contains (6 ∷ 7 ∷ 9 ∷ [])) (sym (eqb-true code 7 e)) (1, lit< tt, refl)
+  by false e = let same = counts.1 (eqb-false code 7 e) in absurd (omega (arith, same, rose))
 
 unread_among : (others : List ℕ) (code : ℕ) → Contains others 7 → code ≡ 7 → Contains others code
 unread_among others code has is = subst (Contains others) (sym is) has

@@ -198,10 +198,10 @@ pub(crate) fn check_file<C: Console, H: Shelf, L: Ledger>(
     ensures counted { steps.old ≤ steps.new }
 {
     match program_in(alloc, file, console, shelf)? {
-        Ok(program) => {
-            let found = check_transcript(alloc, &program, log, console, shelf, steps)?;
-            Ok(Checked::Against(found))
-        }
+        Ok(program) => match check_transcript(alloc, &program, log, console, shelf, steps) {
+            Ok(found) => Ok(Checked::Against(found)),
+            Err(fault) => Err(fault),
+        },
         Err(why) => Ok(Checked::Without(why)),
     }
 }

@@ -40,18 +40,22 @@ fn command<C: Console, H: Shelf, L: Ledger>(
     match Task::of(words) {
         Some(Task::Play(session)) => {
             let file = session.file.as_str();
-            let played = play_file(alloc, file, session.options, console, shelf, steps)?;
-            Ok(played.code())
+            match play_file(alloc, file, session.options, console, shelf, steps) {
+                Ok(played) => Ok(played.code()),
+                Err(fault) => Err(fault),
+            }
         }
         Some(Task::Check(audit)) => {
             let (file, log) = (audit.file.as_str(), audit.log.as_str());
-            let checked = check_file(alloc, file, log, console, shelf, steps)?;
-            Ok(checked.code())
+            match check_file(alloc, file, log, console, shelf, steps) {
+                Ok(checked) => Ok(checked.code()),
+                Err(fault) => Err(fault),
+            }
         }
-        Some(Task::World(tour)) => {
-            let toured = run_world(alloc, tour, console, steps)?;
-            Ok(toured.code())
-        }
+        Some(Task::World(tour)) => match run_world(alloc, tour, console, steps) {
+            Ok(toured) => Ok(toured.code()),
+            Err(fault) => Err(fault),
+        },
         None => {
             console.put(USAGE)?;
             Ok(2)
