@@ -40,7 +40,7 @@ use Rattle.cep_play.specs.Outside.{Outside, text_due, code_told}
 use Rattle.cep_play.specs.World.{summary, IsTallied}
 use Rattle.cep_play.specs.Due.{IsDue, IsDueUnread}
 use Rattle.cep_play.specs.Answered.{IsNoDialogue}
-use Rattle.cep_play.specs.Outcome.{Wrote, IsProgramIn, NoneIsRead, IsPlayed, IsChecked, IsToured, code_played, code_checked, code_toured, CountsBy, AsksFile, AsksFiles, AskedAsSaid, AskedInVain, IsDone}
+use Rattle.cep_play.specs.Outcome.{Wrote, IsProgramIn, NoneIsRead, PlaysFile, ChecksFile, RunsWorld, code_played, code_checked, code_toured, CountsBy, AsksFile, AsksFiles, AskedAsSaid, AskedInVain, CommandDid}
 
 -- words ask for one thing at most
 abbrev pub IsOneRequest : Type 0
@@ -130,7 +130,7 @@ file_played (World rooms options) = []
 
 module _ {C : Type 0} (talk : C → Option (List Event)) (left : C → Option (List ℕ)) (old new : C) (files : Option Files) (was is : ℕ) (before after : Option (List (List ℕ))) (words : List (List ℕ)) where
   abbrev Done : ℕ → Type 0
-  Done code = IsDone talk left old new files was is before after words code
+  Done code = CommandDid talk left old new files was is before after words code
 
   abbrev over : List ℕ → Outside
   over come = record { files = files; come = come }
@@ -167,7 +167,7 @@ module _ {C : Type 0} (talk : C → Option (List Event)) (left : C → Option (L
     among = told_among word;
   }
 
-  pub play_done : IsOneRequest → (file : List ℕ) (options : Options) (what : Played) → AskFor words (Play file options) → IsPlayed talk left old new files file options what → Adds before after (file ∷ []) → CountsBy was is (code_played what) → Done (code_played what)
+  pub play_done : IsOneRequest → (file : List ℕ) (options : Options) (what : Played) → AskFor words (Play file options) → PlaysFile talk left old new files file options what → Adds before after (file ∷ []) → CountsBy was is (code_played what) → Done (code_played what)
   play_done one file options (played.Ended word) ask it adds counts = dialogue_done one file options it.0 word ask it.1 it.2 adds (counts.1 (told_not_7 word))
   play_done one file options (played.Without none.Refused) ask it adds counts =
       text_done (line (refusal_text it.2.refusal)) 3 (file ∷ []) it.2.writes adds
@@ -177,7 +177,7 @@ module _ {C : Type 0} (talk : C → Option (List Event)) (left : C → Option (L
       text_done (line no_program) 7 (file ∷ []) it adds (λ come. inr (counts.0 refl, (Play file options, ask, refl)))
       (λ _ _ _. ((λ e. absurd (omega arith)), (λ e. absurd (omega arith)))) (inl (Play file options, ask, adds)) counts (5, lit< tt, refl)
 
-  pub check_done : IsOneRequest → (file log : List ℕ) (what : Checked) → AskFor words (Check file log) → IsChecked talk left old new files file log what → AsksFiles files (Rose was is) before file log after (Ok what) → CountsBy was is (code_checked what) → Done (code_checked what)
+  pub check_done : IsOneRequest → (file log : List ℕ) (what : Checked) → AskFor words (Check file log) → ChecksFile talk left old new files file log what → AsksFiles files (Rose was is) before file log after (Ok what) → CountsBy was is (code_checked what) → Done (code_checked what)
   check_done one file log (checked.Against found.Accepted) ask it adds counts =
       let text = it.1 in
       let bytes = it.2 in
@@ -200,7 +200,7 @@ module _ {C : Type 0} (talk : C → Option (List Event)) (left : C → Option (L
       text_done (line no_program) 7 (file ∷ []) it adds (λ come. inr (counts.0 refl, (Check file log, ask, inl refl)))
       (checks_alone one words file log 7 ask) (inl (Check file log, ask, inr (inr (counts.0 refl), adds))) counts (5, lit< tt, refl)
 
-  pub tour_done : IsOneRequest → (rooms : ℕ) (options : Options) (what : Toured) → AskFor words (World rooms options) → IsToured talk left old new rooms options what → Adds before after [] → is ≡ was → Done (code_toured what)
+  pub tour_done : IsOneRequest → (rooms : ℕ) (options : Options) (what : Toured) → AskFor words (World rooms options) → RunsWorld talk left old new rooms options what → Adds before after [] → is ≡ was → Done (code_toured what)
   tour_done one rooms options (toured.Ended tally) ask it adds same =
       text_done (summary rooms (unwrap_or options.seed DEFAULT_SEED) tally) (code_told tally.word) [] it.3 adds (λ come. inl (inr (World rooms options, ask, inr (it.0, it.1, (tally, it.2, refl)))))
       (tours_alone one words rooms options (code_told tally.word) ask) (inl (World rooms options, ask, adds)) ((λ e. absurd (told_not_7 tally.word e)), (λ _. same)) (told_among tally.word)

@@ -37,7 +37,7 @@ use Rattle.cep_play.specs.World.{summary}
 use Rattle.cep_play.specs.Due.{IsDueOf, IsDue, IsDueUnreadOf, IsDueUnread}
 use Rattle.cep_play.specs.Answered.{IsOnShelf, EndsBy, TellsWhatIsDue}
 use Rattle.cep_play.proofs.Done.{IsOneRequest}
-use Rattle.cep_play.specs.Outcome.{CountsBy, IsDone}
+use Rattle.cep_play.specs.Outcome.{CountsBy, CommandDid}
 
 -- where the files are told, a file has one text
 one_text : (files : Option Files) (name other text text' : List ℕ) → name ≡ other → HasFile files name text → IsOnShelf files other text' → text ≡ text'
@@ -171,7 +171,7 @@ module _ (one : IsOneRequest)
     tours rooms options program ask spells due status (inr (_, of)) = absurd (asked_due one words (World rooms options) ask (λ r. IsDueUnreadOf r (record { files = files; come = [] }) due) of)
 
   module _ {C : Type 0} (talk : C → Option (List Event)) (left : C → Option (List ℕ)) (old new : C) (was is : ℕ) (before after : Option (List (List ℕ))) where
-    pub tells_what_is_due : (request : Request) → AskFor words request → (code : ℕ) → IsDone talk left old new files was is before after words code → TellsWhatIsDue request files (left old) code
+    pub tells_what_is_due : (request : Request) → AskFor words request → (code : ℕ) → CommandDid talk left old new files was is before after words code → TellsWhatIsDue request files (left old) code
     tells_what_is_due (Play file options) ask code done = λ text program come told spells coming.
         let did = done.answered come coming in
         plays (Rose was is) (Adds before after) code file options text program come ask told spells did.4.due did.4.status did.4.is

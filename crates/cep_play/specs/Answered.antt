@@ -19,7 +19,7 @@ use Rattle.cep_play.specs.Check.{IsLegalTranscript}
 use Rattle.cep_play.specs.Due.{IsDue, IsDueUnread}
 
 -- What is due of the words was done, or what is due where a file could not be read: these are its events, this is left, its names were asked, and the status is its code.
-pub record IsAnswered (words : List (List ℕ)) (files : Option Files) (unread : Type 0) (asked : List (List ℕ) → Type 0) (code : ℕ) (come : List ℕ) (events : List Event) (rest : List ℕ) : Type 0 where
+pub record DoesWhatIsDue (words : List (List ℕ)) (files : Option Files) (unread : Type 0) (asked : List (List ℕ) → Type 0) (code : ℕ) (come : List ℕ) (events : List Event) (rest : List ℕ) : Type 0 where
   pub due : Due
   pub is : IsDue words (record { files = files; come = come }) due ⊎ (unread × IsDueUnread words (record { files = files; come = come }) due)
   pub said : events ≡ due.events
@@ -38,7 +38,7 @@ IsSpelled words files code = (file : List ℕ) (options : Options) → AskFor wo
 -- What is due was written, and nothing was read, whether or not the console tells what is to be typed.
 abbrev pub IsWritten : {C : Type 0} → (C → Option (List Event)) → (C → Option (List ℕ)) → C → C → List (List ℕ) → Option Files → Type 0 → (List (List ℕ) → Type 0) → ℕ → Type 0
 IsWritten talk left old new words files unread asked code =
-    (come : List ℕ) → (events : List Event) × GoesOn (talk old) events (talk new) × (left new ≡ left old) × IsAnswered words files unread asked code come events come
+    (come : List ℕ) → (events : List Event) × GoesOn (talk old) events (talk new) × (left new ≡ left old) × DoesWhatIsDue words files unread asked code come events come
 
 -- the shelf tells its files, and this one has this text
 abbrev pub IsOnShelf : Option Files → List ℕ → List ℕ → Type 0

@@ -35,7 +35,7 @@ use Rattle.cep_play.specs.Command.{OfRequest, OfFile, IsProgramText, IsSpelledBy
 use Rattle.cep_play.specs.Outside.{code_told}
 use Rattle.cep_play.specs.Check.{Accepts, Rejects}
 use Rattle.cep_play.specs.World.{summary, IsTallied}
-use Rattle.cep_play.specs.Answered.{IsAnswered, IsNoDialogue, IsSpelled, IsWritten}
+use Rattle.cep_play.specs.Answered.{DoesWhatIsDue, IsNoDialogue, IsSpelled, IsWritten}
 
 -- these bytes are written, and nothing is read
 abbrev pub Wrote : {C : Type 0} → (C → Option (List Event)) → (C → Option (List ℕ)) → C → C → List ℕ → Type 0
@@ -64,10 +64,10 @@ HasNoProgram talk left old new files name none.Refused = OfFile files name (Refu
 HasNoProgram talk left old new files name none.Unread = Wrote talk left old new (line no_program)
 
 -- the file of a program was played with options
-abbrev pub IsPlayed : {C : Type 0} → (C → Option (List Event)) → (C → Option (List ℕ)) → C → C → Option Files → List ℕ → Options → Played → Type 0
-IsPlayed talk left old new files name options (played.Ended word) =
+abbrev pub PlaysFile : {C : Type 0} → (C → Option (List Event)) → (C → Option (List ℕ)) → C → C → Option Files → List ℕ → Options → Played → Type 0
+PlaysFile talk left old new files name options (played.Ended word) =
     (program : Parts) × IsProgramIn files name program × Says talk left old new program (settings_of program options) (λ turns ending. ending.word ≡ word)
-IsPlayed talk left old new files name options (played.Without why) = HasNoProgram talk left old new files name why
+PlaysFile talk left old new files name options (played.Without why) = HasNoProgram talk left old new files name why
 
 -- whether a verdict accepts
 abbrev pub accepts : Verdict → Bool
@@ -84,21 +84,21 @@ abbrev pub AreChecked : {C : Type 0} → (C → Option (List Event)) → (C → 
 AreChecked talk left old new program bytes legal = (text : List ℕ) × TellsOf program bytes text legal × Wrote talk left old new (line text)
 
 -- what was found of a transcript in a file
-abbrev pub IsFound : {C : Type 0} → (C → Option (List Event)) → (C → Option (List ℕ)) → C → C → Option Files → Parts → List ℕ → Found → Type 0
-IsFound talk left old new files program log found.Accepted = OfFile files log (λ bytes. AreChecked talk left old new program bytes true)
-IsFound talk left old new files program log found.Rejected = OfFile files log (λ bytes. AreChecked talk left old new program bytes false)
-IsFound talk left old new files program log found.Unread = Wrote talk left old new (line no_transcript)
+abbrev pub FindsTranscript : {C : Type 0} → (C → Option (List Event)) → (C → Option (List ℕ)) → C → C → Option Files → Parts → List ℕ → Found → Type 0
+FindsTranscript talk left old new files program log found.Accepted = OfFile files log (λ bytes. AreChecked talk left old new program bytes true)
+FindsTranscript talk left old new files program log found.Rejected = OfFile files log (λ bytes. AreChecked talk left old new program bytes false)
+FindsTranscript talk left old new files program log found.Unread = Wrote talk left old new (line no_transcript)
 
 -- the transcript in a file was checked against the program in another
-abbrev pub IsChecked : {C : Type 0} → (C → Option (List Event)) → (C → Option (List ℕ)) → C → C → Option Files → List ℕ → List ℕ → Checked → Type 0
-IsChecked talk left old new files name log (checked.Against what) = (program : Parts) × IsProgramIn files name program × IsFound talk left old new files program log what
-IsChecked talk left old new files name log (checked.Without why) = HasNoProgram talk left old new files name why
+abbrev pub ChecksFile : {C : Type 0} → (C → Option (List Event)) → (C → Option (List ℕ)) → C → C → Option Files → List ℕ → List ℕ → Checked → Type 0
+ChecksFile talk left old new files name log (checked.Against what) = (program : Parts) × IsProgramIn files name program × FindsTranscript talk left old new files program log what
+ChecksFile talk left old new files name log (checked.Without why) = HasNoProgram talk left old new files name why
 
 -- the world of so many rooms was run with options
-abbrev pub IsToured : {C : Type 0} → (C → Option (List Event)) → (C → Option (List ℕ)) → C → C → ℕ → Options → Toured → Type 0
-IsToured talk left old new rooms options (toured.Ended tally) =
+abbrev pub RunsWorld : {C : Type 0} → (C → Option (List Event)) → (C → Option (List ℕ)) → C → C → ℕ → Options → Toured → Type 0
+RunsWorld talk left old new rooms options (toured.Ended tally) =
     (program : Parts) × IsSpelledBy program (world rooms) × IsTallied program options tally × Wrote talk left old new (summary rooms (unwrap_or options.seed DEFAULT_SEED) tally)
-IsToured talk left old new rooms options toured.Refused = Refuses talk left old new (world rooms)
+RunsWorld talk left old new rooms options toured.Refused = Refuses talk left old new (world rooms)
 
 -- Their statuses
 
@@ -151,8 +151,8 @@ AskedInVain files unread before words after (Err faults.Failed) = AskedAsSaid fi
 AskedInVain files unread before words after (Err (faults.Memory error)) = OfRequest words (AsksUpTo files (Adds before after)) ⊎ (after ≡ before)
 
 -- The command did what is due of its words, with a status that tells it.
-pub record IsDone {C : Type 0} (talk : C → Option (List Event)) (left : C → Option (List ℕ)) (old new : C) (files : Option Files) (faults faults' : ℕ) (asked asked' : Option (List (List ℕ))) (words : List (List ℕ)) (code : ℕ) : Type 0 where
-  pub answered : Did talk left old new (IsAnswered words files (Rose faults faults') (Adds asked asked') code)
+pub record CommandDid {C : Type 0} (talk : C → Option (List Event)) (left : C → Option (List ℕ)) (old new : C) (files : Option Files) (faults faults' : ℕ) (asked asked' : Option (List (List ℕ))) (words : List (List ℕ)) (code : ℕ) : Type 0 where
+  pub answered : Did talk left old new (DoesWhatIsDue words files (Rose faults faults') (Adds asked asked') code)
   pub written : IsNoDialogue words code → IsWritten talk left old new words files (Rose faults faults') (Adds asked asked') code
   pub spelled : IsSpelled words files code
   pub asked_for : AskedAsSaid files (Rose faults faults') asked words asked'

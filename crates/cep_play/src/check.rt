@@ -9,7 +9,7 @@ ghost use Rattle.cep_check.specs.declared.cause.Verdict.{Verdict};
 ghost use Rattle.cep_check.specs.Causes.{IsVerdict};
 ghost use Rattle.cep_check.specs.Telling.{verdict_text};
 ghost use Rattle.cep_play.specs.Check.{too_long_text};
-ghost use Rattle.cep_play.specs.Outcome.{Wrote, accepts, TellsOf, AreChecked, IsFound, IsChecked, code_found, code_checked, CountsBy, AsksFile, AsksFiles};
+ghost use Rattle.cep_play.specs.Outcome.{Wrote, accepts, TellsOf, AreChecked, FindsTranscript, ChecksFile, code_found, code_checked, CountsBy, AsksFile, AsksFiles};
 
 use crate::loading::{NoProgram, program_in};
 use cep_base::limits::MOST_LOG;
@@ -154,7 +154,7 @@ fn check_transcript<C: Console, H: Shelf, L: Ledger>(
     shelf: &mut H,
     steps: &mut Steps<L>,
 ) -> Result<Found, ConsoleFault>
-    ensures outcome { IfOk result (IsFound C.talk C.left console.old console.new (H.files shelf.old) program.now log.now) }
+    ensures outcome { IfOk result (FindsTranscript C.talk C.left console.old console.new (H.files shelf.old) program.now log.now) }
     ensures cause { ConsoleCause (C.faults console.old) (C.faults console.new) result }
     ensures faults { IfOk result (λ found. CountsBy (H.faults shelf.old) (H.faults shelf.new) (code_found found)) }
     ensures asked { AsksFile (H.asked shelf.old) log.now (H.asked shelf.new) result }
@@ -190,7 +190,7 @@ pub(crate) fn check_file<C: Console, H: Shelf, L: Ledger>(
     shelf: &mut H,
     steps: &mut Steps<L>,
 ) -> Result<Checked, ConsoleFault>
-    ensures outcome { IfOk result (IsChecked C.talk C.left console.old console.new (H.files shelf.old) file.now log.now) }
+    ensures outcome { IfOk result (ChecksFile C.talk C.left console.old console.new (H.files shelf.old) file.now log.now) }
     ensures cause { ConsoleCause (C.faults console.old) (C.faults console.new) result }
     ensures faults { IfOk result (λ checked. CountsBy (H.faults shelf.old) (H.faults shelf.new) (code_checked checked)) }
     ensures asked { AsksFiles (H.files shelf.old) (Rose (H.faults shelf.old) (H.faults shelf.new)) (H.asked shelf.old) file.now log.now (H.asked shelf.new) result }

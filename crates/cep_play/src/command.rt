@@ -4,8 +4,8 @@ ghost use Rattle.cep_base.specs.Talk.{Did, ConsoleCause};
 ghost use Rattle.cep_base.specs.Faults.{Rose};
 ghost use Rattle.cep_words.specs.Words.{Request, AskFor, HaveNoForm};
 ghost use Rattle.cep_play.specs.Command.{OfRequest, AsksFor, AsksUpTo, Adds};
-ghost use Rattle.cep_play.specs.Answered.{IsAnswered, IsNoDialogue, IsSpelled, IsWritten, TellsWhatIsDue};
-ghost use Rattle.cep_play.specs.Outcome.{IsDone, AskedInVain};
+ghost use Rattle.cep_play.specs.Answered.{DoesWhatIsDue, IsNoDialogue, IsSpelled, IsWritten, TellsWhatIsDue};
+ghost use Rattle.cep_play.specs.Outcome.{CommandDid, AskedInVain};
 
 use crate::check::check_file;
 use crate::laws::one_due;
@@ -30,7 +30,7 @@ fn command<C: Console, H: Shelf, L: Ledger>(
     shelf: &mut H,
     steps: &mut Steps<L>,
 ) -> Result<u8, ConsoleFault>
-    ensures done { IfOk result (IsDone C.talk C.left console.old console.new (H.files shelf.old) (H.faults shelf.old) (H.faults shelf.new) (H.asked shelf.old) (H.asked shelf.new) (map string_bytes words.now)) }
+    ensures done { IfOk result (CommandDid C.talk C.left console.old console.new (H.files shelf.old) (H.faults shelf.old) (H.faults shelf.new) (H.asked shelf.old) (H.asked shelf.new) (map string_bytes words.now)) }
     ensures cause { ConsoleCause (C.faults console.old) (C.faults console.new) result }
     ensures asked { AskedInVain (H.files shelf.old) (Rose (H.faults shelf.old) (H.faults shelf.new)) (H.asked shelf.old) (map string_bytes words.now) (H.asked shelf.new) result }
     ensures files { H.files shelf.new ≡ H.files shelf.old }
@@ -88,7 +88,7 @@ pub fn ceptre<C: Console, H: Shelf, L: Ledger>(
 ) -> u8
     // Where the console and memory hold, what is due of the words was done, or what is due where a file could not be read; and the status is its code.
     ensures answered { result ≢ 6 → result ≢ 9 → Did C.talk C.left console.old console.new
-        (IsAnswered (map string_bytes words.now) (H.files shelf.old) (Rose (H.faults shelf.old) (H.faults shelf.new)) (Adds (H.asked shelf.old) (H.asked shelf.new)) result) }
+        (DoesWhatIsDue (map string_bytes words.now) (H.files shelf.old) (Rose (H.faults shelf.old) (H.faults shelf.new)) (Adds (H.asked shelf.old) (H.asked shelf.new)) result) }
 
     // What is no dialogue was written so whether or not the console tells what is to be typed, and nothing was read.
     ensures written { result ≢ 6 → result ≢ 9 → IsNoDialogue (map string_bytes words.now) result → IsWritten C.talk C.left console.old console.new

@@ -6,7 +6,7 @@ ghost use Rattle.cep_words.specs.Words.{AreWithin};
 ghost use Rattle.cep_run.specs.Said.{Says};
 ghost use Rattle.cep_play.specs.Command.{settings_of};
 ghost use Rattle.cep_play.specs.Outside.{code_told};
-ghost use Rattle.cep_play.specs.Outcome.{IsPlayed, code_played, CountsBy, AsksFile};
+ghost use Rattle.cep_play.specs.Outcome.{PlaysFile, code_played, CountsBy, AsksFile};
 
 use crate::loading::{NoProgram, program_in};
 use crate::settings::settings_of;
@@ -78,7 +78,7 @@ pub(crate) fn play_file<C: Console, H: Shelf, L: Ledger>(
     steps: &mut Steps<L>,
 ) -> Result<Played, ConsoleFault>
     requires { AreWithin options }
-    ensures outcome { IfOk result (IsPlayed C.talk C.left console.old console.new (H.files shelf.old) file.now options) }
+    ensures outcome { IfOk result (PlaysFile C.talk C.left console.old console.new (H.files shelf.old) file.now options) }
     ensures cause { ConsoleCause (C.faults console.old) (C.faults console.new) result }
     ensures faults { IfOk result (λ played. CountsBy (H.faults shelf.old) (H.faults shelf.new) (code_played played)) }
     ensures asked { AsksFile (H.asked shelf.old) file.now (H.asked shelf.new) result }

@@ -7,7 +7,7 @@ ghost use Rattle.cep_world.specs.World.{world};
 ghost use Rattle.cep_play.specs.declared.loading.NoProgram.TheVariants.{Refused};
 ghost use Rattle.cep_play.specs.Command.{IsSpelledBy};
 ghost use Rattle.cep_play.specs.World.{summary, IsTallied};
-ghost use Rattle.cep_play.specs.Outcome.{Wrote, Refuses, IsToured, code_toured};
+ghost use Rattle.cep_play.specs.Outcome.{Wrote, Refuses, RunsWorld, code_toured};
 
 use crate::loading::{NoProgram, program_of};
 use crate::play::code_of;
@@ -94,7 +94,7 @@ pub(crate) fn run_world<C: Console, L: Ledger>(
 ) -> Result<Toured, ConsoleFault>
     requires rooms { IsUpTo MOST_WORLD tour.rooms }
     requires within { AreWithin tour.options }
-    ensures outcome { IfOk result (IsToured C.talk C.left console.old console.new tour.rooms tour.options) }
+    ensures outcome { IfOk result (RunsWorld C.talk C.left console.old console.new tour.rooms tour.options) }
     ensures counted { steps.old ≤ steps.new }
     ensures cause { ConsoleCause (C.faults console.old) (C.faults console.new) result }
 {

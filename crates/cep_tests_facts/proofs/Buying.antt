@@ -11,15 +11,15 @@ use Rattle.cep_rule.specs.declared.signature.Signature.{Signature}
 use Rattle.cep_rule.specs.Typing.{is_fact}
 use Rattle.cep_rule.specs.State.{IsStateAtom, IsState, Fits}
 use Rattle.cep_rule.specs.Matching.{state_after}
-use Rattle.cep_tests_facts.specs.Shop.{plain, shop_signature, shop}
+use Rattle.cep_tests_facts.specs.Shop.{without_arguments, shop_signature, shop}
 use Rattle.cep_tests_facts.proofs.Spelled.{low}
 use Rattle.cep_tests_facts.proofs.Held.{held_some, held_once, gained_nodes}
 
 abbrev coin : List AtomTree
-coin = plain 0 ∷ []
+coin = without_arguments 0 ∷ []
 
 abbrev lamp : List AtomTree
-lamp = plain 1 ∷ []
+lamp = without_arguments 1 ∷ []
 
 some_of : (m n : ℕ) → 0 < m + n → (0 < m) ⊎ (0 < n)
 some_of zero n some = inr (omega arith)

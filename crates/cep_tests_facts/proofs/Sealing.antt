@@ -17,7 +17,7 @@ use Rattle.cep_rule.specs.Names.{IsVariableName}
 use Rattle.cep_rule.specs.Program.{AreNamed, AreNumbersDeclared, IsTypedRule, IsDividedRule, IsGroupedRule, IsProgram}
 use Rattle.cep_rule.specs.Typing.{is_fact}
 use Rattle.cep_rule.specs.State.{IsStateAtom, IsState, Fits}
-use Rattle.cep_tests_facts.specs.Shop.{plain, about, used, needed, plain_rule, person_rule, shop_signature, shop_stages, shop_rules, shop_clauses, shop_start, few_atoms, shop}
+use Rattle.cep_tests_facts.specs.Shop.{without_arguments, about, used, needed, plain_rule, person_rule, shop_signature, shop_stages, shop_rules, shop_clauses, shop_start, few_atoms, shop}
 use Rattle.cep_tests_facts.proofs.Spelled.{low, less, names}
 use Rattle.cep_tests_facts.proofs.Held.{state_of, state_fits}
 
@@ -31,7 +31,7 @@ small_signature = record {
 }
 
 -- a rule by two facts
-by_facts : (name : List ℕ) (group one other : ℕ) → IsSmallRule (plain_rule name group (needed (plain one) ∷ needed (plain other) ∷ []) (plain 0 ∷ []))
+by_facts : (name : List ℕ) (group one other : ℕ) → IsSmallRule (plain_rule name group (needed (without_arguments one) ∷ needed (without_arguments other) ∷ []) (without_arguments 0 ∷ []))
 by_facts name group one other = record {
   vars = low refl;
   premises = low refl;
@@ -42,7 +42,7 @@ by_facts name group one other = record {
   right_nodes = (low refl, tt);
 }
 
-small_buying : (name : List ℕ) → IsSmallRule (plain_rule name 0 (used (plain 0) ∷ needed (plain 1) ∷ needed (plain 1) ∷ []) (plain 1 ∷ []))
+small_buying : (name : List ℕ) → IsSmallRule (plain_rule name 0 (used (without_arguments 0) ∷ needed (without_arguments 1) ∷ needed (without_arguments 1) ∷ []) (without_arguments 1 ∷ []))
 small_buying name = record {
   vars = low refl;
   premises = low refl;
@@ -161,10 +161,10 @@ bound = (
 )
 
 -- a rule that needs two facts keeps them
-divided_facts : (name : List ℕ) (group : ℕ) → IsDividedRule shop_signature (plain_rule name group (needed (plain 1) ∷ needed (plain 2) ∷ []) (plain 0 ∷ []))
+divided_facts : (name : List ℕ) (group : ℕ) → IsDividedRule shop_signature (plain_rule name group (needed (without_arguments 1) ∷ needed (without_arguments 2) ∷ []) (without_arguments 0 ∷ []))
 divided_facts name group = record { premises = (refl, (refl, tt)); facts = (λ _. refl, (λ _. refl, tt)); right = (refl, tt); backs = tt }
 
-divided_bell : (name : List ℕ) (group : ℕ) → IsDividedRule shop_signature (plain_rule name group (needed (plain 1) ∷ needed (plain 3) ∷ []) (plain 0 ∷ []))
+divided_bell : (name : List ℕ) (group : ℕ) → IsDividedRule shop_signature (plain_rule name group (needed (without_arguments 1) ∷ needed (without_arguments 3) ∷ []) (without_arguments 0 ∷ []))
 divided_bell name group = record { premises = (refl, (refl, tt)); facts = (λ _. refl, (λ _. refl, tt)); right = (refl, tt); backs = tt }
 
 divided : AllByRecursion (IsDividedRule shop_signature) shop_rules

@@ -33,8 +33,8 @@ abbrev pub shop_signature : Signature
 shop_signature = record { sorts = codes "person" ∷ []; cons = person (codes "ann") ∷ person (codes "bob") ∷ []; preds = shop_preds }
 
 -- the atom of a predicate without arguments
-abbrev pub plain : ℕ → AtomTree
-plain pred = record { pred = pred; args = none }
+abbrev pub without_arguments : ℕ → AtomTree
+without_arguments pred = record { pred = pred; args = none }
 
 -- the atom of a predicate about a variable
 abbrev pub about : ℕ → AtomTree
@@ -57,14 +57,14 @@ plain_rule name group premises right = record { name = name; group = group; vars
 
 -- a rule for a person who was met
 abbrev pub person_rule : List ℕ → ℕ → List AtomTree → Rule
-person_rule name group backs = record { name = name; group = group; vars = codes "X" ∷ []; kinds = 0 ∷ []; premises = needed (about 4) ∷ []; backs = backs; right = plain 0 ∷ []; next = None }
+person_rule name group backs = record { name = name; group = group; vars = codes "X" ∷ []; kinds = 0 ∷ []; premises = needed (about 4) ∷ []; backs = backs; right = without_arguments 0 ∷ []; next = None }
 
 -- `buy : coin * lamp * lamp -o lamp`, `furnish : lamp * table -o coin`, `ring : lamp * bell -o coin`, `greet : met X -o coin` and `visit : met X * friend X -o coin`, each in a stage of its own
 abbrev pub shop_rules : List Rule
 shop_rules =
-    plain_rule (codes "buy") 0 (used (plain 0) ∷ needed (plain 1) ∷ needed (plain 1) ∷ []) (plain 1 ∷ [])
-    ∷ plain_rule (codes "furnish") 2 (needed (plain 1) ∷ needed (plain 2) ∷ []) (plain 0 ∷ [])
-    ∷ plain_rule (codes "ring") 4 (needed (plain 1) ∷ needed (plain 3) ∷ []) (plain 0 ∷ [])
+    plain_rule (codes "buy") 0 (used (without_arguments 0) ∷ needed (without_arguments 1) ∷ needed (without_arguments 1) ∷ []) (without_arguments 1 ∷ [])
+    ∷ plain_rule (codes "furnish") 2 (needed (without_arguments 1) ∷ needed (without_arguments 2) ∷ []) (without_arguments 0 ∷ [])
+    ∷ plain_rule (codes "ring") 4 (needed (without_arguments 1) ∷ needed (without_arguments 3) ∷ []) (without_arguments 0 ∷ [])
     ∷ person_rule (codes "greet") 6 []
     ∷ person_rule (codes "visit") 8 (about 5 ∷ [])
     ∷ []
@@ -82,11 +82,11 @@ shop_clauses = record { vars = []; kinds = []; head = about_person 5 1; goals = 
 
 -- two coins, a lamp that is put there twice, a table, and two who were met
 abbrev pub shop_start : List AtomTree
-shop_start = plain 0 ∷ plain 0 ∷ plain 1 ∷ plain 1 ∷ plain 2 ∷ about_person 4 0 ∷ about_person 4 1 ∷ []
+shop_start = without_arguments 0 ∷ without_arguments 0 ∷ without_arguments 1 ∷ without_arguments 1 ∷ without_arguments 2 ∷ about_person 4 0 ∷ about_person 4 1 ∷ []
 
 -- a coin, a lamp and a table
 abbrev pub few_atoms : List AtomTree
-few_atoms = plain 0 ∷ plain 1 ∷ plain 2 ∷ []
+few_atoms = without_arguments 0 ∷ without_arguments 1 ∷ without_arguments 2 ∷ []
 
 -- the parts of the program
 abbrev pub shop : Parts

@@ -5,7 +5,7 @@ ghost use Rattle.std.specs.List.{AllByRecursion};
 ghost use Rattle.cep_term.specs.Tree.{atom_of, tree_of, IsGroundAtom, none, more};
 ghost use Rattle.cep_term.specs.Multiset.{gathered, once};
 ghost use Rattle.cep_rule.specs.Typing.{is_fact};
-ghost use Rattle.cep_tests_facts.specs.Shop.{person, plain, needed, about_person, plain_rule, person_rule, a_stage, shop_preds, shop_signature, shop_rules, shop_stages, shop_clauses, shop_start, few_atoms, shop};
+ghost use Rattle.cep_tests_facts.specs.Shop.{person, without_arguments, needed, about_person, plain_rule, person_rule, a_stage, shop_preds, shop_signature, shop_rules, shop_stages, shop_clauses, shop_start, few_atoms, shop};
 
 use cep_base::{List, Name, PredKind};
 use cep_rule::{
@@ -56,7 +56,7 @@ fn with_premise(premises: Premises, atom: Atom, kept: bool) -> Result<Premises, 
 
 // The atom of a predicate without arguments.
 fn thing(pred: u32) -> Atom
-    ensures { atom_of result ≡ plain pred }
+    ensures { atom_of result ≡ without_arguments pred }
 {
     Atom {
         pred,
@@ -232,7 +232,7 @@ fn person_rule(alloc: Global, name: &[u8], group: u32, backs: AtomList) -> Resul
 
 // A rule that needs a lamp and another fact.
 fn rule_by_lamp(alloc: Global, name: &[u8], group: u32, other: u32) -> Result<Rule, AllocError>
-    ensures { IfOk result (λ rule. rule ≡ plain_rule name.now group (needed (plain 1) ∷ needed (plain other) ∷ []) (plain 0 ∷ [])) }
+    ensures { IfOk result (λ rule. rule ≡ plain_rule name.now group (needed (without_arguments 1) ∷ needed (without_arguments other) ∷ []) (without_arguments 0 ∷ [])) }
 {
     let lamp = with_premise(Premises::new(alloc), thing(1), true)?;
     let both = with_premise(lamp, thing(other), true)?;
@@ -292,7 +292,7 @@ fn start_atoms(alloc: Global) -> Result<AtomList, AllocError>
 
 // The list of this thing alone.
 pub fn alone(alloc: Global, pred: u32) -> Result<AtomList, AllocError>
-    ensures { IfOk result (λ atoms. atoms ≡ plain pred ∷ []) }
+    ensures { IfOk result (λ atoms. atoms ≡ without_arguments pred ∷ []) }
 {
     with_atom(AtomList::new(alloc), thing(pred))
 }

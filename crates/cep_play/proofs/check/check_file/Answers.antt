@@ -1,5 +1,5 @@
 use Rattle.std.proofs.Common.{◌≡◌, subst}
-use Rattle.cep_play.specs.Outcome.{IsFound}
+use Rattle.cep_play.specs.Outcome.{FindsTranscript}
 use Rattle.cep_play.proofs.Done.{both_in_vain}
 use Rattle.cep_play.proofs.check.check_file.Goals as goal
 
@@ -13,8 +13,8 @@ returns-in-Ok-check_transcript-clause-outcome g c =
     let found = rw c.in-Ok.is at c.in_ok-program.ensures.program in (
       program,
       found.0,
-      subst (λ old. IsFound talk left old new (g.H.Shelf.files c.args.shelf.now) program c.args.log.now what) found.1
-          (subst (λ held. IsFound talk left c.program_in.new.console new held program c.args.log.now what) c.in_ok-program.ensures.files c.in-Ok-check_transcript.ensures.outcome),
+      subst (λ old. FindsTranscript talk left old new (g.H.Shelf.files c.args.shelf.now) program c.args.log.now what) found.1
+          (subst (λ held. FindsTranscript talk left c.program_in.new.console new held program c.args.log.now what) c.in_ok-program.ensures.files c.in-Ok-check_transcript.ensures.outcome),
     )
 
 pub returns-in-Ok-clause-asked : goal.returns-in-Ok-clause-asked

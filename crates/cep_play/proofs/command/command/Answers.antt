@@ -3,7 +3,7 @@ use Rattle.std.specs.Prelude.{string_bytes, Ok, Err}
 use Rattle.cep_base.specs.Faults.{Rose}
 use Rattle.cep_words.specs.Sessions.{IsAskedBy}
 use Rattle.cep_play.specs.declared.play.Played.{Played}
-use Rattle.cep_play.specs.Outcome.{IsPlayed, IsChecked, AsksFile, AsksFiles, IsDone}
+use Rattle.cep_play.specs.Outcome.{PlaysFile, ChecksFile, AsksFile, AsksFiles, CommandDid}
 use Rattle.cep_play.proofs.Done.{play_done, check_done, tour_done, usage_done, adds_none, played_in_vain, checked_in_vain, toured_in_vain}
 use Rattle.cep_play.proofs.command.command.Goals as goal
 
@@ -21,9 +21,9 @@ returns-in-Ok-clause-done g c =
     let words = map string_bytes c.args.words.now in
     let session = c.in-Some-Play.session in
     let what = c.in-Ok.played in
-    subst (IsDone talk left old new files was is before after words) (sym c.code.ensures)
+    subst (CommandDid talk left old new files was is before after words) (sym c.code.ensures)
     (play_done talk left old new files was is before after words c.one_request.ensures (string_bytes session.file.now) session.options what (subst (IsAskedBy words) c.in-Some-Play.field-0-is c.in-Some-Play.ensures)
-    (subst (λ name. IsPlayed talk left old new files name session.options what) c.as_str-file.ensures.value c.in-Ok.ensures.outcome)
+    (subst (λ name. PlaysFile talk left old new files name session.options what) c.as_str-file.ensures.value c.in-Ok.ensures.outcome)
     (subst (λ name. AsksFile before name after (Ok what)) c.as_str-file.ensures.value c.in-Ok.ensures.asked) c.in-Ok.ensures.faults)
 
 pub returns-in-Err-clause-asked : goal.returns-in-Err-clause-asked
@@ -49,10 +49,10 @@ returns-in-Ok-check_file-clause-done g c =
     let words = map string_bytes c.args.words.now in
     let audit = c.in-Some-Check.audit in
     let what = c.in-Ok-check_file.checked in
-    subst (IsDone talk left old new files was is before after words) (sym c.code-in-Ok-check_file.ensures)
+    subst (CommandDid talk left old new files was is before after words) (sym c.code-in-Ok-check_file.ensures)
     (check_done talk left old new files was is before after words c.one_request.ensures (string_bytes audit.file.now) (string_bytes audit.log.now) what (subst (IsAskedBy words) c.in-Some-Check.field-0-is c.in-Some-Check.ensures)
-    (subst (λ name. IsChecked talk left old new files name (string_bytes audit.log.now) what) c.as_str-file-in-Some-Check.ensures.value
-    (subst (λ log. IsChecked talk left old new files c.as_str-file-in-Some-Check.result.now log what) c.as_str-log.ensures.value c.in-Ok-check_file.ensures.outcome))
+    (subst (λ name. ChecksFile talk left old new files name (string_bytes audit.log.now) what) c.as_str-file-in-Some-Check.ensures.value
+    (subst (λ log. ChecksFile talk left old new files c.as_str-file-in-Some-Check.result.now log what) c.as_str-log.ensures.value c.in-Ok-check_file.ensures.outcome))
     (subst (λ name. AsksFiles files (Rose was is) before name (string_bytes audit.log.now) after (Ok what)) c.as_str-file-in-Some-Check.ensures.value
     (subst (λ log. AsksFiles files (Rose was is) before c.as_str-file-in-Some-Check.result.now log after (Ok what)) c.as_str-log.ensures.value c.in-Ok-check_file.ensures.asked)) c.in-Ok-check_file.ensures.faults)
 
@@ -79,7 +79,7 @@ returns-in-Ok-run_world-clause-done g c =
     let asked = g.H.Shelf.asked c.args.shelf.now in
     let words = map string_bytes c.args.words.now in
     let tour = c.in-Some-World.tour in
-    subst (IsDone talk left old new files faults faults asked asked words) (sym c.code-in-Ok-run_world.ensures)
+    subst (CommandDid talk left old new files faults faults asked asked words) (sym c.code-in-Ok-run_world.ensures)
     (tour_done talk left old new files faults faults asked asked words c.one_request.ensures tour.rooms tour.options c.in-Ok-run_world.toured (subst (IsAskedBy words) c.in-Some-World.field-0-is c.in-Some-World.ensures) c.in-Ok-run_world.ensures.outcome (adds_none asked) refl)
 
 pub returns-in-Err-run_world-clause-asked : goal.returns-in-Err-run_world-clause-asked
