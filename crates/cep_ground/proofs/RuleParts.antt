@@ -16,7 +16,7 @@ use Rattle.cep_term.specs.Tree.{AtomTree, atom_nodes}
 use Rattle.cep_rule.specs.declared.signature.PredDecl.{PredDecl}
 use Rattle.cep_rule.specs.declared.rule.Rule.{Rule}
 use Rattle.cep_rule.specs.Patterns.{PremiseTree, ClauseTree}
-use Rattle.cep_rule.specs.Typing.{IsTyped, IsOfState, IsBackward, is_fact}
+use Rattle.cep_rule.specs.Typing.{IsTyped, HasStatePredicate, IsBackward, is_fact}
 use Rattle.cep_rule.specs.Binding.{needed_of}
 use Rattle.cep_rule.specs.Program.{IsTypedRule, IsDividedRule, IsTypedClause, IsDividedClause}
 use Rattle.cep_refusal.specs.declared.reason.Reason.TheVariants.{BwdInState, LinearInClause}
@@ -122,7 +122,7 @@ module _ (source : Source) (clean : IsClean source) (atoms_made : AtomsMade sour
     judged_atoms vars (blanks_after blanks raw.nodes) raws list (λ other there. here other (contains_behind raw raws other there)) by.1,
   )
 
-  of_state : (atom : AtomTree) (j : IsJudged atom) → is_back source atom ≡ false → IsOfState (signature_of source) atom
+  of_state : (atom : AtomTree) (j : IsJudged atom) → is_back source atom ≡ false → HasStatePredicate (signature_of source) atom
   of_state atom j linear =
       let is = j.of_pred in
       let e : is_backward (kind_by is.pred.back) ≡ false = backward_by is.pred.back ∙ is.back_is ∙ sym is.judged ∙ linear in
@@ -141,11 +141,11 @@ module _ (source : Source) (clean : IsClean source) (atoms_made : AtomsMade sour
   pub back_part : (P : AtomTree → Type 0) (list : List PremiseTree) → AllByRecursion (λ p. P p.atom) list → AllByRecursion P (map (λ p. p.atom) (filter (λ p. is_back source p.atom) list))
   back_part P list all = all_map P (λ (p : PremiseTree). p.atom) (filter (λ p. is_back source p.atom) list) (all_filter (λ (p : PremiseTree). P p.atom) (λ p. is_back source p.atom) list all)
 
-  pub divided_premises : (list : List PremiseTree) → AllByRecursion (λ p. IsJudged p.atom) list → AllByRecursion (IsOfState (signature_of source)) (map (λ p. p.atom) (filter (λ p. not (is_back source p.atom)) list))
+  pub divided_premises : (list : List PremiseTree) → AllByRecursion (λ p. IsJudged p.atom) list → AllByRecursion (HasStatePredicate (signature_of source)) (map (λ p. p.atom) (filter (λ p. not (is_back source p.atom)) list))
   divided_premises list all =
       let some = filter (λ (p : PremiseTree). not (is_back source p.atom)) list in
-      all_map (IsOfState (signature_of source)) (λ (p : PremiseTree). p.atom) some
-      (all_follow (λ (p : PremiseTree). IsJudged p.atom × (not (is_back source p.atom) ≡ true)) (λ p. IsOfState (signature_of source) p.atom) some (λ p h. of_state p.atom h.0 (not_true (is_back source p.atom) h.1))
+      all_map (HasStatePredicate (signature_of source)) (λ (p : PremiseTree). p.atom) some
+      (all_follow (λ (p : PremiseTree). IsJudged p.atom × (not (is_back source p.atom) ≡ true)) (λ p. HasStatePredicate (signature_of source) p.atom) some (λ p h. of_state p.atom h.0 (not_true (is_back source p.atom) h.1))
       (all_both (λ (p : PremiseTree). IsJudged p.atom) (λ p. not (is_back source p.atom) ≡ true) some (all_filter (λ (p : PremiseTree). IsJudged p.atom) (λ p. not (is_back source p.atom)) list all) (all_pass (λ p. not (is_back source p.atom)) list)))
 
   pub divided_backs : (list : List PremiseTree) → AllByRecursion (λ p. IsJudged p.atom) list → AllByRecursion (IsBackward (signature_of source)) (map (λ p. p.atom) (filter (λ p. is_back source p.atom) list))
@@ -203,7 +203,7 @@ module _ (source : Source) (clean : IsClean source) (atoms_made : AtomsMade sour
   atoms_count vars blanks (raw ∷ raws) (atom ∷ list) by = ap suc (atoms_count vars (blanks_after blanks raw.nodes) raws list by.1)
 
   -- the atoms of a right side are of predicates that states may have
-  pub right_of_state : (vars : List (List ℕ)) (blanks : ℕ) (raws : List RawAtom) (list : List AtomTree) → ((raw : RawAtom) → Contains raws raw → Contains (placed_of source) (placed role.Made raw)) → ((raw : RawAtom) → Contains raws raw → IsHere source raw) → AreAtomsBy source vars blanks raws list → AllByRecursion (IsOfState (signature_of source)) list
+  pub right_of_state : (vars : List (List ℕ)) (blanks : ℕ) (raws : List RawAtom) (list : List AtomTree) → ((raw : RawAtom) → Contains raws raw → Contains (placed_of source) (placed role.Made raw)) → ((raw : RawAtom) → Contains raws raw → IsHere source raw) → AreAtomsBy source vars blanks raws list → AllByRecursion (HasStatePredicate (signature_of source)) list
   right_of_state vars blanks [] [] at here by = tt
   right_of_state vars blanks [] (atom ∷ list) at here by = absurd by
   right_of_state vars blanks (raw ∷ raws) [] at here by = absurd by
@@ -277,7 +277,7 @@ module _ (source : Source) (clean : IsClean source) (atoms_made : AtomsMade sour
   rule_divided name item rule there by =
       let judged = judged_premises rule.vars 0 item.raw.left by.left (left_here source clean atoms_made item there) by.left_is in
       record {
-        premises = subst (λ (ps : List PremiseTree). AllByRecursion (IsOfState (signature_of source)) (map (λ p. p.atom) ps)) (sym by.premises_are) (divided_premises by.left judged);
+        premises = subst (λ (ps : List PremiseTree). AllByRecursion (HasStatePredicate (signature_of source)) (map (λ p. p.atom) ps)) (sym by.premises_are) (divided_premises by.left judged);
         facts = all_of (λ (premise : PremiseTree). is_fact (signature_of source) premise.atom ≡ true → premise.kept ≡ true) rule.premises (λ premise there fact. never_a_fact source premise.atom fact);
         backs = subst (AllByRecursion (IsBackward (signature_of source))) (sym by.backs_are) (divided_backs by.left judged);
         right = right_of_state rule.vars _ (atoms_of item.raw.right) rule.right (right_at source clean atoms_made item there) (right_here source clean atoms_made item there) by.right_is;

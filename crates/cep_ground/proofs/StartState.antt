@@ -14,7 +14,7 @@ use Rattle.cep_term.specs.Tree.{AtomTree, IsGroundAtom, atom_nodes, IsFit}
 use Rattle.cep_term.specs.BagLaws.{BagLaws}
 use Rattle.cep_term.specs.Multiset.{Multiset}
 use Rattle.cep_rule.specs.declared.signature.PredDecl.{PredDecl}
-use Rattle.cep_rule.specs.Typing.{IsTyped, IsOfState}
+use Rattle.cep_rule.specs.Typing.{IsTyped, HasStatePredicate}
 use Rattle.cep_rule.specs.State.{IsStateAtom, IsState, Fits}
 use Rattle.cep_refusal.specs.declared.reason.Reason.TheVariants.{OverLimit, BwdInState}
 use Rattle.cep_names.specs.Items.{Source, TraceItem, traces_of}
@@ -91,7 +91,7 @@ module _ (source : Source) (clean : IsClean source) (made : AtomsMade source) (s
       (λ site inside. inside) (λ wanted inside. inside) (same, tt) in
       subst (λ ks. IsTyped (signature_of source) ks atom) (no_kinds raw listed) typed.0
 
-  listed_of_state : (raw : RawAtom) (blanks : ℕ) (atom : AtomTree) (listed : IsStateWritten source raw) → IsAtomBy source [] blanks raw atom → IsOfState (signature_of source) atom
+  listed_of_state : (raw : RawAtom) (blanks : ℕ) (atom : AtomTree) (listed : IsStateWritten source raw) → IsAtomBy source [] blanks raw atom → HasStatePredicate (signature_of source) atom
   listed_of_state raw blanks atom listed by =
       let here = listed_here raw listed in
       let known = back_known source clean made raw here in

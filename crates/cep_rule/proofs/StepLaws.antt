@@ -14,7 +14,7 @@ use Rattle.cep_rule.specs.declared.signature.Signature.{Signature}
 use Rattle.cep_rule.specs.declared.rule.Rule.{Rule}
 use Rattle.cep_rule.specs.Patterns.{PremiseTree}
 use Rattle.cep_rule.specs.Binding.{needed_of}
-use Rattle.cep_rule.specs.Typing.{IsTyped, IsOfState, AreValues, is_fact}
+use Rattle.cep_rule.specs.Typing.{IsTyped, HasStatePredicate, AreValues, is_fact}
 use Rattle.cep_rule.specs.State.{joined, IsState, IsStateAtom}
 use Rattle.cep_rule.specs.Instances.{full_instance, full_instances, kept_of, left_of, right_of, taken_by, added_by, used_by}
 use Rattle.cep_rule.specs.Step.{Step, StepsByCounts}
@@ -366,7 +366,7 @@ module _ (laws : BagLaws) (signature : Signature) (rule : Rule) (values : List T
       ]
 
   module _ (old new : Multiset) (typed : IsTypedRule signature rule) (divided : IsDividedRule signature rule) (are : AreValues signature.cons rule.kinds values) (right_bag : IsBag (right_of signature rule values)) (is : IsState signature old) (fit : MakesFit rule values) (step : Step signature rule values old new) where
-    made_atoms : (atoms : List AtomTree) → AllByRecursion (IsTyped signature rule.kinds) atoms → AllByRecursion (IsOfState signature) atoms → AllByRecursion IsFit (full_instances values atoms) → AllByRecursion (IsStateAtom signature) (full_instances values atoms)
+    made_atoms : (atoms : List AtomTree) → AllByRecursion (IsTyped signature rule.kinds) atoms → AllByRecursion (HasStatePredicate signature) atoms → AllByRecursion IsFit (full_instances values atoms) → AllByRecursion (IsStateAtom signature) (full_instances values atoms)
     made_atoms [] all of fit = tt
     made_atoms (a ∷ atoms) all of fit = (
       (record { ground = ground_instance signature rule.kinds values a are all.0; typed = typed_instance signature rule.kinds values a are all.0; of_state = of.0; fit = fit.0 }),

@@ -7,7 +7,7 @@ use Rattle.cep_rule.specs.declared.rule.Rule.{Rule}
 use Rattle.cep_rule.specs.declared.parts.Parts.{Parts}
 use Rattle.cep_rule.specs.Patterns.{ClauseTree}
 use Rattle.cep_rule.specs.Names.{AreNames, IsVariableName}
-use Rattle.cep_rule.specs.Typing.{IsTyped, IsOfState, IsBackward, is_fact}
+use Rattle.cep_rule.specs.Typing.{IsTyped, HasStatePredicate, IsBackward, is_fact}
 use Rattle.cep_rule.specs.Limits.{IsSmall}
 use Rattle.cep_rule.specs.Binding.{needed_of, IsBoundRule, IsBoundClause}
 use Rattle.cep_rule.specs.Groundness.{IsGrounded}
@@ -52,9 +52,9 @@ pub record IsTypedClause (signature : Signature) (clause : ClauseTree) : Type 0 
 
 -- A rule needs and makes atoms that states may have, it keeps each fact that it needs, and its backward premises are of backward predicates.
 pub record IsDividedRule (signature : Signature) (rule : Rule) : Type 0 where
-  pub premises : AllByRecursion (IsOfState signature) (needed_of rule)
+  pub premises : AllByRecursion (HasStatePredicate signature) (needed_of rule)
   pub facts : AllByRecursion (λ premise. is_fact signature premise.atom ≡ true → premise.kept ≡ true) rule.premises
-  pub right : AllByRecursion (IsOfState signature) rule.right
+  pub right : AllByRecursion (HasStatePredicate signature) rule.right
   pub backs : AllByRecursion (IsBackward signature) rule.backs
 
 -- The head and the goals of a clause are of backward predicates.

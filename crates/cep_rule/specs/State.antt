@@ -4,13 +4,13 @@ use Rattle.cep_term.specs.Tree.{AtomTree, IsGroundAtom, IsFit}
 use Rattle.cep_term.specs.Multiset.{Multiset, count_of, sum_of, copies_in, nodes_in_all, IsBag, once, IsOnce}
 use Rattle.cep_base.specs.declared.limits.TheConstants.{MOST_COPIES, MOST_STATE_NODES}
 use Rattle.cep_rule.specs.declared.signature.Signature.{Signature}
-use Rattle.cep_rule.specs.Typing.{IsTyped, IsOfState, is_fact}
+use Rattle.cep_rule.specs.Typing.{IsTyped, HasStatePredicate, is_fact}
 
 -- An atom that a state may have: ground, well typed, fit and of a linear predicate or one of facts.
 pub record IsStateAtom (signature : Signature) (a : AtomTree) : Type 0 where
   pub ground : IsGroundAtom a
   pub typed : IsTyped signature [] a
-  pub of_state : IsOfState signature a
+  pub of_state : HasStatePredicate signature a
   pub fit : IsFit a
 
 -- A state: a multiset in which each atom that is there may be there, and each fact once at most.

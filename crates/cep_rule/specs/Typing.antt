@@ -23,8 +23,8 @@ abbrev pub IsTyped : Signature → List ℕ → AtomTree → Type 0
 IsTyped signature kinds a = IsSomeAnd (slice_get signature.preds a.pred) (λ pred. HaveSorts signature.cons kinds pred.args a.args)
 
 -- The atom's predicate is linear or one of facts: states have atoms of it.
-abbrev pub IsOfState : Signature → AtomTree → Type 0
-IsOfState signature a = IsSomeAnd (slice_get signature.preds a.pred) (λ pred. is_backward pred.kind ≡ false)
+abbrev pub HasStatePredicate : Signature → AtomTree → Type 0
+HasStatePredicate signature a = IsSomeAnd (slice_get signature.preds a.pred) (λ pred. is_backward pred.kind ≡ false)
 
 -- The atom's predicate is backward: clauses define it.
 abbrev pub IsBackward : Signature → AtomTree → Type 0
