@@ -1,11 +1,10 @@
 -- The sample is a program.
-use Rattle.std.proofs.Common.{◌≡◌, ◌≢◌, ℕ, zero, suc, ◌+◌, ◌<◌, ◌≤◌, false, true, List, [], ◌∷◌, ◌++◌, length, get_or, inl, inr, Some, None, refl, sym, ap, arith}
+use Rattle.std.proofs.Common.{◌≡◌, ◌≢◌, ℕ, zero, suc, ◌<◌, ◌≤◌, List, [], ◌∷◌, ◌++◌, length, get_or, inl, inr, refl, ap, arith}
 use Rattle.std.specs.List.{AllByRecursion}
 use Rattle.std.specs.FinMap as finite
 use Rattle.cep_base.specs.Spelling.{reserved_words}
-use Rattle.cep_term.specs.Multiset.{count_of}
 use Rattle.cep_term.specs.BagLaws.{BagLaws}
-use Rattle.cep_rule.specs.Names.{IsName, AreNames, IsVariableName}
+use Rattle.cep_rule.specs.Names.{IsName}
 use Rattle.cep_rule.specs.Binding.{OccursInSome, needed_of}
 use Rattle.cep_rule.specs.State.{IsState, Fits}
 use Rattle.cep_rule.specs.Limits.{IsSmall}

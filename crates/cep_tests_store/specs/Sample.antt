@@ -1,5 +1,5 @@
 -- Private. A program with one rule, of the premises `p X` and `q X Y`, over two constants.
-use Rattle.std.specs.Prelude.{ℕ, false, List, [], ◌∷◌, None}
+use Rattle.std.specs.Prelude.{ℕ, false, [], ◌∷◌, None}
 use Rattle.std.specs.FinMap as finite
 use Rattle.cep_base.specs.declared.kind.PredKind.TheVariants.{Linear}
 use Rattle.cep_term.specs.Tree.{AtomTree, variable, node, none, more}
