@@ -2,6 +2,7 @@ ghost use Rattle.std.specs.Prelude.{IfOk};
 ghost use Rattle.cep_rule.specs.Program.{HasNoFacts};
 ghost use Rattle.cep_ground.specs.Refusals.{IsAccepted};
 
+use crate::laws::a_text_in_order_declares;
 use crate::refusals::{of_grammar, of_tokens};
 use crate::sealing::judged;
 use cep_base::limits::MOST_TEXT;
@@ -24,6 +25,7 @@ pub fn accept(alloc: Global, text: &[u8]) -> Result<Result<Program, Refusal>, Al
     lexed_once();
     one_raw_file();
     parsed_once();
+    a_text_in_order_declares();
     if text.len() > MOST_TEXT {
         let too_long = Fault {
             reason: Reason::TooLong,
