@@ -63,10 +63,9 @@ class Manual(unittest.TestCase):
         self.assertEqual(told, re.findall(r"^\| (\d) \|", table, re.MULTILINE))
 
     @unittest.skipUnless(shutil.which("mandoc"), "mandoc is missing here")
-    def test_mandoc_finds_nothing_to_warn_of(self):
-        done = subprocess.run(
-            ["mandoc", "-Tlint", "-W", "warning", MANUAL], capture_output=True, text=True, check=False
-        )
+    def test_mandoc_has_nothing_to_say(self):
+        command = ["mandoc", "-Tlint", MANUAL]
+        done = subprocess.run(command, capture_output=True, text=True, check=False)
         self.assertEqual((done.stdout, done.returncode), ("", 0))
 
 
