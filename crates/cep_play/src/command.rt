@@ -14,7 +14,7 @@ use crate::world::run_world;
 use cep_base::{Console, ConsoleFault, Shelf, Steps};
 use cep_ground::laws::clean_parts_are_a_program;
 use cep_run::laws::dialogues_are_there;
-use cep_words::Task;
+use cep_words::Request;
 use cep_words::laws::one_request;
 use std::alloc::Global;
 use std::sync::ledger::Ledger;
@@ -37,25 +37,27 @@ fn command<C: Console, H: Shelf, L: Ledger>(
     ensures counted { steps.old ≤ steps.new }
 {
     one_request();
-    match Task::of(words) {
-        Some(Task::Play(session)) => {
-            let file = session.file.as_str();
-            match play_file(alloc, file, session.options, console, shelf, steps) {
+    match Request::of(words) {
+        Some(Request::Play { file, options }) => {
+            let file = file.as_str();
+            match play_file(alloc, file, options, console, shelf, steps) {
                 Ok(played) => Ok(played.code()),
                 Err(fault) => Err(fault),
             }
         }
-        Some(Task::Check(audit)) => {
-            let (file, log) = (audit.file.as_str(), audit.log.as_str());
+        Some(Request::Check { file, log }) => {
+            let (file, log) = (file.as_str(), log.as_str());
             match check_file(alloc, file, log, console, shelf, steps) {
                 Ok(checked) => Ok(checked.code()),
                 Err(fault) => Err(fault),
             }
         }
-        Some(Task::World(tour)) => match run_world(alloc, tour, console, steps) {
-            Ok(toured) => Ok(toured.code()),
-            Err(fault) => Err(fault),
-        },
+        Some(Request::World { rooms, options }) => {
+            match run_world(alloc, rooms, options, console, steps) {
+                Ok(toured) => Ok(toured.code()),
+                Err(fault) => Err(fault),
+            }
+        }
         None => {
             console.put(USAGE)?;
             Ok(2)

@@ -19,7 +19,7 @@ use cep_base::{Console, ConsoleFault, Steps, Text};
 use cep_rule::Program;
 use cep_run::{Tally, play};
 use cep_scratch::Scratch;
-use cep_words::Tour;
+use cep_words::Options;
 use cep_world::world_text;
 use std::alloc::Global;
 use std::sync::ledger::Ledger;
@@ -49,22 +49,23 @@ impl Toured {
 fn tour_program<C: Console, L: Ledger>(
     alloc: Global,
     program: &Program,
-    tour: Tour,
+    rooms: u32,
+    options: Options,
     console: &mut C,
     steps: &mut Steps<L>,
 ) -> Result<Tally, ConsoleFault>
-    requires { AreWithin tour.options }
-    ensures tallied { IfOk result (IsTallied program.now tour.options) }
-    ensures summed { IfOk result (λ tally. Wrote C.talk C.left console.old console.new (summary tour.rooms (unwrap_or tour.options.seed DEFAULT_SEED) tally)) }
+    requires { AreWithin options }
+    ensures tallied { IfOk result (IsTallied program.now options) }
+    ensures summed { IfOk result (λ tally. Wrote C.talk C.left console.old console.new (summary rooms (unwrap_or options.seed DEFAULT_SEED) tally)) }
     ensures counted { steps.old ≤ steps.new }
     ensures cause { ConsoleCause (C.faults console.old) (C.faults console.new) result }
 {
     let mut silence = Silence;
-    let settings = settings_of(program, tour.options);
+    let settings = settings_of(program, options);
     let tally = play::<Scratch, Silence, L>(alloc, program, settings, &mut silence, steps)?;
-    let seed = tour.options.seed.unwrap_or(DEFAULT_SEED);
+    let seed = options.seed.unwrap_or(DEFAULT_SEED);
     let mut lines = Text::new(alloc);
-    put_summary(tour.rooms, seed, tally, &mut lines)?;
+    put_summary(rooms, seed, tally, &mut lines)?;
     console.put(lines.bytes())?;
     Ok(tally)
 }
@@ -88,19 +89,20 @@ fn program_of_world<C: Console>(
 /// Runs the world of so many rooms.
 pub(crate) fn run_world<C: Console, L: Ledger>(
     alloc: Global,
-    tour: Tour,
+    rooms: u32,
+    options: Options,
     console: &mut C,
     steps: &mut Steps<L>,
 ) -> Result<Toured, ConsoleFault>
-    requires rooms { IsUpTo MOST_WORLD tour.rooms }
-    requires within { AreWithin tour.options }
-    ensures outcome { IfOk result (RunsWorld C.talk C.left console.old console.new tour.rooms tour.options) }
+    requires rooms { IsUpTo MOST_WORLD rooms }
+    requires within { AreWithin options }
+    ensures outcome { IfOk result (RunsWorld C.talk C.left console.old console.new rooms options) }
     ensures counted { steps.old ≤ steps.new }
     ensures cause { ConsoleCause (C.faults console.old) (C.faults console.new) result }
 {
-    match program_of_world(alloc, tour.rooms, console)? {
+    match program_of_world(alloc, rooms, console)? {
         Ok(program) => {
-            let tally = tour_program(alloc, &program, tour, console, steps)?;
+            let tally = tour_program(alloc, &program, rooms, options, console, steps)?;
             Ok(Toured::Ended(tally))
         }
         Err(_why) => Ok(Toured::Refused),

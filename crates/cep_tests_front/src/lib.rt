@@ -3,16 +3,4 @@
 #![tactic(auto)]
 
 #[cfg(test)]
-mod drafts;
-#[cfg(test)]
-mod files;
-#[cfg(test)]
-mod names;
-#[cfg(test)]
-mod programs;
-#[cfg(test)]
-mod source;
-#[cfg(test)]
-mod tokens;
-#[cfg(test)]
-mod worlds;
+mod tests;

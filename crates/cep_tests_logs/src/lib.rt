@@ -2,12 +2,4 @@
 #![tactic(auto)]
 
 #[cfg(test)]
-mod changes;
-#[cfg(test)]
-mod heights;
-#[cfg(test)]
-mod stages;
-#[cfg(test)]
-mod told;
-#[cfg(test)]
-mod walks;
+mod tests;

@@ -194,6 +194,11 @@ two_items (a ∷ b ∷ more) one other least e f =
     let rest : take (length (a ∷ b ∷ more) - 2) more ≡ more = ap (λ n. take n more) (let h : length (a ∷ b ∷ more) - 2 ≡ length more = omega arith in h) ∙ take-length more in
     cc
 
+-- what is said of none may be said less strongly
+pub none_weaker : {A : Type 0} (o : Option A) (P P' : Type 0) (Q : A → Type 0) → (P → P') → MatchOption o P Q → MatchOption o P' Q
+none_weaker None P P' Q less holds = less holds
+none_weaker (Some x) P P' Q less holds = holds
+
 -- words that ask for none of these have no form
 pub no_form : (words : List (List ℕ)) → ((file : List ℕ) (options : Options) → ¬ (AskFor words (Play file options))) → ((file log : List ℕ) → ¬ (AskFor words (Check file log))) → ((rooms : ℕ) (options : Options) → ¬ (AskFor words (World rooms options))) → HaveNoForm words
 no_form words unplayed unchecked unrun (Play file options) ask = unplayed file options ask

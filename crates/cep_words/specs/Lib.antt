@@ -1,4 +1,4 @@
 pub mod Words
 pub mod Numerals
 pub mod Adding
-pub mod Sessions
+pub mod Requests

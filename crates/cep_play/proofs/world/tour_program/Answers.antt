@@ -5,4 +5,4 @@ use Rattle.cep_play.proofs.world.tour_program.Goals as goal
 pub returns-clause-tallied : goal.returns-clause-tallied
 returns-clause-tallied g c =
     let did = c.in_ok-tally.ensures.said [] refl in
-    tallied c.args.program.now c.args.tour.options c.in_ok-tally.tally c.settings_of-settings.result did.0 did.1 c.settings_of-settings.ensures.settings did.4
+    tallied c.args.program.now c.args.options c.in_ok-tally.tally c.settings_of-settings.result did.0 did.1 c.settings_of-settings.ensures.settings did.4

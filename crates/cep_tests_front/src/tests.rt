@@ -1,0 +1,7 @@
+mod drafts;
+mod files;
+mod names;
+mod programs;
+mod source;
+mod tokens;
+mod worlds;

@@ -1,0 +1,240 @@
+// To which declaration the names of texts go, and what is wrong with those that go to none.
+use crate::tests::source::file_of;
+use cep_base::limits::MOST_TEXT;
+use cep_faults::named;
+use cep_names::{Fault, Names, Space, Tabled};
+use std::alloc::Global;
+use std::process::Abort;
+use std::test::Fail;
+
+// Texts of one line each, under it the first name that is declared twice, and then names, each with what
+// it is in each space, and, of a constructor or a predicate, how many arguments it takes.
+fn declaring() -> &'static str {
+    "\
+a : type. b : a. f a a : a. p a : pred. q : bwd. r : q. t : u. stage s = { m : p X -o p X. } context c = { p b }.
+none
+a: sort 0
+f: constructor 1 takes 2
+p: predicate 0 takes 1
+q: predicate 1 takes 0 backward
+r:
+t: constructor 2 takes 0
+s: stage 0
+c: context 0
+m: rule 0
+=
+q : pred. p : q. p : type. q a : bwd. p : type.
+Twice 27
+q: predicate 0 takes 0
+=
+qui -o (). stage s = { qui/2 : () -o (). } _ : qui -o (). x : qui -o ().
+Twice 43
+qui/1: rule 0
+qui/2: rule 1
+x: rule 2"
+}
+
+// Texts, each under the line of what is told of its names. Behind each a stage, a context and a trace
+// are added, with which nothing is wrong.
+fn misnamed() -> &'static str {
+    "none
+
+=
+Twice 10
+a : type. a : type.
+=
+Unknown 2
+p t : pred.
+=
+Unknown 23
+qui * stage s -o stage z.
+=
+WrongKind 24
+t : type. p t : pred. q p : pred.
+=
+WrongArity 43
+t : type. a : t. p t : pred. context d = { p a a }
+=
+WrongArity 47
+t : type. f t : t. p t : pred. context d = { p f }
+=
+VarInContext 38
+t : type. p t : pred. context d = { p X }
+=
+BwdInState 23
+q : bwd. context d = { q }
+=
+LinearInClause 24
+p : pred. q : bwd. q <- p.
+=
+BadQui 0
+r : qui * stage s -o ().
+=
+OverLimit 28
+t : type. p t t t t t t t t t : pred.
+=
+OverLimit 90
+p : pred. stage u = { r : p * p * p * p * p * p * p * p * p * p * p * p * p * p * p * p * p -o (). }
+=
+OverLimit 54
+q : bwd. q <- q <- q <- q <- q <- q <- q <- q <- q <- q.
+=
+OverLimit 142
+t : type. p t t t t t t t t : pred. stage u = { r : p _ X _ _ _ _ _ _ * p _ X _ _ _ _ _ _ * p _ X _ _ _ _ _ _ * p _ X _ _ _ _ _ _ * p X _ _ _ _ _ _ _ -o (). }
+=
+TwoTraces 48
+#trace 1000000 s c.
+=
+OverLimit 7
+#trace 0001000001 s c.
+=
+OverLimit 7
+#trace 00 s c."
+}
+
+// The names of a text.
+fn tabled(alloc: Global, text: &str) -> Result<Tabled, Fail> {
+    let file = file_of(alloc, text)?;
+    Ok(Names::of(alloc, text.as_bytes(), &file)?)
+}
+
+// The spaces, each with a word for what is in it.
+const SPACES: [(Space, &str); 6] = [
+    (Space::Sorts, " sort"),
+    (Space::Constructors, " constructor"),
+    (Space::Predicates, " predicate"),
+    (Space::Stages, " stage"),
+    (Space::Contexts, " context"),
+    (Space::Rules, " rule"),
+];
+
+// Adds a number behind a word, if there is one.
+fn put_number(out: &mut String, word: &str, number: Option<usize>) -> Result<(), Fail> {
+    let alloc = *out.allocator();
+    if let Some(number) = number {
+        out.push_str(format!(in alloc; "{word} {number}")?.as_str())?;
+    }
+    Ok(())
+}
+
+// A name, and what it is.
+fn described(alloc: Global, names: &Names, name: &str) -> Result<String, Fail> {
+    let mut out = format!(in alloc; "{name}:")?;
+    let name = name.as_bytes();
+    for (space, word) in &SPACES {
+        put_number(&mut out, word, names.number(*space, name))?;
+    }
+    put_number(&mut out, " takes", names.arity(Space::Constructors, name))?;
+    put_number(&mut out, " takes", names.arity(Space::Predicates, name))?;
+    out.push_str(if names.back(name) == Some(true) {
+        " backward"
+    } else {
+        ""
+    })?;
+    Ok(out)
+}
+
+// The fault of some names, if there is one.
+fn fault_word(alloc: Global, fault: Option<Fault>) -> Result<String, Fail> {
+    match fault {
+        Some(fault) => Ok(format!(in alloc; "{} {}", fault.reason.name(), fault.at)?),
+        None => Ok(String::from_str(alloc, "none")?),
+    }
+}
+
+// The line is what a name is.
+fn expect_name(rt: &impl Abort, alloc: Global, names: &Names, line: &str) -> Result<(), Fail> {
+    let (name, _) = line.split_once(':').ok_or("no name")?;
+    let described = described(alloc, names, name)?;
+    assert_eq!(rt; described.as_str(), line);
+    Ok(())
+}
+
+// Each line is what a name is.
+fn expect_names(rt: &impl Abort, alloc: Global, names: &Names, lines: &str) -> Result<(), Fail> {
+    for line in lines.split('\n') {
+        expect_name(rt, alloc, names, line)?;
+    }
+    Ok(())
+}
+
+// The fault is told by this word.
+fn expect_fault(
+    rt: &impl Abort,
+    alloc: Global,
+    fault: Option<Fault>,
+    word: &str,
+) -> Result<(), Fail> {
+    let told = fault_word(alloc, fault)?;
+    assert_eq!(rt; told.as_str(), word);
+    Ok(())
+}
+
+// Of names that are declared twice this is the first fault, and these are the names.
+fn expect_tabled(
+    rt: &impl Abort,
+    alloc: Global,
+    tabled: &Tabled,
+    (fault, lines): (&str, &str),
+) -> Result<(), Fail> {
+    expect_fault(rt, alloc, tabled.first, fault)?;
+    expect_names(rt, alloc, &tabled.names, lines)
+}
+
+// The text has this first fault of names that are declared twice, and these names.
+fn expect_declared(
+    rt: &impl Abort,
+    alloc: Global,
+    text: &str,
+    told: (&str, &str),
+) -> Result<(), Fail> {
+    let tabled = tabled(alloc, text)?;
+    let expected = expect_tabled(rt, alloc, &tabled, told);
+    drop(tabled);
+    expected
+}
+
+#[test]
+fn names_go_to_their_first_declarations(rt: HostRuntime) -> Result<(), Fail> {
+    for entry in declaring().split("\n=\n") {
+        let (text, rest) = entry.split_once('\n').ok_or("no fault")?;
+        let told = rest.split_once('\n').ok_or("no names")?;
+        expect_declared(&rt, rt.alloc(), text, told)?;
+    }
+    Ok(())
+}
+
+// The first fault of the names of a text.
+fn first_fault(alloc: Global, text: &str) -> Result<Option<Fault>, Fail> {
+    if text.len() > MOST_TEXT {
+        return Err(Fail::from("long"));
+    }
+    let file = file_of(alloc, text)?;
+    Ok(named(alloc, text.as_bytes(), &file)?.err())
+}
+
+// A stage, a context and a trace with which nothing is wrong.
+fn behind() -> &'static str {
+    " stage s = {} context c = {} #trace _ s c."
+}
+
+// This is told of the names of a text with a front like this.
+fn expect_told(rt: &impl Abort, alloc: Global, front: &str, word: &str) -> Result<(), Fail> {
+    let text = format!(in alloc; "{front}{}", behind())?;
+    expect_fault(rt, alloc, first_fault(alloc, text.as_str())?, word)
+}
+
+#[test]
+fn the_first_fault_of_the_names_is_told(rt: HostRuntime) -> Result<(), Fail> {
+    for entry in misnamed().split("\n=\n") {
+        let (word, front) = entry.split_once('\n').ok_or("no text")?;
+        expect_told(&rt, rt.alloc(), front, word)?;
+    }
+    Ok(())
+}
+
+#[test]
+fn a_text_without_a_trace_is_told_at_its_end(rt: HostRuntime) -> Result<(), Fail> {
+    let fault = first_fault(rt.alloc(), "p : pred. ")?;
+    expect_fault(&rt, rt.alloc(), fault, "NoTrace 10")
+}

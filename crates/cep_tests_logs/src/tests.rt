@@ -1,0 +1,5 @@
+mod changes;
+mod heights;
+mod stages;
+mod told;
+mod walks;

@@ -1,0 +1,24 @@
+//! Worked programs and dialogues, for the crates of tests. A sample is the text of a program, a line
+//! `-`, and what `play` writes of it.
+#![tactic(auto)]
+
+mod numbers;
+mod plain;
+mod walks;
+
+pub use numbers::{division, sum, sums, ungrounded};
+pub use plain::{stages, two_proofs};
+use std::alloc::{AllocError, Global};
+pub use walks::{meetings, walk};
+
+/// The header of a run in a stage `main`.
+fn header() -> &'static str {
+    "ceptre 1\nheight 128\nstage main\n"
+}
+
+/// A text in full: in a table a line `@sums` stands for the declarations of numbers and their sums,
+/// and a line `@main` for the header of a run in a stage `main`.
+pub fn spelled(alloc: Global, text: &str) -> Result<String, AllocError> {
+    let text = text.replace(alloc, "@sums\n", sums())?;
+    text.replace(alloc, "@main\n", header())
+}

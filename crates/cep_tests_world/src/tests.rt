@@ -1,0 +1,11 @@
+mod backward;
+mod changes;
+mod checked;
+mod checks;
+mod dialogues;
+mod growing;
+mod limits;
+mod outside;
+mod stages;
+mod walks;
+mod worlds;
