@@ -15,22 +15,17 @@ use Rattle.cep_check.specs.declared.cause.Cause.TheVariants.{StartStage, StartSt
 use Rattle.cep_check.specs.declared.cause.Verdict.{Verdict}
 use Rattle.cep_check.specs.declared.cause.Verdict.TheVariants.{Accepted, Refused}
 
--- ` said S is T`: the stage that is said, and the one that it is
-unfoldable pub stages_text : Parts → ℕ → ℕ → List ℕ
-stages_text program said is =
-    codes " said " ++ stage_name (slice_get program.stages said) ++ codes " is " ++ stage_name (slice_get program.stages is)
+-- the cause's words, the stage that is said, and the one that it is
+unfoldable pub stages_text : Parts → List ℕ → ℕ → ℕ → List ℕ
+stages_text program words said is = words ++ stage_name (slice_get program.stages said) ++ codes " is " ++ stage_name (slice_get program.stages is)
 
 -- `N ATOM`: a number of copies of the atom
 unfoldable pub copies_text : Signature → ℕ → AtomTree → List ℕ
 copies_text signature count a = decimal count ++ codes " " ++ atom_text signature a
 
--- ` said N is M ATOM`: how many copies of the atom are said, and how many there are
-unfoldable pub difference_text : Signature → ℕ → ℕ → AtomTree → List ℕ
-difference_text signature said is a = codes " said " ++ decimal said ++ codes " is " ++ copies_text signature is a
-
--- ` have N need M ATOM`: how many copies of the atom there are, and how many are needed
-unfoldable pub lack_text : Signature → ℕ → ℕ → AtomTree → List ℕ
-lack_text signature have need a = codes " have " ++ decimal have ++ codes " need " ++ copies_text signature need a
+-- the cause's words with a number of copies, and further words with another and the atom that has so many
+unfoldable pub counts_text : Signature → List ℕ → ℕ → List ℕ → ℕ → AtomTree → List ℕ
+counts_text signature words one between other a = words ++ decimal one ++ between ++ copies_text signature other a
 
 -- the limit that a step passes
 abbrev pub limit_text : CheckLimit → List ℕ
@@ -39,17 +34,17 @@ limit_text State = codes "OverLimit state"
 
 -- The text of a cause: its name, and what there is to say of it, with stages and rules by their names, and atoms and offers by their texts.
 abbrev pub cause_text : Parts → Cause → List ℕ
-cause_text program (StartStage said is) = codes "StartStage" ++ stages_text program said is
-cause_text program (StartState atom said is) = codes "StartState" ++ difference_text program.signature said is (atom_of atom)
+cause_text program (StartStage said is) = stages_text program (codes "StartStage said ") said is
+cause_text program (StartState atom said is) = counts_text program.signature (codes "StartState said ") said (codes " is ") is (atom_of atom)
 cause_text program (OtherStage rule) = codes "OtherStage " ++ offer_name (slice_get program.rules rule)
-cause_text program (NotContained atom have need) = codes "NotContained" ++ lack_text program.signature have need (atom_of atom)
+cause_text program (NotContained atom have need) = counts_text program.signature (codes "NotContained have ") have (codes " need ") need (atom_of atom)
 cause_text program (NotProved premise) = codes "NotProved " ++ decimal premise
 cause_text program (TooHigh premise height) = codes "TooHigh " ++ decimal premise ++ codes " " ++ decimal height
 cause_text program (NotQuiet offer) = codes "NotQuiet " ++ offer_text program offer
 cause_text program (OverLimit which) = limit_text which
-cause_text program (StageLine said is) = codes "StageLine" ++ stages_text program said is
+cause_text program (StageLine said is) = stages_text program (codes "StageLine said ") said is
 cause_text program NotEnded = codes "NotEnded"
-cause_text program (EndState atom said is) = codes "EndState" ++ difference_text program.signature said is (atom_of atom)
+cause_text program (EndState atom said is) = counts_text program.signature (codes "EndState said ") said (codes " is ") is (atom_of atom)
 
 -- `refused LINE TEXT`
 unfoldable pub refused_text : ℕ → List ℕ → List ℕ

@@ -5,7 +5,7 @@ ghost use Rattle.cep_rule.specs.Shapes.{IsOfferOf};
 ghost use Rattle.cep_text.specs.Texts.{offer_name, offer_text, IsTypedGround};
 ghost use Rattle.cep_text.specs.Writing.{IsBegun};
 ghost use Rattle.cep_log.specs.Lines.{line, stage_name};
-ghost use Rattle.cep_check.specs.Telling.{stages_text, copies_text, difference_text, lack_text, limit_text, cause_text, refused_text, verdict_text, fault_text, IsTellableCause, IsTellable};
+ghost use Rattle.cep_check.specs.Telling.{stages_text, copies_text, counts_text, limit_text, cause_text, refused_text, verdict_text, fault_text, IsTellableCause, IsTellable};
 
 use crate::cause::{Cause, CheckLimit, Verdict};
 use cep_base::Text;
@@ -86,53 +86,53 @@ fn put_cause(program: &Program, cause: &Cause, out: &mut Text) -> Result<(), All
     ensures err { OnErr result (IsBegun out.old (cause_text program.now cause.now) out.new) }
 {
     match cause {
-        Cause::StartStage { said, is } => { put_stages(program, b"StartStage", *said, *is, out) }
+        Cause::StartStage { said, is } => {
+            put_stages(program, b"StartStage said ", *said, *is, out)
+        }
         Cause::StartState { atom, said, is } => {
-            put_difference(program, b"StartState", atom, *said, *is, out)
+            put_counts(program, b"StartState said ", *said, b" is ", *is, atom, out)
         }
         Cause::OtherStage { rule } => put_other_stage(program, b"OtherStage ", *rule, out),
         Cause::NotContained { atom, have, need } => {
-            put_lack(program, b"NotContained", atom, *have, *need, out)
+            put_counts(
+                program,
+                b"NotContained have ",
+                *have,
+                b" need ",
+                *need,
+                atom,
+                out,
+            )
         }
         Cause::NotProved { premise } => put_not_proved(*premise, out),
         Cause::TooHigh { premise, height } => put_too_high(*premise, *height, out),
         Cause::NotQuiet { offer } => put_not_quiet(program, offer, out),
         Cause::OverLimit { which } => out.append(limit_text(*which)),
-        Cause::StageLine { said, is } => put_stages(program, b"StageLine", *said, *is, out),
+        Cause::StageLine { said, is } => {
+            put_stages(program, b"StageLine said ", *said, *is, out)
+        }
         Cause::NotEnded => out.append(b"NotEnded"),
         Cause::EndState { atom, said, is } => {
-            put_difference(program, b"EndState", atom, *said, *is, out)
+            put_counts(program, b"EndState said ", *said, b" is ", *is, atom, out)
         }
     }
 }
 
-// The two stages behind the cause's name.
-#[tactic(auto, using(std::proofs::Common::append_assoc))]
+// The stage that is said and the one that it is, behind the cause's words.
+#[tactic(auto, using(std::proofs::Common::append_assoc), unfolding(crate::specs::Telling::stages_text))]
 fn put_stages(
     program: &Program,
-    name: &[u8],
+    words: &[u8],
     said: u32,
     is: u32,
     out: &mut Text,
 ) -> Result<(), AllocError>
     requires said { said < length program.now.stages }
     requires is { is < length program.now.stages }
-    ensures ok { OnOk result (out.new ≡ out.old ++ (name.now ++ stages_text program.now said is)) }
-    ensures err { OnErr result (IsBegun out.old (name.now ++ stages_text program.now said is) out.new) }
+    ensures ok { OnOk result (out.new ≡ out.old ++ stages_text program.now words.now said is) }
+    ensures err { OnErr result (IsBegun out.old (stages_text program.now words.now said is) out.new) }
 {
-    out.append(name)?;
-    put_both_stages(program, said, is, out)
-}
-
-// The stage that is said and the one that it is.
-#[tactic(auto, using(std::proofs::Common::append_assoc), unfolding(crate::specs::Telling::stages_text))]
-fn put_both_stages(program: &Program, said: u32, is: u32, out: &mut Text) -> Result<(), AllocError>
-    requires said { said < length program.now.stages }
-    requires is { is < length program.now.stages }
-    ensures ok { OnOk result (out.new ≡ out.old ++ stages_text program.now said is) }
-    ensures err { OnErr result (IsBegun out.old (stages_text program.now said is) out.new) }
-{
-    out.append(b" said ")?;
+    out.append(words)?;
     put_stage_name(program, said, out)?;
     out.append(b" is ")?;
     put_stage_name(program, is, out)
@@ -158,43 +158,6 @@ fn put_rule_name(program: &Program, rule: u32, out: &mut Text) -> Result<(), All
     out.append(rules.get(rule as usize).name.bytes())
 }
 
-// The atom whose copies differ, behind the cause's name.
-#[tactic(auto, using(std::proofs::Common::append_assoc))]
-fn put_difference(
-    program: &Program,
-    name: &[u8],
-    atom: &Atom,
-    said: u32,
-    is: u32,
-    out: &mut Text,
-) -> Result<(), AllocError>
-    requires { IsTypedGround program.now.signature (atom_of atom.now) }
-    ensures ok { OnOk result (out.new ≡ out.old ++ (name.now ++ difference_text program.now.signature said is (atom_of atom.now))) }
-    ensures err { OnErr result (IsBegun out.old (name.now ++ difference_text program.now.signature said is (atom_of atom.now)) out.new) }
-{
-    out.append(name)?;
-    put_said_and_is(program, atom, said, is, out)
-}
-
-// How many copies of the atom are said, and how many there are.
-#[tactic(auto, using(std::proofs::Common::append_assoc), unfolding(crate::specs::Telling::difference_text))]
-fn put_said_and_is(
-    program: &Program,
-    atom: &Atom,
-    said: u32,
-    is: u32,
-    out: &mut Text,
-) -> Result<(), AllocError>
-    requires { IsTypedGround program.now.signature (atom_of atom.now) }
-    ensures ok { OnOk result (out.new ≡ out.old ++ difference_text program.now.signature said is (atom_of atom.now)) }
-    ensures err { OnErr result (IsBegun out.old (difference_text program.now.signature said is (atom_of atom.now)) out.new) }
-{
-    out.append(b" said ")?;
-    out.number(u64::from(said))?;
-    out.append(b" is ")?;
-    put_copies(program, is, atom, out)
-}
-
 // A number of copies of the atom.
 #[tactic(auto, using(std::proofs::Common::append_assoc), unfolding(crate::specs::Telling::copies_text))]
 fn put_copies(program: &Program, count: u32, atom: &Atom, out: &mut Text) -> Result<(), AllocError>
@@ -207,41 +170,25 @@ fn put_copies(program: &Program, count: u32, atom: &Atom, out: &mut Text) -> Res
     put_atom(program, atom, out)
 }
 
-// The atom that lacks, behind the cause's name.
-#[tactic(auto, using(std::proofs::Common::append_assoc))]
-fn put_lack(
+// Two numbers of copies behind the cause's words, and the atom that has so many.
+#[tactic(auto, using(std::proofs::Common::append_assoc), unfolding(crate::specs::Telling::counts_text))]
+fn put_counts(
     program: &Program,
-    name: &[u8],
+    words: &[u8],
+    one: u32,
+    between: &[u8],
+    other: u32,
     atom: &Atom,
-    have: u32,
-    need: u32,
     out: &mut Text,
 ) -> Result<(), AllocError>
     requires { IsTypedGround program.now.signature (atom_of atom.now) }
-    ensures ok { OnOk result (out.new ≡ out.old ++ (name.now ++ lack_text program.now.signature have need (atom_of atom.now))) }
-    ensures err { OnErr result (IsBegun out.old (name.now ++ lack_text program.now.signature have need (atom_of atom.now)) out.new) }
+    ensures ok { OnOk result (out.new ≡ out.old ++ counts_text program.now.signature words.now one between.now other (atom_of atom.now)) }
+    ensures err { OnErr result (IsBegun out.old (counts_text program.now.signature words.now one between.now other (atom_of atom.now)) out.new) }
 {
-    out.append(name)?;
-    put_have_and_need(program, atom, have, need, out)
-}
-
-// How many copies of the atom there are, and how many are needed.
-#[tactic(auto, using(std::proofs::Common::append_assoc), unfolding(crate::specs::Telling::lack_text))]
-fn put_have_and_need(
-    program: &Program,
-    atom: &Atom,
-    have: u32,
-    need: u32,
-    out: &mut Text,
-) -> Result<(), AllocError>
-    requires { IsTypedGround program.now.signature (atom_of atom.now) }
-    ensures ok { OnOk result (out.new ≡ out.old ++ lack_text program.now.signature have need (atom_of atom.now)) }
-    ensures err { OnErr result (IsBegun out.old (lack_text program.now.signature have need (atom_of atom.now)) out.new) }
-{
-    out.append(b" have ")?;
-    out.number(u64::from(have))?;
-    out.append(b" need ")?;
-    put_copies(program, need, atom, out)
+    out.append(words)?;
+    out.number(u64::from(one))?;
+    out.append(between)?;
+    put_copies(program, other, atom, out)
 }
 
 // The rule that is of another stage, behind the cause's name.

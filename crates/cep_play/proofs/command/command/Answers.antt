@@ -1,7 +1,9 @@
 use Rattle.std.proofs.Common.{◌≡◌, map, refl, sym, subst}
 use Rattle.std.specs.Prelude.{string_bytes, Ok, Err}
 use Rattle.cep_base.specs.Faults.{Rose}
-use Rattle.cep_words.specs.Sessions.{IsAskedBy}
+use Rattle.cep_words.specs.declared.request.Request as code
+use Rattle.cep_words.specs.Words.{AskFor}
+use Rattle.cep_words.specs.Requests.{request_of}
 use Rattle.cep_play.specs.declared.play.Played.{Played}
 use Rattle.cep_play.specs.Outcome.{PlaysFile, ChecksFile, AsksFile, AsksFiles, CommandDid}
 use Rattle.cep_play.proofs.Done.{play_done, check_done, tour_done, usage_done, adds_none, played_in_vain, checked_in_vain, toured_in_vain}
@@ -19,20 +21,20 @@ returns-in-Ok-clause-done g c =
     let before = g.H.Shelf.asked c.args.shelf.now in
     let after = g.H.Shelf.asked c.play_file.new.shelf in
     let words = map string_bytes c.args.words.now in
-    let session = c.in-Some-Play.session in
+    let in_arm = c.in-Some-Play in
     let what = c.in-Ok.played in
     subst (CommandDid talk left old new files was is before after words) (sym c.code.ensures)
-    (play_done talk left old new files was is before after words c.one_request.ensures (string_bytes session.file.now) session.options what (subst (IsAskedBy words) c.in-Some-Play.field-0-is c.in-Some-Play.ensures)
-    (subst (λ name. PlaysFile talk left old new files name session.options what) c.as_str-file.ensures.value c.in-Ok.ensures.outcome)
+    (play_done talk left old new files was is before after words c.one_request.ensures (string_bytes in_arm.file.now) in_arm.options what (subst (λ (request : code.Request). AskFor words (request_of request)) c.in-Some-Play.field-0-is c.in-Some-Play.ensures)
+    (subst (λ name. PlaysFile talk left old new files name in_arm.options what) c.as_str-file.ensures.value c.in-Ok.ensures.outcome)
     (subst (λ name. AsksFile before name after (Ok what)) c.as_str-file.ensures.value c.in-Ok.ensures.asked) c.in-Ok.ensures.faults)
 
 pub returns-in-Err-clause-asked : goal.returns-in-Err-clause-asked
 returns-in-Err-clause-asked g c =
     let asked = g.H.Shelf.asked in
     let words = map string_bytes c.args.words.now in
-    let session = c.in-Some-Play.session in
-    played_in_vain (g.H.Shelf.files c.args.shelf.now) (Rose (g.H.Shelf.faults c.args.shelf.now) (g.H.Shelf.faults c.play_file.new.shelf)) (asked c.args.shelf.now) words (string_bytes session.file.now) session.options (asked c.play_file.new.shelf) c.in-Err.fault
-    (subst (IsAskedBy words) c.in-Some-Play.field-0-is c.in-Some-Play.ensures)
+    let in_arm = c.in-Some-Play in
+    played_in_vain (g.H.Shelf.files c.args.shelf.now) (Rose (g.H.Shelf.faults c.args.shelf.now) (g.H.Shelf.faults c.play_file.new.shelf)) (asked c.args.shelf.now) words (string_bytes in_arm.file.now) in_arm.options (asked c.play_file.new.shelf) c.in-Err.fault
+    (subst (λ (request : code.Request). AskFor words (request_of request)) c.in-Some-Play.field-0-is c.in-Some-Play.ensures)
     (subst (λ name. AsksFile {T = Played} (asked c.args.shelf.now) name (asked c.play_file.new.shelf) (Err c.in-Err.fault)) c.as_str-file.ensures.value c.in-Err.ensures.asked)
 
 pub returns-in-Ok-check_file-clause-done : goal.returns-in-Ok-check_file-clause-done
@@ -47,13 +49,13 @@ returns-in-Ok-check_file-clause-done g c =
     let before = g.H.Shelf.asked c.args.shelf.now in
     let after = g.H.Shelf.asked c.check_file.new.shelf in
     let words = map string_bytes c.args.words.now in
-    let audit = c.in-Some-Check.audit in
+    let in_arm = c.in-Some-Check in
     let what = c.in-Ok-check_file.checked in
     subst (CommandDid talk left old new files was is before after words) (sym c.code-in-Ok-check_file.ensures)
-    (check_done talk left old new files was is before after words c.one_request.ensures (string_bytes audit.file.now) (string_bytes audit.log.now) what (subst (IsAskedBy words) c.in-Some-Check.field-0-is c.in-Some-Check.ensures)
-    (subst (λ name. ChecksFile talk left old new files name (string_bytes audit.log.now) what) c.as_str-file-in-Some-Check.ensures.value
+    (check_done talk left old new files was is before after words c.one_request.ensures (string_bytes in_arm.file.now) (string_bytes in_arm.log.now) what (subst (λ (request : code.Request). AskFor words (request_of request)) c.in-Some-Check.field-0-is c.in-Some-Check.ensures)
+    (subst (λ name. ChecksFile talk left old new files name (string_bytes in_arm.log.now) what) c.as_str-file-in-Some-Check.ensures.value
     (subst (λ log. ChecksFile talk left old new files c.as_str-file-in-Some-Check.result.now log what) c.as_str-log.ensures.value c.in-Ok-check_file.ensures.outcome))
-    (subst (λ name. AsksFiles files (Rose was is) before name (string_bytes audit.log.now) after (Ok what)) c.as_str-file-in-Some-Check.ensures.value
+    (subst (λ name. AsksFiles files (Rose was is) before name (string_bytes in_arm.log.now) after (Ok what)) c.as_str-file-in-Some-Check.ensures.value
     (subst (λ log. AsksFiles files (Rose was is) before c.as_str-file-in-Some-Check.result.now log after (Ok what)) c.as_str-log.ensures.value c.in-Ok-check_file.ensures.asked)) c.in-Ok-check_file.ensures.faults)
 
 pub returns-in-Err-check_file-clause-asked : goal.returns-in-Err-check_file-clause-asked
@@ -62,10 +64,10 @@ returns-in-Err-check_file-clause-asked g c =
     let files = g.H.Shelf.files c.args.shelf.now in
     let unread = Rose (g.H.Shelf.faults c.args.shelf.now) (g.H.Shelf.faults c.check_file.new.shelf) in
     let words = map string_bytes c.args.words.now in
-    let audit = c.in-Some-Check.audit in
+    let in_arm = c.in-Some-Check in
     let fault = c.in-Err-check_file.fault in
-    checked_in_vain files unread (asked c.args.shelf.now) words (string_bytes audit.file.now) (string_bytes audit.log.now) (asked c.check_file.new.shelf) fault (subst (IsAskedBy words) c.in-Some-Check.field-0-is c.in-Some-Check.ensures)
-    (subst (λ name. AsksFiles files unread (asked c.args.shelf.now) name (string_bytes audit.log.now) (asked c.check_file.new.shelf) (Err fault)) c.as_str-file-in-Some-Check.ensures.value
+    checked_in_vain files unread (asked c.args.shelf.now) words (string_bytes in_arm.file.now) (string_bytes in_arm.log.now) (asked c.check_file.new.shelf) fault (subst (λ (request : code.Request). AskFor words (request_of request)) c.in-Some-Check.field-0-is c.in-Some-Check.ensures)
+    (subst (λ name. AsksFiles files unread (asked c.args.shelf.now) name (string_bytes in_arm.log.now) (asked c.check_file.new.shelf) (Err fault)) c.as_str-file-in-Some-Check.ensures.value
     (subst (λ log. AsksFiles files unread (asked c.args.shelf.now) c.as_str-file-in-Some-Check.result.now log (asked c.check_file.new.shelf) (Err fault)) c.as_str-log.ensures.value c.in-Err-check_file.ensures.asked))
 
 pub returns-in-Ok-run_world-clause-done : goal.returns-in-Ok-run_world-clause-done
@@ -78,16 +80,16 @@ returns-in-Ok-run_world-clause-done g c =
     let faults = g.H.Shelf.faults c.args.shelf.now in
     let asked = g.H.Shelf.asked c.args.shelf.now in
     let words = map string_bytes c.args.words.now in
-    let tour = c.in-Some-World.tour in
+    let in_arm = c.in-Some-World in
     subst (CommandDid talk left old new files faults faults asked asked words) (sym c.code-in-Ok-run_world.ensures)
-    (tour_done talk left old new files faults faults asked asked words c.one_request.ensures tour.rooms tour.options c.in-Ok-run_world.toured (subst (IsAskedBy words) c.in-Some-World.field-0-is c.in-Some-World.ensures) c.in-Ok-run_world.ensures.outcome (adds_none asked) refl)
+    (tour_done talk left old new files faults faults asked asked words c.one_request.ensures in_arm.rooms in_arm.options c.in-Ok-run_world.toured (subst (λ (request : code.Request). AskFor words (request_of request)) c.in-Some-World.field-0-is c.in-Some-World.ensures) c.in-Ok-run_world.ensures.outcome (adds_none asked) refl)
 
 pub returns-in-Err-run_world-clause-asked : goal.returns-in-Err-run_world-clause-asked
 returns-in-Err-run_world-clause-asked g c =
-    let tour = c.in-Some-World.tour in
+    let in_arm = c.in-Some-World in
     let faults = g.H.Shelf.faults c.args.shelf.now in
     let words = map string_bytes c.args.words.now in
-    toured_in_vain (g.H.Shelf.files c.args.shelf.now) (Rose faults faults) (g.H.Shelf.asked c.args.shelf.now) words tour.rooms tour.options c.in-Err-run_world.fault (subst (IsAskedBy words) c.in-Some-World.field-0-is c.in-Some-World.ensures)
+    toured_in_vain (g.H.Shelf.files c.args.shelf.now) (Rose faults faults) (g.H.Shelf.asked c.args.shelf.now) words in_arm.rooms in_arm.options c.in-Err-run_world.fault (subst (λ (request : code.Request). AskFor words (request_of request)) c.in-Some-World.field-0-is c.in-Some-World.ensures)
 
 pub returns-in_ok-put-in-None-clause-done : goal.returns-in_ok-put-in-None-clause-done
 returns-in_ok-put-in-None-clause-done g c =
@@ -97,8 +99,8 @@ returns-in_ok-put-in-None-clause-done g c =
 
 pub run_world-requires-clause-rooms : goal.run_world-requires-clause-rooms
 run_world-requires-clause-rooms g c =
-    (subst (IsAskedBy (map string_bytes c.args.words.now)) c.in-Some-World.field-0-is c.in-Some-World.ensures).0
+    (subst (λ (request : code.Request). AskFor (map string_bytes c.args.words.now) (request_of request)) c.in-Some-World.field-0-is c.in-Some-World.ensures).0
 
 pub run_world-requires-clause-within : goal.run_world-requires-clause-within
 run_world-requires-clause-within g c =
-    (subst (IsAskedBy (map string_bytes c.args.words.now)) c.in-Some-World.field-0-is c.in-Some-World.ensures).1.2.0
+    (subst (λ (request : code.Request). AskFor (map string_bytes c.args.words.now) (request_of request)) c.in-Some-World.field-0-is c.in-Some-World.ensures).1.2.0
