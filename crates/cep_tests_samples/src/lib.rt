@@ -2,13 +2,16 @@
 //! `-`, and what `play` writes of it.
 #![tactic(auto)]
 
+mod changes;
 mod numbers;
 mod plain;
 mod walks;
 
+pub use changes::changed;
 pub use numbers::{division, sum, sums, ungrounded};
 pub use plain::{stages, two_proofs};
 use std::alloc::{AllocError, Global};
+use walks::three;
 pub use walks::{meetings, walk};
 
 /// The header of a run in a stage `main`.
@@ -17,8 +20,10 @@ fn header() -> &'static str {
 }
 
 /// A text in full: in a table a line `@sums` stands for the declarations of numbers and their sums,
-/// and a line `@main` for the header of a run in a stage `main`.
+/// a line `@main` for the header of a run in a stage `main`, and a line `@three` for the offers of
+/// three walkers in one place.
 pub fn spelled(alloc: Global, text: &str) -> Result<String, AllocError> {
     let text = text.replace(alloc, "@sums\n", sums())?;
+    let text = text.replace(alloc, "@three\n", three())?;
     text.replace(alloc, "@main\n", header())
 }

@@ -1,3 +1,19 @@
+/// The offers where all three walkers stand in the park.
+pub(crate) fn three() -> &'static str {
+    "\
+? 1 travel C=alice L=park L'=tower
+? 2 travel C=bob L=park L'=tower
+? 3 travel C=carol L=park L'=tower
+? 4 meet/two C=alice L=park D=bob
+? 5 meet/two C=alice L=park D=carol
+? 6 meet/two C=bob L=park D=alice
+? 7 meet/two C=bob L=park D=carol
+? 8 meet/two C=carol L=park D=alice
+? 9 meet/two C=carol L=park D=bob
+? choose
+"
+}
+
 /// Three walkers, of whom two stand in one place, and the ways between two places.
 pub fn walk() -> &'static str {
     "\
@@ -33,27 +49,9 @@ have 1 at carol tower
 ? choose
 step travel C=carol L=tower L'=park
 by [2]
-? 1 travel C=alice L=park L'=tower
-? 2 travel C=bob L=park L'=tower
-? 3 travel C=carol L=park L'=tower
-? 4 meet/two C=alice L=park D=bob
-? 5 meet/two C=alice L=park D=carol
-? 6 meet/two C=bob L=park D=alice
-? 7 meet/two C=bob L=park D=carol
-? 8 meet/two C=carol L=park D=alice
-? 9 meet/two C=carol L=park D=bob
-? choose
+@three
 step meet/two C=alice L=park D=carol
-? 1 travel C=alice L=park L'=tower
-? 2 travel C=bob L=park L'=tower
-? 3 travel C=carol L=park L'=tower
-? 4 meet/two C=alice L=park D=bob
-? 5 meet/two C=alice L=park D=carol
-? 6 meet/two C=bob L=park D=alice
-? 7 meet/two C=bob L=park D=carol
-? 8 meet/two C=carol L=park D=alice
-? 9 meet/two C=carol L=park D=bob
-? choose
+@three
 end input
 have 1 at alice park
 have 1 at bob park
@@ -75,8 +73,7 @@ stage walk = {
   meet/two : $at C L * $at D L -o met C D.
 }
 #interactive walk.
-context init = { at alice park, at bob park, at carol tower }.
-#trace _ walk init.
+context init = { at alice park, at bob park, at carol tower }. #trace _ walk init.
 -
 ceptre 1
 height 128

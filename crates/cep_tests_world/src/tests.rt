@@ -1,5 +1,4 @@
 mod backward;
-mod changes;
 mod checked;
 mod checks;
 mod dialogues;

@@ -2,7 +2,7 @@
 use crate::tests::changes::{expect_changes, expect_whole, open, parts, program_of};
 use crate::tests::told::is_accepted;
 use cep_rule::Program;
-use cep_tests_samples::walk;
+use cep_tests_samples::{spelled, walk};
 use std::alloc::Global;
 use std::process::Abort;
 use std::test::Fail;
@@ -207,7 +207,8 @@ fn accepts_a_front(alloc: Global, program: &Program, bytes: &[u8]) -> Result<boo
 
 #[test]
 fn no_cut_but_of_the_last_line_feed_is_accepted(rt: HostRuntime) -> Result<(), Fail> {
-    let (text, transcript) = parts(walk())?;
+    let played = spelled(rt.alloc(), walk())?;
+    let (text, transcript) = parts(played.as_str())?;
     let program = program_of(rt.alloc(), text)?;
     assert!(rt; !accepts_a_front(rt.alloc(), &program, open(transcript)?.as_bytes())?);
     Ok(())

@@ -1,11 +1,10 @@
 // Whole dialogues: that a call can succeed, and the very bytes of what it writes, from examples that
 // were worked out by hand.
-use crate::tests::changes::changed;
 use crate::tests::checked::expect_checked;
 use crate::tests::outside::{Outcome, expect, play, run_line, run_text, shelf_of, status, written};
 use cep_base::limits::{MOST_TEXT, MOST_TYPED};
 use cep_base::{MemConsole, MemShelf};
-use cep_tests_samples::{meetings, spelled, walk};
+use cep_tests_samples::{changed, meetings, spelled, walk};
 use std::alloc::{AllocError, Global};
 use std::process::Abort;
 use std::test::Fail;
@@ -226,7 +225,7 @@ fn each_variable_gets_its_value(rt: HostRuntime) -> Result<(), Fail> {
 // The text with a line changed, or none, is refused so.
 fn expect_refused(rt: &impl Abort, alloc: Global, entry: &str) -> Result<(), Fail> {
     let (change, said) = entry.split_once('\n').ok_or("nothing said")?;
-    let text = changed(alloc, clashing(), change)?;
+    let text = changed(alloc, clashing(), change)?.ok_or("no change")?;
     expect_run(rt, alloc, "play f", (text.as_str(), ""), (3, said))
 }
 

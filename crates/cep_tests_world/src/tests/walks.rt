@@ -1,8 +1,7 @@
 // Transcripts of worked dialogues in which a line is changed, left out, or all behind it are cut, and the
 // lines that the command tells of them.
-use crate::tests::changes::changed;
 use crate::tests::checked::expect_checked;
-use cep_tests_samples::{spelled, stages, sum, walk};
+use cep_tests_samples::{changed, spelled, stages, sum, walk};
 use std::alloc::{AllocError, Global};
 use std::process::Abort;
 use std::test::Fail;
@@ -24,7 +23,7 @@ fn expect_change(
     entry: &str,
 ) -> Result<(), Fail> {
     let (change, said) = entry.split_once('\n').ok_or("nothing said")?;
-    let changed = changed(alloc, log, change)?;
+    let changed = changed(alloc, log, change)?.ok_or("no change")?;
     expect_checked(rt, alloc, (text, changed.as_str()), with_status(said))
 }
 
