@@ -47,7 +47,7 @@ fn judge<L: Ledger>(
     log: &Log,
     steps: &mut Steps<L>,
 ) -> Result<Verdict, AllocError>
-    requires { IsLogOf program.now log.now }
+    requires of_program { IsLogOf program.now log.now }
     ensures verdict { IfOk result (IsVerdict program.now log.now) }
     ensures never_falls { steps.old ≤ steps.new }
 {

@@ -18,6 +18,7 @@ use Rattle.cep_rule.specs.Offers.{Applies}
 use Rattle.cep_rule.specs.Shapes.{IsSmallTerm}
 use Rattle.cep_rule.specs.Matching.{offers_of, AreListed}
 use Rattle.cep_step.specs.declared.change.Change.{Change}
+use Rattle.cep_step.specs.declared.weighing.Weighed.{Weighed}
 use Rattle.cep_step.specs.declared.weighing.Weighed.TheVariants.{Within}
 use Rattle.cep_step.specs.Changes.{CanStep, IsWeighed}
 use Rattle.cep_machine.specs.Changing.{CanChange}
@@ -102,3 +103,9 @@ can_change program stage state rule values change kept within weighed = record {
   values = values;
   is = weighed.1;
 }
+
+-- what weighing comes to, said of the program and of the configuration's state
+pub weighed_as : (program parts : Parts) (rule : Rule) (values : List Tree) (inside state : Multiset) (found arm : Weighed) → parts ≡ program → inside ≡ state → found ≡ arm → IsWeighed parts.signature rule values inside found → IsWeighed program.signature rule values state arm
+weighed_as program parts rule values inside state found arm is same told weighed =
+    subst (λ (w : Weighed). IsWeighed program.signature rule values state w) told
+    (subst (λ (at : Multiset). IsWeighed program.signature rule values at found) same (subst (λ (p : Parts). IsWeighed p.signature rule values inside found) is weighed))

@@ -16,3 +16,4 @@ pub mod OffersThere
 pub mod FirstOffers
 pub mod Sides
 pub mod Edited
+pub mod Owed

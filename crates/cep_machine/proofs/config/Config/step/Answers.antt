@@ -2,17 +2,15 @@ use Rattle.std.proofs.Common.{◌≡◌, ◌<◌, List, length, Some, refl, sym,
 use Rattle.std.specs.Prelude.{slice_get}
 use Rattle.std.proofs.lemmas.Option.{slice_get_within}
 use Rattle.cep_term.specs.Tree.{Tree}
-use Rattle.cep_term.specs.Multiset.{Multiset}
 use Rattle.cep_rule.specs.declared.rule.Rule.{Rule}
 use Rattle.cep_rule.specs.declared.parts.Parts.{Parts}
 use Rattle.cep_rule.specs.Matching.{offers_of}
-use Rattle.cep_step.specs.declared.weighing.Weighed.{Weighed}
-use Rattle.cep_step.specs.Changes.{CanStep, IsWeighed}
+use Rattle.cep_step.specs.Changes.{CanStep}
 use Rattle.cep_machine.specs.declared.stepped.Which.TheVariants.{Atom, State}
 use Rattle.cep_machine.specs.Configuration.{Configuration, IsConfigurationOf}
 use Rattle.cep_machine.specs.Asking.{asked_offers}
 use Rattle.cep_machine.specs.Stepping.{Passes}
-use Rattle.cep_machine.proofs.Ready.{offer_applies, ready_offer, can_change, stage_in_range, chosen_once, of_asked}
+use Rattle.cep_machine.proofs.Ready.{offer_applies, ready_offer, can_change, stage_in_range, chosen_once, of_asked, weighed_as}
 use Rattle.cep_machine.proofs.config.Config.step.Goals as goal
 
 pub get-rule-requires : goal.get-rule-requires
@@ -32,9 +30,7 @@ changed-requires-clause-can g c =
     let own = subst (IsConfigurationOf g.M.Matcher.is_of c.args.program.now) (sym c.self.view_is) c.requires.of_program in
     let is = ready_offer c.values_are_small.ensures.offers c.args.program.now c.parts-parts.result.now (g.M.Matcher.height_held c.self.inside.matcher) (g.M.Matcher.state_held c.self.inside.matcher) c.self.inside.state (g.M.Matcher.offers_held c.self.inside.matcher) c.unwrap-group.result c.args.i c.offer-offer.result.now c.get-rule.result.now own.is_state own.fits c.parts-parts.ensures.kept c.parts-parts.ensures.parts (g.met.M.Matcher.exact c.args.program.now c.self.inside.matcher own.matcher) c.self.invariant.same_state c.offer-offer.ensures c.get-rule.ensures in
     let same : c.self.inside.state ≡ c.args.self.state = ap (λ (config : Configuration g.row.M.Denot). config.state) c.self.view_is in
-    let weighed = subst (λ (w : Weighed). IsWeighed c.args.program.now.signature c.get-rule.result.now c.offer-offer.result.now.values c.args.self.state w) c.in-Within.is
-    (subst (λ (state : Multiset). IsWeighed c.args.program.now.signature c.get-rule.result.now c.offer-offer.result.now.values state c.in_ok-number.field-0) same
-    (subst (λ (parts : Parts). IsWeighed parts.signature c.get-rule.result.now c.offer-offer.result.now.values c.self.inside.state c.in_ok-number.field-0) c.parts-parts.ensures.parts c.in_ok-number.ensures)) in
+    let weighed = weighed_as c.args.program.now c.parts-parts.result.now c.get-rule.result.now c.offer-offer.result.now.values c.self.inside.state c.args.self.state c.in_ok-number.field-0 _ c.parts-parts.ensures.parts same c.in-Within.is c.in_ok-number.ensures in
     let within = subst (λ stage. stage < length c.args.program.now.stages) (sym c.unwrap_or-stage.ensures) (stage_in_range (length c.args.program.now.stages) c.self.inside.stage c.get-rule.result.now.next own.stage is.next) in
     can_change c.args.program.now c.unwrap_or-stage.result c.args.self.state c.get-rule.result.now c.offer-offer.result.now.values c.in-Within.change c.parts-parts.ensures.kept within weighed
 
@@ -43,9 +39,7 @@ returns-in-AtomTooLarge-clause-stepped g c =
     let own = subst (IsConfigurationOf g.M.Matcher.is_of c.args.program.now) (sym c.self.view_is) c.requires.of_program in
     let is = ready_offer c.values_are_small.ensures.offers c.args.program.now c.parts-parts.result.now (g.M.Matcher.height_held c.self.inside.matcher) (g.M.Matcher.state_held c.self.inside.matcher) c.self.inside.state (g.M.Matcher.offers_held c.self.inside.matcher) c.unwrap-group.result c.args.i c.offer-offer.result.now c.get-rule.result.now own.is_state own.fits c.parts-parts.ensures.kept c.parts-parts.ensures.parts (g.met.M.Matcher.exact c.args.program.now c.self.inside.matcher own.matcher) c.self.invariant.same_state c.offer-offer.ensures c.get-rule.ensures in
     let same : c.self.inside.state ≡ c.args.self.state = ap (λ (config : Configuration g.row.M.Denot). config.state) c.self.view_is in
-    let weighed = subst (λ (w : Weighed). IsWeighed c.args.program.now.signature c.get-rule.result.now c.offer-offer.result.now.values c.args.self.state w) c.in-AtomTooLarge.is
-    (subst (λ (state : Multiset). IsWeighed c.args.program.now.signature c.get-rule.result.now c.offer-offer.result.now.values state c.in_ok-number.field-0) same
-    (subst (λ (parts : Parts). IsWeighed parts.signature c.get-rule.result.now c.offer-offer.result.now.values c.self.inside.state c.in_ok-number.field-0) c.parts-parts.ensures.parts c.in_ok-number.ensures)) in
+    let weighed = weighed_as c.args.program.now c.parts-parts.result.now c.get-rule.result.now c.offer-offer.result.now.values c.self.inside.state c.args.self.state c.in_ok-number.field-0 _ c.parts-parts.ensures.parts same c.in-AtomTooLarge.is c.in_ok-number.ensures in
     let offers = of_asked (λ group. offers_of (g.M.Matcher.offers_held c.args.self.matcher) group ≡ asked_offers (g.M.Matcher.offers_held c.args.self.matcher) c.args.self.stage) c.asked.result c.unwrap-group.result c.asked.ensures.offers c.unwrap-group.ensures in
     let placed = subst (λ (config : Configuration g.row.M.Denot). slice_get (offers_of (g.M.Matcher.offers_held config.matcher) c.unwrap-group.result) c.args.i ≡ Some c.offer-offer.result.now) c.self.view_is c.offer-offer.ensures in
     let numbered : slice_get c.args.program.now.rules c.offer-offer.result.now.rule ≡ Some c.get-rule.result.now = ap (λ (parts : Parts). slice_get parts.rules c.offer-offer.result.now.rule) (sym c.parts-parts.ensures.parts) ∙ c.get-rule.ensures in
@@ -56,9 +50,7 @@ returns-in-AtomTooLarge-clause-stepped g c =
 pub returns-in-StateTooFull-clause-stepped : goal.returns-in-StateTooFull-clause-stepped
 returns-in-StateTooFull-clause-stepped g c =
     let same : c.self.inside.state ≡ c.args.self.state = ap (λ (config : Configuration g.row.M.Denot). config.state) c.self.view_is in
-    let weighed = subst (λ (w : Weighed). IsWeighed c.args.program.now.signature c.get-rule.result.now c.offer-offer.result.now.values c.args.self.state w) c.in-StateTooFull.is
-    (subst (λ (state : Multiset). IsWeighed c.args.program.now.signature c.get-rule.result.now c.offer-offer.result.now.values state c.in_ok-number.field-0) same
-    (subst (λ (parts : Parts). IsWeighed parts.signature c.get-rule.result.now c.offer-offer.result.now.values c.self.inside.state c.in_ok-number.field-0) c.parts-parts.ensures.parts c.in_ok-number.ensures)) in
+    let weighed = weighed_as c.args.program.now c.parts-parts.result.now c.get-rule.result.now c.offer-offer.result.now.values c.self.inside.state c.args.self.state c.in_ok-number.field-0 _ c.parts-parts.ensures.parts same c.in-StateTooFull.is c.in_ok-number.ensures in
     let offers = of_asked (λ group. offers_of (g.M.Matcher.offers_held c.args.self.matcher) group ≡ asked_offers (g.M.Matcher.offers_held c.args.self.matcher) c.args.self.stage) c.asked.result c.unwrap-group.result c.asked.ensures.offers c.unwrap-group.ensures in
     let placed = subst (λ (config : Configuration g.row.M.Denot). slice_get (offers_of (g.M.Matcher.offers_held config.matcher) c.unwrap-group.result) c.args.i ≡ Some c.offer-offer.result.now) c.self.view_is c.offer-offer.ensures in
     let numbered : slice_get c.args.program.now.rules c.offer-offer.result.now.rule ≡ Some c.get-rule.result.now = ap (λ (parts : Parts). slice_get parts.rules c.offer-offer.result.now.rule) (sym c.parts-parts.ensures.parts) ∙ c.get-rule.ensures in
