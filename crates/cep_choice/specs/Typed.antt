@@ -27,3 +27,10 @@ SaysOf n line (said.Number place) = Chooses n line place
 SaysOf n line said.Bad = ChoosesNone n line
 SaysOf n line said.End = ⊥
 SaysOf n line said.Limit = ⊥
+
+-- a line was read: what is said is its place, or that it has none
+abbrev pub IsOfLine : Said → Type 0
+IsOfLine (said.Number place) = Unit {0}
+IsOfLine said.Bad = Unit {0}
+IsOfLine said.End = ⊥
+IsOfLine said.Limit = ⊥

@@ -44,12 +44,12 @@ IsHeardAs n cut said.Bad = (line : List ℕ) × IsLine cut line × ChoosesNone n
 IsHeardAs n cut said.End = cut ≡ Nothing
 IsHeardAs n cut said.Limit = (bytes : List ℕ) × (cut ≡ Full bytes)
 
--- a line was read, so some byte was taken
-abbrev pub TakesSome : Said → ℕ → Type 0
-TakesSome (said.Number place) taken = 0 < taken
-TakesSome said.Bad taken = 0 < taken
-TakesSome said.End taken = Unit {0}
-TakesSome said.Limit taken = Unit {0}
+-- What is said fits the bytes that were taken, of the room: a line has some, there are none at the end, where some might be, and no more may be taken where all of the room was.
+abbrev pub IsTakenFor : ℕ → Said → ℕ → Type 0
+IsTakenFor room (said.Number place) taken = (0 < taken) × (taken ≤ room)
+IsTakenFor room said.Bad taken = (0 < taken) × (taken ≤ room)
+IsTakenFor room said.End taken = (taken ≡ 0) × (0 < room)
+IsTakenFor room said.Limit taken = taken ≡ room
 
 -- a place that is said is one of n
 abbrev pub IsPlaceWithin : ℕ → Said → Type 0

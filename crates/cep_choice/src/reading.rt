@@ -2,7 +2,7 @@
 ghost use Rattle.std.specs.Prelude.{◌≡◌, ℕ, ◌<◌, ◌≤◌, IfOk, OnErr};
 ghost use Rattle.cep_base.specs.Talk.{Did, ConsoleCause};
 ghost use Rattle.cep_choice.specs.declared.reading.Said.{Said};
-ghost use Rattle.cep_choice.specs.TypedLine.{Cut, ReadsLine, IsHeardAs, TakesSome, IsPlaceWithin, IsCutShort};
+ghost use Rattle.cep_choice.specs.TypedLine.{Cut, ReadsLine, IsHeardAs, IsTakenFor, IsPlaceWithin, IsCutShort};
 
 use crate::typed::Typed;
 use cep_base::{Console, ConsoleFault};
@@ -34,7 +34,7 @@ pub fn read_choice<C: Console>(console: &mut C, n: u32, room: u64) -> Result<Hea
         (cut : Cut) × ReadsLine room come events cut rest heard.taken × IsHeardAs n cut heard.said)) }
     ensures cut_short { OnErr result (Did C.talk C.left console.old console.new (IsCutShort room)) }
     ensures within { IfOk result (λ heard. heard.taken ≤ room) }
-    ensures some { IfOk result (λ heard. TakesSome heard.said heard.taken) }
+    ensures taken { IfOk result (λ heard. IsTakenFor room heard.said heard.taken) }
     ensures place { IfOk result (λ heard. IsPlaceWithin n heard.said) }
     ensures cause { ConsoleCause (C.faults console.old) (C.faults console.new) result }
 {

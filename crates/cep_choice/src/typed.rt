@@ -2,7 +2,7 @@
 ghost use Rattle.std.specs.Prelude.{◌≡◌, ℕ, ◌<◌, ◌≤◌, ◌^◌, List, [], ◌∷◌, ◌++◌};
 ghost use Rattle.cep_choice.specs.declared.typed.Typed.TheVariants.{Number, Bad};
 ghost use Rattle.cep_choice.specs.TypedLine.{IsPlaceWithin};
-ghost use Rattle.cep_choice.specs.Typed.{Reads, IsWithin, SaysOf};
+ghost use Rattle.cep_choice.specs.Typed.{Reads, IsWithin, IsOfLine, SaysOf};
 
 use crate::reading::Said;
 
@@ -43,6 +43,7 @@ impl Typed {
 
     /// What the whole line says.
     pub fn said(self) -> Said
+        ensures of_line { IsOfLine result }
         ensures within { (n : ℕ) → IsWithin n self → IsPlaceWithin n result }
         ensures says { (n : ℕ) (line : List ℕ) → n < 2 ^ 32 → IsWithin n self → Reads n self line → SaysOf n line result }
     {
