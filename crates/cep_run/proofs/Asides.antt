@@ -23,7 +23,8 @@ use Rattle.cep_run.specs.declared.settings.Settings.{Settings}
 use Rattle.cep_choice.specs.TypedLine.{Cut, Ended, Last, Nothing, Full, ReadsLine}
 use Rattle.cep_run.specs.Choice.{room_after, no_line, Hears, chosen, again, no_more, no_room}
 use Rattle.cep_run.specs.Deciding.{Supply, How, Heard, Lone, Drawn, Decides}
-use Rattle.cep_run.specs.Run.{Position, Question, IsQuestion}
+use Rattle.cep_run.specs.Deeds.{Position}
+use Rattle.cep_run.specs.Run.{Question, IsQuestion}
 use Rattle.cep_run.specs.Dialogue.{question_events}
 use Rattle.cep_run.specs.Logs.{written_bytes}
 use Rattle.cep_run.proofs.OneLines.{TextLaws, literal, one_line_both}

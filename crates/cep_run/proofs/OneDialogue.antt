@@ -10,7 +10,8 @@ use Rattle.cep_rule.specs.Steps.{AreProofs}
 use Rattle.cep_run.specs.declared.settings.Settings.{Settings}
 use Rattle.cep_run.specs.Deciding.{Supply}
 use Rattle.cep_log.specs.Lines.{header}
-use Rattle.cep_run.specs.Run.{Position, start_of, whole_supply, Turn, Ending, IsTurn, AreTurns, Run, unproved}
+use Rattle.cep_run.specs.Deeds.{Position, start_of}
+use Rattle.cep_run.specs.Run.{whole_supply, Turn, Ending, IsTurn, AreTurns, Run, unproved}
 use Rattle.cep_run.specs.Dialogue.{events_of, Dialogue}
 use Rattle.cep_run.proofs.Turns.{all_at}
 
@@ -35,16 +36,16 @@ module _ (program : Parts) (settings : Settings) (one : IsOneRun program setting
     -- a turn has no derivations
     bare_turn : (at : Position) (from : Supply) (turn : Turn) → IsTurn program settings at from turn → unproved turn ≡ turn
     bare_turn at from turn is =
-        let none = all_at (λ rule. rule.backs ≡ []) program.rules plain turn.offer.rule turn.rule is.chosen.of_rule in
-        let proofs = no_proofs program settings.height turn.proofs (subst (λ atoms. AreProofs program settings.height turn.proofs (full_instances turn.offer.values atoms)) none is.proved) in
+        let none = all_at (λ rule. rule.backs ≡ []) program.rules plain turn.deed.offer.rule turn.deed.rule is.chosen.of_rule in
+        let proofs = no_proofs program settings.height turn.deed.proofs (subst (λ atoms. AreProofs program settings.height turn.deed.proofs (full_instances turn.deed.offer.values atoms)) none is.does.step.proved) in
         let same = sym proofs in
-        λ i. record turn { proofs = same i }
+        λ i. record turn { deed = record turn.deed { proofs = same i } }
 
     bare_turns : (at : Position) (from : Supply) (turns : List Turn) (last : Position) (to : Supply) → AreTurns program settings at from turns last to → map unproved turns ≡ turns
     bare_turns at from [] last to done = refl
     bare_turns at from (turn ∷ turns) last to done =
         let first = bare_turn at from turn done.0 in
-        let others = bare_turns turn.after turn.left turns last to done.1 in
+        let others = bare_turns turn.deed.after turn.left turns last to done.1 in
         λ i. first i ∷ others i
 
   pub one_whole : (come : List ℕ) (turns turns' : List Turn) (ending ending' : Ending) (events events' : List Event) (rest rest' : List ℕ) → AllByRecursion (λ rule. rule.backs ≡ []) program.rules

@@ -17,8 +17,10 @@ use Rattle.cep_log.specs.declared.end_word.EndWord.{EndWord}
 use Rattle.cep_log.specs.declared.end_word.EndWord.TheVariants.{Quiet, Turns, Offers, Atom, State}
 use Rattle.cep_run.specs.declared.settings.Settings.{Settings}
 use Rattle.cep_run.specs.Deciding.{Supply, How, Heard, Lone, Drawn, Decides}
-use Rattle.cep_run.specs.Run.{Position, Question, Turn, Ending, IsQuestion, IsChosen, IsTurn, AreTurns, PassesLimit, EndsUnasked, LeadsNowhere, EndsAt, Run, unproved}
+use Rattle.cep_run.specs.Deeds.{Position, PassesLimit, StopsAtOffer}
+use Rattle.cep_run.specs.Run.{Question, Turn, Ending, IsQuestion, IsChosen, IsTurn, AreTurns, EndsUnasked, LeadsNowhere, EndsAt, Run, unproved}
 use Rattle.cep_run.proofs.OneReading.{one_hearing}
+use Rattle.cep_run.proofs.TurnSteps.{steps_here, counted_here}
 
 -- a stage asks one group
 one_group : (program : Parts) (height : ℕ) (state : Multiset) (stage group other : ℕ) → IsAsked program height state stage group → IsAsked program height state stage other → group ≡ other
@@ -112,23 +114,27 @@ module _ (one_list : (program : Parts) (height : ℕ) (state : Multiset) (group 
   -- one turn is done at a position, but for its derivations
   pub record SameTurn (turn turn' : Turn) : Type 0 where
     pub turns : unproved turn ≡ unproved turn'
-    pub afters : turn.after ≡ turn'.after
+    pub afters : turn.deed.after ≡ turn'.deed.after
     pub lefts : turn.left ≡ turn'.left
 
   pub one_turn : (at : Position) (from : Supply) (turn turn' : Turn) → IsTurn program settings at from turn → IsTurn program settings at from turn' → SameTurn turn turn'
   one_turn at from turn turn' is is' =
       let asked = one_question at from turn.question turn'.question turn.left turn'.left is.asks is'.asks in
-      let chosen = one_choice program turn.question turn.offer turn'.offer turn.rule turn'.rule is.chosen (subst (λ q. IsChosen program q turn'.offer turn'.rule) (sym asked.questions) is'.chosen) in
-      let steps = subst (λ r. StepsTo program r turn.offer.values at.spot turn'.after.spot) (sym chosen.rules) (subst (λ (o : Offer). StepsTo program turn'.rule o.values at.spot turn'.after.spot) (sym chosen.offers) is'.steps) in
-      let spots = one_spot turn.rule turn.offer.values at.spot turn.after.spot turn'.after.spot is.steps steps in
-      let counts = is.counted ∙ sym is'.counted in
-      let afters : turn.after ≡ turn'.after = λ i. record { spot = spots i; turns = counts i } in
+      let one = turn.deed in
+      let other = turn'.deed in
+      let chosen = one_choice program turn.question one.offer other.offer one.rule other.rule is.chosen (subst (λ q. IsChosen program q other.offer other.rule) (sym asked.questions) is'.chosen) in
+      let steps = subst (λ r. StepsTo program r one.offer.values at.spot other.after.spot) (sym chosen.rules)
+      (subst (λ (o : Offer). StepsTo program other.rule o.values at.spot other.after.spot) (sym chosen.offers) (steps_here program settings at from turn' is')) in
+      let spots = one_spot one.rule one.offer.values at.spot one.after.spot other.after.spot (steps_here program settings at from turn is) steps in
+      let counts = counted_here program settings at from turn is ∙ sym (counted_here program settings at from turn' is') in
+      let afters : one.after ≡ other.after = λ i. record { spot = spots i; turns = counts i } in
       let befores = is.here ∙ sym is'.here in
       let questions = asked.questions in
       let lefts = asked.supplies in
       let offers = chosen.offers in
       let rules = chosen.rules in
-      record { turns = λ i. record { before = befores i; question = questions i; offer = offers i; rule = rules i; proofs = []; after = afters i; left = lefts i }; afters = afters; lefts = lefts }
+      let deeds : (unproved turn).deed ≡ (unproved turn').deed = λ i. record { before = befores i; offer = offers i; rule = rules i; proofs = []; after = afters i } in
+      record { turns = λ i. record { question = questions i; deed = deeds i; left = lefts i }; afters = afters; lefts = lefts }
 
   -- where a question is asked, no run ends unasked
   asked_or_ends : {X : Type 0} (at : Position) (from : Supply) (question : Question) (to : Supply) (word : EndWord) → IsQuestion program settings at from question to → EndsUnasked program settings at word → X
@@ -146,22 +152,27 @@ module _ (one_list : (program : Parts) (height : ℕ) (state : Multiset) (group 
   done_or_passes rule values old new State is passes = absurd (passes.1.2 (subst Fits (one_step program.signature rule values old.state new.state passes.1.0 is.step passes.1.1) is.fits))
   done_or_passes rule values old new _ is passes = absurd passes
 
+  -- a run does not stop at an offer whose step is done
+  done_or_stops : {X : Type 0} (at : Position) (rule : Rule) (values : List Tree) (new : Spot) (word : EndWord) → at.turns < settings.limit → StepsTo program rule values at.spot new → StopsAtOffer program settings.limit at rule values word → X
+  done_or_stops at rule values new word remain is (inl over) = absurd (omega (arith, remain, over.1))
+  done_or_stops at rule values new word remain is (inr passes) = done_or_passes rule values at.spot new word is passes.1
+
   -- a question of which a step is done leads somewhere
-  leads_or_not : {X : Type 0} (state : Multiset) (question : Question) (choice : Choice) (word : EndWord) (offer : Offer) (rule : Rule) (old new : Spot) → question.choice ≡ choice → state ≡ old.state → IsChosen program question offer rule → StepsTo program rule offer.values old new → LeadsNowhere program state question choice word → X
-  leads_or_not state question NoMore word offer rule old new is states chosen steps leads = place_or_none question.choice chosen.place chosen.chosen is
-  leads_or_not state question NoRoom word offer rule old new is states chosen steps leads = place_or_full question.choice chosen.place chosen.chosen is
-  leads_or_not state question (Place place) word offer rule old new is states chosen steps leads =
+  leads_or_not : {X : Type 0} (at : Position) (question : Question) (choice : Choice) (word : EndWord) (offer : Offer) (rule : Rule) (new : Spot) → question.choice ≡ choice → at.turns < settings.limit → IsChosen program question offer rule → StepsTo program rule offer.values at.spot new → LeadsNowhere program settings at question choice word → X
+  leads_or_not at question NoMore word offer rule new is remain chosen steps leads = place_or_none question.choice chosen.place chosen.chosen is
+  leads_or_not at question NoRoom word offer rule new is remain chosen steps leads = place_or_full question.choice chosen.place chosen.chosen is
+  leads_or_not at question (Place place) word offer rule new is remain chosen steps leads =
       let same = one_choice program question leads.0 offer leads.1 rule leads.2 chosen in
-      done_or_passes rule offer.values old new word steps
-      (subst (λ (r : Rule). PassesLimit program r offer.values old.state word) same.rules (subst (λ (o : Offer). PassesLimit program leads.1 o.values old.state word) same.offers (subst (λ s. PassesLimit program leads.1 leads.0.values s word) states leads.3)))
+      done_or_stops at rule offer.values new word remain steps
+      (subst (λ (r : Rule). StopsAtOffer program settings.limit at r offer.values word) same.rules (subst (λ (o : Offer). StopsAtOffer program settings.limit at leads.1 o.values word) same.offers leads.3))
 
   -- where a turn is done, no run ends
   turn_or_end : {X : Type 0} (at : Position) (from : Supply) (turn : Turn) (word : EndWord) (asked : Option Question) (to : Supply) → IsTurn program settings at from turn → EndsAt program settings at from word asked to → X
   turn_or_end at from turn word None to is ends = asked_or_ends at from turn.question turn.left word is.asks ends.0
   turn_or_end at from turn word (Some question) to is ends =
       let same = one_question at from turn.question question turn.left to is.asks ends.0 in
-      leads_or_not at.spot.state turn.question turn.question.choice word turn.offer turn.rule at.spot turn.after.spot refl refl is.chosen is.steps
-      (subst (λ (q : Question). LeadsNowhere program at.spot.state q q.choice word) (sym same.questions) ends.1)
+      leads_or_not at turn.question turn.question.choice word turn.deed.offer turn.deed.rule turn.deed.after.spot refl is.asks.remain is.chosen (steps_here program settings at from turn is)
+      (subst (λ (q : Question). LeadsNowhere program settings at q q.choice word) (sym same.questions) ends.1)
 
   -- a step passes limits for one word
   one_limit : (rule : Rule) (values : List Tree) (state : Multiset) (word word' : EndWord) → PassesLimit program rule values state word → PassesLimit program rule values state word' → word ≡ word'
@@ -173,13 +184,19 @@ module _ (one_list : (program : Parts) (height : ℕ) (state : Multiset) (group 
   one_limit rule values state State _ passes passes' = absurd passes'
   one_limit rule values state _ word' passes passes' = absurd passes
 
-  one_lead : (state : Multiset) (question : Question) (choice : Choice) (word word' : EndWord) → LeadsNowhere program state question choice word → LeadsNowhere program state question choice word' → word ≡ word'
-  one_lead state question NoMore word word' leads leads' = leads ∙ sym leads'
-  one_lead state question NoRoom word word' leads leads' = leads ∙ sym leads'
-  one_lead state question (Place place) word word' leads leads' =
+  one_stop : (at : Position) (rule : Rule) (values : List Tree) (word word' : EndWord) → StopsAtOffer program settings.limit at rule values word → StopsAtOffer program settings.limit at rule values word' → word ≡ word'
+  one_stop at rule values word word' (inl over) (inl over') = over.0 ∙ sym over'.0
+  one_stop at rule values word word' (inl over) (inr passes') = absurd (omega (arith, over.1, passes'.0))
+  one_stop at rule values word word' (inr passes) (inl over') = absurd (omega (arith, passes.0, over'.1))
+  one_stop at rule values word word' (inr passes) (inr passes') = one_limit rule values at.spot.state word word' passes.1 passes'.1
+
+  one_lead : (at : Position) (question : Question) (choice : Choice) (word word' : EndWord) → LeadsNowhere program settings at question choice word → LeadsNowhere program settings at question choice word' → word ≡ word'
+  one_lead at question NoMore word word' leads leads' = leads ∙ sym leads'
+  one_lead at question NoRoom word word' leads leads' = leads ∙ sym leads'
+  one_lead at question (Place place) word word' leads leads' =
       let same = one_choice program question leads'.0 leads.0 leads'.1 leads.1 leads'.2 leads.2 in
-      one_limit leads.1 leads.0.values state word word' leads.3
-      (subst (λ (r : Rule). PassesLimit program r leads.0.values state word') same.rules (subst (λ (o : Offer). PassesLimit program leads'.1 o.values state word') same.offers leads'.3))
+      one_stop at leads.1 leads.0.values word word' leads.3
+      (subst (λ (r : Rule). StopsAtOffer program settings.limit at r leads.0.values word') same.rules (subst (λ (o : Offer). StopsAtOffer program settings.limit at leads'.1 o.values word') same.offers leads'.3))
 
   -- a run that ends unasked ends with one word
   one_unasked : (at : Position) (word word' : EndWord) → EndsUnasked program settings at word → EndsUnasked program settings at word' → word ≡ word'
@@ -210,7 +227,7 @@ module _ (one_list : (program : Parts) (height : ℕ) (state : Multiset) (group 
   one_end at from word word' (Some question) (Some question') to to' ends ends' =
       let same = one_question at from question question' to to' ends.0 ends'.0 in
       record {
-        words = one_lead at.spot.state question question.choice word word' ends.1 (subst (λ (q : Question). LeadsNowhere program at.spot.state q q.choice word') (sym same.questions) ends'.1);
+        words = one_lead at question question.choice word word' ends.1 (subst (λ (q : Question). LeadsNowhere program settings at q q.choice word') (sym same.questions) ends'.1);
         questions = ap Some same.questions;
         supplies = same.supplies;
       }
@@ -240,8 +257,8 @@ module _ (one_list : (program : Parts) (height : ℕ) (state : Multiset) (group 
       (subst (λ place. EndsAt program settings place from word' asked' to') done'.0 (subst (λ supply. EndsAt program settings last' supply word' asked' to') done'.1 ends'))
   one_run_of at from (turn ∷ turns) (turn' ∷ turns') last last' between between' word word' asked asked' to to' done done' ends ends' =
       let same = one_turn at from turn turn' done.0 done'.0 in
-      let later = one_run_of turn.after turn.left turns turns' last last' between between' word word' asked asked' to to' done.1
-      (subst (λ place. AreTurns program settings place turn.left turns' last' between') (sym same.afters) (subst (λ supply. AreTurns program settings turn'.after supply turns' last' between') (sym same.lefts) done'.1))
+      let later = one_run_of turn.deed.after turn.left turns turns' last last' between between' word word' asked asked' to to' done.1
+      (subst (λ place. AreTurns program settings place turn.left turns' last' between') (sym same.afters) (subst (λ supply. AreTurns program settings turn'.deed.after supply turns' last' between') (sym same.lefts) done'.1))
       ends ends' in
       let first = same.turns in
       let others = later.turns_are in

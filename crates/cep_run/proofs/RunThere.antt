@@ -24,9 +24,11 @@ use Rattle.cep_log.specs.declared.end_word.EndWord.TheVariants.{Quiet, Input, Tu
 use Rattle.cep_run.specs.declared.settings.Settings.{Settings}
 use Rattle.cep_run.specs.Choice.{IsChoiceWithin}
 use Rattle.cep_run.specs.Deciding.{Supply}
-use Rattle.cep_run.specs.Run.{Position, Question, Turn, Ending, IsQuestion, IsChosen, IsTurn, PassesLimit, LeadsNowhere, EndsAt, Run}
+use Rattle.cep_run.specs.Deeds.{Position, PassesLimit}
+use Rattle.cep_run.specs.Run.{Question, Turn, Ending, IsQuestion, IsChosen, IsTurn, LeadsNowhere, EndsAt, Run}
 use Rattle.cep_run.proofs.StepThere.{ThereLaws, all_fit_or_not, state_fits_or_not, proofs_there}
 use Rattle.cep_run.proofs.DecisionThere.{decision_there}
+use Rattle.cep_run.proofs.TurnSteps.{lawful_step, counted_here}
 
 -- something stands at each place of a list
 at_place : {A : Type 0} (xs : List A) (k : ℕ) → k < length xs → (x : A) × (slice_get xs k ≡ Some x)
@@ -67,7 +69,7 @@ module _ (laws : ThereLaws) (program : Parts) (settings : Settings) (kept : IsPr
   record HasTurn (at : Position) (from : Supply) : Type 0 where
     turn : Turn
     is : IsTurn program settings at from turn
-    state : IsState program.signature turn.after.spot.state
+    state : IsState program.signature turn.deed.after.spot.state
 
   -- a run ends here
   record HasEnd (at : Position) (from : Supply) : Type 0 where
@@ -89,23 +91,31 @@ module _ (laws : ThereLaws) (program : Parts) (settings : Settings) (kept : IsPr
         let chosen : IsChosen program question offer rule = record { place = place; chosen = is; at_place = at_place; of_rule = applies.numbered } in
         let next = state_after signature state (gathered (taken_by signature rule values)) (added_by signature rule values) in
         let step : Step signature rule values state next = laws.edit signature rule values state typed applies.values is_state applies.contained in
-        let passing = λ (word : EndWord) (passes : PassesLimit program rule values state word). subst (λ (choice : Choice). LeadsNowhere program state question choice word) (sym is) (offer, rule, chosen, passes) in
+        let passing = λ (word : EndWord) (passes : PassesLimit program rule values state word). subst (λ (choice : Choice). LeadsNowhere program settings at question choice word) (sym is) (offer, rule, chosen, inr (asks.remain, passes)) in
         let proofs = proofs_there program settings.height (full_instances values rule.backs) applies.derivable in
         elim (all_fit_or_not (full_instances values rule.right)) [
           | inr large ↦ inr (record { word = Atom; asked = Some question; to = left; ends = (asks, passing Atom large) })
           | inl fit ↦ elim (state_fits_or_not next) [
             | inr full ↦ inr (record { word = State; asked = Some question; to = left; ends = (asks, passing State (fit, (next, step, full))) })
             | inl fits ↦ inl (record {
-              turn = record { before = at; question = question; offer = offer; rule = rule; proofs = proofs.0; after = record { spot = record { stage = stage_after rule at.spot.stage; state = next }; turns = at.turns + 1 }; left = left };
-              is = record { here = refl; asks = asks; chosen = chosen; proved = proofs.1; steps = record { fit = fit; step = step; fits = fits; stage = refl }; counted = refl };
+              turn = record { question = question; deed = record { before = at; offer = offer; rule = rule; proofs = proofs.0; after = record { spot = record { stage = stage_after rule at.spot.stage; state = next }; turns = at.turns + 1 } }; left = left };
+              is = record {
+                here = refl;
+                asks = asks;
+                chosen = chosen;
+                does = record {
+                  step = lawful_step program settings at from question left asks offer rule proofs.0 (record { stage = stage_after rule at.spot.stage; state = next }) chosen proofs.1 (record { fit = fit; step = step; fits = fits; stage = refl });
+                  counted = refl;
+                };
+              };
               state = laws.lead signature rule values state next typed divided applies.values is_state fit step;
             })
           ]
         ]
 
     by_choice : (choice : Choice) → question.choice ≡ choice → IsChoiceWithin (length question.offers) choice → HasTurn at from ⊎ HasEnd at from
-    by_choice NoMore is within = inr (record { word = Input; asked = Some question; to = left; ends = (asks, subst (λ (choice : Choice). LeadsNowhere program at.spot.state question choice Input) (sym is) refl) })
-    by_choice NoRoom is within = inr (record { word = Typed; asked = Some question; to = left; ends = (asks, subst (λ (choice : Choice). LeadsNowhere program at.spot.state question choice Typed) (sym is) refl) })
+    by_choice NoMore is within = inr (record { word = Input; asked = Some question; to = left; ends = (asks, subst (λ (choice : Choice). LeadsNowhere program settings at question choice Input) (sym is) refl) })
+    by_choice NoRoom is within = inr (record { word = Typed; asked = Some question; to = left; ends = (asks, subst (λ (choice : Choice). LeadsNowhere program settings at question choice Typed) (sym is) refl) })
     by_choice (Place place) is within =
         let first = within.0 in
         let last = within.1 in
@@ -146,7 +156,7 @@ module _ (laws : ThereLaws) (program : Parts) (settings : Settings) (kept : IsPr
     run = record { last = at; between = from; done = (refl, refl); ends = end.ends; state = refl };
   }
 
-  goes_on : (at : Position) (from : Supply) (turn : Turn) → IsTurn program settings at from turn → HasRun turn.after turn.left → HasRun at from
+  goes_on : (at : Position) (from : Supply) (turn : Turn) → IsTurn program settings at from turn → HasRun turn.deed.after turn.left → HasRun at from
   goes_on at from turn is later = record {
     turns = turn ∷ later.turns;
     ending = later.ending;
@@ -163,8 +173,8 @@ module _ (laws : ThereLaws) (program : Parts) (settings : Settings) (kept : IsPr
     | inr end ↦ ends_here at from end
     | inl turn ↦ (
         let remain = turn.is.asks.remain in
-        let counted = turn.is.counted in
-        goes_on at from turn.turn turn.is (run_within most turn.turn.after turn.turn.left turn.state (omega (arith, remain, counted)) (omega (arith, few, counted)))
+        let counted = counted_here program settings at from turn.turn turn.is in
+        goes_on at from turn.turn turn.is (run_within most turn.turn.deed.after turn.turn.left turn.state (omega (arith, remain, counted)) (omega (arith, few, counted)))
         )
   ]
 

@@ -13,15 +13,16 @@ use Rattle.cep_log.specs.declared.end_word.EndWord.TheVariants.{Quiet, Turns}
 use Rattle.cep_run.specs.declared.settings.Settings.{Settings}
 use Rattle.cep_run.specs.Deciding.{Supply}
 use Rattle.cep_log.specs.Lines.{end_lines, header}
-use Rattle.cep_run.specs.Run.{Position, start_of, whole_supply, Turn, Ending, IsTurn, AreTurns, offers_listed, EndsAt}
+use Rattle.cep_run.specs.Deeds.{Position, start_of}
+use Rattle.cep_run.specs.Run.{whole_supply, Turn, Ending, IsTurn, AreTurns, offers_listed, EndsAt}
 use Rattle.cep_run.specs.Dialogue.{turn_events, last_events, Dialogue}
 use Rattle.cep_run.specs.declared.deciding.Spent.{Spent}
 use Rattle.cep_run.specs.Turn.{supply_with, DoesTurn, Stops, SoFar, IsWholeRun}
 
 -- one more turn behind others
-turns_behind : (program : Parts) (settings : Settings) (at : Position) (from : Supply) (turns : List Turn) (last : Position) (between : Supply) (turn : Turn) → AreTurns program settings at from turns last between → IsTurn program settings last between turn → AreTurns program settings at from (turns ++ turn ∷ []) turn.after turn.left
+turns_behind : (program : Parts) (settings : Settings) (at : Position) (from : Supply) (turns : List Turn) (last : Position) (between : Supply) (turn : Turn) → AreTurns program settings at from turns last between → IsTurn program settings last between turn → AreTurns program settings at from (turns ++ turn ∷ []) turn.deed.after turn.left
 turns_behind program settings at from [] last between turn done is = (subst (λ place. IsTurn program settings place from turn) done.0 (subst (λ supply. IsTurn program settings last supply turn) done.1 is), (refl, refl))
-turns_behind program settings at from (first ∷ turns) last between turn done is = (done.0, turns_behind program settings first.after first.left turns last between turn done.1 is)
+turns_behind program settings at from (first ∷ turns) last between turn done is = (done.0, turns_behind program settings first.deed.after first.left turns last between turn done.1 is)
 
 -- and its offers behind those that were listed
 listed_behind : (turns : List Turn) (turn : Turn) → offers_listed (turns ++ turn ∷ []) ≡ offers_listed turns + length turn.question.offers

@@ -1,15 +1,17 @@
 -- What is told of a run is what is said of it, by the laws of dialogues.
 use Rattle.std.proofs.Common.{◌≡◌, ℕ, ◌+◌, ◌≤◌, List, [], length, map, ap, ◌∙◌, sym, arith}
 use Rattle.std.specs.List.{AllByRecursion}
+use Rattle.std.proofs.lemmas.List.{length-map}
 use Rattle.cep_base.specs.declared.console.Event.{Event}
 use Rattle.cep_term.specs.Multiset.{copies_in}
 use Rattle.cep_rule.specs.declared.rule.Rule.{Rule}
 use Rattle.cep_rule.specs.declared.parts.Parts.{Parts}
 use Rattle.cep_run.specs.declared.settings.Settings.{Settings}
 use Rattle.cep_run.specs.Deciding.{Supply}
-use Rattle.cep_run.specs.Run.{Position, start_of, whole_supply, Turn, Ending, AreTurns, AreMachineSteps, unproved}
+use Rattle.cep_run.specs.Deeds.{Position, start_of, Deed, AreDeeds}
+use Rattle.cep_run.specs.Run.{whole_supply, Turn, Ending, AreTurns, deeds_of, unproved}
 use Rattle.cep_run.specs.Dialogue.{Dialogue}
-use Rattle.cep_run.specs.Logs.{written_bytes, HoldsRun}
+use Rattle.cep_run.specs.Logs.{written_bytes, HoldsDeeds}
 use Rattle.cep_base.specs.declared.limits.TheConstants.{MOST_LOG}
 use Rattle.cep_rule.specs.Limits.{IsHeight}
 use Rattle.cep_rule.specs.Program.{IsProgram}
@@ -35,29 +37,31 @@ IsOneToTheByte =
     → Dialogue program settings come turns ending events rest → Dialogue program settings come turns' ending' events' rest'
     → events ≡ events'
 
--- that turns are steps of the machine, and that they are counted, told for any
-abbrev pub AreAllSteps : Type 0
-AreAllSteps =
-    (program : Parts) (settings : Settings) (at : Position) (from : Supply) (turns : List Turn) (last : Position) (to : Supply) → AreTurns program settings at from turns last to → AreMachineSteps program settings.height turns
+-- that turns are lawful deeds, and that these are counted, told for any
+abbrev pub AreAllDeeds : Type 0
+AreAllDeeds =
+    (program : Parts) (settings : Settings) (at : Position) (from : Supply) (turns : List Turn) (last : Position) (to : Supply) → AreTurns program settings at from turns last to → AreDeeds program settings.height at (deeds_of turns) last
 
 abbrev pub AreAllCounted : Type 0
 AreAllCounted =
-    (program : Parts) (settings : Settings) (at : Position) (from : Supply) (turns : List Turn) (last : Position) (to : Supply) → AreTurns program settings at from turns last to → last.turns ≡ at.turns + length turns
+    (program : Parts) (height : ℕ) (at : Position) (deeds : List Deed) (last : Position) → AreDeeds program height at deeds last → last.turns ≡ at.turns + length deeds
 
 -- that what is written of dialogues is a transcript, told for any
 abbrev pub HaveLogs : Type 0
 HaveLogs =
     (program : Parts) (settings : Settings) (come : List ℕ) (turns : List Turn) (ending : Ending) (events : List Event) (rest : List ℕ)
     → IsProgram program → IsHeight settings.height → Dialogue program settings come turns ending events rest → length (written_bytes events) ≤ MOST_LOG
-    → (log : Log) × HasLog program (written_bytes events) log × HoldsRun program settings turns ending log × IsLegal program log × (length log.steps ≡ length turns)
+    → (log : Log) × HasLog program (written_bytes events) log × HoldsDeeds program settings.height (deeds_of turns) ending.word ending.state log × IsLegal program log × (length log.steps ≡ length turns)
 
 -- what is told is what is said, with its tally, and what is typed allows no other
-pub is_said : (program : Parts) (settings : Settings) (tally : Tally) (last : Position) → IsOneDialogue → IsOneToTheByte → AreAllSteps → AreAllCounted → HaveLogs → IsProgram program → IsHeight settings.height
+pub is_said : (program : Parts) (settings : Settings) (tally : Tally) (last : Position) → IsOneDialogue → IsOneToTheByte → AreAllDeeds → AreAllCounted → HaveLogs → IsProgram program → IsHeight settings.height
     → tally.turns ≡ last.turns → tally.copies ≡ copies_in last.spot.state
     → (come : List ℕ) (events : List Event) (rest : List ℕ) → IsTold program settings tally.word last tally.offers come events rest → IsSaid program settings (λ turns ending. IsTally turns ending tally) come events rest
-is_said program settings tally last one to_the_byte steps counted logs kept height turns copies come events rest told =
+is_said program settings tally last one to_the_byte deeds counted logs kept height turns copies come events rest told =
     let run = told.dialogue.run in
-    let many = counted program settings (start_of program) (whole_supply come) told.turns run.last run.between run.done in
+    let done = deeds program settings (start_of program) (whole_supply come) told.turns run.last run.between run.done in
+    let many = counted program settings.height (start_of program) (deeds_of told.turns) run.last done in
+    let each = length-map told.turns (λ (turn : Turn). turn.deed) in
     let last_turns : run.last.turns ≡ last.turns = ap (λ (at : Position). at.turns) told.last_is in
     record {
       turns = told.turns;
@@ -65,12 +69,12 @@ is_said program settings tally last one to_the_byte steps counted logs kept heig
       dialogue = told.dialogue;
       holds = record {
         word = sym told.word_is;
-        turns = omega (arith, turns, many, last_turns);
+        turns = omega (arith, turns, many, each, last_turns);
         offers = told.listed;
         copies = copies ∙ ap (λ (at : Position). copies_in at.spot.state) (sym told.last_is) ∙ ap copies_in (sym run.state);
       };
-      steps = steps program settings (start_of program) (whole_supply come) told.turns run.last run.between run.done;
-      counted = omega (arith, many);
+      deeds = done;
+      counted = omega (arith, many, each);
       logged = λ short.
           let has = logs program settings come told.turns told.ending events rest kept height told.dialogue short in
           (has.0, has.1, has.3, has.4);

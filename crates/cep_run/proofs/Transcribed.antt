@@ -1,4 +1,4 @@
--- What is written of a dialogue is a transcript, and its log holds the run.
+-- What is written of a dialogue is a transcript, and its log holds what was done.
 use Rattle.std.proofs.Common.{◌≡◌, map, inl, inr, ℕ, ◌+◌, ◌-◌, ◌<◌, ◌≤◌, List, [], ◌∷◌, ◌++◌, length, length-append, append_assoc, append-nil, refl, sym, ap, ◌∙◌, subst, arith, Option, None, Some, IfSome, IsSomeAnd}
 use Rattle.std.specs.Prelude.{slice_get, codes, decimal}
 use Rattle.std.specs.List.{AllByRecursion, AllZip, flat_map}
@@ -24,7 +24,7 @@ use Rattle.cep_rule.specs.State.{IsState, Fits}
 use Rattle.cep_rule.specs.Offers.{Applies, IsOffer}
 use Rattle.cep_rule.specs.Derivations.{ProofTree}
 use Rattle.cep_rule.specs.Shapes.{IsOfferOf}
-use Rattle.cep_rule.specs.Steps.{Spot, AreProofs}
+use Rattle.cep_rule.specs.Steps.{Spot, AreProofs, IsMachineStep}
 use Rattle.cep_rule.specs.Program.{IsProgram}
 use Rattle.cep_text.specs.Texts.{atom_text, offer_text, proof_text}
 use Rattle.cep_log.specs.declared.log.Log.{Log}
@@ -39,13 +39,15 @@ use Rattle.cep_log.specs.Legal.{IsHave, IsListing, IsLegal}
 use Rattle.cep_log.specs.Transcript.{IsOneLine, have_text, IsReadable, step_text, by_text, stage_texts, AreLines, IsPassedOver, log_begun, end_begun, MovesOn, Leads, HasLog}
 use Rattle.cep_run.specs.declared.settings.Settings.{Settings}
 use Rattle.cep_run.specs.Deciding.{Supply}
-use Rattle.cep_run.specs.Run.{Position, Question, Turn, Ending, start_of, whole_supply, IsTurn, AreTurns, EndsAt}
+use Rattle.cep_run.specs.Deeds.{Position, start_of}
+use Rattle.cep_run.specs.Run.{Question, Turn, Ending, whole_supply, deeds_of, IsTurn, AreTurns, EndsAt}
 use Rattle.cep_run.specs.Dialogue.{question_events, last_events, turn_events, events_of, Dialogue}
-use Rattle.cep_run.specs.Logs.{written_bytes, HoldsTurn, HoldsRun}
+use Rattle.cep_run.specs.Logs.{written_bytes, HoldsDeed, HoldsDeeds}
 use Rattle.cep_run.proofs.OneLines.{TextLaws, literal, one_line_both}
 use Rattle.cep_run.proofs.Asides.{bytes_of, IsAside, no_aside, written_both, written_outs, question_aside}
 use Rattle.cep_run.proofs.StepThere.{LeadToStates}
-use Rattle.cep_run.proofs.LegalLogs.{IsKept, held_step, step_keeps, as_many_proofs, legal_log}
+use Rattle.cep_run.proofs.LegalLogs.{IsKept, AreLegalLogs, held_step, step_keeps, as_many_proofs}
+use Rattle.cep_run.proofs.TurnSteps.{turn_deeds, quiet_here}
 
 -- Lines
 
@@ -171,45 +173,50 @@ ending_one_line end_word.Typed = literal (codes "end typed") refl
 ending_one_line end_word.Atom = literal (codes "end atom") refl
 ending_one_line end_word.State = literal (codes "end state") refl
 
-module _ (laws : LeadToStates) (texts : TextLaws) (program : Parts) (kept : IsProgram program) (settings : Settings) (height_is : IsHeight settings.height) where
+module _ (laws : LeadToStates) (legal : AreLegalLogs) (texts : TextLaws) (program : Parts) (kept : IsProgram program) (settings : Settings) (height_is : IsHeight settings.height) where
   -- the offer of a turn applies where the turn begins
-  turn_applies : (at : Position) (from : Supply) (turn : Turn) → IsTurn program settings at from turn → Applies program settings.height at.spot.state turn.offer
+  turn_applies : (at : Position) (from : Supply) (turn : Turn) → IsTurn program settings at from turn → Applies program settings.height at.spot.state turn.deed.offer
   turn_applies at from turn is =
       let k = is.chosen.place - 1 in
       let offers = turn.question.offers in
-      let is_offer : IsOffer program settings.height at.spot.state turn.question.group turn.offer = is.asks.offered.no_other turn.offer (k, slice_get_within offers k turn.offer is.chosen.at_place, get_or_from_slice_get offers k turn.offer turn.offer is.chosen.at_place) in
+      let is_offer : IsOffer program settings.height at.spot.state turn.question.group turn.deed.offer = is.asks.offered.no_other turn.deed.offer (k, slice_get_within offers k turn.deed.offer is.chosen.at_place, get_or_from_slice_get offers k turn.deed.offer turn.deed.offer is.chosen.at_place) in
       is_offer.applies
 
   -- the step of a log that holds a turn
   abbrev step_of_turn : ℕ → Turn → LogStep
-  step_of_turn number turn = record { line = number; offer = turn.offer; proofs = turn.proofs; stage = turn.rule.next }
+  step_of_turn number turn = record { line = number; offer = turn.deed.offer; proofs = turn.deed.proofs; stage = turn.deed.rule.next }
+
+  -- it is one of the machine, from where the turn begins
+  held_here : (at : Position) (from : Supply) (turn : Turn) (step : LogStep) → IsTurn program settings at from turn → HoldsDeed turn.deed step → IsMachineStep program settings.height at.spot turn.deed.after.spot step.offer turn.deed.rule step.proofs
+  held_here at from turn step is holds =
+      subst (λ (here : Position). IsMachineStep program settings.height here.spot turn.deed.after.spot step.offer turn.deed.rule step.proofs) is.here (held_step laws program kept settings.height height_is turn.deed step is.does holds)
 
   -- a turn is told by a step
   record TellsTurn (number : ℕ) (turn : Turn) (log : Log) : Type 0 where
     step : LogStep
-    holds : HoldsTurn turn step
+    holds : HoldsDeed turn.deed step
     told : Transcribes program number (written_bytes (turn_events program turn)) (front.Whole log) (front.Whole (record log { steps = log.steps ++ step ∷ [] }))
 
   step_told : (number : ℕ) (log : Log) (at : Position) (from : Supply) (turn : Turn) → IsTurn program settings at from turn → IsKept program at.spot
-      → Transcribes program number (step_lines program turn.offer turn.rule turn.proofs) (front.Whole log) (front.Whole (record log { steps = log.steps ++ step_of_turn number turn ∷ [] }))
+      → Transcribes program number (step_lines program turn.deed.offer turn.deed.rule turn.deed.proofs) (front.Whole log) (front.Whole (record log { steps = log.steps ++ step_of_turn number turn ∷ [] }))
   step_told number log at from turn is before =
-      let offer = turn.offer in
-      let rule = turn.rule in
-      let holds : HoldsTurn turn (step_of_turn number turn) = record { offer = refl; proofs = refl; stage = refl } in
-      let machine = held_step laws program kept settings height_is at from turn (step_of_turn number turn) is holds in
+      let offer = turn.deed.offer in
+      let rule = turn.deed.rule in
+      let holds : HoldsDeed turn.deed (step_of_turn number turn) = record { offer = refl; proofs = refl; stage = refl } in
+      let machine = held_here at from turn (step_of_turn number turn) is holds in
       let numbered : slice_get program.rules offer.rule ≡ Some rule = machine.numbered in
       let of_rule : IsOfferOf program offer = subst (λ (o : Option Rule). IsSomeAnd o (λ r. AreValues program.signature.cons r.kinds offer.values)) (sym numbered) machine.values in
-      let many : length turn.proofs ≡ length rule.backs = as_many_proofs program settings.height turn.proofs (full_instances offer.values rule.backs) is.proved ∙ length-map rule.backs (full_instance offer.values) in
-      let readable = all_readable texts program kept settings.height height_is.low turn.proofs (full_instances offer.values rule.backs) is.proved in
+      let many : length turn.deed.proofs ≡ length rule.backs = as_many_proofs program settings.height turn.deed.proofs (full_instances offer.values rule.backs) is.does.step.proved ∙ length-map rule.backs (full_instance offer.values) in
+      let readable = all_readable texts program kept settings.height height_is.low turn.deed.proofs (full_instances offer.values rule.backs) is.does.step.proved in
       let within = holds_at (λ (r : Rule). IfSome r.next (λ stage. stage < length program.stages)) program.rules offer.rule rule kept.in_range.next_stages numbered in
       record {
-        lines = own_lines texts program offer rule turn.proofs;
-        whole = step_written texts program offer rule turn.proofs;
+        lines = own_lines texts program offer rule turn.deed.proofs;
+        whole = step_written texts program offer rule turn.deed.proofs;
         plain = (
           (one_line_both (codes "step ") (offer_text program offer) (literal (codes "step ") refl) (texts.offers program offer kept of_rule)),
-          (both_all IsOneLine (map (by_text program) turn.proofs) (stage_texts program rule.next) (bys_one_line texts program kept turn.proofs readable) (next_one_line texts program kept rule.next within)),
+          (both_all IsOneLine (map (by_text program) turn.deed.proofs) (stage_texts program rule.next) (bys_one_line texts program kept turn.deed.proofs readable) (next_one_line texts program kept rule.next within)),
         );
-        leads = texts.steps program log rule number offer turn.proofs numbered of_rule (texts.small_offers program settings.height at.spot.state offer kept before.is_state (turn_applies at from turn is)) many readable
+        leads = texts.steps program log rule number offer turn.deed.proofs numbered of_rule (texts.small_offers program settings.height at.spot.state offer kept before.is_state (turn_applies at from turn is)) many readable
             (λ stage same. subst (λ (o : Option ℕ). IfSome o (λ s. s < length program.stages)) same within);
       }
 
@@ -218,28 +225,28 @@ module _ (laws : LeadToStates) (texts : TextLaws) (program : Parts) (kept : IsPr
       let first = aside texts program number (question_events program turn.question) (front.Whole log) (question_aside texts program kept settings at from turn.question turn.left is.asks) in
       let later = number + length first.lines in
       let second = step_told later log at from turn is before in
-      let bytes = written_both (question_events program turn.question) (outs (step_lines program turn.offer turn.rule turn.proofs)) ∙ ap (λ rest. written_bytes (question_events program turn.question) ++ rest) (written_outs (step_lines program turn.offer turn.rule turn.proofs)) in
+      let bytes = written_both (question_events program turn.question) (outs (step_lines program turn.deed.offer turn.deed.rule turn.deed.proofs)) ∙ ap (λ rest. written_bytes (question_events program turn.question) ++ rest) (written_outs (step_lines program turn.deed.offer turn.deed.rule turn.deed.proofs)) in
       let done = front.Whole (record log { steps = log.steps ++ step_of_turn later turn ∷ [] }) in
       record {
         step = step_of_turn later turn;
         holds = record { offer = refl; proofs = refl; stage = refl };
         told = subst (λ (all : List ℕ). Transcribes program number all (front.Whole log) done) (sym bytes)
-            (both texts program number (written_bytes (question_events program turn.question)) (step_lines program turn.offer turn.rule turn.proofs) (front.Whole log) (front.Whole log) done first second);
+            (both texts program number (written_bytes (question_events program turn.question)) (step_lines program turn.deed.offer turn.deed.rule turn.deed.proofs) (front.Whole log) (front.Whole log) done first second);
       }
 
   -- a turn writes something
   turn_some : (turn : Turn) → 0 < length (written_bytes (turn_events program turn))
   unfolding step_lines step_line
   turn_some turn =
-      let bytes = written_both (question_events program turn.question) (outs (step_lines program turn.offer turn.rule turn.proofs)) ∙ ap (λ rest. written_bytes (question_events program turn.question) ++ rest) (written_outs (step_lines program turn.offer turn.rule turn.proofs)) in
-      let text = codes "step " ++ offer_text program turn.offer in
-      let rest = by_lines program turn.proofs ++ next_line program turn.rule.next in
+      let bytes = written_both (question_events program turn.question) (outs (step_lines program turn.deed.offer turn.deed.rule turn.deed.proofs)) ∙ ap (λ rest. written_bytes (question_events program turn.question) ++ rest) (written_outs (step_lines program turn.deed.offer turn.deed.rule turn.deed.proofs)) in
+      let text = codes "step " ++ offer_text program turn.deed.offer in
+      let rest = by_lines program turn.deed.proofs ++ next_line program turn.deed.rule.next in
       omega (arith, ap length bytes, length-append (written_bytes (question_events program turn.question)) ((text ++ 10 ∷ []) ++ rest), length-append (text ++ 10 ∷ []) rest, length-append text (10 ∷ []))
 
   -- turns are told by steps
   record TellsTurns (number : ℕ) (turns : List Turn) (log : Log) (last : Position) : Type 0 where
     steps : List LogStep
-    hold : AllZip HoldsTurn turns steps
+    hold : AllZip HoldsDeed (deeds_of turns) steps
     told : Transcribes program number (written_bytes (flat_map (turn_events program) turns)) (front.Whole log) (front.Whole (record log { steps = log.steps ++ steps }))
     many : length turns ≤ length told.lines
     kept_last : IsKept program last.spot
@@ -255,9 +262,9 @@ module _ (laws : LeadToStates) (texts : TextLaws) (program : Parts) (kept : IsPr
   turns_told number log at from (turn ∷ turns) last to done before =
       let first = turn_told number log at from turn done.0 before in
       let middle : Log = record log { steps = log.steps ++ first.step ∷ [] } in
-      let machine = held_step laws program kept settings height_is at from turn first.step done.0 first.holds in
-      let after = step_keeps laws program kept settings height_is at.spot turn.after.spot first.step.offer turn.rule first.step.proofs machine before in
-      let later = turns_told (number + length first.told.lines) middle turn.after turn.left turns last to done.1 after in
+      let machine = held_here at from turn first.step done.0 first.holds in
+      let after = step_keeps laws program kept settings.height height_is at.spot turn.deed.after.spot first.step.offer turn.deed.rule first.step.proofs machine before in
+      let later = turns_told (number + length first.told.lines) middle turn.deed.after turn.left turns last to done.1 after in
       let new = front.Whole (record log { steps = (log.steps ++ first.step ∷ []) ++ later.steps }) in
       let whole = both texts program number (written_bytes (turn_events program turn)) (written_bytes (flat_map (turn_events program) turns)) (front.Whole log) (front.Whole middle) new first.told later.told in
       let bytes = written_both (turn_events program turn) (flat_map (turn_events program) turns) in
@@ -339,7 +346,7 @@ module _ (laws : LeadToStates) (texts : TextLaws) (program : Parts) (kept : IsPr
       ∙ ap (λ behind. head ++ (written_bytes steps ++ (written_bytes last ++ behind))) (written_outs end)
 
   pub transcript_there : (come : List ℕ) (turns : List Turn) (ending : Ending) (events : List Event) (rest : List ℕ) → Dialogue program settings come turns ending events rest → length (written_bytes events) ≤ MOST_LOG
-      → (log : Log) × HasLog program (written_bytes events) log × HoldsRun program settings turns ending log × IsLegal program log × (length log.steps ≡ length turns)
+      → (log : Log) × HasLog program (written_bytes events) log × HoldsDeeds program settings.height (deeds_of turns) ending.word ending.state log × IsLegal program log × (length log.steps ≡ length turns)
   transcript_there come turns ending events rest said short =
       let run = said.run in
       let one_header = header_told in
@@ -359,14 +366,16 @@ module _ (laws : LeadToStates) (texts : TextLaws) (program : Parts) (kept : IsPr
       let told = both texts program 1 (header program settings.height) (written_bytes (flat_map (turn_events program) turns) ++ (written ++ end_lines program.signature ending.word run.last.spot.state)) front.Nothing (front.Whole begun) new one_header.told moved in
       let bytes = written_dialogue turns ending events said.whole ∙ ap (λ (state : Multiset). header program settings.height ++ (written_bytes (flat_map (turn_events program) turns) ++ (written ++ end_lines program.signature ending.word state))) run.state in
       let whole : Log = record log { end = Some end; lines = length told.lines } in
-      let holds : HoldsRun program settings turns ending whole = record { height = refl; stage = refl; start = refl; steps = steps.hold; ended = record { word = refl; state = ap finite.entries (sym run.state) } } in
-      let as_many = AllZip-long HoldsTurn turns steps.steps steps.hold in
+      let holds : HoldsDeeds program settings.height (deeds_of turns) ending.word run.last.spot.state whole = record { height_is = refl; stage = refl; start = refl; steps = steps.hold; ended = record { word_is = refl; state_is = refl } } in
+      let as_many = AllZip-long HoldsDeed (deeds_of turns) steps.steps steps.hold ∙ length-map turns (λ (turn : Turn). turn.deed) in
       let few : length told.lines ≤ MOST_LOG = omega (arith, short, few_lines told.lines, ap length bytes, ap length told.whole) in
       let least = steps.many in
       let long : length steps.steps ≤ length told.lines = omega (arith, least, as_many, length-append one_header.told.lines (steps.told.lines ++ closing.lines), length-append steps.told.lines closing.lines) in (
         whole,
         record { short = short; lines = told.lines; cut = subst (λ (all : List ℕ). AreLines all told.lines) (sym (bytes ∙ told.whole)) (texts.lines told.lines told.plain); last = new; leads = told.leads; said = refl },
-        holds,
-        legal_log laws program kept settings height_is (texts.listing program.signature) turns ending (whole_supply come) said.left whole run holds few long,
+        subst (λ (state : Multiset). HoldsDeeds program settings.height (deeds_of turns) ending.word state whole) (sym run.state) holds,
+        legal program settings.height (deeds_of turns) run.last ending.word whole kept height_is (turn_deeds program settings (start_of program) (whole_supply come) turns run.last run.between run.done)
+            (λ quiet. quiet_here program settings run.last run.between said.left ending.question (subst (λ (word : EndWord). EndsAt program settings run.last run.between word ending.question said.left) quiet run.ends))
+            holds few long,
         as_many,
       )

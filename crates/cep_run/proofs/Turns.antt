@@ -37,10 +37,12 @@ use Rattle.cep_run.specs.declared.turn.Turned.TheVariants.{Done, Over}
 use Rattle.cep_run.specs.declared.deciding.Spent.{Spent}
 use Rattle.cep_run.specs.Deciding.{How}
 use Rattle.cep_log.specs.Lines.{step_lines}
-use Rattle.cep_run.specs.Run.{Position, Question, IsQuestion, IsChosen, PassesLimit, LeadsNowhere}
+use Rattle.cep_run.specs.Deeds.{Position, PassesLimit}
+use Rattle.cep_run.specs.Run.{Question, IsQuestion, IsChosen, LeadsNowhere}
 use Rattle.cep_run.specs.Dialogue.{asked_events}
 use Rattle.cep_run.specs.Turn.{position_of, supply_with, IsPlayed, Settles, IsPlaced, TellsStep, Acts, WouldPass, limit_word, IsActed, DoesTurn, Stops, IsTurned}
 use Rattle.cep_base.proofs.Did.{did_same, did_map, did_then}
+use Rattle.cep_run.proofs.TurnSteps.{lawful_step}
 
 none_some : {A B : Type 0} (x : A) → ◌≡◌ {A = Option A} None (Some x) → B
 none_some x e = cc
@@ -216,7 +218,7 @@ module _ (program : Parts) (settings : Settings) (at : Position) (spent : Spent)
         is_answered = record { remain = remain; asked = here.asked; offered = here.offered; few = few; decided = settles.decides }
 
         -- the choice is not made
-        pub unmade_turn : (word : EndWord) → LeadsNowhere program at.spot.state (answered settles.how choice) choice word → Stops program settings at spent word spent' come events rest
+        pub unmade_turn : (word : EndWord) → LeadsNowhere program settings at (answered settles.how choice) choice word → Stops program settings at spent word spent' come events rest
         unmade_turn word nowhere = record { asked = Some (answered settles.how choice); ends = (is_answered, nowhere); written = settles.whole }
 
       module _ (place : ℕ) (come between rest : List ℕ) (first second : List Event) (settles : Settles program settings.seed at.spot.stage group offers spent (Place place) spent' come first between) where
@@ -229,14 +231,15 @@ module _ (program : Parts) (settings : Settings) (at : Position) (spent : Spent)
         -- one turn is done
         pub done_turn : (new : Position) → new.turns ≡ at.turns + 1 → Acts program settings.height offers place at new between second rest → DoesTurn program settings offers at spent new spent' come (first ++ second) rest
         done_turn new counted acts = record {
-          turn = record { before = at; question = answered settles.how (Place place); offer = acts.offer; rule = acts.rule; proofs = acts.proofs; after = new; left = supply_with rest spent' };
+          turn = record { question = answered settles.how (Place place); deed = record { before = at; offer = acts.offer; rule = acts.rule; proofs = acts.proofs; after = new }; left = supply_with rest spent' };
           is = record {
             here = refl;
             asks = untaken acts.untaken;
             chosen = is_chosen acts.offer acts.rule acts.placed;
-            proved = acts.proved;
-            steps = acts.steps;
-            counted = counted;
+            does = record {
+              step = lawful_step program settings at (supply_with come spent) (answered settles.how (Place place)) (supply_with rest spent') (untaken acts.untaken) acts.offer acts.rule acts.proofs new.spot (is_chosen acts.offer acts.rule acts.placed) acts.proved acts.steps;
+              counted = counted;
+            };
           };
           after = refl;
           left = refl;
@@ -248,7 +251,7 @@ module _ (program : Parts) (settings : Settings) (at : Position) (spent : Spent)
         pub failed_turn : (word : EndWord) → WouldPass program offers place word at between second rest → Stops program settings at spent word spent' come (first ++ second) rest
         failed_turn word fails = record {
           asked = Some (answered settles.how (Place place));
-          ends = (untaken fails.untaken, (fails.offer, fails.rule, is_chosen fails.offer fails.rule fails.placed, fails.too_much));
+          ends = (untaken fails.untaken, (fails.offer, fails.rule, is_chosen fails.offer fails.rule fails.placed, inr (remain, fails.too_much)));
           written = ap (λ es. first ++ es) fails.unwritten ∙ append-nil first ∙ settles.whole;
         }
 
@@ -297,7 +300,7 @@ module _ {M : Type 0} (is_of : Parts → M → Type 0) (height_held : M → ℕ)
       settled_here choice choice' same settled = subst (λ (it : Choice). Did talk left console settled_on (Settles program settings.seed config.stage group (offers_of (offers_held config.matcher) group) spent it spent')) same settled
 
       unmade_here : (word : EndWord) (choice choice' : Choice) → choice ≡ choice' → Did talk left console settled_on (Settles program settings.seed config.stage group (offers_of (offers_held config.matcher) group) spent choice spent')
-          → ((question : Question) → LeadsNowhere program config.state question choice' word) → (turned : Turned M) → turned ≡ Over (record { config = config; word = word }) → IsTurned talk left console settled_on program settings listing config spent spent' turned
+          → ((question : Question) → LeadsNowhere program settings (position_of config) question choice' word) → (turned : Turned M) → turned ≡ Over (record { config = config; word = word }) → IsTurned talk left console settled_on program settings listing config spent spent' turned
       unmade_here word choice choice' same settled nowhere turned is =
           subst (λ t. IsTurned talk left console settled_on program settings listing config spent spent' t) (sym is) (
             did_map talk left console settled_on _ _ (λ come events rest settles. unmade_turn program settings (position_of config) spent group (offers_of (offers_held config.matcher) group) asks_here remain few_here spent' come rest choice' events settles word (nowhere _)) (settled_here choice choice' same settled),

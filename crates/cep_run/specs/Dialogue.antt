@@ -7,7 +7,8 @@ use Rattle.cep_rule.specs.declared.parts.Parts.{Parts}
 use Rattle.cep_rule.specs.declared.offer.Offer.{Offer}
 use Rattle.cep_run.specs.declared.settings.Settings.{Settings}
 use Rattle.cep_run.specs.Deciding.{Supply, How, Heard, Lone, Drawn}
-use Rattle.cep_run.specs.Run.{start_of, whole_supply, Question, Turn, Ending, Run}
+use Rattle.cep_run.specs.Deeds.{start_of}
+use Rattle.cep_run.specs.Run.{whole_supply, Question, Turn, Ending, Run}
 use Rattle.cep_log.specs.Lines.{offer_lines, question, step_lines, end_lines, header}
 
 -- the events of a question: its offers, and where the player decides the line that asks for a choice, and what was heard
@@ -26,7 +27,7 @@ last_events program (Some asked) = question_events program asked
 
 -- the events of a turn
 abbrev pub turn_events : Parts → Turn → List Event
-turn_events program turn = question_events program turn.question ++ outs (step_lines program turn.offer turn.rule turn.proofs)
+turn_events program turn = question_events program turn.question ++ outs (step_lines program turn.deed.offer turn.deed.rule turn.deed.proofs)
 
 -- the events of a run: those of its turns, and of its end
 abbrev pub events_of : Parts → List Turn → Ending → List Event

@@ -1,5 +1,6 @@
 pub mod Choice
 pub mod Deciding
+pub mod Deeds
 pub mod Run
 pub mod Dialogue
 pub mod Logs

@@ -11,7 +11,8 @@ use Rattle.cep_log.specs.Legal.{IsLegal}
 use Rattle.cep_log.specs.Transcript.{HasLog}
 use Rattle.cep_run.specs.declared.settings.Settings.{Settings}
 use Rattle.cep_run.specs.declared.tally.Tally.{Tally}
-use Rattle.cep_run.specs.Run.{Turn, Ending, AreMachineSteps, unproved, offers_listed}
+use Rattle.cep_run.specs.Deeds.{start_of, AreDeeds}
+use Rattle.cep_run.specs.Run.{Turn, Ending, deeds_of, unproved, offers_listed}
 use Rattle.cep_run.specs.Dialogue.{Dialogue}
 use Rattle.cep_run.specs.Logs.{written_bytes}
 
@@ -22,13 +23,13 @@ pub record IsTally (done : List Turn) (ending : Ending) (tally : Tally) : Type 0
   pub offers : tally.offers ≡ offers_listed done
   pub copies : tally.copies ≡ copies_in ending.state
 
--- What is said is a dialogue of the program, and P holds of its turns and its end: its turns are steps of the machine, as many as were done when it ended. What is written of it is a transcript, if it is not too long, and its log is legal, with as many steps as turns. What is typed allows no other dialogue but for the derivations of its turns, and no other at all where no rule has a backward premise.
+-- What is said is a dialogue of the program, and P holds of its turns and its end: what was done in its turns are lawful deeds, from the start to where it ended, as many as were done then. What is written of it is a transcript, if it is not too long, and its log is legal, with as many steps as turns. What is typed allows no other dialogue but for the derivations of its turns, and no other at all where no rule has a backward premise.
 pub record IsSaid (program : Parts) (settings : Settings) (P : List Turn → Ending → Type 0) (come : List ℕ) (events : List Event) (rest : List ℕ) : Type 0 where
   pub turns : List Turn
   pub ending : Ending
   pub dialogue : Dialogue program settings come turns ending events rest
   pub holds : P turns ending
-  pub steps : AreMachineSteps program settings.height turns
+  pub deeds : AreDeeds program settings.height (start_of program) (deeds_of turns) dialogue.run.last
   pub counted : dialogue.run.last.turns ≡ length turns
   pub only : (turns' : List Turn) (ending' : Ending) (events' : List Event) (rest' : List ℕ) → Dialogue program settings come turns' ending' events' rest' → (map unproved turns' ≡ map unproved turns) × (ending' ≡ ending) × (rest' ≡ rest)
   pub logged : length (written_bytes events) ≤ MOST_LOG → (log : Log) × HasLog program (written_bytes events) log × IsLegal program log × (length log.steps ≡ length turns)

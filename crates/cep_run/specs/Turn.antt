@@ -26,7 +26,8 @@ use Rattle.cep_run.specs.Choice.{Hears}
 use Rattle.cep_run.specs.declared.deciding.Spent.{Spent}
 use Rattle.cep_run.specs.Deciding.{Supply, How, Decides}
 use Rattle.cep_log.specs.Lines.{question, step_lines, by_line, by_lines}
-use Rattle.cep_run.specs.Run.{Position, Question, Turn, IsTurn, AreTurns, offers_listed, PassesLimit, EndsAt, whole_supply}
+use Rattle.cep_run.specs.Deeds.{Position, PassesLimit}
+use Rattle.cep_run.specs.Run.{Question, Turn, IsTurn, AreTurns, offers_listed, EndsAt, whole_supply}
 use Rattle.cep_run.specs.Dialogue.{asked_events, turn_events, last_events}
 
 -- where a configuration stands
@@ -128,7 +129,7 @@ IsActed talk left old new program height offers place config (Over last) =
 pub record DoesTurn (program : Parts) (settings : Settings) (offers : List Offer) (at : Position) (spent : Spent) (next : Position) (spent' : Spent) (come : List ℕ) (events : List Event) (rest : List ℕ) : Type 0 where
   pub turn : Turn
   pub is : IsTurn program settings at (supply_with come spent) turn
-  pub after : turn.after ≡ next
+  pub after : turn.deed.after ≡ next
   pub left : turn.left ≡ supply_with rest spent'
   pub listed : turn.question.offers ≡ offers
   pub written : events ≡ turn_events program turn

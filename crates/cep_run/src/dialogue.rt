@@ -10,7 +10,7 @@ ghost use Rattle.cep_run.specs.Turn.{position_of, IsPlayed, IsWholeRun};
 ghost use Rattle.cep_run.specs.Said.{Says, IsTally};
 
 use crate::deciding::Spent;
-use crate::laws::{one_dialogue, turns_are_counted, turns_are_steps};
+use crate::laws::{deeds_are_counted, one_dialogue, turns_are_deeds};
 use crate::log_laws::dialogues_have_logs;
 use crate::settings::Settings;
 use crate::tally::Tally;
@@ -141,8 +141,8 @@ pub fn play<M: Matcher, C: Console, L: Ledger>(
     ensures cause { ConsoleCause (C.faults console.old) (C.faults console.new) result }
 {
     one_dialogue();
-    turns_are_steps();
-    turns_are_counted();
+    turns_are_deeds();
+    deeds_are_counted();
     dialogues_have_logs();
     program.parts();
     let config = Config::<M>::begin(alloc, program, settings.height, steps)?;

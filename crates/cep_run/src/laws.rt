@@ -7,7 +7,8 @@ ghost use Rattle.cep_rule.specs.State.{IsState};
 ghost use Rattle.cep_rule.specs.Program.{IsProgram};
 ghost use Rattle.cep_run.specs.declared.settings.Settings.{Settings};
 ghost use Rattle.cep_run.specs.Deciding.{Supply};
-ghost use Rattle.cep_run.specs.Run.{Position, Turn, Ending, AreTurns, AreMachineSteps, Run, unproved};
+ghost use Rattle.cep_run.specs.Deeds.{Position, Deed, AreDeeds};
+ghost use Rattle.cep_run.specs.Run.{Turn, Ending, AreTurns, Run, deeds_of, unproved};
 ghost use Rattle.cep_run.specs.Dialogue.{Dialogue};
 
 use cep_choice::laws::drawn_places_are_within;
@@ -44,18 +45,19 @@ pub fn one_dialogue()
     one_run();
 }
 
-/// Each turn of a run is a step of the machine, which can be checked without what was typed.
-pub fn turns_are_steps()
+/// What was done in the turns of a run are lawful deeds, one after another, which can be checked
+/// without what was typed.
+pub fn turns_are_deeds()
     ensures { (program : Parts) (settings : Settings) (at : Position) (from : Supply) (turns : List Turn) (last : Position) (to : Supply)
         → AreTurns program settings at from turns last to
-        → AreMachineSteps program settings.height turns }
+        → AreDeeds program settings.height at (deeds_of turns) last }
 {}
 
-/// As many turns are done as the last position counts more than the first.
-pub fn turns_are_counted()
-    ensures { (program : Parts) (settings : Settings) (at : Position) (from : Supply) (turns : List Turn) (last : Position) (to : Supply)
-        → AreTurns program settings at from turns last to
-        → last.turns ≡ at.turns + length turns }
+/// As many deeds are done as the last position counts more turns than the first.
+pub fn deeds_are_counted()
+    ensures { (program : Parts) (height : ℕ) (at : Position) (deeds : List Deed) (last : Position)
+        → AreDeeds program height at deeds last
+        → last.turns ≡ at.turns + length deeds }
 {}
 
 /// From each position at which turns remain or just ended, a run is there, whatever is typed: in each

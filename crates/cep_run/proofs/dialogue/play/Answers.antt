@@ -2,7 +2,7 @@ use Rattle.std.proofs.Common.{◌≡◌, ap, ◌∙◌, subst}
 use Rattle.cep_base.specs.Talk.{outs, Did}
 use Rattle.cep_term.specs.Multiset.{copies_in}
 use Rattle.cep_log.specs.Lines.{end_lines}
-use Rattle.cep_run.specs.Run.{start_of}
+use Rattle.cep_run.specs.Deeds.{start_of}
 use Rattle.cep_run.specs.Turn.{position_of}
 use Rattle.cep_run.specs.declared.tally.Tally.{Tally}
 use Rattle.cep_base.proofs.Did.{did_then, did_map}
@@ -39,5 +39,5 @@ returns-clause-said g c =
     (λ come second late third rest turns ends. run_ends program settings end.word start last end.offers come late rest second third turns ends)
     c.in_ok-end.ensures.said told) in
     let tally : Tally = record { word = end.word; turns = c.turns.result; offers = end.offers; copies = c.copies.result } in
-    did_map talk left c.args.console.now c.finish.new.console _ _ (λ come events rest is. is_said program settings tally last c.one_dialogue.ensures.but_for_proofs c.one_dialogue.ensures.to_the_byte c.turns_are_steps.ensures c.turns_are_counted.ensures c.dialogues_have_logs.ensures c.parts.ensures.kept c.requires.height
+    did_map talk left c.args.console.now c.finish.new.console _ _ (λ come events rest is. is_said program settings tally last c.one_dialogue.ensures.but_for_proofs c.one_dialogue.ensures.to_the_byte c.turns_are_deeds.ensures c.deeds_are_counted.ensures c.dialogues_have_logs.ensures c.parts.ensures.kept c.requires.height
     c.turns.ensures (c.copies.ensures.value ∙ ap copies_in c.state-2.ensures) come events rest is) whole

@@ -24,4 +24,4 @@ returns c = λ program settings come turns ending events rest kept height_is.
       small_offers = small.offers;
       small_proofs = small.derivations;
     } in
-    transcript_there c.steps_lead_to_states.ensures texts program kept settings height_is come turns ending events rest
+    transcript_there c.steps_lead_to_states.ensures c.logs_of_deeds_are_legal.ensures texts program kept settings height_is come turns ending events rest
