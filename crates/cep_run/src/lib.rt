@@ -5,6 +5,7 @@
 #![tactic(auto)]
 
 mod choice;
+mod copying;
 mod deciding;
 mod dialogue;
 pub mod laws;

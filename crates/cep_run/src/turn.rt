@@ -8,6 +8,7 @@ ghost use Rattle.cep_run.specs.declared.turn.Turned.TheVariants.{Over};
 ghost use Rattle.cep_run.specs.Turn.{HasSpent, IsPlayed, IsActed, IsTurned, config_left, limit_word};
 
 use crate::choice::Choice;
+use crate::copying::copy_offer;
 use crate::deciding::{Spent, decide};
 use crate::proving::put_step_lines;
 use crate::settings::Settings;
@@ -43,7 +44,8 @@ fn over<M: Matcher>(config: Config<M>, word: EndWord) -> Turned<M>
 
 /// Does the step by the offer at a place, counted from 1, and writes it with what proves its backward
 /// premises and the stage that it leads to; or says which limit it would pass. The lines are made
-/// before the step, since the matcher that has the offer goes with it.
+/// behind the step, so that nothing is proved of one that is not done, and so of a copy of the offer:
+/// the matcher that has it goes with the step.
 fn act<C: Console, M: Matcher, L: Ledger>(
     alloc: Global,
     program: &Program,
@@ -66,11 +68,12 @@ fn act<C: Console, M: Matcher, L: Ledger>(
     ensures cause { ConsoleCause (C.faults console.old) (C.faults console.new) result }
 {
     let i = place as usize - 1;
-    let mut lines = Text::new(alloc);
-    let offer = config.matcher().offer(group, i);
-    put_step_lines(alloc, program, offer, settings.height, &mut lines, steps)?;
+    let chosen = config.matcher().offer(group, i);
+    let offer = copy_offer(alloc, chosen)?;
     match config.step(alloc, program, i, steps)? {
         Stepped::Done(config) => {
+            let mut lines = Text::new(alloc);
+            put_step_lines(alloc, program, &offer, settings.height, &mut lines, steps)?;
             console.put(lines.bytes())?;
             Ok(Turned::Done(config))
         }

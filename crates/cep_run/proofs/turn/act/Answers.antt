@@ -1,4 +1,6 @@
-use Rattle.std.proofs.Common.{◌≡◌, refl, sym, subst, ◌-◌, ◌∙◌}
+use Rattle.std.proofs.Common.{◌≡◌, refl, sym, subst, ap, ◌-◌, ◌∙◌}
+use Rattle.std.specs.Prelude.{slice_get, Some}
+use Rattle.cep_rule.specs.declared.offer.Offer.{Offer}
 use Rattle.cep_rule.specs.Limits.{IsHeight}
 use Rattle.cep_rule.specs.Matching.{offers_of}
 use Rattle.cep_machine.specs.Configuration.{IsConfigurationOf}
@@ -19,19 +21,19 @@ returns-in-Done-clause-acted g c =
     let lists = g.M.Matcher.offers_held matcher in
     let offers = offers_of lists c.args.group in
     let are = (g.met.M.Matcher.exact program matcher c.requires.played.of_program.matcher).each c.args.group c.requires.listed in
-    let offer = c.offer-offer.result.now in (
+    let offer = c.in_ok-offer.offer in
+    let at : slice_get offers (c.args.place - 1) ≡ Some offer = (rw c.matcher.ensures.matcher at c.offer-chosen.ensures) ∙ ap Some (sym c.in_ok-offer.ensures) in (
       did_map talk left c.args.console.now c.put.new.self _ _
           (step_acts program (g.M.Matcher.height_held matcher) (g.M.Matcher.state_held matcher) c.args.group lists offers c.args.place (c.args.place - 1) offer old
-          are (rw c.matcher.ensures.matcher at c.offer-offer.ensures) refl c.requires.asked c.args.settings.height c.in-Done.config c.new-lines.result c.bytes.result.now
+          are at refl c.requires.asked c.args.settings.height c.in-Done.config c.new-lines.result c.bytes.result.now
           (λ rule values h. subst (λ s. IsStepped c.args.program.now rule values old s) c.in-Done.is (c.in_ok-config.ensures.stepped rule values h))
           c.new-lines.ensures
-          (subst (λ bytes. TellsStep program c.args.settings.height offer c.new-lines.result bytes) (sym c.bytes.ensures) c.in_ok-put_step_lines.ensures.ok))
+          (subst (λ bytes. TellsStep program c.args.settings.height offer c.new-lines.result bytes) (sym c.bytes.ensures) c.in_ok-put_step_lines-in-Done.ensures.ok))
           (did_put talk left c.args.console.now c.put.new.self c.bytes.result.now c.in_ok-put-in-Done.ensures.written c.in_ok-put-in-Done.ensures.left),
       one_turn_more program (g.M.Matcher.height_held matcher) (g.M.Matcher.state_held matcher) c.args.group lists offers c.args.place (c.args.place - 1) offer old
-          are (rw c.matcher.ensures.matcher at c.offer-offer.ensures) refl c.requires.asked c.in-Done.config
+          are at refl c.requires.asked c.in-Done.config
           (λ rule values h. subst (λ s. IsStepped c.args.program.now rule values old s) c.in-Done.is (c.in_ok-config.ensures.stepped rule values h)),
     )
-
 pub returns-clause-acted : goal.returns-clause-acted
 returns-clause-acted g c =
     let talk = g.C.Console.talk in
@@ -42,18 +44,18 @@ returns-clause-acted g c =
     let lists = g.M.Matcher.offers_held matcher in
     let offers = offers_of lists c.args.group in
     let are = (g.met.M.Matcher.exact program matcher c.requires.played.of_program.matcher).each c.args.group c.requires.listed in
-    let offer = c.offer-offer.result.now in
+    let offer = c.offer-chosen.result.now in
     let console = c.args.console.now in
     let last = c.in-Limit.config in
     subst (λ t. IsActed talk left console console program c.args.settings.height offers c.args.place old t) (sym c.over.ensures)
     (subst (λ w. IsActed talk left console console program c.args.settings.height offers c.args.place old (Over (record { config = last; word = w }))) (sym c.word_of.ensures) (
       did_map talk left console console _ _
           (step_fails program (g.M.Matcher.height_held matcher) (g.M.Matcher.state_held matcher) c.args.group lists offers c.args.place (c.args.place - 1) offer old
-          are (rw c.matcher.ensures.matcher at c.offer-offer.ensures) refl c.requires.asked last c.in-Limit.which c.in-Limit.number
+          are (rw c.matcher.ensures.matcher at c.offer-chosen.ensures) refl c.requires.asked last c.in-Limit.which c.in-Limit.number
           (λ rule values h. subst (λ s. IsStepped c.args.program.now rule values old s) c.in-Limit.is (c.in_ok-config.ensures.stepped rule values h)))
           (did_same talk left console console refl refl),
       left_alone program (g.M.Matcher.height_held matcher) (g.M.Matcher.state_held matcher) c.args.group lists offers c.args.place (c.args.place - 1) offer old
-          are (rw c.matcher.ensures.matcher at c.offer-offer.ensures) refl c.requires.asked last c.in-Limit.which c.in-Limit.number
+          are (rw c.matcher.ensures.matcher at c.offer-chosen.ensures) refl c.requires.asked last c.in-Limit.which c.in-Limit.number
           (λ rule values h. subst (λ s. IsStepped c.args.program.now rule values old s) c.in-Limit.is (c.in_ok-config.ensures.stepped rule values h)),
     ))
 
@@ -75,8 +77,8 @@ returns-clause-played g c =
     let offers = offers_of lists c.args.group in
     let are = (g.met.M.Matcher.exact program matcher c.requires.played.of_program.matcher).each c.args.group c.requires.listed in
     let last = c.in-Limit.config in
-    let same : last ≡ old = left_alone program (g.M.Matcher.height_held matcher) (g.M.Matcher.state_held matcher) c.args.group lists offers c.args.place (c.args.place - 1) c.offer-offer.result.now old
-    are (rw c.matcher.ensures.matcher at c.offer-offer.ensures) refl c.requires.asked last c.in-Limit.which c.in-Limit.number
+    let same : last ≡ old = left_alone program (g.M.Matcher.height_held matcher) (g.M.Matcher.state_held matcher) c.args.group lists offers c.args.place (c.args.place - 1) c.offer-chosen.result.now old
+    are (rw c.matcher.ensures.matcher at c.offer-chosen.ensures) refl c.requires.asked last c.in-Limit.which c.in-Limit.number
     (λ rule values h. subst (λ s. IsStepped c.args.program.now rule values old s) c.in-Limit.is (c.in_ok-config.ensures.stepped rule values h)) in
     subst (λ t. IsPlayed g.M.Matcher.is_of g.M.Matcher.height_held program c.args.settings (config_left t)) (sym c.over.ensures)
     (subst (λ config. IsPlayed g.M.Matcher.is_of g.M.Matcher.height_held program c.args.settings config) (sym same) c.requires.played)
@@ -94,6 +96,6 @@ put_step_lines-requires-clause-applies g c =
     let offers = offers_of lists c.args.group in
     let are = (g.met.M.Matcher.exact program matcher c.requires.played.of_program.matcher).each c.args.group c.requires.listed in (
       g.M.Matcher.state_held matcher,
-      offer_applies program (g.M.Matcher.height_held matcher) (g.M.Matcher.state_held matcher) c.args.group lists offers c.args.place (c.args.place - 1) c.offer-offer.result.now old
-          are (rw c.matcher.ensures.matcher at c.offer-offer.ensures) refl c.requires.asked c.args.settings c.requires.played.height,
+      offer_applies program (g.M.Matcher.height_held matcher) (g.M.Matcher.state_held matcher) c.args.group lists offers c.args.place (c.args.place - 1) c.in_ok-offer.offer old
+          are ((rw c.matcher.ensures.matcher at c.offer-chosen.ensures) ∙ ap Some (sym c.in_ok-offer.ensures)) refl c.requires.asked c.args.settings c.requires.played.height,
     )
