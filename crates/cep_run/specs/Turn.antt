@@ -79,12 +79,6 @@ pub record AddsProofs (program : Parts) (height : ℕ) (atoms : List AtomTree) (
   pub proved : AreProofs program height proofs atoms
   pub added : new ≡ old ++ by_lines program proofs
 
--- The same for the backward premises of an offer.
-pub record ProvesOffer (program : Parts) (height : ℕ) (offer : Offer) (old new : List ℕ) : Type 0 where
-  pub rule : Rule
-  pub numbered : slice_get program.rules offer.rule ≡ Some rule
-  pub adds : AddsProofs program height (full_instances offer.values rule.backs) old new
-
 -- The lines of a step were added: its own, those of what proves its backward premises within the height, and that of the next stage.
 pub record TellsStep (program : Parts) (height : ℕ) (offer : Offer) (old new : List ℕ) : Type 0 where
   pub rule : Rule

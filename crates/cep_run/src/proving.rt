@@ -9,7 +9,7 @@ ghost use Rattle.cep_rule.specs.Instances.{given};
 ghost use Rattle.cep_rule.specs.Derivations.{IsDerivable};
 ghost use Rattle.cep_rule.specs.Offers.{Applies};
 ghost use Rattle.cep_prove.specs.Answers.{IsGoal};
-ghost use Rattle.cep_run.specs.Turn.{AddsProof, ProvesOffer, TellsStep};
+ghost use Rattle.cep_run.specs.Turn.{AddsProof, TellsStep};
 
 use cep_base::{Steps, Text};
 use cep_log::{put_by, put_next, put_step};
@@ -36,36 +36,16 @@ pub fn put_step_lines<L: Ledger>(
     ensures ok { OnOk result (TellsStep program.now height offer.now out.old out.new) }
     ensures counted { steps.old ≤ steps.new }
 {
-    put_step(program, offer, out)?;
-    put_proofs(alloc, program, offer, height, out, steps)?;
-    let rule = program.parts().rules.get(offer.rule as usize);
-    put_next(program, rule.next, out)
-}
-
-// The lines of derivations that prove the backward premises of an offer that applies, one for each
-// in written order.
-fn put_proofs<L: Ledger>(
-    alloc: Global,
-    program: &Program,
-    offer: &Offer,
-    height: u32,
-    out: &mut Text,
-    steps: &mut Steps<L>,
-) -> Result<(), AllocError>
-    requires height { IsHeight height }
-    requires applies { (state : Multiset) × Applies program.now height state offer.now }
-    ensures ok { OnOk result (ProvesOffer program.now height offer.now out.old out.new) }
-    ensures counted { steps.old ≤ steps.new }
-{
     types_are_lawful();
     more_positions_known_are_no_worse();
+    put_step(program, offer, out)?;
     let rule = program.parts().rules.get(offer.rule as usize);
     let known = known_values(alloc, offer.values.as_slice())?;
     for i in 0..rule.backs.len() {
         let premise = rule.backs.get(i);
         put_proof_of(alloc, program, premise, &known, height, out, steps)?;
     }
-    Ok(())
+    put_next(program, rule.next, out)
 }
 
 // The line of a derivation of a goal whose variables all have values.

@@ -1,7 +1,7 @@
 use Rattle.std.proofs.Common.{◌≤◌, take}
 use Rattle.cep_rule.specs.Instances.{full_instances}
 use Rattle.cep_run.specs.Turn.{AddsProofs}
-use Rattle.cep_run.proofs.proving.put_proofs.Given as goal
+use Rattle.cep_run.proofs.proving.put_step_lines.Given as goal
 
 abbrev pub invariant-loop-i : goal.invariant-loop-i
 invariant-loop-i g l = record {
