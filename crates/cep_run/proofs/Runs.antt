@@ -1,10 +1,11 @@
 -- Turn after turn, what was said so far is the events of the turns that are done.
-use Rattle.std.proofs.Common.{◌≡◌, ℕ, ◌+◌, List, [], ◌∷◌, ◌++◌, length, refl, sym, ap, ◌∙◌, subst, append_assoc, arith, None}
+use Rattle.std.proofs.Common.{◌≡◌, ℕ, ◌+◌, List, [], ◌∷◌, ◌++◌, length, refl, sym, ap, ◌∙◌, subst, append_assoc, arith, Option, None}
 use Rattle.std.specs.List.{flat_map}
 use Rattle.std.proofs.lemmas.Grind.{flat_map-append}
 use Rattle.std.proofs.lemmas.List.{append-nil}
 use Rattle.cep_base.specs.declared.console.Event.{Event}
-use Rattle.cep_base.specs.Talk.{outs}
+use Rattle.cep_base.specs.Talk.{outs, Did}
+use Rattle.cep_machine.specs.Configuration.{Configuration}
 use Rattle.cep_rule.specs.declared.parts.Parts.{Parts}
 use Rattle.cep_rule.specs.declared.offer.Offer.{Offer}
 use Rattle.cep_rule.specs.Stages.{IsAsked, IsQuiet}
@@ -17,7 +18,11 @@ use Rattle.cep_run.specs.Deeds.{Position, start_of}
 use Rattle.cep_run.specs.Run.{whole_supply, Turn, Ending, IsTurn, AreTurns, offers_listed, EndsAt}
 use Rattle.cep_run.specs.Dialogue.{turn_events, last_events, Dialogue}
 use Rattle.cep_run.specs.declared.deciding.Spent.{Spent}
-use Rattle.cep_run.specs.Turn.{supply_with, DoesTurn, Stops, SoFar, IsWholeRun}
+use Rattle.cep_run.specs.declared.turn.Ended.{Ended}
+use Rattle.cep_run.specs.declared.turn.Turned.{Turned}
+use Rattle.cep_run.specs.declared.turn.Turned.TheVariants.{Over}
+use Rattle.cep_run.specs.Turn.{position_of, supply_with, DoesTurn, Stops, IsTurned, SoFar, IsWholeRun}
+use Rattle.cep_base.proofs.Did.{did_then}
 
 -- one more turn behind others
 turns_behind : (program : Parts) (settings : Settings) (at : Position) (from : Supply) (turns : List Turn) (last : Position) (between : Supply) (turn : Turn) → AreTurns program settings at from turns last between → IsTurn program settings last between turn → AreTurns program settings at from (turns ++ turn ∷ []) turn.deed.after turn.left
@@ -80,6 +85,17 @@ module _ (program : Parts) (settings : Settings) (start : Position) where
     -- all turns are done
     pub run_is_over : (group : ℕ) (come : List ℕ) (events : List Event) (rest : List ℕ) → IsAsked program settings.height at.spot.state at.spot.stage group → at.turns ≡ settings.limit → SoFar program settings start at spent offers come events rest → IsWholeRun program settings Turns start at offers come events rest
     run_is_over group come events rest asked all so = run_over Turns come events rest (((group, asked), all), refl) so
+
+-- the run ends where its last turn does
+pub turn_stops : {C M : Type 0} (talk : C → Option (List Event)) (left : C → Option (List ℕ)) (old between new : C) (program : Parts) (settings : Settings) (start : Position) (config : Configuration M) (spent spent' : Spent) (offers : ℕ) (listing : List Offer)
+    (turned : Turned M) (end : Ended M) → turned ≡ Over end → IsTurned talk left between new program settings listing config spent spent' turned → Did talk left old between (SoFar program settings start (position_of config) spent offers)
+    → Did talk left old new (IsWholeRun program settings end.word start (position_of end.config) offers)
+turn_stops talk left old between new program settings start config spent spent' offers listing turned end is comes so_far =
+    let over = subst (IsTurned talk left between new program settings listing config spent spent') is comes in
+    did_then talk left old between new _ _ _ (λ come first middle second rest so stop.
+    subst (λ last. IsWholeRun program settings end.word start (position_of last) offers come (first ++ second) rest) (sym over.1)
+    (run_stops program settings start (position_of config) spent offers end.word spent' come first middle second rest so stop))
+    so_far over.0
 
 -- all turns and the end, from some bytes to come
 pub record RunFrom (program : Parts) (settings : Settings) (word : EndWord) (start last : Position) (offers : ℕ) (come : List ℕ) (events : List Event) (rest : List ℕ) : Type 0 where

@@ -7,6 +7,7 @@ use Rattle.cep_base.specs.declared.console.Event.{Event}
 use Rattle.cep_base.specs.Talk.{outs}
 use Rattle.cep_rule.specs.declared.parts.Parts.{Parts}
 use Rattle.cep_rule.specs.declared.offer.Offer.{Offer}
+use Rattle.cep_rule.specs.Matching.{offers_of}
 use Rattle.cep_choice.specs.Draws.{generator_behind, place_drawn}
 use Rattle.cep_run.specs.declared.choice.Choice.{Choice}
 use Rattle.cep_run.specs.declared.choice.Choice.TheVariants.{Place}
@@ -61,6 +62,10 @@ module _ (program : Parts) (seed stage group : ℕ) (offers : List Offer) where
     | inl several ↦ let is = drawn several seed spent.draw in drawn_settles old new place come events rest others (subst (λ m. 1 < m) many several) (is.0 ∙ ap (place_drawn seed old.drawn) many) is.1 told
     | inr few ↦ let one : n ≡ 1 = omega (arith, some, few) in let is = lone one in lone_settles old new place come events rest others (sym many ∙ one) is.0 is.1 told
   ]
+
+-- so many are counted, by a view of what the matcher lists
+pub count_seen : {M : Type 0} (offers_held : M → List (List Offer)) (group : ℕ) (seen held : M) (n : ℕ) → seen ≡ held → n ≡ length (offers_of (offers_held seen) group) → n ≡ length (offers_of (offers_held held) group)
+count_seen offers_held group seen held n view counted = counted ∙ ap (λ m. length (offers_of (offers_held m) group)) view
 
 -- who decides, by the code's test
 pub same_players : (program : Parts) (group one stage n many : ℕ) → one ≡ stage → n ≡ many → (b : Bool) → (IsTrue b ↔ IsPlayers program one group n) → b ≡ true → IsPlayers program stage group many

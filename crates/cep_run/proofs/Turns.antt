@@ -7,7 +7,7 @@ use Rattle.std.proofs.lemmas.List.{append-nil, get_or_default}
 use Rattle.std.proofs.lemmas.Option.{slice_get_within, get_or_from_slice_get}
 use Rattle.cep_base.specs.declared.limits.TheConstants.{MOST_OFFERS}
 use Rattle.cep_base.specs.declared.console.Event.{Event}
-use Rattle.cep_base.specs.Talk.{outs, Did}
+use Rattle.cep_base.specs.Talk.{outs, GoesOn, Did}
 use Rattle.cep_term.specs.Tree.{Tree, AtomTree, IsFit}
 use Rattle.cep_term.specs.Multiset.{Multiset}
 use Rattle.cep_rule.specs.declared.rule.Rule.{Rule}
@@ -26,7 +26,9 @@ use Rattle.cep_machine.specs.declared.stepped.Which.TheVariants as which
 use Rattle.cep_machine.specs.Configuration.{Configuration}
 use Rattle.cep_machine.specs.Asking.{asked_offers, IsAskedIn}
 use Rattle.cep_step.specs.Passing.{IsTooLarge, IsFirstTooLarge, IsTooFull}
-use Rattle.cep_machine.specs.Stepping.{IsAskedAt, IsNext, Passes}
+use Rattle.cep_machine.specs.declared.stepped.Stepped.{Stepped}
+use Rattle.cep_machine.specs.declared.stepped.Stepped.TheVariants as stepping
+use Rattle.cep_machine.specs.Stepping.{IsAskedAt, IsNext, Passes, IsStepped}
 use Rattle.cep_run.specs.declared.choice.Choice.{Choice}
 use Rattle.cep_run.specs.declared.choice.Choice.TheVariants.{Place, NoMore, NoRoom}
 use Rattle.cep_log.specs.declared.end_word.EndWord.{EndWord}
@@ -40,8 +42,8 @@ use Rattle.cep_log.specs.Lines.{step_lines}
 use Rattle.cep_run.specs.Deeds.{Position, PassesLimit}
 use Rattle.cep_run.specs.Run.{Question, IsQuestion, IsChosen, LeadsNowhere}
 use Rattle.cep_run.specs.Dialogue.{asked_events}
-use Rattle.cep_run.specs.Turn.{position_of, supply_with, IsPlayed, Settles, IsPlaced, TellsStep, Acts, WouldPass, limit_word, IsActed, DoesTurn, Stops, IsTurned}
-use Rattle.cep_base.proofs.Did.{did_same, did_map, did_then}
+use Rattle.cep_run.specs.Turn.{position_of, supply_with, IsPlayed, Settles, IsPlaced, TellsStep, Acts, WouldPass, limit_word, IsActed, DoesTurn, Stops, IsTurned, config_left}
+use Rattle.cep_base.proofs.Did.{did_same, did_put, did_map, did_then}
 use Rattle.cep_run.proofs.TurnSteps.{lawful_step}
 
 none_some : {A B : Type 0} (x : A) → ◌≡◌ {A = Option A} None (Some x) → B
@@ -187,6 +189,62 @@ module _ {M : Type 0} (program : Parts) (height : ℕ) (held : Multiset) (group 
 
   pub left_alone : (last : Configuration M) (which : Which) (number : ℕ) → ((rule : Rule) (values : List Tree) → IsAskedAt program lists old.stage i rule values → (last ≡ old) × Passes program.signature rule values old.state which number) → last ≡ old
   left_alone last which number stepped = (stepped rule_of offer.values chosen_there).0
+
+-- What the choice of a place comes to, from what the matcher lists there and a copy of it
+module _ {M : Type 0} (height_held : M → ℕ) (state_held : M → Multiset) (offers_held : M → List (List Offer)) (program : Parts) (group place : ℕ) (old : Configuration M)
+    (lists : AreListed program (height_held old.matcher) (state_held old.matcher) (offers_held old.matcher)) (listed : group < length (offers_held old.matcher))
+    (asked : offers_of (offers_held old.matcher) group ≡ asked_offers (offers_held old.matcher) old.stage)
+    (seen : M) (view : seen ≡ old.matcher) (chosen offer : Offer) (there : slice_get (offers_of (offers_held seen) group) (place - 1) ≡ Some chosen) (copied : offer ≡ chosen) where
+  abbrev high : ℕ
+  high = height_held old.matcher
+
+  abbrev held : Multiset
+  held = state_held old.matcher
+
+  abbrev all : List (List Offer)
+  all = offers_held old.matcher
+
+  at : slice_get (offers_of all group) (place - 1) ≡ Some offer
+  at = subst (λ m. slice_get (offers_of (offers_held m) group) (place - 1) ≡ Some offer) view (there ∙ ap Some (sym copied))
+
+  -- the copy applies
+  pub copy_applies : (settings : Settings) → high ≡ settings.height → (state : Multiset) × Applies program settings.height state offer
+  copy_applies settings same = (held, offer_applies program high held group all (offers_of all group) place (place - 1) offer old (lists.each group listed) at refl asked settings same)
+
+  module _ {C : Type 0} (talk : C → Option (List Event)) (left : C → Option (List ℕ)) (console : C) (height : ℕ) (stepped : Stepped M)
+      (comes : (rule : Rule) (values : List Tree) → IsAskedAt program all old.stage (place - 1) rule values → IsStepped program rule values old stepped) where
+    -- the step was done, and its lines were put
+    pub done_acts : (next : Configuration M) → stepped ≡ stepping.Done next → (new : C) (none told bytes : List ℕ) → none ≡ [] → TellsStep program height offer none told → bytes ≡ told → GoesOn (talk console) (outs bytes) (talk new) → left new ≡ left console
+        → IsActed talk left console new program height (offers_of all group) place old (Done next)
+    done_acts next is new none told bytes empty tells same went kept =
+        let leads = λ (rule : Rule) (values : List Tree) (h : IsAskedAt program all old.stage (place - 1) rule values). subst (IsStepped program rule values old) is (comes rule values h) in (
+          did_map talk left console new _ _
+              (step_acts program high held group all (offers_of all group) place (place - 1) offer old (lists.each group listed) at refl asked height next none bytes leads empty (subst (TellsStep program height offer none) (sym same) tells))
+              (did_put talk left console new bytes went kept),
+          one_turn_more program high held group all (offers_of all group) place (place - 1) offer old (lists.each group listed) at refl asked next leads,
+        )
+
+    module _ (last : Configuration M) (which : Which) (number : ℕ) (is : stepped ≡ stepping.Limit last which number) where
+      fails : (rule : Rule) (values : List Tree) → IsAskedAt program all old.stage (place - 1) rule values → (last ≡ old) × Passes program.signature rule values old.state which number
+      fails rule values h = subst (IsStepped program rule values old) is (comes rule values h)
+
+      -- the step would pass a limit, and nothing was done
+      pub stays : last ≡ old
+      stays = left_alone program high held group all (offers_of all group) place (place - 1) offer old (lists.each group listed) at refl asked last which number fails
+
+      pub limit_acts : (word : EndWord) → word ≡ limit_word which → (turned : Turned M) → turned ≡ Over (record { config = last; word = word }) → IsActed talk left console console program height (offers_of all group) place old turned
+      limit_acts word named turned over =
+          subst (IsActed talk left console console program height (offers_of all group) place old) (sym over)
+          (subst (λ w. IsActed talk left console console program height (offers_of all group) place old (Over (record { config = last; word = w }))) (sym named) (
+            did_map talk left console console _ _
+                (step_fails program high held group all (offers_of all group) place (place - 1) offer old (lists.each group listed) at refl asked last which number fails)
+                (did_same talk left console console refl refl),
+            stays,
+          ))
+
+      pub limit_played : (is_of : Parts → M → Type 0) (settings : Settings) → IsPlayed is_of height_held program settings old → (word : EndWord) (turned : Turned M) → turned ≡ Over (record { config = last; word = word }) → IsPlayed is_of height_held program settings (config_left turned)
+      limit_played is_of settings played word turned over =
+          subst (λ t. IsPlayed is_of height_held program settings (config_left t)) (sym over) (subst (IsPlayed is_of height_held program settings) (sym stays) played)
 
 -- Turns
 

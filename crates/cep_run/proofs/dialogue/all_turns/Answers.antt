@@ -3,10 +3,10 @@ use Rattle.std.specs.Prelude.{IsNone}
 use Rattle.cep_rule.specs.Stages.{IsAsked, IsQuiet}
 use Rattle.cep_base.specs.Talk.{Did}
 use Rattle.cep_machine.specs.Asking.{asked_offers}
-use Rattle.cep_run.specs.Turn.{position_of, HasSpent, IsPlayed, IsTurned, SoFar, config_left, IsWholeRun}
+use Rattle.cep_run.specs.Turn.{position_of, HasSpent, IsPlayed, IsTurned, SoFar, config_left}
 use Rattle.cep_base.proofs.Did.{did_same, did_map, did_then}
 use Rattle.cep_run.proofs.Settling.{nothing_spent}
-use Rattle.cep_run.proofs.Runs.{run_begins, run_goes_on, run_stops, run_quiets, run_is_over}
+use Rattle.cep_run.proofs.Runs.{run_begins, run_goes_on, turn_stops, run_quiets, run_is_over}
 use Rattle.cep_run.proofs.dialogue.all_turns.Goals as goal
 
 pub loop-done-init : goal.loop-done-init
@@ -57,19 +57,8 @@ loop-done-preserved g c =
 
 pub returns-in-Over-clause-said : goal.returns-in-Over-clause-said
 returns-in-Over-clause-said g c =
-    let talk = g.C.Console.talk in
-    let left = g.C.Console.left in
-    let program = c.args.program.now in
-    let settings = c.args.settings in
-    let before = c.loop-done.invariant in
-    let config = c.loop-done.config in
-    let end = c.in-Over.end in
-    let listing = asked_offers (g.M.Matcher.offers_held config.matcher) config.stage in
-    let turned = subst (λ t. IsTurned talk left c.loop-done.console c.turn.new.console program settings listing config c.loop-done.spent c.turn.new.spent t) c.in-Over.is c.in_ok-next.ensures.turned in
-    did_then talk left c.args.console.now c.loop-done.console c.turn.new.console _ _ _ (λ come first between second rest so stop.
-    subst (λ last. IsWholeRun program settings end.word (position_of c.args.start) (position_of last) c.loop-done.offers come (first ++ second) rest) (sym turned.1)
-    (run_stops program settings (position_of c.args.start) (position_of config) c.loop-done.spent c.loop-done.offers end.word c.turn.new.spent come first between second rest so stop))
-    before.so_far turned.0
+    turn_stops g.C.Console.talk g.C.Console.left c.args.console.now c.loop-done.console c.turn.new.console c.args.program.now c.args.settings (position_of c.args.start) c.loop-done.config c.loop-done.spent c.turn.new.spent c.loop-done.offers
+    _ _ c.in-Over.end c.in-Over.is c.in_ok-next.ensures.turned c.loop-done.invariant.so_far
 
 pub returns-in-Some-clause-said : goal.returns-in-Some-clause-said
 returns-in-Some-clause-said g c =
