@@ -72,7 +72,7 @@ module _ {C : Type 0} (talk : C → Option (List Event)) (left : C → Option (L
   -- less may be said of the turns and the end
   pub says_less : (program : Parts) (settings : Settings) (P Q : List Turn → Ending → Type 0) → ((turns : List Turn) (ending : Ending) → P turns ending → Q turns ending) → Says talk left old new program settings P → Says talk left old new program settings Q
   says_less program settings P Q less says =
-      did_map talk left old new _ _ (λ come events rest said. record { turns = said.turns; ending = said.ending; dialogue = said.dialogue; holds = less said.turns said.ending said.holds; steps = said.steps; counted = said.counted; logged = said.logged; only = said.only; to_the_byte = said.to_the_byte }) says
+      did_map talk left old new _ _ (λ come events rest said. record { turns = said.turns; ending = said.ending; dialogue = said.dialogue; holds = less said.turns said.ending said.holds; deeds = said.deeds; counted = said.counted; logged = said.logged; only = said.only; to_the_byte = said.to_the_byte }) says
 
 -- derivations do not count
 turns_counted : (turns : List Turn) → length (map unproved turns) ≡ length turns
@@ -154,7 +154,7 @@ module _ {C : Type 0} (talk : C → Option (List Event)) (left : C → Option (L
   dialogue_done one file options program word ask is_in says adds same = record {
     answered = did_map talk left old new _ _ (λ come events rest said. record {
       due = record { events = events; rest = rest; code = code_told word; names = file ∷ [] };
-      is = inl (inr (Play file options, ask, (is_in.0, is_in.1, inr (program, is_in.2, (record { turns = said.turns; ending = said.ending; dialogue = said.dialogue; holds = ap code_told (sym said.holds); steps = said.steps; counted = said.counted; only = said.only; logged = said.logged; to_the_byte = said.to_the_byte }, refl)))));
+      is = inl (inr (Play file options, ask, (is_in.0, is_in.1, inr (program, is_in.2, (record { turns = said.turns; ending = said.ending; dialogue = said.dialogue; holds = ap code_told (sym said.holds); deeds = said.deeds; counted = said.counted; only = said.only; logged = said.logged; to_the_byte = said.to_the_byte }, refl)))));
       said = refl;
       left = refl;
       names = adds;
