@@ -6,9 +6,21 @@ use Rattle.cep_choice.specs.declared.reading.Said.{Said}
 use Rattle.cep_choice.specs.declared.reading.Said.TheVariants as said
 use Rattle.cep_run.specs.declared.choice.Choice.{Choice}
 use Rattle.cep_run.specs.declared.choice.Choice.TheVariants as choice
-use Rattle.cep_choice.specs.TypedLine.{Cut, ReadsLine, IsHeardAs, IsCutShort}
-use Rattle.cep_run.specs.Choice.{Hears, chosen, again, no_more, no_room, room_after, no_line, HearsFront, line_cut, answer_cut, behind_bad}
+use Rattle.cep_choice.specs.TypedLine.{Cut, ReadsLine, IsLine, ChoosesNone, IsHeardAs, IsCutShort}
+use Rattle.cep_run.specs.Choice.{Hears, chosen, again, no_more, no_room, room_after, no_line}
 use Rattle.cep_base.proofs.Did.{did_same, did_put, did_then, did_map}
+
+-- The events of one choice among n that was cut short: in the reading of a line, or in the answer to a line that chooses nothing.
+pub data HearsFront (n : ℕ) : List ℕ → ℕ → List Event → List ℕ → Type 0 where
+  line_cut : {come rest : List ℕ} {taken : ℕ} {events : List Event} → IsCutShort (room_after taken) come events rest → HearsFront n come taken events rest
+  answer_cut : {come rest : List ℕ} {taken : ℕ} {events : List Event} (cut : Cut) (line : List ℕ) (more size : ℕ) (first : List Event)
+      → ReadsLine (room_after taken) come first cut rest more → IsLine cut line → ChoosesNone n line → events ≡ first ++ outs (take size no_line)
+      → HearsFront n come taken events rest
+  -- before that a line chose nothing, and was answered
+  behind_bad : {come rest : List ℕ} {taken : ℕ} {events : List Event} (cut : Cut) (line : List ℕ) (between : List ℕ) (more : ℕ) (first others : List Event)
+      → ReadsLine (room_after taken) come first cut between more → IsLine cut line → ChoosesNone n line
+      → HearsFront n between (taken + more) others rest → events ≡ first ++ (outs no_line ++ others)
+      → HearsFront n come taken events rest
 
 -- one reading of a line, and what it says
 abbrev ReadsSaid : ℕ → ℕ → Said → ℕ → List ℕ → List Event → List ℕ → Type 0

@@ -1,10 +1,10 @@
 -- From the bytes to come some choice is heard.
-use Rattle.std.proofs.Common.{◌≡◌, ◌⊎◌, inl, inr, ℕ, zero, suc, ◌+◌, ◌<◌, List, [], ◌∷◌, ◌++◌, length, length-append, refl, ap, subst, arith, Bool, true, false}
+use Rattle.std.proofs.Common.{◌≡◌, ◌⊎◌, inl, inr, ℕ, zero, suc, ◌+◌, ◌<◌, List, [], ◌∷◌, ◌++◌, length, length-append, refl, sym, ap, subst, arith, Bool, true, false}
 use Rattle.std.specs.Prelude.{decimal, bytes_eq}
 use Rattle.std.proofs.lemmas.Bool.{cases_Bool, cases_eq}
 use Rattle.std.proofs.lemmas.Slice.Eq.{bytes_eq-Decides}
 use Rattle.cep_base.specs.declared.console.Event.{Event}
-use Rattle.cep_base.specs.declared.console.Event.TheVariants.{End}
+use Rattle.cep_base.specs.declared.console.Event.TheVariants.{In, End}
 use Rattle.cep_base.specs.Talk.{outs, ins}
 use Rattle.cep_run.specs.declared.choice.Choice.{Choice}
 use Rattle.cep_run.specs.declared.choice.Choice.TheVariants.{Place, NoMore, NoRoom}
@@ -43,7 +43,7 @@ none_more n line none other place chooses = elim (cases_eq place (suc n)) [
 ]
 
 -- a line chooses a place among n, or none
-chooses_or_not : (n : ℕ) (line : List ℕ) → ((place : ℕ) × Chooses n line place) ⊎ ChoosesNone n line
+pub chooses_or_not : (n : ℕ) (line : List ℕ) → ((place : ℕ) × Chooses n line place) ⊎ ChoosesNone n line
 chooses_or_not zero line = inr (λ place chooses. let some = chooses.0 in let within = chooses.1 in omega arith)
 chooses_or_not (suc n) line = elim (chooses_or_not n line) [
   | inl some ↦ inl (some.0, (some.1.0, (let within = some.1.1 in omega arith), some.1.2))
@@ -56,15 +56,15 @@ chooses_or_not (suc n) line = elim (chooses_or_not n line) [
 -- One line
 
 -- a line is read from the bytes to come, where room bytes may be taken
-record HasLine (room : ℕ) (come : List ℕ) : Type 0 where
-  events : List Event
-  cut : Cut
-  rest : List ℕ
-  taken : ℕ
-  reads : ReadsLine room come events cut rest taken
+pub record HasLine (room : ℕ) (come : List ℕ) : Type 0 where
+  pub events : List Event
+  pub cut : Cut
+  pub rest : List ℕ
+  pub taken : ℕ
+  pub reads : ReadsLine room come events cut rest taken
 
 -- with one byte before it that is no LF, the same line is read with one byte more
-one_more : (room byte : ℕ) (come : List ℕ) → (byte ≡ 10 → ⊥) → (cut : Cut) (events : List Event) (rest : List ℕ) (taken : ℕ) → ReadsLine room come events cut rest taken → HasLine (suc room) (byte ∷ come)
+pub one_more : (room byte : ℕ) (come : List ℕ) → (byte ≡ 10 → ⊥) → (cut : Cut) (events : List Event) (rest : List ℕ) (taken : ℕ) → ReadsLine room come events cut rest taken → HasLine (suc room) (byte ∷ come)
 one_more room byte come other (Ended line) events rest taken reads = record {
   events = ins ((byte ∷ line) ++ 10 ∷ []);
   cut = Ended (byte ∷ line);
@@ -94,7 +94,15 @@ one_more room byte come other (Full bytes) events rest taken reads = record {
   reads = (ap (λ bytes. byte ∷ bytes) reads.0, (other, reads.1), (let full = reads.2 in omega arith), refl, refl);
 }
 
-line_there : (room : ℕ) (come : List ℕ) → HasLine room come
+-- and it says that byte before
+pub one_more-says : (room byte : ℕ) (come : List ℕ) (other : byte ≡ 10 → ⊥) (cut : Cut) (events : List Event) (rest : List ℕ) (taken : ℕ) (reads : ReadsLine room come events cut rest taken) → (one_more room byte come other cut events rest taken reads).events ≡ In byte ∷ events
+unfolding one_more
+one_more-says room byte come other (Ended line) events rest taken reads = ap (λ es. In byte ∷ es) (sym reads.3)
+one_more-says room byte come other (Last line) events rest taken reads = ap (λ es. In byte ∷ es) (sym reads.5)
+one_more-says room byte come other Nothing events rest taken reads = ap (λ es. In byte ∷ es) (sym reads.3)
+one_more-says room byte come other (Full bytes) events rest taken reads = ap (λ es. In byte ∷ es) (sym reads.3)
+
+pub line_there : (room : ℕ) (come : List ℕ) → HasLine room come
 line_there zero come = record { events = []; cut = Full []; rest = come; taken = 0; reads = (refl, tt, refl, refl, refl) }
 line_there (suc room) [] = record { events = End ∷ []; cut = Nothing; rest = []; taken = 0; reads = (refl, refl, (omega arith), refl, refl) }
 line_there (suc room) (byte ∷ come) = elim (cases_eq byte 10) [
@@ -147,3 +155,10 @@ hears_within n (suc most) come taken few =
 
 pub hears_there : (n : ℕ) (come : List ℕ) (taken : ℕ) → HasHearing n come taken
 hears_there n come taken = hears_within n (length come + 1) come taken (omega arith)
+
+-- a place that is heard is one of n
+pub heard_within : (n : ℕ) {come rest : List ℕ} {taken taken' : ℕ} {events : List Event} {choice : Choice} → Hears n come taken events choice rest taken' → IsChoiceWithin n choice
+heard_within n (chosen cut line more reads is chooses many) = (chooses.0, chooses.1)
+heard_within n (again cut line between more first others reads is none hears whole) = heard_within n hears
+heard_within n (no_more more reads many) = tt
+heard_within n (no_room bytes more reads many) = tt

@@ -18,3 +18,4 @@ pub mod OneLines
 pub mod Asides
 pub mod Transcribed
 pub mod Saying
+pub mod Fronts

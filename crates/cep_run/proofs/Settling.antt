@@ -34,7 +34,7 @@ module _ (program : Parts) (seed stage group : ℕ) (offers : List Offer) where
   player_settles old taken' choice come events rest players asks = record { how = Heard asks.heard; decides = (players, asks.hears, refl); whole = asks.whole }
 
   -- there was one offer
-  lone_settles : (old new : Spent) (place : ℕ) (come : List ℕ) (events : List Event) (rest : List ℕ) → ¬ IsPlayers program stage group (length offers) → length offers ≡ 1 → place ≡ 1 → new ≡ old
+  pub lone_settles : (old new : Spent) (place : ℕ) (come : List ℕ) (events : List Event) (rest : List ℕ) → ¬ IsPlayers program stage group (length offers) → length offers ≡ 1 → place ≡ 1 → new ≡ old
       → (events ≡ outs (offer_lines program 1 offers)) × (rest ≡ come) → Settles program seed stage group offers old (Place place) new come events rest
   lone_settles old new place come events rest others one first same told = record {
     how = Lone;
@@ -43,7 +43,7 @@ module _ (program : Parts) (seed stage group : ℕ) (offers : List Offer) where
   }
 
   -- a word was drawn
-  drawn_settles : (old new : Spent) (place : ℕ) (come : List ℕ) (events : List Event) (rest : List ℕ) → ¬ IsPlayers program stage group (length offers) → 1 < length offers → place ≡ place_drawn seed old.drawn (length offers)
+  pub drawn_settles : (old new : Spent) (place : ℕ) (come : List ℕ) (events : List Event) (rest : List ℕ) → ¬ IsPlayers program stage group (length offers) → 1 < length offers → place ≡ place_drawn seed old.drawn (length offers)
       → new ≡ record { taken = old.taken; drawn = old.drawn + 1; draw = generator_behind seed (old.drawn + 1) }
       → (events ≡ outs (offer_lines program 1 offers)) × (rest ≡ come) → Settles program seed stage group offers old (Place place) new come events rest
   drawn_settles old new place come events rest others several is same told = record {

@@ -1,9 +1,9 @@
 -- What is typed for one choice: a line is read, and while it chooses nothing, a further one.
-use Rattle.std.specs.Prelude.{◌≡◌, ℕ, ◌+◌, ◌-◌, ◌<◌, ◌≤◌, List, ◌++◌, take, codes}
+use Rattle.std.specs.Prelude.{◌≡◌, ℕ, ◌+◌, ◌-◌, ◌<◌, ◌≤◌, List, ◌++◌, codes}
 use Rattle.cep_base.specs.declared.console.Event.{Event}
 use Rattle.cep_base.specs.Talk.{outs}
 use Rattle.cep_base.specs.declared.limits.TheConstants.{MOST_TYPED}
-use Rattle.cep_choice.specs.TypedLine.{Chooses, ChoosesNone, Cut, Nothing, Full, ReadsLine, IsLine, IsCutShort}
+use Rattle.cep_choice.specs.TypedLine.{Chooses, ChoosesNone, Cut, Nothing, Full, ReadsLine, IsLine}
 use Rattle.cep_log.specs.Lines.{line}
 use Rattle.cep_run.specs.declared.choice.Choice.{Choice}
 use Rattle.cep_run.specs.declared.choice.Choice.TheVariants as choice
@@ -41,15 +41,3 @@ pub data Hears (n : ℕ) : List ℕ → ℕ → List Event → Choice → List �
   no_room : {come rest : List ℕ} {taken taken' : ℕ} {events : List Event} (bytes : List ℕ) (more : ℕ)
       → ReadsLine (room_after taken) come events (Full bytes) rest more → taken' ≡ taken + more
       → Hears n come taken events choice.NoRoom rest taken'
-
--- The events of one choice among n that was cut short: in the reading of a line, or in the answer to a line that chooses nothing.
-pub data HearsFront (n : ℕ) : List ℕ → ℕ → List Event → List ℕ → Type 0 where
-  line_cut : {come rest : List ℕ} {taken : ℕ} {events : List Event} → IsCutShort (room_after taken) come events rest → HearsFront n come taken events rest
-  answer_cut : {come rest : List ℕ} {taken : ℕ} {events : List Event} (cut : Cut) (line : List ℕ) (more size : ℕ) (first : List Event)
-      → ReadsLine (room_after taken) come first cut rest more → IsLine cut line → ChoosesNone n line → events ≡ first ++ outs (take size no_line)
-      → HearsFront n come taken events rest
-  -- before that a line chose nothing, and was answered
-  behind_bad : {come rest : List ℕ} {taken : ℕ} {events : List Event} (cut : Cut) (line : List ℕ) (between : List ℕ) (more : ℕ) (first others : List Event)
-      → ReadsLine (room_after taken) come first cut between more → IsLine cut line → ChoosesNone n line
-      → HearsFront n between (taken + more) others rest → events ≡ first ++ (outs no_line ++ others)
-      → HearsFront n come taken events rest

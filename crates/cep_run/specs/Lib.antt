@@ -6,3 +6,5 @@ pub mod Dialogue
 pub mod Logs
 pub mod Turn
 pub mod Said
+pub mod Fronts
+pub mod Begun

@@ -1,7 +1,9 @@
 // One choice of the player: lines are read until one of them chooses.
 ghost use Rattle.std.specs.Prelude.{◌<◌, ◌≤◌, IfOk, OnErr};
 ghost use Rattle.cep_base.specs.Talk.{Did, ConsoleCause};
-ghost use Rattle.cep_run.specs.Choice.{IsChoiceWithin, Hears, HearsFront};
+ghost use Rattle.cep_run.specs.Choice.{IsChoiceWithin, Hears};
+ghost use Rattle.cep_run.specs.Fronts.{IsFrontOf};
+ghost use Rattle.cep_run.specs.Begun.{HearsSome};
 
 use cep_base::limits::MOST_TYPED;
 use cep_base::{Console, ConsoleFault};
@@ -19,12 +21,12 @@ pub enum Choice {
 }
 
 /// Reads lines until one chooses a place among `n`. `taken` is the number of bytes of the run. A
-/// refused call heard a front of what it had to.
+/// refused call heard a front of some choice.
 pub fn choose<C: Console>(console: &mut C, n: u32, taken: &mut u64) -> Result<Choice, ConsoleFault>
     requires { taken.old ≤ MOST_TYPED }
     ensures heard { IfOk result (λ choice. Did C.talk C.left console.old console.new (λ come events rest.
         Hears n come taken.old events choice rest taken.new)) }
-    ensures cut_short { OnErr result (Did C.talk C.left console.old console.new (λ come events rest. HearsFront n come taken.old events rest)) }
+    ensures begun { OnErr result (Did C.talk C.left console.old console.new (λ come events rest. IsFrontOf (HearsSome n taken.old) come events)) }
     ensures place { IfOk result (λ choice. IsChoiceWithin n choice) }
     ensures within { taken.new ≤ MOST_TYPED }
     ensures cause { ConsoleCause (C.faults console.old) (C.faults console.new) result }

@@ -1,0 +1,146 @@
+-- What was said before a part of a run was refused is a front of a whole.
+use Rattle.std.proofs.Common.{◌≡◌, inl, inr, ℕ, zero, suc, ◌+◌, ◌-◌, ◌<◌, List, [], ◌∷◌, ◌++◌, length, take, append_assoc, append-nil, Option, refl, sym, ap, ◌∙◌, subst, arith}
+use Rattle.std.specs.Prelude.{drop}
+use Rattle.std.proofs.lemmas.Bool.{cases_lt}
+use Rattle.std.proofs.lemmas.List.{take-append-drop, map-append}
+use Rattle.cep_base.specs.declared.console.Event.{Event}
+use Rattle.cep_base.specs.declared.console.Event.TheVariants.{Out, In}
+use Rattle.cep_base.specs.Spelling.{IsUnbroken}
+use Rattle.cep_base.specs.Talk.{outs, ins, GoesOn, Did}
+use Rattle.cep_base.proofs.Did.{did_same, did_put, did_map}
+use Rattle.cep_rule.specs.declared.parts.Parts.{Parts}
+use Rattle.cep_rule.specs.declared.offer.Offer.{Offer}
+use Rattle.cep_choice.specs.Draws.{generator_behind, place_drawn}
+use Rattle.cep_choice.specs.TypedLine.{Chooses, ChoosesNone, Cut, Ended, Last, Nothing, Full, ReadsLine, IsLine, IsCutShort}
+use Rattle.cep_log.specs.Lines.{question, offer_lines}
+use Rattle.cep_run.specs.declared.choice.Choice.{Choice}
+use Rattle.cep_run.specs.declared.choice.Choice.TheVariants.{Place, NoMore, NoRoom}
+use Rattle.cep_run.specs.declared.deciding.Spent.{Spent}
+use Rattle.cep_run.specs.Choice.{room_after, no_line, Hears, chosen, again, no_more, no_room}
+use Rattle.cep_run.specs.Deciding.{IsPlayers}
+use Rattle.cep_run.specs.Turn.{AsksPlayer}
+use Rattle.cep_run.specs.Fronts.{IsFrontOf}
+use Rattle.cep_run.specs.Begun.{PutsFront, HearsSome, AsksSome, SettlesSome}
+use Rattle.cep_run.proofs.Hearing.{HearsFront, line_cut, answer_cut, behind_bad}
+use Rattle.cep_run.proofs.HearsThere.{chooses_or_not, HasLine, one_more, one_more-says, line_there, hears_there}
+use Rattle.cep_run.proofs.Settling.{player_settles, lone_settles, drawn_settles}
+
+-- Texts
+
+-- what is written of a text, and what is missing
+outs_cut : (size : ℕ) (text : List ℕ) → outs (take size text) ++ outs (drop size text) ≡ outs text
+outs_cut size text = sym (map-append Out (take size text) (drop size text)) ∙ ap outs (take-append-drop size text)
+
+pub put_on : (text come : List ℕ) (events : List Event) (rest : List ℕ) → PutsFront text come events rest → (more : List Event) × (events ++ more ≡ outs text)
+put_on text come events rest put = (outs (drop put.size text), ap (λ es. es ++ outs (drop put.size text)) put.said ∙ outs_cut put.size text)
+
+module _ {C : Type 0} (talk : C → Option (List Event)) (left : C → Option (List ℕ)) where
+  -- a front of a text was put
+  pub did_part : (old new : C) (bytes text : List ℕ) (size : ℕ) → bytes ≡ text → GoesOn (talk old) (outs (take size bytes)) (talk new) → left new ≡ left old → Did talk left old new (PutsFront text)
+  did_part old new bytes text size is went kept =
+      did_map talk left old new _ (PutsFront text) (λ come events rest put. record { size = size; said = put.0 ∙ ap (λ all. outs (take size all)) is; untaken = put.1 }) (did_put talk left old new (take size bytes) went kept)
+
+  -- nothing was put
+  pub did_nothing : (console : C) (text : List ℕ) → Did talk left console console (PutsFront text)
+  did_nothing console text = did_map talk left console console _ (PutsFront text) (λ come events rest same. record { size = 0; said = same.0; untaken = same.1 }) (did_same talk left console console refl refl)
+
+-- Lines
+
+-- A line is read whose first bytes are these.
+record ReadsOn (room : ℕ) (bytes come : List ℕ) : Type 0 where
+  line : HasLine room come
+  more : List Event
+  says : line.events ≡ ins bytes ++ more
+
+reads_on : (room : ℕ) (bytes rest : List ℕ) → IsUnbroken bytes → length bytes < room → ReadsOn room bytes (bytes ++ rest)
+reads_on room [] rest unbroken short = record { line = line_there room rest; more = (line_there room rest).events; says = refl }
+reads_on zero (byte ∷ bytes) rest unbroken short = absurd (omega (arith, short))
+reads_on (suc room) (byte ∷ bytes) rest unbroken short =
+    let later = reads_on room bytes rest unbroken.1 (omega (arith, short)) in
+    let line = later.line in
+    record {
+      line = one_more room byte (bytes ++ rest) unbroken.0 line.cut line.events line.rest line.taken line.reads;
+      more = later.more;
+      says = one_more-says room byte (bytes ++ rest) unbroken.0 line.cut line.events line.rest line.taken line.reads ∙ ap (λ es. In byte ∷ es) later.says;
+    }
+
+module _ (n : ℕ) where
+  -- some choice is heard behind a line
+  line_on : (come : List ℕ) (taken : ℕ) (cut : Cut) (line : List ℕ) (events : List Event) (rest : List ℕ) (more : ℕ) → ReadsLine (room_after taken) come events cut rest more → IsLine cut line → IsFrontOf (HearsSome n taken) come events
+  line_on come taken cut line events rest more reads is = elim (chooses_or_not n line) [
+    | inl some ↦ record { more = []; left = rest; whole = (Place some.0, taken + more, subst (λ es. Hears n come taken es (Place some.0) rest (taken + more)) (sym (append-nil events)) (chosen cut line more reads is some.1 refl)) }
+    | inr none ↦ (
+        let later = hears_there n rest (taken + more) in
+        record { more = outs no_line ++ later.events; left = later.rest; whole = (later.choice, later.all, again cut line rest more events later.events reads is none later.hears refl) }
+        )
+  ]
+
+  cut_on : (come : List ℕ) (taken : ℕ) (cut : Cut) (events : List Event) (rest : List ℕ) (more : ℕ) → ReadsLine (room_after taken) come events cut rest more → IsFrontOf (HearsSome n taken) come events
+  cut_on come taken (Ended line) events rest more reads = line_on come taken (Ended line) line events rest more reads (inl refl)
+  cut_on come taken (Last line) events rest more reads = line_on come taken (Last line) line events rest more reads (inr refl)
+  cut_on come taken Nothing events rest more reads = record { more = []; left = rest; whole = (NoMore, taken + more, subst (λ es. Hears n come taken es NoMore rest (taken + more)) (sym (append-nil events)) (no_more more reads refl)) }
+  cut_on come taken (Full bytes) events rest more reads = record { more = []; left = rest; whole = (NoRoom, taken + more, subst (λ es. Hears n come taken es NoRoom rest (taken + more)) (sym (append-nil events)) (no_room bytes more reads refl)) }
+
+  short_on : (come : List ℕ) (taken : ℕ) (events : List Event) (rest : List ℕ) → IsCutShort (room_after taken) come events rest → IsFrontOf (HearsSome n taken) come events
+  short_on come taken events rest short =
+      let on = reads_on (room_after taken) short.bytes rest short.unbroken short.short in
+      let line = on.line in
+      let reads : ReadsLine (room_after taken) come line.events line.cut line.rest line.taken = subst (λ from. ReadsLine (room_after taken) from line.events line.cut line.rest line.taken) (sym short.first) line.reads in
+      let front = cut_on come taken line.cut line.events line.rest line.taken reads in
+      let said : line.events ++ front.more ≡ events ++ (on.more ++ front.more) =
+      ap (λ es. es ++ front.more) (on.says ∙ ap (λ es. es ++ on.more) (sym short.said)) ∙ append_assoc events on.more front.more in
+      record { more = on.more ++ front.more; left = front.left; whole = (front.whole.0, front.whole.1, subst (λ es. Hears n come taken es front.whole.0 front.left front.whole.1) said front.whole.2) }
+
+  -- a choice that was cut short is a front of one that is heard
+  pub hears_on : {come : List ℕ} {taken : ℕ} {events : List Event} {rest : List ℕ} → HearsFront n come taken events rest → IsFrontOf (HearsSome n taken) come events
+  hears_on {come} {taken} {events} {rest} (line_cut short) = short_on come taken events rest short
+  hears_on {come} {taken} {events} {rest} (answer_cut cut line more size first reads is none whole) =
+      let later = hears_there n rest (taken + more) in
+      let missing = outs (drop size no_line) in
+      let said : events ++ (missing ++ later.events) ≡ first ++ (outs no_line ++ later.events) =
+      ap (λ es. es ++ (missing ++ later.events)) whole ∙ append_assoc first (outs (take size no_line)) (missing ++ later.events)
+      ∙ ap (λ es. first ++ es) (sym (append_assoc (outs (take size no_line)) missing later.events) ∙ ap (λ es. es ++ later.events) (outs_cut size no_line)) in
+      record { more = missing ++ later.events; left = later.rest; whole = (later.choice, later.all, again cut line rest more first later.events reads is none later.hears said) }
+  hears_on {come} {taken} {events} {rest} (behind_bad cut line between more first others reads is none behind whole) =
+      let later = hears_on behind in
+      let said : events ++ later.more ≡ first ++ (outs no_line ++ (others ++ later.more)) =
+      ap (λ es. es ++ later.more) whole ∙ append_assoc first (outs no_line ++ others) later.more ∙ ap (λ es. first ++ es) (append_assoc (outs no_line) others later.more) in
+      record { more = later.more; left = later.left; whole = (later.whole.0, later.whole.1, again cut line between more first (others ++ later.more) reads is none later.whole.2 said) }
+
+-- Questions
+
+module _ (program : Parts) (offers : List Offer) (taken : ℕ) where
+  -- a front of the question was put
+  pub asks_on : (come : List ℕ) (events : List Event) (rest : List ℕ) → PutsFront (question program offers) come events rest → IsFrontOf (AsksSome program offers taken) come events
+  asks_on come events rest put =
+      let whole = put_on (question program offers) come events rest put in
+      let later = hears_there (length offers) come taken in
+      let said : events ++ (whole.0 ++ later.events) ≡ outs (question program offers) ++ later.events = sym (append_assoc events whole.0 later.events) ∙ ap (λ es. es ++ later.events) whole.1 in
+      record { more = whole.0 ++ later.events; left = later.rest; whole = (later.choice, later.all, record { heard = later.events; hears = later.hears; whole = said }) }
+
+  -- the question was put, and a front of a choice was heard
+  pub hears_behind : (bytes come middle : List ℕ) (first others : List Event) → bytes ≡ question program offers → (first ≡ outs bytes) × (middle ≡ come) → IsFrontOf (HearsSome (length offers) taken) middle others → IsFrontOf (AsksSome program offers taken) come (first ++ others)
+  hears_behind bytes come middle first others is put front =
+      let whole = front.whole in
+      let said = append_assoc first others front.more ∙ ap (λ es. es ++ (others ++ front.more)) (put.0 ∙ ap outs is) in
+      record { more = front.more; left = front.left; whole = (whole.0, whole.1, record { heard = others ++ front.more; hears = subst (λ from. Hears (length offers) from taken (others ++ front.more) whole.0 front.left whole.1) put.1 whole.2; whole = said }) }
+
+module _ (program : Parts) (seed stage group : ℕ) (offers : List Offer) (old : Spent) where
+  -- the player was asked
+  pub player_on : (come : List ℕ) (events : List Event) → IsPlayers program stage group (length offers) → IsFrontOf (AsksSome program offers old.taken) come events → IsFrontOf (SettlesSome program seed stage group offers old) come events
+  player_on come events players front =
+      let whole = front.whole in
+      record { more = front.more; left = front.left; whole = (whole.0, record old { taken = whole.1 }, player_settles program seed stage group offers old whole.1 whole.0 come (events ++ front.more) front.left players whole.2) }
+
+  -- nobody was asked
+  pub unasked_on : (come : List ℕ) (events : List Event) (rest : List ℕ) → ¬ IsPlayers program stage group (length offers) → 0 < length offers → PutsFront (offer_lines program 1 offers) come events rest → IsFrontOf (SettlesSome program seed stage group offers old) come events
+  unasked_on come events rest others some put =
+      let whole = put_on (offer_lines program 1 offers) come events rest put in
+      elim (cases_lt 1 (length offers)) [
+        | inl several ↦ (
+            let place = place_drawn seed old.drawn (length offers) in
+            let new : Spent = record { taken = old.taken; drawn = old.drawn + 1; draw = generator_behind seed (old.drawn + 1) } in
+            record { more = whole.0; left = come; whole = (Place place, new, drawn_settles program seed stage group offers old new place come (events ++ whole.0) come others several refl refl (whole.1, refl)) }
+            )
+        | inr few ↦ record { more = whole.0; left = come; whole = (Place 1, old, lone_settles program seed stage group offers old old 1 come (events ++ whole.0) come others (omega (arith, some, few)) refl refl (whole.1, refl)) }
+      ]
