@@ -1,5 +1,5 @@
 // Which of the offers of a turn is chosen: by the player, or by the seed.
-ghost use Rattle.std.specs.Prelude.{◌≡◌, ◌↔◌, ℕ, ◌+◌, ◌<◌, ◌≤◌, length, All, IfOk, OnOk, IsTrue};
+ghost use Rattle.std.specs.Prelude.{◌≡◌, ◌↔◌, ℕ, ◌+◌, ◌<◌, ◌≤◌, length, All, IfOk, OnOk, OnErr, IsTrue};
 ghost use Rattle.cep_base.specs.declared.limits.TheConstants.{MOST_OFFERS, MOST_TURNS, MOST_TYPED};
 ghost use Rattle.cep_base.specs.Talk.{outs, Did, ConsoleCause};
 ghost use Rattle.cep_rule.specs.Matching.{offers_of};
@@ -7,7 +7,9 @@ ghost use Rattle.cep_rule.specs.Shapes.{IsOfferOf};
 ghost use Rattle.cep_choice.specs.Draws.{generator_behind, place_drawn};
 ghost use Rattle.cep_log.specs.Lines.{offer_lines};
 ghost use Rattle.cep_run.specs.Choice.{IsChoiceWithin};
+ghost use Rattle.cep_run.specs.Begun.{PutsFront, AsksSome, SettlesSome};
 ghost use Rattle.cep_run.specs.Deciding.{IsPlayers};
+ghost use Rattle.cep_run.specs.Fronts.{IsFrontOf};
 ghost use Rattle.cep_run.specs.Turn.{AsksPlayer, HasSpent, Settles};
 
 use crate::choice::{Choice, choose};
@@ -87,6 +89,8 @@ fn ask<C: Console, M: Matcher>(
     requires within { taken.old ≤ MOST_TYPED }
     ensures heard { IfOk result (λ choice. Did C.talk C.left console.old console.new (λ come events rest.
         AsksPlayer program.now (offers_of (M.offers_held matcher.now) group) come taken.old events choice rest taken.new)) }
+    ensures begun { OnErr result (Did C.talk C.left console.old console.new (λ come events rest.
+        IsFrontOf (AsksSome program.now (offers_of (M.offers_held matcher.now) group) taken.old) come events)) }
     ensures place { IfOk result (λ choice. IsChoiceWithin (length (offers_of (M.offers_held matcher.now) group)) choice) }
     ensures within { taken.new ≤ MOST_TYPED }
     ensures cause { ConsoleCause (C.faults console.old) (C.faults console.new) result }
@@ -110,6 +114,7 @@ fn tell<C: Console, M: Matcher>(
     requires few { length (offers_of (M.offers_held matcher.now) group) ≤ MOST_OFFERS }
     ensures told { OnOk result (Did C.talk C.left console.old console.new (λ come events rest.
         (events ≡ outs (offer_lines program.now 1 (offers_of (M.offers_held matcher.now) group))) × (rest ≡ come))) }
+    ensures begun { OnErr result (Did C.talk C.left console.old console.new (PutsFront (offer_lines program.now 1 (offers_of (M.offers_held matcher.now) group)))) }
     ensures cause { ConsoleCause (C.faults console.old) (C.faults console.new) result }
 {
     let mut lines = Text::new(alloc);
@@ -136,6 +141,8 @@ pub fn decide<C: Console, M: Matcher>(
     requires spent { HasSpent seed config.now.turns spent.old }
     ensures settled { IfOk result (λ choice. Did C.talk C.left console.old console.new
         (Settles program.now seed config.now.stage group (offers_of (M.offers_held config.now.matcher) group) spent.old choice spent.new)) }
+    ensures begun { OnErr result (Did C.talk C.left console.old console.new (λ come events rest.
+        IsFrontOf (SettlesSome program.now seed config.now.stage group (offers_of (M.offers_held config.now.matcher) group) spent.old) come events)) }
     ensures place { IfOk result (λ choice. IsChoiceWithin (length (offers_of (M.offers_held config.now.matcher) group)) choice) }
     ensures spent { HasSpent seed (config.now.turns + 1) spent.new }
     ensures cause { ConsoleCause (C.faults console.old) (C.faults console.new) result }

@@ -1,7 +1,9 @@
 use Rattle.std.proofs.Common.{◌<◌, length, sym, subst}
-use Rattle.std.proofs.lemmas.Result.{IfOk-weaker}
+use Rattle.std.proofs.lemmas.Result.{IfOk-weaker, on_err_weaker}
 use Rattle.cep_rule.specs.Matching.{offers_of}
 use Rattle.cep_base.proofs.Did.{did_map}
+use Rattle.cep_base.proofs.Outcomes.{on_err}
+use Rattle.cep_run.proofs.Fronts.{player_on, unasked_on}
 use Rattle.cep_run.proofs.Settling.{player_settles, unasked_settles, player_spends, unasked_spends, count_seen, same_players, no_players}
 use Rattle.cep_run.proofs.deciding.decide.Goals as goal
 
@@ -31,3 +33,22 @@ pub returns-in_ok-tell-clause-spent : goal.returns-in_ok-tell-clause-spent
 returns-in_ok-tell-clause-spent g c =
     let many = count_seen g.M.Matcher.offers_held c.args.group c.matcher-matcher.result.now c.args.config.now.matcher c.count-offers.result c.matcher-matcher.ensures.matcher c.count-offers.ensures in
     unasked_spends c.args.seed c.args.config.now.turns c.count-offers.result c.place.result c.args.spent.now c.place.new.self (subst (λ n. 0 < n) (sym many) c.requires.some) c.requires.spent c.place.ensures.lone c.place.ensures.drawn
+
+pub returns-then-is_players-clause-begun : goal.returns-then-is_players-clause-begun
+returns-then-is_players-clause-begun g c =
+    let offers = offers_of (g.M.Matcher.offers_held c.args.config.now.matcher) c.args.group in
+    let many = count_seen g.M.Matcher.offers_held c.args.group c.matcher-matcher.result.now c.args.config.now.matcher c.count-offers.result c.matcher-matcher.ensures.matcher c.count-offers.ensures in
+    let players = same_players c.args.program.now c.args.group c.stage.result c.args.config.now.stage c.count-offers.result (length offers) c.stage.ensures many c.is_players.result c.is_players.ensures c.if-is_players.true in
+    on_err_weaker c.ask.result
+    (did_map g.C.Console.talk g.C.Console.left c.args.console.now c.ask.new.console _ _ (λ come events rest front. player_on c.args.program.now c.args.seed c.args.config.now.stage c.args.group offers c.args.spent.now come events players front))
+    (rw c.matcher-matcher.ensures.matcher at c.ask.ensures.begun)
+
+pub returns-in_err-tell-clause-begun : goal.returns-in_err-tell-clause-begun
+returns-in_err-tell-clause-begun g c =
+    let offers = offers_of (g.M.Matcher.offers_held c.args.config.now.matcher) c.args.group in
+    let many = count_seen g.M.Matcher.offers_held c.args.group c.matcher-matcher.result.now c.args.config.now.matcher c.count-offers.result c.matcher-matcher.ensures.matcher c.count-offers.ensures in
+    let others = no_players c.args.program.now c.args.group c.stage.result c.args.config.now.stage c.count-offers.result (length offers) c.stage.ensures many c.is_players.result c.is_players.ensures c.if-is_players.false in
+    on_err c.from_residual.result _
+    (did_map g.C.Console.talk g.C.Console.left c.args.console.now c.tell.new.console _ _
+    (λ come events rest put. unasked_on c.args.program.now c.args.seed c.args.config.now.stage c.args.group offers c.args.spent.now come events rest others c.requires.some put)
+    (rw c.matcher-matcher.ensures.matcher at c.in_err-tell.ensures.begun))
