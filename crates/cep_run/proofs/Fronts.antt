@@ -25,10 +25,14 @@ use Rattle.cep_run.proofs.Hearing.{HearsFront, line_cut, answer_cut, behind_bad}
 use Rattle.cep_run.proofs.HearsThere.{chooses_or_not, HasLine, one_more, one_more-says, line_there, hears_there}
 use Rattle.cep_run.proofs.Settling.{player_settles, lone_settles, drawn_settles}
 
+-- what further events complete to a front is a front
+pub front_of_front : {A B : Type 0} (P : A → List Event → B → Type 0) (from : A) (events more : List Event) → IsFrontOf P from (events ++ more) → IsFrontOf P from events
+front_of_front P from events more front = record { more = more ++ front.more; left = front.left; whole = subst (λ es. P from es front.left) (append_assoc events more front.more) front.whole }
+
 -- Texts
 
 -- what is written of a text, and what is missing
-outs_cut : (size : ℕ) (text : List ℕ) → outs (take size text) ++ outs (drop size text) ≡ outs text
+pub outs_cut : (size : ℕ) (text : List ℕ) → outs (take size text) ++ outs (drop size text) ≡ outs text
 outs_cut size text = sym (map-append Out (take size text) (drop size text)) ∙ ap outs (take-append-drop size text)
 
 pub put_on : (text come : List ℕ) (events : List Event) (rest : List ℕ) → PutsFront text come events rest → (more : List Event) × (events ++ more ≡ outs text)

@@ -19,3 +19,4 @@ pub mod Asides
 pub mod Transcribed
 pub mod Saying
 pub mod Fronts
+pub mod RunFronts

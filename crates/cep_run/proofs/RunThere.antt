@@ -71,6 +71,17 @@ module _ (laws : ThereLaws) (program : Parts) (settings : Settings) (kept : IsPr
     is : IsTurn program settings at from turn
     state : IsState program.signature turn.deed.after.spot.state
 
+  -- a question that is asked here leads to a turn, and to a state; or to the end of the run
+  pub record LeadsOn (at : Position) (from : Supply) (question : Question) : Type 0 where
+    pub turn : Turn
+    pub is : IsTurn program settings at from turn
+    pub state : IsState program.signature turn.deed.after.spot.state
+    pub of_question : turn.question ≡ question
+
+  pub record LeadsOut (at : Position) (from : Supply) (question : Question) (left : Supply) : Type 0 where
+    pub word : EndWord
+    pub ends : EndsAt program settings at from word (Some question) left
+
   -- a run ends here
   record HasEnd (at : Position) (from : Supply) : Type 0 where
     word : EndWord
@@ -80,7 +91,7 @@ module _ (laws : ThereLaws) (program : Parts) (settings : Settings) (kept : IsPr
 
   module _ (at : Position) (from : Supply) (is_state : IsState program.signature at.spot.state) (question : Question) (left : Supply) (asks : IsQuestion program settings at from question left) where
     -- the step by an offer that is chosen and applies is done, or it passes a limit
-    step_or_end : (place : ℕ) (offer : Offer) → question.choice ≡ Place place → slice_get question.offers (place - 1) ≡ Some offer → Applies program settings.height at.spot.state offer → HasTurn at from ⊎ HasEnd at from
+    step_or_end : (place : ℕ) (offer : Offer) → question.choice ≡ Place place → slice_get question.offers (place - 1) ≡ Some offer → Applies program settings.height at.spot.state offer → LeadsOn at from question ⊎ LeadsOut at from question left
     step_or_end place offer is at_place applies =
         let signature = program.signature in
         let rule = applies.rule in
@@ -94,9 +105,9 @@ module _ (laws : ThereLaws) (program : Parts) (settings : Settings) (kept : IsPr
         let passing = λ (word : EndWord) (passes : PassesLimit program rule values state word). subst (λ (choice : Choice). LeadsNowhere program settings at question choice word) (sym is) (offer, rule, chosen, inr (asks.remain, passes)) in
         let proofs = proofs_there program settings.height (full_instances values rule.backs) applies.derivable in
         elim (all_fit_or_not (full_instances values rule.right)) [
-          | inr large ↦ inr (record { word = Atom; asked = Some question; to = left; ends = (asks, passing Atom large) })
+          | inr large ↦ inr (record { word = Atom; ends = (asks, passing Atom large) })
           | inl fit ↦ elim (state_fits_or_not next) [
-            | inr full ↦ inr (record { word = State; asked = Some question; to = left; ends = (asks, passing State (fit, (next, step, full))) })
+            | inr full ↦ inr (record { word = State; ends = (asks, passing State (fit, (next, step, full))) })
             | inl fits ↦ inl (record {
               turn = record { question = question; deed = record { before = at; offer = offer; rule = rule; proofs = proofs.0; after = record { spot = record { stage = stage_after rule at.spot.stage; state = next }; turns = at.turns + 1 } }; left = left };
               is = record {
@@ -109,13 +120,14 @@ module _ (laws : ThereLaws) (program : Parts) (settings : Settings) (kept : IsPr
                 };
               };
               state = laws.lead signature rule values state next typed divided applies.values is_state fit step;
+              of_question = refl;
             })
           ]
         ]
 
-    by_choice : (choice : Choice) → question.choice ≡ choice → IsChoiceWithin (length question.offers) choice → HasTurn at from ⊎ HasEnd at from
-    by_choice NoMore is within = inr (record { word = Input; asked = Some question; to = left; ends = (asks, subst (λ (choice : Choice). LeadsNowhere program settings at question choice Input) (sym is) refl) })
-    by_choice NoRoom is within = inr (record { word = Typed; asked = Some question; to = left; ends = (asks, subst (λ (choice : Choice). LeadsNowhere program settings at question choice Typed) (sym is) refl) })
+    pub by_choice : (choice : Choice) → question.choice ≡ choice → IsChoiceWithin (length question.offers) choice → LeadsOn at from question ⊎ LeadsOut at from question left
+    by_choice NoMore is within = inr (record { word = Input; ends = (asks, subst (λ (choice : Choice). LeadsNowhere program settings at question choice Input) (sym is) refl) })
+    by_choice NoRoom is within = inr (record { word = Typed; ends = (asks, subst (λ (choice : Choice). LeadsNowhere program settings at question choice Typed) (sym is) refl) })
     by_choice (Place place) is within =
         let first = within.0 in
         let last = within.1 in
@@ -134,7 +146,10 @@ module _ (laws : ThereLaws) (program : Parts) (settings : Settings) (kept : IsPr
         | inr few ↦ (
             let decision = decision_there laws program settings.seed at.spot.stage asked.group (length asked.offers) from asked.some in
             let question : Question = record { group = asked.group; offers = asked.offers; how = decision.how; choice = decision.choice } in
-            by_choice at from is_state question decision.to (record { remain = remain; asked = asked.asked; offered = asked.offered; few = few; decided = decision.decides }) decision.choice refl decision.within
+            elim (by_choice at from is_state question decision.to (record { remain = remain; asked = asked.asked; offered = asked.offered; few = few; decided = decision.decides }) decision.choice refl decision.within) [
+              | inl on ↦ inl (record { turn = on.turn; is = on.is; state = on.state })
+              | inr out ↦ inr (record { word = out.word; asked = Some question; to = decision.to; ends = out.ends })
+            ]
             )
       ]
     ]

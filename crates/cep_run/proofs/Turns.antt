@@ -1,6 +1,6 @@
 -- Each way through a turn is a turn of a run, or the end of one.
-use Rattle.std.proofs.Common.{◌≡◌, ℕ, zero, suc, ◌+◌, ◌-◌, ◌*◌, ◌<◌, ◌≤◌, List, [], ◌∷◌, ◌++◌, length, get_or, inl, inr, refl, sym, ap, ◌∙◌, subst, arith, Option, None, Some, Bool, true, false}
-use Rattle.std.specs.Prelude.{slice_get, All, IsSomeAnd, IsTrue, ◌↔◌, nat_lt}
+use Rattle.std.proofs.Common.{◌≡◌, ℕ, zero, suc, ◌+◌, ◌-◌, ◌*◌, ◌<◌, ◌≤◌, List, [], ◌∷◌, ◌++◌, length, take, append_assoc, get_or, inl, inr, refl, sym, ap, ◌∙◌, subst, arith, Option, None, Some, Bool, true, false}
+use Rattle.std.specs.Prelude.{drop, slice_get, All, IsSomeAnd, IsTrue, ◌↔◌, nat_lt}
 use borrow.Author.Tests.{ltb-true, ltb-false}
 use Rattle.std.specs.List.{AllByRecursion}
 use Rattle.std.proofs.lemmas.List.{append-nil, get_or_default}
@@ -13,11 +13,12 @@ use Rattle.cep_term.specs.Multiset.{Multiset}
 use Rattle.cep_rule.specs.declared.rule.Rule.{Rule}
 use Rattle.cep_rule.specs.declared.parts.Parts.{Parts}
 use Rattle.cep_rule.specs.declared.offer.Offer.{Offer}
-use Rattle.cep_rule.specs.State.{Fits}
+use Rattle.cep_rule.specs.State.{IsState, Fits}
 use Rattle.cep_rule.specs.Instances.{full_instances}
 use Rattle.cep_rule.specs.Offers.{Applies, AreOffers, IsOffer}
 use Rattle.cep_rule.specs.Stages.{IsAsked, IsQuiet}
 use Rattle.cep_rule.specs.Steps.{AreProofs}
+use Rattle.cep_rule.specs.Program.{IsProgram}
 use Rattle.cep_rule.specs.Typing.{AreValues}
 use Rattle.cep_rule.specs.Matching.{offers_of, AreListed}
 use Rattle.cep_rule.specs.Shapes.{IsOfferOf}
@@ -37,14 +38,17 @@ use Rattle.cep_run.specs.declared.settings.Settings.{Settings}
 use Rattle.cep_run.specs.declared.turn.Turned.{Turned}
 use Rattle.cep_run.specs.declared.turn.Turned.TheVariants.{Done, Over}
 use Rattle.cep_run.specs.declared.deciding.Spent.{Spent}
-use Rattle.cep_run.specs.Deciding.{How}
+use Rattle.cep_run.specs.Deciding.{Supply, How}
 use Rattle.cep_log.specs.Lines.{step_lines}
 use Rattle.cep_run.specs.Deeds.{Position, PassesLimit}
-use Rattle.cep_run.specs.Run.{Question, IsQuestion, IsChosen, LeadsNowhere}
-use Rattle.cep_run.specs.Dialogue.{asked_events}
+use Rattle.cep_run.specs.Run.{Question, Turn, IsQuestion, IsChosen, IsTurn, LeadsNowhere}
+use Rattle.cep_run.specs.Dialogue.{asked_events, question_events, turn_events}
+use Rattle.cep_run.specs.Fronts.{IsFrontOf, IsRunOf}
+use Rattle.cep_run.specs.Begun.{SettlesSome, BeginsAct}
 use Rattle.cep_run.specs.Turn.{position_of, supply_with, IsPlayed, Settles, IsPlaced, TellsStep, Acts, WouldPass, limit_word, IsActed, DoesTurn, Stops, IsTurned, config_left}
 use Rattle.cep_base.proofs.Did.{did_same, did_put, did_map, did_then}
 use Rattle.cep_run.proofs.TurnSteps.{lawful_step}
+use Rattle.cep_run.proofs.Fronts.{front_of_front, outs_cut}
 
 none_some : {A B : Type 0} (x : A) → ◌≡◌ {A = Option A} None (Some x) → B
 none_some x e = cc
@@ -224,6 +228,21 @@ module _ {M : Type 0} (height_held : M → ℕ) (state_held : M → Multiset) (o
           one_turn_more program high held group all (offers_of all group) place (place - 1) offer old (lists.each group listed) at refl asked next leads,
         )
 
+    -- the step was done, and the putting of its lines was refused
+    pub cut_acts : (next : Configuration M) → stepped ≡ stepping.Done next → (new : C) (none told bytes : List ℕ) (size : ℕ) → none ≡ [] → TellsStep program height offer none told → bytes ≡ told → GoesOn (talk console) (outs (take size bytes)) (talk new) → left new ≡ left console
+        → Did talk left console new (BeginsAct program height (offers_of all group) place (position_of old))
+    cut_acts next is new none told bytes size empty tells same went kept =
+        let leads = λ (rule : Rule) (values : List Tree) (h : IsAskedAt program all old.stage (place - 1) rule values). subst (IsStepped program rule values old) is (comes rule values h) in
+        did_map talk left console new _ _
+        (λ come events rest put. inr (record {
+          next = position_of next;
+          counted = one_turn_more program high held group all (offers_of all group) place (place - 1) offer old (lists.each group listed) at refl asked next leads;
+          more = outs (drop size bytes);
+          acts = step_acts program high held group all (offers_of all group) place (place - 1) offer old (lists.each group listed) at refl asked height next none bytes leads empty (subst (TellsStep program height offer none) (sym same) tells)
+              come (events ++ outs (drop size bytes)) rest (ap (λ es. es ++ outs (drop size bytes)) put.0 ∙ outs_cut size bytes, put.1);
+        }))
+        (did_put talk left console new (take size bytes) went kept)
+
     module _ (last : Configuration M) (which : Which) (number : ℕ) (is : stepped ≡ stepping.Limit last which number) where
       fails : (rule : Rule) (values : List Tree) → IsAskedAt program all old.stage (place - 1) rule values → (last ≡ old) × Passes program.signature rule values old.state which number
       fails rule values h = subst (IsStepped program rule values old) is (comes rule values h)
@@ -313,6 +332,41 @@ module _ (program : Parts) (settings : Settings) (at : Position) (spent : Spent)
           written = ap (λ es. first ++ es) fails.unwritten ∙ append-nil first ∙ settles.whole;
         }
 
+-- That what a question says, and what a turn says, begins some run, told for any.
+abbrev pub QuestionsGoOn : Type 0
+QuestionsGoOn =
+    (program : Parts) (settings : Settings) (at : Position) (from : Supply) (question : Question) (to : Supply)
+    → IsProgram program → IsState program.signature at.spot.state → IsQuestion program settings at from question to → IsFrontOf (IsRunOf program settings at) from (question_events program question)
+
+abbrev pub TurnsGoOn : Type 0
+TurnsGoOn =
+    (program : Parts) (settings : Settings) (at : Position) (from : Supply) (turn : Turn)
+    → IsProgram program → IsState program.signature at.spot.state → IsTurn program settings at from turn → IsFrontOf (IsRunOf program settings at) from (turn_events program turn)
+
+-- what was said before a turn was refused begins some run
+module _ (program : Parts) (settings : Settings) (kept : IsProgram program) (at : Position) (is_state : IsState program.signature at.spot.state) (spent : Spent) (group : ℕ) (offers : List Offer) (here : IsAskedHere program settings at group offers)
+    (remain : at.turns < settings.limit) (few : length offers ≤ MOST_OFFERS) where
+  decision_begins : QuestionsGoOn → (come : List ℕ) (events : List Event) → IsFrontOf (SettlesSome program settings.seed at.spot.stage group offers spent) come events → IsFrontOf (IsRunOf program settings at) (supply_with come spent) events
+  decision_begins questions come events front =
+      let choice = front.whole.0 in
+      let new = front.whole.1 in
+      let settles = front.whole.2 in
+      let asks = is_answered program settings at spent group offers here remain few new come front.left choice (events ++ front.more) settles in
+      let on = questions program settings at (supply_with come spent) (answered program settings at spent group offers here remain few new settles.how choice) (supply_with front.left new) kept is_state asks in
+      front_of_front (IsRunOf program settings at) (supply_with come spent) events front.more (subst (IsFrontOf (IsRunOf program settings at) (supply_with come spent)) (sym settles.whole) on)
+
+  act_begins : QuestionsGoOn → TurnsGoOn → (spent' : Spent) (place : ℕ) (come : List ℕ) (first : List Event) (between : List ℕ) (second : List Event) (rest : List ℕ) → Settles program settings.seed at.spot.stage group offers spent (Place place) spent' come first between
+      → BeginsAct program settings.height offers place at between second rest → IsFrontOf (IsRunOf program settings at) (supply_with come spent) (first ++ second)
+  act_begins questions turns spent' place come first between second rest settles (inl nothing) =
+      let whole = subst (λ es. Settles program settings.seed at.spot.stage group offers spent (Place place) spent' come es between) (sym (append-nil first)) settles in
+      subst (IsFrontOf (IsRunOf program settings at) (supply_with come spent)) (sym (append-nil first) ∙ ap (λ es. first ++ es) (sym nothing.0))
+      (decision_begins questions come first (record { more = []; left = between; whole = (Place place, spent', whole) }))
+  act_begins questions turns spent' place come first between second rest settles (inr on) =
+      let done = done_turn program settings at spent group offers here remain few spent' place come between rest first (second ++ on.more) settles on.next on.counted on.acts in
+      let begins = turns program settings at (supply_with come spent) done.turn kept is_state done.is in
+      front_of_front (IsRunOf program settings at) (supply_with come spent) (first ++ second) on.more
+      (subst (IsFrontOf (IsRunOf program settings at) (supply_with come spent)) (sym (append_assoc first second on.more ∙ done.written)) begins)
+
 -- what the choice of a place comes to is what the turn comes to
 module _ {C M : Type 0} (talk : C → Option (List Event)) (left : C → Option (List ℕ)) (old between new : C) (program : Parts) (settings : Settings) (config : Configuration M) (spent spent' : Spent) (place group : ℕ) (offers : List Offer)
     (here : IsAskedHere program settings (position_of config) group offers) (remain : config.turns < settings.limit) (few : length offers ≤ MOST_OFFERS)
@@ -378,3 +432,18 @@ module _ {M : Type 0} (is_of : Parts → M → Type 0) (height_held : M → ℕ)
       chosen_here place choice same settled new turned acted =
           subst (λ offers. IsTurned talk left console new program settings offers config spent spent' turned) list
           (chosen_turn talk left console settled_on new program settings config spent spent' place group (offers_of (offers_held config.matcher) group) asks_here remain few_here (settled_here choice (Place place) same settled) turned acted)
+
+      -- the decision was refused, or its step
+      module _ (questions : QuestionsGoOn) (kept : IsProgram program) (is_state : IsState program.signature config.state) where
+        pub decision_refused : Did talk left console settled_on (λ come events rest. IsFrontOf (SettlesSome program settings.seed config.stage group (offers_of (offers_held config.matcher) group) spent) come events)
+            → Did talk left console settled_on (λ come events rest. IsFrontOf (IsRunOf program settings (position_of config)) (supply_with come spent) events)
+        decision_refused begun =
+            did_map talk left console settled_on _ _ (λ come events rest front. decision_begins program settings kept (position_of config) is_state spent group (offers_of (offers_held config.matcher) group) asks_here remain few_here questions come events front) begun
+
+        pub act_refused : TurnsGoOn → (place : ℕ) (choice : Choice) → choice ≡ Place place → Did talk left console settled_on (Settles program settings.seed config.stage group (offers_of (offers_held config.matcher) group) spent choice spent')
+            → (new : C) → Did talk left settled_on new (BeginsAct program settings.height (offers_of (offers_held config.matcher) group) place (position_of config))
+            → Did talk left console new (λ come events rest. IsFrontOf (IsRunOf program settings (position_of config)) (supply_with come spent) events)
+        act_refused turns place choice same settled new begun =
+            did_then talk left console settled_on new _ _ _
+            (λ come first middle others rest settles front. act_begins program settings kept (position_of config) is_state spent group (offers_of (offers_held config.matcher) group) asks_here remain few_here questions turns spent' place come first middle others rest settles front)
+            (settled_here choice (Place place) same settled) begun

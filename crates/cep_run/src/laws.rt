@@ -8,8 +8,9 @@ ghost use Rattle.cep_rule.specs.Program.{IsProgram};
 ghost use Rattle.cep_run.specs.declared.settings.Settings.{Settings};
 ghost use Rattle.cep_run.specs.Deciding.{Supply};
 ghost use Rattle.cep_run.specs.Deeds.{Position, Deed, AreDeeds};
-ghost use Rattle.cep_run.specs.Run.{Turn, Ending, AreTurns, Run, deeds_of, unproved};
-ghost use Rattle.cep_run.specs.Dialogue.{Dialogue};
+ghost use Rattle.cep_run.specs.Run.{Question, Turn, Ending, IsQuestion, IsTurn, AreTurns, Run, deeds_of, unproved};
+ghost use Rattle.cep_run.specs.Dialogue.{question_events, turn_events, Dialogue};
+ghost use Rattle.cep_run.specs.Fronts.{IsFrontOf, IsRunOf};
 
 use cep_choice::laws::drawn_places_are_within;
 use cep_rule::laws::{
@@ -68,6 +69,26 @@ pub fn runs_are_there()
         → IsState program.signature at.spot.state
         → at.turns ≤ settings.limit
         → (turns : List Turn) × (ending : Ending) × (to : Supply) × Run program settings at from turns ending to }
+{
+    offers_are_there();
+    steps_lead_to_states();
+    edits_are_steps();
+    drawn_places_are_within();
+}
+
+/// Runs go on from where they are: what a question says begins some run, and so does what a turn
+/// says.
+pub fn runs_go_on()
+    ensures questions { (program : Parts) (settings : Settings) (at : Position) (from : Supply) (question : Question) (to : Supply)
+        → IsProgram program
+        → IsState program.signature at.spot.state
+        → IsQuestion program settings at from question to
+        → IsFrontOf (IsRunOf program settings at) from (question_events program question) }
+    ensures turns { (program : Parts) (settings : Settings) (at : Position) (from : Supply) (turn : Turn)
+        → IsProgram program
+        → IsState program.signature at.spot.state
+        → IsTurn program settings at from turn
+        → IsFrontOf (IsRunOf program settings at) from (turn_events program turn) }
 {
     offers_are_there();
     steps_lead_to_states();

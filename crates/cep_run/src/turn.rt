@@ -1,15 +1,18 @@
 // One turn of a run: the offers are written, one of them is chosen, and the step is done.
-ghost use Rattle.std.specs.Prelude.{◌≡◌, ◌+◌, ◌<◌, ◌≤◌, length, IfOk};
+ghost use Rattle.std.specs.Prelude.{◌≡◌, ◌+◌, ◌<◌, ◌≤◌, length, IfOk, OnErr};
 ghost use Rattle.cep_base.specs.declared.limits.TheConstants.{MOST_TURNS};
-ghost use Rattle.cep_base.specs.Talk.{ConsoleCause};
+ghost use Rattle.cep_base.specs.Talk.{Did, ConsoleCause};
 ghost use Rattle.cep_rule.specs.Matching.{offers_of};
 ghost use Rattle.cep_machine.specs.Asking.{asked_offers};
 ghost use Rattle.cep_run.specs.declared.turn.Turned.TheVariants.{Over};
-ghost use Rattle.cep_run.specs.Turn.{HasSpent, IsPlayed, IsActed, IsTurned, config_left, limit_word};
+ghost use Rattle.cep_run.specs.Fronts.{IsFrontOf, IsRunOf};
+ghost use Rattle.cep_run.specs.Begun.{BeginsAct};
+ghost use Rattle.cep_run.specs.Turn.{position_of, supply_with, HasSpent, IsPlayed, IsActed, IsTurned, config_left, limit_word};
 
 use crate::choice::Choice;
 use crate::copying::copy_offer;
 use crate::deciding::{Spent, decide};
+use crate::laws::runs_go_on;
 use crate::proving::put_step_lines;
 use crate::settings::Settings;
 use cep_base::{Console, ConsoleFault, Steps, Text};
@@ -64,6 +67,7 @@ fn act<C: Console, M: Matcher, L: Ledger>(
     requires turns { config.turns < MOST_TURNS }
     ensures acted { IfOk result (IsActed C.talk C.left console.old console.new program.now settings.height (offers_of (M.offers_held config.matcher) group) place config) }
     ensures played { IfOk result (λ turned. IsPlayed M.is_of M.height_held program.now settings (config_left turned)) }
+    ensures begun { OnErr result (Did C.talk C.left console.old console.new (BeginsAct program.now settings.height (offers_of (M.offers_held config.matcher) group) place (position_of config))) }
     ensures counted { steps.old ≤ steps.new }
     ensures cause { ConsoleCause (C.faults console.old) (C.faults console.new) result }
 {
@@ -91,7 +95,8 @@ fn word_of(which: Which) -> EndWord
     }
 }
 
-/// Does one turn, unless the run ends before its step. Some turns remain.
+/// Does one turn, unless the run ends before its step. Some turns remain. A refused call said a front
+/// of some run from here.
 pub fn turn<C: Console, M: Matcher, L: Ledger>(
     alloc: Global,
     program: &Program,
@@ -107,10 +112,13 @@ pub fn turn<C: Console, M: Matcher, L: Ledger>(
     requires spent { HasSpent settings.seed config.turns spent.old }
     ensures turned { IfOk result (IsTurned C.talk C.left console.old console.new program.now settings (asked_offers (M.offers_held config.matcher) config.stage) config spent.old spent.new) }
     ensures played { IfOk result (λ turned. IsPlayed M.is_of M.height_held program.now settings (config_left turned)) }
+    ensures begun { OnErr result (Did C.talk C.left console.old console.new (λ come events rest. IsFrontOf (IsRunOf program.now settings (position_of config)) (supply_with come spent.old) events)) }
     ensures spent { IfOk result (λ _. HasSpent settings.seed (config.turns + 1) spent.new) }
     ensures counted { steps.old ≤ steps.new }
     ensures cause { ConsoleCause (C.faults console.old) (C.faults console.new) result }
 {
+    runs_go_on();
+    program.parts();
     let Some(group) = config.asked() else {
         return Ok(over(config, EndWord::Quiet));
     };

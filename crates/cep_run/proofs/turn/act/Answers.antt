@@ -1,8 +1,10 @@
-use Rattle.std.proofs.Common.{◌≡◌, subst, ◌∙◌}
+use Rattle.std.proofs.Common.{◌≡◌, subst, inl, refl, ◌∙◌}
 use Rattle.cep_rule.specs.Limits.{IsHeight}
 use Rattle.cep_machine.specs.Configuration.{IsConfigurationOf}
 use Rattle.cep_machine.specs.Stepping.{config_after}
-use Rattle.cep_run.proofs.Turns.{copy_applies, done_acts, limit_acts, limit_played}
+use Rattle.cep_base.proofs.Did.{did_same, did_map}
+use Rattle.cep_base.proofs.Outcomes.{on_err}
+use Rattle.cep_run.proofs.Turns.{copy_applies, done_acts, cut_acts, limit_acts, limit_played}
 use Rattle.cep_run.proofs.turn.act.Goals as goal
 
 pub returns-in-Done-clause-acted : goal.returns-in-Done-clause-acted
@@ -49,3 +51,22 @@ put_step_lines-requires-clause-applies g c =
     (g.met.M.Matcher.exact c.args.program.now c.args.config.matcher c.requires.played.of_program.matcher) c.requires.listed c.requires.asked
     c.matcher.result.now c.matcher.ensures.matcher c.offer-chosen.result.now c.in_ok-offer.offer c.offer-chosen.ensures c.in_ok-offer.ensures
     c.args.settings c.requires.played.height
+
+pub returns-in_err-offer-clause-begun : goal.returns-in_err-offer-clause-begun
+returns-in_err-offer-clause-begun g c = on_err c.from_residual.result _ (did_map g.C.Console.talk g.C.Console.left c.args.console.now c.args.console.now _ _ (λ come events rest same. inl same) (did_same g.C.Console.talk g.C.Console.left c.args.console.now c.args.console.now refl refl))
+
+pub returns-in_err-config-clause-begun : goal.returns-in_err-config-clause-begun
+returns-in_err-config-clause-begun g c = on_err c.from_residual-in_err-config.result _ (did_map g.C.Console.talk g.C.Console.left c.args.console.now c.args.console.now _ _ (λ come events rest same. inl same) (did_same g.C.Console.talk g.C.Console.left c.args.console.now c.args.console.now refl refl))
+
+pub returns-in_err-put_step_lines-in-Done-clause-begun : goal.returns-in_err-put_step_lines-in-Done-clause-begun
+returns-in_err-put_step_lines-in-Done-clause-begun g c = on_err c.from_residual-in_err-put_step_lines-in-Done.result _ (did_map g.C.Console.talk g.C.Console.left c.args.console.now c.args.console.now _ _ (λ come events rest same. inl same) (did_same g.C.Console.talk g.C.Console.left c.args.console.now c.args.console.now refl refl))
+
+pub returns-in_err-put-in-Done-clause-begun : goal.returns-in_err-put-in-Done-clause-begun
+returns-in_err-put-in-Done-clause-begun g c =
+    on_err c.from_residual-in_err-put-in-Done.result _
+    (cut_acts g.M.Matcher.height_held g.M.Matcher.state_held g.M.Matcher.offers_held c.args.program.now c.args.group c.args.place c.args.config
+    (g.met.M.Matcher.exact c.args.program.now c.args.config.matcher c.requires.played.of_program.matcher) c.requires.listed c.requires.asked
+    c.matcher.result.now c.matcher.ensures.matcher c.offer-chosen.result.now c.in_ok-offer.offer c.offer-chosen.ensures c.in_ok-offer.ensures
+    g.C.Console.talk g.C.Console.left c.args.console.now c.args.settings.height _ c.in_ok-config.ensures.stepped
+    c.in-Done.config c.in-Done.is c.put.new.self c.new-lines.result c.put_step_lines.new.out c.bytes.result.now c.in_err-put-in-Done.ensures.part.0 c.new-lines.ensures c.in_ok-put_step_lines-in-Done.ensures.ok c.bytes.ensures
+    c.in_err-put-in-Done.ensures.part.1 c.in_err-put-in-Done.ensures.left)

@@ -1,12 +1,13 @@
 use Rattle.std.proofs.Common.{refl, sym, subst}
 use Rattle.std.specs.Prelude.{IsNone}
-use Rattle.std.proofs.lemmas.Result.{IfOk-weaker}
+use Rattle.std.proofs.lemmas.Result.{IfOk-weaker, on_err_weaker}
+use Rattle.cep_base.proofs.Outcomes.{on_err}
 use Rattle.cep_rule.specs.Stages.{IsQuiet}
 use Rattle.cep_rule.specs.Matching.{offers_of}
 use Rattle.cep_machine.specs.Asking.{asked_offers}
 use Rattle.cep_run.specs.Turn.{position_of, IsTurned}
 use Rattle.cep_base.proofs.Did.{did_same, did_map}
-use Rattle.cep_run.proofs.Turns.{offers_have_texts, group_listed, group_offers, quiet_turn, crowds_here, no_more_here, no_room_here, chosen_here}
+use Rattle.cep_run.proofs.Turns.{offers_have_texts, group_listed, group_offers, quiet_turn, crowds_here, no_more_here, no_room_here, chosen_here, decision_refused, act_refused}
 use Rattle.cep_run.proofs.turn.turn.Goals as goal
 
 pub returns-in_default-clause-turned : goal.returns-in_default-clause-turned
@@ -65,3 +66,22 @@ returns-in-NoRoom-clause-turned g c =
     c.requires.remain g.C.Console.talk g.C.Console.left c.args.console.now c.args.spent.now c.decide.new.console c.decide.new.spent c.matcher.result.now c.matcher.ensures.matcher
     (c.len_ok.ensures.0 c.if-not-len_ok.false)
     _ c.in-NoRoom.is c.in_ok-place.ensures.settled _ c.over-in-NoRoom.ensures
+
+pub returns-in_err-place-clause-begun : goal.returns-in_err-place-clause-begun
+returns-in_err-place-clause-begun g c =
+    on_err c.from_residual.result _
+    (decision_refused g.M.Matcher.is_of g.M.Matcher.height_held g.M.Matcher.state_held g.M.Matcher.offers_held c.args.program.now c.args.settings c.args.config c.in-Some.group c.requires.played
+    (g.met.M.Matcher.exact c.args.program.now c.args.config.matcher c.requires.played.of_program.matcher) c.matcher.ensures.same_state c.matcher.ensures.listed c.in-Some.ensures.listed (c.in-Some.ensures.asked c.args.program.now c.requires.played.of_program) _ c.in-Some.ensures.offers
+    c.requires.remain g.C.Console.talk g.C.Console.left c.args.console.now c.args.spent.now c.decide.new.console c.decide.new.spent c.matcher.result.now c.matcher.ensures.matcher
+    (c.len_ok.ensures.0 c.if-not-len_ok.false)
+    c.runs_go_on.ensures.questions c.parts.ensures.kept c.requires.played.of_program.is_state c.in_err-place.ensures.begun)
+
+pub returns-in-Place-clause-begun : goal.returns-in-Place-clause-begun
+returns-in-Place-clause-begun g c =
+    on_err_weaker c.act.result
+    (act_refused g.M.Matcher.is_of g.M.Matcher.height_held g.M.Matcher.state_held g.M.Matcher.offers_held c.args.program.now c.args.settings c.args.config c.in-Some.group c.requires.played
+    (g.met.M.Matcher.exact c.args.program.now c.args.config.matcher c.requires.played.of_program.matcher) c.matcher.ensures.same_state c.matcher.ensures.listed c.in-Some.ensures.listed (c.in-Some.ensures.asked c.args.program.now c.requires.played.of_program) _ c.in-Some.ensures.offers
+    c.requires.remain g.C.Console.talk g.C.Console.left c.args.console.now c.args.spent.now c.decide.new.console c.decide.new.spent c.matcher.result.now c.matcher.ensures.matcher
+    (c.len_ok.ensures.0 c.if-not-len_ok.false)
+    c.runs_go_on.ensures.questions c.parts.ensures.kept c.requires.played.of_program.is_state c.runs_go_on.ensures.turns c.in-Place.place _ c.in-Place.is c.in_ok-place.ensures.settled c.act.new.console)
+    c.act.ensures.begun
