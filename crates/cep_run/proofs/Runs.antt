@@ -15,8 +15,11 @@ use Rattle.cep_run.specs.declared.settings.Settings.{Settings}
 use Rattle.cep_run.specs.Deciding.{Supply}
 use Rattle.cep_log.specs.Lines.{end_lines, header}
 use Rattle.cep_run.specs.Deeds.{Position, start_of}
-use Rattle.cep_run.specs.Run.{whole_supply, Turn, Ending, IsTurn, AreTurns, offers_listed, EndsAt}
-use Rattle.cep_run.specs.Dialogue.{turn_events, last_events, Dialogue}
+use Rattle.cep_run.specs.Run.{whole_supply, Turn, Ending, IsTurn, AreTurns, offers_listed, EndsAt, Run}
+use Rattle.cep_run.specs.Dialogue.{turn_events, last_events, events_of, Dialogue}
+use Rattle.cep_run.specs.Fronts.{IsFrontOf, IsRunOf, IsDialogueOf}
+use Rattle.cep_run.specs.Begun.{PutsFront}
+use Rattle.cep_run.proofs.Fronts.{put_on}
 use Rattle.cep_run.specs.declared.deciding.Spent.{Spent}
 use Rattle.cep_run.specs.declared.turn.Ended.{Ended}
 use Rattle.cep_run.specs.declared.turn.Turned.{Turned}
@@ -97,6 +100,33 @@ turn_stops talk left old between new program settings start config spent spent' 
     (run_stops program settings start (position_of config) spent offers end.word spent' come first middle second rest so stop))
     so_far over.0
 
+-- a run goes on behind turns that are done
+turns_join : (program : Parts) (settings : Settings) (at : Position) (from : Supply) (turns : List Turn) (middle : Position) (between : Supply) (others : List Turn) (last : Position) (to : Supply) → AreTurns program settings at from turns middle between → AreTurns program settings middle between others last to → AreTurns program settings at from (turns ++ others) last to
+turns_join program settings at from [] middle between others last to done more = subst (λ place. AreTurns program settings place from others last to) done.0 (subst (λ supply. AreTurns program settings middle supply others last to) done.1 more)
+turns_join program settings at from (turn ∷ turns) middle between others last to done more = (done.0, turns_join program settings turn.deed.after turn.left turns middle between others last to done.1 more)
+
+-- a turn was refused: what was said begins some run from the start
+pub turns_begin : (program : Parts) (settings : Settings) (start at : Position) (spent : Spent) (offers : ℕ) (come : List ℕ) (first : List Event) (between : List ℕ) (second : List Event) → SoFar program settings start at spent offers come first between
+    → IsFrontOf (IsRunOf program settings at) (supply_with between spent) second → IsFrontOf (IsRunOf program settings start) (whole_supply come) (first ++ second)
+turns_begin program settings start at spent offers come first between second so front =
+    let turns = front.whole.0 in
+    let ending = front.whole.1 in
+    let run = front.whole.2 in
+    let whole : Run program settings start (whole_supply come) (so.turns ++ turns) ending front.left = record {
+      last = run.last;
+      between = run.between;
+      done = turns_join program settings start (whole_supply come) so.turns at (supply_with between spent) turns run.last run.between so.done run.done;
+      ends = run.ends;
+      state = run.state;
+    } in
+    let all = flat_map (turn_events program) so.turns in
+    let others = flat_map (turn_events program) turns in
+    let end = last_events program ending.question ++ outs (end_lines program.signature ending.word ending.state) in
+    let said : (first ++ second) ++ front.more ≡ events_of program (so.turns ++ turns) ending =
+    append_assoc first second front.more ∙ ap (λ es. es ++ (second ++ front.more)) so.written ∙ ap (λ es. all ++ es) front.whole.3
+    ∙ sym (append_assoc all others end) ∙ ap (λ es. es ++ end) (sym (flat_map-append (turn_events program) so.turns turns)) in
+    record { more = front.more; left = front.left; whole = (so.turns ++ turns, ending, whole, said) }
+
 -- all turns and the end, from some bytes to come
 pub record RunFrom (program : Parts) (settings : Settings) (word : EndWord) (start last : Position) (offers : ℕ) (come : List ℕ) (events : List Event) (rest : List ℕ) : Type 0 where
   pub turns : List Event
@@ -146,3 +176,51 @@ module _ (program : Parts) (settings : Settings) (word : EndWord) (start last : 
         last_is = refl;
         listed = runs.listed;
       }
+
+-- a configuration in which the program begins
+pub started_at : {M : Type 0} (program : Parts) (config : Configuration M) → config.stage ≡ program.start_stage → config.state ≡ program.start → config.turns ≡ 0 → position_of config ≡ start_of program
+started_at program config stage state turns = λ i. record { spot = record { stage = stage i; state = state i }; turns = turns i }
+
+-- All turns of a run, and a front of its end.
+pub record RunThenEnd (program : Parts) (settings : Settings) (word : EndWord) (start last : Position) (offers : ℕ) (come : List ℕ) (events : List Event) (rest : List ℕ) : Type 0 where
+  pub turns : List Event
+  pub end : List Event
+  pub late : List ℕ
+  pub whole : events ≡ turns ++ end
+  pub runs : IsWholeRun program settings word start last offers come turns late
+  pub put : PutsFront (end_lines program.signature word last.spot.state) late end rest
+
+-- What was said before a run was refused begins some dialogue
+
+-- a front of the header was put
+pub header_begins : (program : Parts) (settings : Settings) (come : List ℕ) (events : List Event) (rest : List ℕ) → (turns : List Turn) × (ending : Ending) × (all : List Event) × (left : List ℕ) × Dialogue program settings come turns ending all left
+    → PutsFront (header program settings.height) come events rest → IsFrontOf (IsDialogueOf program settings) come events
+header_begins program settings come events rest some put =
+    let dialogue = some.4 in
+    let missing = put_on (header program settings.height) come events rest put in
+    let run = events_of program some.0 some.1 in
+    let said : events ++ (missing.0 ++ run) ≡ some.2 = sym (append_assoc events missing.0 run) ∙ ap (λ es. es ++ run) missing.1 ∙ sym dialogue.whole in
+    record { more = missing.0 ++ run; left = some.3; whole = (some.0, some.1, subst (λ es. Dialogue program settings come some.0 some.1 es some.3) (sym said) dialogue) }
+
+module _ (program : Parts) (settings : Settings) (start : Position) (begun : start ≡ start_of program) (come middle : List ℕ) (first : List Event) (begins : (first ≡ outs (header program settings.height)) × (middle ≡ come)) where
+  -- the header was put, and a turn was refused
+  pub run_begins_dialogue : (others : List Event) → IsFrontOf (IsRunOf program settings start) (whole_supply middle) others → IsFrontOf (IsDialogueOf program settings) come (first ++ others)
+  run_begins_dialogue others front =
+      let turns = front.whole.0 in
+      let ending = front.whole.1 in
+      let run = subst (λ place. Run program settings place (whole_supply come) turns ending front.left) begun
+      (subst (λ bytes. Run program settings start (whole_supply bytes) turns ending front.left) begins.1 front.whole.2) in
+      let said : (first ++ others) ++ front.more ≡ outs (header program settings.height) ++ events_of program turns ending =
+      append_assoc first others front.more ∙ ap (λ es. es ++ (others ++ front.more)) begins.0 ∙ ap (λ es. outs (header program settings.height) ++ es) front.whole.3 in
+      record { more = front.more; left = front.left.come; whole = (turns, ending, record { left = front.left; run = run; whole = said; rest_is = refl }) }
+
+  -- all turns were done, and a front of the end was put
+  pub end_begins_dialogue : (word : EndWord) (last : Position) (offers : ℕ) (second third : List Event) (late rest : List ℕ) → IsWholeRun program settings word start last offers middle second late → PutsFront (end_lines program.signature word last.spot.state) late third rest
+      → IsFrontOf (IsDialogueOf program settings) come (first ++ (second ++ third))
+  end_begins_dialogue word last offers second third late rest runs put =
+      let end = end_lines program.signature word last.spot.state in
+      let missing = put_on end late third rest put in
+      let told = whole_dialogue program settings word start last offers come middle late first (second ++ outs end) begun begins (run_ends program settings word start last offers middle late late second (outs end) runs (refl, refl)) in
+      let said : (first ++ (second ++ third)) ++ missing.0 ≡ first ++ (second ++ outs end) =
+      append_assoc first (second ++ third) missing.0 ∙ ap (λ es. first ++ es) (append_assoc second third missing.0 ∙ ap (λ es. second ++ es) missing.1) in
+      record { more = missing.0; left = late; whole = (told.turns, told.ending, subst (λ es. Dialogue program settings come told.turns told.ending es late) (sym said) told.dialogue) }

@@ -1,16 +1,19 @@
 // A run: turn by turn the offers are written, one of them is chosen, and the step is done.
-ghost use Rattle.std.specs.Prelude.{◌≡◌, ◌≤◌, length, IfOk, OnOk};
+ghost use Rattle.std.specs.Prelude.{◌≡◌, ◌≤◌, length, IfOk, OnOk, OnErr};
 ghost use Rattle.cep_base.specs.declared.limits.TheConstants.{MOST_TURNS};
 ghost use Rattle.cep_base.specs.Talk.{outs, Did, ConsoleCause};
 ghost use Rattle.cep_rule.specs.Limits.{IsHeight};
 ghost use Rattle.cep_rule.specs.State.{IsState};
 ghost use Rattle.cep_machine.specs.Asking.{asked_offers};
 ghost use Rattle.cep_log.specs.Lines.{end_lines, header};
+ghost use Rattle.cep_run.specs.Run.{whole_supply};
+ghost use Rattle.cep_run.specs.Fronts.{IsFrontOf, IsRunOf, IsDialogueOf};
+ghost use Rattle.cep_run.specs.Begun.{PutsFront};
 ghost use Rattle.cep_run.specs.Turn.{position_of, IsPlayed, IsWholeRun};
 ghost use Rattle.cep_run.specs.Said.{Says, IsTally};
 
 use crate::deciding::Spent;
-use crate::laws::{deeds_are_counted, one_dialogue, turns_are_deeds};
+use crate::laws::{deeds_are_counted, dialogues_are_there, one_dialogue, turns_are_deeds};
 use crate::log_laws::dialogues_have_logs;
 use crate::settings::Settings;
 use crate::tally::Tally;
@@ -55,6 +58,7 @@ fn all_turns<C: Console, M: Matcher, L: Ledger>(
     requires limit { settings.limit ≤ MOST_TURNS }
     ensures said { IfOk result (λ end. Did C.talk C.left console.old console.new
         (IsWholeRun program.now settings end.word (position_of start) (position_of end.config) end.offers)) }
+    ensures begun { OnErr result (Did C.talk C.left console.old console.new (λ come events rest. IsFrontOf (IsRunOf program.now settings (position_of start)) (whole_supply come) events)) }
     ensures played { IfOk result (λ end. IsPlayed M.is_of M.height_held program.now settings end.config) }
     ensures counted { steps.old ≤ steps.new }
     ensures cause { ConsoleCause (C.faults console.old) (C.faults console.new) result }
@@ -99,11 +103,12 @@ fn begin<C: Console>(
 ) -> Result<(), ConsoleFault>
     ensures told { OnOk result (Did C.talk C.left console.old console.new (λ come events rest.
         (events ≡ outs (header program.now height)) × (rest ≡ come))) }
+    ensures begun { OnErr result (Did C.talk C.left console.old console.new (PutsFront (header program.now height))) }
     ensures cause { ConsoleCause (C.faults console.old) (C.faults console.new) result }
 {
-    let mut lines = Text::new(alloc);
-    put_start(program, height, &mut lines)?;
-    console.put(lines.bytes())
+    let mut header = Text::new(alloc);
+    put_start(program, height, &mut header)?;
+    console.put(header.bytes())
 }
 
 /// Writes why the run ended, and the last state.
@@ -117,6 +122,7 @@ fn finish<C: Console>(
     requires { IsState program.now.signature state.now }
     ensures told { OnOk result (Did C.talk C.left console.old console.new (λ come events rest.
         (events ≡ outs (end_lines program.now.signature word state.now)) × (rest ≡ come))) }
+    ensures begun { OnErr result (Did C.talk C.left console.old console.new (PutsFront (end_lines program.now.signature word state.now))) }
     ensures cause { ConsoleCause (C.faults console.old) (C.faults console.new) result }
 {
     let mut lines = Text::new(alloc);
@@ -126,7 +132,8 @@ fn finish<C: Console>(
 
 /// Plays a program with these settings and the person at a console, from its start until the run
 /// ends. The height is 1 to 512, and the turns are at most 1,000,000. Answers what the run came to.
-/// Only a fault of the console and want of memory are refused.
+/// Only a fault of the console and want of memory are refused, and then what was said and heard
+/// begins some dialogue.
 pub fn play<M: Matcher, C: Console, L: Ledger>(
     alloc: Global,
     program: &Program,
@@ -137,6 +144,7 @@ pub fn play<M: Matcher, C: Console, L: Ledger>(
     requires height { IsHeight settings.height }
     requires limit { settings.limit ≤ MOST_TURNS }
     ensures said { IfOk result (λ tally. Says C.talk C.left console.old console.new program.now settings (λ turns ending. IsTally turns ending tally)) }
+    ensures begun { OnErr result (Did C.talk C.left console.old console.new (λ come events rest. IsFrontOf (IsDialogueOf program.now settings) come events)) }
     ensures counted { steps.old ≤ steps.new }
     ensures cause { ConsoleCause (C.faults console.old) (C.faults console.new) result }
 {
@@ -144,6 +152,7 @@ pub fn play<M: Matcher, C: Console, L: Ledger>(
     turns_are_deeds();
     deeds_are_counted();
     dialogues_have_logs();
+    dialogues_are_there();
     program.parts();
     let config = Config::<M>::begin(alloc, program, settings.height, steps)?;
     begin(alloc, program, settings.height, console)?;

@@ -6,7 +6,8 @@ use Rattle.cep_machine.specs.Asking.{asked_offers}
 use Rattle.cep_run.specs.Turn.{position_of, HasSpent, IsPlayed, IsTurned, SoFar, config_left}
 use Rattle.cep_base.proofs.Did.{did_same, did_map, did_then}
 use Rattle.cep_run.proofs.Settling.{nothing_spent}
-use Rattle.cep_run.proofs.Runs.{run_begins, run_goes_on, turn_stops, run_quiets, run_is_over}
+use Rattle.cep_run.proofs.Runs.{run_begins, run_goes_on, turn_stops, run_quiets, run_is_over, turns_begin}
+use Rattle.cep_base.proofs.Outcomes.{on_err}
 use Rattle.cep_run.proofs.dialogue.all_turns.Goals as goal
 
 pub loop-done-init : goal.loop-done-init
@@ -85,3 +86,10 @@ returns-in-None-clause-said g c =
     did_map g.C.Console.talk g.C.Console.left c.args.console.now c.loop-done.console _ _ (λ come events rest so.
     run_quiets program settings (position_of c.args.start) (position_of config) c.loop-done.spent c.loop-done.offers come events rest is so)
     before.so_far
+
+pub returns-in_err-next-clause-begun : goal.returns-in_err-next-clause-begun
+returns-in_err-next-clause-begun g c =
+    on_err c.from_residual.result _
+    (did_then g.C.Console.talk g.C.Console.left c.args.console.now c.loop-done.console c.turn.new.console _ _ _
+    (λ come first between second rest so front. turns_begin c.args.program.now c.args.settings (position_of c.args.start) (position_of c.loop-done.config) c.loop-done.spent c.loop-done.offers come first between second so front)
+    c.loop-done.invariant.so_far c.in_err-next.ensures.begun)

@@ -1,0 +1,8 @@
+use Rattle.cep_log.specs.Lines.{end_lines}
+use Rattle.cep_base.proofs.Outcomes.{on_err}
+use Rattle.cep_run.proofs.Fronts.{did_nothing}
+use Rattle.cep_run.proofs.dialogue.finish.Goals as goal
+
+pub returns-in_err-put_end-clause-begun : goal.returns-in_err-put_end-clause-begun
+returns-in_err-put_end-clause-begun g c =
+    on_err c.from_residual.result _ (did_nothing g.C.Console.talk g.C.Console.left c.args.console.now (end_lines c.args.program.now.signature c.args.word c.args.state.now))
