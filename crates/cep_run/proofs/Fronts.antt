@@ -1,5 +1,5 @@
 -- What was said before a part of a run was refused is a front of a whole.
-use Rattle.std.proofs.Common.{◌≡◌, inl, inr, ℕ, zero, suc, ◌+◌, ◌-◌, ◌<◌, List, [], ◌∷◌, ◌++◌, length, take, append_assoc, append-nil, Option, refl, sym, ap, ◌∙◌, subst, arith}
+use Rattle.std.proofs.Common.{◌≡◌, inl, inr, ℕ, zero, suc, ◌+◌, ◌<◌, List, [], ◌∷◌, ◌++◌, length, take, append_assoc, append-nil, Option, refl, sym, ap, ◌∙◌, subst, arith}
 use Rattle.std.specs.Prelude.{drop}
 use Rattle.std.proofs.lemmas.Bool.{cases_lt}
 use Rattle.std.proofs.lemmas.List.{take-append-drop, map-append}
@@ -11,14 +11,12 @@ use Rattle.cep_base.proofs.Did.{did_same, did_put, did_map}
 use Rattle.cep_rule.specs.declared.parts.Parts.{Parts}
 use Rattle.cep_rule.specs.declared.offer.Offer.{Offer}
 use Rattle.cep_choice.specs.Draws.{generator_behind, place_drawn}
-use Rattle.cep_choice.specs.TypedLine.{Chooses, ChoosesNone, Cut, Ended, Last, Nothing, Full, ReadsLine, IsLine, IsCutShort}
+use Rattle.cep_choice.specs.TypedLine.{Cut, Ended, Last, Nothing, Full, ReadsLine, IsLine, IsCutShort}
 use Rattle.cep_log.specs.Lines.{question, offer_lines}
-use Rattle.cep_run.specs.declared.choice.Choice.{Choice}
 use Rattle.cep_run.specs.declared.choice.Choice.TheVariants.{Place, NoMore, NoRoom}
 use Rattle.cep_run.specs.declared.deciding.Spent.{Spent}
 use Rattle.cep_run.specs.Choice.{room_after, no_line, Hears, chosen, again, no_more, no_room}
 use Rattle.cep_run.specs.Deciding.{IsPlayers}
-use Rattle.cep_run.specs.Turn.{AsksPlayer}
 use Rattle.cep_run.specs.Fronts.{IsFrontOf}
 use Rattle.cep_run.specs.Begun.{PutsFront, HearsSome, AsksSome, SettlesSome}
 use Rattle.cep_run.proofs.Hearing.{HearsFront, line_cut, answer_cut, behind_bad}
