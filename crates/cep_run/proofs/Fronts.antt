@@ -17,14 +17,14 @@ use Rattle.cep_run.specs.declared.choice.Choice.TheVariants.{Place, NoMore, NoRo
 use Rattle.cep_run.specs.declared.deciding.Spent.{Spent}
 use Rattle.cep_run.specs.Choice.{room_after, no_line, Hears, chosen, again, no_more, no_room}
 use Rattle.cep_run.specs.Deciding.{IsPlayers}
-use Rattle.cep_run.specs.Fronts.{IsFrontOf}
+use Rattle.cep_run.specs.Fronts.{BeginsSome}
 use Rattle.cep_run.specs.Begun.{PutsFront, HearsSome, AsksSome, SettlesSome}
 use Rattle.cep_run.proofs.Hearing.{HearsFront, line_cut, answer_cut, behind_bad}
 use Rattle.cep_run.proofs.HearsThere.{chooses_or_not, HasLine, one_more, one_more-says, line_there, hears_there}
 use Rattle.cep_run.proofs.Settling.{player_settles, lone_settles, drawn_settles}
 
 -- what further events complete to a front is a front
-pub front_of_front : {A B : Type 0} (P : A → List Event → B → Type 0) (from : A) (events more : List Event) → IsFrontOf P from (events ++ more) → IsFrontOf P from events
+pub front_of_front : {A B : Type 0} (P : A → List Event → B → Type 0) (from : A) (events more : List Event) → BeginsSome P from (events ++ more) → BeginsSome P from events
 front_of_front P from events more front = record { more = more ++ front.more; left = front.left; whole = subst (λ es. P from es front.left) (append_assoc events more front.more) front.whole }
 
 -- Texts
@@ -68,7 +68,7 @@ reads_on (suc room) (byte ∷ bytes) rest unbroken short =
 
 module _ (n : ℕ) where
   -- some choice is heard behind a line
-  line_on : (come : List ℕ) (taken : ℕ) (cut : Cut) (line : List ℕ) (events : List Event) (rest : List ℕ) (more : ℕ) → ReadsLine (room_after taken) come events cut rest more → IsLine cut line → IsFrontOf (HearsSome n taken) come events
+  line_on : (come : List ℕ) (taken : ℕ) (cut : Cut) (line : List ℕ) (events : List Event) (rest : List ℕ) (more : ℕ) → ReadsLine (room_after taken) come events cut rest more → IsLine cut line → BeginsSome (HearsSome n taken) come events
   line_on come taken cut line events rest more reads is = elim (chooses_or_not n line) [
     | inl some ↦ record { more = []; left = rest; whole = (Place some.0, taken + more, subst (λ es. Hears n come taken es (Place some.0) rest (taken + more)) (sym (append-nil events)) (chosen cut line more reads is some.1 refl)) }
     | inr none ↦ (
@@ -77,13 +77,13 @@ module _ (n : ℕ) where
         )
   ]
 
-  cut_on : (come : List ℕ) (taken : ℕ) (cut : Cut) (events : List Event) (rest : List ℕ) (more : ℕ) → ReadsLine (room_after taken) come events cut rest more → IsFrontOf (HearsSome n taken) come events
+  cut_on : (come : List ℕ) (taken : ℕ) (cut : Cut) (events : List Event) (rest : List ℕ) (more : ℕ) → ReadsLine (room_after taken) come events cut rest more → BeginsSome (HearsSome n taken) come events
   cut_on come taken (Ended line) events rest more reads = line_on come taken (Ended line) line events rest more reads (inl refl)
   cut_on come taken (Last line) events rest more reads = line_on come taken (Last line) line events rest more reads (inr refl)
   cut_on come taken Nothing events rest more reads = record { more = []; left = rest; whole = (NoMore, taken + more, subst (λ es. Hears n come taken es NoMore rest (taken + more)) (sym (append-nil events)) (no_more more reads refl)) }
   cut_on come taken (Full bytes) events rest more reads = record { more = []; left = rest; whole = (NoRoom, taken + more, subst (λ es. Hears n come taken es NoRoom rest (taken + more)) (sym (append-nil events)) (no_room bytes more reads refl)) }
 
-  short_on : (come : List ℕ) (taken : ℕ) (events : List Event) (rest : List ℕ) → IsCutShort (room_after taken) come events rest → IsFrontOf (HearsSome n taken) come events
+  short_on : (come : List ℕ) (taken : ℕ) (events : List Event) (rest : List ℕ) → IsCutShort (room_after taken) come events rest → BeginsSome (HearsSome n taken) come events
   short_on come taken events rest short =
       let on = reads_on (room_after taken) short.bytes rest short.unbroken short.short in
       let line = on.line in
@@ -94,7 +94,7 @@ module _ (n : ℕ) where
       record { more = on.more ++ front.more; left = front.left; whole = (front.whole.0, front.whole.1, subst (λ es. Hears n come taken es front.whole.0 front.left front.whole.1) said front.whole.2) }
 
   -- a choice that was cut short is a front of one that is heard
-  pub hears_on : {come : List ℕ} {taken : ℕ} {events : List Event} {rest : List ℕ} → HearsFront n come taken events rest → IsFrontOf (HearsSome n taken) come events
+  pub hears_on : {come : List ℕ} {taken : ℕ} {events : List Event} {rest : List ℕ} → HearsFront n come taken events rest → BeginsSome (HearsSome n taken) come events
   hears_on {come} {taken} {events} {rest} (line_cut short) = short_on come taken events rest short
   hears_on {come} {taken} {events} {rest} (answer_cut cut line more size first reads is none whole) =
       let later = hears_there n rest (taken + more) in
@@ -113,7 +113,7 @@ module _ (n : ℕ) where
 
 module _ (program : Parts) (offers : List Offer) (taken : ℕ) where
   -- a front of the question was put
-  pub asks_on : (come : List ℕ) (events : List Event) (rest : List ℕ) → PutsFront (question program offers) come events rest → IsFrontOf (AsksSome program offers taken) come events
+  pub asks_on : (come : List ℕ) (events : List Event) (rest : List ℕ) → PutsFront (question program offers) come events rest → BeginsSome (AsksSome program offers taken) come events
   asks_on come events rest put =
       let whole = put_on (question program offers) come events rest put in
       let later = hears_there (length offers) come taken in
@@ -121,7 +121,7 @@ module _ (program : Parts) (offers : List Offer) (taken : ℕ) where
       record { more = whole.0 ++ later.events; left = later.rest; whole = (later.choice, later.all, record { heard = later.events; hears = later.hears; whole = said }) }
 
   -- the question was put, and a front of a choice was heard
-  pub hears_behind : (bytes come middle : List ℕ) (first others : List Event) → bytes ≡ question program offers → (first ≡ outs bytes) × (middle ≡ come) → IsFrontOf (HearsSome (length offers) taken) middle others → IsFrontOf (AsksSome program offers taken) come (first ++ others)
+  pub hears_behind : (bytes come middle : List ℕ) (first others : List Event) → bytes ≡ question program offers → (first ≡ outs bytes) × (middle ≡ come) → BeginsSome (HearsSome (length offers) taken) middle others → BeginsSome (AsksSome program offers taken) come (first ++ others)
   hears_behind bytes come middle first others is put front =
       let whole = front.whole in
       let said = append_assoc first others front.more ∙ ap (λ es. es ++ (others ++ front.more)) (put.0 ∙ ap outs is) in
@@ -129,13 +129,13 @@ module _ (program : Parts) (offers : List Offer) (taken : ℕ) where
 
 module _ (program : Parts) (seed stage group : ℕ) (offers : List Offer) (old : Spent) where
   -- the player was asked
-  pub player_on : (come : List ℕ) (events : List Event) → IsPlayers program stage group (length offers) → IsFrontOf (AsksSome program offers old.taken) come events → IsFrontOf (SettlesSome program seed stage group offers old) come events
+  pub player_on : (come : List ℕ) (events : List Event) → IsPlayers program stage group (length offers) → BeginsSome (AsksSome program offers old.taken) come events → BeginsSome (SettlesSome program seed stage group offers old) come events
   player_on come events players front =
       let whole = front.whole in
       record { more = front.more; left = front.left; whole = (whole.0, record old { taken = whole.1 }, player_settles program seed stage group offers old whole.1 whole.0 come (events ++ front.more) front.left players whole.2) }
 
   -- nobody was asked
-  pub unasked_on : (come : List ℕ) (events : List Event) (rest : List ℕ) → ¬ IsPlayers program stage group (length offers) → 0 < length offers → PutsFront (offer_lines program 1 offers) come events rest → IsFrontOf (SettlesSome program seed stage group offers old) come events
+  pub unasked_on : (come : List ℕ) (events : List Event) (rest : List ℕ) → ¬ IsPlayers program stage group (length offers) → 0 < length offers → PutsFront (offer_lines program 1 offers) come events rest → BeginsSome (SettlesSome program seed stage group offers old) come events
   unasked_on come events rest others some put =
       let whole = put_on (offer_lines program 1 offers) come events rest put in
       elim (cases_lt 1 (length offers)) [

@@ -14,7 +14,7 @@ use Rattle.cep_run.specs.Deciding.{Supply, How, Heard, Lone, Drawn, Decides}
 use Rattle.cep_run.specs.Deeds.{Position}
 use Rattle.cep_run.specs.Run.{Question, Turn, Ending, IsQuestion, IsTurn, Run}
 use Rattle.cep_run.specs.Dialogue.{question_events, last_events, turn_events, events_of}
-use Rattle.cep_run.specs.Fronts.{IsFrontOf, IsRunOf}
+use Rattle.cep_run.specs.Fronts.{BeginsSome, IsRunOf}
 use Rattle.cep_run.proofs.HearsThere.{heard_within}
 use Rattle.cep_run.proofs.StepThere.{ThereLaws}
 use Rattle.cep_run.proofs.RunThere.{by_choice, run_there}
@@ -31,7 +31,7 @@ decided_within laws program seed stage group n from Drawn choice to decides =
     subst (IsChoiceWithin n) (sym decides.2) (laws.places seed from.drawn n (omega (arith, several)))
 
 module _ (laws : ThereLaws) (program : Parts) (settings : Settings) (kept : IsProgram program) where
-  turn_on : (at : Position) (from : Supply) (turn : Turn) → IsTurn program settings at from turn → IsState program.signature turn.deed.after.spot.state → IsFrontOf (IsRunOf program settings at) from (turn_events program turn)
+  turn_on : (at : Position) (from : Supply) (turn : Turn) → IsTurn program settings at from turn → IsState program.signature turn.deed.after.spot.state → BeginsSome (IsRunOf program settings at) from (turn_events program turn)
   turn_on at from turn is state =
       let remain = is.asks.remain in
       let counted = counted_here program settings at from turn is in
@@ -53,10 +53,10 @@ module _ (laws : ThereLaws) (program : Parts) (settings : Settings) (kept : IsPr
       let divided = holds_at (IsDividedRule program.signature) program.rules deed.offer.rule deed.rule kept.divided_rules is.chosen.of_rule in
       laws.lead program.signature deed.rule deed.offer.values at.spot.state deed.after.spot.state typed divided is.does.step.values is_state steps.fit steps.step
 
-  pub turn_begins : (at : Position) (from : Supply) (turn : Turn) → IsState program.signature at.spot.state → IsTurn program settings at from turn → IsFrontOf (IsRunOf program settings at) from (turn_events program turn)
+  pub turn_begins : (at : Position) (from : Supply) (turn : Turn) → IsState program.signature at.spot.state → IsTurn program settings at from turn → BeginsSome (IsRunOf program settings at) from (turn_events program turn)
   turn_begins at from turn is_state is = turn_on at from turn is (state_behind at from turn is is_state)
 
-  pub question_begins : (at : Position) (from : Supply) (question : Question) (to : Supply) → IsState program.signature at.spot.state → IsQuestion program settings at from question to → IsFrontOf (IsRunOf program settings at) from (question_events program question)
+  pub question_begins : (at : Position) (from : Supply) (question : Question) (to : Supply) → IsState program.signature at.spot.state → IsQuestion program settings at from question to → BeginsSome (IsRunOf program settings at) from (question_events program question)
   question_begins at from question to is_state asks =
       let within = decided_within laws program settings.seed at.spot.stage question.group (length question.offers) from question.how question.choice to asks.decided in
       elim (by_choice laws program settings kept at from is_state question to asks question.choice refl within) [

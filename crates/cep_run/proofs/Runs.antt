@@ -17,7 +17,7 @@ use Rattle.cep_log.specs.Lines.{end_lines, header}
 use Rattle.cep_run.specs.Deeds.{Position, start_of}
 use Rattle.cep_run.specs.Run.{whole_supply, Turn, Ending, IsTurn, AreTurns, offers_listed, EndsAt, Run}
 use Rattle.cep_run.specs.Dialogue.{turn_events, last_events, events_of, Dialogue}
-use Rattle.cep_run.specs.Fronts.{IsFrontOf, IsRunOf, IsDialogueOf}
+use Rattle.cep_run.specs.Fronts.{BeginsSome, IsRunOf, IsDialogueOf}
 use Rattle.cep_run.specs.Begun.{PutsFront}
 use Rattle.cep_run.proofs.Fronts.{put_on}
 use Rattle.cep_run.specs.declared.deciding.Spent.{Spent}
@@ -107,7 +107,7 @@ turns_join program settings at from (turn ∷ turns) middle between others last 
 
 -- a turn was refused: what was said begins some run from the start
 pub turns_begin : (program : Parts) (settings : Settings) (start at : Position) (spent : Spent) (offers : ℕ) (come : List ℕ) (first : List Event) (between : List ℕ) (second : List Event) → SoFar program settings start at spent offers come first between
-    → IsFrontOf (IsRunOf program settings at) (supply_with between spent) second → IsFrontOf (IsRunOf program settings start) (whole_supply come) (first ++ second)
+    → BeginsSome (IsRunOf program settings at) (supply_with between spent) second → BeginsSome (IsRunOf program settings start) (whole_supply come) (first ++ second)
 turns_begin program settings start at spent offers come first between second so front =
     let turns = front.whole.0 in
     let ending = front.whole.1 in
@@ -194,7 +194,7 @@ pub record RunThenEnd (program : Parts) (settings : Settings) (word : EndWord) (
 
 -- a front of the header was put
 pub header_begins : (program : Parts) (settings : Settings) (come : List ℕ) (events : List Event) (rest : List ℕ) → (turns : List Turn) × (ending : Ending) × (all : List Event) × (left : List ℕ) × Dialogue program settings come turns ending all left
-    → PutsFront (header program settings.height) come events rest → IsFrontOf (IsDialogueOf program settings) come events
+    → PutsFront (header program settings.height) come events rest → BeginsSome (IsDialogueOf program settings) come events
 header_begins program settings come events rest some put =
     let dialogue = some.4 in
     let missing = put_on (header program settings.height) come events rest put in
@@ -204,7 +204,7 @@ header_begins program settings come events rest some put =
 
 module _ (program : Parts) (settings : Settings) (start : Position) (begun : start ≡ start_of program) (come middle : List ℕ) (first : List Event) (begins : (first ≡ outs (header program settings.height)) × (middle ≡ come)) where
   -- the header was put, and a turn was refused
-  pub run_begins_dialogue : (others : List Event) → IsFrontOf (IsRunOf program settings start) (whole_supply middle) others → IsFrontOf (IsDialogueOf program settings) come (first ++ others)
+  pub run_begins_dialogue : (others : List Event) → BeginsSome (IsRunOf program settings start) (whole_supply middle) others → BeginsSome (IsDialogueOf program settings) come (first ++ others)
   run_begins_dialogue others front =
       let turns = front.whole.0 in
       let ending = front.whole.1 in
@@ -216,7 +216,7 @@ module _ (program : Parts) (settings : Settings) (start : Position) (begun : sta
 
   -- all turns were done, and a front of the end was put
   pub end_begins_dialogue : (word : EndWord) (last : Position) (offers : ℕ) (second third : List Event) (late rest : List ℕ) → IsWholeRun program settings word start last offers middle second late → PutsFront (end_lines program.signature word last.spot.state) late third rest
-      → IsFrontOf (IsDialogueOf program settings) come (first ++ (second ++ third))
+      → BeginsSome (IsDialogueOf program settings) come (first ++ (second ++ third))
   end_begins_dialogue word last offers second third late rest runs put =
       let end = end_lines program.signature word last.spot.state in
       let missing = put_on end late third rest put in

@@ -43,7 +43,7 @@ use Rattle.cep_log.specs.Lines.{step_lines}
 use Rattle.cep_run.specs.Deeds.{Position, PassesLimit}
 use Rattle.cep_run.specs.Run.{Question, Turn, IsQuestion, IsChosen, IsTurn, LeadsNowhere}
 use Rattle.cep_run.specs.Dialogue.{asked_events, question_events, turn_events}
-use Rattle.cep_run.specs.Fronts.{IsFrontOf, IsRunOf}
+use Rattle.cep_run.specs.Fronts.{BeginsSome, IsRunOf}
 use Rattle.cep_run.specs.Begun.{SettlesSome, BeginsAct}
 use Rattle.cep_run.specs.Turn.{position_of, supply_with, IsPlayed, Settles, IsPlaced, TellsStep, Acts, WouldPass, limit_word, IsActed, DoesTurn, Stops, IsTurned, config_left}
 use Rattle.cep_base.proofs.Did.{did_same, did_put, did_map, did_then}
@@ -336,36 +336,36 @@ module _ (program : Parts) (settings : Settings) (at : Position) (spent : Spent)
 abbrev pub QuestionsGoOn : Type 0
 QuestionsGoOn =
     (program : Parts) (settings : Settings) (at : Position) (from : Supply) (question : Question) (to : Supply)
-    → IsProgram program → IsState program.signature at.spot.state → IsQuestion program settings at from question to → IsFrontOf (IsRunOf program settings at) from (question_events program question)
+    → IsProgram program → IsState program.signature at.spot.state → IsQuestion program settings at from question to → BeginsSome (IsRunOf program settings at) from (question_events program question)
 
 abbrev pub TurnsGoOn : Type 0
 TurnsGoOn =
     (program : Parts) (settings : Settings) (at : Position) (from : Supply) (turn : Turn)
-    → IsProgram program → IsState program.signature at.spot.state → IsTurn program settings at from turn → IsFrontOf (IsRunOf program settings at) from (turn_events program turn)
+    → IsProgram program → IsState program.signature at.spot.state → IsTurn program settings at from turn → BeginsSome (IsRunOf program settings at) from (turn_events program turn)
 
 -- what was said before a turn was refused begins some run
 module _ (program : Parts) (settings : Settings) (kept : IsProgram program) (at : Position) (is_state : IsState program.signature at.spot.state) (spent : Spent) (group : ℕ) (offers : List Offer) (here : IsAskedHere program settings at group offers)
     (remain : at.turns < settings.limit) (few : length offers ≤ MOST_OFFERS) where
-  decision_begins : QuestionsGoOn → (come : List ℕ) (events : List Event) → IsFrontOf (SettlesSome program settings.seed at.spot.stage group offers spent) come events → IsFrontOf (IsRunOf program settings at) (supply_with come spent) events
+  decision_begins : QuestionsGoOn → (come : List ℕ) (events : List Event) → BeginsSome (SettlesSome program settings.seed at.spot.stage group offers spent) come events → BeginsSome (IsRunOf program settings at) (supply_with come spent) events
   decision_begins questions come events front =
       let choice = front.whole.0 in
       let new = front.whole.1 in
       let settles = front.whole.2 in
       let asks = is_answered program settings at spent group offers here remain few new come front.left choice (events ++ front.more) settles in
       let on = questions program settings at (supply_with come spent) (answered program settings at spent group offers here remain few new settles.how choice) (supply_with front.left new) kept is_state asks in
-      front_of_front (IsRunOf program settings at) (supply_with come spent) events front.more (subst (IsFrontOf (IsRunOf program settings at) (supply_with come spent)) (sym settles.whole) on)
+      front_of_front (IsRunOf program settings at) (supply_with come spent) events front.more (subst (BeginsSome (IsRunOf program settings at) (supply_with come spent)) (sym settles.whole) on)
 
   act_begins : QuestionsGoOn → TurnsGoOn → (spent' : Spent) (place : ℕ) (come : List ℕ) (first : List Event) (between : List ℕ) (second : List Event) (rest : List ℕ) → Settles program settings.seed at.spot.stage group offers spent (Place place) spent' come first between
-      → BeginsAct program settings.height offers place at between second rest → IsFrontOf (IsRunOf program settings at) (supply_with come spent) (first ++ second)
+      → BeginsAct program settings.height offers place at between second rest → BeginsSome (IsRunOf program settings at) (supply_with come spent) (first ++ second)
   act_begins questions turns spent' place come first between second rest settles (inl nothing) =
       let whole = subst (λ es. Settles program settings.seed at.spot.stage group offers spent (Place place) spent' come es between) (sym (append-nil first)) settles in
-      subst (IsFrontOf (IsRunOf program settings at) (supply_with come spent)) (sym (append-nil first) ∙ ap (λ es. first ++ es) (sym nothing.0))
+      subst (BeginsSome (IsRunOf program settings at) (supply_with come spent)) (sym (append-nil first) ∙ ap (λ es. first ++ es) (sym nothing.0))
       (decision_begins questions come first (record { more = []; left = between; whole = (Place place, spent', whole) }))
   act_begins questions turns spent' place come first between second rest settles (inr on) =
       let done = done_turn program settings at spent group offers here remain few spent' place come between rest first (second ++ on.more) settles on.next on.counted on.acts in
       let begins = turns program settings at (supply_with come spent) done.turn kept is_state done.is in
       front_of_front (IsRunOf program settings at) (supply_with come spent) (first ++ second) on.more
-      (subst (IsFrontOf (IsRunOf program settings at) (supply_with come spent)) (sym (append_assoc first second on.more ∙ done.written)) begins)
+      (subst (BeginsSome (IsRunOf program settings at) (supply_with come spent)) (sym (append_assoc first second on.more ∙ done.written)) begins)
 
 -- what the choice of a place comes to is what the turn comes to
 module _ {C M : Type 0} (talk : C → Option (List Event)) (left : C → Option (List ℕ)) (old between new : C) (program : Parts) (settings : Settings) (config : Configuration M) (spent spent' : Spent) (place group : ℕ) (offers : List Offer)
@@ -435,14 +435,14 @@ module _ {M : Type 0} (is_of : Parts → M → Type 0) (height_held : M → ℕ)
 
       -- the decision was refused, or its step
       module _ (questions : QuestionsGoOn) (kept : IsProgram program) (is_state : IsState program.signature config.state) where
-        pub decision_refused : Did talk left console settled_on (λ come events rest. IsFrontOf (SettlesSome program settings.seed config.stage group (offers_of (offers_held config.matcher) group) spent) come events)
-            → Did talk left console settled_on (λ come events rest. IsFrontOf (IsRunOf program settings (position_of config)) (supply_with come spent) events)
+        pub decision_refused : Did talk left console settled_on (λ come events rest. BeginsSome (SettlesSome program settings.seed config.stage group (offers_of (offers_held config.matcher) group) spent) come events)
+            → Did talk left console settled_on (λ come events rest. BeginsSome (IsRunOf program settings (position_of config)) (supply_with come spent) events)
         decision_refused begun =
             did_map talk left console settled_on _ _ (λ come events rest front. decision_begins program settings kept (position_of config) is_state spent group (offers_of (offers_held config.matcher) group) asks_here remain few_here questions come events front) begun
 
         pub act_refused : TurnsGoOn → (place : ℕ) (choice : Choice) → choice ≡ Place place → Did talk left console settled_on (Settles program settings.seed config.stage group (offers_of (offers_held config.matcher) group) spent choice spent')
             → (new : C) → Did talk left settled_on new (BeginsAct program settings.height (offers_of (offers_held config.matcher) group) place (position_of config))
-            → Did talk left console new (λ come events rest. IsFrontOf (IsRunOf program settings (position_of config)) (supply_with come spent) events)
+            → Did talk left console new (λ come events rest. BeginsSome (IsRunOf program settings (position_of config)) (supply_with come spent) events)
         act_refused turns place choice same settled new begun =
             did_then talk left console settled_on new _ _ _
             (λ come first middle others rest settles front. act_begins program settings kept (position_of config) is_state spent group (offers_of (offers_held config.matcher) group) asks_here remain few_here questions turns spent' place come first middle others rest settles front)

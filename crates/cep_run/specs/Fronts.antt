@@ -8,8 +8,8 @@ use Rattle.cep_run.specs.Deeds.{Position}
 use Rattle.cep_run.specs.Run.{Turn, Ending, Run}
 use Rattle.cep_run.specs.Dialogue.{events_of, Dialogue}
 
--- What is said, from here, is a front of some whole that has P: further events complete it to one, and something is left then.
-pub record IsFrontOf {A B : Type 0} (P : A → List Event → B → Type 0) (from : A) (events : List Event) : Type 0 where
+-- What is said, from here, begins some whole that has P: further events complete it to one, and something is left then.
+pub record BeginsSome {A B : Type 0} (P : A → List Event → B → Type 0) (from : A) (events : List Event) : Type 0 where
   pub more : List Event
   pub left : B
   pub whole : P from (events ++ more) left

@@ -10,7 +10,7 @@ ghost use Rattle.cep_run.specs.Deciding.{Supply};
 ghost use Rattle.cep_run.specs.Deeds.{Position, Deed, AreDeeds};
 ghost use Rattle.cep_run.specs.Run.{Question, Turn, Ending, IsQuestion, IsTurn, AreTurns, Run, deeds_of, unproved};
 ghost use Rattle.cep_run.specs.Dialogue.{question_events, turn_events, Dialogue};
-ghost use Rattle.cep_run.specs.Fronts.{IsFrontOf, IsRunOf};
+ghost use Rattle.cep_run.specs.Fronts.{BeginsSome, IsRunOf};
 
 use cep_choice::laws::drawn_places_are_within;
 use cep_rule::laws::{
@@ -83,12 +83,12 @@ pub fn runs_go_on()
         → IsProgram program
         → IsState program.signature at.spot.state
         → IsQuestion program settings at from question to
-        → IsFrontOf (IsRunOf program settings at) from (question_events program question) }
+        → BeginsSome (IsRunOf program settings at) from (question_events program question) }
     ensures turns { (program : Parts) (settings : Settings) (at : Position) (from : Supply) (turn : Turn)
         → IsProgram program
         → IsState program.signature at.spot.state
         → IsTurn program settings at from turn
-        → IsFrontOf (IsRunOf program settings at) from (turn_events program turn) }
+        → BeginsSome (IsRunOf program settings at) from (turn_events program turn) }
 {
     offers_are_there();
     steps_lead_to_states();

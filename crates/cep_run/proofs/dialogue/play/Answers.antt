@@ -2,7 +2,7 @@ use Rattle.std.proofs.Common.{◌≡◌, ◌++◌, refl, sym, ap, ◌∙◌, sub
 use Rattle.cep_base.specs.Talk.{outs, Did}
 use Rattle.cep_term.specs.Multiset.{copies_in}
 use Rattle.cep_log.specs.Lines.{end_lines, header}
-use Rattle.cep_run.specs.Fronts.{IsFrontOf, IsDialogueOf}
+use Rattle.cep_run.specs.Fronts.{BeginsSome, IsDialogueOf}
 use Rattle.cep_run.specs.Begun.{PutsFront}
 use Rattle.cep_run.specs.Turn.{position_of}
 use Rattle.cep_run.specs.declared.tally.Tally.{Tally}
@@ -86,7 +86,7 @@ returns-in_err-finish-clause-begun g c =
     subst (λ state. Did talk left c.all_turns.new.console c.finish.new.console (PutsFront (end_lines program.signature end.word state))) c.state.ensures c.in_err-finish.ensures.begun in
     on_err c.from_residual-in_err-finish.result _
     (did_then talk left c.args.console.now c.begin-2.new.console c.finish.new.console _ _ _
-    (λ come first middle others rest begins ends. subst (λ es. IsFrontOf (IsDialogueOf program settings) come (first ++ es)) (sym ends.whole)
+    (λ come first middle others rest begins ends. subst (λ es. BeginsSome (IsDialogueOf program settings) come (first ++ es)) (sym ends.whole)
     (end_begins_dialogue program settings start started come middle first begins end.word last end.offers ends.turns ends.end ends.late rest ends.runs ends.put))
     c.in_ok-begin.ensures.told
     (did_then talk left c.begin-2.new.console c.all_turns.new.console c.finish.new.console _ _ (RunThenEnd program settings end.word start last end.offers)
