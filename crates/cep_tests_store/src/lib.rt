@@ -1,7 +1,11 @@
-//! Tests of what a matcher will keep its matches in, masks, columns of rows and a store of atoms; and
-//! of the texts of generated worlds.
+//! Tests of what a matcher will keep its matches in, masks, columns of rows, a store of atoms, an alpha
+//! memory and an agenda; and of the texts of generated worlds.
 #![tactic(auto)]
 
+#[cfg(test)]
+mod agendas;
+#[cfg(test)]
+mod alphas;
 #[cfg(test)]
 mod columns;
 #[cfg(test)]

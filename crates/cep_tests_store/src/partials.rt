@@ -145,7 +145,7 @@ fn parts(alloc: Global) -> Result<Parts, AllocError>
 }
 
 // The program.
-fn program(alloc: Global) -> Result<Program, AllocError>
+pub(crate) fn program(alloc: Global) -> Result<Program, AllocError>
     ensures { IfOk result (λ program. program ≡ sample) }
 {
     bags_are_lawful();
@@ -154,7 +154,7 @@ fn program(alloc: Global) -> Result<Program, AllocError>
 }
 
 // The constant with this number.
-fn term(alloc: Global, c: u32) -> Result<Term, AllocError>
+pub(crate) fn term(alloc: Global, c: u32) -> Result<Term, AllocError>
     ensures { IfOk result (λ t. tree_of t ≡ node c none) }
 {
     Ok(Term::App(c, Box::new(alloc, Args::Nil)?))
@@ -171,7 +171,7 @@ fn p(alloc: Global, c: u32) -> Result<Atom, AllocError>
 }
 
 // The atom `q` of two constants.
-fn q(alloc: Global, c: u32, d: u32) -> Result<Atom, AllocError>
+pub(crate) fn q(alloc: Global, c: u32, d: u32) -> Result<Atom, AllocError>
     ensures { IfOk result (λ a. atom_of a ≡ q_of c d) }
 {
     let last = args(alloc, term(alloc, d)?, Args::Nil)?;
