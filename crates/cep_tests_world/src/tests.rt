@@ -1,7 +1,9 @@
 mod backward;
 mod checked;
 mod checks;
+mod deepest;
 mod dialogues;
+mod faults;
 mod growing;
 mod limits;
 mod outside;

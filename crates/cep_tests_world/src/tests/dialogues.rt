@@ -1,11 +1,11 @@
 // Whole dialogues: that a call can succeed, and the very bytes of what it writes, from examples that
 // were worked out by hand.
 use crate::tests::checked::expect_checked;
-use crate::tests::outside::{Outcome, expect, play, run_line, run_text, shelf_of, status, written};
+use crate::tests::outside::{expect, run_line, run_text, shelf_of};
+use cep_base::MemShelf;
 use cep_base::limits::{MOST_TEXT, MOST_TYPED};
-use cep_base::{MemConsole, MemShelf};
 use cep_tests_samples::{changed, meetings, spelled, walk};
-use std::alloc::{AllocError, Global};
+use std::alloc::Global;
 use std::process::Abort;
 use std::test::Fail;
 
@@ -332,34 +332,4 @@ fn a_file_that_cannot_be_read_is_told(rt: HostRuntime) -> Result<(), Fail> {
     let mut shelf = shelf_of(rt.alloc(), turning())?;
     shelf.fail(1)?;
     expect_unread(&rt, rt.alloc(), &mut shelf)
-}
-
-// Plays the file of a shelf with a line typed, where the third call of the console fails.
-fn interrupted(alloc: Global, shelf: &mut MemShelf) -> Result<Outcome, AllocError> {
-    let mut console = MemConsole::new(alloc, b"1\n", &[3])?;
-    let status = status(alloc, "play f", &mut console, shelf)?;
-    Ok(Outcome {
-        status,
-        written: written(alloc, console.talk())?,
-    })
-}
-
-// Plays a text so.
-fn play_interrupted(alloc: Global, text: &str) -> Result<Outcome, AllocError> {
-    let mut shelf = shelf_of(alloc, text)?;
-    interrupted(alloc, &mut shelf)
-}
-
-// A part is written of what the whole run writes.
-fn is_part(part: &str, whole: &str) -> bool {
-    !part.is_empty() && part.len() < whole.len() && whole.starts_with(part)
-}
-
-#[test]
-fn a_console_that_fails_ends_the_run(rt: HostRuntime) -> Result<(), Fail> {
-    let whole = play(rt.alloc(), turning(), "1\n")?;
-    let part = play_interrupted(rt.alloc(), turning())?;
-    assert_eq!(rt; part.status, 6);
-    assert!(rt; is_part(part.written.as_str(), whole.written.as_str()));
-    Ok(())
 }

@@ -1,0 +1,128 @@
+// Consoles and shelves that fail, and transcripts that are cut: what stands then is right as far as it
+// goes.
+use crate::tests::checked::expect_checked;
+use crate::tests::outside::{Outcome, shelf_of, status, written};
+use cep_base::{MemConsole, MemShelf};
+use cep_tests_samples::{spelled, walk};
+use std::alloc::{AllocError, Global};
+use std::process::Abort;
+use std::test::Fail;
+
+// What is written of a text with this typed, over a console whose call of this number fails.
+fn interrupted(
+    alloc: Global,
+    (text, typed): (&str, &str),
+    call: u64,
+) -> Result<Outcome, AllocError> {
+    let mut shelf = shelf_of(alloc, text)?;
+    let mut console = MemConsole::new(alloc, typed.as_bytes(), &[call])?;
+    let status = status(alloc, "play f", &mut console, &mut shelf)?;
+    Ok(Outcome {
+        status,
+        written: written(alloc, console.talk())?,
+    })
+}
+
+// Whether the run is whole. One that is not has status 6, and wrote a front of the whole.
+fn is_whole(rt: &impl Abort, outcome: &Outcome, whole: &str) -> bool {
+    if outcome.status == 0 {
+        assert_eq!(rt; outcome.written.as_str(), whole);
+        return true;
+    }
+    assert_eq!(rt; outcome.status, 6);
+    assert!(rt; whole.starts_with(outcome.written.as_str()));
+    false
+}
+
+// The number of the first call that the run does not make, where each earlier one that fails leaves a
+// front of the dialogue.
+fn first_call_that_is_not_made(
+    rt: &impl Abort,
+    alloc: Global,
+    played: (&str, &str),
+    whole: &str,
+) -> Result<u64, Fail> {
+    for call in 1..1_000 {
+        let outcome = interrupted(alloc, played, call)?;
+        if is_whole(rt, &outcome, whole) {
+            return Ok(call);
+        }
+    }
+    Err(Fail::from("no end"))
+}
+
+#[test]
+fn a_console_that_fails_at_any_call_leaves_a_front(rt: HostRuntime) -> Result<(), Fail> {
+    let sample = spelled(rt.alloc(), walk())?;
+    let (text, said) = sample.split_once("-\n").ok_or("nothing said")?;
+    let call = first_call_that_is_not_made(&rt, rt.alloc(), (text, "3\n5\n"), said)?;
+    assert!(rt; call > 10);
+    Ok(())
+}
+
+// A shelf with a program and a transcript, of whose loads that of this number fails.
+fn failing(alloc: Global, (text, log): (&str, &str), load: u64) -> Result<MemShelf, AllocError> {
+    let mut shelf = shelf_of(alloc, text)?;
+    shelf.file("g", log.as_bytes())?;
+    shelf.fail(load)?;
+    Ok(shelf)
+}
+
+// A check over it says which file could not be read.
+fn expect_unread(
+    rt: &impl Abort,
+    alloc: Global,
+    sample: (&str, &str),
+    load: u64,
+    said: &str,
+) -> Result<(), Fail> {
+    let mut shelf = failing(alloc, sample, load)?;
+    let mut console = MemConsole::new(alloc, b"", &[])?;
+    assert_eq!(rt; status(alloc, "check f g", &mut console, &mut shelf)?, 7);
+    assert_eq!(rt; written(alloc, console.talk())?.as_str(), said);
+    Ok(())
+}
+
+#[test]
+fn a_load_that_fails_is_told_by_its_file(rt: HostRuntime) -> Result<(), Fail> {
+    let sample = spelled(rt.alloc(), walk())?;
+    let sample = sample.split_once("-\n").ok_or("nothing said")?;
+    expect_unread(&rt, rt.alloc(), sample, 1, "cannot read program\n")?;
+    expect_unread(&rt, rt.alloc(), sample, 2, "cannot read transcript\n")
+}
+
+// The status of a check of the first bytes of a transcript.
+fn status_of_front(alloc: Global, (text, log): (&str, &[u8]), bytes: usize) -> Result<u8, Fail> {
+    let mut shelf = shelf_of(alloc, text)?;
+    shelf.file("g", log.get(..bytes).ok_or("no front")?)?;
+    let mut console = MemConsole::new(alloc, b"", &[])?;
+    Ok(status(alloc, "check f g", &mut console, &mut shelf)?)
+}
+
+// How many of all fronts of a transcript are accepted, where all others have status 1.
+fn fronts_accepted(
+    rt: &impl Abort,
+    alloc: Global,
+    (text, log): (&str, &[u8]),
+) -> Result<usize, Fail> {
+    let mut accepted = 0;
+    for bytes in 0..log.len() {
+        match status_of_front(alloc, (text, log), bytes)? {
+            0 => accepted += 1,
+            other => assert_eq!(rt; other, 1),
+        }
+    }
+    Ok(accepted)
+}
+
+#[test]
+fn of_all_cuts_only_that_of_the_last_line_feed_is_accepted(rt: HostRuntime) -> Result<(), Fail> {
+    let sample = spelled(rt.alloc(), walk())?;
+    let (text, log) = sample.split_once("-\n").ok_or("nothing said")?;
+    assert_eq!(rt;
+        fronts_accepted(&rt, rt.alloc(), (text, log.as_bytes()))?,
+        1
+    );
+    let open = log.strip_suffix('\n').ok_or("no line feed")?;
+    expect_checked(&rt, rt.alloc(), (text, open), (0, "accepted 2\n"))
+}
