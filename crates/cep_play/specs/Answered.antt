@@ -63,3 +63,7 @@ TellsWhatIsDue (Check file log) files left status =
     × (((legal : Log) → ¬ (IsLegalTranscript program bytes legal)) → Contains (1 ∷ 6 ∷ 7 ∷ 9 ∷ []) status)
 TellsWhatIsDue (World rooms options) files left status =
     (program : Parts) → Spells (world rooms) program → EndsBy program (settings_of program options) [] (6 ∷ 9 ∷ []) status
+
+-- Whatever the words ask for, the status tells what is due of it so.
+abbrev pub TellsAllThatIsDue : List (List ℕ) → Option Files → Option (List ℕ) → ℕ → Type 0
+TellsAllThatIsDue words files left status = (request : Request) → AskFor words request → TellsWhatIsDue request files left status

@@ -2,9 +2,9 @@
 ghost use Rattle.std.specs.Prelude.{◌≡◌, ◌≢◌, ◌⊎◌, ◌<◌, ◌≤◌, [], ◌∷◌, map, string_bytes, IfOk, Contains};
 ghost use Rattle.cep_base.specs.Talk.{Did, ConsoleCause};
 ghost use Rattle.cep_base.specs.Faults.{Rose};
-ghost use Rattle.cep_words.specs.Words.{Request, AskFor, HaveNoForm};
+ghost use Rattle.cep_words.specs.Words.{HaveNoForm};
 ghost use Rattle.cep_play.specs.Command.{OfRequest, AsksFor, AsksUpTo, Adds};
-ghost use Rattle.cep_play.specs.Answered.{DoesWhatIsDue, IsNoDialogue, IsSpelled, IsWritten, TellsWhatIsDue};
+ghost use Rattle.cep_play.specs.Answered.{DoesWhatIsDue, IsNoDialogue, IsSpelled, IsWritten, TellsAllThatIsDue};
 ghost use Rattle.cep_play.specs.Outcome.{CommandDid, AskedInVain};
 
 use crate::check::check_file;
@@ -98,7 +98,7 @@ pub fn ceptre<C: Console, H: Shelf, L: Ledger>(
     ensures spelled { IsSpelled (map string_bytes words.now) (H.files shelf.old) result }
 
     // Whatever comes, the status tells what is due: a run is there whatever is typed, and the status tells how it ends, or whether a transcript is legal.
-    ensures due { (request : Request) → AskFor (map string_bytes words.now) request → TellsWhatIsDue request (H.files shelf.old) (C.left console.old) result }
+    ensures due { TellsAllThatIsDue (map string_bytes words.now) (H.files shelf.old) (C.left console.old) result }
     ensures no_other { Contains (0 ∷ 1 ∷ 2 ∷ 3 ∷ 4 ∷ 6 ∷ 7 ∷ 9 ∷ []) result }
 
     // Faults of the outside have their statuses, and these come for nothing else.
