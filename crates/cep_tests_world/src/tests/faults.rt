@@ -1,6 +1,5 @@
 // Consoles and shelves that fail, and transcripts that are cut: what stands then is right as far as it
 // goes.
-use crate::tests::checked::expect_checked;
 use crate::tests::outside::{Outcome, shelf_of, status, written};
 use cep_base::{MemConsole, MemShelf};
 use cep_tests_samples::{spelled, walk};
@@ -99,30 +98,28 @@ fn status_of_front(alloc: Global, (text, log): (&str, &[u8]), bytes: usize) -> R
     Ok(status(alloc, "check f g", &mut console, &mut shelf)?)
 }
 
-// How many of all fronts of a transcript are accepted, where all others have status 1.
-fn fronts_accepted(
-    rt: &impl Abort,
-    alloc: Global,
-    (text, log): (&str, &[u8]),
-) -> Result<usize, Fail> {
-    let mut accepted = 0;
-    for bytes in 0..log.len() {
-        match status_of_front(alloc, (text, log), bytes)? {
-            0 => accepted += 1,
-            other => assert_eq!(rt; other, 1),
-        }
+// The status that a front of a transcript is to have: one that lacks the last byte alone, a line feed, is
+// accepted.
+fn wanted(log: &[u8], bytes: usize) -> u8 {
+    if log.len().saturating_sub(bytes) == 1 {
+        0
+    } else {
+        1
     }
-    Ok(accepted)
+}
+
+// Each front of a transcript that is not the whole has the status that it is to have.
+fn expect_fronts(rt: &impl Abort, alloc: Global, (text, log): (&str, &[u8])) -> Result<(), Fail> {
+    for bytes in 0..log.len() {
+        let status = status_of_front(alloc, (text, log), bytes)?;
+        assert_eq!(rt; status, wanted(log, bytes));
+    }
+    Ok(())
 }
 
 #[test]
 fn of_all_cuts_only_that_of_the_last_line_feed_is_accepted(rt: HostRuntime) -> Result<(), Fail> {
     let sample = spelled(rt.alloc(), walk())?;
     let (text, log) = sample.split_once("-\n").ok_or("nothing said")?;
-    assert_eq!(rt;
-        fronts_accepted(&rt, rt.alloc(), (text, log.as_bytes()))?,
-        1
-    );
-    let open = log.strip_suffix('\n').ok_or("no line feed")?;
-    expect_checked(&rt, rt.alloc(), (text, open), (0, "accepted 2\n"))
+    expect_fronts(&rt, rt.alloc(), (text, log.as_bytes()))
 }
