@@ -3,4 +3,4 @@ pub mod Backs
 pub mod Groups
 pub mod Scratch
 pub mod First
-pub mod Fronts
+pub mod Candidates

@@ -10,8 +10,8 @@
 #![tactic(auto)]
 
 mod backs;
+mod candidates;
 mod first;
-mod fronts;
 mod groups;
 pub mod laws;
 mod partial;

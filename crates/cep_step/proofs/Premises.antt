@@ -1,16 +1,17 @@
 -- Atoms of a rule that are gone through one by one.
 use Rattle.std.proofs.Common.{◌≡◌, ℕ, ◌+◌, ◌≤◌, Bool, true, false, cond, not, ◌&&◌, ◌||◌, List, [], ◌∷◌, ◌++◌, length, take, Some, append_assoc, refl, sym, ap, ◌∙◌}
 use Rattle.std.specs.Prelude.{slice_get, filter}
+use Rattle.std.specs.List.{AllByRecursion}
 use Rattle.std.proofs.lemmas.List.{map-append, take_all}
 use Rattle.std.proofs.lemmas.List.Elements.{filter-append}
-use Rattle.cep_term.specs.Tree.{Tree, AtomTree}
+use Rattle.cep_term.specs.Tree.{Tree, AtomTree, IsAtomInRange}
 use Rattle.cep_rule.specs.Patterns.{PremiseTree}
 use Rattle.cep_rule.specs.Instances.{full_instance, full_instances}
 use Rattle.cep_term.specs.Multiset.{without}
 use Rattle.cep_rule.specs.declared.signature.Signature.{Signature}
 use Rattle.cep_rule.specs.Typing.{is_fact}
 use Rattle.cep_step.specs.Weighing.{premise_atoms, linear_among, linear_kept_among}
-use Rattle.cep_base.proofs.Lists.{take_next, map_last}
+use Rattle.cep_base.proofs.Lists.{take_next, map_last, holds_at_mapped}
 
 -- one atom more
 pub next_instances : (values : List Tree) (atoms : List AtomTree) (n : ℕ) (a : AtomTree) → slice_get atoms n ≡ Some a → full_instances values (take (n + 1) atoms) ≡ full_instances values (take n atoms) ++ full_instance values a ∷ []
@@ -54,24 +55,13 @@ module _ (signature : Signature) (premises : List PremiseTree) (n : ℕ) (premis
       by false true e = ap (λ t. cond (not t) (premise.atom ∷ []) []) e
       by false false e = refl
 
--- one atom more where a test passes, and none else
-pub pushed : (values : List Tree) (test : Bool) (a : AtomTree) (front atoms old new : List AtomTree) → atoms ≡ front ++ cond test (a ∷ []) [] → old ≡ full_instances values front → test ≡ true → new ≡ old ++ full_instance values a ∷ [] → new ≡ full_instances values atoms
-pushed values test a front atoms old new longer so_far passes more =
-    more ∙ ap (λ xs. xs ++ full_instance values a ∷ []) so_far
-    ∙ sym (map_last (full_instance values) front a)
-    ∙ ap (full_instances values) (sym (longer ∙ ap (λ t. front ++ cond t (a ∷ []) []) passes))
+-- some atoms more, behind what is there already
+pub more_behind : (values : List Tree) (initial front more atoms old new : List AtomTree) → atoms ≡ front ++ more → old ≡ initial ++ full_instances values front → new ≡ old ++ full_instances values more → new ≡ initial ++ full_instances values atoms
+more_behind values initial front more atoms old new longer so_far gained =
+    gained ∙ ap (λ xs. xs ++ full_instances values more) so_far
+    ∙ append_assoc initial (full_instances values front) (full_instances values more)
+    ∙ ap (λ xs. initial ++ xs) (sym (ap (full_instances values) longer ∙ map-append (full_instance values) front more))
 
-pub not_pushed : (values : List Tree) (test : Bool) (a : AtomTree) (front atoms old new : List AtomTree) → atoms ≡ front ++ cond test (a ∷ []) [] → old ≡ full_instances values front → test ≡ false → new ≡ old → new ≡ full_instances values atoms
-not_pushed values test a front atoms old new longer so_far fails same =
-    same ∙ so_far ∙ ap (full_instances values) (sym (longer ∙ ap (λ t. front ++ cond t (a ∷ []) []) fails ∙ nothing_more front))
-
--- the same behind what is there already
-pub pushed_behind : (values : List Tree) (test : Bool) (a : AtomTree) (initial front atoms old new : List AtomTree) → atoms ≡ front ++ cond test (a ∷ []) [] → old ≡ initial ++ full_instances values front → test ≡ true → new ≡ old ++ full_instance values a ∷ [] → new ≡ initial ++ full_instances values atoms
-pushed_behind values test a initial front atoms old new longer so_far passes more =
-    more ∙ ap (λ xs. xs ++ full_instance values a ∷ []) so_far
-    ∙ append_assoc initial (full_instances values front) (full_instance values a ∷ [])
-    ∙ ap (λ xs. initial ++ xs) (pushed values test a front atoms (full_instances values front) _ longer refl passes refl)
-
-pub not_pushed_behind : (values : List Tree) (test : Bool) (a : AtomTree) (initial front atoms old new : List AtomTree) → atoms ≡ front ++ cond test (a ∷ []) [] → old ≡ initial ++ full_instances values front → test ≡ false → new ≡ old → new ≡ initial ++ full_instances values atoms
-not_pushed_behind values test a initial front atoms old new longer so_far fails same =
-    same ∙ so_far ∙ ap (λ xs. initial ++ xs) (not_pushed values test a front atoms (full_instances values front) _ longer refl fails refl)
+-- the instance of a premise's atom can be built, if those of all are
+pub premise_within : (values : List Tree) (premises : List PremiseTree) (n : ℕ) (premise : PremiseTree) → AllByRecursion (IsAtomInRange (length values)) (premise_atoms premises) → slice_get premises n ≡ Some premise → IsAtomInRange (length values) premise.atom
+premise_within values premises n premise within is = holds_at_mapped (IsAtomInRange (length values)) (λ (p : PremiseTree). p.atom) premises n premise within is

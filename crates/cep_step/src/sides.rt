@@ -1,5 +1,5 @@
 // The atoms of a rule's sides under values.
-ghost use Rattle.std.specs.Prelude.{◌≡◌, ◌∷◌, [], ◌++◌, ◌&&◌, not, length, map, IfOk, OnOk};
+ghost use Rattle.std.specs.Prelude.{◌≡◌, ◌∷◌, [], ◌++◌, ◌&&◌, if◌then◌else◌, not, length, map, IfOk, OnOk};
 ghost use Rattle.std.specs.List.{AllByRecursion};
 ghost use Rattle.cep_term.specs.Tree.{atom_of, IsAtomInRange};
 ghost use Rattle.cep_rule.specs.Binding.{needed_of};
@@ -24,9 +24,8 @@ pub(crate) fn taken_atoms(
     let mut atoms = AtomList::new(alloc);
     for i in 0..rule.premises.len() {
         let premise = rule.premises.get(i);
-        if is_linear(signature, premise) {
-            push_instance(alloc, &premise.atom, values, &mut atoms)?;
-        }
+        let linear = is_linear(signature, premise);
+        push_if(alloc, linear, &premise.atom, values, &mut atoms)?;
     }
     Ok(atoms)
 }
@@ -64,9 +63,8 @@ fn push_kept(
 {
     for i in 0..rule.premises.len() {
         let premise = rule.premises.get(i);
-        if is_linear_kept(signature, premise) {
-            push_instance(alloc, &premise.atom, values, atoms)?;
-        }
+        let kept = is_linear_kept(signature, premise);
+        push_if(alloc, kept, &premise.atom, values, atoms)?;
     }
     Ok(())
 }
@@ -83,6 +81,23 @@ fn is_linear_kept(signature: &Signature, premise: &Premise) -> bool
     ensures { result ≡ (premise.now.kept && not (is_fact signature.now (atom_of premise.now.atom))) }
 {
     premise.kept && is_linear(signature, premise)
+}
+
+// Adds the atom's instance where it is wanted, and nothing else.
+fn push_if(
+    alloc: Global,
+    wanted: bool,
+    atom: &Atom,
+    values: &Terms,
+    atoms: &mut AtomList,
+) -> Result<(), AllocError>
+    requires { IsAtomInRange (length values.now) (atom_of atom.now) }
+    ensures { OnOk result (atoms.new ≡ atoms.old ++ full_instances values.now (if wanted then atom_of atom.now ∷ [] else [])) }
+{
+    if wanted {
+        push_instance(alloc, atom, values, atoms)?;
+    }
+    Ok(())
 }
 
 // Adds the atom's instance.

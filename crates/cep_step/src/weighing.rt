@@ -4,7 +4,6 @@ ghost use Rattle.cep_base.specs.declared.limits.TheConstants.{MOST_NODES, MOST_P
 ghost use Rattle.std.specs.List.{AllByRecursion};
 ghost use Rattle.cep_term.specs.Tree.{atom_nodes, IsFit};
 ghost use Rattle.cep_term.specs.Multiset.{gathered, sum_of, difference_of, nodes_in_all};
-ghost use Rattle.cep_rule.specs.Steps.{MakesFit};
 ghost use Rattle.cep_step.specs.Changes.{CanStep, IsWeighed};
 ghost use Rattle.cep_step.specs.Weighing.{CanWeigh, IsWeight};
 
@@ -56,27 +55,9 @@ pub fn weigh(
 {
     steps_are_lawful();
     let measured = Measured::new(alloc, values)?;
-    match first_too_large(&rule.right, &measured) {
-        Some(number) => Ok(Weighed::AtomTooLarge(number)),
-        None => weigh_change(alloc, signature, rule, values, state, nodes),
+    if let Some(number) = first_too_large(&rule.right, &measured) {
+        return Ok(Weighed::AtomTooLarge(number));
     }
-}
-
-// The same where all right atoms are fit.
-fn weigh_change(
-    alloc: Global,
-    signature: &Signature,
-    rule: &Rule,
-    values: &Terms,
-    state: &Bag,
-    nodes: u64,
-) -> Result<Weighed, AllocError>
-    requires can { CanStep signature.now rule.now values.now state.now }
-    requires nodes { nodes ≡ nodes_in_all state.now }
-    requires fit { MakesFit rule.now values.now }
-    ensures { IfOk result (IsWeighed signature.now rule.now values.now state.now) }
-{
-    steps_are_lawful();
     let taken = taken_atoms(alloc, signature, rule, values)?;
     let added = added_atoms(alloc, signature, rule, values)?;
     let gains = gained(alloc, signature, state, &added)?;

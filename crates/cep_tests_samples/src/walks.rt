@@ -1,3 +1,15 @@
+/// The header of a run of the walk, with its start.
+pub(crate) fn begun() -> &'static str {
+    "\
+ceptre 1
+height 128
+stage walk
+have 1 at alice park
+have 1 at bob park
+have 1 at carol tower
+"
+}
+
 /// The offers where all three walkers stand in the park.
 pub(crate) fn three() -> &'static str {
     "\
@@ -35,12 +47,7 @@ stage walk = {
 context init = { at alice park, at bob park, at carol tower }.
 #trace _ walk init.
 -
-ceptre 1
-height 128
-stage walk
-have 1 at alice park
-have 1 at bob park
-have 1 at carol tower
+@walk
 ? 1 travel C=alice L=park L'=tower
 ? 2 travel C=bob L=park L'=tower
 ? 3 travel C=carol L=tower L'=park
@@ -75,12 +82,7 @@ stage walk = {
 #interactive walk.
 context init = { at alice park, at bob park, at carol tower }. #trace _ walk init.
 -
-ceptre 1
-height 128
-stage walk
-have 1 at alice park
-have 1 at bob park
-have 1 at carol tower
+@walk
 ? 1 meet/two C=alice L=park D=bob
 ? 2 meet/two C=bob L=park D=alice
 ? choose

@@ -79,72 +79,75 @@ fn known(alloc: Global, program: &Program, rule: &Rule, first: &str) -> Result<B
     Ok(known)
 }
 
-// The answers, with a counter over a new ledger.
-fn answers_counted<L: Ledger>(
+// A goal that is asked of a program, with the values that are known of its variables and the height.
+#[derive(Drop)]
+struct Question<'a> {
     alloc: Global,
-    program: &Program,
-    goal: &Atom,
-    known: &Binding,
+    program: &'a Program,
+    goal: &'a Atom,
+    known: Binding,
     height: u32,
-    blank: Blank,
-) -> Result<AnswerList, AllocError>
-    requires goal { (kinds : List ℕ) × IsGoal program.now kinds (atom_of goal.now) known.now }
-    requires height { IsHeight height }
-    requires name { blank.name ≡ L.name }
-    requires parts { blank.parts ≡ L.parts }
-    requires open { 0 < L.parts }
-    ensures { IfOk result (λ list. AllByRecursion (λ answer. IsLowestProof program.now (proof_of answer.proof) (atom_instance answer.values (atom_of goal.now))) list) }
-{
-    let mut steps = Steps::<L>::new(blank);
-    answers(alloc, program, goal, known, height, &mut steps)
+    ghost may_be_asked: { (kinds : List ℕ) × IsGoal program.now kinds (atom_of goal.now) known },
+    ghost low: { IsHeight height },
 }
 
-// The answers of a goal.
-fn answers_to(
-    alloc: Global,
-    program: &Program,
-    goal: &Atom,
-    known: &Binding,
-    height: u32,
-) -> Result<AnswerList, AllocError>
-    requires goal { (kinds : List ℕ) × IsGoal program.now kinds (atom_of goal.now) known.now }
-    requires height { IsHeight height }
-    ensures { IfOk result (λ list. AllByRecursion (λ answer. IsLowestProof program.now (proof_of answer.proof) (atom_instance answer.values (atom_of goal.now))) list) }
-{
-    answers_counted::<Brand>(alloc, program, goal, known, height, Blank::new(1))
-}
+impl Question<'_> {
+    // The answers, with a counter over a new ledger.
+    fn answers_counted<L: Ledger>(&self, blank: Blank) -> Result<AnswerList, AllocError>
+        requires name { blank.name ≡ L.name }
+        requires parts { blank.parts ≡ L.parts }
+        requires open { 0 < L.parts }
+        ensures { IfOk result (λ list. AllByRecursion (λ answer. IsLowestProof self.now.program.now (proof_of answer.proof) (atom_instance answer.values (atom_of self.now.goal.now))) list) }
+    {
+        let mut steps = Steps::<L>::new(blank);
+        answers(
+            self.alloc,
+            self.program,
+            self.goal,
+            &self.known,
+            self.height,
+            &mut steps,
+        )
+    }
 
-// The values alone, with a counter over a new ledger.
-fn values_counted<L: Ledger>(
-    alloc: Global,
-    program: &Program,
-    goal: &Atom,
-    known: &Binding,
-    height: u32,
-    blank: Blank,
-) -> Result<List<Binding>, AllocError>
-    requires goal { (kinds : List ℕ) × IsGoal program.now kinds (atom_of goal.now) known.now }
-    requires height { IsHeight height }
-    requires name { blank.name ≡ L.name }
-    requires parts { blank.parts ≡ L.parts }
-    requires open { 0 < L.parts }
-{
-    let mut steps = Steps::<L>::new(blank);
-    extensions(alloc, program, goal, known, height, &mut steps)
-}
+    // The values alone, with a counter over a new ledger.
+    fn values_counted<L: Ledger>(&self, blank: Blank) -> Result<List<Binding>, AllocError>
+        requires name { blank.name ≡ L.name }
+        requires parts { blank.parts ≡ L.parts }
+        requires open { 0 < L.parts }
+    {
+        let mut steps = Steps::<L>::new(blank);
+        extensions(
+            self.alloc,
+            self.program,
+            self.goal,
+            &self.known,
+            self.height,
+            &mut steps,
+        )
+    }
 
-// The values of the answers of a goal.
-fn values_of(
-    alloc: Global,
-    program: &Program,
-    goal: &Atom,
-    known: &Binding,
-    height: u32,
-) -> Result<List<Binding>, AllocError>
-    requires goal { (kinds : List ℕ) × IsGoal program.now kinds (atom_of goal.now) known.now }
-    requires height { IsHeight height }
-{
-    values_counted::<Brand>(alloc, program, goal, known, height, Blank::new(1))
+    // The answers.
+    fn answers(&self) -> Result<AnswerList, AllocError>
+        ensures { IfOk result (λ list. AllByRecursion (λ answer. IsLowestProof self.now.program.now (proof_of answer.proof) (atom_instance answer.values (atom_of self.now.goal.now))) list) }
+    {
+        self.answers_counted::<Brand>(Blank::new(1))
+    }
+
+    // The values of the answers.
+    fn values(&self) -> Result<List<Binding>, AllocError> {
+        self.values_counted::<Brand>(Blank::new(1))
+    }
+
+    // The lines of the answers, where their values alone are the same.
+    fn lines(&self) -> Result<Text, Fail> {
+        let list = self.answers()?;
+        let all = self.values()?;
+        if !are_alike(self.alloc, self.goal, &list, &all)? {
+            return Err(Fail::from("other values"));
+        }
+        lines_of(self.alloc, self.program, self.goal, &list)
+    }
 }
 
 // Adds the line of an answer's derivation, where it proves the goal's instance.
@@ -197,23 +200,28 @@ fn are_alike(
     Ok(true)
 }
 
-// The lines of a goal's answers, where their values alone are the same.
-fn lines_to(
+// The question that a program asks within the height. The first variable may be known, by the text of
+// its value.
+fn asked<'a>(
     alloc: Global,
-    program: &Program,
-    goal: &Atom,
-    known: &Binding,
+    program: &'a Program,
+    first: &str,
     height: u32,
-) -> Result<Text, Fail>
-    requires goal { (kinds : List ℕ) × IsGoal program.now kinds (atom_of goal.now) known.now }
-    requires height { IsHeight height }
-{
-    let list = answers_to(alloc, program, goal, known, height)?;
-    let all = values_of(alloc, program, goal, known, height)?;
-    if !are_alike(alloc, goal, &list, &all)? {
-        return Err(Fail::from("other values"));
+) -> Result<Question<'a>, Fail> {
+    more_positions_known_are_no_worse();
+    if height == 0 || height > MOST_HEIGHT {
+        return Err(Fail::from("no height"));
     }
-    lines_of(alloc, program, goal, &list)
+    let rule = asking(program)?;
+    let known = known(alloc, program, rule, first)?;
+    let goal = rule.backs.get(0);
+    Ok(Question {
+        alloc,
+        program,
+        goal,
+        known,
+        height,
+    })
 }
 
 // The derivations that answer the program's goal within the height, one on each line. The first
@@ -224,24 +232,11 @@ pub fn derivations(
     first: &str,
     height: u32,
 ) -> Result<Text, Fail> {
-    more_positions_known_are_no_worse();
-    if height == 0 || height > MOST_HEIGHT {
-        return Err(Fail::from("no height"));
-    }
-    let rule = asking(program)?;
-    let known = known(alloc, program, rule, first)?;
-    let goal = rule.backs.get(0);
-    lines_to(alloc, program, goal, &known, height)
+    asked(alloc, program, first, height)?.lines()
 }
 
 // How many answers there are.
 pub fn count(alloc: Global, program: &Program, first: &str, height: u32) -> Result<usize, Fail> {
-    more_positions_known_are_no_worse();
-    if height == 0 || height > MOST_HEIGHT {
-        return Err(Fail::from("no height"));
-    }
-    let rule = asking(program)?;
-    let known = known(alloc, program, rule, first)?;
-    let goal = rule.backs.get(0);
-    Ok(values_of(alloc, program, goal, &known, height)?.len())
+    let all = asked(alloc, program, first, height)?.values()?;
+    Ok(all.len())
 }

@@ -1,32 +1,21 @@
-use Rattle.std.proofs.Common.{List, ◌++◌, ◌&&◌, not, length, sym, ap, ◌∙◌, arith}
+use Rattle.std.proofs.Common.{List, [], ◌∷◌, ◌++◌, cond, sym, ap, ◌∙◌, arith}
 use Rattle.std.proofs.lemmas.List.{take_all}
-use Rattle.cep_term.specs.Tree.{IsAtomInRange}
 use Rattle.cep_rule.specs.Patterns.{PremiseTree, premise_of}
-use Rattle.cep_rule.specs.Typing.{is_fact}
 use Rattle.cep_rule.specs.Instances.{full_instances}
 use Rattle.cep_step.specs.Weighing.{linear_kept_among}
-use Rattle.cep_base.proofs.Lists.{holds_at_mapped}
-use Rattle.cep_step.proofs.Premises.{nothing_more, linear_kept_next, pushed_behind, not_pushed_behind}
-use Rattle.cep_step.proofs.sides.push_kept.Goals.{then-is_linear_kept+in_ok-push_instance, else-is_linear_kept}
+use Rattle.cep_step.proofs.Premises.{nothing_more, linear_kept_next, more_behind, premise_within}
 use Rattle.cep_step.proofs.sides.push_kept.Goals as goal
 
 pub loop-i-init : goal.loop-i-init
 loop-i-init c = sym (nothing_more c.args.atoms.now)
 
-pub push_instance-requires : goal.push_instance-requires
-push_instance-requires c =
-    holds_at_mapped (IsAtomInRange (length c.args.values.now)) (λ (premise : PremiseTree). premise.atom) c.args.rule.now.premises c.loop-i.i (premise_of c.get-premise.result.now) c.requires c.get-premise.ensures
+pub push_if-requires : goal.push_if-requires
+push_if-requires c = premise_within c.args.values.now c.args.rule.now.premises c.loop-i.i (premise_of c.get-premise.result.now) c.requires c.get-premise.ensures
 
 pub loop-i-preserved : goal.loop-i-preserved
 loop-i-preserved c =
-    let values = c.args.values.now in
-    let signature = c.args.signature.now in
-    let premise = premise_of c.get-premise.result.now in
-    let longer = linear_kept_next signature c.args.rule.now.premises c.loop-i.i premise c.get-premise.ensures in
-    elim c.if-is_linear_kept.branch [
-      | then-is_linear_kept+in_ok-push_instance w ↦ pushed_behind values (premise.kept && not (is_fact signature premise.atom)) premise.atom c.args.atoms.now _ _ c.loop-i.atoms c.if-is_linear_kept.atoms longer c.loop-i.invariant (sym c.is_linear_kept.ensures ∙ w.if-is_linear_kept.true) (w.atoms-is ∙ w.in_ok-push_instance.ensures)
-      | else-is_linear_kept w ↦ not_pushed_behind values (premise.kept && not (is_fact signature premise.atom)) premise.atom c.args.atoms.now _ _ c.loop-i.atoms c.if-is_linear_kept.atoms longer c.loop-i.invariant (sym c.is_linear_kept.ensures ∙ w.if-is_linear_kept.false) w.atoms-is
-    ]
+    more_behind c.args.values.now c.args.atoms.now _ _ _ c.loop-i.atoms _ (linear_kept_next c.args.signature.now c.args.rule.now.premises c.loop-i.i (premise_of c.get-premise.result.now) c.get-premise.ensures) c.loop-i.invariant
+    (c.in_ok-push_if.ensures ∙ ap (λ wanted. c.loop-i.atoms ++ full_instances c.args.values.now (cond wanted ((premise_of c.get-premise.result.now).atom ∷ []) [])) c.is_linear_kept-kept.ensures)
 
 pub returns : goal.returns
 returns c =
