@@ -20,7 +20,7 @@ use Rattle.cep_check.specs.Causes.{ListsCount, IsFirstDifference, IsFirstLack}
 use Rattle.cep_check.specs.Places.{Agree, AgreeBelow}
 
 -- a place of a listing is before, at or behind another
-three_ways : (i j : ℕ) → (i < j) ⊎ ((i ≡ j) ⊎ (j < i))
+pub three_ways : (i j : ℕ) → (i < j) ⊎ ((i ≡ j) ⊎ (j < i))
 three_ways i j = elim (nat_lt i j) as (λ t. nat_lt i j ≡ t → (i < j) ⊎ ((i ≡ j) ⊎ (j < i))) [
   | true ↦ λ e. inl (ltb-true i j e)
   | false ↦ λ e. elim (i == j) as (λ t. (i == j) ≡ t → (i < j) ⊎ ((i ≡ j) ⊎ (j < i))) [
@@ -41,7 +41,7 @@ place_in (first ∷ xs) x there = ⊎_elim
 abbrev Rises : List (AtomTree × ℕ) → Type 0
 Rises xs = (i j : ℕ) (a b : AtomTree) (m n : ℕ) → i < j → slice_get xs i ≡ Some (a, m) → slice_get xs j ≡ Some (b, n) → atom_cmp a b ≡ Less
 
-listing_rises : (xs : List (AtomTree × ℕ)) → AtomsRise xs → Rises xs
+pub listing_rises : (xs : List (AtomTree × ℕ)) → AtomsRise xs → Rises xs
 listing_rises [] rising i j a b m n h p q = absurd (let within = slice_get_within [] i (a, m) p in omega arith)
 listing_rises (x ∷ xs) rising zero zero a b m n h p q = absurd (omega arith)
 listing_rises (x ∷ xs) rising zero (suc j) a b m n h p q =
@@ -50,7 +50,7 @@ listing_rises (x ∷ xs) rising (suc i) zero a b m n h p q = absurd (omega arith
 listing_rises (x ∷ xs) rising (suc i) (suc j) a b m n h p q = listing_rises xs rising.1 i j a b m n (omega arith) p q
 
 module _ (laws : BagLaws) where
-  not_itself : (a : AtomTree) → atom_cmp a a ≡ Less → ⊥
+  pub not_itself : (a : AtomTree) → atom_cmp a a ≡ Less → ⊥
   not_itself a less = clash (sym less ∙ tied_itself laws.total a)
     where
       clash : Less ≡ Equal → ⊥

@@ -6,3 +6,5 @@ pub mod Steps
 pub mod Options
 pub mod Verdicts
 pub mod Tellable
+pub mod Once
+pub mod OneCause

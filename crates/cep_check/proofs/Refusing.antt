@@ -98,7 +98,7 @@ module _ (laws : BagLaws) (one : LeadsToOne) (needs : NeedsLeft) (program : Part
       by (EndState atom said is) comes = comes
 
   -- a legal step leads to one spot
-  one_spot : (height : ℕ) (old new other : Spot) (step : LogStep) → IsLegalStep program height old new step → IsLegalStep program height old other step → new ≡ other
+  pub one_spot : (height : ℕ) (old new other : Spot) (step : LogStep) → IsLegalStep program height old new step → IsLegalStep program height old other step → new ≡ other
   one_spot height old new other step legal legal' =
       let same : legal.rule ≡ legal'.rule = some_same legal.rule legal'.rule (sym legal.machine.numbered ∙ legal'.machine.numbered) in
       let there = subst (λ (r : Rule). Step program.signature r step.offer.values old.state new.state) same legal.machine.steps.step in
@@ -140,7 +140,7 @@ module _ (laws : BagLaws) (one : LeadsToOne) (needs : NeedsLeft) (program : Part
       (λ later. from_clash log steps later.0 last line cause later.2 (subst (λ (spot : Spot). AreLegalSteps program log.height steps spot last) (one_spot log.height old legal.0 later.0 step legal.1 later.1) legal.2) ending)
       refused
 
-  start_clash : (log : Log) (cause : Cause) → IsStartCause program log cause → log.stage ≡ program.start_stage → log.start ≡ finite.entries program.start → ⊥
+  pub start_clash : (log : Log) (cause : Cause) → IsStartCause program log cause → log.stage ≡ program.start_stage → log.start ≡ finite.entries program.start → ⊥
   start_clash log (StartStage said is) comes stage start = comes.2 (comes.0 ∙ stage ∙ sym comes.1)
   start_clash log (StartState atom said is) comes stage start = no_difference log.start program.start (atom_of atom) said is start comes.1
   start_clash log (OtherStage number) comes stage start = comes

@@ -9,7 +9,7 @@ ghost use Rattle.cep_check.specs.Walking.{stands_at, IsWalkOf, AreStepsDone, IsE
 use crate::cause::{Cause, Verdict};
 use crate::counts::first_difference;
 use crate::ending::end_cause;
-use crate::laws::{refused_logs_are_not_legal, verdicts_can_be_told};
+use crate::laws::{one_cause, refused_logs_are_not_legal, verdicts_can_be_told};
 use crate::step::advance;
 use crate::walk::Walk;
 use cep_base::Steps;
@@ -20,9 +20,9 @@ use std::alloc::{AllocError, Global};
 use std::sync::ledger::Ledger;
 
 /// Whether a log of the program is legal for it: it is accepted exactly where it is, with the number of
-/// its steps, and else refused for the first cause that comes, with its line. The offers are those
-/// within the log's height. Which logs are legal is said with the log. Each verdict can be told as a
-/// line. Only want of memory is refused, after any ticks.
+/// its steps, and else refused for the first cause that comes, with its line. Both are one, by the
+/// law `one_cause`. The offers are those within the log's height. Which logs are legal is said with
+/// the log. Each verdict can be told as a line. Only want of memory is refused, after any ticks.
 pub fn check<L: Ledger>(
     alloc: Global,
     program: &Program,
@@ -36,6 +36,7 @@ pub fn check<L: Ledger>(
     ensures never_falls { steps.old ≤ steps.new }
 {
     refused_logs_are_not_legal();
+    one_cause();
     verdicts_can_be_told(program);
     judge(alloc, program, log, steps)
 }
