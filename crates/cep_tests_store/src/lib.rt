@@ -3,16 +3,4 @@
 #![tactic(auto)]
 
 #[cfg(test)]
-mod agendas;
-#[cfg(test)]
-mod alphas;
-#[cfg(test)]
-mod columns;
-#[cfg(test)]
-mod masks;
-#[cfg(test)]
-mod partials;
-#[cfg(test)]
-mod stores;
-#[cfg(test)]
-mod worlds;
+mod tests;

@@ -100,14 +100,8 @@ impl Question<'_> {
         ensures { IfOk result (λ list. AllByRecursion (λ answer. IsLowestProof self.now.program.now (proof_of answer.proof) (atom_instance answer.values (atom_of self.now.goal.now))) list) }
     {
         let mut steps = Steps::<L>::new(blank);
-        answers(
-            self.alloc,
-            self.program,
-            self.goal,
-            &self.known,
-            self.height,
-            &mut steps,
-        )
+        let (program, goal, known) = (self.program, self.goal, &self.known);
+        answers(self.alloc, program, goal, known, self.height, &mut steps)
     }
 
     // The values alone, with a counter over a new ledger.
@@ -117,14 +111,8 @@ impl Question<'_> {
         requires open { 0 < L.parts }
     {
         let mut steps = Steps::<L>::new(blank);
-        extensions(
-            self.alloc,
-            self.program,
-            self.goal,
-            &self.known,
-            self.height,
-            &mut steps,
-        )
+        let (program, goal, known) = (self.program, self.goal, &self.known);
+        extensions(self.alloc, program, goal, known, self.height, &mut steps)
     }
 
     // The answers.

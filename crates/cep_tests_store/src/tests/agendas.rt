@@ -3,7 +3,7 @@ ghost use Rattle.std.specs.Prelude.{◌≡◌, ◌<◌, length, IfOk};
 ghost use Rattle.std.specs.List.{AllByRecursion};
 ghost use Rattle.cep_tests_store.specs.Sample.{sample};
 
-use crate::partials::{program, term};
+use crate::tests::partials::{program, term};
 use cep_agenda::{Agenda, Listed};
 use cep_rule::{Offer, Program, Terms};
 use std::alloc::{AllocError, Global};

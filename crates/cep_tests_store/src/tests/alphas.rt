@@ -2,7 +2,7 @@
 ghost use Rattle.std.specs.Prelude.{◌≡◌, ◌<◌, [], ◌∷◌, length, IfOk};
 ghost use Rattle.cep_term.specs.Multiset.{copies_in};
 
-use crate::partials::{program, q};
+use crate::tests::partials::{program, q};
 use cep_alpha::AlphaMemory;
 use cep_term::laws::bags_are_lawful;
 use std::alloc::{AllocError, Global};

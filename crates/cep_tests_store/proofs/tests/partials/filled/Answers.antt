@@ -1,6 +1,6 @@
 use Rattle.std.proofs.Common.{Some, ap, ◌∙◌}
 use Rattle.cep_tests_store.specs.Sample.{p_of, q_of}
-use Rattle.cep_tests_store.proofs.partials.filled.Goals as goal
+use Rattle.cep_tests_store.proofs.tests.partials.filled.Goals as goal
 
 pub returns-clause-first : goal.returns-clause-first
 returns-clause-first c =

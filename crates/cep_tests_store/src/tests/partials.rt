@@ -198,8 +198,8 @@ fn filled(alloc: Global, store: &mut Store) -> Result<(u64, u64, u64), AllocErro
 fn attempt<L: Ledger>(
     alloc: Global,
     program: &Program,
-    part: &Partial,
     store: &Store,
+    part: &Partial,
     atom: u64,
     steps: &mut Steps<L>,
 ) -> Result<Option<Partial>, Fail>
@@ -235,13 +235,13 @@ fn tried<L: Ledger>(
     requires third { slice_get store.now.atoms atoms.2 ≡ Some (q_of 1 1) }
 {
     let start = Partial::start(alloc, program, 0)?;
-    let Some(next) = attempt(alloc, program, &start, store, atoms.0, steps)? else {
+    let Some(next) = attempt(alloc, program, store, &start, atoms.0, steps)? else {
         return Err(Fail::from("not met"));
     };
-    if attempt(alloc, program, &next, store, atoms.2, steps)?.is_some() {
+    if attempt(alloc, program, store, &next, atoms.2, steps)?.is_some() {
         return Err(Fail::from("met"));
     }
-    let Some(last) = attempt(alloc, program, &next, store, atoms.1, steps)? else {
+    let Some(last) = attempt(alloc, program, store, &next, atoms.1, steps)? else {
         return Err(Fail::from("not met by the last"));
     };
     Ok([

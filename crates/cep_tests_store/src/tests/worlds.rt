@@ -4,7 +4,7 @@ use cep_world::world_text;
 use std::process::Abort;
 use std::test::Fail;
 
-// The world of one room.
+// The world of one room, where a line `@rules` stands for its rules.
 fn smallest() -> &'static str {
     "\
 room : type.
@@ -18,15 +18,7 @@ at walker room : pred.
 lies good room : pred.
 holds walker good : pred.
 food walker : pred.
-stage main = {
-move : at W R * $link R S * food W -o at W S.
-grab : $at W R * lies G R -o holds W G.
-}
-stage rest = {
-eat : holds W G -o food W * food W.
-}
-qui * stage main -o stage rest.
-qui * stage rest * $food W -o stage main.
+@rules
 context start = {
 link r0 r0,
 link r0 r0,
@@ -40,10 +32,23 @@ lies g0 r0
 "
 }
 
+// The stages of a world, with their rules, and the rules that lead from one to the other.
+fn rules() -> &'static str {
+    "stage main = {
+move : at W R * $link R S * food W -o at W S.
+grab : $at W R * lies G R -o holds W G.
+}
+stage rest = {\neat : holds W G -o food W * food W.\n}
+qui * stage main -o stage rest.
+qui * stage rest * $food W -o stage main.
+"
+}
+
 #[test]
 fn the_smallest_world_has_one_room(rt: HostRuntime) -> Result<(), Fail> {
     let text = world_text(rt.alloc(), 1)?;
-    assert_eq!(rt; text.bytes(), smallest().as_bytes());
+    let expected = smallest().replace(rt.alloc(), "@rules\n", rules())?;
+    assert_eq!(rt; text.bytes(), expected.as_bytes());
     Ok(())
 }
 

@@ -3,7 +3,7 @@ use Rattle.std.specs.Prelude.{IfOk}
 use Rattle.std.proofs.lemmas.Option.{slice_get_within}
 use Rattle.cep_term.specs.Tree.{AtomTree}
 use Rattle.cep_store.specs.Held.{HasId}
-use Rattle.cep_tests_store.proofs.alphas.interned.Goals as goal
+use Rattle.cep_tests_store.proofs.tests.alphas.interned.Goals as goal
 
 -- an atom that has an id stands among those that have one
 named : {E : Type 0} (r : Result ℕ E) (old new : List AtomTree) (a : AtomTree) → IfOk r (λ id. HasId old a id new) → IfOk r (λ id. id < length new)
