@@ -87,13 +87,13 @@ struct Question<'a> {
     goal: &'a Atom,
     known: Binding,
     height: u32,
-    ghost may_be_asked: { (kinds : List ℕ) × IsGoal program.now kinds (atom_of goal.now) known },
-    ghost low: { IsHeight height },
 }
 
 impl Question<'_> {
     // The answers, with a counter over a new ledger.
     fn answers_counted<L: Ledger>(&self, blank: Blank) -> Result<AnswerList, AllocError>
+        requires goal { (kinds : List ℕ) × IsGoal self.now.program.now kinds (atom_of self.now.goal.now) self.now.known }
+        requires height { IsHeight self.now.height }
         requires name { blank.name ≡ L.name }
         requires parts { blank.parts ≡ L.parts }
         requires open { 0 < L.parts }
@@ -106,6 +106,8 @@ impl Question<'_> {
 
     // The values alone, with a counter over a new ledger.
     fn values_counted<L: Ledger>(&self, blank: Blank) -> Result<List<Binding>, AllocError>
+        requires goal { (kinds : List ℕ) × IsGoal self.now.program.now kinds (atom_of self.now.goal.now) self.now.known }
+        requires height { IsHeight self.now.height }
         requires name { blank.name ≡ L.name }
         requires parts { blank.parts ≡ L.parts }
         requires open { 0 < L.parts }
@@ -117,18 +119,26 @@ impl Question<'_> {
 
     // The answers.
     fn answers(&self) -> Result<AnswerList, AllocError>
+        requires goal { (kinds : List ℕ) × IsGoal self.now.program.now kinds (atom_of self.now.goal.now) self.now.known }
+        requires height { IsHeight self.now.height }
         ensures { IfOk result (λ list. AllByRecursion (λ answer. IsLowestProof self.now.program.now (proof_of answer.proof) (atom_instance answer.values (atom_of self.now.goal.now))) list) }
     {
         self.answers_counted::<Brand>(Blank::new(1))
     }
 
     // The values of the answers.
-    fn values(&self) -> Result<List<Binding>, AllocError> {
+    fn values(&self) -> Result<List<Binding>, AllocError>
+        requires goal { (kinds : List ℕ) × IsGoal self.now.program.now kinds (atom_of self.now.goal.now) self.now.known }
+        requires height { IsHeight self.now.height }
+    {
         self.values_counted::<Brand>(Blank::new(1))
     }
 
     // The lines of the answers, where their values alone are the same.
-    fn lines(&self) -> Result<Text, Fail> {
+    fn lines(&self) -> Result<Text, Fail>
+        requires goal { (kinds : List ℕ) × IsGoal self.now.program.now kinds (atom_of self.now.goal.now) self.now.known }
+        requires height { IsHeight self.now.height }
+    {
         let list = self.answers()?;
         let all = self.values()?;
         if !are_alike(self.alloc, self.goal, &list, &all)? {
@@ -195,7 +205,10 @@ fn asked<'a>(
     program: &'a Program,
     first: &str,
     height: u32,
-) -> Result<Question<'a>, Fail> {
+) -> Result<Question<'a>, Fail>
+    ensures goal { IfOk result (λ question. (kinds : List ℕ) × IsGoal question.program.now kinds (atom_of question.goal.now) question.known) }
+    ensures height { IfOk result (λ question. IsHeight question.height) }
+{
     more_positions_known_are_no_worse();
     if height == 0 || height > MOST_HEIGHT {
         return Err(Fail::from("no height"));

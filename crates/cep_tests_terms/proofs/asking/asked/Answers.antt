@@ -2,8 +2,8 @@ use Rattle.cep_term.specs.Tree.{atom_of}
 use Rattle.cep_tests_terms.proofs.Asked.{may_be_asked}
 use Rattle.cep_tests_terms.proofs.asking.asked.Goals as goal
 
-pub values_of-requires-clause-goal : goal.values_of-requires-clause-goal
-values_of-requires-clause-goal c =
+pub returns-clause-goal : goal.returns-clause-goal
+returns-clause-goal c =
     let rule = c.in_ok-rule.ensures in
     let known = c.in_ok-known.ensures in (
       c.in_ok-rule.rule.now.kinds,
