@@ -1,7 +1,7 @@
 // What was played is a transcript that is accepted, with as many steps as it has.
 use crate::tests::backward::{low, paths, twice};
-use crate::tests::dialogues::{copied, expect_answer, played};
-use crate::tests::outside::{run_text, shelf_of};
+use crate::tests::dialogues::{copied, played};
+use crate::tests::outside::{check, expect, run_text};
 use crate::tests::stages::{drawn, endless, left, limited, lone};
 use cep_tests_samples::{division, meetings, spelled, stages, sum, two_proofs, walk};
 use std::alloc::{AllocError, Global};
@@ -13,11 +13,11 @@ pub fn expect_checked(
     rt: &impl Abort,
     alloc: Global,
     (text, log): (&str, &str),
-    told: (u8, &str),
+    (status, told): (u8, &str),
 ) -> Result<(), Fail> {
-    let mut shelf = shelf_of(alloc, text)?;
-    shelf.file("g", log.as_bytes())?;
-    expect_answer(rt, alloc, &mut shelf, "check f g", told)
+    let outcome = check(alloc, text, log)?;
+    expect(rt, &outcome, status, told);
+    Ok(())
 }
 
 // What is told of a transcript with as many steps as a dialogue has.

@@ -1,0 +1,6 @@
+//! The command over fakes of the outside, for the crates of tests.
+#![tactic(auto)]
+
+mod outside;
+
+pub use outside::{Outcome, check, play, run_line, run_text, shelf_of, status, written};
