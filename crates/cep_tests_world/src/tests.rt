@@ -1,11 +1,8 @@
 mod backward;
 mod checked;
 mod checks;
-mod deepest;
 mod dialogues;
 mod faults;
-mod growing;
-mod limits;
 mod outside;
 mod stages;
 mod walks;

@@ -1,7 +1,6 @@
-// Runs that grow until an atom or a state passes a limit.
-use crate::tests::checked::expect_checked;
-use crate::tests::outside::{expect, play};
-use cep_base::limits::MOST_LOG;
+// Runs that grow until an atom or a state passes a limit, and their transcripts.
+use crate::tests::expecting::{expect, expect_checked};
+use cep_tests_command::play;
 use std::alloc::{AllocError, Global};
 use std::process::Abort;
 use std::test::Fail;
@@ -42,7 +41,7 @@ fn expect_limited(
     accepted: &str,
 ) -> Result<(), Fail> {
     let outcome = play(alloc, text, "")?;
-    expect(rt, &outcome, 4, said);
+    expect(rt, &outcome, (4, said));
     expect_checked(rt, alloc, (text, outcome.written.as_str()), (0, accepted))
 }
 
@@ -68,7 +67,7 @@ fn a_transcript_is_refused_where_an_atom_grows_too_large(rt: HostRuntime) -> Res
 }
 
 // A program that adds 32 copies of an atom in each turn.
-fn flooding() -> &'static str {
+pub fn flooding() -> &'static str {
     "a : pred.
 stage main = { r : () -o a * a * a * a * a * a * a * a * a * a * a * a * a * a * a * a
     * a * a * a * a * a * a * a * a * a * a * a * a * a * a * a * a. }
@@ -95,12 +94,5 @@ fn a_run_ends_before_a_state_grows_too_large(rt: HostRuntime) -> Result<(), Fail
 fn a_transcript_is_refused_where_a_state_grows_too_large(rt: HostRuntime) -> Result<(), Fail> {
     let log = flooded(rt.alloc(), "step r\n", 3_126)?;
     let told = "refused 3129 OverLimit state\n";
-    expect_checked(&rt, rt.alloc(), (flooding(), log.as_str()), (1, told))
-}
-
-#[test]
-fn a_transcript_that_is_too_long_is_refused(rt: HostRuntime) -> Result<(), Fail> {
-    let log = "?".repeat(rt.alloc(), MOST_LOG + 1)?;
-    let told = "refused 0 TooLong\n";
     expect_checked(&rt, rt.alloc(), (flooding(), log.as_str()), (1, told))
 }

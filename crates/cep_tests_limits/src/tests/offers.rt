@@ -1,22 +1,22 @@
-// Turns with as many offers as may be, and with more.
-use crate::tests::outside::{Outcome, play};
+// Turns with as many offers as may be, and with one more.
+use cep_tests_command::{Outcome, play};
 use std::alloc::{AllocError, Global};
 use std::process::Abort;
 use std::test::Fail;
 
-// Adds an atom of the predicate for each of so many constants.
-fn put_atoms(text: &mut String, pred: &str, constants: u32) -> Result<(), AllocError> {
+// Adds an atom of the predicate for each of 256 constants.
+fn put_atoms(text: &mut String, pred: &str) -> Result<(), AllocError> {
     let alloc = *text.allocator();
-    for i in 0..constants {
+    for i in 0..256 {
         text.push_str(format!(in alloc; "{pred} c{i}, ")?.as_str())?;
     }
     Ok(())
 }
 
-// Adds the declarations of so many constants.
-fn put_constants(text: &mut String, constants: u32) -> Result<(), AllocError> {
+// Adds the declarations of these constants.
+fn put_constants(text: &mut String) -> Result<(), AllocError> {
     let alloc = *text.allocator();
-    for i in 0..constants {
+    for i in 0..256 {
         text.push_str(format!(in alloc; "c{i} : t.\n")?.as_str())?;
     }
     Ok(())
@@ -24,22 +24,23 @@ fn put_constants(text: &mut String, constants: u32) -> Result<(), AllocError> {
 
 // What `pairs` begins with.
 fn pairing() -> &'static str {
-    "t : type. p t : pred. q t : pred. ok : pred.
-stage main = { r : p X * q Y -o ok. }
+    "t : type. p t : pred. q t : pred. n : pred. ok : pred.
+stage main = { r : p X * q Y -o ok. s : n -o ok. }
 #interactive main.
 #trace _ main { all }.
 "
 }
 
-// So many constants of one type, of which each has a `p`, and the first 256 a `q`; a rule that takes
-// one of each is offered for each pair.
-fn pairs(alloc: Global, constants: u32) -> Result<String, AllocError> {
+// 256 constants of one type, of which each has a `p` and a `q`; a rule that takes one of each is offered
+// for each pair, and another rule is where there is an `n` too.
+fn pairs(alloc: Global, more: &str) -> Result<String, AllocError> {
     let mut text = String::from_str(alloc, pairing())?;
-    put_constants(&mut text, constants)?;
+    put_constants(&mut text)?;
     text.push_str("context all = { ")?;
-    put_atoms(&mut text, "q", 256)?;
-    put_atoms(&mut text, "p", constants)?;
-    text.push_str("() }\n")?;
+    put_atoms(&mut text, "q")?;
+    put_atoms(&mut text, "p")?;
+    text.push_str(more)?;
+    text.push_str(" }\n")?;
     Ok(text)
 }
 
@@ -59,23 +60,23 @@ fn expect_lines(rt: &impl Abort, outcome: &Outcome, status: u8, lines: usize, qu
     assert_eq!(rt; count(outcome.written.as_str(), b'?'), questions);
 }
 
-// Plays the pairs of so many constants.
-fn play_pairs(alloc: Global, constants: u32) -> Result<Outcome, AllocError> {
-    let text = pairs(alloc, constants)?;
+// Plays the pairs.
+fn play_pairs(alloc: Global, more: &str) -> Result<Outcome, AllocError> {
+    let text = pairs(alloc, more)?;
     play(alloc, text.as_str(), "")
 }
 
 #[test]
 fn as_many_offers_as_may_be_are_written(rt: HostRuntime) -> Result<(), Fail> {
-    let outcome = play_pairs(rt.alloc(), 256)?;
+    let outcome = play_pairs(rt.alloc(), "()")?;
     // the header and 512 atoms, the offers and the question, the end and 512 atoms
     expect_lines(&rt, &outcome, 0, 3 + 512 + 65_537 + 1 + 512, 65_537);
     Ok(())
 }
 
 #[test]
-fn a_run_ends_where_the_offers_are_too_many(rt: HostRuntime) -> Result<(), Fail> {
-    let outcome = play_pairs(rt.alloc(), 257)?;
+fn a_run_ends_where_there_is_one_offer_too_many(rt: HostRuntime) -> Result<(), Fail> {
+    let outcome = play_pairs(rt.alloc(), "n")?;
     expect_lines(&rt, &outcome, 4, 3 + 513 + 1 + 513, 0);
     Ok(())
 }

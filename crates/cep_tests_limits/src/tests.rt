@@ -1,0 +1,13 @@
+mod declared;
+mod deepest;
+mod expecting;
+mod fullest;
+mod growing;
+mod heights;
+mod numbers;
+mod offers;
+mod rooms;
+mod states;
+mod transcripts;
+mod turns;
+mod typed;

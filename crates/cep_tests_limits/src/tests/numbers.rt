@@ -1,0 +1,82 @@
+// The numbers by which steps pass limits.
+ghost use Rattle.std.specs.Prelude.{◌≡◌, ◌<◌};
+
+use crate::tests::deepest::rising;
+use crate::tests::states::copying;
+use cep_base::Steps;
+use cep_ground::accept;
+use cep_machine::{Config, Stepped, Which};
+use cep_rule::{Matcher, Program};
+use cep_scratch::Scratch;
+use std::alloc::Global;
+use std::marker::Brand;
+use std::process::Abort;
+use std::sync::ledger::{Blank, Ledger};
+use std::test::Fail;
+
+// Which limit the first step passes, and by which number.
+fn first_step<L: Ledger>(
+    alloc: Global,
+    program: &Program,
+    blank: Blank,
+) -> Result<(Which, u64), Fail>
+    requires name { blank.name ≡ L.name }
+    requires parts { blank.parts ≡ L.parts }
+    requires open { 0 < L.parts }
+{
+    let mut steps = Steps::<L>::new(blank);
+    let config = Config::<Scratch>::begin(alloc, program, 128, &mut steps)?;
+    let Some(group) = config.asked() else {
+        return Err(Fail::from("quiet"));
+    };
+    if config.matcher().count(group) == 0 {
+        return Err(Fail::from("no offer"));
+    }
+    match config.step(alloc, program, 0, &mut steps)? {
+        Stepped::Done(_) => Err(Fail::from("no limit")),
+        Stepped::Limit { which, number, .. } => Ok((which, number)),
+    }
+}
+
+// The same of the program of a text.
+fn passed(alloc: Global, text: &str) -> Result<(Which, u64), Fail> {
+    let program = accept(alloc, text.as_bytes())?.map_err(|_| "refused")?;
+    first_step::<Brand>(alloc, &program, Blank::new(1))
+}
+
+// The first step of this text passes this limit.
+fn expect_passed(
+    rt: &impl Abort,
+    alloc: Global,
+    text: &str,
+    limit: (Which, u64),
+) -> Result<(), Fail> {
+    assert_eq!(rt; passed(alloc, text)?, limit);
+    Ok(())
+}
+
+#[test]
+fn the_levels_of_an_atom_are_told_where_its_nodes_are_few(rt: HostRuntime) -> Result<(), Fail> {
+    let text = rising(rt.alloc(), 510)?;
+    expect_passed(&rt, rt.alloc(), text.as_str(), (Which::Atom, 513))
+}
+
+#[test]
+fn the_nodes_of_a_state_are_told_where_its_copies_are_few(rt: HostRuntime) -> Result<(), Fail> {
+    let text = copying(rt.alloc(), 64, "")?;
+    expect_passed(&rt, rt.alloc(), text.as_str(), (Which::State, 4_259_840))
+}
+
+// A program that adds two copies to 99,999.
+fn adding(alloc: Global) -> Result<String, Fail> {
+    let further = "a, ".repeat(alloc, 99_998)?;
+    Ok(format!(in alloc;
+        "a : pred. stage main = {{ r : () -o a * a. }} #trace _ main {{ {further}a }}."
+    )?)
+}
+
+#[test]
+fn the_copies_of_a_state_are_told(rt: HostRuntime) -> Result<(), Fail> {
+    let text = adding(rt.alloc())?;
+    expect_passed(&rt, rt.alloc(), text.as_str(), (Which::State, 100_001))
+}
