@@ -1,5 +1,5 @@
 //! Tests of what a matcher will keep its matches in, masks, columns of rows, a store of atoms, an alpha
-//! memory and an agenda; and of the texts of generated worlds.
+//! memory, a beta memory and an agenda; and of the texts of generated worlds.
 #![tactic(auto)]
 
 #[cfg(test)]

@@ -1,5 +1,6 @@
 mod agendas;
 mod alphas;
+mod betas;
 mod columns;
 mod masks;
 mod partials;

@@ -161,7 +161,7 @@ pub(crate) fn term(alloc: Global, c: u32) -> Result<Term, AllocError>
 }
 
 // The atom `p` of a constant.
-fn p(alloc: Global, c: u32) -> Result<Atom, AllocError>
+pub(crate) fn p(alloc: Global, c: u32) -> Result<Atom, AllocError>
     ensures { IfOk result (λ a. atom_of a ≡ p_of c) }
 {
     Ok(Atom {
