@@ -11,7 +11,7 @@ use Rattle.cep_alpha.specs.Alpha.{Alpha, atom_under, IsAlphaOf}
 use Rattle.cep_beta.specs.Beta.{Beta, IsBetaOf, ListsMatches}
 use Rattle.cep_beta.specs.Raising.{MayGrow, HasGrown}
 use Rattle.cep_tests_store.specs.Sample.{sample_signature, sample_rule, sample}
-use Rattle.cep_tests_store.specs.Memories.{AreMemories}
+use Rattle.cep_tests_store.specs.Memories.{AreSampleMemories}
 
 by_number : (n : ℕ) (args : Trees) → is_fact sample_signature (record { pred = n; args = args }) ≡ false
 by_number zero args = refl
@@ -39,7 +39,7 @@ may_grow program mid new before beta id is is_beta lists named same state alpha_
       named = subst (λ (h : Held). id < length h.atoms) (sym same) named;
     })
 
-pub have_grown : (program : Parts) (alpha : Alpha) (id many : ℕ) (old new : Beta) → program ≡ sample → IsAlphaOf sample_signature alpha → HasGrown program alpha id sample_rule old new many → AreMemories alpha new
+pub have_grown : (program : Parts) (alpha : Alpha) (id many : ℕ) (old new : Beta) → program ≡ sample → IsAlphaOf sample_signature alpha → HasGrown program alpha id sample_rule old new many → AreSampleMemories alpha new
 have_grown program alpha id many old new is alpha_of grown = record {
   of_signature = alpha_of;
   is_beta = subst (λ p. IsBetaOf p alpha.held sample_rule new) is grown.is_beta;
@@ -48,7 +48,7 @@ have_grown program alpha id many old new is alpha_of grown = record {
 
 -- fewer copies are left
 pub have_gone : (old new : Alpha) (beta : Beta) (id left : ℕ) → new.held ≡ old.held → new.state ≡ with_count old.state (atom_under old.held id) left → IsAlphaOf sample_signature new
-    → IsBetaOf sample old.held sample_rule beta → ListsMatches sample old.held sample_rule (with_count old.state (atom_under old.held id) left) beta → AreMemories new beta
+    → IsBetaOf sample old.held sample_rule beta → ListsMatches sample old.held sample_rule (with_count old.state (atom_under old.held id) left) beta → AreSampleMemories new beta
 have_gone old new beta id left same state alpha_of is_beta lists = record {
   of_signature = alpha_of;
   is_beta = subst (λ h. IsBetaOf sample h sample_rule beta) (sym same) is_beta;
@@ -56,7 +56,7 @@ have_gone old new beta id left same state alpha_of is_beta lists = record {
 }
 
 pub have_begun : (program : Parts) (alpha : Alpha) (beta : Beta) → program ≡ sample → IsAlphaOf program.signature alpha → alpha.state ≡ finite.empty
-    → ((held : Held) (rule : Rule) → slice_get program.rules 0 ≡ Some rule → IsBetaOf program held rule beta) → ((held : Held) (rule : Rule) → slice_get program.rules 0 ≡ Some rule → ListsMatches program held rule finite.empty beta) → AreMemories alpha beta
+    → ((held : Held) (rule : Rule) → slice_get program.rules 0 ≡ Some rule → IsBetaOf program held rule beta) → ((held : Held) (rule : Rule) → slice_get program.rules 0 ≡ Some rule → ListsMatches program held rule finite.empty beta) → AreSampleMemories alpha beta
 have_begun program alpha beta is alpha_of empty is_beta lists = record {
   of_signature = subst (λ (p : Parts). IsAlphaOf p.signature alpha) is alpha_of;
   is_beta = subst (λ p. IsBetaOf p alpha.held sample_rule beta) is (is_beta alpha.held sample_rule first);

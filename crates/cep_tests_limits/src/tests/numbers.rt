@@ -20,9 +20,9 @@ fn first_step<L: Ledger>(
     program: &Program,
     blank: Blank,
 ) -> Result<(Which, u64), Fail>
-    requires name { blank.name ≡ L.name }
-    requires parts { blank.parts ≡ L.parts }
     requires open { 0 < L.parts }
+    requires parts { blank.parts ≡ L.parts }
+    requires name { blank.name ≡ L.name }
 {
     let mut steps = Steps::<L>::new(blank);
     let config = Config::<Scratch>::begin(alloc, program, 128, &mut steps)?;

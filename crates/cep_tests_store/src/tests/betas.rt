@@ -4,7 +4,7 @@ ghost use Rattle.cep_term.specs.Tree.{atom_of, IsGroundAtom};
 ghost use Rattle.cep_term.specs.Multiset.{copies_in};
 ghost use Rattle.cep_rule.specs.Typing.{IsTyped};
 ghost use Rattle.cep_tests_store.specs.Sample.{sample, sample_signature};
-ghost use Rattle.cep_tests_store.specs.Memories.{AreMemories};
+ghost use Rattle.cep_tests_store.specs.Memories.{AreSampleMemories};
 
 use crate::tests::partials::{p, program, q};
 use cep_alpha::AlphaMemory;
@@ -22,7 +22,7 @@ use std::test::Fail;
 
 // How many matches stand of no premise, of the first, and of both.
 fn standing(alpha: &AlphaMemory, beta: &BetaMemory) -> [usize; 3]
-    requires { AreMemories alpha.now beta.now }
+    requires { AreSampleMemories alpha.now beta.now }
 {
     [beta.standing(0), beta.standing(1), beta.standing(2)]
 }
@@ -37,11 +37,11 @@ fn gain<L: Ledger>(
     steps: &mut Steps<L>,
 ) -> Result<u64, AllocError>
     requires sample { program.now ≡ sample }
-    requires memories { AreMemories alpha.old beta.old }
+    requires memories { AreSampleMemories alpha.old beta.old }
     requires few { copies_in alpha.old.state < 100 }
     requires typed { IsTyped sample_signature [] (atom_of a.now) }
     requires ground { IsGroundAtom (atom_of a.now) }
-    ensures memories { OnOk result (AreMemories alpha.new beta.new) }
+    ensures memories { OnOk result (AreSampleMemories alpha.new beta.new) }
     ensures more { OnOk result (copies_in alpha.new.state ≡ copies_in alpha.old.state + 1) }
     ensures named { IfOk result (λ id. id < length alpha.new.held.atoms) }
 {
@@ -56,9 +56,9 @@ fn gain<L: Ledger>(
 
 // Takes all copies of an atom from the state.
 fn lose(alpha: &mut AlphaMemory, beta: &mut BetaMemory, id: u64)
-    requires memories { AreMemories alpha.old beta.old }
+    requires memories { AreSampleMemories alpha.old beta.old }
     requires named { id < length alpha.old.held.atoms }
-    ensures { AreMemories alpha.new beta.new }
+    ensures { AreSampleMemories alpha.new beta.new }
 {
     bags_are_lawful();
     alpha.atoms_are_lawful();
@@ -70,7 +70,7 @@ fn lose(alpha: &mut AlphaMemory, beta: &mut BetaMemory, id: u64)
 // The memories of the state without atoms.
 fn begun(alloc: Global, program: &Program) -> Result<(AlphaMemory, BetaMemory), AllocError>
     requires { program.now ≡ sample }
-    ensures memories { IfOk result (λ both. AreMemories both.0 both.1) }
+    ensures memories { IfOk result (λ both. AreSampleMemories both.0 both.1) }
     ensures empty { IfOk result (λ both. copies_in both.0.state ≡ 0) }
 {
     bags_are_lawful();
@@ -89,7 +89,7 @@ fn course_with<L: Ledger>(
     steps: &mut Steps<L>,
 ) -> Result<[[usize; 3]; 7], AllocError>
     requires sample { program.now ≡ sample }
-    requires memories { AreMemories alpha.old beta.old }
+    requires memories { AreSampleMemories alpha.old beta.old }
     requires empty { copies_in alpha.old.state ≡ 0 }
 {
     let before = standing(alpha, beta);
