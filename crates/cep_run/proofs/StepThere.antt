@@ -25,13 +25,28 @@ abbrev pub LeadToStates : Type 0
 LeadToStates = (signature : Signature) (rule : Rule) (values : List Tree) (old new : Multiset) → IsTypedRule signature rule → IsDividedRule signature rule → AreValues signature.cons rule.kinds values → IsState signature old → MakesFit rule values
     → Step signature rule values old new → IsState signature new
 
--- What runs rest on: steps lead to states, lists of offers are there, edits are steps, and a place that is drawn is one of those among which it is.
+-- Lists of offers are there.
+abbrev pub ListsAreThere : Type 0
+ListsAreThere = (program : Parts) (height : ℕ) (state : Multiset) (group : ℕ) → IsProgram program → IsState program.signature state → (offers : List Offer) × AreOffers program height state group offers
+
+-- Edits are steps.
+abbrev pub EditsAreSteps : Type 0
+EditsAreSteps = (signature : Signature) (rule : Rule) (values : List Tree) (state : Multiset) → IsTypedRule signature rule → AreValues signature.cons rule.kinds values → IsState signature state → IsContained (left_of signature rule values) state
+    → Step signature rule values state (state_after signature state (gathered (taken_by signature rule values)) (added_by signature rule values))
+
+-- A place that is drawn is one of those among which it is.
+abbrev pub PlacesAreWithin : Type 0
+PlacesAreWithin = (seed drawn n : ℕ) → 0 < n → (0 < place_drawn seed drawn n) × (place_drawn seed drawn n ≤ n)
+
+-- What runs rest on.
 pub record ThereLaws : Type 0 where
   pub lead : LeadToStates
-  pub lists : (program : Parts) (height : ℕ) (state : Multiset) (group : ℕ) → IsProgram program → IsState program.signature state → (offers : List Offer) × AreOffers program height state group offers
-  pub edit : (signature : Signature) (rule : Rule) (values : List Tree) (state : Multiset) → IsTypedRule signature rule → AreValues signature.cons rule.kinds values → IsState signature state → IsContained (left_of signature rule values) state
-      → Step signature rule values state (state_after signature state (gathered (taken_by signature rule values)) (added_by signature rule values))
-  pub places : (seed drawn n : ℕ) → 0 < n → (0 < place_drawn seed drawn n) × (place_drawn seed drawn n ≤ n)
+  pub lists : ListsAreThere
+  pub edit : EditsAreSteps
+  pub places : PlacesAreWithin
+
+pub there_laws : LeadToStates → ListsAreThere → EditsAreSteps → PlacesAreWithin → ThereLaws
+there_laws lead lists edit places = record { lead = lead; lists = lists; edit = edit; places = places }
 
 -- Limits can be told
 

@@ -1,15 +1,10 @@
-use Rattle.cep_run.proofs.StepThere.{ThereLaws}
+use Rattle.cep_run.proofs.StepThere.{there_laws}
 use Rattle.cep_run.proofs.RunFronts.{question_begins, turn_begins}
 use Rattle.cep_run.proofs.laws.runs_go_on.Goals as goal
 
 pub returns : goal.returns
 returns c =
-    let laws : ThereLaws = record {
-      lead = c.steps_lead_to_states.ensures;
-      lists = c.offers_are_there.ensures;
-      edit = c.edits_are_steps.ensures.whole;
-      places = c.drawn_places_are_within.ensures;
-    } in
+    let laws = there_laws c.steps_lead_to_states.ensures c.offers_are_there.ensures c.edits_are_steps.ensures.whole c.drawn_places_are_within.ensures in
     record {
       questions = λ program settings at from question to kept is_state asks. question_begins laws program settings kept at from question to is_state asks;
       turns = λ program settings at from turn kept is_state is. turn_begins laws program settings kept at from turn is_state is;
