@@ -1,4 +1,5 @@
 pub mod Hearing
+pub mod Unheard
 pub mod HearsThere
 pub mod StepThere
 pub mod DecisionThere

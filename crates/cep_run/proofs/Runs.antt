@@ -17,9 +17,10 @@ use Rattle.cep_log.specs.Lines.{end_lines, header}
 use Rattle.cep_run.specs.Deeds.{Position, start_of}
 use Rattle.cep_run.specs.Run.{whole_supply, Turn, Ending, IsTurn, AreTurns, offers_listed, EndsAt, Run}
 use Rattle.cep_run.specs.Dialogue.{turn_events, last_events, events_of, Dialogue}
-use Rattle.cep_run.specs.Fronts.{BeginsSome, IsRunOf, IsDialogueOf}
+use Rattle.cep_run.specs.Fronts.{BeginsSome, LeavesUnheard, IsRunOf}
 use Rattle.cep_run.specs.Begun.{PutsFront}
 use Rattle.cep_run.proofs.Fronts.{put_on}
+use Rattle.cep_run.proofs.Unheard.{outs_left, put_left, left_then, whole_left}
 use Rattle.cep_run.specs.declared.deciding.Spent.{Spent}
 use Rattle.cep_run.specs.declared.turn.Ended.{Ended}
 use Rattle.cep_run.specs.declared.turn.Turned.{Turned}
@@ -192,6 +193,10 @@ pub record RunThenEnd (program : Parts) (settings : Settings) (word : EndWord) (
 
 -- What was said before a run was refused begins some dialogue
 
+-- these are the events of a dialogue of the program
+abbrev pub IsDialogueOf : Parts → Settings → List ℕ → List Event → List ℕ → Type 0
+IsDialogueOf program settings come events rest = (turns : List Turn) × (ending : Ending) × Dialogue program settings come turns ending events rest
+
 -- a front of the header was put
 pub header_begins : (program : Parts) (settings : Settings) (come : List ℕ) (events : List Event) (rest : List ℕ) → (turns : List Turn) × (ending : Ending) × (all : List Event) × (left : List ℕ) × Dialogue program settings come turns ending all left
     → PutsFront (header program settings.height) come events rest → BeginsSome (IsDialogueOf program settings) come events
@@ -224,3 +229,12 @@ module _ (program : Parts) (settings : Settings) (start : Position) (begun : sta
       let said : (first ++ (second ++ third)) ++ missing.0 ≡ first ++ (second ++ outs end) =
       append_assoc first (second ++ third) missing.0 ∙ ap (λ es. first ++ es) (append_assoc second third missing.0 ∙ ap (λ es. second ++ es) missing.1) in
       record { more = missing.0; left = late; whole = (told.turns, told.ending, subst (λ es. Dialogue program settings come told.turns told.ending es late) (sym said) told.dialogue) }
+
+  -- what was heard before that is gone
+  pub run_leaves : (others : List Event) (rest : List ℕ) → LeavesUnheard middle others rest → LeavesUnheard come (first ++ others) rest
+  run_leaves others rest behind = left_then come first middle others rest (outs_left (header program settings.height) come first middle begins) behind
+
+  pub end_leaves : (word : EndWord) (last : Position) (offers : ℕ) (second third : List Event) (late rest : List ℕ) → IsWholeRun program settings word start last offers middle second late → PutsFront (end_lines program.signature word last.spot.state) late third rest
+      → LeavesUnheard come (first ++ (second ++ third)) rest
+  end_leaves word last offers second third late rest runs put =
+      run_leaves (second ++ third) rest (left_then middle second late third rest (whole_left program settings word start last offers middle second late runs) (put_left (end_lines program.signature word last.spot.state) late third rest put))

@@ -1,5 +1,5 @@
 -- What is told of a run is what is said of it, by the laws of dialogues.
-use Rattle.std.proofs.Common.{◌≡◌, ℕ, ◌+◌, ◌≤◌, List, [], length, map, ap, ◌∙◌, sym, arith}
+use Rattle.std.proofs.Common.{◌≡◌, ℕ, ◌+◌, ◌≤◌, List, [], ◌++◌, length, map, ap, ◌∙◌, sym, arith}
 use Rattle.std.specs.List.{AllByRecursion}
 use Rattle.std.proofs.lemmas.List.{length-map}
 use Rattle.cep_base.specs.declared.console.Event.{Event}
@@ -19,8 +19,9 @@ use Rattle.cep_log.specs.declared.log.Log.{Log}
 use Rattle.cep_log.specs.Legal.{IsLegal}
 use Rattle.cep_log.specs.Transcript.{HasLog}
 use Rattle.cep_run.specs.declared.tally.Tally.{Tally}
-use Rattle.cep_run.specs.Said.{IsSaid, IsTally}
-use Rattle.cep_run.proofs.Runs.{IsTold}
+use Rattle.cep_run.specs.Fronts.{BeginsSome}
+use Rattle.cep_run.specs.Said.{IsSaid, IsTally, IsSomeSaid}
+use Rattle.cep_run.proofs.Runs.{IsDialogueOf, IsTold}
 
 -- that one dialogue is there but for derivations, told for any two
 abbrev pub IsOneDialogue : Type 0
@@ -53,7 +54,35 @@ HaveLogs =
     → IsProgram program → IsHeight settings.height → Dialogue program settings come turns ending events rest → length (written_bytes events) ≤ MOST_LOG
     → (log : Log) × HasLog program (written_bytes events) log × HoldsDeeds program settings.height (deeds_of turns) ending.word ending.state log × IsLegal program log × (length log.steps ≡ length turns)
 
--- what is told is what is said, with its tally, and what is typed allows no other
+module _ (program : Parts) (settings : Settings) (one : IsOneDialogue) (to_the_byte : IsOneToTheByte) (deeds : AreAllDeeds) (counted : AreAllCounted) (logs : HaveLogs) (kept : IsProgram program) (height : IsHeight settings.height) where
+  -- a dialogue is what is said, and what is typed allows no other
+  pub dialogue_said : (P : List Turn → Ending → Type 0) (turns : List Turn) (ending : Ending) (come : List ℕ) (events : List Event) (rest : List ℕ) → Dialogue program settings come turns ending events rest → P turns ending → IsSaid program settings P come events rest
+  dialogue_said P turns ending come events rest dialogue holds =
+      let run = dialogue.run in
+      let done = deeds program settings (start_of program) (whole_supply come) turns run.last run.between run.done in
+      let many = counted program settings.height (start_of program) (deeds_of turns) run.last done in
+      let each = length-map turns (λ (turn : Turn). turn.deed) in
+      record {
+        turns = turns;
+        ending = ending;
+        dialogue = dialogue;
+        holds = holds;
+        deeds = done;
+        counted = omega (arith, many, each);
+        logged = λ short.
+            let has = logs program settings come turns ending events rest kept height dialogue short in
+            (has.0, has.1, has.3, has.4);
+        only = λ turns' ending' events' rest' other. one program settings come turns' turns ending' ending events' events rest' rest other dialogue;
+        to_the_byte = λ plain turns' ending' events' rest' other. to_the_byte program settings come turns' turns ending' ending events' events rest' rest plain other dialogue;
+      }
+
+  -- what begins some dialogue begins one that is said
+  pub some_said : (come : List ℕ) (events : List Event) → BeginsSome (IsDialogueOf program settings) come events → BeginsSome (IsSomeSaid program settings) come events
+  some_said come events front =
+      let whole = front.whole in
+      record { more = front.more; left = front.left; whole = dialogue_said (λ turns ending. Unit {0}) whole.0 whole.1 come (events ++ front.more) front.left whole.2 tt }
+
+-- what is told is what is said, with its tally
 pub is_said : (program : Parts) (settings : Settings) (tally : Tally) (last : Position) → IsOneDialogue → IsOneToTheByte → AreAllDeeds → AreAllCounted → HaveLogs → IsProgram program → IsHeight settings.height
     → tally.turns ≡ last.turns → tally.copies ≡ copies_in last.spot.state
     → (come : List ℕ) (events : List Event) (rest : List ℕ) → IsTold program settings tally.word last tally.offers come events rest → IsSaid program settings (λ turns ending. IsTally turns ending tally) come events rest
@@ -63,21 +92,10 @@ is_said program settings tally last one to_the_byte deeds counted logs kept heig
     let many = counted program settings.height (start_of program) (deeds_of told.turns) run.last done in
     let each = length-map told.turns (λ (turn : Turn). turn.deed) in
     let last_turns : run.last.turns ≡ last.turns = ap (λ (at : Position). at.turns) told.last_is in
-    record {
-      turns = told.turns;
-      ending = told.ending;
-      dialogue = told.dialogue;
-      holds = record {
-        word = sym told.word_is;
-        turns = omega (arith, turns, many, each, last_turns);
-        offers = told.listed;
-        copies = copies ∙ ap (λ (at : Position). copies_in at.spot.state) (sym told.last_is) ∙ ap copies_in (sym run.state);
-      };
-      deeds = done;
-      counted = omega (arith, many, each);
-      logged = λ short.
-          let has = logs program settings come told.turns told.ending events rest kept height told.dialogue short in
-          (has.0, has.1, has.3, has.4);
-      only = λ turns' ending' events' rest' other. one program settings come turns' told.turns ending' told.ending events' events rest' rest other told.dialogue;
-      to_the_byte = λ plain turns' ending' events' rest' other. to_the_byte program settings come turns' told.turns ending' told.ending events' events rest' rest plain other told.dialogue;
-    }
+    dialogue_said program settings one to_the_byte deeds counted logs kept height (λ turns ending. IsTally turns ending tally) told.turns told.ending come events rest told.dialogue
+    (record {
+      word = sym told.word_is;
+      turns = omega (arith, turns, many, each, last_turns);
+      offers = told.listed;
+      copies = copies ∙ ap (λ (at : Position). copies_in at.spot.state) (sym told.last_is) ∙ ap copies_in (sym run.state);
+    })

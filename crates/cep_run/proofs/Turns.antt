@@ -43,12 +43,13 @@ use Rattle.cep_log.specs.Lines.{step_lines}
 use Rattle.cep_run.specs.Deeds.{Position, PassesLimit}
 use Rattle.cep_run.specs.Run.{Question, Turn, IsQuestion, IsChosen, IsTurn, LeadsNowhere}
 use Rattle.cep_run.specs.Dialogue.{asked_events, question_events, turn_events}
-use Rattle.cep_run.specs.Fronts.{BeginsSome, IsRunOf}
+use Rattle.cep_run.specs.Fronts.{BeginsSome, FellShort, IsRunOf}
 use Rattle.cep_run.specs.Begun.{SettlesSome, BeginsAct}
 use Rattle.cep_run.specs.Turn.{position_of, supply_with, IsPlayed, Settles, IsPlaced, TellsStep, Acts, WouldPass, limit_word, IsActed, DoesTurn, Stops, IsTurned, config_left}
 use Rattle.cep_base.proofs.Did.{did_same, did_put, did_map, did_then}
 use Rattle.cep_run.proofs.TurnSteps.{lawful_step}
 use Rattle.cep_run.proofs.Fronts.{front_of_front, outs_cut}
+use Rattle.cep_run.proofs.Unheard.{left_then, settles_left, act_left}
 
 none_some : {A B : Type 0} (x : A) → ◌≡◌ {A = Option A} None (Some x) → B
 none_some x e = cc
@@ -435,15 +436,19 @@ module _ {M : Type 0} (is_of : Parts → M → Type 0) (height_held : M → ℕ)
 
       -- the decision was refused, or its step
       module _ (questions : QuestionsGoOn) (kept : IsProgram program) (is_state : IsState program.signature config.state) where
-        pub decision_refused : Did talk left console settled_on (λ come events rest. BeginsSome (SettlesSome program settings.seed config.stage group (offers_of (offers_held config.matcher) group) spent) come events)
-            → Did talk left console settled_on (λ come events rest. BeginsSome (IsRunOf program settings (position_of config)) (supply_with come spent) events)
+        pub decision_refused : FellShort talk left console settled_on (λ come. come) (SettlesSome program settings.seed config.stage group (offers_of (offers_held config.matcher) group) spent)
+            → FellShort talk left console settled_on (λ come. supply_with come spent) (IsRunOf program settings (position_of config))
         decision_refused begun =
-            did_map talk left console settled_on _ _ (λ come events rest front. decision_begins program settings kept (position_of config) is_state spent group (offers_of (offers_held config.matcher) group) asks_here remain few_here questions come events front) begun
+            did_map talk left console settled_on _ _ (λ come events rest front. (decision_begins program settings kept (position_of config) is_state spent group (offers_of (offers_held config.matcher) group) asks_here remain few_here questions come events front.0, front.1)) begun
 
         pub act_refused : TurnsGoOn → (place : ℕ) (choice : Choice) → choice ≡ Place place → Did talk left console settled_on (Settles program settings.seed config.stage group (offers_of (offers_held config.matcher) group) spent choice spent')
             → (new : C) → Did talk left settled_on new (BeginsAct program settings.height (offers_of (offers_held config.matcher) group) place (position_of config))
-            → Did talk left console new (λ come events rest. BeginsSome (IsRunOf program settings (position_of config)) (supply_with come spent) events)
+            → FellShort talk left console new (λ come. supply_with come spent) (IsRunOf program settings (position_of config))
         act_refused turns place choice same settled new begun =
             did_then talk left console settled_on new _ _ _
-            (λ come first middle others rest settles front. act_begins program settings kept (position_of config) is_state spent group (offers_of (offers_held config.matcher) group) asks_here remain few_here questions turns spent' place come first middle others rest settles front)
+            (λ come first middle others rest settles front. (
+              act_begins program settings kept (position_of config) is_state spent group (offers_of (offers_held config.matcher) group) asks_here remain few_here questions turns spent' place come first middle others rest settles front,
+              left_then come first middle others rest (settles_left program settings.seed config.stage group (offers_of (offers_held config.matcher) group) spent (Place place) spent' come first middle settles)
+                  (act_left program settings.height (offers_of (offers_held config.matcher) group) place (position_of config) middle others rest front),
+            ))
             (settled_here choice (Place place) same settled) begun

@@ -38,3 +38,7 @@ pub record IsSaid (program : Parts) (settings : Settings) (P : List Turn → End
 -- where the console tells what is to come, what is said is a dialogue of the program, and P holds of its turns and its end
 abbrev pub Says : {C : Type 0} → (C → Option (List Event)) → (C → Option (List ℕ)) → C → C → Parts → Settings → (List Turn → Ending → Type 0) → Type 0
 Says talk left old new program settings P = Did talk left old new (IsSaid program settings P)
+
+-- what is said is a dialogue of the program, whatever holds of its turns and its end
+abbrev pub IsSomeSaid : Parts → Settings → List ℕ → List Event → List ℕ → Type 0
+IsSomeSaid program settings = IsSaid program settings (λ turns ending. Unit {0})

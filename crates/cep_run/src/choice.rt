@@ -2,7 +2,7 @@
 ghost use Rattle.std.specs.Prelude.{◌<◌, ◌≤◌, IfOk, OnErr};
 ghost use Rattle.cep_base.specs.Talk.{Did, ConsoleCause};
 ghost use Rattle.cep_run.specs.Choice.{IsChoiceWithin, Hears};
-ghost use Rattle.cep_run.specs.Fronts.{BeginsSome};
+ghost use Rattle.cep_run.specs.Fronts.{FellShort};
 ghost use Rattle.cep_run.specs.Begun.{HearsSome};
 
 use cep_base::limits::MOST_TYPED;
@@ -26,7 +26,7 @@ pub fn choose<C: Console>(console: &mut C, n: u32, taken: &mut u64) -> Result<Ch
     requires { taken.old ≤ MOST_TYPED }
     ensures heard { IfOk result (λ choice. Did C.talk C.left console.old console.new (λ come events rest.
         Hears n come taken.old events choice rest taken.new)) }
-    ensures begun { OnErr result (Did C.talk C.left console.old console.new (λ come events rest. BeginsSome (HearsSome n taken.old) come events)) }
+    ensures begun { OnErr result (FellShort C.talk C.left console.old console.new (λ come. come) (HearsSome n taken.old)) }
     ensures place { IfOk result (λ choice. IsChoiceWithin n choice) }
     ensures within { taken.new ≤ MOST_TYPED }
     ensures cause { ConsoleCause (C.faults console.old) (C.faults console.new) result }

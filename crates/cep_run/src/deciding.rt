@@ -9,7 +9,7 @@ ghost use Rattle.cep_log.specs.Lines.{offer_lines};
 ghost use Rattle.cep_run.specs.Choice.{IsChoiceWithin};
 ghost use Rattle.cep_run.specs.Begun.{PutsFront, AsksSome, SettlesSome};
 ghost use Rattle.cep_run.specs.Deciding.{IsPlayers};
-ghost use Rattle.cep_run.specs.Fronts.{BeginsSome};
+ghost use Rattle.cep_run.specs.Fronts.{FellShort};
 ghost use Rattle.cep_run.specs.Turn.{AsksPlayer, HasSpent, Settles};
 
 use crate::choice::{Choice, choose};
@@ -89,8 +89,8 @@ fn ask<C: Console, M: Matcher>(
     requires within { taken.old ≤ MOST_TYPED }
     ensures heard { IfOk result (λ choice. Did C.talk C.left console.old console.new (λ come events rest.
         AsksPlayer program.now (offers_of (M.offers_held matcher.now) group) come taken.old events choice rest taken.new)) }
-    ensures begun { OnErr result (Did C.talk C.left console.old console.new (λ come events rest.
-        BeginsSome (AsksSome program.now (offers_of (M.offers_held matcher.now) group) taken.old) come events)) }
+    ensures begun { OnErr result (FellShort C.talk C.left console.old console.new (λ come. come)
+        (AsksSome program.now (offers_of (M.offers_held matcher.now) group) taken.old)) }
     ensures place { IfOk result (λ choice. IsChoiceWithin (length (offers_of (M.offers_held matcher.now) group)) choice) }
     ensures within { taken.new ≤ MOST_TYPED }
     ensures cause { ConsoleCause (C.faults console.old) (C.faults console.new) result }
@@ -141,8 +141,8 @@ pub fn decide<C: Console, M: Matcher>(
     requires spent { HasSpent seed config.now.turns spent.old }
     ensures settled { IfOk result (λ choice. Did C.talk C.left console.old console.new
         (Settles program.now seed config.now.stage group (offers_of (M.offers_held config.now.matcher) group) spent.old choice spent.new)) }
-    ensures begun { OnErr result (Did C.talk C.left console.old console.new (λ come events rest.
-        BeginsSome (SettlesSome program.now seed config.now.stage group (offers_of (M.offers_held config.now.matcher) group) spent.old) come events)) }
+    ensures begun { OnErr result (FellShort C.talk C.left console.old console.new (λ come. come)
+        (SettlesSome program.now seed config.now.stage group (offers_of (M.offers_held config.now.matcher) group) spent.old)) }
     ensures place { IfOk result (λ choice. IsChoiceWithin (length (offers_of (M.offers_held config.now.matcher) group)) choice) }
     ensures spent { HasSpent seed (config.now.turns + 1) spent.new }
     ensures cause { ConsoleCause (C.faults console.old) (C.faults console.new) result }

@@ -7,10 +7,10 @@ ghost use Rattle.cep_rule.specs.State.{IsState};
 ghost use Rattle.cep_machine.specs.Asking.{asked_offers};
 ghost use Rattle.cep_log.specs.Lines.{end_lines, header};
 ghost use Rattle.cep_run.specs.Run.{whole_supply};
-ghost use Rattle.cep_run.specs.Fronts.{BeginsSome, IsRunOf, IsDialogueOf};
+ghost use Rattle.cep_run.specs.Fronts.{FellShort, IsRunOf};
 ghost use Rattle.cep_run.specs.Begun.{PutsFront};
 ghost use Rattle.cep_run.specs.Turn.{position_of, IsPlayed, IsWholeRun};
-ghost use Rattle.cep_run.specs.Said.{Says, IsTally};
+ghost use Rattle.cep_run.specs.Said.{Says, IsTally, IsSomeSaid};
 
 use crate::deciding::Spent;
 use crate::laws::{deeds_are_counted, dialogues_are_there, one_dialogue, turns_are_deeds};
@@ -58,7 +58,7 @@ fn all_turns<C: Console, M: Matcher, L: Ledger>(
     requires limit { settings.limit ≤ MOST_TURNS }
     ensures said { IfOk result (λ end. Did C.talk C.left console.old console.new
         (IsWholeRun program.now settings end.word (position_of start) (position_of end.config) end.offers)) }
-    ensures begun { OnErr result (Did C.talk C.left console.old console.new (λ come events rest. BeginsSome (IsRunOf program.now settings (position_of start)) (whole_supply come) events)) }
+    ensures begun { OnErr result (FellShort C.talk C.left console.old console.new whole_supply (IsRunOf program.now settings (position_of start))) }
     ensures played { IfOk result (λ end. IsPlayed M.is_of M.height_held program.now settings end.config) }
     ensures counted { steps.old ≤ steps.new }
     ensures cause { ConsoleCause (C.faults console.old) (C.faults console.new) result }
@@ -133,7 +133,7 @@ fn finish<C: Console>(
 /// Plays a program with these settings and the person at a console, from its start until the run
 /// ends. The height is 1 to 512, and the turns are at most 1,000,000. Answers what the run came to.
 /// Only a fault of the console and want of memory are refused, and then what was said and heard
-/// begins some dialogue.
+/// begins some dialogue, and what was heard is gone from what is to be typed.
 pub fn play<M: Matcher, C: Console, L: Ledger>(
     alloc: Global,
     program: &Program,
@@ -144,7 +144,7 @@ pub fn play<M: Matcher, C: Console, L: Ledger>(
     requires height { IsHeight settings.height }
     requires limit { settings.limit ≤ MOST_TURNS }
     ensures said { IfOk result (λ tally. Says C.talk C.left console.old console.new program.now settings (λ turns ending. IsTally turns ending tally)) }
-    ensures begun { OnErr result (Did C.talk C.left console.old console.new (λ come events rest. BeginsSome (IsDialogueOf program.now settings) come events)) }
+    ensures begun { OnErr result (FellShort C.talk C.left console.old console.new (λ come. come) (IsSomeSaid program.now settings)) }
     ensures counted { steps.old ≤ steps.new }
     ensures cause { ConsoleCause (C.faults console.old) (C.faults console.new) result }
 {

@@ -5,7 +5,7 @@ ghost use Rattle.cep_base.specs.Talk.{Did, ConsoleCause};
 ghost use Rattle.cep_rule.specs.Matching.{offers_of};
 ghost use Rattle.cep_machine.specs.Asking.{asked_offers};
 ghost use Rattle.cep_run.specs.declared.turn.Turned.TheVariants.{Over};
-ghost use Rattle.cep_run.specs.Fronts.{BeginsSome, IsRunOf};
+ghost use Rattle.cep_run.specs.Fronts.{FellShort, IsRunOf};
 ghost use Rattle.cep_run.specs.Begun.{BeginsAct};
 ghost use Rattle.cep_run.specs.Turn.{position_of, supply_with, HasSpent, IsPlayed, IsActed, IsTurned, config_left, limit_word};
 
@@ -112,7 +112,7 @@ pub fn turn<C: Console, M: Matcher, L: Ledger>(
     requires spent { HasSpent settings.seed config.turns spent.old }
     ensures turned { IfOk result (IsTurned C.talk C.left console.old console.new program.now settings (asked_offers (M.offers_held config.matcher) config.stage) config spent.old spent.new) }
     ensures played { IfOk result (λ turned. IsPlayed M.is_of M.height_held program.now settings (config_left turned)) }
-    ensures begun { OnErr result (Did C.talk C.left console.old console.new (λ come events rest. BeginsSome (IsRunOf program.now settings (position_of config)) (supply_with come spent.old) events)) }
+    ensures begun { OnErr result (FellShort C.talk C.left console.old console.new (λ come. supply_with come spent.old) (IsRunOf program.now settings (position_of config))) }
     ensures spent { IfOk result (λ _. HasSpent settings.seed (config.turns + 1) spent.new) }
     ensures counted { steps.old ≤ steps.new }
     ensures cause { ConsoleCause (C.faults console.old) (C.faults console.new) result }

@@ -2,6 +2,7 @@ use Rattle.std.proofs.Common.{refl, ◌∙◌, arith}
 use Rattle.cep_base.proofs.Outcomes.{on_err}
 use Rattle.cep_base.proofs.Did.{did_map}
 use Rattle.cep_run.proofs.Fronts.{hears_on}
+use Rattle.cep_run.proofs.Unheard.{front_left}
 use Rattle.cep_run.proofs.Hearing.{await_first, await_next, end_chosen, end_no_more, end_no_room, end_short, end_answer_short}
 use Rattle.cep_run.proofs.choice.choose.Goals as goal
 
@@ -39,13 +40,13 @@ returns-in-Limit-clause-heard g c =
 pub returns-in_err-heard-clause-begun : goal.returns-in_err-heard-clause-begun
 returns-in_err-heard-clause-begun g c =
     on_err c.from_residual.result _
-    (did_map g.C.Console.talk g.C.Console.left c.args.console.now c.read_choice.new.console _ _ (λ come events rest front. hears_on c.args.n front)
+    (did_map g.C.Console.talk g.C.Console.left c.args.console.now c.read_choice.new.console _ _ (λ come events rest front. (hears_on c.args.n front, front_left c.args.n front))
     (end_short g.C.Console.talk g.C.Console.left c.args.n c.args.taken.now c.loop-heard.taken 0 c.args.console.now c.loop-heard.console c.read_choice.new.console c.loop-heard.invariant.so_far
     c.in_err-heard.ensures.cut_short))
 
 pub returns-in_err-put-in-Bad-clause-begun : goal.returns-in_err-put-in-Bad-clause-begun
 returns-in_err-put-in-Bad-clause-begun g c =
     on_err c.from_residual-in_err-put-in-Bad.result _
-    (did_map g.C.Console.talk g.C.Console.left c.args.console.now c.put.new.self _ _ (λ come events rest front. hears_on c.args.n front)
+    (did_map g.C.Console.talk g.C.Console.left c.args.console.now c.put.new.self _ _ (λ come events rest front. (hears_on c.args.n front, front_left c.args.n front))
     (end_answer_short g.C.Console.talk g.C.Console.left c.args.n c.args.taken.now c.loop-heard.taken c.in_ok-heard.heard.taken c.args.console.now c.loop-heard.console c.put.new.self c.loop-heard.invariant.so_far
     c.read_choice.new.console c.in_err-put-in-Bad.ensures.part.0 (rw c.in-Bad.is at c.in_ok-heard.ensures.line) c.in_err-put-in-Bad.ensures.part.1 c.in_err-put-in-Bad.ensures.left))

@@ -8,6 +8,7 @@ use Rattle.cep_base.proofs.Did.{did_same, did_map, did_then}
 use Rattle.cep_run.proofs.Settling.{nothing_spent}
 use Rattle.cep_run.proofs.Runs.{run_begins, run_goes_on, turn_stops, run_quiets, run_is_over, turns_begin}
 use Rattle.cep_base.proofs.Outcomes.{on_err}
+use Rattle.cep_run.proofs.Unheard.{left_then, so_left}
 use Rattle.cep_run.proofs.dialogue.all_turns.Goals as goal
 
 pub loop-done-init : goal.loop-done-init
@@ -91,5 +92,8 @@ pub returns-in_err-next-clause-begun : goal.returns-in_err-next-clause-begun
 returns-in_err-next-clause-begun g c =
     on_err c.from_residual.result _
     (did_then g.C.Console.talk g.C.Console.left c.args.console.now c.loop-done.console c.turn.new.console _ _ _
-    (λ come first between second rest so front. turns_begin c.args.program.now c.args.settings (position_of c.args.start) (position_of c.loop-done.config) c.loop-done.spent c.loop-done.offers come first between second so front)
+    (λ come first between second rest so front. (
+      turns_begin c.args.program.now c.args.settings (position_of c.args.start) (position_of c.loop-done.config) c.loop-done.spent c.loop-done.offers come first between second so front.0,
+      left_then come first between second rest (so_left c.args.program.now c.args.settings (position_of c.args.start) (position_of c.loop-done.config) c.loop-done.spent c.loop-done.offers come first between so) front.1,
+    ))
     c.loop-done.invariant.so_far c.in_err-next.ensures.begun)

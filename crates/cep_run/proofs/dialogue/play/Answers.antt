@@ -2,15 +2,17 @@ use Rattle.std.proofs.Common.{◌≡◌, ◌++◌, refl, sym, ap, ◌∙◌, sub
 use Rattle.cep_base.specs.Talk.{outs, Did}
 use Rattle.cep_term.specs.Multiset.{copies_in}
 use Rattle.cep_log.specs.Lines.{end_lines, header}
-use Rattle.cep_run.specs.Fronts.{BeginsSome, IsDialogueOf}
+use Rattle.cep_run.specs.Fronts.{BeginsSome, LeavesUnheard}
+use Rattle.cep_run.specs.Said.{IsSomeSaid}
 use Rattle.cep_run.specs.Begun.{PutsFront}
 use Rattle.cep_run.specs.Turn.{position_of}
 use Rattle.cep_run.specs.declared.tally.Tally.{Tally}
 use Rattle.cep_base.proofs.Did.{did_then, did_map}
 use Rattle.cep_base.proofs.Outcomes.{on_err}
 use Rattle.cep_run.proofs.Fronts.{did_nothing}
-use Rattle.cep_run.proofs.Runs.{RunFrom, IsTold, RunThenEnd, run_ends, whole_dialogue, started_at, header_begins, run_begins_dialogue, end_begins_dialogue}
-use Rattle.cep_run.proofs.Saying.{is_said}
+use Rattle.cep_run.proofs.Runs.{RunFrom, IsTold, RunThenEnd, run_ends, whole_dialogue, started_at, header_begins, run_begins_dialogue, end_begins_dialogue, run_leaves, end_leaves}
+use Rattle.cep_run.proofs.Unheard.{put_left}
+use Rattle.cep_run.proofs.Saying.{is_said, some_said}
 use Rattle.cep_run.proofs.dialogue.play.Goals as goal
 
 pub all_turns-requires-clause-played : goal.all_turns-requires-clause-played
@@ -52,23 +54,40 @@ returns-in_err-config-clause-begun g c =
     let console = c.args.console.now in
     on_err c.from_residual.result _
     (did_map g.C.Console.talk g.C.Console.left console console _ _
-    (λ come events rest put. header_begins program settings come events rest (c.dialogues_are_there.ensures program settings come c.parts.ensures.kept) put)
+    (λ come events rest put. (
+      some_said program settings c.one_dialogue.ensures.but_for_proofs c.one_dialogue.ensures.to_the_byte c.turns_are_deeds.ensures c.deeds_are_counted.ensures c.dialogues_have_logs.ensures c.parts.ensures.kept c.requires.height come events
+          (header_begins program settings come events rest (c.dialogues_are_there.ensures program settings come c.parts.ensures.kept) put),
+      put_left (header program settings.height) come events rest put,
+    ))
     (did_nothing g.C.Console.talk g.C.Console.left console (header program settings.height)))
 
 pub returns-in_err-begin-clause-begun : goal.returns-in_err-begin-clause-begun
 returns-in_err-begin-clause-begun g c =
+    let program = c.args.program.now in
+    let settings = c.args.settings in
     on_err c.from_residual-in_err-begin.result _
     (did_map g.C.Console.talk g.C.Console.left c.args.console.now c.begin-2.new.console _ _
-    (λ come events rest put. header_begins c.args.program.now c.args.settings come events rest (c.dialogues_are_there.ensures c.args.program.now c.args.settings come c.parts.ensures.kept) put)
+    (λ come events rest put. (
+      some_said program settings c.one_dialogue.ensures.but_for_proofs c.one_dialogue.ensures.to_the_byte c.turns_are_deeds.ensures c.deeds_are_counted.ensures c.dialogues_have_logs.ensures c.parts.ensures.kept c.requires.height come events
+          (header_begins program settings come events rest (c.dialogues_are_there.ensures program settings come c.parts.ensures.kept) put),
+      put_left (header program settings.height) come events rest put,
+    ))
     c.in_err-begin.ensures.begun)
 
 pub returns-in_err-end-clause-begun : goal.returns-in_err-end-clause-begun
 returns-in_err-end-clause-begun g c =
     let begun = c.in_ok-config.ensures in
-    let started = started_at c.args.program.now c.in_ok-config.config begun.stage begun.state begun.turns in
+    let program = c.args.program.now in
+    let settings = c.args.settings in
+    let start = position_of c.in_ok-config.config in
+    let started = started_at program c.in_ok-config.config begun.stage begun.state begun.turns in
     on_err c.from_residual-in_err-end.result _
     (did_then g.C.Console.talk g.C.Console.left c.args.console.now c.begin-2.new.console c.all_turns.new.console _ _ _
-    (λ come first middle others rest begins front. run_begins_dialogue c.args.program.now c.args.settings (position_of c.in_ok-config.config) started come middle first begins others front)
+    (λ come first middle others rest begins front. (
+      some_said program settings c.one_dialogue.ensures.but_for_proofs c.one_dialogue.ensures.to_the_byte c.turns_are_deeds.ensures c.deeds_are_counted.ensures c.dialogues_have_logs.ensures c.parts.ensures.kept c.requires.height come (first ++ others)
+          (run_begins_dialogue program settings start started come middle first begins others front.0),
+      run_leaves program settings start started come middle first begins others rest front.1,
+    ))
     c.in_ok-begin.ensures.told c.in_err-end.ensures.begun)
 
 pub returns-in_err-finish-clause-begun : goal.returns-in_err-finish-clause-begun
@@ -86,8 +105,11 @@ returns-in_err-finish-clause-begun g c =
     subst (λ state. Did talk left c.all_turns.new.console c.finish.new.console (PutsFront (end_lines program.signature end.word state))) c.state.ensures c.in_err-finish.ensures.begun in
     on_err c.from_residual-in_err-finish.result _
     (did_then talk left c.args.console.now c.begin-2.new.console c.finish.new.console _ _ _
-    (λ come first middle others rest begins ends. subst (λ es. BeginsSome (IsDialogueOf program settings) come (first ++ es)) (sym ends.whole)
-    (end_begins_dialogue program settings start started come middle first begins end.word last end.offers ends.turns ends.end ends.late rest ends.runs ends.put))
+    (λ come first middle others rest begins ends. subst (λ es. BeginsSome (IsSomeSaid program settings) come (first ++ es) × LeavesUnheard come (first ++ es) rest) (sym ends.whole) (
+      some_said program settings c.one_dialogue.ensures.but_for_proofs c.one_dialogue.ensures.to_the_byte c.turns_are_deeds.ensures c.deeds_are_counted.ensures c.dialogues_have_logs.ensures c.parts.ensures.kept c.requires.height come (first ++ (ends.turns ++ ends.end))
+          (end_begins_dialogue program settings start started come middle first begins end.word last end.offers ends.turns ends.end ends.late rest ends.runs ends.put),
+      end_leaves program settings start started come middle first begins end.word last end.offers ends.turns ends.end ends.late rest ends.runs ends.put,
+    ))
     c.in_ok-begin.ensures.told
     (did_then talk left c.begin-2.new.console c.all_turns.new.console c.finish.new.console _ _ (RunThenEnd program settings end.word start last end.offers)
     (λ come second late third rest runs put. record { turns = second; end = third; late = late; whole = refl; runs = runs; put = put })

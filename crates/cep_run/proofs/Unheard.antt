@@ -1,0 +1,144 @@
+-- What is heard of a choice, a turn and a run is gone from the bytes to come.
+use Rattle.std.proofs.Common.{◌≡◌, inl, inr, ℕ, List, [], ◌∷◌, ◌++◌, length, take, append_assoc, append-nil, Option, None, Some, refl, sym, ap, ◌∙◌, subst}
+use Rattle.std.specs.List.{flat_map}
+use Rattle.cep_base.specs.declared.console.Event.{Event}
+use Rattle.cep_base.specs.declared.console.Event.TheVariants.{Out, In, End}
+use Rattle.cep_base.specs.Talk.{outs, ins}
+use Rattle.cep_rule.specs.declared.parts.Parts.{Parts}
+use Rattle.cep_rule.specs.declared.offer.Offer.{Offer}
+use Rattle.cep_choice.specs.TypedLine.{Cut, Ended, Last, Nothing, Full, ReadsLine}
+use Rattle.cep_log.specs.declared.end_word.EndWord.{EndWord}
+use Rattle.cep_log.specs.Lines.{question, step_lines, offer_lines}
+use Rattle.cep_run.specs.declared.choice.Choice.{Choice}
+use Rattle.cep_run.specs.declared.deciding.Spent.{Spent}
+use Rattle.cep_run.specs.declared.settings.Settings.{Settings}
+use Rattle.cep_run.specs.Choice.{room_after, no_line, Hears, chosen, again, no_more, no_room}
+use Rattle.cep_run.specs.Deciding.{Supply, How, Heard, Lone, Drawn, Decides}
+use Rattle.cep_run.specs.Deeds.{Position}
+use Rattle.cep_run.specs.Run.{whole_supply, Question, Turn, IsQuestion, IsTurn, AreTurns, EndsAt}
+use Rattle.cep_run.specs.Dialogue.{asked_events, question_events, last_events, turn_events}
+use Rattle.cep_run.specs.Fronts.{heard_bytes, LeavesUnheard}
+use Rattle.cep_run.specs.Begun.{PutsFront, BeginsAct}
+use Rattle.cep_run.specs.Turn.{Settles, SoFar, IsWholeRun}
+use Rattle.cep_run.proofs.Hearing.{HearsFront, line_cut, answer_cut, behind_bad}
+
+-- Events
+
+pub heard_append : (first others : List Event) → heard_bytes (first ++ others) ≡ heard_bytes first ++ heard_bytes others
+heard_append [] others = refl
+heard_append (Out byte ∷ first) others = heard_append first others
+heard_append (In byte ∷ first) others = ap (λ bytes. byte ∷ bytes) (heard_append first others)
+heard_append (End ∷ first) others = heard_append first others
+
+pub outs_unheard : (bytes : List ℕ) → heard_bytes (outs bytes) ≡ []
+outs_unheard [] = refl
+outs_unheard (byte ∷ bytes) = outs_unheard bytes
+
+pub ins_heard : (bytes : List ℕ) → heard_bytes (ins bytes) ≡ bytes
+ins_heard [] = refl
+ins_heard (byte ∷ bytes) = ap (λ all. byte ∷ all) (ins_heard bytes)
+
+front_nil : (first others : List ℕ) → first ++ others ≡ [] → first ≡ []
+front_nil [] others e = refl
+front_nil (byte ∷ first) others e = absurd (cc)
+
+-- one stretch behind another
+pub left_then : (come : List ℕ) (first : List Event) (middle : List ℕ) (others : List Event) (rest : List ℕ) → LeavesUnheard come first middle → LeavesUnheard middle others rest → LeavesUnheard come (first ++ others) rest
+left_then come first middle others rest one two =
+    one ∙ ap (λ bytes. heard_bytes first ++ bytes) two ∙ sym (append_assoc (heard_bytes first) (heard_bytes others) rest) ∙ ap (λ bytes. bytes ++ rest) (sym (heard_append first others))
+
+-- nothing was heard
+pub unheard_left : (come : List ℕ) (events : List Event) (rest : List ℕ) → heard_bytes events ≡ [] → rest ≡ come → LeavesUnheard come events rest
+unheard_left come events rest none same = sym (ap (λ bytes. bytes ++ rest) none ∙ same)
+
+pub outs_left : (bytes come : List ℕ) (events : List Event) (rest : List ℕ) → (events ≡ outs bytes) × (rest ≡ come) → LeavesUnheard come events rest
+outs_left bytes come events rest put = unheard_left come events rest (ap heard_bytes put.0 ∙ outs_unheard bytes) put.1
+
+pub put_left : (text come : List ℕ) (events : List Event) (rest : List ℕ) → PutsFront text come events rest → LeavesUnheard come events rest
+put_left text come events rest put = outs_left (take put.size text) come events rest (put.said, put.untaken)
+
+-- these bytes were heard
+bytes_left : (bytes come : List ℕ) (events : List Event) (rest : List ℕ) → heard_bytes events ≡ bytes → come ≡ bytes ++ rest → LeavesUnheard come events rest
+bytes_left bytes come events rest heard first = first ∙ ap (λ all. all ++ rest) (sym heard)
+
+-- Choices
+
+line_left : (room : ℕ) (come : List ℕ) (events : List Event) (cut : Cut) (rest : List ℕ) (taken : ℕ) → ReadsLine room come events cut rest taken → LeavesUnheard come events rest
+line_left room come events (Ended line) rest taken is = bytes_left (line ++ 10 ∷ []) come events rest (ap heard_bytes is.3 ∙ ins_heard (line ++ 10 ∷ [])) (is.0 ∙ sym (append_assoc line (10 ∷ []) rest))
+line_left room come events (Last line) rest taken is =
+    let heard : heard_bytes events ≡ line = ap heard_bytes is.5 ∙ heard_append (ins line) (End ∷ []) ∙ append-nil (heard_bytes (ins line)) ∙ ins_heard line in
+    bytes_left line come events rest heard (is.0 ∙ sym (ap (λ bytes. line ++ bytes) is.1 ∙ append-nil line))
+line_left room come events Nothing rest taken is = bytes_left [] come events rest (ap heard_bytes is.3) (is.0 ∙ sym is.1)
+line_left room come events (Full bytes) rest taken is = bytes_left bytes come events rest (ap heard_bytes is.3 ∙ ins_heard bytes) is.0
+
+-- a line that chose nothing, its answer, and what was heard behind it
+bad_left : (come between rest : List ℕ) (first others events : List Event) → LeavesUnheard come first between → LeavesUnheard between others rest → events ≡ first ++ (outs no_line ++ others) → LeavesUnheard come events rest
+bad_left come between rest first others events line behind whole =
+    let answered = left_then between (outs no_line) between others rest (outs_left no_line between (outs no_line) between (refl, refl)) behind in
+    subst (λ es. LeavesUnheard come es rest) (sym whole) (left_then come first between (outs no_line ++ others) rest line answered)
+
+module _ (n : ℕ) where
+  pub hears_left : {come : List ℕ} {taken : ℕ} {events : List Event} {choice : Choice} {rest : List ℕ} {all : ℕ} → Hears n come taken events choice rest all → LeavesUnheard come events rest
+  hears_left {come} {taken} {events} {choice} {rest} (chosen cut line more reads is chooses same) = line_left (room_after taken) come events cut rest more reads
+  hears_left {come} {taken} {events} {choice} {rest} (again cut line between more first others reads is none later whole) =
+      bad_left come between rest first others events (line_left (room_after taken) come first cut between more reads) (hears_left later) whole
+  hears_left {come} {taken} {events} {choice} {rest} (no_more more reads same) = line_left (room_after taken) come events Nothing rest more reads
+  hears_left {come} {taken} {events} {choice} {rest} (no_room bytes more reads same) = line_left (room_after taken) come events (Full bytes) rest more reads
+
+  pub front_left : {come : List ℕ} {taken : ℕ} {events : List Event} {rest : List ℕ} → HearsFront n come taken events rest → LeavesUnheard come events rest
+  front_left {come} {taken} {events} {rest} (line_cut short) = bytes_left short.bytes come events rest (ap heard_bytes short.said ∙ ins_heard short.bytes) short.first
+  front_left {come} {taken} {events} {rest} (answer_cut cut line more size first reads is none whole) =
+      let answer = outs_left (take size no_line) rest (outs (take size no_line)) rest (refl, refl) in
+      subst (λ es. LeavesUnheard come es rest) (sym whole) (left_then come first rest (outs (take size no_line)) rest (line_left (room_after taken) come first cut rest more reads) answer)
+  front_left {come} {taken} {events} {rest} (behind_bad cut line between more first others reads is none behind whole) =
+      bad_left come between rest first others events (line_left (room_after taken) come first cut between more reads) (front_left behind) whole
+
+-- Questions, turns and runs
+
+module _ (program : Parts) (seed stage group : ℕ) (offers : List Offer) where
+  decides_left : (from : Supply) (how : How) (choice : Choice) (to : Supply) → Decides program seed stage group (length offers) from how choice to → LeavesUnheard from.come (asked_events program offers how) to.come
+  decides_left from (Heard events) choice to decides =
+      left_then from.come (outs (question program offers)) from.come events to.come (outs_left (question program offers) from.come (outs (question program offers)) from.come (refl, refl)) (hears_left (length offers) decides.1)
+  decides_left from Lone choice to decides = outs_left (offer_lines program 1 offers) from.come (outs (offer_lines program 1 offers)) to.come (refl, ap (λ (supply : Supply). supply.come) decides.3)
+  decides_left from Drawn choice to decides = outs_left (offer_lines program 1 offers) from.come (outs (offer_lines program 1 offers)) to.come (refl, ap (λ (supply : Supply). supply.come) decides.3)
+
+  pub settles_left : (old : Spent) (choice : Choice) (new : Spent) (come : List ℕ) (events : List Event) (rest : List ℕ) → Settles program seed stage group offers old choice new come events rest → LeavesUnheard come events rest
+  settles_left old choice new come events rest settles = subst (λ es. LeavesUnheard come es rest) (sym settles.whole) (decides_left _ settles.how choice _ settles.decides)
+
+-- nothing was said of a step, or a front of its lines
+pub act_left : (program : Parts) (height : ℕ) (offers : List Offer) (place : ℕ) (old : Position) (come : List ℕ) (events : List Event) (rest : List ℕ) → BeginsAct program height offers place old come events rest → LeavesUnheard come events rest
+act_left program height offers place old come events rest (inl nothing) = outs_left [] come events rest nothing
+act_left program height offers place old come events rest (inr on) =
+    let acts = on.acts in
+    let none = sym (heard_append events on.more) ∙ ap heard_bytes acts.written ∙ outs_unheard (step_lines program acts.offer acts.rule acts.proofs) in
+    unheard_left come events rest (front_nil (heard_bytes events) (heard_bytes on.more) none) acts.untaken
+
+module _ (program : Parts) (settings : Settings) where
+  question_left : (at : Position) (from : Supply) (asked : Question) (to : Supply) → IsQuestion program settings at from asked to → LeavesUnheard from.come (question_events program asked) to.come
+  question_left at from asked to asks = decides_left program settings.seed at.spot.stage asked.group asked.offers from asked.how asked.choice to asks.decided
+
+  turn_left : (at : Position) (from : Supply) (turn : Turn) → IsTurn program settings at from turn → LeavesUnheard from.come (turn_events program turn) turn.left.come
+  turn_left at from turn is =
+      let lines = step_lines program turn.deed.offer turn.deed.rule turn.deed.proofs in
+      left_then from.come (question_events program turn.question) turn.left.come (outs lines) turn.left.come (question_left at from turn.question turn.left is.asks) (outs_left lines turn.left.come (outs lines) turn.left.come (refl, refl))
+
+  turns_left : (at : Position) (from : Supply) (turns : List Turn) (last : Position) (to : Supply) → AreTurns program settings at from turns last to → LeavesUnheard from.come (flat_map (turn_events program) turns) to.come
+  turns_left at from [] last to done = ap (λ (supply : Supply). supply.come) (sym done.1)
+  turns_left at from (turn ∷ turns) last to done =
+      left_then from.come (turn_events program turn) turn.left.come (flat_map (turn_events program) turns) to.come (turn_left at from turn done.0) (turns_left turn.deed.after turn.left turns last to done.1)
+
+  last_left : (at : Position) (from : Supply) (word : EndWord) (asked : Option Question) (to : Supply) → EndsAt program settings at from word asked to → LeavesUnheard from.come (last_events program asked) to.come
+  last_left at from word None to ends = ap (λ (supply : Supply). supply.come) (sym ends.1)
+  last_left at from word (Some asked) to ends = question_left at from asked to ends.0
+
+  -- some turns were done
+  pub so_left : (start here : Position) (spent : Spent) (offers : ℕ) (come : List ℕ) (events : List Event) (rest : List ℕ) → SoFar program settings start here spent offers come events rest → LeavesUnheard come events rest
+  so_left start here spent offers come events rest so = subst (λ es. LeavesUnheard come es rest) (sym so.written) (turns_left start (whole_supply come) so.turns here _ so.done)
+
+  -- all turns were done
+  pub whole_left : (word : EndWord) (start last : Position) (offers : ℕ) (come : List ℕ) (events : List Event) (rest : List ℕ) → IsWholeRun program settings word start last offers come events rest → LeavesUnheard come events rest
+  whole_left word start last offers come events rest runs =
+      let between = runs.between in
+      let turns = flat_map (turn_events program) runs.turns in
+      let all = left_then come turns between.come (last_events program runs.asked) runs.left.come (turns_left start (whole_supply come) runs.turns last between runs.done) (last_left last between word runs.asked runs.left runs.ends) in
+      subst (λ es. LeavesUnheard come es rest) (sym runs.written) (subst (λ left. LeavesUnheard come (turns ++ last_events program runs.asked) left) (sym runs.rest_is) all)
