@@ -1,5 +1,5 @@
 -- What a command came to is what is due of its words.
-use Rattle.std.proofs.Common.{◌≡◌, ◌⊎◌, inl, inr, ⊎_elim, ℕ, suc, ◌+◌, ◌<◌, List, [], ◌∷◌, ◌++◌, length, map, refl, sym, ap, ◌∙◌, subst, arith, append_assoc, lit<, Contains, Option, None, Some}
+use Rattle.std.proofs.Common.{◌≡◌, ◌⊎◌, inl, inr, ⊎_elim, ℕ, suc, ◌+◌, List, [], ◌∷◌, ◌++◌, length, map, refl, sym, ap, ◌∙◌, subst, arith, append_assoc, lit<, Contains, Option, None, Some}
 use Rattle.std.specs.Prelude.{◌≢◌, Ok, Err, unwrap_or}
 use Rattle.std.specs.Option.{option_map}
 use Rattle.std.proofs.lemmas.List.{append-nil}
@@ -15,9 +15,6 @@ use Rattle.cep_rule.specs.declared.parts.Parts.{Parts}
 use Rattle.cep_log.specs.declared.end_word.EndWord.{EndWord}
 use Rattle.cep_log.specs.declared.end_word.EndWord.TheVariants.{Quiet, Input, Turns, Offers, Typed, Atom, State}
 use Rattle.cep_log.specs.Lines.{line}
-use Rattle.cep_check.specs.declared.cause.Verdict.{Verdict}
-use Rattle.cep_check.specs.declared.cause.Verdict.TheVariants as verdicts
-use Rattle.cep_world.specs.World.{world}
 use Rattle.cep_words.specs.declared.options.Options.{Options}
 use Rattle.cep_words.specs.Words.{Request, Play, Check, World, AskFor, HaveNoForm}
 use Rattle.cep_term.specs.Multiset.{copies_in}
@@ -25,7 +22,6 @@ use Rattle.cep_run.specs.declared.settings.Settings.{Settings}
 use Rattle.cep_run.specs.declared.tally.Tally.{Tally}
 use Rattle.cep_run.specs.Run.{Turn, Ending, unproved, offers_listed}
 use Rattle.cep_run.specs.Said.{IsSaid, Says, IsTally}
-use Rattle.cep_play.specs.declared.loading.NoProgram.{NoProgram}
 use Rattle.cep_play.specs.declared.loading.NoProgram.TheVariants as none
 use Rattle.cep_play.specs.declared.play.Played.{Played}
 use Rattle.cep_play.specs.declared.play.Played.TheVariants as played

@@ -6,7 +6,6 @@ use Rattle.std.proofs.lemmas.List.{length-replicate}
 use Rattle.cep_base.specs.declared.limits.TheConstants.{MOST_LOG}
 use Rattle.cep_base.specs.declared.console.Event.{Event}
 use Rattle.cep_base.specs.declared.console.ConsoleFault.{ConsoleFault}
-use Rattle.cep_base.specs.declared.console.ConsoleFault.TheVariants as faults
 use Rattle.cep_base.specs.Files.{Files, HasFile, HasLongerFile}
 use Rattle.cep_rule.specs.declared.parts.Parts.{Parts}
 use Rattle.cep_refusal.specs.declared.refusal.Refusal.{Refusal}
@@ -23,18 +22,9 @@ use Rattle.cep_check.specs.declared.cause.Verdict.{Verdict}
 use Rattle.cep_check.specs.declared.cause.Verdict.TheVariants as verdicts
 use Rattle.cep_check.specs.Causes.{IsLogRefused, IsVerdict}
 use Rattle.cep_check.specs.Telling.{verdict_text, fault_text}
-use Rattle.cep_world.specs.World.{world}
 use Rattle.cep_play.specs.declared.loading.NoProgram.{NoProgram}
 use Rattle.cep_play.specs.declared.loading.NoProgram.TheVariants as none
-use Rattle.cep_play.specs.declared.play.Played.{Played}
-use Rattle.cep_play.specs.declared.play.Played.TheVariants as played
-use Rattle.cep_play.specs.declared.check.Found.{Found}
-use Rattle.cep_play.specs.declared.check.Found.TheVariants as found
-use Rattle.cep_play.specs.declared.check.Checked.{Checked}
-use Rattle.cep_play.specs.declared.check.Checked.TheVariants as checked
-use Rattle.cep_play.specs.declared.world.Toured.{Toured}
-use Rattle.cep_play.specs.declared.world.Toured.TheVariants as toured
-use Rattle.cep_play.specs.Command.{IsSpelledBy, refusal_text, no_program}
+use Rattle.cep_play.specs.Command.{IsSpelledBy, refusal_text}
 use Rattle.cep_play.specs.Check.{Rejects, too_long_text}
 use Rattle.cep_play.specs.Outcome.{Wrote, Refuses, IsProgramIn, HasNoProgram, accepts, TellsOf, code_without, CountsBy}
 

@@ -2,3 +2,4 @@ pub mod Judged
 pub mod Done
 pub mod Telling
 pub mod OneDue
+pub mod Begins

@@ -1,29 +1,15 @@
 -- What is due of words is one but for what is written.
 use Rattle.std.proofs.Common.{◌≡◌, inl, inr, ℕ, List, [], ◌∷◌, refl, sym, ap, ◌∙◌, subst, Some}
-use Rattle.cep_base.specs.declared.console.ConsoleFault.{ConsoleFault}
-use Rattle.cep_base.specs.declared.console.ConsoleFault.TheVariants as faults
 use Rattle.cep_base.specs.Files.{Files, HasFile}
 use Rattle.cep_base.proofs.Lists.{some_same}
 use Rattle.cep_rule.specs.declared.parts.Parts.{Parts}
 use Rattle.cep_ground.specs.Texts.{Spells}
-use Rattle.cep_check.specs.declared.cause.Verdict.{Verdict}
-use Rattle.cep_check.specs.declared.cause.Verdict.TheVariants as verdicts
 use Rattle.cep_world.specs.World.{world}
 use Rattle.cep_words.specs.declared.options.Options.{Options}
 use Rattle.cep_words.specs.Words.{Request, Play, Check, World}
 use Rattle.cep_run.specs.Run.{Ending}
 use Rattle.cep_run.specs.Said.{IsSaid}
-use Rattle.cep_play.specs.declared.loading.NoProgram.{NoProgram}
-use Rattle.cep_play.specs.declared.loading.NoProgram.TheVariants as none
-use Rattle.cep_play.specs.declared.play.Played.{Played}
-use Rattle.cep_play.specs.declared.play.Played.TheVariants as played
-use Rattle.cep_play.specs.declared.check.Found.{Found}
-use Rattle.cep_play.specs.declared.check.Found.TheVariants as found
-use Rattle.cep_play.specs.declared.check.Checked.{Checked}
-use Rattle.cep_play.specs.declared.check.Checked.TheVariants as checked
-use Rattle.cep_play.specs.declared.world.Toured.{Toured}
-use Rattle.cep_play.specs.declared.world.Toured.TheVariants as toured
-use Rattle.cep_play.specs.Command.{OfFile, no_program, settings_of}
+use Rattle.cep_play.specs.Command.{OfFile, settings_of}
 use Rattle.cep_play.specs.Outside.{Outside, Due, OfText, code_told}
 use Rattle.cep_play.specs.Play.{IsDialogueDue}
 use Rattle.cep_play.specs.Check.{IsVerdictDue}

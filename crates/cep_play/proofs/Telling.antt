@@ -2,8 +2,6 @@
 use Rattle.std.proofs.Common.{◌≡◌, ◌⊎◌, ◌==◌, inl, inr, ⊎_elim, ℕ, ◌<◌, Bool, true, false, List, [], ◌∷◌, refl, sym, ap, ◌∙◌, subst, lit<, arith, Contains, Option, None, Some}
 use Rattle.std.proofs.lemmas.Bool.{eqb-true, eqb-false}
 use Rattle.cep_base.specs.declared.console.Event.{Event}
-use Rattle.cep_base.specs.declared.console.ConsoleFault.{ConsoleFault}
-use Rattle.cep_base.specs.declared.console.ConsoleFault.TheVariants as faults
 use Rattle.cep_base.specs.Files.{Files, HasFile}
 use Rattle.cep_base.specs.Faults.{Rose}
 use Rattle.cep_base.proofs.Elements.{contains_none, contains_cases, contains_behind, contains_same, all_at}
@@ -12,28 +10,15 @@ use Rattle.cep_rule.specs.declared.parts.Parts.{Parts}
 use Rattle.cep_rule.specs.Program.{IsProgram}
 use Rattle.cep_ground.specs.Texts.{Spells}
 use Rattle.cep_log.specs.declared.log.Log.{Log}
-use Rattle.cep_check.specs.declared.cause.Verdict.{Verdict}
-use Rattle.cep_check.specs.declared.cause.Verdict.TheVariants as verdicts
 use Rattle.cep_world.specs.World.{world}
 use Rattle.cep_words.specs.declared.options.Options.{Options}
 use Rattle.cep_words.specs.Words.{Request, Play, Check, World, AskFor}
 use Rattle.cep_run.specs.declared.settings.Settings.{Settings}
 use Rattle.cep_run.specs.Run.{Turn, Ending}
 use Rattle.cep_run.specs.Dialogue.{Dialogue}
-use Rattle.cep_play.specs.declared.loading.NoProgram.{NoProgram}
-use Rattle.cep_play.specs.declared.loading.NoProgram.TheVariants as none
-use Rattle.cep_play.specs.declared.play.Played.{Played}
-use Rattle.cep_play.specs.declared.play.Played.TheVariants as played
-use Rattle.cep_play.specs.declared.check.Found.{Found}
-use Rattle.cep_play.specs.declared.check.Found.TheVariants as found
-use Rattle.cep_play.specs.declared.check.Checked.{Checked}
-use Rattle.cep_play.specs.declared.check.Checked.TheVariants as checked
-use Rattle.cep_play.specs.declared.world.Toured.{Toured}
-use Rattle.cep_play.specs.declared.world.Toured.TheVariants as toured
-use Rattle.cep_play.specs.Command.{OfRequest, Adds, no_program, settings_of}
+use Rattle.cep_play.specs.Command.{OfRequest, Adds, settings_of}
 use Rattle.cep_play.specs.Outside.{Due, code_told}
 use Rattle.cep_play.specs.Check.{IsLegalTranscript}
-use Rattle.cep_play.specs.World.{summary}
 use Rattle.cep_play.specs.Due.{IsDueOf, IsDue, IsDueUnreadOf, IsDueUnread}
 use Rattle.cep_play.specs.Answered.{IsOnShelf, EndsBy, TellsWhatIsDue}
 use Rattle.cep_play.proofs.Done.{IsOneRequest}
@@ -76,7 +61,7 @@ unread_among : (others : List ℕ) (code : ℕ) → Contains others 7 → code �
 unread_among others code has is = subst (Contains others) (sym is) has
 
 -- what is due of words is due of what they ask for
-asked_due : IsOneRequest → (words : List (List ℕ)) (request : Request) → AskFor words request → (P : Request → Type 0) → OfRequest words P → P request
+pub asked_due : IsOneRequest → (words : List (List ℕ)) (request : Request) → AskFor words request → (P : Request → Type 0) → OfRequest words P → P request
 asked_due one words request ask P of = subst P (one words of.0 request of.1 ask) of.2
 
 module _ (one : IsOneRequest)

@@ -16,12 +16,12 @@ use Rattle.cep_run.specs.Dialogue.{Dialogue}
 use Rattle.cep_play.specs.Command.{OfFile, IsSpelledBy, settings_of}
 use Rattle.cep_play.specs.Outside.{Due, code_told}
 use Rattle.cep_play.specs.Check.{IsLegalTranscript}
-use Rattle.cep_play.specs.Due.{IsDue, IsDueUnread}
+use Rattle.cep_play.specs.Due.{IsDueAtAll}
 
 -- What is due of the words was done, or what is due where a file could not be read: these are its events, this is left, its names were asked, and the status is its code.
 pub record DoesWhatIsDue (words : List (List ℕ)) (files : Option Files) (unread : Type 0) (asked : List (List ℕ) → Type 0) (code : ℕ) (come : List ℕ) (events : List Event) (rest : List ℕ) : Type 0 where
   pub due : Due
-  pub is : IsDue words (record { files = files; come = come }) due ⊎ (unread × IsDueUnread words (record { files = files; come = come }) due)
+  pub is : IsDueAtAll words unread (record { files = files; come = come }) due
   pub said : events ≡ due.events
   pub left : rest ≡ due.rest
   pub names : asked due.names

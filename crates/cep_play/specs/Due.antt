@@ -27,3 +27,7 @@ IsDueUnreadOf (World rooms options) outside due = ⊥
 -- this is due of words where a file could not be read
 abbrev pub IsDueUnread : List (List ℕ) → Outside → Due → Type 0
 IsDueUnread words outside due = OfRequest words (λ request. IsDueUnreadOf request outside due)
+
+-- this is due of words, whether all files could be read or one could not
+abbrev pub IsDueAtAll : List (List ℕ) → (unread : Type 0) → Outside → Due → Type 0
+IsDueAtAll words unread outside due = IsDue words outside due ⊎ (unread × IsDueUnread words outside due)

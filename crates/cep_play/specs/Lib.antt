@@ -5,4 +5,6 @@ pub mod Check
 pub mod World
 pub mod Due
 pub mod Answered
+pub mod Begun
 pub mod Outcome
+pub mod CutShort

@@ -1,5 +1,5 @@
 // Checks a transcript against a program, and tells what was found.
-ghost use Rattle.std.specs.Prelude.{◌≡◌, ◌≤◌, ◌++◌, ℕ, List, length, IfOk, OnOk};
+ghost use Rattle.std.specs.Prelude.{◌≡◌, ◌≤◌, ◌++◌, ℕ, List, length, IfOk, IfErr, OnOk, OnErr};
 ghost use Rattle.cep_base.specs.declared.limits.TheConstants.{MOST_LOG};
 ghost use Rattle.cep_base.specs.Faults.{Rose};
 ghost use Rattle.cep_base.specs.Talk.{ConsoleCause};
@@ -10,6 +10,7 @@ ghost use Rattle.cep_check.specs.Causes.{IsVerdict};
 ghost use Rattle.cep_check.specs.Telling.{verdict_text};
 ghost use Rattle.cep_play.specs.Check.{too_long_text};
 ghost use Rattle.cep_play.specs.Outcome.{Wrote, accepts, TellsOf, AreChecked, FindsTranscript, ChecksFile, code_found, code_checked, CountsBy, AsksFile, AsksFiles};
+ghost use Rattle.cep_play.specs.CutShort.{InVain, WroteFront, BeginsVerdict, BeginsFinding, BeginsCheck};
 
 use crate::loading::{NoProgram, program_in};
 use cep_base::limits::MOST_LOG;
@@ -128,6 +129,7 @@ fn check_bytes<C: Console, L: Ledger>(
 ) -> Result<bool, ConsoleFault>
     requires { length bytes.now ≤ MOST_LOG }
     ensures told { IfOk result (AreChecked C.talk C.left console.old console.new program.now bytes.now) }
+    ensures begun { IfErr result (λ fault. InVain fault (BeginsVerdict C.talk C.left console.old console.new program.now bytes.now) (console.new ≡ console.old)) }
     ensures cause { ConsoleCause (C.faults console.old) (C.faults console.new) result }
     ensures counted { steps.old ≤ steps.new }
 {
@@ -140,6 +142,7 @@ fn check_bytes<C: Console, L: Ledger>(
 /// Tells that a transcript is too long.
 fn put_too_long<C: Console>(console: &mut C) -> Result<(), ConsoleFault>
     ensures told { OnOk result (Wrote C.talk C.left console.old console.new (line too_long_text)) }
+    ensures begun { OnErr result (WroteFront C.talk C.left console.old console.new (line too_long_text)) }
     ensures cause { ConsoleCause (C.faults console.old) (C.faults console.new) result }
 {
     console.put(b"refused 0 TooLong\n")
@@ -155,6 +158,7 @@ fn check_transcript<C: Console, H: Shelf, L: Ledger>(
     steps: &mut Steps<L>,
 ) -> Result<Found, ConsoleFault>
     ensures outcome { IfOk result (FindsTranscript C.talk C.left console.old console.new (H.files shelf.old) program.now log.now) }
+    ensures begun { IfErr result (λ fault. InVain fault (BeginsFinding C.talk C.left console.old console.new (H.files shelf.old) (Rose (H.faults shelf.old) (H.faults shelf.new)) program.now log.now) (console.new ≡ console.old)) }
     ensures cause { ConsoleCause (C.faults console.old) (C.faults console.new) result }
     ensures faults { IfOk result (λ found. CountsBy (H.faults shelf.old) (H.faults shelf.new) (code_found found)) }
     ensures asked { AsksFile (H.asked shelf.old) log.now (H.asked shelf.new) result }
@@ -191,6 +195,7 @@ pub(crate) fn check_file<C: Console, H: Shelf, L: Ledger>(
     steps: &mut Steps<L>,
 ) -> Result<Checked, ConsoleFault>
     ensures outcome { IfOk result (ChecksFile C.talk C.left console.old console.new (H.files shelf.old) file.now log.now) }
+    ensures begun { IfErr result (λ fault. InVain fault (BeginsCheck C.talk C.left console.old console.new (H.files shelf.old) (Rose (H.faults shelf.old) (H.faults shelf.new)) (H.asked shelf.old) (H.asked shelf.new) file.now log.now) (console.new ≡ console.old)) }
     ensures cause { ConsoleCause (C.faults console.old) (C.faults console.new) result }
     ensures faults { IfOk result (λ checked. CountsBy (H.faults shelf.old) (H.faults shelf.new) (code_checked checked)) }
     ensures asked { AsksFiles (H.files shelf.old) (Rose (H.faults shelf.old) (H.faults shelf.new)) (H.asked shelf.old) file.now log.now (H.asked shelf.new) result }

@@ -1,11 +1,13 @@
 // The whole command: its words, and what they ask for.
-ghost use Rattle.std.specs.Prelude.{◌≡◌, ◌≢◌, ◌⊎◌, ◌<◌, ◌≤◌, [], ◌∷◌, map, string_bytes, IfOk, Contains};
+ghost use Rattle.std.specs.Prelude.{◌≡◌, ◌≢◌, ◌⊎◌, ◌<◌, ◌≤◌, [], ◌∷◌, map, string_bytes, IfOk, IfErr, Contains};
 ghost use Rattle.cep_base.specs.Talk.{Did, ConsoleCause};
 ghost use Rattle.cep_base.specs.Faults.{Rose};
 ghost use Rattle.cep_words.specs.Words.{HaveNoForm};
 ghost use Rattle.cep_play.specs.Command.{OfRequest, AsksFor, AsksUpTo, Adds};
 ghost use Rattle.cep_play.specs.Answered.{DoesWhatIsDue, IsNoDialogue, IsSpelled, IsWritten, TellsAllThatIsDue};
+ghost use Rattle.cep_play.specs.Begun.{BeginsWhatIsDue, AsksFrontOfAll};
 ghost use Rattle.cep_play.specs.Outcome.{CommandDid, AskedInVain};
+ghost use Rattle.cep_play.specs.CutShort.{InVain, BeginsCommand};
 
 use crate::check::check_file;
 use crate::laws::one_due;
@@ -31,6 +33,7 @@ fn command<C: Console, H: Shelf, L: Ledger>(
     steps: &mut Steps<L>,
 ) -> Result<u8, ConsoleFault>
     ensures done { IfOk result (CommandDid C.talk C.left console.old console.new (H.files shelf.old) (H.faults shelf.old) (H.faults shelf.new) (H.asked shelf.old) (H.asked shelf.new) (map string_bytes words.now)) }
+    ensures begun { IfErr result (λ fault. InVain fault (BeginsCommand C.talk C.left console.old console.new (map string_bytes words.now) (H.files shelf.old) (Rose (H.faults shelf.old) (H.faults shelf.new)) (H.asked shelf.old) (H.asked shelf.new)) (console.new ≡ console.old)) }
     ensures cause { ConsoleCause (C.faults console.old) (C.faults console.new) result }
     ensures asked { AskedInVain (H.files shelf.old) (Rose (H.faults shelf.old) (H.faults shelf.new)) (H.asked shelf.old) (map string_bytes words.now) (H.asked shelf.new) result }
     ensures files { H.files shelf.new ≡ H.files shelf.old }
@@ -80,7 +83,8 @@ fn command<C: Console, H: Shelf, L: Ledger>(
 /// | 7 | a file could not be read; the line that says which was written |
 /// | 9 | memory ran out |
 ///
-/// After 6 and 9 some of what was due may be missing at the end. `steps` counts matching steps.
+/// After 6 what was said and heard is a front of something that is due, and after 9 too, or nothing was
+/// said and heard. `steps` counts matching steps.
 pub fn ceptre<C: Console, H: Shelf, L: Ledger>(
     alloc: Global,
     words: &[String],
@@ -96,6 +100,13 @@ pub fn ceptre<C: Console, H: Shelf, L: Ledger>(
     ensures written { result ≢ 6 → result ≢ 9 → IsNoDialogue (map string_bytes words.now) result → IsWritten C.talk C.left console.old console.new
         (map string_bytes words.now) (H.files shelf.old) (Rose (H.faults shelf.old) (H.faults shelf.new)) (Adds (H.asked shelf.old) (H.asked shelf.new)) result }
     ensures spelled { IsSpelled (map string_bytes words.now) (H.files shelf.old) result }
+
+    // Where the console failed, what was said and heard begins something that is due; and where memory ran out too, or else nothing was done with the console.
+    ensures begun { result ≡ 6 → Did C.talk C.left console.old console.new
+        (BeginsWhatIsDue (map string_bytes words.now) (H.files shelf.old) (Rose (H.faults shelf.old) (H.faults shelf.new)) (Adds (H.asked shelf.old) (H.asked shelf.new))) }
+    ensures begun_or_silent { result ≡ 9 → Did C.talk C.left console.old console.new
+        (BeginsWhatIsDue (map string_bytes words.now) (H.files shelf.old) (Rose (H.faults shelf.old) (H.faults shelf.new)) (Adds (H.asked shelf.old) (H.asked shelf.new)))
+        ⊎ ((console.new ≡ console.old) × AsksFrontOfAll (map string_bytes words.now) (H.files shelf.old) (Adds (H.asked shelf.old) (H.asked shelf.new))) }
 
     // Whatever comes, the status tells what is due: a run is there whatever is typed, and the status tells how it ends, or whether a transcript is legal.
     ensures due { TellsAllThatIsDue (map string_bytes words.now) (H.files shelf.old) (C.left console.old) result }

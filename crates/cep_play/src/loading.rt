@@ -1,5 +1,5 @@
 // Reads the text of a program, and tells why there is none.
-ghost use Rattle.std.specs.Prelude.{◌≡◌, ◌++◌, IfOk, IfErr, IsErrOf, OnOk};
+ghost use Rattle.std.specs.Prelude.{◌≡◌, ◌++◌, IfOk, IfErr, IsErrOf, OnOk, OnErr};
 ghost use Rattle.cep_base.specs.declared.console.ConsoleFault.TheVariants.{Failed};
 ghost use Rattle.cep_base.specs.Faults.{Rose};
 ghost use Rattle.cep_base.specs.Talk.{ConsoleCause};
@@ -7,6 +7,7 @@ ghost use Rattle.cep_log.specs.Lines.{line};
 ghost use Rattle.cep_play.specs.declared.loading.NoProgram.TheVariants.{Refused};
 ghost use Rattle.cep_play.specs.Command.{IsProgramText, IsSpelledBy, refusal_text};
 ghost use Rattle.cep_play.specs.Outcome.{Wrote, Refuses, IsProgramIn, NoneIsRead, HasNoProgram, code_without, CountsBy, AsksFile};
+ghost use Rattle.cep_play.specs.CutShort.{InVain, WroteFront, BeginsRefusal, BeginsNoProgram};
 
 use cep_base::limits::MOST_TEXT;
 use cep_base::{Console, ConsoleFault, Shelf, ShelfFault, Text};
@@ -56,6 +57,7 @@ fn put_refusal(out: &mut Text, refusal: Refusal) -> Result<(), AllocError>
 /// Writes why a text is refused.
 fn refuse<C: Console>(alloc: Global, refusal: Refusal, console: &mut C) -> Result<(), ConsoleFault>
     ensures told { OnOk result (Wrote C.talk C.left console.old console.new (line (refusal_text refusal))) }
+    ensures begun { OnErr result (WroteFront C.talk C.left console.old console.new (line (refusal_text refusal))) }
     ensures cause { ConsoleCause (C.faults console.old) (C.faults console.new) result }
 {
     let mut line = Text::new(alloc);
@@ -72,6 +74,7 @@ pub(crate) fn program_of<C: Console>(
     ensures program { IfOk result (λ found. IfOk found (λ program. IsSpelledBy program text.now × (console.new ≡ console.old))) }
     ensures refused { IfOk result (λ found. IfErr found (λ why. (why ≡ Refused) × Refuses C.talk C.left console.old console.new text.now)) }
     ensures failed { IsErrOf result Failed → ¬ (IsProgramText text.now) }
+    ensures begun { IfErr result (λ fault. InVain fault (BeginsRefusal C.talk C.left console.old console.new text.now) (console.new ≡ console.old)) }
     ensures cause { ConsoleCause (C.faults console.old) (C.faults console.new) result }
 {
     one_program();
@@ -96,6 +99,7 @@ pub(crate) fn program_in<C: Console, H: Shelf>(
     ensures none { IfOk result (λ found. IfErr found (HasNoProgram C.talk C.left console.old console.new (H.files shelf.old) file.now)) }
     ensures faults { IfOk result (λ found. IfErr found (λ why. CountsBy (H.faults shelf.old) (H.faults shelf.new) (code_without why))) }
     ensures failed { IsErrOf result Failed → NoneIsRead (H.files shelf.old) (Rose (H.faults shelf.old) (H.faults shelf.new)) file.now }
+    ensures begun { IfErr result (λ fault. InVain fault (BeginsNoProgram C.talk C.left console.old console.new (H.files shelf.old) (Rose (H.faults shelf.old) (H.faults shelf.new)) file.now) (console.new ≡ console.old)) }
     ensures cause { ConsoleCause (C.faults console.old) (C.faults console.new) result }
     ensures asked { AsksFile (H.asked shelf.old) file.now (H.asked shelf.new) result }
     ensures files { H.files shelf.new ≡ H.files shelf.old }

@@ -1,12 +1,15 @@
 // Plays the program in a file.
-ghost use Rattle.std.specs.Prelude.{◌≡◌, ◌≤◌, IfOk};
+ghost use Rattle.std.specs.Prelude.{◌≡◌, ◌≤◌, IfOk, IfErr, OnErr};
+ghost use Rattle.cep_base.specs.Faults.{Rose};
 ghost use Rattle.cep_base.specs.Talk.{ConsoleCause};
 ghost use Rattle.cep_log.specs.declared.end_word.EndWord.{EndWord};
 ghost use Rattle.cep_words.specs.Words.{AreWithin};
-ghost use Rattle.cep_run.specs.Said.{Says};
+ghost use Rattle.cep_run.specs.Fronts.{FellShort};
+ghost use Rattle.cep_run.specs.Said.{Says, IsSomeSaid};
 ghost use Rattle.cep_play.specs.Command.{settings_of};
 ghost use Rattle.cep_play.specs.Outside.{code_told};
 ghost use Rattle.cep_play.specs.Outcome.{PlaysFile, code_played, CountsBy, AsksFile};
+ghost use Rattle.cep_play.specs.CutShort.{InVain, BeginsPlay};
 
 use crate::loading::{NoProgram, program_in};
 use crate::settings::settings_of;
@@ -60,6 +63,7 @@ fn play_program<C: Console, L: Ledger>(
 ) -> Result<EndWord, ConsoleFault>
     requires within { AreWithin options }
     ensures said { IfOk result (λ word. Says C.talk C.left console.old console.new program.now (settings_of program.now options) (λ turns ending. ending.word ≡ word)) }
+    ensures begun { OnErr result (FellShort C.talk C.left console.old console.new (λ come. come) (IsSomeSaid program.now (settings_of program.now options))) }
     ensures counted { steps.old ≤ steps.new }
     ensures cause { ConsoleCause (C.faults console.old) (C.faults console.new) result }
 {
@@ -80,6 +84,7 @@ pub(crate) fn play_file<C: Console, H: Shelf, L: Ledger>(
     requires { AreWithin options }
     ensures outcome { IfOk result (PlaysFile C.talk C.left console.old console.new (H.files shelf.old) file.now options) }
     ensures cause { ConsoleCause (C.faults console.old) (C.faults console.new) result }
+    ensures begun { IfErr result (λ fault. InVain fault (BeginsPlay C.talk C.left console.old console.new (H.files shelf.old) (Rose (H.faults shelf.old) (H.faults shelf.new)) file.now options) (console.new ≡ console.old)) }
     ensures faults { IfOk result (λ played. CountsBy (H.faults shelf.old) (H.faults shelf.new) (code_played played)) }
     ensures asked { AsksFile (H.asked shelf.old) file.now (H.asked shelf.new) result }
     ensures files { H.files shelf.new ≡ H.files shelf.old }

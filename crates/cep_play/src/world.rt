@@ -8,6 +8,7 @@ ghost use Rattle.cep_play.specs.declared.loading.NoProgram.TheVariants.{Refused}
 ghost use Rattle.cep_play.specs.Command.{IsSpelledBy};
 ghost use Rattle.cep_play.specs.World.{summary, IsTallied};
 ghost use Rattle.cep_play.specs.Outcome.{Wrote, Refuses, RunsWorld, code_toured};
+ghost use Rattle.cep_play.specs.CutShort.{InVain, BeginsRefusal, BeginsSummary, BeginsTour};
 
 use crate::loading::{NoProgram, program_of};
 use crate::play::code_of;
@@ -57,6 +58,7 @@ fn tour_program<C: Console, L: Ledger>(
     requires { AreWithin options }
     ensures tallied { IfOk result (IsTallied program.now options) }
     ensures summed { IfOk result (λ tally. Wrote C.talk C.left console.old console.new (summary rooms (unwrap_or options.seed DEFAULT_SEED) tally)) }
+    ensures begun { IfErr result (λ fault. InVain fault (BeginsSummary C.talk C.left console.old console.new program.now rooms options) (console.new ≡ console.old)) }
     ensures counted { steps.old ≤ steps.new }
     ensures cause { ConsoleCause (C.faults console.old) (C.faults console.new) result }
 {
@@ -80,6 +82,7 @@ fn program_of_world<C: Console>(
     requires { IsUpTo MOST_WORLD rooms }
     ensures program { IfOk result (λ found. IfOk found (λ program. IsSpelledBy program (world rooms) × (console.new ≡ console.old))) }
     ensures refused { IfOk result (λ found. IfErr found (λ why. (why ≡ Refused) × Refuses C.talk C.left console.old console.new (world rooms))) }
+    ensures begun { IfErr result (λ fault. InVain fault (BeginsRefusal C.talk C.left console.old console.new (world rooms)) (console.new ≡ console.old)) }
     ensures cause { ConsoleCause (C.faults console.old) (C.faults console.new) result }
 {
     let text = world_text(alloc, rooms)?;
@@ -97,6 +100,7 @@ pub(crate) fn run_world<C: Console, L: Ledger>(
     requires rooms { IsUpTo MOST_WORLD rooms }
     requires within { AreWithin options }
     ensures outcome { IfOk result (RunsWorld C.talk C.left console.old console.new rooms options) }
+    ensures begun { IfErr result (λ fault. InVain fault (BeginsTour C.talk C.left console.old console.new rooms options) (console.new ≡ console.old)) }
     ensures counted { steps.old ≤ steps.new }
     ensures cause { ConsoleCause (C.faults console.old) (C.faults console.new) result }
 {

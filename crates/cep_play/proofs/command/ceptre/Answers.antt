@@ -1,6 +1,11 @@
-use Rattle.std.proofs.Common.{◌≡◌, map, refl, lit<, inl, inr}
-use Rattle.std.specs.Prelude.{string_bytes}
+use Rattle.std.proofs.Common.{◌≡◌, map, refl, lit<, inl, inr, ⊎_elim, subst}
+use Rattle.std.specs.Prelude.{string_bytes, Err}
+use Rattle.cep_base.specs.declared.console.ConsoleFault.{ConsoleFault}
+use Rattle.cep_base.specs.Faults.{Rose}
+use Rattle.cep_play.specs.Outcome.{AskedInVain}
+use Rattle.cep_play.specs.CutShort.{InVain, BeginsCommand}
 use Rattle.cep_play.proofs.Telling.{tells_what_is_due, tells_anyway, among_all, fails_by, is_no_fault}
+use Rattle.cep_play.proofs.Begins.{fronts_asked}
 use Rattle.cep_play.proofs.command.ceptre.Goals as goal
 
 pub returns-in-Ok-clause-answered : goal.returns-in-Ok-clause-answered
@@ -57,3 +62,23 @@ returns-in-Err-Memory-clause-no_other g c = (7, lit< tt, refl)
 
 pub returns-in-Err-Memory-clause-shelf_fails : goal.returns-in-Err-Memory-clause-shelf_fails
 returns-in-Err-Memory-clause-shelf_fails g c = λ _. (2, lit< tt, refl)
+
+pub returns-in-Ok-clause-begun : goal.returns-in-Ok-clause-begun
+returns-in-Ok-clause-begun g c = λ six. absurd (is_no_fault c.in-Ok.code c.in-Ok.ensures.done.among (inl six))
+
+pub returns-in-Ok-clause-begun_or_silent : goal.returns-in-Ok-clause-begun_or_silent
+returns-in-Ok-clause-begun_or_silent g c = λ nine. absurd (is_no_fault c.in-Ok.code c.in-Ok.ensures.done.among (inr nine))
+
+pub returns-in-Err-Failed-clause-begun : goal.returns-in-Err-Failed-clause-begun
+returns-in-Err-Failed-clause-begun g c = λ six. rw c.in-Err-Failed.field-0-is at c.in-Err-Failed.ensures.begun
+
+pub returns-in-Err-Memory-clause-begun_or_silent : goal.returns-in-Err-Memory-clause-begun_or_silent
+returns-in-Err-Memory-clause-begun_or_silent g c = λ nine.
+    let words = map string_bytes c.args.words.now in
+    let files = g.H.Shelf.files c.args.shelf.now in
+    let unread = Rose (g.H.Shelf.faults c.args.shelf.now) (g.H.Shelf.faults c.command.new.shelf) in
+    let before = g.H.Shelf.asked c.args.shelf.now in
+    let after = g.H.Shelf.asked c.command.new.shelf in
+    let asked = subst (λ (fault : ConsoleFault). AskedInVain files unread before words after (Err fault)) c.in-Err-Memory.field-0-is c.in-Err-Memory.ensures.asked in
+    ⊎_elim (λ begun. inl begun) (λ same. inr (same, fronts_asked c.one_request.ensures words files before after asked))
+    (subst (λ (fault : ConsoleFault). InVain fault (BeginsCommand g.C.Console.talk g.C.Console.left c.args.console.now c.command.new.console words files unread before after) (c.command.new.console ≡ c.args.console.now)) c.in-Err-Memory.field-0-is c.in-Err-Memory.ensures.begun)

@@ -1,11 +1,14 @@
-use Rattle.std.proofs.Common.{◌≡◌, map, refl, sym, subst}
+use Rattle.std.proofs.Common.{map, refl, sym, subst}
 use Rattle.std.specs.Prelude.{string_bytes, Ok, Err}
+use Rattle.std.proofs.lemmas.Result.{err_from_is_err_and}
 use Rattle.cep_base.specs.Faults.{Rose}
 use Rattle.cep_words.specs.declared.request.Request as code
 use Rattle.cep_words.specs.Words.{AskFor}
 use Rattle.cep_words.specs.Requests.{request_of}
 use Rattle.cep_play.specs.declared.play.Played.{Played}
 use Rattle.cep_play.specs.Outcome.{PlaysFile, ChecksFile, AsksFile, AsksFiles, CommandDid}
+use Rattle.cep_play.specs.CutShort.{BeginsPlay, BeginsCheck}
+use Rattle.cep_play.proofs.Begins.{in_vain, begun_in_vain, raised, play_begun, check_begun, tour_begun, usage_begun}
 use Rattle.cep_play.proofs.Done.{play_done, check_done, tour_done, usage_done, adds_none, played_in_vain, checked_in_vain, toured_in_vain}
 use Rattle.cep_play.proofs.command.command.Goals as goal
 
@@ -104,3 +107,67 @@ run_world-requires-clause-rooms g c =
 pub run_world-requires-clause-within : goal.run_world-requires-clause-within
 run_world-requires-clause-within g c =
     (subst (λ (request : code.Request). AskFor (map string_bytes c.args.words.now) (request_of request)) c.in-Some-World.field-0-is c.in-Some-World.ensures).1.2.0
+
+pub returns-in-Err-clause-begun : goal.returns-in-Err-clause-begun
+returns-in-Err-clause-begun g c =
+    let talk = g.C.Console.talk in
+    let left = g.C.Console.left in
+    let old = c.args.console.now in
+    let files = g.H.Shelf.files c.args.shelf.now in
+    let asked = g.H.Shelf.asked in
+    let words = map string_bytes c.args.words.now in
+    let new = c.play_file.new.console in
+    let unread = Rose (g.H.Shelf.faults c.args.shelf.now) (g.H.Shelf.faults c.play_file.new.shelf) in
+    let in_arm = c.in-Some-Play in
+    let fault = c.in-Err.fault in
+    in_vain fault _ _ _ _ (λ begun.
+    play_begun talk left old new words files unread (asked c.args.shelf.now) (asked c.play_file.new.shelf) (string_bytes in_arm.file.now) in_arm.options fault
+    (subst (λ (request : code.Request). AskFor words (request_of request)) c.in-Some-Play.field-0-is c.in-Some-Play.ensures)
+    (subst (λ name. AsksFile {T = Played} (asked c.args.shelf.now) name (asked c.play_file.new.shelf) (Err fault)) c.as_str-file.ensures.value c.in-Err.ensures.asked)
+    (subst (λ name. BeginsPlay talk left old new files unread name in_arm.options) c.as_str-file.ensures.value begun)) (λ same. same) c.in-Err.ensures.begun
+
+pub returns-in-Err-check_file-clause-begun : goal.returns-in-Err-check_file-clause-begun
+returns-in-Err-check_file-clause-begun g c =
+    let talk = g.C.Console.talk in
+    let left = g.C.Console.left in
+    let old = c.args.console.now in
+    let files = g.H.Shelf.files c.args.shelf.now in
+    let asked = g.H.Shelf.asked in
+    let words = map string_bytes c.args.words.now in
+    let new = c.check_file.new.console in
+    let unread = Rose (g.H.Shelf.faults c.args.shelf.now) (g.H.Shelf.faults c.check_file.new.shelf) in
+    let before = asked c.args.shelf.now in
+    let after = asked c.check_file.new.shelf in
+    let in_arm = c.in-Some-Check in
+    in_vain c.in-Err-check_file.fault _ _ _ _ (λ begun.
+    check_begun talk left old new words files unread before after (string_bytes in_arm.file.now) (string_bytes in_arm.log.now) (subst (λ (request : code.Request). AskFor words (request_of request)) c.in-Some-Check.field-0-is c.in-Some-Check.ensures)
+    (subst (λ name. BeginsCheck talk left old new files unread before after name (string_bytes in_arm.log.now)) c.as_str-file-in-Some-Check.ensures.value
+    (subst (λ log. BeginsCheck talk left old new files unread before after c.as_str-file-in-Some-Check.result.now log) c.as_str-log.ensures.value begun))) (λ same. same) c.in-Err-check_file.ensures.begun
+
+pub returns-in-Err-run_world-clause-begun : goal.returns-in-Err-run_world-clause-begun
+returns-in-Err-run_world-clause-begun g c =
+    let talk = g.C.Console.talk in
+    let left = g.C.Console.left in
+    let old = c.args.console.now in
+    let files = g.H.Shelf.files c.args.shelf.now in
+    let asked = g.H.Shelf.asked in
+    let words = map string_bytes c.args.words.now in
+    let faults = g.H.Shelf.faults c.args.shelf.now in
+    let in_arm = c.in-Some-World in
+    in_vain c.in-Err-run_world.fault _ _ _ _ (λ begun.
+    tour_begun talk left old c.run_world.new.console words files (Rose faults faults) (asked c.args.shelf.now) (asked c.args.shelf.now) in_arm.rooms in_arm.options
+    (subst (λ (request : code.Request). AskFor words (request_of request)) c.in-Some-World.field-0-is c.in-Some-World.ensures) refl begun) (λ same. same) c.in-Err-run_world.ensures.begun
+
+pub returns-in_err-put-in-None-clause-begun : goal.returns-in_err-put-in-None-clause-begun
+returns-in_err-put-in-None-clause-begun g c =
+    let talk = g.C.Console.talk in
+    let left = g.C.Console.left in
+    let old = c.args.console.now in
+    let files = g.H.Shelf.files c.args.shelf.now in
+    let asked = g.H.Shelf.asked in
+    let words = map string_bytes c.args.words.now in
+    let faults = g.H.Shelf.faults c.args.shelf.now in
+    let failed = err_from_is_err_and c.from_residual.result c.from_residual.ensures.1 in
+    let wrote = c.in_err-put-in-None.ensures in
+    raised c.from_residual.result _ _ _ failed.0 failed.1 refl (begun_in_vain failed.0 _ _
+    (usage_begun talk left old c.put.new.self words files (Rose faults faults) (asked c.args.shelf.now) (asked c.args.shelf.now) c.in-None.ensures refl (wrote.part.0, wrote.part.1, wrote.left)))

@@ -1,6 +1,8 @@
 use Rattle.std.proofs.Common.{◌≡◌, sym, subst}
 use Rattle.cep_run.specs.declared.settings.Settings.{Settings}
-use Rattle.cep_run.specs.Said.{Says, IsTally}
+use Rattle.cep_run.specs.Fronts.{FellShort}
+use Rattle.cep_run.specs.Said.{Says, IsTally, IsSomeSaid}
+use Rattle.cep_base.proofs.Outcomes.{on_err}
 use Rattle.cep_play.specs.Command.{settings_of}
 use Rattle.cep_play.proofs.Done.{says_less}
 use Rattle.cep_play.proofs.play.play_program.Goals as goal
@@ -12,3 +14,9 @@ returns-clause-said g c =
     says_less g.C.Console.talk g.C.Console.left c.args.console.now c.play.new.console program (settings_of program c.args.options) (λ turns ending. IsTally turns ending tally) (λ turns ending. ending.word ≡ tally.word)
     (λ turns ending is. sym is.word)
     (subst (λ (settings : Settings). Says g.C.Console.talk g.C.Console.left c.args.console.now c.play.new.console program settings (λ turns ending. IsTally turns ending tally)) c.settings_of-settings.ensures.settings c.in_ok-tally.ensures.said)
+
+pub returns-in_err-tally-clause-begun : goal.returns-in_err-tally-clause-begun
+returns-in_err-tally-clause-begun g c =
+    let program = c.args.program.now in
+    on_err c.from_residual.result _
+    (subst (λ (settings : Settings). FellShort g.C.Console.talk g.C.Console.left c.args.console.now c.play.new.console (λ come. come) (IsSomeSaid program settings)) c.settings_of-settings.ensures.settings c.in_err-tally.ensures.begun)
