@@ -1,6 +1,6 @@
 // Consoles and shelves that fail, and transcripts that are cut: what stands then is right as far as it
 // goes.
-use crate::tests::outside::{Outcome, shelf_of, status, written};
+use crate::tests::outside::{Outcome, run_line, shelf_of, status, written};
 use cep_base::{MemConsole, MemShelf};
 use cep_tests_samples::{spelled, walk};
 use std::alloc::{AllocError, Global};
@@ -59,10 +59,46 @@ fn a_console_that_fails_at_any_call_leaves_a_front(rt: HostRuntime) -> Result<()
     Ok(())
 }
 
-// A shelf with a program and a transcript, of whose loads that of this number fails.
-fn failing(alloc: Global, (text, log): (&str, &str), load: u64) -> Result<MemShelf, AllocError> {
+// A shelf with a program and a transcript.
+fn shelf_with(alloc: Global, (text, log): (&str, &str)) -> Result<MemShelf, AllocError> {
     let mut shelf = shelf_of(alloc, text)?;
     shelf.file("g", log.as_bytes())?;
+    Ok(shelf)
+}
+
+// What is written where the first call of the console fails is a front of what is written else, and
+// some of it.
+fn expect_begun(
+    rt: &impl Abort,
+    alloc: Global,
+    line: &str,
+    sample: (&str, &str),
+) -> Result<(), Fail> {
+    let mut shelf = shelf_with(alloc, sample)?;
+    let whole = run_line(alloc, line, &mut shelf, "")?;
+    let mut console = MemConsole::new(alloc, b"", &[1])?;
+    assert_eq!(rt; status(alloc, line, &mut console, &mut shelf)?, 6);
+    let begun = written(alloc, console.talk())?;
+    assert!(rt; !begun.is_empty());
+    assert!(rt; whole.written.starts_with(begun.as_str()));
+    Ok(())
+}
+
+#[test]
+fn a_console_that_fails_at_once_leaves_a_front_of_the_line(rt: HostRuntime) -> Result<(), Fail> {
+    let sample = spelled(rt.alloc(), walk())?;
+    let sample = sample.split_once("-\n").ok_or("nothing said")?;
+    expect_begun(&rt, rt.alloc(), "check f g", sample)?;
+    expect_begun(&rt, rt.alloc(), "check f f", sample)?;
+    expect_begun(&rt, rt.alloc(), "check g g", sample)?;
+    expect_begun(&rt, rt.alloc(), "play h", sample)?;
+    expect_begun(&rt, rt.alloc(), "world 1", sample)?;
+    expect_begun(&rt, rt.alloc(), "play", sample)
+}
+
+// The same, and the load of this number fails.
+fn failing(alloc: Global, sample: (&str, &str), load: u64) -> Result<MemShelf, AllocError> {
+    let mut shelf = shelf_with(alloc, sample)?;
     shelf.fail(load)?;
     Ok(shelf)
 }
