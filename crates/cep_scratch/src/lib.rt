@@ -11,6 +11,7 @@
 
 mod backs;
 mod candidates;
+mod completing;
 mod first;
 mod groups;
 pub mod laws;
@@ -18,5 +19,6 @@ mod partial;
 mod scratch;
 mod search;
 
+pub use completing::completions;
 pub use first::applies_any;
 pub use scratch::Scratch;
