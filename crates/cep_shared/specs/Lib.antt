@@ -1,0 +1,7 @@
+pub mod Asked
+pub mod Codes
+pub mod Derived
+pub mod Falling
+pub mod Links
+pub mod Shared
+pub mod Sizes
