@@ -8,7 +8,7 @@ use std::process::Abort;
 use std::test::Fail;
 
 // The program that asks this goal, by these declarations and clauses.
-fn program_asking(alloc: Global, clauses: &str, goal: &str) -> Result<Program, Fail> {
+pub fn program_asking(alloc: Global, clauses: &str, goal: &str) -> Result<Program, Fail> {
     let text = format!(in alloc;
         "{clauses}\nstage main = {{ r : {goal} -o (). }} #interactive main. #trace _ main {{}}."
     )?;

@@ -11,6 +11,8 @@ mod derivations;
 #[cfg(test)]
 mod fakes;
 #[cfg(test)]
+mod levels;
+#[cfg(test)]
 mod reading;
 #[cfg(test)]
 mod sample;
