@@ -3,28 +3,49 @@
 // is known, the goal, and a number for each height.
 use crate::answers::program_asking;
 use crate::asking::count;
+use cep_rule::Program;
 use std::alloc::Global;
 use std::process::Abort;
 use std::test::Fail;
+
+// The height behind this one.
+fn next_height(height: u32) -> Result<u32, Fail> {
+    if height >= 8 {
+        return Err(Fail::from("many heights"));
+    }
+    Ok(height + 1)
+}
+
+// There are as many answers within the height as the word says.
+fn expect_count(
+    rt: &impl Abort,
+    alloc: Global,
+    program: &Program,
+    (first, height): (&str, u32),
+    word: &str,
+) -> Result<(), Fail> {
+    let wanted = word.parse::<usize>().ok().ok_or("no number")?;
+    let told = count(alloc, program, first, height)?;
+    assert_eq!(rt; told, wanted, "at {}", height);
+    Ok(())
+}
 
 // The goal of the line has these numbers of answers.
 fn expect_line(rt: &impl Abort, alloc: Global, clauses: &str, line: &str) -> Result<(), Fail> {
     let (first, rest) = line.split_once('|').ok_or("no value")?;
     let (goal, counts) = rest.split_once('|').ok_or("no goal")?;
     let program = program_asking(alloc, clauses, goal)?;
-    let mut counts = counts.split(' ');
-    for height in 1..9 {
-        let wanted = counts.next().ok_or("no count")?;
-        let wanted = wanted.parse::<usize>().ok().ok_or("no number")?;
-        let told = count(alloc, &program, first, height)?;
-        assert!(rt; told == wanted, "{} at {}", line, height);
+    let mut height = 0;
+    for word in counts.split(' ') {
+        height = next_height(height)?;
+        expect_count(rt, alloc, &program, (first, height), word)?;
     }
     Ok(())
 }
 
 // So it is with each line of a table.
 fn expect_lines(rt: &impl Abort, alloc: Global, clauses: &str, table: &str) -> Result<(), Fail> {
-    for line in table.lines() {
+    for line in table.split('\n') {
         expect_line(rt, alloc, clauses, line)?;
     }
     Ok(())
