@@ -6,6 +6,7 @@ pub mod Ordered
 pub mod Values
 pub mod Groundness
 pub mod Derived
+pub mod Extended
 pub mod Filled
 pub mod RuleMatches
 pub mod Collecting
