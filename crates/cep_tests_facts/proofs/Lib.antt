@@ -1,4 +1,5 @@
 mod Buying
 mod Held
+mod Kept
 mod Sealing
 mod Spelled
