@@ -97,6 +97,8 @@ module _ (laws : StepLaws) (signature : Signature) (rule : Rule) (values : List 
             step = step;
             is_state = is_state;
             can = record {
+              here = can.fits;
+              there = contained;
               ground = subst (AllByRecursion IsGroundAtom) (sym gains_are) (laws.bags.gained_ground (is_fact signature) state added (added_ground added added_is));
               fits = weight.0;
             };

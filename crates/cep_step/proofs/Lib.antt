@@ -4,3 +4,4 @@ pub mod Weights
 pub mod Ready
 pub mod Entries
 pub mod Edits
+pub mod Order

@@ -23,8 +23,10 @@ use Rattle.cep_step.specs.Passing.{IsFirstTooLarge, IsTooFull}
 abbrev pub edited : Multiset → Change → Multiset
 edited state change = sum_of (difference_of state change.taken) (gathered change.gains)
 
--- A change that can be made to a state: what is gained is ground, and the state after it fits.
+-- A change that can be made to a state: the state fits and contains what is taken, what is gained is ground, and the state after it fits.
 pub record CanEdit (state : Multiset) (change : Change) : Type 0 where
+  pub here : Fits state
+  pub there : IsContained change.taken state
   pub ground : AllByRecursion IsGroundAtom change.gains
   pub fits : Fits (edited state change)
 

@@ -21,13 +21,18 @@ pub struct Change {
 
 impl Change {
     /// Edits the state in place: takes what is taken, and adds what is gained. Only want of memory is
-    /// refused, and then the state may be any.
+    /// refused, and then the state may be any. What is gained comes first, so that an atom that is taken
+    /// and added keeps its place in the state.
     pub fn edit(&self, state: &mut Bag) -> Result<(), AllocError>
         requires { CanEdit state.old self.now }
         ensures { OnOk result (state.new ≡ edited state.old self.now) }
     {
         bags_are_lawful();
+        // By these calls the proof learns that both are multisets of ground atoms.
+        let _ = state.copies();
+        let _ = self.taken.copies();
+        state.add_all(&self.gains)?;
         state.take_all(&self.taken);
-        state.add_all(&self.gains)
+        Ok(())
     }
 }
