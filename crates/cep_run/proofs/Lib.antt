@@ -2,6 +2,7 @@ pub mod Hearing
 pub mod Unheard
 pub mod HearsThere
 pub mod StepThere
+pub mod Counting
 pub mod DecisionThere
 pub mod RunThere
 pub mod DialogueThere

@@ -83,19 +83,21 @@ module _ (program : Parts) (settings : Settings) (one : IsOneDialogue) (to_the_b
       record { more = front.more; left = front.left; whole = dialogue_said (λ turns ending. Unit {0}) whole.0 whole.1 come (events ++ front.more) front.left whole.2 tt }
 
 -- what is told is what is said, with its tally
-pub is_said : (program : Parts) (settings : Settings) (tally : Tally) (last : Position) → IsOneDialogue → IsOneToTheByte → AreAllDeeds → AreAllCounted → HaveLogs → IsProgram program → IsHeight settings.height
+pub is_said : (program : Parts) (settings : Settings) (counts : List Deed → Type 0) (tally : Tally) (last : Position) → IsOneDialogue → IsOneToTheByte → AreAllDeeds → AreAllCounted → HaveLogs → IsProgram program → IsHeight settings.height
     → tally.turns ≡ last.turns → tally.copies ≡ copies_in last.spot.state
-    → (come : List ℕ) (events : List Event) (rest : List ℕ) → IsTold program settings tally.word last tally.offers come events rest → IsSaid program settings (λ turns ending. IsTally turns ending tally) come events rest
-is_said program settings tally last one to_the_byte deeds counted logs kept height turns copies come events rest told =
+    → (come : List ℕ) (events : List Event) (rest : List ℕ) → IsTold program settings counts tally.word last tally.offers come events rest → IsSaid program settings (λ turns ending. IsTally turns ending tally × counts (deeds_of turns)) come events rest
+is_said program settings counts tally last one to_the_byte deeds counted logs kept height turns copies come events rest told =
     let run = told.dialogue.run in
     let done = deeds program settings (start_of program) (whole_supply come) told.turns run.last run.between run.done in
     let many = counted program settings.height (start_of program) (deeds_of told.turns) run.last done in
     let each = length-map told.turns (λ (turn : Turn). turn.deed) in
     let last_turns : run.last.turns ≡ last.turns = ap (λ (at : Position). at.turns) told.last_is in
-    dialogue_said program settings one to_the_byte deeds counted logs kept height (λ turns ending. IsTally turns ending tally) told.turns told.ending come events rest told.dialogue
-    (record {
-      word = sym told.word_is;
-      turns = omega (arith, turns, many, each, last_turns);
-      offers = told.listed;
-      copies = copies ∙ ap (λ (at : Position). copies_in at.spot.state) (sym told.last_is) ∙ ap copies_in (sym run.state);
-    })
+    dialogue_said program settings one to_the_byte deeds counted logs kept height (λ turns ending. IsTally turns ending tally × counts (deeds_of turns)) told.turns told.ending come events rest told.dialogue (
+      record {
+        word = sym told.word_is;
+        turns = omega (arith, turns, many, each, last_turns);
+        offers = told.listed;
+        copies = copies ∙ ap (λ (at : Position). copies_in at.spot.state) (sym told.last_is) ∙ ap copies_in (sym run.state);
+      },
+      told.counted,
+    )

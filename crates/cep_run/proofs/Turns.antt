@@ -9,18 +9,18 @@ use Rattle.cep_base.specs.declared.limits.TheConstants.{MOST_OFFERS}
 use Rattle.cep_base.specs.declared.console.Event.{Event}
 use Rattle.cep_base.specs.Talk.{outs, GoesOn, Did}
 use Rattle.cep_term.specs.Tree.{Tree, AtomTree, IsFit}
-use Rattle.cep_term.specs.Multiset.{Multiset}
+use Rattle.cep_term.specs.Multiset.{Multiset, gathered}
 use Rattle.cep_rule.specs.declared.rule.Rule.{Rule}
 use Rattle.cep_rule.specs.declared.parts.Parts.{Parts}
 use Rattle.cep_rule.specs.declared.offer.Offer.{Offer}
 use Rattle.cep_rule.specs.State.{IsState, Fits}
-use Rattle.cep_rule.specs.Instances.{full_instances}
+use Rattle.cep_rule.specs.Instances.{full_instances, taken_by, added_by}
 use Rattle.cep_rule.specs.Offers.{Applies, AreOffers, IsOffer}
 use Rattle.cep_rule.specs.Stages.{IsAsked, IsQuiet}
 use Rattle.cep_rule.specs.Steps.{AreProofs}
 use Rattle.cep_rule.specs.Program.{IsProgram}
 use Rattle.cep_rule.specs.Typing.{AreValues}
-use Rattle.cep_rule.specs.Matching.{offers_of, AreListed}
+use Rattle.cep_rule.specs.Matching.{offers_of, AreListed, RoseBy}
 use Rattle.cep_rule.specs.Shapes.{IsOfferOf}
 use Rattle.cep_machine.specs.declared.stepped.Which.{Which}
 use Rattle.cep_machine.specs.declared.stepped.Which.TheVariants as which
@@ -29,7 +29,7 @@ use Rattle.cep_machine.specs.Asking.{asked_offers, IsAskedIn}
 use Rattle.cep_step.specs.Passing.{IsTooLarge, IsFirstTooLarge, IsTooFull}
 use Rattle.cep_machine.specs.declared.stepped.Stepped.{Stepped}
 use Rattle.cep_machine.specs.declared.stepped.Stepped.TheVariants as stepping
-use Rattle.cep_machine.specs.Stepping.{IsAskedAt, IsNext, Passes, IsStepped}
+use Rattle.cep_machine.specs.Stepping.{IsAskedAt, IsNext, Passes, IsStepped, RoseIfDone}
 use Rattle.cep_run.specs.declared.choice.Choice.{Choice}
 use Rattle.cep_run.specs.declared.choice.Choice.TheVariants.{Place, NoMore, NoRoom}
 use Rattle.cep_log.specs.declared.end_word.EndWord.{EndWord}
@@ -40,12 +40,13 @@ use Rattle.cep_run.specs.declared.turn.Turned.TheVariants.{Done, Over}
 use Rattle.cep_run.specs.declared.deciding.Spent.{Spent}
 use Rattle.cep_run.specs.Deciding.{Supply, How}
 use Rattle.cep_log.specs.Lines.{step_lines}
-use Rattle.cep_run.specs.Deeds.{Position, PassesLimit}
+use Rattle.cep_run.specs.Deeds.{Position, Deed, PassesLimit}
+use Rattle.cep_run.specs.Costs.{Edits, IsStepCost, IsDeedCost}
 use Rattle.cep_run.specs.Run.{Question, Turn, IsQuestion, IsChosen, IsTurn, LeadsNowhere}
 use Rattle.cep_run.specs.Dialogue.{asked_events, question_events, turn_events}
 use Rattle.cep_run.specs.Fronts.{BeginsSome, FellShort, IsRunOf}
 use Rattle.cep_run.specs.Begun.{SettlesSome, BeginsAct}
-use Rattle.cep_run.specs.Turn.{position_of, supply_with, IsPlayed, Settles, IsPlaced, TellsStep, Acts, WouldPass, limit_word, IsActed, DoesTurn, Stops, IsTurned, config_left}
+use Rattle.cep_run.specs.Turn.{position_of, supply_with, IsPlayed, Settles, IsPlaced, TellsStep, Acts, WouldPass, limit_word, IsActed, RoseByAct, DoesTurn, Stops, IsTurned, config_left}
 use Rattle.cep_base.proofs.Did.{did_same, did_put, did_map, did_then}
 use Rattle.cep_run.proofs.TurnSteps.{lawful_step}
 use Rattle.cep_run.proofs.Fronts.{front_of_front, outs_cut}
@@ -229,6 +230,22 @@ module _ {M : Type 0} (height_held : M → ℕ) (state_held : M → Multiset) (o
           one_turn_more program high held group all (offers_of all group) place (place - 1) offer old (lists.each group listed) at refl asked next leads,
         )
 
+    -- it was done, and the counter rose by what it costs: by what the edit may tick, and then by one for each backward premise
+    pub done_rose : (may_edit : Edits) (next : Configuration M) → stepped ≡ stepping.Done next → (old_steps between new_steps : ℕ)
+        → ((rule : Rule) (values : List Tree) → IsAskedAt program all old.stage (place - 1) rule values → RoseIfDone (may_edit program old.state high (gathered (taken_by program.signature rule values)) (added_by program.signature rule values)) stepped old_steps between)
+        → ((rule : Rule) → slice_get program.rules offer.rule ≡ Some rule → new_steps ≡ between + length rule.backs)
+        → (at_height : ℕ) → high ≡ at_height → RoseByAct may_edit program at_height (offers_of all group) place old (Done next) old_steps new_steps
+    done_rose may_edit next is old_steps between new_steps edited proved at_height same other rule placed =
+        let one : other ≡ offer = some_same other offer (sym placed.at_place ∙ at) in
+        let numbered : slice_get program.rules offer.rule ≡ Some rule = subst (λ (o : Offer). slice_get program.rules o.rule ≡ Some rule) one placed.of_rule in
+        let chosen : IsAskedAt program all old.stage (place - 1) rule offer.values = record { number = offer.rule; offered = subst (λ xs. slice_get xs (place - 1) ≡ Some offer) asked at; numbered = numbered } in
+        let rose = subst (λ s. RoseIfDone (may_edit program old.state high (gathered (taken_by program.signature rule offer.values)) (added_by program.signature rule offer.values)) s old_steps between) is (edited rule offer.values chosen) in
+        let first = rose.risen in
+        let later = proved rule numbered in
+        subst (λ (o : Offer). RoseBy (IsStepCost may_edit program at_height old.state rule o.values) old_steps new_steps) (sym one)
+        (subst (λ h. RoseBy (IsStepCost may_edit program h old.state rule offer.values) old_steps new_steps) same
+        (record { ticks = rose.ticks + length rule.backs; allows = record { edit = rose.ticks; allowed = rose.allows; sum = refl }; risen = omega (arith, first, later) }))
+
     -- the step was done, and the putting of its lines was refused
     pub cut_acts : (next : Configuration M) → stepped ≡ stepping.Done next → (new : C) (none told bytes : List ℕ) (size : ℕ) → none ≡ [] → TellsStep program height offer none told → bytes ≡ told → GoesOn (talk console) (outs (take size bytes)) (talk new) → left new ≡ left console
         → Did talk left console new (BeginsAct program height (offers_of all group) place (position_of old))
@@ -261,6 +278,15 @@ module _ {M : Type 0} (height_held : M → ℕ) (state_held : M → Multiset) (o
                 (did_same talk left console console refl refl),
             stays,
           ))
+
+      -- nothing was counted
+      pub limit_rose : (may_edit : Edits) (old_steps new_steps : ℕ) → ((rule : Rule) (values : List Tree) → IsAskedAt program all old.stage (place - 1) rule values → RoseIfDone (may_edit program old.state high (gathered (taken_by program.signature rule values)) (added_by program.signature rule values)) stepped old_steps new_steps)
+          → (at_height : ℕ) (word : EndWord) (turned : Turned M) → turned ≡ Over (record { config = last; word = word }) → RoseByAct may_edit program at_height (offers_of all group) place old turned old_steps new_steps
+      limit_rose may_edit old_steps new_steps edited at_height word turned over =
+          let chosen = chosen_there program high held group all (offers_of all group) place (place - 1) offer old (lists.each group listed) at refl asked in
+          let rule = rule_of program high held group all (offers_of all group) place (place - 1) offer old (lists.each group listed) at refl asked in
+          subst (λ t. RoseByAct may_edit program at_height (offers_of all group) place old t old_steps new_steps) (sym over)
+          (subst (λ s. RoseIfDone (may_edit program old.state high (gathered (taken_by program.signature rule offer.values)) (added_by program.signature rule offer.values)) s old_steps new_steps) is (edited rule offer.values chosen))
 
       pub limit_played : (is_of : Parts → M → Type 0) (settings : Settings) → IsPlayed is_of height_held program settings old → (word : EndWord) (turned : Turned M) → turned ≡ Over (record { config = last; word = word }) → IsPlayed is_of height_held program settings (config_left turned)
       limit_played is_of settings played word turned over =
@@ -307,8 +333,9 @@ module _ (program : Parts) (settings : Settings) (at : Position) (spent : Spent)
         is_chosen offer rule placed = record { place = place; chosen = refl; at_place = placed.at_place; of_rule = placed.of_rule }
 
         -- one turn is done
-        pub done_turn : (new : Position) → new.turns ≡ at.turns + 1 → Acts program settings.height offers place at new between second rest → DoesTurn program settings offers at spent new spent' come (first ++ second) rest
-        done_turn new counted acts = record {
+        pub done_turn : (counts : Deed → Type 0) (new : Position) → new.turns ≡ at.turns + 1 → (acts : Acts program settings.height offers place at new between second rest) → counts (record { before = at; offer = acts.offer; rule = acts.rule; proofs = acts.proofs; after = new })
+            → DoesTurn program settings counts offers at spent new spent' come (first ++ second) rest
+        done_turn counts new counted acts counts_it = record {
           turn = record { question = answered settles.how (Place place); deed = record { before = at; offer = acts.offer; rule = acts.rule; proofs = acts.proofs; after = new }; left = supply_with rest spent' };
           is = record {
             here = refl;
@@ -322,6 +349,7 @@ module _ (program : Parts) (settings : Settings) (at : Position) (spent : Spent)
           after = refl;
           left = refl;
           listed = refl;
+          counted = counts_it;
           written = ap (λ es. es ++ second) settles.whole ∙ ap (λ es. asked_events program offers settles.how ++ es) acts.written;
         }
 
@@ -363,7 +391,7 @@ module _ (program : Parts) (settings : Settings) (kept : IsProgram program) (at 
       subst (BeginsSome (IsRunOf program settings at) (supply_with come spent)) (sym (append-nil first) ∙ ap (λ es. first ++ es) (sym nothing.0))
       (decision_begins questions come first (record { more = []; left = between; whole = (Place place, spent', whole) }))
   act_begins questions turns spent' place come first between second rest settles (inr on) =
-      let done = done_turn program settings at spent group offers here remain few spent' place come between rest first (second ++ on.more) settles on.next on.counted on.acts in
+      let done = done_turn program settings at spent group offers here remain few spent' place come between rest first (second ++ on.more) settles (λ deed. Unit {0}) on.next on.counted on.acts tt in
       let begins = turns program settings at (supply_with come spent) done.turn kept is_state done.is in
       front_of_front (IsRunOf program settings at) (supply_with come spent) (first ++ second) on.more
       (subst (BeginsSome (IsRunOf program settings at) (supply_with come spent)) (sym (append_assoc first second on.more ∙ done.written)) begins)
@@ -372,15 +400,19 @@ module _ (program : Parts) (settings : Settings) (kept : IsProgram program) (at 
 module _ {C M : Type 0} (talk : C → Option (List Event)) (left : C → Option (List ℕ)) (old between new : C) (program : Parts) (settings : Settings) (config : Configuration M) (spent spent' : Spent) (place group : ℕ) (offers : List Offer)
     (here : IsAskedHere program settings (position_of config) group offers) (remain : config.turns < settings.limit) (few : length offers ≤ MOST_OFFERS)
     (settled : Did talk left old between (Settles program settings.seed config.stage group offers spent (Place place) spent')) where
-  pub chosen_turn : (turned : Turned M) → IsActed talk left between new program settings.height offers place config turned → IsTurned talk left old new program settings offers config spent spent' turned
-  chosen_turn (Done next) acted = (
-    did_then talk left old between new _ _ _ (λ come first middle others rest settles acts. done_turn program settings (position_of config) spent group offers here remain few spent' place come middle rest first others settles (position_of next) acted.1 acts) settled acted.0,
+  pub chosen_turn : (may_edit : Edits) (steps steps' : ℕ) (turned : Turned M) → IsActed talk left between new program settings.height offers place config turned → RoseByAct may_edit program settings.height offers place config turned steps steps'
+      → IsTurned talk left old new program settings (λ deed. RoseBy (IsDeedCost may_edit program settings.height deed) steps steps') (steps' ≡ steps) offers config spent spent' turned
+  chosen_turn may_edit steps steps' (Done next) acted rose = (
+    did_then talk left old between new _ _ _
+        (λ come first middle others rest settles acts. done_turn program settings (position_of config) spent group offers here remain few spent' place come middle rest first others settles (λ deed. RoseBy (IsDeedCost may_edit program settings.height deed) steps steps') (position_of next) acted.1 acts (rose acts.offer acts.rule acts.placed))
+        settled acted.0,
     acted.1,
     few,
   )
-  chosen_turn (Over last) acted = (
+  chosen_turn may_edit steps steps' (Over last) acted rose = (
     did_then talk left old between new _ _ _ (λ come first middle others rest settles fails. failed_turn program settings (position_of config) spent group offers here remain few spent' place come middle rest first others settles last.word fails) settled acted.0,
     acted.1,
+    rose,
   )
 
 -- What a configuration asks, by its matcher: the lists that are held are those of the group, whatever view of the matcher they are taken from.
@@ -395,12 +427,13 @@ module _ {M : Type 0} (is_of : Parts → M → Type 0) (height_held : M → ℕ)
 
   module _ (remain : config.turns < settings.limit) {C : Type 0} (talk : C → Option (List Event)) (left : C → Option (List ℕ)) (console : C) (spent : Spent) where
     -- the offers are too many, as this view of the matcher has it
-    pub crowds_here : (seen : M) → seen ≡ config.matcher → (ok : Bool) → (IsTrue ok ↔ (length (offers_of (offers_held seen) group) ≤ MOST_OFFERS)) → ok ≡ false → (turned : Turned M) → turned ≡ Over (record { config = config; word = Offers }) → IsTurned talk left console console program settings listing config spent spent turned
-    crowds_here seen view ok iff not turned is =
+    pub crowds_here : (counts : Deed → Type 0) (uncounted : Type 0) → uncounted → (seen : M) → seen ≡ config.matcher → (ok : Bool) → (IsTrue ok ↔ (length (offers_of (offers_held seen) group) ≤ MOST_OFFERS)) → ok ≡ false → (turned : Turned M) → turned ≡ Over (record { config = config; word = Offers }) → IsTurned talk left console console program settings counts uncounted listing config spent spent turned
+    crowds_here counts uncounted still seen view ok iff not turned is =
         let many : MOST_OFFERS < length (offers_of (offers_held config.matcher) group) = subst (λ m. MOST_OFFERS < length (offers_of (offers_held m) group)) view (too_many ok _ MOST_OFFERS iff not) in
-        subst (λ t. IsTurned talk left console console program settings listing config spent spent t) (sym is) (
+        subst (λ t. IsTurned talk left console console program settings counts uncounted listing config spent spent t) (sym is) (
           did_map talk left console console _ _ (λ come events rest same. crowded_turn program settings (position_of config) spent group (offers_of (offers_held config.matcher) group) asks_here remain many come events rest same) (did_same talk left console console refl refl),
           refl,
+          still,
         )
 
     -- a choice was decided
@@ -412,27 +445,30 @@ module _ {M : Type 0} (is_of : Parts → M → Type 0) (height_held : M → ℕ)
           → Did talk left console settled_on (Settles program settings.seed config.stage group (offers_of (offers_held config.matcher) group) spent choice' spent')
       settled_here choice choice' same settled = subst (λ (it : Choice). Did talk left console settled_on (Settles program settings.seed config.stage group (offers_of (offers_held config.matcher) group) spent it spent')) same settled
 
-      unmade_here : (word : EndWord) (choice choice' : Choice) → choice ≡ choice' → Did talk left console settled_on (Settles program settings.seed config.stage group (offers_of (offers_held config.matcher) group) spent choice spent')
-          → ((question : Question) → LeadsNowhere program settings (position_of config) question choice' word) → (turned : Turned M) → turned ≡ Over (record { config = config; word = word }) → IsTurned talk left console settled_on program settings listing config spent spent' turned
-      unmade_here word choice choice' same settled nowhere turned is =
-          subst (λ t. IsTurned talk left console settled_on program settings listing config spent spent' t) (sym is) (
+      unmade_here : (counts : Deed → Type 0) (uncounted : Type 0) → uncounted → (word : EndWord) (choice choice' : Choice) → choice ≡ choice' → Did talk left console settled_on (Settles program settings.seed config.stage group (offers_of (offers_held config.matcher) group) spent choice spent')
+          → ((question : Question) → LeadsNowhere program settings (position_of config) question choice' word) → (turned : Turned M) → turned ≡ Over (record { config = config; word = word }) → IsTurned talk left console settled_on program settings counts uncounted listing config spent spent' turned
+      unmade_here counts uncounted still word choice choice' same settled nowhere turned is =
+          subst (λ t. IsTurned talk left console settled_on program settings counts uncounted listing config spent spent' t) (sym is) (
             did_map talk left console settled_on _ _ (λ come events rest settles. unmade_turn program settings (position_of config) spent group (offers_of (offers_held config.matcher) group) asks_here remain few_here spent' come rest choice' events settles word (nowhere _)) (settled_here choice choice' same settled),
             refl,
+            still,
           )
 
-      pub no_more_here : (choice : Choice) → choice ≡ NoMore → Did talk left console settled_on (Settles program settings.seed config.stage group (offers_of (offers_held config.matcher) group) spent choice spent')
-          → (turned : Turned M) → turned ≡ Over (record { config = config; word = Input }) → IsTurned talk left console settled_on program settings listing config spent spent' turned
-      no_more_here choice same settled turned is = unmade_here Input choice NoMore same settled (λ _. refl) turned is
+      pub no_more_here : (counts : Deed → Type 0) (uncounted : Type 0) → uncounted → (choice : Choice) → choice ≡ NoMore → Did talk left console settled_on (Settles program settings.seed config.stage group (offers_of (offers_held config.matcher) group) spent choice spent')
+          → (turned : Turned M) → turned ≡ Over (record { config = config; word = Input }) → IsTurned talk left console settled_on program settings counts uncounted listing config spent spent' turned
+      no_more_here counts uncounted still choice same settled turned is = unmade_here counts uncounted still Input choice NoMore same settled (λ _. refl) turned is
 
-      pub no_room_here : (choice : Choice) → choice ≡ NoRoom → Did talk left console settled_on (Settles program settings.seed config.stage group (offers_of (offers_held config.matcher) group) spent choice spent')
-          → (turned : Turned M) → turned ≡ Over (record { config = config; word = Typed }) → IsTurned talk left console settled_on program settings listing config spent spent' turned
-      no_room_here choice same settled turned is = unmade_here Typed choice NoRoom same settled (λ _. refl) turned is
+      pub no_room_here : (counts : Deed → Type 0) (uncounted : Type 0) → uncounted → (choice : Choice) → choice ≡ NoRoom → Did talk left console settled_on (Settles program settings.seed config.stage group (offers_of (offers_held config.matcher) group) spent choice spent')
+          → (turned : Turned M) → turned ≡ Over (record { config = config; word = Typed }) → IsTurned talk left console settled_on program settings counts uncounted listing config spent spent' turned
+      no_room_here counts uncounted still choice same settled turned is = unmade_here counts uncounted still Typed choice NoRoom same settled (λ _. refl) turned is
 
-      pub chosen_here : (place : ℕ) (choice : Choice) → choice ≡ Place place → Did talk left console settled_on (Settles program settings.seed config.stage group (offers_of (offers_held config.matcher) group) spent choice spent')
-          → (new : C) (turned : Turned M) → IsActed talk left settled_on new program settings.height (offers_of (offers_held config.matcher) group) place config turned → IsTurned talk left console new program settings listing config spent spent' turned
-      chosen_here place choice same settled new turned acted =
-          subst (λ offers. IsTurned talk left console new program settings offers config spent spent' turned) list
-          (chosen_turn talk left console settled_on new program settings config spent spent' place group (offers_of (offers_held config.matcher) group) asks_here remain few_here (settled_here choice (Place place) same settled) turned acted)
+      pub chosen_here : (may_edit : Edits) (steps steps' : ℕ) (place : ℕ) (choice : Choice) → choice ≡ Place place → Did talk left console settled_on (Settles program settings.seed config.stage group (offers_of (offers_held config.matcher) group) spent choice spent')
+          → (new : C) (turned : Turned M) → IsActed talk left settled_on new program settings.height (offers_of (offers_held config.matcher) group) place config turned
+          → RoseByAct may_edit program settings.height (offers_of (offers_held config.matcher) group) place config turned steps steps'
+          → IsTurned talk left console new program settings (λ deed. RoseBy (IsDeedCost may_edit program settings.height deed) steps steps') (steps' ≡ steps) listing config spent spent' turned
+      chosen_here may_edit steps steps' place choice same settled new turned acted rose =
+          subst (λ offers. IsTurned talk left console new program settings (λ deed. RoseBy (IsDeedCost may_edit program settings.height deed) steps steps') (steps' ≡ steps) offers config spent spent' turned) list
+          (chosen_turn talk left console settled_on new program settings config spent spent' place group (offers_of (offers_held config.matcher) group) asks_here remain few_here (settled_here choice (Place place) same settled) may_edit steps steps' turned acted rose)
 
       -- the decision was refused, or its step
       module _ (questions : QuestionsGoOn) (kept : IsProgram program) (is_state : IsState program.signature config.state) where

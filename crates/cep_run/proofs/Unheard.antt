@@ -14,7 +14,7 @@ use Rattle.cep_run.specs.declared.deciding.Spent.{Spent}
 use Rattle.cep_run.specs.declared.settings.Settings.{Settings}
 use Rattle.cep_run.specs.Choice.{room_after, no_line, Hears, chosen, again, no_more, no_room}
 use Rattle.cep_run.specs.Deciding.{Supply, How, Heard, Lone, Drawn, Decides}
-use Rattle.cep_run.specs.Deeds.{Position}
+use Rattle.cep_run.specs.Deeds.{Position, Deed}
 use Rattle.cep_run.specs.Run.{whole_supply, Question, Turn, IsQuestion, IsTurn, AreTurns, EndsAt}
 use Rattle.cep_run.specs.Dialogue.{asked_events, question_events, last_events, turn_events}
 use Rattle.cep_run.specs.Fronts.{heard_bytes, LeavesUnheard}
@@ -132,12 +132,12 @@ module _ (program : Parts) (settings : Settings) where
   last_left at from word (Some asked) to ends = question_left at from asked to ends.0
 
   -- some turns were done
-  pub so_left : (start here : Position) (spent : Spent) (offers : ℕ) (come : List ℕ) (events : List Event) (rest : List ℕ) → SoFar program settings start here spent offers come events rest → LeavesUnheard come events rest
-  so_left start here spent offers come events rest so = subst (λ es. LeavesUnheard come es rest) (sym so.written) (turns_left start (whole_supply come) so.turns here _ so.done)
+  pub so_left : (counts : List Deed → Type 0) (start here : Position) (spent : Spent) (offers : ℕ) (come : List ℕ) (events : List Event) (rest : List ℕ) → SoFar program settings counts start here spent offers come events rest → LeavesUnheard come events rest
+  so_left counts start here spent offers come events rest so = subst (λ es. LeavesUnheard come es rest) (sym so.written) (turns_left start (whole_supply come) so.turns here _ so.done)
 
   -- all turns were done
-  pub whole_left : (word : EndWord) (start last : Position) (offers : ℕ) (come : List ℕ) (events : List Event) (rest : List ℕ) → IsWholeRun program settings word start last offers come events rest → LeavesUnheard come events rest
-  whole_left word start last offers come events rest runs =
+  pub whole_left : (counts : List Deed → Type 0) (word : EndWord) (start last : Position) (offers : ℕ) (come : List ℕ) (events : List Event) (rest : List ℕ) → IsWholeRun program settings counts word start last offers come events rest → LeavesUnheard come events rest
+  whole_left counts word start last offers come events rest runs =
       let between = runs.between in
       let turns = flat_map (turn_events program) runs.turns in
       let all = left_then come turns between.come (last_events program runs.asked) runs.left.come (turns_left start (whole_supply come) runs.turns last between runs.done) (last_left last between word runs.asked runs.left runs.ends) in

@@ -1,6 +1,7 @@
 pub mod Choice
 pub mod Deciding
 pub mod Deeds
+pub mod Costs
 pub mod Run
 pub mod Dialogue
 pub mod Logs

@@ -26,8 +26,10 @@ use Rattle.cep_run.specs.Choice.{Hears}
 use Rattle.cep_run.specs.declared.deciding.Spent.{Spent}
 use Rattle.cep_run.specs.Deciding.{Supply, How, Decides}
 use Rattle.cep_log.specs.Lines.{question, step_lines, by_line, by_lines}
-use Rattle.cep_run.specs.Deeds.{Position, PassesLimit}
-use Rattle.cep_run.specs.Run.{Question, Turn, IsTurn, AreTurns, offers_listed, EndsAt, whole_supply}
+use Rattle.cep_rule.specs.Matching.{RoseBy}
+use Rattle.cep_run.specs.Deeds.{Position, Deed, PassesLimit}
+use Rattle.cep_run.specs.Costs.{Edits, IsStepCost, IsDeedCost}
+use Rattle.cep_run.specs.Run.{Question, Turn, IsTurn, AreTurns, deeds_of, offers_listed, EndsAt, whole_supply}
 use Rattle.cep_run.specs.Dialogue.{asked_events, turn_events, last_events}
 
 -- where a configuration stands
@@ -112,6 +114,12 @@ pub record WouldPass (program : Parts) (offers : List Offer) (place : ℕ) (word
   pub unwritten : events ≡ []
   pub untaken : rest ≡ come
 
+-- How the counter rises with the choice of a place: by what the step by its offer costs where it is done, and else not.
+abbrev pub RoseByAct : {M : Type 0} → Edits → Parts → ℕ → List Offer → ℕ → Configuration M → Turned M → ℕ → ℕ → Type 0
+RoseByAct may_edit program height offers place config (Done next) ticks ticks' =
+    (offer : Offer) (rule : Rule) → IsPlaced program offers place offer rule → RoseBy (IsStepCost may_edit program height config.state rule offer.values) ticks ticks'
+RoseByAct may_edit program height offers place config (Over last) ticks ticks' = ticks' ≡ ticks
+
 -- What the choice of a place comes to, in a configuration: the step is done, or it would pass a limit and the run ends here.
 abbrev pub IsActed : {C M : Type 0} → (C → Option (List Event)) → (C → Option (List ℕ)) → C → C → Parts → ℕ → List Offer → ℕ → Configuration M → Turned M → Type 0
 IsActed talk left old new program height offers place config (Done next) =
@@ -119,13 +127,14 @@ IsActed talk left old new program height offers place config (Done next) =
 IsActed talk left old new program height offers place config (Over last) =
     Did talk left old new (WouldPass program offers place last.word (position_of config)) × (last.config ≡ config)
 
--- These events do a turn, in which these offers are listed.
-pub record DoesTurn (program : Parts) (settings : Settings) (offers : List Offer) (at : Position) (spent : Spent) (next : Position) (spent' : Spent) (come : List ℕ) (events : List Event) (rest : List ℕ) : Type 0 where
+-- These events do a turn, in which these offers are listed, and whose deed is counted so.
+pub record DoesTurn (program : Parts) (settings : Settings) (counts : Deed → Type 0) (offers : List Offer) (at : Position) (spent : Spent) (next : Position) (spent' : Spent) (come : List ℕ) (events : List Event) (rest : List ℕ) : Type 0 where
   pub turn : Turn
   pub is : IsTurn program settings at (supply_with come spent) turn
   pub after : turn.deed.after ≡ next
   pub left : turn.left ≡ supply_with rest spent'
   pub listed : turn.question.offers ≡ offers
+  pub counted : counts turn.deed
   pub written : events ≡ turn_events program turn
 
 -- These events come before the end of a run at this position.
@@ -134,27 +143,28 @@ pub record Stops (program : Parts) (settings : Settings) (at : Position) (spent 
   pub ends : EndsAt program settings at (supply_with come spent) word asked (supply_with rest spent')
   pub written : events ≡ last_events program asked
 
--- What a turn from a position comes to: it was done, with one more turn done and not too many offers listed, or the run ends here.
-abbrev pub IsTurned : {C M : Type 0} → (C → Option (List Event)) → (C → Option (List ℕ)) → C → C → Parts → Settings → List Offer → Configuration M → Spent → Spent → Turned M → Type 0
-IsTurned talk left old new program settings offers config spent spent' (Done next) =
-    Did talk left old new (DoesTurn program settings offers (position_of config) spent (position_of next) spent') × (next.turns ≡ config.turns + 1) × (length offers ≤ MOST_OFFERS)
-IsTurned talk left old new program settings offers config spent spent' (Over last) =
-    Did talk left old new (Stops program settings (position_of config) spent last.word spent') × (last.config ≡ config)
+-- What a turn from a position comes to: it was done, its deed was counted, one more turn is done and not too many offers were listed; or the run ends here, and nothing was counted.
+abbrev pub IsTurned : {C M : Type 0} → (C → Option (List Event)) → (C → Option (List ℕ)) → C → C → Parts → Settings → (Deed → Type 0) → Type 0 → List Offer → Configuration M → Spent → Spent → Turned M → Type 0
+IsTurned talk left old new program settings counts uncounted offers config spent spent' (Done next) =
+    Did talk left old new (DoesTurn program settings counts offers (position_of config) spent (position_of next) spent') × (next.turns ≡ config.turns + 1) × (length offers ≤ MOST_OFFERS)
+IsTurned talk left old new program settings counts uncounted offers config spent spent' (Over last) =
+    Did talk left old new (Stops program settings (position_of config) spent last.word spent') × (last.config ≡ config) × uncounted
 
 -- the configuration that is there after a turn
 abbrev pub config_left : {M : Type 0} → Turned M → Configuration M
 config_left (Done config) = config
 config_left (Over last) = last.config
 
--- Some turns are done from the start to here, in which so many offers were listed, and what was said is their events.
-pub record SoFar (program : Parts) (settings : Settings) (start here : Position) (spent : Spent) (offers : ℕ) (come : List ℕ) (events : List Event) (rest : List ℕ) : Type 0 where
+-- Some turns are done from the start to here, in which so many offers were listed, what was said is their events, and their deeds are counted so.
+pub record SoFar (program : Parts) (settings : Settings) (counts : List Deed → Type 0) (start here : Position) (spent : Spent) (offers : ℕ) (come : List ℕ) (events : List Event) (rest : List ℕ) : Type 0 where
   pub turns : List Turn
   pub done : AreTurns program settings start (whole_supply come) turns here (supply_with rest spent)
   pub listed : offers ≡ offers_listed turns
+  pub counted : counts (deeds_of turns)
   pub written : events ≡ flat_map (turn_events program) turns
 
--- All turns of a run are done from the start to here, in which so many offers were listed, and what was said is their events and what comes before the end.
-pub record IsWholeRun (program : Parts) (settings : Settings) (word : EndWord) (start last : Position) (offers : ℕ) (come : List ℕ) (events : List Event) (rest : List ℕ) : Type 0 where
+-- All turns of a run are done from the start to here, in which so many offers were listed, what was said is their events and what comes before the end, and their deeds are counted so.
+pub record IsWholeRun (program : Parts) (settings : Settings) (counts : List Deed → Type 0) (word : EndWord) (start last : Position) (offers : ℕ) (come : List ℕ) (events : List Event) (rest : List ℕ) : Type 0 where
   pub turns : List Turn
   pub between : Supply
   pub left : Supply
@@ -162,5 +172,6 @@ pub record IsWholeRun (program : Parts) (settings : Settings) (word : EndWord) (
   pub done : AreTurns program settings start (whole_supply come) turns last between
   pub ends : EndsAt program settings last between word asked left
   pub listed : offers ≡ offers_listed turns
+  pub counted : counts (deeds_of turns)
   pub written : events ≡ flat_map (turn_events program) turns ++ last_events program asked
   pub rest_is : rest ≡ left.come

@@ -4,9 +4,11 @@ ghost use Rattle.cep_base.specs.declared.limits.TheConstants.{MOST_TURNS};
 ghost use Rattle.cep_base.specs.Talk.{outs, Did, ConsoleCause};
 ghost use Rattle.cep_rule.specs.Limits.{IsHeight};
 ghost use Rattle.cep_rule.specs.State.{IsState};
+ghost use Rattle.cep_rule.specs.Matching.{RoseBy};
 ghost use Rattle.cep_machine.specs.Asking.{asked_offers};
 ghost use Rattle.cep_log.specs.Lines.{end_lines, header};
-ghost use Rattle.cep_run.specs.Run.{whole_supply};
+ghost use Rattle.cep_run.specs.Costs.{AreDeedCosts, IsRunCost};
+ghost use Rattle.cep_run.specs.Run.{whole_supply, deeds_of};
 ghost use Rattle.cep_run.specs.Fronts.{FellShort, IsRunOf};
 ghost use Rattle.cep_run.specs.Begun.{PutsFront};
 ghost use Rattle.cep_run.specs.Turn.{position_of, IsPlayed, IsWholeRun};
@@ -57,7 +59,7 @@ fn all_turns<C: Console, M: Matcher, L: Ledger>(
     requires begins { start.turns ≡ 0 }
     requires limit { settings.limit ≤ MOST_TURNS }
     ensures said { IfOk result (λ end. Did C.talk C.left console.old console.new
-        (IsWholeRun program.now settings end.word (position_of start) (position_of end.config) end.offers)) }
+        (IsWholeRun program.now settings (λ deeds. RoseBy (AreDeedCosts M.may_edit program.now settings.height deeds) steps.old steps.new) end.word (position_of start) (position_of end.config) end.offers)) }
     ensures begun { OnErr result (FellShort C.talk C.left console.old console.new whole_supply (IsRunOf program.now settings (position_of start))) }
     ensures played { IfOk result (λ end. IsPlayed M.is_of M.height_held program.now settings end.config) }
     ensures counted { steps.old ≤ steps.new }
@@ -133,7 +135,9 @@ fn finish<C: Console>(
 /// Plays a program with these settings and the person at a console, from its start until the run
 /// ends. The height is 1 to 512, and the turns are at most 1,000,000. Answers what the run came to.
 /// Only a fault of the console and want of memory are refused, and then what was said and heard
-/// begins some dialogue, and what was heard is gone from what is to be typed.
+/// begins some dialogue, and what was heard is gone from what is to be typed. The counter rises by no
+/// more than what the matcher may tick for the start and for the deeds of the very turns that are said,
+/// and one for each backward premise of what is done in them.
 pub fn play<M: Matcher, C: Console, L: Ledger>(
     alloc: Global,
     program: &Program,
@@ -143,7 +147,8 @@ pub fn play<M: Matcher, C: Console, L: Ledger>(
 ) -> Result<Tally, ConsoleFault>
     requires height { IsHeight settings.height }
     requires limit { settings.limit ≤ MOST_TURNS }
-    ensures said { IfOk result (λ tally. Says C.talk C.left console.old console.new program.now settings (λ turns ending. IsTally turns ending tally)) }
+    ensures said { IfOk result (λ tally. Says C.talk C.left console.old console.new program.now settings (λ turns ending.
+        IsTally turns ending tally × RoseBy (IsRunCost M.may_begin M.may_edit program.now settings.height (deeds_of turns)) steps.old steps.new)) }
     ensures begun { OnErr result (FellShort C.talk C.left console.old console.new (λ come. come) (IsSomeSaid program.now settings)) }
     ensures counted { steps.old ≤ steps.new }
     ensures cause { ConsoleCause (C.faults console.old) (C.faults console.new) result }

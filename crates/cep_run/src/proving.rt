@@ -1,9 +1,10 @@
 // The lines of a step, with what proves its backward premises.
-ghost use Rattle.std.specs.Prelude.{◌≡◌, ℕ, ◌≤◌, List, map, IfOk, OnOk};
+ghost use Rattle.std.specs.Prelude.{◌≡◌, ℕ, ◌+◌, ◌≤◌, List, length, map, slice_get, Some, IfOk, OnOk};
 ghost use Rattle.std.specs.List.{AllByRecursion};
 ghost use Rattle.cep_term.specs.Tree.{atom_of, tree_of, IsGround};
 ghost use Rattle.cep_term.specs.Multiset.{Multiset};
 ghost use Rattle.cep_term.specs.Values.{atom_instance, HasValues};
+ghost use Rattle.cep_rule.specs.declared.rule.Rule.{Rule};
 ghost use Rattle.cep_rule.specs.Limits.{IsHeight};
 ghost use Rattle.cep_rule.specs.Instances.{given};
 ghost use Rattle.cep_rule.specs.Derivations.{IsDerivable};
@@ -34,6 +35,7 @@ pub fn put_step_lines<L: Ledger>(
     requires height { IsHeight height }
     requires applies { (state : Multiset) × Applies program.now height state offer.now }
     ensures ok { OnOk result (TellsStep program.now height offer.now out.old out.new) }
+    ensures ticked { OnOk result ((rule : Rule) → slice_get program.now.rules offer.now.rule ≡ Some rule → steps.new ≡ steps.old + length rule.backs) }
     ensures counted { steps.old ≤ steps.new }
 {
     types_are_lawful();
@@ -63,7 +65,7 @@ fn put_proof_of<L: Ledger>(
     requires valued { HasValues known.now (atom_of goal.now) }
     requires derivable { IsDerivable program.now height (atom_instance known.now (atom_of goal.now)) }
     ensures ok { OnOk result (AddsProof program.now height (atom_instance known.now (atom_of goal.now)) out.old out.new) }
-    ensures counted { steps.old ≤ steps.new }
+    ensures ticked { steps.new ≡ steps.old + 1 }
 {
     instances_of_instances();
     derivations_have_shape();

@@ -7,7 +7,9 @@ ghost use Rattle.cep_machine.specs.Asking.{asked_offers};
 ghost use Rattle.cep_run.specs.declared.turn.Turned.TheVariants.{Over};
 ghost use Rattle.cep_run.specs.Fronts.{FellShort, IsRunOf};
 ghost use Rattle.cep_run.specs.Begun.{BeginsAct};
-ghost use Rattle.cep_run.specs.Turn.{position_of, supply_with, HasSpent, IsPlayed, IsActed, IsTurned, config_left, limit_word};
+ghost use Rattle.cep_rule.specs.Matching.{RoseBy};
+ghost use Rattle.cep_run.specs.Costs.{IsDeedCost};
+ghost use Rattle.cep_run.specs.Turn.{position_of, supply_with, HasSpent, IsPlayed, IsActed, RoseByAct, IsTurned, config_left, limit_word};
 
 use crate::choice::Choice;
 use crate::copying::copy_offer;
@@ -66,6 +68,7 @@ fn act<C: Console, M: Matcher, L: Ledger>(
     requires within { place ≤ length (offers_of (M.offers_held config.matcher) group) }
     requires turns { config.turns < MOST_TURNS }
     ensures acted { IfOk result (IsActed C.talk C.left console.old console.new program.now settings.height (offers_of (M.offers_held config.matcher) group) place config) }
+    ensures ticked { IfOk result (λ turned. RoseByAct M.may_edit program.now settings.height (offers_of (M.offers_held config.matcher) group) place config turned steps.old steps.new) }
     ensures played { IfOk result (λ turned. IsPlayed M.is_of M.height_held program.now settings (config_left turned)) }
     ensures begun { OnErr result (Did C.talk C.left console.old console.new (BeginsAct program.now settings.height (offers_of (M.offers_held config.matcher) group) place (position_of config))) }
     ensures counted { steps.old ≤ steps.new }
@@ -110,7 +113,8 @@ pub fn turn<C: Console, M: Matcher, L: Ledger>(
     requires limit { settings.limit ≤ MOST_TURNS }
     requires remain { config.turns < settings.limit }
     requires spent { HasSpent settings.seed config.turns spent.old }
-    ensures turned { IfOk result (IsTurned C.talk C.left console.old console.new program.now settings (asked_offers (M.offers_held config.matcher) config.stage) config spent.old spent.new) }
+    ensures turned { IfOk result (IsTurned C.talk C.left console.old console.new program.now settings
+        (λ deed. RoseBy (IsDeedCost M.may_edit program.now settings.height deed) steps.old steps.new) (steps.new ≡ steps.old) (asked_offers (M.offers_held config.matcher) config.stage) config spent.old spent.new) }
     ensures played { IfOk result (λ turned. IsPlayed M.is_of M.height_held program.now settings (config_left turned)) }
     ensures begun { OnErr result (FellShort C.talk C.left console.old console.new (λ come. supply_with come spent.old) (IsRunOf program.now settings (position_of config))) }
     ensures spent { IfOk result (λ _. HasSpent settings.seed (config.turns + 1) spent.new) }

@@ -1,6 +1,8 @@
 use Rattle.std.proofs.Common.{◌≡◌, ◌*◌, ◌≤◌}
 use Rattle.cep_base.specs.declared.limits.TheConstants.{MOST_OFFERS}
 use Rattle.cep_base.specs.Talk.{Did}
+use Rattle.cep_rule.specs.Matching.{RoseBy}
+use Rattle.cep_run.specs.Costs.{AreDeedCosts}
 use Rattle.cep_run.specs.Turn.{position_of, HasSpent, IsPlayed, SoFar}
 use Rattle.cep_run.proofs.dialogue.all_turns.Given as goal
 
@@ -14,5 +16,5 @@ invariant-loop-done g l =
       counted : l.fn.steps ≤ l.steps;
       cause : g.C.Console.faults l.console ≡ g.C.Console.faults l.fn.console;
       few : l.offers ≤ MOST_OFFERS * l._done;
-      so_far : Did g.C.Console.talk g.C.Console.left l.fn.console l.console (SoFar l.program l.settings (position_of l.fn.start) (position_of l.config) l.spent l.offers);
+      so_far : Did g.C.Console.talk g.C.Console.left l.fn.console l.console (SoFar l.program l.settings (λ deeds. RoseBy (AreDeedCosts g.M.Matcher.may_edit l.program l.settings.height deeds) l.fn.steps l.steps) (position_of l.fn.start) (position_of l.config) l.spent l.offers);
     }

@@ -1,16 +1,20 @@
-use Rattle.std.proofs.Common.{◌≡◌, ◌++◌, refl, sym, ap, ◌∙◌, subst}
+use Rattle.std.proofs.Common.{◌≡◌, ◌++◌, List, refl, sym, ap, ◌∙◌, subst}
 use Rattle.cep_base.specs.Talk.{outs, Did}
 use Rattle.cep_term.specs.Multiset.{copies_in}
 use Rattle.cep_log.specs.Lines.{end_lines, header}
 use Rattle.cep_run.specs.Fronts.{BeginsSome, LeavesUnheard}
 use Rattle.cep_run.specs.Said.{IsSomeSaid}
 use Rattle.cep_run.specs.Begun.{PutsFront}
+use Rattle.cep_rule.specs.Matching.{RoseBy}
+use Rattle.cep_run.specs.Deeds.{Deed}
+use Rattle.cep_run.specs.Costs.{AreDeedCosts, IsRunCost}
+use Rattle.cep_run.proofs.Counting.{run_counted}
 use Rattle.cep_run.specs.Turn.{position_of}
 use Rattle.cep_run.specs.declared.tally.Tally.{Tally}
 use Rattle.cep_base.proofs.Did.{did_then, did_map}
 use Rattle.cep_base.proofs.Outcomes.{on_err}
 use Rattle.cep_run.proofs.Fronts.{did_nothing}
-use Rattle.cep_run.proofs.Runs.{RunFrom, IsTold, RunThenEnd, run_ends, whole_dialogue, started_at, header_begins, run_begins_dialogue, end_begins_dialogue, run_leaves, end_leaves}
+use Rattle.cep_run.proofs.Runs.{RunFrom, IsTold, RunThenEnd, run_ends, whole_dialogue, told_otherwise, started_at, header_begins, run_begins_dialogue, end_begins_dialogue, run_leaves, end_leaves}
 use Rattle.cep_run.proofs.Unheard.{put_left}
 use Rattle.cep_run.proofs.Saying.{is_said, some_said}
 use Rattle.cep_run.proofs.dialogue.play.Goals as goal
@@ -36,16 +40,19 @@ returns-clause-said g c =
     let started = started_at program c.in_ok-config.config begun.stage begun.state begun.turns in
     let told : Did talk left c.all_turns.new.console c.finish.new.console (λ come events rest. (events ≡ outs (end_lines program.signature end.word last.spot.state)) × (rest ≡ come)) =
     subst (λ state. Did talk left c.all_turns.new.console c.finish.new.console (λ come events rest. (events ≡ outs (end_lines program.signature end.word state)) × (rest ≡ come))) c.state.ensures c.in_ok-finish.ensures.told in
-    let whole : Did talk left c.args.console.now c.finish.new.console (IsTold program settings end.word last end.offers) =
+    let counts = λ (deeds : List Deed). RoseBy (AreDeedCosts g.M.Matcher.may_edit program settings.height deeds) c.begin.new.steps c.all_turns.new.steps in
+    let whole : Did talk left c.args.console.now c.finish.new.console (IsTold program settings counts end.word last end.offers) =
     did_then talk left c.args.console.now c.begin-2.new.console c.finish.new.console _ _ _
-    (λ come first middle others rest begins run. whole_dialogue program settings end.word start last end.offers come middle rest first others started begins run)
+    (λ come first middle others rest begins run. whole_dialogue program settings counts end.word start last end.offers come middle rest first others started begins run)
     c.in_ok-begin.ensures.told
-    (did_then talk left c.begin-2.new.console c.all_turns.new.console c.finish.new.console _ _ (RunFrom program settings end.word start last end.offers)
-    (λ come second late third rest turns ends. run_ends program settings end.word start last end.offers come late rest second third turns ends)
+    (did_then talk left c.begin-2.new.console c.all_turns.new.console c.finish.new.console _ _ (RunFrom program settings counts end.word start last end.offers)
+    (λ come second late third rest turns ends. run_ends program settings counts end.word start last end.offers come late rest second third turns ends)
     c.in_ok-end.ensures.said told) in
     let tally : Tally = record { word = end.word; turns = c.turns.result; offers = end.offers; copies = c.copies.result } in
-    did_map talk left c.args.console.now c.finish.new.console _ _ (λ come events rest is. is_said program settings tally last c.one_dialogue.ensures.but_for_proofs c.one_dialogue.ensures.to_the_byte c.turns_are_deeds.ensures c.deeds_are_counted.ensures c.dialogues_have_logs.ensures c.parts.ensures.kept c.requires.height
-    c.turns.ensures (c.copies.ensures.value ∙ ap copies_in c.state-2.ensures) come events rest is) whole
+    did_map talk left c.args.console.now c.finish.new.console _ _ (λ come events rest is. is_said program settings (λ deeds. RoseBy (IsRunCost g.M.Matcher.may_begin g.M.Matcher.may_edit program settings.height deeds) c.args.steps.now c.all_turns.new.steps) tally last c.one_dialogue.ensures.but_for_proofs c.one_dialogue.ensures.to_the_byte c.turns_are_deeds.ensures c.deeds_are_counted.ensures c.dialogues_have_logs.ensures c.parts.ensures.kept c.requires.height
+    c.turns.ensures (c.copies.ensures.value ∙ ap copies_in c.state-2.ensures) come events rest
+    (told_otherwise program settings counts (λ deeds. RoseBy (IsRunCost g.M.Matcher.may_begin g.M.Matcher.may_edit program settings.height deeds) c.args.steps.now c.all_turns.new.steps) end.word last end.offers
+    (λ deeds done. run_counted g.M.Matcher.may_edit program settings.height g.M.Matcher.may_begin deeds c.args.steps.now c.begin.new.steps c.all_turns.new.steps begun.ticked done) come events rest is)) whole
 
 pub returns-in_err-config-clause-begun : goal.returns-in_err-config-clause-begun
 returns-in_err-config-clause-begun g c =
@@ -107,10 +114,10 @@ returns-in_err-finish-clause-begun g c =
     (did_then talk left c.args.console.now c.begin-2.new.console c.finish.new.console _ _ _
     (λ come first middle others rest begins ends. subst (λ es. BeginsSome (IsSomeSaid program settings) come (first ++ es) × LeavesUnheard come (first ++ es) rest) (sym ends.whole) (
       some_said program settings c.one_dialogue.ensures.but_for_proofs c.one_dialogue.ensures.to_the_byte c.turns_are_deeds.ensures c.deeds_are_counted.ensures c.dialogues_have_logs.ensures c.parts.ensures.kept c.requires.height come (first ++ (ends.turns ++ ends.end))
-          (end_begins_dialogue program settings start started come middle first begins end.word last end.offers ends.turns ends.end ends.late rest ends.runs ends.put),
-      end_leaves program settings start started come middle first begins end.word last end.offers ends.turns ends.end ends.late rest ends.runs ends.put,
+          (end_begins_dialogue program settings start started come middle first begins _ end.word last end.offers ends.turns ends.end ends.late rest ends.runs ends.put),
+      end_leaves program settings start started come middle first begins _ end.word last end.offers ends.turns ends.end ends.late rest ends.runs ends.put,
     ))
     c.in_ok-begin.ensures.told
-    (did_then talk left c.begin-2.new.console c.all_turns.new.console c.finish.new.console _ _ (RunThenEnd program settings end.word start last end.offers)
+    (did_then talk left c.begin-2.new.console c.all_turns.new.console c.finish.new.console _ _ (RunThenEnd program settings (λ (deeds : List Deed). RoseBy (AreDeedCosts g.M.Matcher.may_edit program settings.height deeds) c.begin.new.steps c.all_turns.new.steps) end.word start last end.offers)
     (λ come second late third rest runs put. record { turns = second; end = third; late = late; whole = refl; runs = runs; put = put })
     c.in_ok-end.ensures.said put))

@@ -1,4 +1,4 @@
-use Rattle.std.proofs.Common.{◌≡◌, subst, sym, ap, ◌∙◌, refl, arith}
+use Rattle.std.proofs.Common.{◌≡◌, ◌+◌, length, subst, sym, ap, ◌∙◌, refl, arith}
 use Rattle.std.proofs.lemmas.Result.{on_ok_weaker}
 use Rattle.std.proofs.lemmas.List.{take_all}
 use Rattle.std.specs.Prelude.{slice_get, Some}
@@ -7,10 +7,13 @@ use Rattle.cep_term.specs.Tree.{atom_of, IsGround}
 use Rattle.cep_term.specs.Values.{Values, atom_instance, HasValues}
 use Rattle.cep_rule.specs.Instances.{given, full_instances}
 use Rattle.cep_rule.specs.Derivations.{IsDerivable}
+use Rattle.cep_rule.specs.declared.rule.Rule.{Rule}
 use Rattle.cep_rule.specs.declared.parts.Parts.{Parts}
 use Rattle.cep_prove.specs.Answers.{IsGoal}
 use Rattle.cep_run.specs.Turn.{AddsProof, AddsProofs}
 use Rattle.cep_run.proofs.Backs.{ground_values, may_be_asked, valued, derivable_at, applied_values, applied_derivable, no_proofs, one_proof_more}
+use Rattle.cep_base.proofs.Lists.{some_same}
+use Rattle.cep_run.proofs.Counting.{on_ok}
 use Rattle.cep_run.proofs.StepLines.{applied_has_text, next_in_range, whole_step}
 use Rattle.cep_run.proofs.proving.put_step_lines.Goals as goal
 
@@ -20,7 +23,7 @@ known_values-requires g c =
     subst (AllByRecursion IsGround) (sym c.as_slice.ensures) (ground_values _ _ _ applies.values)
 
 pub loop-i-init : goal.loop-i-init
-loop-i-init g c = record { added = no_proofs c.args.program.now c.args.height c.args.offer.now.values c.put_step.new.out c.put_step.new.out refl; counted = omega arith }
+loop-i-init g c = record { added = no_proofs c.args.program.now c.args.height c.args.offer.now.values c.put_step.new.out c.put_step.new.out refl; ticked = omega arith }
 
 pub put_proof_of-requires-clause-goal : goal.put_proof_of-requires-clause-goal
 put_proof_of-requires-clause-goal g c =
@@ -65,11 +68,11 @@ loop-i-preserved g c =
     let rule = c.get-rule.result.now in
     let same : c.in_ok-known.known ≡ given offer.values = c.in_ok-known.ensures ∙ ap given c.as_slice.ensures in
     let one = subst (λ (known : Values). AddsProof program c.args.height (atom_instance known (atom_of c.get-premise.result.now)) c.loop-i.out c.put_proof_of.new.out) same c.in_ok-put_proof_of.ensures.ok in
-    let before = c.loop-i.invariant.counted in
-    let later = c.in_ok-put_proof_of.ensures.counted in
+    let before = c.loop-i.invariant.ticked in
+    let later = c.put_proof_of.ensures.ticked in
     record {
       added = one_proof_more program c.args.height offer.values rule.backs c.loop-i.i (atom_of c.get-premise.result.now) c.put_step.new.out c.loop-i.out c.put_proof_of.new.out c.get-premise.ensures c.loop-i.invariant.added one;
-      counted = omega (arith, before, later);
+      ticked = omega (arith, before, later);
     }
 
 pub put_step-requires : goal.put_step-requires
@@ -94,3 +97,14 @@ returns-clause-ok g c =
     on_ok_weaker c.put_next.result
     (λ e. whole_step program c.args.height offer rule c.args.out.now c.put_step.new.out c.loop-i.out c.put_next.new.out numbered c.in_ok-put_step.ensures.ok proved e)
     c.put_next.ensures.ok
+
+pub returns-clause-ticked : goal.returns-clause-ticked
+returns-clause-ticked g c =
+    let program = c.args.program.now in
+    let offer = c.args.offer.now in
+    let numbered : slice_get program.rules offer.rule ≡ Some c.get-rule.result.now = subst (λ (p : Parts). slice_get p.rules offer.rule ≡ Some c.get-rule.result.now) c.parts.ensures.parts c.get-rule.ensures in
+    let end = c.len-i-end.ensures in
+    let done = c.loop-i-test.false in
+    let ticked = c.loop-i.invariant.ticked in
+    let all : c.loop-i.steps ≡ c.args.steps.now + length c.get-rule.result.now.backs = omega (arith, end, done, ticked) in
+    on_ok c.put_next.result _ (λ rule is. subst (λ (one : Rule). c.loop-i.steps ≡ c.args.steps.now + length one.backs) (some_same c.get-rule.result.now rule (sym numbered ∙ is)) all)

@@ -4,7 +4,7 @@ use Rattle.cep_machine.specs.Configuration.{IsConfigurationOf}
 use Rattle.cep_machine.specs.Stepping.{config_after}
 use Rattle.cep_base.proofs.Did.{did_same, did_map}
 use Rattle.cep_base.proofs.Outcomes.{on_err}
-use Rattle.cep_run.proofs.Turns.{copy_applies, done_acts, cut_acts, limit_acts, limit_played}
+use Rattle.cep_run.proofs.Turns.{copy_applies, done_acts, done_rose, cut_acts, limit_acts, limit_rose, limit_played}
 use Rattle.cep_run.proofs.turn.act.Goals as goal
 
 pub returns-in-Done-clause-acted : goal.returns-in-Done-clause-acted
@@ -23,6 +23,24 @@ returns-clause-acted g c =
     c.matcher.result.now c.matcher.ensures.matcher c.offer-chosen.result.now c.in_ok-offer.offer c.offer-chosen.ensures c.in_ok-offer.ensures
     g.C.Console.talk g.C.Console.left c.args.console.now c.args.settings.height _ c.in_ok-config.ensures.stepped
     c.in-Limit.config c.in-Limit.which c.in-Limit.number c.in-Limit.is c.word_of.result c.word_of.ensures _ c.over.ensures
+
+pub returns-in-Done-clause-ticked : goal.returns-in-Done-clause-ticked
+returns-in-Done-clause-ticked g c =
+    done_rose g.M.Matcher.height_held g.M.Matcher.state_held g.M.Matcher.offers_held c.args.program.now c.args.group c.args.place c.args.config
+    (g.met.M.Matcher.exact c.args.program.now c.args.config.matcher c.requires.played.of_program.matcher) c.requires.listed c.requires.asked
+    c.matcher.result.now c.matcher.ensures.matcher c.offer-chosen.result.now c.in_ok-offer.offer c.offer-chosen.ensures c.in_ok-offer.ensures
+    g.C.Console.talk g.C.Console.left c.args.console.now c.args.settings.height _ c.in_ok-config.ensures.stepped
+    g.M.Matcher.may_edit c.in-Done.config c.in-Done.is c.args.steps.now c.step.new.steps c.put_step_lines.new.steps
+    c.in_ok-config.ensures.ticked c.in_ok-put_step_lines-in-Done.ensures.ticked c.args.settings.height c.requires.played.height
+
+pub returns-clause-ticked : goal.returns-clause-ticked
+returns-clause-ticked g c =
+    limit_rose g.M.Matcher.height_held g.M.Matcher.state_held g.M.Matcher.offers_held c.args.program.now c.args.group c.args.place c.args.config
+    (g.met.M.Matcher.exact c.args.program.now c.args.config.matcher c.requires.played.of_program.matcher) c.requires.listed c.requires.asked
+    c.matcher.result.now c.matcher.ensures.matcher c.offer-chosen.result.now c.in_ok-offer.offer c.offer-chosen.ensures c.in_ok-offer.ensures
+    g.C.Console.talk g.C.Console.left c.args.console.now c.args.settings.height _ c.in_ok-config.ensures.stepped
+    c.in-Limit.config c.in-Limit.which c.in-Limit.number c.in-Limit.is g.M.Matcher.may_edit c.args.steps.now c.step.new.steps
+    c.in_ok-config.ensures.ticked c.args.settings.height c.word_of.result _ c.over.ensures
 
 pub returns-in-Done-clause-played : goal.returns-in-Done-clause-played
 returns-in-Done-clause-played g c =

@@ -1,12 +1,14 @@
-use Rattle.std.proofs.Common.{refl, sym, subst}
+use Rattle.std.proofs.Common.{◌≡◌, refl, sym, subst}
 use Rattle.std.specs.Prelude.{IsNone}
-use Rattle.std.proofs.lemmas.Result.{IfOk-weaker, on_err_weaker}
+use Rattle.std.proofs.lemmas.Result.{on_err_weaker}
 use Rattle.cep_base.proofs.Outcomes.{on_err}
 use Rattle.cep_rule.specs.Stages.{IsQuiet}
-use Rattle.cep_rule.specs.Matching.{offers_of}
+use Rattle.cep_rule.specs.Matching.{offers_of, RoseBy}
 use Rattle.cep_machine.specs.Asking.{asked_offers}
+use Rattle.cep_run.specs.Costs.{IsDeedCost}
 use Rattle.cep_run.specs.Turn.{position_of, IsTurned}
 use Rattle.cep_base.proofs.Did.{did_same, did_map}
+use Rattle.cep_run.proofs.Counting.{both_ok}
 use Rattle.cep_run.proofs.Turns.{offers_have_texts, group_listed, group_offers, quiet_turn, crowds_here, no_more_here, no_room_here, chosen_here, decision_refused, act_refused}
 use Rattle.cep_run.proofs.turn.turn.Goals as goal
 
@@ -20,8 +22,9 @@ returns-in_default-clause-turned g c =
     let spent = c.args.spent.now in
     let quiet = (c.asked.ensures.quiet program c.requires.played.of_program).0 (subst (λ o. IsNone o) (sym c.in_default.is) refl) in
     let is = subst (λ h. IsQuiet program h config.state config.stage) c.requires.played.height quiet in
-    subst (λ t. IsTurned talk left console console program c.args.settings (asked_offers (g.M.Matcher.offers_held config.matcher) config.stage) config spent spent t) (sym c.over.ensures) (
+    subst (λ t. IsTurned talk left console console program c.args.settings (λ deed. RoseBy (IsDeedCost g.M.Matcher.may_edit c.args.program.now c.args.settings.height deed) c.args.steps.now c.args.steps.now) (c.args.steps.now ≡ c.args.steps.now) (asked_offers (g.M.Matcher.offers_held config.matcher) config.stage) config spent spent t) (sym c.over.ensures) (
       did_map talk left console console _ _ (λ come events rest same. quiet_turn program c.args.settings (position_of config) spent come events rest is same) (did_same talk left console console refl refl),
+      refl,
       refl,
     )
 
@@ -30,7 +33,7 @@ returns-then-not-len_ok-clause-turned g c =
     crowds_here g.M.Matcher.is_of g.M.Matcher.height_held g.M.Matcher.state_held g.M.Matcher.offers_held c.args.program.now c.args.settings c.args.config c.in-Some.group c.requires.played
     (g.met.M.Matcher.exact c.args.program.now c.args.config.matcher c.requires.played.of_program.matcher) c.matcher.ensures.same_state c.matcher.ensures.listed c.in-Some.ensures.listed (c.in-Some.ensures.asked c.args.program.now c.requires.played.of_program) _ c.in-Some.ensures.offers
     c.requires.remain g.C.Console.talk g.C.Console.left c.args.console.now c.args.spent.now
-    c.matcher.result.now c.matcher.ensures.matcher c.len_ok.result c.len_ok.ensures c.if-not-len_ok.true _ c.over-then-not-len_ok.ensures
+    _ _ refl c.matcher.result.now c.matcher.ensures.matcher c.len_ok.result c.len_ok.ensures c.if-not-len_ok.true _ c.over-then-not-len_ok.ensures
 
 pub decide-requires-clause-offers : goal.decide-requires-clause-offers
 decide-requires-clause-offers g c =
@@ -44,12 +47,12 @@ pub decide-requires-clause-some : goal.decide-requires-clause-some
 decide-requires-clause-some g c = group_offers (g.M.Matcher.offers_held c.args.config.matcher) c.args.config.stage c.in-Some.group c.in-Some.ensures.listed
 
 pub returns-in-Place-clause-turned : goal.returns-in-Place-clause-turned
-returns-in-Place-clause-turned g c = IfOk-weaker c.act.result _ _ (λ turned acted.
+returns-in-Place-clause-turned g c = both_ok c.act.result _ _ _ (λ turned acted rose.
     chosen_here g.M.Matcher.is_of g.M.Matcher.height_held g.M.Matcher.state_held g.M.Matcher.offers_held c.args.program.now c.args.settings c.args.config c.in-Some.group c.requires.played
     (g.met.M.Matcher.exact c.args.program.now c.args.config.matcher c.requires.played.of_program.matcher) c.matcher.ensures.same_state c.matcher.ensures.listed c.in-Some.ensures.listed (c.in-Some.ensures.asked c.args.program.now c.requires.played.of_program) _ c.in-Some.ensures.offers
     c.requires.remain g.C.Console.talk g.C.Console.left c.args.console.now c.args.spent.now c.decide.new.console c.decide.new.spent c.matcher.result.now c.matcher.ensures.matcher
     (c.len_ok.ensures.0 c.if-not-len_ok.false)
-    c.in-Place.place _ c.in-Place.is c.in_ok-place.ensures.settled c.act.new.console turned acted) c.act.ensures.acted
+    g.M.Matcher.may_edit c.args.steps.now c.act.new.steps c.in-Place.place _ c.in-Place.is c.in_ok-place.ensures.settled c.act.new.console turned acted rose) c.act.ensures.acted c.act.ensures.ticked
 
 pub returns-in-NoMore-clause-turned : goal.returns-in-NoMore-clause-turned
 returns-in-NoMore-clause-turned g c =
@@ -57,7 +60,7 @@ returns-in-NoMore-clause-turned g c =
     (g.met.M.Matcher.exact c.args.program.now c.args.config.matcher c.requires.played.of_program.matcher) c.matcher.ensures.same_state c.matcher.ensures.listed c.in-Some.ensures.listed (c.in-Some.ensures.asked c.args.program.now c.requires.played.of_program) _ c.in-Some.ensures.offers
     c.requires.remain g.C.Console.talk g.C.Console.left c.args.console.now c.args.spent.now c.decide.new.console c.decide.new.spent c.matcher.result.now c.matcher.ensures.matcher
     (c.len_ok.ensures.0 c.if-not-len_ok.false)
-    _ c.in-NoMore.is c.in_ok-place.ensures.settled _ c.over-in-NoMore.ensures
+    _ _ refl _ c.in-NoMore.is c.in_ok-place.ensures.settled _ c.over-in-NoMore.ensures
 
 pub returns-in-NoRoom-clause-turned : goal.returns-in-NoRoom-clause-turned
 returns-in-NoRoom-clause-turned g c =
@@ -65,7 +68,7 @@ returns-in-NoRoom-clause-turned g c =
     (g.met.M.Matcher.exact c.args.program.now c.args.config.matcher c.requires.played.of_program.matcher) c.matcher.ensures.same_state c.matcher.ensures.listed c.in-Some.ensures.listed (c.in-Some.ensures.asked c.args.program.now c.requires.played.of_program) _ c.in-Some.ensures.offers
     c.requires.remain g.C.Console.talk g.C.Console.left c.args.console.now c.args.spent.now c.decide.new.console c.decide.new.spent c.matcher.result.now c.matcher.ensures.matcher
     (c.len_ok.ensures.0 c.if-not-len_ok.false)
-    _ c.in-NoRoom.is c.in_ok-place.ensures.settled _ c.over-in-NoRoom.ensures
+    _ _ refl _ c.in-NoRoom.is c.in_ok-place.ensures.settled _ c.over-in-NoRoom.ensures
 
 pub returns-in_err-place-clause-begun : goal.returns-in_err-place-clause-begun
 returns-in_err-place-clause-begun g c =
