@@ -1,5 +1,4 @@
 mod Buying
 mod Held
-mod Kept
 mod Sealing
 mod Spelled

@@ -5,6 +5,7 @@ ghost use Rattle.cep_tests_facts.specs.Shop.{shop};
 
 use crate::shop::{BUY, FURNISH, GREET, RING, VISIT, alone, few_atoms, shop, state_of};
 use cep_base::Steps;
+use cep_net::Net;
 use cep_rule::laws::edits_gain;
 use cep_rule::{Matcher, Program};
 use cep_scratch::{Scratch, applies_any};
@@ -101,7 +102,8 @@ fn state_with(alloc: Global, program: &Program, coins: u32) -> Result<Bag, Fail>
     }
 }
 
-// How many offers the group has where so many coins are, counted by a ledger.
+// How many offers the group has where so many coins are, counted by a ledger. It fails where the network
+// and the matcher from scratch differ.
 fn offers_by<L: Ledger>(
     alloc: Global,
     coins: u32,
@@ -116,7 +118,12 @@ fn offers_by<L: Ledger>(
     let mut steps = Steps::<L>::new(blank);
     let program = shop(alloc)?;
     let state = state_with(alloc, &program, coins)?;
-    offers_in::<Scratch, L>(alloc, &program, &state, buys, group, &mut steps)
+    let anew = offers_in::<Scratch, L>(alloc, &program, &state, buys, group, &mut steps)?;
+    let kept = offers_in::<Net, L>(alloc, &program, &state, buys, group, &mut steps)?;
+    if kept != anew {
+        return Err(Fail::from("other offers"));
+    }
+    Ok(anew)
 }
 
 // How many offers the group has where so many coins are, or once a lamp was bought there.

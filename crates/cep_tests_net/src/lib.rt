@@ -1,0 +1,7 @@
+//! Tests of the network: beside the matcher from scratch, and by itself.
+#![tactic(auto)]
+
+#[cfg(test)]
+mod beside;
+#[cfg(test)]
+mod worlds;
