@@ -64,11 +64,15 @@ told_among State = (4, lit< tt, refl)
 pub told_not_7 : (word : EndWord) → code_told word ≢ 7
 told_not_7 word e = ⊎_elim (λ ended. absurd (omega (arith, e, ended))) (λ limited. absurd (omega (arith, e, limited))) (told_is word)
 
+-- less may be said of the turns and the end
+pub said_less : (program : Parts) (settings : Settings) (P Q : List Turn → Ending → Type 0) → ((turns : List Turn) (ending : Ending) → P turns ending → Q turns ending) → (come : List ℕ) (events : List Event) (rest : List ℕ) → IsSaid program settings P come events rest → IsSaid program settings Q come events rest
+said_less program settings P Q less come events rest said =
+    record { turns = said.turns; ending = said.ending; dialogue = said.dialogue; holds = less said.turns said.ending said.holds; deeds = said.deeds; counted = said.counted; logged = said.logged; only = said.only; to_the_byte = said.to_the_byte }
+
 module _ {C : Type 0} (talk : C → Option (List Event)) (left : C → Option (List ℕ)) (old new : C) where
-  -- less may be said of the turns and the end
   pub says_less : (program : Parts) (settings : Settings) (P Q : List Turn → Ending → Type 0) → ((turns : List Turn) (ending : Ending) → P turns ending → Q turns ending) → Says talk left old new program settings P → Says talk left old new program settings Q
   says_less program settings P Q less says =
-      did_map talk left old new _ _ (λ come events rest said. record { turns = said.turns; ending = said.ending; dialogue = said.dialogue; holds = less said.turns said.ending said.holds; deeds = said.deeds; counted = said.counted; logged = said.logged; only = said.only; to_the_byte = said.to_the_byte }) says
+      did_map talk left old new _ _ (said_less program settings P Q less) says
 
 -- derivations do not count
 turns_counted : (turns : List Turn) → length (map unproved turns) ≡ length turns

@@ -1,5 +1,6 @@
 pub mod Judged
 pub mod Done
+pub mod Counting
 pub mod Telling
 pub mod OneDue
 pub mod Begins

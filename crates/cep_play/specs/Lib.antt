@@ -5,6 +5,7 @@ pub mod Check
 pub mod World
 pub mod Due
 pub mod Answered
+pub mod Counted
 pub mod Begun
 pub mod Outcome
 pub mod CutShort

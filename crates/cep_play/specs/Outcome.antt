@@ -19,7 +19,7 @@ use Rattle.cep_check.specs.declared.cause.Verdict.{Verdict}
 use Rattle.cep_check.specs.declared.cause.Verdict.TheVariants as verdicts
 use Rattle.cep_world.specs.World.{world}
 use Rattle.cep_words.specs.declared.options.Options.{Options}
-use Rattle.cep_words.specs.Words.{Check, HaveNoForm}
+use Rattle.cep_words.specs.Words.{Play, Check, HaveNoForm}
 use Rattle.cep_run.specs.Said.{Says}
 use Rattle.cep_play.specs.declared.loading.NoProgram.{NoProgram}
 use Rattle.cep_play.specs.declared.loading.NoProgram.TheVariants as none
@@ -35,6 +35,7 @@ use Rattle.cep_play.specs.Command.{OfRequest, OfFile, IsProgramText, IsSpelledBy
 use Rattle.cep_play.specs.Outside.{code_told}
 use Rattle.cep_play.specs.Check.{Accepts, Rejects}
 use Rattle.cep_play.specs.World.{summary, IsTallied}
+use Rattle.cep_play.specs.Counted.{RoseByRun, OfTour, RoseByRequest}
 use Rattle.cep_play.specs.Answered.{DoesWhatIsDue, IsNoDialogue, IsSpelled, IsWritten}
 
 -- these bytes are written, and nothing is read
@@ -99,6 +100,17 @@ abbrev pub RunsWorld : {C : Type 0} → (C → Option (List Event)) → (C → O
 RunsWorld talk left old new rooms options (toured.Ended tally) =
     (program : Parts) × IsSpelledBy program (world rooms) × IsTallied program options tally × Wrote talk left old new (summary rooms (unwrap_or options.seed DEFAULT_SEED) tally)
 RunsWorld talk left old new rooms options toured.Refused = Refuses talk left old new (world rooms)
+
+-- How the counter rose where a program was played to an end, or a world was run to one
+
+abbrev pub PlayRose : {C : Type 0} → (C → Option (List Event)) → (C → Option (List ℕ)) → C → C → Option Files → List ℕ → Options → ℕ → ℕ → Played → Type 0
+PlayRose talk left old new files name options ticks ticks' (played.Ended word) = RoseByRequest talk left old new files ticks ticks' (Play name options)
+PlayRose talk left old new files name options ticks ticks' (played.Without why) = Unit {0}
+
+abbrev pub TourRose : ℕ → Options → ℕ → ℕ → Toured → Type 0
+TourRose rooms options ticks ticks' (toured.Ended tally) =
+    (program : Parts) × IsSpelledBy program (world rooms) × OfTour program (settings_of program options) (RoseByRun program (settings_of program options) ticks ticks')
+TourRose rooms options ticks ticks' toured.Refused = Unit {0}
 
 -- Their statuses
 

@@ -5,6 +5,7 @@ ghost use Rattle.cep_base.specs.Faults.{Rose};
 ghost use Rattle.cep_words.specs.Words.{HaveNoForm};
 ghost use Rattle.cep_play.specs.Command.{OfRequest, AsksFor, AsksUpTo, Adds};
 ghost use Rattle.cep_play.specs.Answered.{DoesWhatIsDue, IsNoDialogue, IsSpelled, IsWritten, TellsAllThatIsDue};
+ghost use Rattle.cep_play.specs.Counted.{RoseByAll};
 ghost use Rattle.cep_play.specs.Begun.{BeginsWhatIsDue, AsksFrontOfAll};
 ghost use Rattle.cep_play.specs.Outcome.{CommandDid, AskedInVain};
 ghost use Rattle.cep_play.specs.CutShort.{InVain, BeginsCommand};
@@ -37,6 +38,7 @@ fn command<C: Console, H: Shelf, L: Ledger>(
     ensures cause { ConsoleCause (C.faults console.old) (C.faults console.new) result }
     ensures asked { AskedInVain (H.files shelf.old) (Rose (H.faults shelf.old) (H.faults shelf.new)) (H.asked shelf.old) (map string_bytes words.now) (H.asked shelf.new) result }
     ensures files { H.files shelf.new ≡ H.files shelf.old }
+    ensures ticked { IfOk result (λ code. (code ≡ 0) ⊎ (code ≡ 4) → RoseByAll C.talk C.left console.old console.new (H.files shelf.old) steps.old steps.new (map string_bytes words.now)) }
     ensures counted { steps.old ≤ steps.new }
 {
     one_request();
@@ -84,7 +86,8 @@ fn command<C: Console, H: Shelf, L: Ledger>(
 /// | 9 | memory ran out |
 ///
 /// After 6 what was said and heard is a front of something that is due, and after 9 too, or nothing was
-/// said and heard. `steps` counts matching steps.
+/// said and heard. `steps` counts matching steps: attempts to extend a match, and backward premises that
+/// are asked.
 pub fn ceptre<C: Console, H: Shelf, L: Ledger>(
     alloc: Global,
     words: &[String],
@@ -124,7 +127,8 @@ pub fn ceptre<C: Console, H: Shelf, L: Ledger>(
     ensures asked_at_most { result ≡ 9 → OfRequest (map string_bytes words.now) (AsksUpTo (H.files shelf.old) (Adds (H.asked shelf.old) (H.asked shelf.new))) ⊎ (H.asked shelf.new ≡ H.asked shelf.old) }
     ensures files { H.files shelf.new ≡ H.files shelf.old }
 
-    // The counter of matching steps never falls.
+    // The counter of matching steps rises by no more than what the network may tick for the turns that were done, and one for each backward premise of what was done in them. It never falls.
+    ensures ticked { (result ≡ 0) ⊎ (result ≡ 4) → RoseByAll C.talk C.left console.old console.new (H.files shelf.old) steps.old steps.new (map string_bytes words.now) }
     ensures counted { steps.old ≤ steps.new }
 {
     one_request();

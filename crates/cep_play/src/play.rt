@@ -8,16 +8,17 @@ ghost use Rattle.cep_run.specs.Fronts.{FellShort};
 ghost use Rattle.cep_run.specs.Said.{Says, IsSomeSaid};
 ghost use Rattle.cep_play.specs.Command.{settings_of};
 ghost use Rattle.cep_play.specs.Outside.{code_told};
-ghost use Rattle.cep_play.specs.Outcome.{PlaysFile, code_played, CountsBy, AsksFile};
+ghost use Rattle.cep_play.specs.Counted.{RoseByRun};
+ghost use Rattle.cep_play.specs.Outcome.{PlaysFile, PlayRose, code_played, CountsBy, AsksFile};
 ghost use Rattle.cep_play.specs.CutShort.{InVain, BeginsPlay};
 
 use crate::loading::{NoProgram, program_in};
 use crate::settings::settings_of;
 use cep_base::{Console, ConsoleFault, Shelf, Steps};
 use cep_log::EndWord;
+use cep_net::Net;
 use cep_rule::Program;
 use cep_run::play;
-use cep_scratch::Scratch;
 use cep_words::Options;
 use std::alloc::Global;
 use std::sync::ledger::Ledger;
@@ -63,12 +64,13 @@ fn play_program<C: Console, L: Ledger>(
 ) -> Result<EndWord, ConsoleFault>
     requires within { AreWithin options }
     ensures said { IfOk result (λ word. Says C.talk C.left console.old console.new program.now (settings_of program.now options) (λ turns ending. ending.word ≡ word)) }
+    ensures ticked { IfOk result (λ _. Says C.talk C.left console.old console.new program.now (settings_of program.now options) (RoseByRun program.now (settings_of program.now options) steps.old steps.new)) }
     ensures begun { OnErr result (FellShort C.talk C.left console.old console.new (λ come. come) (IsSomeSaid program.now (settings_of program.now options))) }
     ensures counted { steps.old ≤ steps.new }
     ensures cause { ConsoleCause (C.faults console.old) (C.faults console.new) result }
 {
     let settings = settings_of(program, options);
-    let tally = play::<Scratch, C, L>(alloc, program, settings, console, steps)?;
+    let tally = play::<Net, C, L>(alloc, program, settings, console, steps)?;
     Ok(tally.word)
 }
 
@@ -88,6 +90,7 @@ pub(crate) fn play_file<C: Console, H: Shelf, L: Ledger>(
     ensures faults { IfOk result (λ played. CountsBy (H.faults shelf.old) (H.faults shelf.new) (code_played played)) }
     ensures asked { AsksFile (H.asked shelf.old) file.now (H.asked shelf.new) result }
     ensures files { H.files shelf.new ≡ H.files shelf.old }
+    ensures ticked { IfOk result (PlayRose C.talk C.left console.old console.new (H.files shelf.old) file.now options steps.old steps.new) }
     ensures counted { steps.old ≤ steps.new }
 {
     match program_in(alloc, file, console, shelf)? {

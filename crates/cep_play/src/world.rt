@@ -5,9 +5,10 @@ ghost use Rattle.cep_base.specs.Talk.{ConsoleCause};
 ghost use Rattle.cep_words.specs.Words.{AreWithin, IsUpTo};
 ghost use Rattle.cep_world.specs.World.{world};
 ghost use Rattle.cep_play.specs.declared.loading.NoProgram.TheVariants.{Refused};
-ghost use Rattle.cep_play.specs.Command.{IsSpelledBy};
+ghost use Rattle.cep_play.specs.Command.{IsSpelledBy, settings_of};
 ghost use Rattle.cep_play.specs.World.{summary, IsTallied};
-ghost use Rattle.cep_play.specs.Outcome.{Wrote, Refuses, RunsWorld, code_toured};
+ghost use Rattle.cep_play.specs.Counted.{RoseByRun, OfTour};
+ghost use Rattle.cep_play.specs.Outcome.{Wrote, Refuses, RunsWorld, TourRose, code_toured};
 ghost use Rattle.cep_play.specs.CutShort.{InVain, BeginsRefusal, BeginsSummary, BeginsTour};
 
 use crate::loading::{NoProgram, program_of};
@@ -17,9 +18,9 @@ use crate::silence::Silence;
 use crate::summary::put_summary;
 use cep_base::limits::DEFAULT_SEED;
 use cep_base::{Console, ConsoleFault, Steps, Text};
+use cep_net::Net;
 use cep_rule::Program;
 use cep_run::{Tally, play};
-use cep_scratch::Scratch;
 use cep_words::Options;
 use cep_world::world_text;
 use std::alloc::Global;
@@ -57,6 +58,7 @@ fn tour_program<C: Console, L: Ledger>(
 ) -> Result<Tally, ConsoleFault>
     requires { AreWithin options }
     ensures tallied { IfOk result (IsTallied program.now options) }
+    ensures ticked { IfOk result (λ _. OfTour program.now (settings_of program.now options) (RoseByRun program.now (settings_of program.now options) steps.old steps.new)) }
     ensures summed { IfOk result (λ tally. Wrote C.talk C.left console.old console.new (summary rooms (unwrap_or options.seed DEFAULT_SEED) tally)) }
     ensures begun { IfErr result (λ fault. InVain fault (BeginsSummary C.talk C.left console.old console.new program.now rooms options) (console.new ≡ console.old)) }
     ensures counted { steps.old ≤ steps.new }
@@ -64,7 +66,7 @@ fn tour_program<C: Console, L: Ledger>(
 {
     let mut silence = Silence;
     let settings = settings_of(program, options);
-    let tally = play::<Scratch, Silence, L>(alloc, program, settings, &mut silence, steps)?;
+    let tally = play::<Net, Silence, L>(alloc, program, settings, &mut silence, steps)?;
     let seed = options.seed.unwrap_or(DEFAULT_SEED);
     let mut lines = Text::new(alloc);
     put_summary(rooms, seed, tally, &mut lines)?;
@@ -100,6 +102,7 @@ pub(crate) fn run_world<C: Console, L: Ledger>(
     requires rooms { IsUpTo MOST_WORLD rooms }
     requires within { AreWithin options }
     ensures outcome { IfOk result (RunsWorld C.talk C.left console.old console.new rooms options) }
+    ensures ticked { IfOk result (TourRose rooms options steps.old steps.new) }
     ensures begun { IfErr result (λ fault. InVain fault (BeginsTour C.talk C.left console.old console.new rooms options) (console.new ≡ console.old)) }
     ensures counted { steps.old ≤ steps.new }
     ensures cause { ConsoleCause (C.faults console.old) (C.faults console.new) result }

@@ -1,4 +1,4 @@
-use Rattle.std.proofs.Common.{◌≡◌, map, refl, lit<, inl, inr, ⊎_elim, subst}
+use Rattle.std.proofs.Common.{◌≡◌, map, refl, lit<, inl, inr, ⊎_elim, subst, arith}
 use Rattle.std.specs.Prelude.{string_bytes, Err}
 use Rattle.cep_base.specs.declared.console.ConsoleFault.{ConsoleFault}
 use Rattle.cep_base.specs.Faults.{Rose}
@@ -82,3 +82,12 @@ returns-in-Err-Memory-clause-begun_or_silent g c = λ nine.
     let asked = subst (λ (fault : ConsoleFault). AskedInVain files unread before words after (Err fault)) c.in-Err-Memory.field-0-is c.in-Err-Memory.ensures.asked in
     ⊎_elim (λ begun. inl begun) (λ same. inr (same, fronts_asked c.one_request.ensures words files before after asked))
     (subst (λ (fault : ConsoleFault). InVain fault (BeginsCommand g.C.Console.talk g.C.Console.left c.args.console.now c.command.new.console words files unread before after) (c.command.new.console ≡ c.args.console.now)) c.in-Err-Memory.field-0-is c.in-Err-Memory.ensures.begun)
+
+pub returns-in-Ok-clause-ticked : goal.returns-in-Ok-clause-ticked
+returns-in-Ok-clause-ticked g c = c.in-Ok.ensures.ticked
+
+pub returns-in-Err-Failed-clause-ticked : goal.returns-in-Err-Failed-clause-ticked
+returns-in-Err-Failed-clause-ticked g c = λ ran. absurd (⊎_elim (λ e. absurd (omega (arith, e))) (λ e. absurd (omega (arith, e))) ran)
+
+pub returns-in-Err-Memory-clause-ticked : goal.returns-in-Err-Memory-clause-ticked
+returns-in-Err-Memory-clause-ticked g c = λ ran. absurd (⊎_elim (λ e. absurd (omega (arith, e))) (λ e. absurd (omega (arith, e))) ran)

@@ -1,4 +1,4 @@
-use Rattle.std.proofs.Common.{map, refl, sym, subst}
+use Rattle.std.proofs.Common.{◌≡◌, ◌⊎◌, map, refl, sym, subst}
 use Rattle.std.specs.Prelude.{string_bytes, Ok, Err}
 use Rattle.std.proofs.lemmas.Result.{err_from_is_err_and}
 use Rattle.cep_base.specs.Faults.{Rose}
@@ -6,9 +6,10 @@ use Rattle.cep_words.specs.declared.request.Request as code
 use Rattle.cep_words.specs.Words.{AskFor}
 use Rattle.cep_words.specs.Requests.{request_of}
 use Rattle.cep_play.specs.declared.play.Played.{Played}
-use Rattle.cep_play.specs.Outcome.{PlaysFile, ChecksFile, AsksFile, AsksFiles, CommandDid}
+use Rattle.cep_play.specs.Outcome.{PlaysFile, PlayRose, ChecksFile, AsksFile, AsksFiles, CommandDid}
 use Rattle.cep_play.specs.CutShort.{BeginsPlay, BeginsCheck}
 use Rattle.cep_play.proofs.Begins.{in_vain, begun_in_vain, raised, play_begun, check_begun, tour_begun, usage_begun}
+use Rattle.cep_play.proofs.Counting.{play_rose, check_rose, tour_rose, usage_rose}
 use Rattle.cep_play.proofs.Done.{play_done, check_done, tour_done, usage_done, adds_none, played_in_vain, checked_in_vain, toured_in_vain}
 use Rattle.cep_play.proofs.command.command.Goals as goal
 
@@ -171,3 +172,35 @@ returns-in_err-put-in-None-clause-begun g c =
     let wrote = c.in_err-put-in-None.ensures in
     raised c.from_residual.result _ _ _ failed.0 failed.1 refl (begun_in_vain failed.0 _ _
     (usage_begun talk left old c.put.new.self words files (Rose faults faults) (asked c.args.shelf.now) (asked c.args.shelf.now) c.in-None.ensures refl (wrote.part.0, wrote.part.1, wrote.left)))
+
+pub returns-in-Ok-clause-ticked : goal.returns-in-Ok-clause-ticked
+returns-in-Ok-clause-ticked g c =
+    let words = map string_bytes c.args.words.now in
+    let files = g.H.Shelf.files c.args.shelf.now in
+    let in_arm = c.in-Some-Play in
+    let what = c.in-Ok.played in
+    λ ran.
+    play_rose g.C.Console.talk g.C.Console.left c.args.console.now c.play_file.new.console files c.args.steps.now c.play_file.new.steps words c.one_request.ensures (string_bytes in_arm.file.now) in_arm.options what
+    (subst (λ (request : code.Request). AskFor words (request_of request)) c.in-Some-Play.field-0-is c.in-Some-Play.ensures)
+    (subst (λ name. PlayRose g.C.Console.talk g.C.Console.left c.args.console.now c.play_file.new.console files name in_arm.options c.args.steps.now c.play_file.new.steps what) c.as_str-file.ensures.value c.in-Ok.ensures.ticked)
+    (subst (λ n. (n ≡ 0) ⊎ (n ≡ 4)) c.code.ensures ran)
+
+pub returns-in-Ok-check_file-clause-ticked : goal.returns-in-Ok-check_file-clause-ticked
+returns-in-Ok-check_file-clause-ticked g c =
+    let words = map string_bytes c.args.words.now in
+    let in_arm = c.in-Some-Check in
+    λ _.
+    check_rose g.C.Console.talk g.C.Console.left c.args.console.now c.check_file.new.console (g.H.Shelf.files c.args.shelf.now) c.args.steps.now c.check_file.new.steps words c.one_request.ensures (string_bytes in_arm.file.now) (string_bytes in_arm.log.now)
+    (subst (λ (request : code.Request). AskFor words (request_of request)) c.in-Some-Check.field-0-is c.in-Some-Check.ensures)
+
+pub returns-in-Ok-run_world-clause-ticked : goal.returns-in-Ok-run_world-clause-ticked
+returns-in-Ok-run_world-clause-ticked g c =
+    let words = map string_bytes c.args.words.now in
+    let in_arm = c.in-Some-World in
+    λ ran.
+    tour_rose g.C.Console.talk g.C.Console.left c.args.console.now c.run_world.new.console (g.H.Shelf.files c.args.shelf.now) c.args.steps.now c.run_world.new.steps words c.one_request.ensures in_arm.rooms in_arm.options c.in-Ok-run_world.toured
+    (subst (λ (request : code.Request). AskFor words (request_of request)) c.in-Some-World.field-0-is c.in-Some-World.ensures) c.in-Ok-run_world.ensures.ticked
+    (subst (λ n. (n ≡ 0) ⊎ (n ≡ 4)) c.code-in-Ok-run_world.ensures ran)
+
+pub returns-in_ok-put-in-None-clause-ticked : goal.returns-in_ok-put-in-None-clause-ticked
+returns-in_ok-put-in-None-clause-ticked g c = λ _. usage_rose g.C.Console.talk g.C.Console.left c.args.console.now c.put.new.self (g.H.Shelf.files c.args.shelf.now) c.args.steps.now c.args.steps.now (map string_bytes c.args.words.now) c.one_request.ensures c.in-None.ensures

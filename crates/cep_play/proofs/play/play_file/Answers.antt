@@ -3,6 +3,7 @@ use Rattle.std.proofs.lemmas.Result.{err_from_is_err_and}
 use Rattle.cep_run.specs.Fronts.{FellShort}
 use Rattle.cep_run.specs.Said.{Says, IsSomeSaid}
 use Rattle.cep_play.specs.Command.{settings_of}
+use Rattle.cep_play.specs.Counted.{RoseByRun}
 use Rattle.cep_play.proofs.Begins.{in_vain, raised, begun_in_vain}
 use Rattle.cep_play.proofs.play.play_file.Goals as goal
 
@@ -12,6 +13,15 @@ returns-in_ok-word-in-Ok-clause-outcome g c =
       c.in-Ok.program,
       found.0,
       subst (λ old. Says g.C.Console.talk g.C.Console.left old c.play_program.new.console c.in-Ok.program (settings_of c.in-Ok.program c.args.options) (λ turns ending. ending.word ≡ c.in_ok-word-in-Ok.word)) found.1 c.in_ok-word-in-Ok.ensures.said,
+    )
+
+pub returns-in_ok-word-in-Ok-clause-ticked : goal.returns-in_ok-word-in-Ok-clause-ticked
+returns-in_ok-word-in-Ok-clause-ticked g c =
+    let found = rw c.in-Ok.is at c.in_ok-program.ensures.program in
+    let settings = settings_of c.in-Ok.program c.args.options in (
+      c.in-Ok.program,
+      found.0,
+      subst (λ old. Says g.C.Console.talk g.C.Console.left old c.play_program.new.console c.in-Ok.program settings (RoseByRun c.in-Ok.program settings c.args.steps.now c.play_program.new.steps)) found.1 c.in_ok-word-in-Ok.ensures.ticked,
     )
 
 pub returns-in_err-program-clause-begun : goal.returns-in_err-program-clause-begun

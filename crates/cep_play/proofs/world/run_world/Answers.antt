@@ -17,6 +17,11 @@ returns-in_ok-tally-in-Ok-clause-outcome g c =
       subst (λ old. Wrote g.C.Console.talk g.C.Console.left old c.tour_program.new.console (summary c.args.rooms (unwrap_or c.args.options.seed DEFAULT_SEED) c.in_ok-tally-in-Ok.tally)) found.1 c.in_ok-tally-in-Ok.ensures.summed,
     )
 
+pub returns-in_ok-tally-in-Ok-clause-ticked : goal.returns-in_ok-tally-in-Ok-clause-ticked
+returns-in_ok-tally-in-Ok-clause-ticked g c =
+    let found = rw c.in-Ok.is at c.in_ok-program.ensures.program in
+    (c.in-Ok.program, found.0, c.in_ok-tally-in-Ok.ensures.ticked)
+
 pub returns-in_err-program-clause-begun : goal.returns-in_err-program-clause-begun
 returns-in_err-program-clause-begun g c =
     let failed = err_from_is_err_and c.from_residual.result c.from_residual.ensures.1 in

@@ -1,0 +1,42 @@
+-- How the counter of matching steps rises where a program is played to an end: by no more than what the network may tick for the very turns that were done, and by one for each backward premise of what was done in them.
+use Rattle.std.specs.Prelude.{◌≡◌, ℕ, List, [], Option}
+use Rattle.cep_base.specs.declared.console.Event.{Event}
+use Rattle.cep_base.specs.Files.{Files}
+use Rattle.cep_rule.specs.declared.parts.Parts.{Parts}
+use Rattle.cep_rule.specs.Matching.{RoseBy}
+use Rattle.cep_world.specs.World.{world}
+use Rattle.cep_words.specs.Words.{Request, Play, Check, World, AskFor}
+use Rattle.cep_run.specs.declared.settings.Settings.{Settings}
+use Rattle.cep_run.specs.Costs.{Beginnings, Edits, IsRunCost}
+use Rattle.cep_run.specs.Run.{Turn, Ending, deeds_of}
+use Rattle.cep_run.specs.Dialogue.{Dialogue}
+use Rattle.cep_run.specs.Said.{Says}
+use Rattle.cep_net.specs.Cost.{IsFirstCost, IsCost}
+use Rattle.cep_play.specs.Command.{OfFile, IsSpelledBy, settings_of}
+
+-- what the network may tick to begin, and for an edit
+abbrev pub NetBegins : Beginnings
+NetBegins program state height ticks = IsFirstCost program height state ticks
+
+abbrev pub NetEdits : Edits
+NetEdits program state height taken added ticks = IsCost program height state taken added ticks
+
+-- the counter rose by what a run over the network with these turns costs
+abbrev pub RoseByRun : Parts → Settings → ℕ → ℕ → List Turn → Ending → Type 0
+RoseByRun program settings old new turns ending = RoseBy (IsRunCost NetBegins NetEdits program settings.height (deeds_of turns)) old new
+
+-- P holds of the turns and the end of a dialogue of the program with nothing typed
+abbrev pub OfTour : Parts → Settings → (List Turn → Ending → Type 0) → Type 0
+OfTour program settings P = (turns : List Turn) × (ending : Ending) × (events : List Event) × (rest : List ℕ) × Dialogue program settings [] turns ending events rest × P turns ending
+
+-- The counter rose by what was done of a request: where a program was to be played, by the run whose dialogue was said; where a world was to be run, by its run; and of a check nothing is said.
+abbrev pub RoseByRequest : {C : Type 0} → (C → Option (List Event)) → (C → Option (List ℕ)) → C → C → Option Files → ℕ → ℕ → Request → Type 0
+RoseByRequest talk left old new files ticks ticks' (Play file options) =
+    (program : Parts) × OfFile files file (IsSpelledBy program) × Says talk left old new program (settings_of program options) (RoseByRun program (settings_of program options) ticks ticks')
+RoseByRequest talk left old new files ticks ticks' (Check file log) = Unit {0}
+RoseByRequest talk left old new files ticks ticks' (World rooms options) =
+    (program : Parts) × IsSpelledBy program (world rooms) × OfTour program (settings_of program options) (RoseByRun program (settings_of program options) ticks ticks')
+
+-- whatever the words ask for, the counter rose by what was done of it
+abbrev pub RoseByAll : {C : Type 0} → (C → Option (List Event)) → (C → Option (List ℕ)) → C → C → Option Files → ℕ → ℕ → List (List ℕ) → Type 0
+RoseByAll talk left old new files ticks ticks' words = (request : Request) → AskFor words request → RoseByRequest talk left old new files ticks ticks' request
