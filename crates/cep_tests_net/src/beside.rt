@@ -37,14 +37,21 @@ fn have_same_offers<M: Matcher, N: Matcher>(one: &M, other: &N, group: u32) -> b
 
 // Whether both are in one stage, with the same offers of its own rules and of those that leave it.
 fn are_alike<M: Matcher, N: Matcher>(one: &Config<M>, other: &Config<N>) -> bool {
-    let own = 2 * one.stage();
-    one.stage() == other.stage()
-        && have_same_offers(one.matcher(), other.matcher(), own)
-        && have_same_offers(one.matcher(), other.matcher(), own + 1)
+    let Some(own) = one.stage().checked_mul(2) else {
+        return false;
+    };
+    let Some(leaving) = own.checked_add(1) else {
+        return false;
+    };
+    if other.stage() != one.stage() {
+        return false;
+    }
+    have_same_offers(one.matcher(), other.matcher(), own)
+        && have_same_offers(one.matcher(), other.matcher(), leaving)
 }
 
 // How many offers the stage asks about.
-fn choices<M: Matcher>(config: &Config<M>) -> usize
+pub fn choices<M: Matcher>(config: &Config<M>) -> usize
     ensures { result ≡ length (asked_offers (M.offers_held config.now.matcher) config.now.stage) }
 {
     match config.asked() {
@@ -54,7 +61,7 @@ fn choices<M: Matcher>(config: &Config<M>) -> usize
 }
 
 // The configuration after a turn by the offer at this place.
-fn turned<M: Matcher, L: Ledger>(
+pub fn turned<M: Matcher, L: Ledger>(
     alloc: Global,
     program: &Program,
     config: Config<M>,
@@ -73,7 +80,37 @@ fn turned<M: Matcher, L: Ledger>(
     }
 }
 
-// How many turns are done, so many at most, until nothing is offered. It fails where the offers differ.
+// How many turns are done from both, so many at most, until nothing is offered. It fails where their
+// offers differ.
+fn turns_alike<M: Matcher, N: Matcher, L: Ledger>(
+    alloc: Global,
+    program: &Program,
+    one: Config<M>,
+    other: Config<N>,
+    turns: u32,
+    steps: &mut Steps<L>,
+) -> Result<u32, Fail>
+    requires one { IsConfigurationOf M.is_of program.now one }
+    requires other { IsConfigurationOf N.is_of program.now other }
+{
+    let mut one = one;
+    let mut other = other;
+    for turn in 0..turns {
+        if !are_alike(&one, &other) {
+            return Err(Fail::from("other offers"));
+        }
+        let count = choices(&one);
+        if count == 0 {
+            return Ok(turn);
+        }
+        let place = turn as usize * 7919 % count;
+        one = turned(alloc, program, one, place, steps)?;
+        other = turned(alloc, program, other, place, steps)?;
+    }
+    Ok(turns)
+}
+
+// How many turns are done over the network and over the matcher from scratch, counted by a ledger.
 fn turns_counted<L: Ledger>(
     alloc: Global,
     program: &Program,
@@ -85,21 +122,9 @@ fn turns_counted<L: Ledger>(
     requires open { 0 < L.parts }
 {
     let mut steps = Steps::<L>::new(blank);
-    let mut net = Config::<Net>::begin(alloc, program, 128, &mut steps)?;
-    let mut scratch = Config::<Scratch>::begin(alloc, program, 128, &mut steps)?;
-    for turn in 0..turns {
-        if !are_alike(&net, &scratch) {
-            return Err(Fail::from("other offers"));
-        }
-        let count = choices(&scratch);
-        if count == 0 {
-            return Ok(turn);
-        }
-        let place = turn as usize * 7919 % count;
-        net = turned(alloc, program, net, place, &mut steps)?;
-        scratch = turned(alloc, program, scratch, place, &mut steps)?;
-    }
-    Ok(turns)
+    let kept = Config::<Net>::begin(alloc, program, 128, &mut steps)?;
+    let anew = Config::<Scratch>::begin(alloc, program, 128, &mut steps)?;
+    turns_alike(alloc, program, kept, anew, turns, &mut steps)
 }
 
 // The same for the program of a text.
