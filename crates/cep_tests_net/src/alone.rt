@@ -44,7 +44,7 @@ fn switched(alloc: Global, many: u32, first: u32) -> Result<String, AllocError> 
 }
 
 // The configuration after so many turns, of which each has one offer.
-fn after_turns<M: Matcher, L: Ledger>(
+pub fn after_turns<M: Matcher, L: Ledger>(
     alloc: Global,
     program: &Program,
     start: Config<M>,

@@ -6,4 +6,6 @@ mod alone;
 #[cfg(test)]
 mod beside;
 #[cfg(test)]
+mod standing;
+#[cfg(test)]
 mod worlds;
