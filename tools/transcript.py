@@ -41,11 +41,13 @@ class Derivation:
 
 @dataclass
 class Step:
-    """A step: its offer, a derivation for each backward premise, and the stage that it leads to."""
+    """A step: its offer, a derivation for each backward premise, the stage that it leads to, and the
+    state behind it where that is listed."""
 
     offer: str
     derivations: list = field(default_factory=list)
     stage: str = ""
+    after: Counter = field(default_factory=Counter)
 
     @property
     def rule(self):
@@ -87,13 +89,19 @@ class Transcript:
             self.stage = rest
         elif word == "have":
             count, atom = rest.split(" ", 1)
-            (self.last if self.end else self.start)[atom] = int(count)
+            self.open_listing()[atom] = int(count)
         elif word == "step":
             self.steps.append(Step(rest))
         elif word == "by":
             self.steps[-1].derivations.append(Derivation.of(rest))
         elif word == "end":
             self.end = rest
+
+    def open_listing(self):
+        """The listing that a `have` line goes on with."""
+        if self.end:
+            return self.last
+        return self.steps[-1].after if self.steps else self.start
 
     def states(self, world):
         """The stage and the state before the first step, and behind each."""

@@ -5,7 +5,7 @@ import subprocess
 import tempfile
 import unittest
 
-from setting import TOP, WORLDS, module_of, read, tool, typed_and_words, world_names
+from setting import HUNDRED, TOP, WORLDS, module_of, read, tool, typed_and_words, world_names
 from language import read_world
 from transcript import Transcript
 
@@ -50,6 +50,11 @@ def end_listing(world, turns):
 
 
 class Follow(unittest.TestCase):
+    def test_a_listing_in_the_middle_is_that_of_its_step(self):
+        log = Transcript.of(HUNDRED.replace("100\nhave 1", "100\nhave 7"))
+        self.assertEqual((log.start, log.last), ({"a": 1}, {"a": 1}))
+        self.assertEqual([step.after for step in log.steps], [{}] * 99 + [{"a": 7}])
+
     def test_the_state_at_each_step_is_that_of_a_run_that_ends_there(self):
         follow = module_of("follow")
         for name in world_names():

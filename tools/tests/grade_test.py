@@ -4,16 +4,16 @@ import os
 import tempfile
 import unittest
 
-from setting import WORLDS, read, tool
+from setting import HUNDRED, ROUNDS, WORLDS, read, tool
 
 HEAD = "file,verdict,line,cause,text,steps,height,end,goal\n"
 CASTLE = "worlds/castle.cep"
 
 
 class Grade(unittest.TestCase):
-    def written(self, text):
+    def written(self, text, suffix=".log"):
         """A file with this text, which goes with the test."""
-        handle, path = tempfile.mkstemp(suffix=".log")
+        handle, path = tempfile.mkstemp(suffix=suffix)
         self.addCleanup(os.remove, path)
         with open(handle, "w", encoding="utf-8") as file:
             file.write(text)
@@ -51,6 +51,13 @@ class Grade(unittest.TestCase):
         _, output, _ = tool("grade", CASTLE, front)
         lines = front, log[: log.index("end quiet")].count("\n") + 1
         self.assertEqual(output, HEAD + "%s,refused,%d,NotEnded,,,128,,\n" % lines)
+
+    def test_states_in_the_middle(self):
+        world = self.written(ROUNDS, ".cep")
+        log, other = self.written(HUNDRED), self.written(HUNDRED.replace("100\nhave 1", "100\nhave 2"))
+        rows = f"{log},accepted,,,,100,128,turns,yes\n"
+        rows += f"{other},refused,205,MidState said 2 is 1 a,state 100,,128,turns,\n"
+        self.assertEqual(tool("grade", world, log, other, "--goal", "a"), (1, HEAD + rows, ""))
 
     def test_what_is_no_transcript(self):
         status, output, _ = tool("grade", CASTLE, "README.md")

@@ -55,3 +55,16 @@ def typed_and_words(world):
         typed if os.path.exists(typed) else os.devnull,
         read(words).split() if os.path.exists(words) else [],
     )
+
+
+# A world where one atom makes itself again, and the transcript of a hundred steps of it, in version 2.
+ROUNDS = """\
+a : pred.
+stage main = { r : a -o a. }
+#trace _ main { a }.
+"""
+HUNDRED = (
+    "ceptre 2\nheight 128\nstage main\nhave 1 a\n"
+    + "? 1 r\nstep r\n" * 100
+    + "state 100\nhave 1 a\nend turns\nhave 1 a\n"
+)

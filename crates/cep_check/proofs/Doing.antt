@@ -1,8 +1,8 @@
 -- What a step of a log does to where the steps have led.
-use Rattle.std.proofs.Common.{⊎_elim, ℕ, List, length, sym, subst, arith}
+use Rattle.std.proofs.Common.{◌≡◌, inl, inr, ⊎_elim, ℕ, List, length, sym, subst, arith}
 use Rattle.std.specs.List.{AllByRecursion}
 use Rattle.cep_base.proofs.Lists.{all_weaker, all_mapped}
-use Rattle.cep_term.specs.Tree.{Tree, AtomTree, IsGroundAtom, IsAtomInRange}
+use Rattle.cep_term.specs.Tree.{Tree, AtomTree, IsGroundAtom, IsAtomInRange, atom_of}
 use Rattle.cep_term.specs.Multiset.{Multiset}
 use Rattle.cep_rule.specs.declared.signature.Signature.{Signature}
 use Rattle.cep_rule.specs.declared.rule.Rule.{Rule}
@@ -11,7 +11,8 @@ use Rattle.cep_rule.specs.Typing.{IsTyped, AreValues}
 use Rattle.cep_rule.specs.TypeLaws.{TypeLaws}
 use Rattle.cep_rule.specs.State.{IsState, Fits}
 use Rattle.cep_rule.specs.Instances.{full_instance, full_instances}
-use Rattle.cep_rule.specs.Steps.{Spot}
+use Rattle.cep_rule.specs.Step.{Step}
+use Rattle.cep_rule.specs.Steps.{Spot, stage_after}
 use Rattle.cep_log.specs.declared.log.LogStep.{LogStep}
 use Rattle.cep_step.specs.declared.change.Change.{Change}
 use Rattle.cep_step.specs.declared.weighing.Weighed.TheVariants.{StateTooFull, Within}
@@ -19,9 +20,9 @@ use Rattle.cep_step.specs.Passing.{IsTooFull}
 use Rattle.cep_step.specs.Changes.{edited, IsWeighed}
 use Rattle.cep_check.specs.declared.cause.CheckLimit.TheVariants.{State}
 use Rattle.cep_check.specs.declared.cause.Cause.{Cause}
-use Rattle.cep_check.specs.declared.cause.Cause.TheVariants.{StartStage, StartState, OtherStage, NotContained, NotProved, TooHigh, NotQuiet, OverLimit, StageLine, NotEnded, EndState}
-use Rattle.cep_check.specs.Causes.{IsInTurn, IsWithinLimits, IsStepCause}
-use Rattle.cep_check.specs.Walking.{IsStageCause, IsReadyStep}
+use Rattle.cep_check.specs.declared.cause.Cause.TheVariants.{StartStage, StartState, OtherStage, NotContained, NotProved, TooHigh, NotQuiet, OverLimit, StageLine, MidState, NotEnded, EndState}
+use Rattle.cep_check.specs.Causes.{IsFirstDifference, IsInTurn, IsWithinLimits, IsStepCause}
+use Rattle.cep_check.specs.Walking.{IsStageCause, IsDoneStep, IsMidCause, IsReadyStep}
 
 -- the instances of typed atoms by values of the right types
 pub in_range_all : TypeLaws → (signature : Signature) (kinds : List ℕ) (values : List Tree) → AreValues signature.cons kinds values → (atoms : List AtomTree) → AllByRecursion (IsTyped signature kinds) atoms → AllByRecursion (IsAtomInRange (length values)) atoms
@@ -62,5 +63,46 @@ module _ (program : Parts) (height : ℕ) (old : Spot) (rule : Rule) (step : Log
     stage_cause (TooHigh place high) other = absurd other
     stage_cause (NotQuiet offer) other = absurd other
     stage_cause (OverLimit which) other = absurd other
+    stage_cause (MidState line atom said is) other = absurd other
     stage_cause NotEnded other = other
     stage_cause (EndState atom said is) other = other
+
+    -- it is done
+    pub is_done : (new : Spot) → new.stage ≡ stage_after rule old.stage → new.state ≡ edited old.state change → step.stage ≡ rule.next → IsDoneStep program height old new rule step
+    is_done new stage_is state_is staged = record {
+      machine = record {
+        numbered = ready.numbered;
+        values = ready.values;
+        in_turn = ⊎_elim (λ own. inl own) (λ leaving. inr (leaving, in_turn.quiet leaving)) in_turn.is_proved.can_take.of_stage;
+        proved = in_turn.is_proved.proved;
+        steps = record {
+          fit = weighed.0;
+          step = subst (λ (state : Multiset). Step program.signature rule step.offer.values old.state state) (sym state_is) weighed.1.step;
+          fits = subst Fits (sym state_is) weighed.1.can.fits;
+          stage = stage_is;
+        };
+      };
+      staged = record { within = within; stage = staged };
+      after = sym state_is;
+    }
+
+-- a step that is done is followed by another listing than that of where it leads
+pub mid_cause : (program : Parts) (height : ℕ) (old new : Spot) (rule : Rule) (step : LogStep) (cause : Cause) → IsDoneStep program height old new rule step → IsMidCause step.mid new.state cause → IsStepCause program height old rule step cause
+mid_cause program height old new rule step (MidState line atom said is) done other = (
+  done.staged,
+  other.0,
+  other.1,
+  other.2,
+  subst (λ (state : Multiset). IsFirstDifference other.0.state state (atom_of atom) said is) (sym done.after) other.3,
+)
+mid_cause program height old new rule step (StartStage said is) done other = other
+mid_cause program height old new rule step (StartState atom said is) done other = other
+mid_cause program height old new rule step (OtherStage number) done other = absurd other
+mid_cause program height old new rule step (NotContained atom have need) done other = absurd other
+mid_cause program height old new rule step (NotProved place) done other = absurd other
+mid_cause program height old new rule step (TooHigh place high) done other = absurd other
+mid_cause program height old new rule step (NotQuiet offer) done other = absurd other
+mid_cause program height old new rule step (OverLimit which) done other = absurd other
+mid_cause program height old new rule step (StageLine said is) done other = absurd other
+mid_cause program height old new rule step NotEnded done other = other
+mid_cause program height old new rule step (EndState atom said is) done other = other

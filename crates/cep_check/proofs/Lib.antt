@@ -7,4 +7,5 @@ pub mod Options
 pub mod Verdicts
 pub mod Tellable
 pub mod Once
+pub mod OneStepCause
 pub mod OneCause

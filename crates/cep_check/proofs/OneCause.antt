@@ -1,305 +1,34 @@
 -- A log is refused for one cause at one line.
-use Rattle.std.proofs.Common.{◌≡◌, ⊎_elim, ℕ, zero, suc, ◌+◌, ◌-◌, ◌<◌, List, [], ◌∷◌, ◌++◌, codes, decimal, Option, Some, None, refl, sym, ap, subst, ◌∙◌, arith}
-use Rattle.std.specs.Prelude.{slice_get, IfSome}
+use Rattle.std.proofs.Common.{◌≡◌, ⊎_elim, ℕ, List, [], ◌∷◌, ◌++◌, codes, Option, Some, None, refl, sym, ap, subst, ◌∙◌}
+use Rattle.std.specs.Prelude.{IfSome}
+use Rattle.std.specs.List.{AllByRecursion}
 use Rattle.cep_base.proofs.Lists.{some_same}
 use Rattle.cep_term.specs.BagLaws.{BagLaws}
-use Rattle.cep_term.specs.Tree.{AtomTree, atom_of}
+use Rattle.cep_term.specs.Tree.{atom_of}
 use Rattle.cep_rule.specs.declared.rule.Rule.{Rule}
 use Rattle.cep_rule.specs.declared.parts.Parts.{Parts}
 use Rattle.cep_rule.specs.declared.offer.Offer.{Offer}
-use Rattle.cep_rule.specs.Instances.{full_instances, left_of}
-use Rattle.cep_rule.specs.Derivations.{ProofTree, Proves, proof_height}
-use Rattle.cep_rule.specs.Stages.{own_group}
-use Rattle.cep_rule.specs.State.{Fits}
-use Rattle.cep_rule.specs.Steps.{Spot, MakesFit}
-use Rattle.cep_text.specs.Texts.{offer_name, offer_text}
+use Rattle.cep_rule.specs.Steps.{Spot}
+use Rattle.cep_text.specs.Texts.{offer_text}
 use Rattle.cep_log.specs.declared.end_word.EndWord.TheVariants.{Quiet}
 use Rattle.cep_log.specs.declared.log.Log.{Log}
 use Rattle.cep_log.specs.declared.log.LogStep.{LogStep}
 use Rattle.cep_log.specs.declared.log.LogEnd.{LogEnd}
-use Rattle.cep_log.specs.Legal.{AtomsRise, IsListing, IsLogOf, start_spot}
-use Rattle.cep_check.specs.declared.cause.CheckLimit.TheVariants.{Atom, State}
+use Rattle.cep_log.specs.Legal.{AtomsRise, IsListing, IsStepOf, IsLogOf, start_spot}
 use Rattle.cep_check.specs.declared.cause.Cause.{Cause}
-use Rattle.cep_check.specs.declared.cause.Cause.TheVariants.{StartStage, StartState, OtherStage, NotContained, NotProved, TooHigh, NotQuiet, OverLimit, StageLine, NotEnded, EndState}
-use Rattle.cep_check.specs.Causes.{IsOfStage, IsAtPremise, IsFirstAsked, IsTrulyQuiet, CanTake, IsProvedStep, IsInTurn, IsWithinLimits, IsStartCause, IsStepCause, IsEndCause, IsRefusedFrom, IsLogRefused}
-use Rattle.cep_check.specs.Telling.{stages_text, counts_text, cause_text}
-use Rattle.cep_check.proofs.Differences.{three_ways}
-use Rattle.cep_check.proofs.Once.{OffersOrdered, first_offer_once, first_asked_once, Fails, fails_once, difference_once, lack_once}
-use Rattle.cep_check.proofs.Refusing.{LeadsToOne, NeedsLeft, proofs_at, step_clash, one_spot, start_clash}
-
--- Two causes are told alike.
-abbrev pub AreToldAlike : Parts → Cause → Cause → Type 0
-AreToldAlike program one two = cause_text program one ≡ cause_text program two
+use Rattle.cep_check.specs.declared.cause.Cause.TheVariants.{StartStage, StartState, OtherStage, NotContained, NotProved, TooHigh, NotQuiet, OverLimit, StageLine, MidState, NotEnded, EndState}
+use Rattle.cep_check.specs.Causes.{IsFirstAsked, IsTrulyQuiet, IsStartCause, IsStepCause, IsEndCause, IsRefusedFrom, IsLogRefused}
+use Rattle.cep_check.proofs.Once.{OffersOrdered, first_asked_once, difference_once}
+use Rattle.cep_check.proofs.OneStepCause.{AreToldAlike, counts_alike, stages_alike, step_alike}
+use Rattle.cep_check.proofs.Refusing.{LeadsToOne, NeedsLeft, step_clash, one_spot, start_clash}
 
 module _ (laws : BagLaws) (order : OffersOrdered) (one : LeadsToOne) (needs : NeedsLeft) (program : Parts) where
-  counts_alike : (words between : List ℕ) (said said' is is' : ℕ) (a b : AtomTree) → (a ≡ b) × (said ≡ said') × (is ≡ is') → counts_text program.signature words said between is a ≡ counts_text program.signature words said' between is' b
-  counts_alike words between said said' is is' a b same =
-      ap (λ n. counts_text program.signature words n between is a) same.1
-      ∙ ap (λ n. counts_text program.signature words said' between n a) same.2
-      ∙ ap (λ x. counts_text program.signature words said' between is' x) same.0
-
-  stages_alike : (words : List ℕ) (said said' is is' : ℕ) → said ≡ said' → is ≡ is' → stages_text program words said is ≡ stages_text program words said' is'
-  stages_alike words said said' is is' same same' = ap (λ n. stages_text program words n is) same ∙ ap (λ n. stages_text program words said' n) same'
-
-  module _ (height : ℕ) (old : Spot) (rule : Rule) (step : LogStep) where
-    abbrev pub goals : List AtomTree
-    goals = full_instances step.offer.values rule.backs
-
-    -- what a step has passed, test by test
-    abbrev pub Passed : ℕ → Type 0
-    Passed zero = Unit {0}
-    Passed (suc zero) = IsOfStage old.stage rule
-    Passed (suc (suc zero)) = CanTake program old rule step.offer
-    Passed (suc (suc (suc zero))) = IsProvedStep program height old rule step
-    Passed (suc (suc (suc (suc zero)))) = IsInTurn program height old rule step
-    Passed (suc (suc (suc (suc (suc zero))))) = IsInTurn program height old rule step × MakesFit rule step.offer.values
-    Passed (suc (suc (suc (suc (suc (suc zero)))))) = IsWithinLimits program height old rule step
-    Passed (suc (suc (suc (suc (suc (suc (suc n))))))) = ⊥
-
-    passed_before : (n : ℕ) → Passed (suc n) → Passed n
-    passed_before zero p = tt
-    passed_before (suc zero) p = p.of_stage
-    passed_before (suc (suc zero)) p = p.can_take
-    passed_before (suc (suc (suc zero))) p = p.is_proved
-    passed_before (suc (suc (suc (suc zero)))) p = p.0
-    passed_before (suc (suc (suc (suc (suc zero))))) p = (p.in_turn, p.fit)
-    passed_before (suc (suc (suc (suc (suc (suc n)))))) p = absurd p
-
-    passed_all_before : (k n m : ℕ) → m ≡ k + n → Passed m → Passed n
-    passed_all_before zero n m e p = let same : m ≡ n = omega (arith, e) in subst Passed same p
-    passed_all_before (suc k) n m e p =
-        let same : m ≡ suc (k + n) = omega (arith, e) in
-        passed_all_before k n (k + n) refl (passed_before (k + n) (subst Passed same p))
-
-    -- how many tests a step with the cause has passed
-    abbrev pub tests : Cause → ℕ
-    tests (OtherStage number) = 0
-    tests (NotContained atom have need) = 1
-    tests (NotProved place) = 2
-    tests (TooHigh place high) = 2
-    tests (NotQuiet offer) = 3
-    tests (OverLimit Atom) = 4
-    tests (OverLimit State) = 5
-    tests (StageLine said is) = 6
-    tests (StartStage said is) = 7
-    tests (StartState atom said is) = 7
-    tests NotEnded = 7
-    tests (EndState atom said is) = 7
-
-    has_passed : (cause : Cause) → IsStepCause program height old rule step cause → Passed (tests cause)
-    has_passed (OtherStage number) comes = tt
-    has_passed (NotContained atom have need) comes = comes.0
-    has_passed (NotProved place) comes = comes.0
-    has_passed (TooHigh place high) comes = comes.0
-    has_passed (NotQuiet offer) comes = comes.0
-    has_passed (OverLimit Atom) comes = comes.0
-    has_passed (OverLimit State) comes = (comes.0, comes.1)
-    has_passed (StageLine said is) comes = comes.0
-    has_passed (StartStage said is) comes = comes
-    has_passed (StartState atom said is) comes = comes
-    has_passed NotEnded comes = comes
-    has_passed (EndState atom said is) comes = comes
-
-    fails_next : (cause : Cause) → IsStepCause program height old rule step cause → Passed (suc (tests cause)) → ⊥
-    fails_next (OtherStage number) comes passed = comes.1 passed
-    fails_next (NotContained atom have need) comes passed =
-        let enough = passed.contained (atom_of atom) in
-        let wanted = comes.1.wanted in
-        let there = comes.1.there in
-        let lacks = comes.1.lacks in
-        omega arith
-    fails_next (NotProved place) comes passed = comes.1.3 (proofs_at program height step.proofs goals comes.1.2.before comes.1.0 comes.1.1 passed.proved comes.1.2.derivation comes.1.2.premise).0
-    fails_next (TooHigh place high) comes passed =
-        let low = (proofs_at program height step.proofs goals comes.1.2.before comes.1.0 comes.1.1 passed.proved comes.1.2.derivation comes.1.2.premise).1 in
-        let is = comes.1.4 in
-        let above = comes.1.5 in
-        omega arith
-    fails_next (NotQuiet offer) comes passed = passed.quiet comes.1 (offer, comes.2.is)
-    fails_next (OverLimit Atom) comes passed = comes.1 passed.1
-    fails_next (OverLimit State) comes passed = comes.2.2 (subst Fits (one program.signature rule step.offer.values old.state passed.new comes.2.0 passed.leads comes.2.1) passed.fits)
-    fails_next (StageLine said is) comes passed = passed
-    fails_next (StartStage said is) comes passed = comes
-    fails_next (StartState atom said is) comes passed = comes
-    fails_next NotEnded comes passed = comes
-    fails_next (EndState atom said is) comes passed = comes
-
-    no_fewer : (cause other : Cause) → IsStepCause program height old rule step cause → IsStepCause program height old rule step other → tests cause < tests other → ⊥
-    no_fewer cause other comes comes' fewer =
-        fails_next cause comes (passed_all_before (tests other - suc (tests cause)) (suc (tests cause)) (tests other) (omega (arith, fewer)) (has_passed other comes'))
-
-    as_many_tests : (cause other : Cause) → IsStepCause program height old rule step cause → IsStepCause program height old rule step other → tests cause ≡ tests other
-    as_many_tests cause other comes comes' = ⊎_elim
-        (λ fewer. absurd (no_fewer cause other comes comes' fewer))
-        (λ either. ⊎_elim
-        (λ same. same)
-        (λ more. absurd (no_fewer other cause comes' comes more))
-        either)
-        (three_ways (tests cause) (tests other))
-
-    unproved_fails : (proof : ProofTree) (goal : AtomTree) → (¬ Proves program proof goal) → Fails program height proof goal
-    unproved_fails proof goal not = λ ok. not ok.0
-
-    high_fails : (proof : ProofTree) (goal : AtomTree) (high : ℕ) → high ≡ proof_height proof → height < high → Fails program height proof goal
-    high_fails proof goal high is above = λ ok. let low = ok.1 in omega arith
-
-    proved_and_not : {P : Type 0} (place place' : ℕ) (proof proof' : ProofTree) (goal goal' : AtomTree) (at : IsAtPremise program height step.proofs goals place proof goal) (at' : IsAtPremise program height step.proofs goals place' proof' goal') → at.before ≡ at'.before → (¬ Proves program proof goal) → Proves program proof' goal' → P
-    proved_and_not place place' proof proof' goal goal' at at' same not proves = absurd (not (
-        subst (λ z. Proves program z goal) (some_same proof' proof (sym at'.derivation ∙ ap (slice_get step.proofs) (sym same) ∙ at.derivation))
-        (subst (λ z. Proves program proof' z) (some_same goal' goal (sym at'.premise ∙ ap (slice_get goals) (sym same) ∙ at.premise)) proves)))
-
-    other_stage_alike : (number : ℕ) (comes : IsStepCause program height old rule step (OtherStage number)) (other : Cause) → IsStepCause program height old rule step other → 0 ≡ tests other → AreToldAlike program (OtherStage number) other
-    other_stage_alike number comes (OtherStage number') comes' same = ap (λ n. codes "OtherStage " ++ offer_name (slice_get program.rules n)) (comes.0 ∙ sym comes'.0)
-    other_stage_alike number comes (NotContained atom' have' need') comes' same = absurd (omega (arith, same))
-    other_stage_alike number comes (NotProved place') comes' same = absurd (omega (arith, same))
-    other_stage_alike number comes (TooHigh place' high') comes' same = absurd (omega (arith, same))
-    other_stage_alike number comes (NotQuiet offer') comes' same = absurd (omega (arith, same))
-    other_stage_alike number comes (OverLimit Atom) comes' same = absurd (omega (arith, same))
-    other_stage_alike number comes (OverLimit State) comes' same = absurd (omega (arith, same))
-    other_stage_alike number comes (StageLine said' is') comes' same = absurd (omega (arith, same))
-    other_stage_alike number comes (StartStage said' is') comes' same = absurd comes'
-    other_stage_alike number comes (StartState atom' said' is') comes' same = absurd comes'
-    other_stage_alike number comes NotEnded comes' same = absurd comes'
-    other_stage_alike number comes (EndState atom' said' is') comes' same = absurd comes'
-
-    lack_alike : (atom : _) (have need : ℕ) (comes : IsStepCause program height old rule step (NotContained atom have need)) (other : Cause) → IsStepCause program height old rule step other → 1 ≡ tests other → AreToldAlike program (NotContained atom have need) other
-    lack_alike atom have need comes (OtherStage number') comes' same = absurd (omega (arith, same))
-    lack_alike atom have need comes (NotContained atom' have' need') comes' same =
-        counts_alike (codes "NotContained have ") (codes " need ") have have' need need' (atom_of atom) (atom_of atom')
-        (lack_once laws (left_of program.signature rule step.offer.values) old.state (atom_of atom) (atom_of atom') have have' need need' comes.1 comes'.1)
-    lack_alike atom have need comes (NotProved place') comes' same = absurd (omega (arith, same))
-    lack_alike atom have need comes (TooHigh place' high') comes' same = absurd (omega (arith, same))
-    lack_alike atom have need comes (NotQuiet offer') comes' same = absurd (omega (arith, same))
-    lack_alike atom have need comes (OverLimit Atom) comes' same = absurd (omega (arith, same))
-    lack_alike atom have need comes (OverLimit State) comes' same = absurd (omega (arith, same))
-    lack_alike atom have need comes (StageLine said' is') comes' same = absurd (omega (arith, same))
-    lack_alike atom have need comes (StartStage said' is') comes' same = absurd comes'
-    lack_alike atom have need comes (StartState atom' said' is') comes' same = absurd comes'
-    lack_alike atom have need comes NotEnded comes' same = absurd comes'
-    lack_alike atom have need comes (EndState atom' said' is') comes' same = absurd comes'
-
-    unproved_alike : (place : ℕ) (comes : IsStepCause program height old rule step (NotProved place)) (other : Cause) → IsStepCause program height old rule step other → 2 ≡ tests other → AreToldAlike program (NotProved place) other
-    unproved_alike place comes (OtherStage number') comes' same = absurd (omega (arith, same))
-    unproved_alike place comes (NotContained atom' have' need') comes' same = absurd (omega (arith, same))
-    unproved_alike place comes (NotProved place') comes' same =
-        let at = comes.1.2 in
-        let at' = comes'.1.2 in
-        let here = fails_once program height step.proofs goals place place' comes.1.0 comes'.1.0 comes.1.1 comes'.1.1 at at' (unproved_fails comes.1.0 comes.1.1 comes.1.3) (unproved_fails comes'.1.0 comes'.1.1 comes'.1.3) in
-        ap (λ n. codes "NotProved " ++ decimal n) (at.counted ∙ ap (λ n. n + 1) here ∙ sym at'.counted)
-    unproved_alike place comes (TooHigh place' high') comes' same =
-        proved_and_not place place' comes.1.0 comes'.1.0 comes.1.1 comes'.1.1 comes.1.2 comes'.1.2
-        (fails_once program height step.proofs goals place place' comes.1.0 comes'.1.0 comes.1.1 comes'.1.1 comes.1.2 comes'.1.2 (unproved_fails comes.1.0 comes.1.1 comes.1.3) (high_fails comes'.1.0 comes'.1.1 high' comes'.1.4 comes'.1.5))
-        comes.1.3 comes'.1.3
-    unproved_alike place comes (NotQuiet offer') comes' same = absurd (omega (arith, same))
-    unproved_alike place comes (OverLimit Atom) comes' same = absurd (omega (arith, same))
-    unproved_alike place comes (OverLimit State) comes' same = absurd (omega (arith, same))
-    unproved_alike place comes (StageLine said' is') comes' same = absurd (omega (arith, same))
-    unproved_alike place comes (StartStage said' is') comes' same = absurd comes'
-    unproved_alike place comes (StartState atom' said' is') comes' same = absurd comes'
-    unproved_alike place comes NotEnded comes' same = absurd comes'
-    unproved_alike place comes (EndState atom' said' is') comes' same = absurd comes'
-
-    high_alike : (place high : ℕ) (comes : IsStepCause program height old rule step (TooHigh place high)) (other : Cause) → IsStepCause program height old rule step other → 2 ≡ tests other → AreToldAlike program (TooHigh place high) other
-    high_alike place high comes (OtherStage number') comes' same = absurd (omega (arith, same))
-    high_alike place high comes (NotContained atom' have' need') comes' same = absurd (omega (arith, same))
-    high_alike place high comes (NotProved place') comes' same =
-        proved_and_not place' place comes'.1.0 comes.1.0 comes'.1.1 comes.1.1 comes'.1.2 comes.1.2
-        (fails_once program height step.proofs goals place' place comes'.1.0 comes.1.0 comes'.1.1 comes.1.1 comes'.1.2 comes.1.2 (unproved_fails comes'.1.0 comes'.1.1 comes'.1.3) (high_fails comes.1.0 comes.1.1 high comes.1.4 comes.1.5))
-        comes'.1.3 comes.1.3
-    high_alike place high comes (TooHigh place' high') comes' same =
-        let at = comes.1.2 in
-        let at' = comes'.1.2 in
-        let here = fails_once program height step.proofs goals place place' comes.1.0 comes'.1.0 comes.1.1 comes'.1.1 at at' (high_fails comes.1.0 comes.1.1 high comes.1.4 comes.1.5) (high_fails comes'.1.0 comes'.1.1 high' comes'.1.4 comes'.1.5) in
-        let one_proof : comes.1.0 ≡ comes'.1.0 = some_same comes.1.0 comes'.1.0 (sym at.derivation ∙ ap (slice_get step.proofs) here ∙ at'.derivation) in
-        ap (λ n. codes "TooHigh " ++ decimal n ++ codes " " ++ decimal high) (at.counted ∙ ap (λ n. n + 1) here ∙ sym at'.counted)
-        ∙ ap (λ n. codes "TooHigh " ++ decimal place' ++ codes " " ++ decimal n) (comes.1.4 ∙ ap proof_height one_proof ∙ sym comes'.1.4)
-    high_alike place high comes (NotQuiet offer') comes' same = absurd (omega (arith, same))
-    high_alike place high comes (OverLimit Atom) comes' same = absurd (omega (arith, same))
-    high_alike place high comes (OverLimit State) comes' same = absurd (omega (arith, same))
-    high_alike place high comes (StageLine said' is') comes' same = absurd (omega (arith, same))
-    high_alike place high comes (StartStage said' is') comes' same = absurd comes'
-    high_alike place high comes (StartState atom' said' is') comes' same = absurd comes'
-    high_alike place high comes NotEnded comes' same = absurd comes'
-    high_alike place high comes (EndState atom' said' is') comes' same = absurd comes'
-
-    not_quiet_alike : (offer : Offer) (comes : IsStepCause program height old rule step (NotQuiet offer)) (other : Cause) → IsStepCause program height old rule step other → 3 ≡ tests other → AreToldAlike program (NotQuiet offer) other
-    not_quiet_alike offer comes (OtherStage number') comes' same = absurd (omega (arith, same))
-    not_quiet_alike offer comes (NotContained atom' have' need') comes' same = absurd (omega (arith, same))
-    not_quiet_alike offer comes (NotProved place') comes' same = absurd (omega (arith, same))
-    not_quiet_alike offer comes (TooHigh place' high') comes' same = absurd (omega (arith, same))
-    not_quiet_alike offer comes (NotQuiet offer') comes' same = ap (λ o. codes "NotQuiet " ++ offer_text program o) (first_offer_once order program height old.state (own_group old.stage) offer offer' comes.2 comes'.2)
-    not_quiet_alike offer comes (OverLimit Atom) comes' same = absurd (omega (arith, same))
-    not_quiet_alike offer comes (OverLimit State) comes' same = absurd (omega (arith, same))
-    not_quiet_alike offer comes (StageLine said' is') comes' same = absurd (omega (arith, same))
-    not_quiet_alike offer comes (StartStage said' is') comes' same = absurd comes'
-    not_quiet_alike offer comes (StartState atom' said' is') comes' same = absurd comes'
-    not_quiet_alike offer comes NotEnded comes' same = absurd comes'
-    not_quiet_alike offer comes (EndState atom' said' is') comes' same = absurd comes'
-
-    atom_limit_alike : (comes : IsStepCause program height old rule step (OverLimit Atom)) (other : Cause) → IsStepCause program height old rule step other → 4 ≡ tests other → AreToldAlike program (OverLimit Atom) other
-    atom_limit_alike comes (OtherStage number') comes' same = absurd (omega (arith, same))
-    atom_limit_alike comes (NotContained atom' have' need') comes' same = absurd (omega (arith, same))
-    atom_limit_alike comes (NotProved place') comes' same = absurd (omega (arith, same))
-    atom_limit_alike comes (TooHigh place' high') comes' same = absurd (omega (arith, same))
-    atom_limit_alike comes (NotQuiet offer') comes' same = absurd (omega (arith, same))
-    atom_limit_alike comes (OverLimit Atom) comes' same = refl
-    atom_limit_alike comes (OverLimit State) comes' same = absurd (omega (arith, same))
-    atom_limit_alike comes (StageLine said' is') comes' same = absurd (omega (arith, same))
-    atom_limit_alike comes (StartStage said' is') comes' same = absurd comes'
-    atom_limit_alike comes (StartState atom' said' is') comes' same = absurd comes'
-    atom_limit_alike comes NotEnded comes' same = absurd comes'
-    atom_limit_alike comes (EndState atom' said' is') comes' same = absurd comes'
-
-    state_limit_alike : (comes : IsStepCause program height old rule step (OverLimit State)) (other : Cause) → IsStepCause program height old rule step other → 5 ≡ tests other → AreToldAlike program (OverLimit State) other
-    state_limit_alike comes (OtherStage number') comes' same = absurd (omega (arith, same))
-    state_limit_alike comes (NotContained atom' have' need') comes' same = absurd (omega (arith, same))
-    state_limit_alike comes (NotProved place') comes' same = absurd (omega (arith, same))
-    state_limit_alike comes (TooHigh place' high') comes' same = absurd (omega (arith, same))
-    state_limit_alike comes (NotQuiet offer') comes' same = absurd (omega (arith, same))
-    state_limit_alike comes (OverLimit Atom) comes' same = absurd (omega (arith, same))
-    state_limit_alike comes (OverLimit State) comes' same = refl
-    state_limit_alike comes (StageLine said' is') comes' same = absurd (omega (arith, same))
-    state_limit_alike comes (StartStage said' is') comes' same = absurd comes'
-    state_limit_alike comes (StartState atom' said' is') comes' same = absurd comes'
-    state_limit_alike comes NotEnded comes' same = absurd comes'
-    state_limit_alike comes (EndState atom' said' is') comes' same = absurd comes'
-
-    stage_line_alike : (said is : ℕ) (comes : IsStepCause program height old rule step (StageLine said is)) (other : Cause) → IsStepCause program height old rule step other → 6 ≡ tests other → AreToldAlike program (StageLine said is) other
-    stage_line_alike said is comes (OtherStage number') comes' same = absurd (omega (arith, same))
-    stage_line_alike said is comes (NotContained atom' have' need') comes' same = absurd (omega (arith, same))
-    stage_line_alike said is comes (NotProved place') comes' same = absurd (omega (arith, same))
-    stage_line_alike said is comes (TooHigh place' high') comes' same = absurd (omega (arith, same))
-    stage_line_alike said is comes (NotQuiet offer') comes' same = absurd (omega (arith, same))
-    stage_line_alike said is comes (OverLimit Atom) comes' same = absurd (omega (arith, same))
-    stage_line_alike said is comes (OverLimit State) comes' same = absurd (omega (arith, same))
-    stage_line_alike said is comes (StageLine said' is') comes' same = stages_alike (codes "StageLine said ") said said' is is' (some_same said said' (sym comes.1 ∙ comes'.1)) (some_same is is' (sym comes.2 ∙ comes'.2))
-    stage_line_alike said is comes (StartStage said' is') comes' same = absurd comes'
-    stage_line_alike said is comes (StartState atom' said' is') comes' same = absurd comes'
-    stage_line_alike said is comes NotEnded comes' same = absurd comes'
-    stage_line_alike said is comes (EndState atom' said' is') comes' same = absurd comes'
-
-    step_alike : (cause other : Cause) → IsStepCause program height old rule step cause → IsStepCause program height old rule step other → AreToldAlike program cause other
-    step_alike cause other comes comes' = by cause comes (as_many_tests cause other comes comes')
-      where
-        by : (cause : Cause) → IsStepCause program height old rule step cause → tests cause ≡ tests other → AreToldAlike program cause other
-        by (OtherStage number) comes same = other_stage_alike number comes other comes' same
-        by (NotContained atom have need) comes same = lack_alike atom have need comes other comes' same
-        by (NotProved place) comes same = unproved_alike place comes other comes' same
-        by (TooHigh place high) comes same = high_alike place high comes other comes' same
-        by (NotQuiet offer) comes same = not_quiet_alike offer comes other comes' same
-        by (OverLimit Atom) comes same = atom_limit_alike comes other comes' same
-        by (OverLimit State) comes same = state_limit_alike comes other comes' same
-        by (StageLine said is) comes same = stage_line_alike said is comes other comes' same
-        by (StartStage said is) comes same = absurd comes
-        by (StartState atom said is) comes same = absurd comes
-        by NotEnded comes same = absurd comes
-        by (EndState atom said is) comes same = absurd comes
-
   start_alike : (log : Log) → IsLogOf program log → (cause other : Cause) → IsStartCause program log cause → IsStartCause program log other → AreToldAlike program cause other
-  start_alike log of (StartStage said is) (StartStage said' is') comes comes' = stages_alike (codes "StartStage said ") said said' is is' (comes.0 ∙ sym comes'.0) (comes.1 ∙ sym comes'.1)
+  start_alike log of (StartStage said is) (StartStage said' is') comes comes' = stages_alike laws order one needs program (codes "StartStage said ") said said' is is' (comes.0 ∙ sym comes'.0) (comes.1 ∙ sym comes'.1)
   start_alike log of (StartStage said is) (StartState atom' said' is') comes comes' = absurd (comes.2 (comes.0 ∙ comes'.0 ∙ sym comes.1))
   start_alike log of (StartState atom said is) (StartStage said' is') comes comes' = absurd (comes'.2 (comes'.0 ∙ comes.0 ∙ sym comes'.1))
   start_alike log of (StartState atom said is) (StartState atom' said' is') comes comes' =
-      counts_alike (codes "StartState said ") (codes " is ") said said' is is' (atom_of atom) (atom_of atom')
+      counts_alike laws order one needs program (codes "StartState said ") (codes " is ") said said' is is' (atom_of atom) (atom_of atom')
       (difference_once laws log.start of.start.rising program.start (atom_of atom) (atom_of atom') said said' is is' comes.1 comes'.1)
   start_alike log of (OtherStage number) other comes comes' = absurd comes
   start_alike log of (NotContained atom have need) other comes comes' = absurd comes
@@ -308,6 +37,7 @@ module _ (laws : BagLaws) (order : OffersOrdered) (one : LeadsToOne) (needs : Ne
   start_alike log of (NotQuiet offer) other comes comes' = absurd comes
   start_alike log of (StageLine said is) other comes comes' = absurd comes
   start_alike log of (OverLimit which) other comes comes' = absurd comes
+  start_alike log of (MidState line atom said is) other comes comes' = absurd comes
   start_alike log of NotEnded other comes comes' = absurd comes
   start_alike log of (EndState atom said is) other comes comes' = absurd comes
   start_alike log of (StartStage said is) (OtherStage number') comes comes' = absurd comes'
@@ -317,6 +47,7 @@ module _ (laws : BagLaws) (order : OffersOrdered) (one : LeadsToOne) (needs : Ne
   start_alike log of (StartStage said is) (NotQuiet offer') comes comes' = absurd comes'
   start_alike log of (StartStage said is) (StageLine said' is') comes comes' = absurd comes'
   start_alike log of (StartStage said is) (OverLimit which) comes comes' = absurd comes'
+  start_alike log of (StartStage said is) (MidState line' atom' said' is') comes comes' = absurd comes'
   start_alike log of (StartStage said is) NotEnded comes comes' = absurd comes'
   start_alike log of (StartStage said is) (EndState atom' said' is') comes comes' = absurd comes'
   start_alike log of (StartState atom said is) (OtherStage number') comes comes' = absurd comes'
@@ -326,6 +57,7 @@ module _ (laws : BagLaws) (order : OffersOrdered) (one : LeadsToOne) (needs : Ne
   start_alike log of (StartState atom said is) (NotQuiet offer') comes comes' = absurd comes'
   start_alike log of (StartState atom said is) (StageLine said' is') comes comes' = absurd comes'
   start_alike log of (StartState atom said is) (OverLimit which) comes comes' = absurd comes'
+  start_alike log of (StartState atom said is) (MidState line' atom' said' is') comes comes' = absurd comes'
   start_alike log of (StartState atom said is) NotEnded comes comes' = absurd comes'
   start_alike log of (StartState atom said is) (EndState atom' said' is') comes comes' = absurd comes'
 
@@ -342,7 +74,7 @@ module _ (laws : BagLaws) (order : OffersOrdered) (one : LeadsToOne) (needs : Ne
   end_alike log of last (Some end) rising (NotQuiet offer) (EndState atom' said' is') comes comes' = absurd (asked_clash log.height last end offer comes.0 comes.1 comes'.0)
   end_alike log of last (Some end) rising (EndState atom said is) (NotQuiet offer') comes comes' = absurd (asked_clash log.height last end offer' comes'.0 comes'.1 comes.0)
   end_alike log of last (Some end) rising (EndState atom said is) (EndState atom' said' is') comes comes' =
-      counts_alike (codes "EndState said ") (codes " is ") said said' is is' (atom_of atom) (atom_of atom')
+      counts_alike laws order one needs program (codes "EndState said ") (codes " is ") said said' is is' (atom_of atom) (atom_of atom')
       (difference_once laws end.state rising last.state (atom_of atom) (atom_of atom') said said' is is' comes.1 comes'.1)
   end_alike log of last None rising (OtherStage number) other comes comes' = absurd comes
   end_alike log of last None rising NotEnded (OtherStage number') comes comes' = absurd comes'
@@ -356,6 +88,8 @@ module _ (laws : BagLaws) (order : OffersOrdered) (one : LeadsToOne) (needs : Ne
   end_alike log of last None rising NotEnded (NotQuiet offer') comes comes' = absurd comes'
   end_alike log of last None rising (StageLine said is) other comes comes' = absurd comes
   end_alike log of last None rising NotEnded (StageLine said' is') comes comes' = absurd comes'
+  end_alike log of last None rising (MidState line atom said is) other comes comes' = absurd comes
+  end_alike log of last None rising NotEnded (MidState line' atom' said' is') comes comes' = absurd comes'
   end_alike log of last None rising (OverLimit which) other comes comes' = absurd comes
   end_alike log of last None rising NotEnded (OverLimit which) comes comes' = absurd comes'
   end_alike log of last None rising (StartStage said is) other comes comes' = absurd comes
@@ -379,6 +113,9 @@ module _ (laws : BagLaws) (order : OffersOrdered) (one : LeadsToOne) (needs : Ne
   end_alike log of last (Some end) rising (StageLine said is) other comes comes' = absurd comes
   end_alike log of last (Some end) rising (NotQuiet offer) (StageLine said' is') comes comes' = absurd comes'
   end_alike log of last (Some end) rising (EndState atom said is) (StageLine said' is') comes comes' = absurd comes'
+  end_alike log of last (Some end) rising (MidState line atom said is) other comes comes' = absurd comes
+  end_alike log of last (Some end) rising (NotQuiet offer) (MidState line' atom' said' is') comes comes' = absurd comes'
+  end_alike log of last (Some end) rising (EndState atom said is) (MidState line' atom' said' is') comes comes' = absurd comes'
   end_alike log of last (Some end) rising (OverLimit which) other comes comes' = absurd comes
   end_alike log of last (Some end) rising (NotQuiet offer) (OverLimit which) comes comes' = absurd comes'
   end_alike log of last (Some end) rising (EndState atom said is) (OverLimit which) comes comes' = absurd comes'
@@ -393,20 +130,19 @@ module _ (laws : BagLaws) (order : OffersOrdered) (one : LeadsToOne) (needs : Ne
   end_alike log of last (Some end) rising (EndState atom said is) NotEnded comes comes' = absurd comes'
 
   -- From a spot on a log is refused for one cause at one line.
-  from_alike : (log : Log) → IsLogOf program log → (steps : List LogStep) (old : Spot) (line line' : ℕ) (cause other : Cause) → IsRefusedFrom program log old steps line cause → IsRefusedFrom program log old steps line' other → (line ≡ line') × AreToldAlike program cause other
-  from_alike log of [] old line line' cause other refused refused' = (refused.0 ∙ sym refused'.0, end_alike log of old log.end (ends_rise log.end of.ending) cause other refused.1 refused'.1)
-  from_alike log of (step ∷ steps) old line line' cause other refused refused' = ⊎_elim
+  from_alike : (log : Log) → IsLogOf program log → (steps : List LogStep) → AllByRecursion (IsStepOf program) steps → (old : Spot) (line line' : ℕ) (cause other : Cause) → IsRefusedFrom program log old steps line cause → IsRefusedFrom program log old steps line' other → (line ≡ line') × AreToldAlike program cause other
+  from_alike log of [] each old line line' cause other refused refused' = (refused.0 ∙ sym refused'.0, end_alike log of old log.end (ends_rise log.end of.ending) cause other refused.1 refused'.1)
+  from_alike log of (step ∷ steps) each old line line' cause other refused refused' = ⊎_elim
       (λ here. ⊎_elim
-      (λ here'. (
-        here.0 ∙ sym here'.0,
-        step_alike log.height old here'.1.0 step cause other
-            (subst (λ (rule : Rule). IsStepCause program log.height old rule step cause) (some_same here.1.0 here'.1.0 (sym here.1.1 ∙ here'.1.1)) here.1.2) here'.1.2,
-      ))
+      (λ here'.
+      let alike = step_alike laws order one needs program log.height old here'.1.0 step each.0.listing cause other
+      (subst (λ (rule : Rule). IsStepCause program log.height old rule step cause) (some_same here.1.0 here'.1.0 (sym here.1.1 ∙ here'.1.1)) here.1.2) here'.1.2 in
+      (here.0 ∙ alike.0 ∙ sym here'.0, alike.1))
       (λ later'. absurd (step_clash laws one needs program log.height old later'.0 here.1.0 step cause here.1.1 here.1.2 later'.1))
       refused')
       (λ later. ⊎_elim
       (λ here'. absurd (step_clash laws one needs program log.height old later.0 here'.1.0 step other here'.1.1 here'.1.2 later.1))
-      (λ later'. from_alike log of steps later'.0 line line' cause other
+      (λ later'. from_alike log of steps each.1 later'.0 line line' cause other
       (subst (λ (spot : Spot). IsRefusedFrom program log spot steps line cause) (one_spot laws one needs program log.height old later.0 later'.0 step later.1 later'.1) later.2) later'.2)
       refused')
       refused
@@ -420,6 +156,6 @@ module _ (laws : BagLaws) (order : OffersOrdered) (one : LeadsToOne) (needs : Ne
       refused')
       (λ later. ⊎_elim
       (λ start'. absurd (start_clash laws one needs program log other start'.1 later.0 later.1))
-      (λ later'. from_alike log of log.steps (start_spot program) line line' cause other later.2 later'.2)
+      (λ later'. from_alike log of log.steps of.steps (start_spot program) line line' cause other later.2 later'.2)
       refused')
       refused

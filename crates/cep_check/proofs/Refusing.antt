@@ -1,6 +1,6 @@
 -- A log that is refused is not legal.
 use Rattle.std.proofs.Common.{◌≡◌, inl, inr, ⊎_elim, ℕ, zero, suc, ◌≤◌, List, [], ◌∷◌, Some, None, sym, ap, subst, ◌∙◌, arith, Contains}
-use Rattle.std.specs.Prelude.{slice_get, Option, IsSomeAnd}
+use Rattle.std.specs.Prelude.{slice_get, Option, IfSome, IsSomeAnd}
 use Rattle.std.specs.FinMap as finite
 use Rattle.cep_base.proofs.Elements.{contains_at}
 use Rattle.cep_base.proofs.Lists.{some_same}
@@ -18,11 +18,12 @@ use Rattle.cep_rule.specs.Step.{Step}
 use Rattle.cep_rule.specs.Steps.{Spot, AreProofs, IsMachineStep, stage_after}
 use Rattle.cep_log.specs.declared.log.Log.{Log}
 use Rattle.cep_log.specs.declared.log.LogStep.{LogStep}
+use Rattle.cep_log.specs.declared.log.LogMid.{LogMid}
 use Rattle.cep_log.specs.declared.log.LogEnd.{LogEnd}
 use Rattle.cep_log.specs.Legal.{IsLegalStep, AreLegalSteps, IsLegalEnd, IsLegal, start_spot}
 use Rattle.cep_check.specs.declared.cause.CheckLimit.TheVariants.{Atom, State}
 use Rattle.cep_check.specs.declared.cause.Cause.{Cause}
-use Rattle.cep_check.specs.declared.cause.Cause.TheVariants.{StartStage, StartState, OtherStage, NotContained, NotProved, TooHigh, NotQuiet, OverLimit, StageLine, NotEnded, EndState}
+use Rattle.cep_check.specs.declared.cause.Cause.TheVariants.{StartStage, StartState, OtherStage, NotContained, NotProved, TooHigh, NotQuiet, OverLimit, StageLine, MidState, NotEnded, EndState}
 use Rattle.cep_check.specs.Causes.{ListsCount, IsFirstDifference, IsStartCause, IsStepCause, IsEndCause, IsRefusedFrom, IsLogRefused}
 use Rattle.cep_check.proofs.Differences.{place_in, no_entry}
 
@@ -92,6 +93,10 @@ module _ (laws : BagLaws) (one : LeadsToOne) (needs : NeedsLeft) (program : Part
       by (OverLimit Atom) comes = comes.1 machine.steps.fit
       by (OverLimit State) comes = comes.2.2 (subst Fits (one program.signature rule step.offer.values old.state new.state comes.2.0 machine.steps.step comes.2.1) machine.steps.fits)
       by (StageLine said is) comes = comes.3 (some_same said is (sym comes.1 ∙ legal.stage ∙ ap (λ (r : Rule). r.next) same ∙ comes.2))
+      by (MidState line atom said is) comes =
+          let listed : comes.1.state ≡ finite.entries new.state = subst (λ (found : Option LogMid). IfSome found (λ (mid : LogMid). mid.state ≡ finite.entries new.state)) comes.2 legal.mid in
+          let after : new.state ≡ comes.0.within.new = one program.signature rule step.offer.values old.state new.state comes.0.within.new machine.steps.step comes.0.within.leads in
+          no_difference comes.1.state comes.0.within.new (atom_of atom) said is (listed ∙ ap finite.entries after) comes.4
       by (StartStage said is) comes = comes
       by (StartState atom said is) comes = comes
       by NotEnded comes = comes
@@ -118,6 +123,7 @@ module _ (laws : BagLaws) (one : LeadsToOne) (needs : NeedsLeft) (program : Part
   end_clash height last None (NotQuiet offer) comes legal = comes
   end_clash height last None (OverLimit which) comes legal = comes
   end_clash height last None (StageLine said is) comes legal = comes
+  end_clash height last None (MidState line atom said is) comes legal = comes
   end_clash height last None (EndState atom said is) comes legal = comes
   end_clash height last (Some end) (NotQuiet offer) comes legal =
       let quiet = legal.quiet comes.0 in
@@ -132,6 +138,7 @@ module _ (laws : BagLaws) (one : LeadsToOne) (needs : NeedsLeft) (program : Part
   end_clash height last (Some end) (TooHigh place high) comes legal = comes
   end_clash height last (Some end) (OverLimit which) comes legal = comes
   end_clash height last (Some end) (StageLine said is) comes legal = comes
+  end_clash height last (Some end) (MidState line atom said is) comes legal = comes
 
   from_clash : (log : Log) (steps : List LogStep) (old last : Spot) (line : ℕ) (cause : Cause) → IsRefusedFrom program log old steps line cause → AreLegalSteps program log.height steps old last → IsSomeAnd log.end (IsLegalEnd program log.height last) → ⊥
   from_clash log [] old last line cause refused legal ending = end_clash log.height old log.end cause refused.1 (subst (λ (spot : Spot). IsSomeAnd log.end (IsLegalEnd program log.height spot)) legal ending)
@@ -150,6 +157,7 @@ module _ (laws : BagLaws) (one : LeadsToOne) (needs : NeedsLeft) (program : Part
   start_clash log (NotQuiet offer) comes stage start = comes
   start_clash log (OverLimit which) comes stage start = comes
   start_clash log (StageLine said is) comes stage start = comes
+  start_clash log (MidState line atom said is) comes stage start = comes
   start_clash log NotEnded comes stage start = comes
   start_clash log (EndState atom said is) comes stage start = comes
 

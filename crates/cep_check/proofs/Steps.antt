@@ -18,8 +18,8 @@ use Rattle.cep_log.specs.declared.log.Log.{Log}
 use Rattle.cep_log.specs.declared.log.LogStep.{LogStep}
 use Rattle.cep_log.specs.Legal.{IsStepOf, IsLegalStep, AreLegalSteps}
 use Rattle.cep_check.specs.declared.cause.Cause.{Cause}
-use Rattle.cep_check.specs.declared.cause.Cause.TheVariants.{StartStage, StartState, OtherStage, NotContained, NotProved, TooHigh, NotQuiet, OverLimit, StageLine, NotEnded, EndState}
-use Rattle.cep_check.specs.Causes.{IsOfStage, CanTake, IsProvedStep, IsStepCause, IsRefusedFrom}
+use Rattle.cep_check.specs.declared.cause.Cause.TheVariants.{StartStage, StartState, OtherStage, NotContained, NotProved, TooHigh, NotQuiet, OverLimit, StageLine, MidState, NotEnded, EndState}
+use Rattle.cep_check.specs.Causes.{IsOfStage, CanTake, IsProvedStep, IsStepCause, cause_line, IsRefusedFrom}
 use Rattle.cep_check.specs.Walking.{IsReadyStep, IsLackCause, IsProofAt, IsOneProofCause, IsProofCause, IsQuietCause}
 
 -- a rule's group says of which stage it is
@@ -58,6 +58,7 @@ proof_cause program height proofs goals n place proof goal (NotContained atom ha
 proof_cause program height proofs goals n place proof goal (NotQuiet offer) is all p q fails = fails
 proof_cause program height proofs goals n place proof goal (OverLimit which) is all p q fails = fails
 proof_cause program height proofs goals n place proof goal (StageLine said told) is all p q fails = fails
+proof_cause program height proofs goals n place proof goal (MidState line atom said told) is all p q fails = fails
 proof_cause program height proofs goals n place proof goal NotEnded is all p q fails = fails
 proof_cause program height proofs goals n place proof goal (EndState atom said told) is all p q fails = fails
 
@@ -72,6 +73,7 @@ module _ (program : Parts) (height : ℕ) (old : Spot) (rule : Rule) (step : Log
   lack_cause (NotQuiet offer) of_stage lacks = absurd lacks
   lack_cause (OverLimit which) of_stage lacks = absurd lacks
   lack_cause (StageLine said told) of_stage lacks = absurd lacks
+  lack_cause (MidState line atom said told) of_stage lacks = absurd lacks
   lack_cause NotEnded of_stage lacks = lacks
   lack_cause (EndState atom said told) of_stage lacks = lacks
 
@@ -85,6 +87,7 @@ module _ (program : Parts) (height : ℕ) (old : Spot) (rule : Rule) (step : Log
   failure_cause (NotQuiet offer) can fails = absurd fails
   failure_cause (OverLimit which) can fails = absurd fails
   failure_cause (StageLine said told) can fails = absurd fails
+  failure_cause (MidState line atom said told) can fails = absurd fails
   failure_cause NotEnded can fails = fails
   failure_cause (EndState atom said told) can fails = fails
 
@@ -98,6 +101,7 @@ module _ (program : Parts) (height : ℕ) (old : Spot) (rule : Rule) (step : Log
   quiet_cause (TooHigh place high) is there = absurd there
   quiet_cause (OverLimit which) is there = absurd there
   quiet_cause (StageLine said told) is there = absurd there
+  quiet_cause (MidState line atom said told) is there = absurd there
   quiet_cause NotEnded is there = there
   quiet_cause (EndState atom said told) is there = there
 
@@ -118,11 +122,11 @@ refused_one program log (x ∷ steps) (suc n) step old new line cause at legal r
 pub refused_next : (program : Parts) (log : Log) (steps : List LogStep) (n : ℕ) (step : LogStep) (old new : Spot) (line : ℕ) (cause : Cause) → slice_get steps n ≡ Some step → IsLegalStep program log.height old new step → IsRefusedFrom program log new (drop (n + 1) steps) line cause → IsRefusedFrom program log old (drop n steps) line cause
 refused_next program log steps n step old new line cause at legal rest = refused_one program log steps n step old new line cause at legal (subst (λ m. IsRefusedFrom program log new (drop m steps) line cause) (add-one n) rest)
 
-pub refused_here : (program : Parts) (log : Log) (steps : List LogStep) (n : ℕ) (step : LogStep) (old : Spot) (cause : Cause) → slice_get steps n ≡ Some step → ((rule : Rule) × (slice_get program.rules step.offer.rule ≡ Some rule) × IsStepCause program log.height old rule step cause) → IsRefusedFrom program log old (drop n steps) step.line cause
+pub refused_here : (program : Parts) (log : Log) (steps : List LogStep) (n : ℕ) (step : LogStep) (old : Spot) (cause : Cause) → slice_get steps n ≡ Some step → ((rule : Rule) × (slice_get program.rules step.offer.rule ≡ Some rule) × IsStepCause program log.height old rule step cause) → IsRefusedFrom program log old (drop n steps) (cause_line step cause) cause
 refused_here program log [] n step old cause at comes = absurd cc
 refused_here program log (x ∷ steps) zero step old cause at comes =
     let same : step ≡ x = sym (some_same x step at) in
-    inl (ap (λ (s : LogStep). s.line) same, subst (λ (s : LogStep). (rule : Rule) × (slice_get program.rules s.offer.rule ≡ Some rule) × IsStepCause program log.height old rule s cause) same comes)
+    inl (ap (λ (s : LogStep). cause_line s cause) same, subst (λ (s : LogStep). (rule : Rule) × (slice_get program.rules s.offer.rule ≡ Some rule) × IsStepCause program log.height old rule s cause) same comes)
 refused_here program log (x ∷ steps) (suc n) step old cause at comes = refused_here program log steps n step old cause at comes
 
 -- no proof is of what is not fit
@@ -148,4 +152,5 @@ ready program rule step kept of_program numbered =
       as_many = of_program.as_many ∙ ap (λ (r : Rule). length r.backs) same;
       low = of_program.low;
       stage = subst (λ (r : Rule). IsSome step.stage ↔ IsSome r.next) same of_program.stage;
+      listing = of_program.listing;
     }

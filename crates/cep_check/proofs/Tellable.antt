@@ -24,10 +24,11 @@ use Rattle.cep_rule.specs.Steps.{Spot}
 use Rattle.cep_text.specs.Texts.{IsTypedGround}
 use Rattle.cep_log.specs.declared.log.Log.{Log}
 use Rattle.cep_log.specs.declared.log.LogStep.{LogStep}
+use Rattle.cep_log.specs.declared.log.LogMid.{LogMid}
 use Rattle.cep_log.specs.declared.log.LogEnd.{LogEnd}
 use Rattle.cep_log.specs.Legal.{IsHave, IsListing, IsStepOf, IsLogOf, IsLegalStep, start_spot}
 use Rattle.cep_check.specs.declared.cause.Cause.{Cause}
-use Rattle.cep_check.specs.declared.cause.Cause.TheVariants.{StartStage, StartState, OtherStage, NotContained, NotProved, TooHigh, NotQuiet, OverLimit, StageLine, NotEnded, EndState}
+use Rattle.cep_check.specs.declared.cause.Cause.TheVariants.{StartStage, StartState, OtherStage, NotContained, NotProved, TooHigh, NotQuiet, OverLimit, StageLine, MidState, NotEnded, EndState}
 use Rattle.cep_check.specs.declared.cause.Verdict.{Verdict}
 use Rattle.cep_check.specs.declared.cause.Verdict.TheVariants.{Accepted, Refused}
 use Rattle.cep_check.specs.Causes.{IsFirstDifference, IsFirstLack, IsStartCause, IsStepCause, IsEndCause, IsRefusedFrom, IsVerdict}
@@ -113,25 +114,31 @@ module _ (bags : BagLaws) (types : TypeLaws) (comes_from : ComesFrom) (program :
   start_told log (NotQuiet offer) of_program comes = absurd comes
   start_told log (OverLimit which) of_program comes = tt
   start_told log (StageLine said is) of_program comes = absurd comes
+  start_told log (MidState line atom said is) of_program comes = absurd comes
   start_told log NotEnded of_program comes = tt
   start_told log (EndState atom said is) of_program comes = absurd comes
 
-  step_told : (height : ℕ) (old : Spot) (rule : Rule) (step : LogStep) (cause : Cause) → IsStepOf program step → slice_get program.rules step.offer.rule ≡ Some rule → IsStepCause program height old rule step cause → IsTellableCause program cause
-  step_told height old rule step (OtherStage number) of_program numbered comes = subst (λ n. n < length program.rules) (sym comes.0) (at_within program.rules step.offer.rule rule numbered)
-  step_told height old rule step (NotContained atom have need) of_program numbered comes =
+  step_told : (height : ℕ) (old : Spot) (rule : Rule) (step : LogStep) (cause : Cause) → AreWritable program old.state → IsStepOf program step → slice_get program.rules step.offer.rule ≡ Some rule → IsStepCause program height old rule step cause → IsTellableCause program cause
+  step_told height old rule step (OtherStage number) writable of_program numbered comes = subst (λ n. n < length program.rules) (sym comes.0) (at_within program.rules step.offer.rule rule numbered)
+  step_told height old rule step (NotContained atom have need) writable of_program numbered comes =
       let is = ready program rule step kept of_program numbered in
       lack_writable rule step.offer.values old.state (atom_of atom) have need is.values is.typed comes.1
-  step_told height old rule step (NotQuiet offer) of_program numbered comes = offer_of height old.state offer comes.2.is.applies
-  step_told height old rule step (StageLine said is) of_program numbered comes =
+  step_told height old rule step (NotQuiet offer) writable of_program numbered comes = offer_of height old.state offer comes.2.is.applies
+  step_told height old rule step (StageLine said is) writable of_program numbered comes =
       let known = ready program rule step kept of_program numbered in
       (subst (λ (stage : Option ℕ). IfSome stage (λ number. number < length program.stages)) comes.1 of_program.in_range, subst (λ (stage : Option ℕ). IfSome stage (λ number. number < length program.stages)) comes.2 known.next)
-  step_told height old rule step (NotProved place) of_program numbered comes = tt
-  step_told height old rule step (TooHigh place high) of_program numbered comes = tt
-  step_told height old rule step (OverLimit which) of_program numbered comes = tt
-  step_told height old rule step (StartStage said is) of_program numbered comes = absurd comes
-  step_told height old rule step (StartState atom said is) of_program numbered comes = absurd comes
-  step_told height old rule step NotEnded of_program numbered comes = tt
-  step_told height old rule step (EndState atom said is) of_program numbered comes = absurd comes
+  step_told height old rule step (MidState line atom said is) writable of_program numbered comes =
+      let known = ready program rule step kept of_program numbered in
+      let listing : IsListing program.signature comes.1.state = subst (λ (found : Option LogMid). IfSome found (λ (mid : LogMid). IsListing program.signature mid.state)) comes.2 of_program.listing in
+      difference_writable comes.1.state comes.0.within.new (atom_of atom) said is listing.each
+      (step_writable rule step.offer.values old.state comes.0.within.new known.values known.typed comes.0.within.leads writable) comes.4
+  step_told height old rule step (NotProved place) writable of_program numbered comes = tt
+  step_told height old rule step (TooHigh place high) writable of_program numbered comes = tt
+  step_told height old rule step (OverLimit which) writable of_program numbered comes = tt
+  step_told height old rule step (StartStage said is) writable of_program numbered comes = absurd comes
+  step_told height old rule step (StartState atom said is) writable of_program numbered comes = absurd comes
+  step_told height old rule step NotEnded writable of_program numbered comes = tt
+  step_told height old rule step (EndState atom said is) writable of_program numbered comes = absurd comes
 
   end_told : (height : ℕ) (last : Spot) (end : Option LogEnd) (cause : Cause) → IfSome end (λ (end : LogEnd). IsListing program.signature end.state) → AreWritable program last.state → IsEndCause program height last end cause → IsTellableCause program cause
   end_told height last (Some end) (NotQuiet offer) listing writable comes = ⊎_elim
@@ -148,6 +155,7 @@ module _ (bags : BagLaws) (types : TypeLaws) (comes_from : ComesFrom) (program :
   end_told height last (Some end) (OtherStage number) listing writable comes = absurd comes
   end_told height last (Some end) (NotContained atom have need) listing writable comes = absurd comes
   end_told height last (Some end) (StageLine said is) listing writable comes = absurd comes
+  end_told height last (Some end) (MidState line atom said is) listing writable comes = absurd comes
   end_told height last None NotEnded listing writable comes = tt
   end_told height last None (NotProved place) listing writable comes = tt
   end_told height last None (TooHigh place high) listing writable comes = tt
@@ -159,6 +167,7 @@ module _ (bags : BagLaws) (types : TypeLaws) (comes_from : ComesFrom) (program :
   end_told height last None (OtherStage number) listing writable comes = absurd comes
   end_told height last None (NotContained atom have need) listing writable comes = absurd comes
   end_told height last None (StageLine said is) listing writable comes = absurd comes
+  end_told height last None (MidState line atom said is) listing writable comes = absurd comes
 
   -- where a legal step leads, atoms are writable
   legal_writable : (height : ℕ) (old new : Spot) (step : LogStep) → IsLegalStep program height old new step → AreWritable program old.state → AreWritable program new.state
@@ -169,7 +178,7 @@ module _ (bags : BagLaws) (types : TypeLaws) (comes_from : ComesFrom) (program :
   from_told : (log : Log) (steps : List LogStep) (old : Spot) (line : ℕ) (cause : Cause) → IsLogOf program log → AllByRecursion (IsStepOf program) steps → AreWritable program old.state → IsRefusedFrom program log old steps line cause → IsTellableCause program cause
   from_told log [] old line cause of_program each writable refused = end_told log.height old log.end cause of_program.ending writable refused.1
   from_told log (step ∷ steps) old line cause of_program each writable refused = ⊎_elim
-      (λ here. step_told log.height old here.1.0 step cause each.0 here.1.1 here.1.2)
+      (λ here. step_told log.height old here.1.0 step cause writable each.0 here.1.1 here.1.2)
       (λ later. from_told log steps later.0 line cause of_program each.1 (legal_writable log.height old later.0 step later.1 writable) later.2)
       refused
 

@@ -18,13 +18,14 @@ use Rattle.cep_scratch.specs.First.{IsFirstOffer}
 use Rattle.cep_log.specs.declared.end_word.EndWord.TheVariants.{Quiet}
 use Rattle.cep_log.specs.declared.log.Log.{Log}
 use Rattle.cep_log.specs.declared.log.LogStep.{LogStep}
+use Rattle.cep_log.specs.declared.log.LogMid.{LogMid}
 use Rattle.cep_log.specs.declared.log.LogEnd.{LogEnd}
 use Rattle.cep_log.specs.Legal.{IsLegalStep, IsLegal, start_spot}
 use Rattle.cep_check.specs.declared.cause.CheckLimit.TheVariants.{Atom, State}
 use Rattle.cep_check.specs.declared.cause.Cause.{Cause}
 use Rattle.cep_check.specs.declared.cause.Verdict.{Verdict}
 use Rattle.cep_check.specs.declared.cause.Verdict.TheVariants.{Accepted, Refused}
-use Rattle.cep_check.specs.declared.cause.Cause.TheVariants.{StartStage, StartState, OtherStage, NotContained, NotProved, TooHigh, NotQuiet, OverLimit, StageLine, NotEnded, EndState}
+use Rattle.cep_check.specs.declared.cause.Cause.TheVariants.{StartStage, StartState, OtherStage, NotContained, NotProved, TooHigh, NotQuiet, OverLimit, StageLine, MidState, NotEnded, EndState}
 
 -- A listing says that there are so many copies of the atom: 0 where no line of it is of the atom.
 abbrev pub ListsCount : List (AtomTree × ℕ) → AtomTree → ℕ → Type 0
@@ -88,6 +89,11 @@ pub record IsWithinLimits (program : Parts) (height : ℕ) (old : Spot) (rule : 
   pub leads : Step program.signature rule step.offer.values old.state new
   pub fits : Fits new
 
+-- Besides, the stage that is said is the rule's.
+pub record IsStaged (program : Parts) (height : ℕ) (old : Spot) (rule : Rule) (step : LogStep) : Type 0 where
+  pub within : IsWithinLimits program height old rule step
+  pub stage : step.stage ≡ rule.next
+
 -- The cause comes before any step: the stage that is said is another than the program's start stage; and where it is that, the listing is not the start state.
 abbrev pub IsStartCause : Parts → Log → Cause → Type 0
 IsStartCause program log (StartStage said is) = (said ≡ log.stage) × (is ≡ program.start_stage) × (said ≢ is)
@@ -99,10 +105,11 @@ IsStartCause program log (TooHigh premise height) = ⊥
 IsStartCause program log (NotQuiet offer) = ⊥
 IsStartCause program log (OverLimit which) = ⊥
 IsStartCause program log (StageLine said is) = ⊥
+IsStartCause program log (MidState line atom said is) = ⊥
 IsStartCause program log NotEnded = ⊥
 IsStartCause program log (EndState atom said is) = ⊥
 
--- The cause comes at a step from this spot, and none of those above it does: the rule is neither of the stage nor leaves it; the left side is not contained; a derivation does not prove its premise, or it does and is too high; the rule leaves its stage while one of the stage's own has an offer, of which the first is told; an atom that the rule makes is not fit, or all are and the new state does not fit; or the stage that is said is another than the rule's.
+-- The cause comes at a step from this spot, and none of those above it does: the rule is neither of the stage nor leaves it; the left side is not contained; a derivation does not prove its premise, or it does and is too high; the rule leaves its stage while one of the stage's own has an offer, of which the first is told; an atom that the rule makes is not fit, or all are and the new state does not fit; the stage that is said is another than the rule's; or the listing behind the step is not the new state.
 abbrev pub IsStepCause : Parts → ℕ → Spot → Rule → LogStep → Cause → Type 0
 IsStepCause program height old rule step (OtherStage number) = (number ≡ step.offer.rule) × (¬ IsOfStage old.stage rule)
 IsStepCause program height old rule step (NotContained atom have need) =
@@ -119,6 +126,9 @@ IsStepCause program height old rule step (OverLimit State) =
     × ((new : Multiset) × Step program.signature rule step.offer.values old.state new × (¬ Fits new))
 IsStepCause program height old rule step (StageLine said is) =
     IsWithinLimits program height old rule step × (step.stage ≡ Some said) × (rule.next ≡ Some is) × (said ≢ is)
+IsStepCause program height old rule step (MidState line atom said is) =
+    (staged : IsStaged program height old rule step) × (mid : LogMid) × (step.mid ≡ Some mid) × (line ≡ mid.line)
+    × IsFirstDifference mid.state staged.within.new (atom_of atom) said is
 IsStepCause program height old rule step (StartStage said is) = ⊥
 IsStepCause program height old rule step (StartState atom said is) = ⊥
 IsStepCause program height old rule step NotEnded = ⊥
@@ -151,6 +161,12 @@ IsEndCause program height last end (NotProved premise) = ⊥
 IsEndCause program height last end (TooHigh premise high) = ⊥
 IsEndCause program height last end (OverLimit which) = ⊥
 IsEndCause program height last end (StageLine said is) = ⊥
+IsEndCause program height last end (MidState line atom said is) = ⊥
+
+-- the line of a cause that comes at a step: that of its listing where it is this, and else of the step
+abbrev pub cause_line : LogStep → Cause → ℕ
+cause_line step (MidState line atom said is) = line
+cause_line step cause = step.line
 
 -- the line of the end, and where there is none the one behind the last
 abbrev pub end_line : Log → Option LogEnd → ℕ
@@ -161,7 +177,7 @@ end_line log (Some end) = end.line
 abbrev pub IsRefusedFrom : Parts → Log → Spot → List LogStep → ℕ → Cause → Type 0
 IsRefusedFrom program log old [] line cause = (line ≡ end_line log log.end) × IsEndCause program log.height old log.end cause
 IsRefusedFrom program log old (step ∷ steps) line cause =
-    ((line ≡ step.line) × ((rule : Rule) × (slice_get program.rules step.offer.rule ≡ Some rule) × IsStepCause program log.height old rule step cause))
+    ((line ≡ cause_line step cause) × ((rule : Rule) × (slice_get program.rules step.offer.rule ≡ Some rule) × IsStepCause program log.height old rule step cause))
     ⊎ ((new : Spot) × IsLegalStep program log.height old new step × IsRefusedFrom program log new steps line cause)
 
 -- The log is refused at this line for this cause, which is the first that comes.

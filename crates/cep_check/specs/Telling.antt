@@ -11,7 +11,7 @@ use Rattle.cep_log.specs.Lines.{stage_name}
 use Rattle.cep_check.specs.declared.cause.CheckLimit.{CheckLimit}
 use Rattle.cep_check.specs.declared.cause.CheckLimit.TheVariants.{Atom, State}
 use Rattle.cep_check.specs.declared.cause.Cause.{Cause}
-use Rattle.cep_check.specs.declared.cause.Cause.TheVariants.{StartStage, StartState, OtherStage, NotContained, NotProved, TooHigh, NotQuiet, OverLimit, StageLine, NotEnded, EndState}
+use Rattle.cep_check.specs.declared.cause.Cause.TheVariants.{StartStage, StartState, OtherStage, NotContained, NotProved, TooHigh, NotQuiet, OverLimit, StageLine, MidState, NotEnded, EndState}
 use Rattle.cep_check.specs.declared.cause.Verdict.{Verdict}
 use Rattle.cep_check.specs.declared.cause.Verdict.TheVariants.{Accepted, Refused}
 
@@ -43,6 +43,7 @@ cause_text program (TooHigh premise height) = codes "TooHigh " ++ decimal premis
 cause_text program (NotQuiet offer) = codes "NotQuiet " ++ offer_text program offer
 cause_text program (OverLimit which) = limit_text which
 cause_text program (StageLine said is) = stages_text program (codes "StageLine said ") said is
+cause_text program (MidState line atom said is) = counts_text program.signature (codes "MidState said ") said (codes " is ") is (atom_of atom)
 cause_text program NotEnded = codes "NotEnded"
 cause_text program (EndState atom said is) = counts_text program.signature (codes "EndState said ") said (codes " is ") is (atom_of atom)
 
@@ -71,6 +72,7 @@ IsTellableCause program (TooHigh premise height) = Unit {0}
 IsTellableCause program (NotQuiet offer) = IsOfferOf program offer
 IsTellableCause program (OverLimit which) = Unit {0}
 IsTellableCause program (StageLine said is) = (said < length program.stages) × (is < length program.stages)
+IsTellableCause program (MidState line atom said is) = IsTypedGround program.signature (atom_of atom)
 IsTellableCause program NotEnded = Unit {0}
 IsTellableCause program (EndState atom said is) = IsTypedGround program.signature (atom_of atom)
 

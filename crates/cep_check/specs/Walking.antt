@@ -13,17 +13,18 @@ use Rattle.cep_rule.specs.Limits.{IsSmallRule}
 use Rattle.cep_rule.specs.Program.{IsTypedRule, IsDividedRule}
 use Rattle.cep_rule.specs.State.{IsState, Fits}
 use Rattle.cep_rule.specs.Stages.{own_group, leaving_group}
-use Rattle.cep_rule.specs.Steps.{Spot}
+use Rattle.cep_rule.specs.Steps.{Spot, IsMachineStep}
 use Rattle.cep_log.specs.declared.log.Log.{Log}
 use Rattle.cep_log.specs.declared.log.LogStep.{LogStep}
-use Rattle.cep_log.specs.Legal.{AreLegalSteps, IsLegalEnd}
+use Rattle.cep_log.specs.declared.log.LogMid.{LogMid}
+use Rattle.cep_log.specs.Legal.{IsListing, AreLegalSteps, IsLegalEnd}
 use Rattle.cep_scratch.specs.First.{IsFirstOffer}
 use Rattle.cep_check.specs.declared.cause.Cause.{Cause}
-use Rattle.cep_check.specs.declared.cause.Cause.TheVariants.{NotContained, NotProved, TooHigh, NotQuiet, StageLine}
+use Rattle.cep_check.specs.declared.cause.Cause.TheVariants.{NotContained, NotProved, TooHigh, NotQuiet, StageLine, MidState}
 use Rattle.cep_check.specs.declared.cause.Verdict.{Verdict}
 use Rattle.cep_check.specs.declared.cause.Verdict.TheVariants.{Accepted, Refused}
 use Rattle.cep_check.specs.declared.walk.Walk.{Walk}
-use Rattle.cep_check.specs.Causes.{IsFirstLack, IsUnproved, IsTooHigh, IsStepCause, IsEndCause, end_line, IsRefusedFrom}
+use Rattle.cep_check.specs.Causes.{IsFirstDifference, IsFirstLack, IsUnproved, IsTooHigh, IsStaged, IsStepCause, IsEndCause, end_line, IsRefusedFrom}
 
 -- where the steps have led
 abbrev pub stands_at : Walk → Spot
@@ -48,6 +49,7 @@ pub record IsReadyStep (program : Parts) (rule : Rule) (step : LogStep) : Type 0
   pub as_many : length step.proofs ≡ length rule.backs
   pub low : AllByRecursion (λ proof. proof_height proof ≤ MOST_HEIGHT) step.proofs
   pub stage : IsSome step.stage ↔ IsSome rule.next
+  pub listing : IfSome step.mid (λ mid. IsListing program.signature mid.state)
 
 -- The cause is the first atom that is needed and lacks.
 abbrev pub IsLackCause : Multiset → Multiset → Cause → Type 0
@@ -79,6 +81,17 @@ IsQuietCause program height old rule cause = ⊥
 abbrev pub IsStageCause : Option ℕ → Option ℕ → Cause → Type 0
 IsStageCause said named (StageLine one other) = (said ≡ Some one) × (named ≡ Some other) × (one ≢ other)
 IsStageCause said named cause = ⊥
+
+-- The step leads from one spot to the other, whatever is listed behind it.
+pub record IsDoneStep (program : Parts) (height : ℕ) (old new : Spot) (rule : Rule) (step : LogStep) : Type 0 where
+  pub machine : IsMachineStep program height old new step.offer rule step.proofs
+  pub staged : IsStaged program height old rule step
+  pub after : staged.within.new ≡ new.state
+
+-- The cause is that a listing is not the state.
+abbrev pub IsMidCause : Option LogMid → Multiset → Cause → Type 0
+IsMidCause said state (MidState line atom one other) = (mid : LogMid) × (said ≡ Some mid) × (line ≡ mid.line) × IsFirstDifference mid.state state (atom_of atom) one other
+IsMidCause said state cause = ⊥
 
 -- The cause is that of a step from this spot, by the rule that its offer names.
 abbrev pub IsStepCauseOf : Parts → ℕ → Spot → LogStep → Cause → Type 0

@@ -2,7 +2,7 @@ ghost use Rattle.std.specs.Prelude.{◌≡◌, ◌↔◌, ◌≤◌, IfOk, Match
 ghost use Rattle.std.specs.FinMap as finite;
 ghost use Rattle.cep_base.specs.declared.limits.TheConstants.{MOST_LOG};
 ghost use Rattle.cep_log.specs.Legal.{IsLogOf, IsLegal};
-ghost use Rattle.cep_check.specs.Causes.{IsStartCause, end_line, AcceptsLog, IsVerdict};
+ghost use Rattle.cep_check.specs.Causes.{IsStartCause, cause_line, end_line, AcceptsLog, IsVerdict};
 ghost use Rattle.cep_check.specs.Telling.{IsTellable};
 ghost use Rattle.cep_check.specs.Walking.{stands_at, IsWalkOf, AreStepsDone, IsEndVerdict};
 
@@ -13,7 +13,7 @@ use crate::laws::{one_cause, refused_logs_are_not_legal, verdicts_can_be_told};
 use crate::step::advance;
 use crate::walk::Walk;
 use cep_base::Steps;
-use cep_log::Log;
+use cep_log::{Log, LogStep};
 use cep_rule::Program;
 use cep_term::copy;
 use std::alloc::{AllocError, Global};
@@ -104,11 +104,21 @@ fn steps_refused<L: Ledger>(
     for i in 0..log.steps.len() {
         let step = log.steps.get(i);
         if let Some(cause) = advance(alloc, program, log.height, step, walk, steps)? {
-            let line = step.line;
+            let line = cause_line(step, &cause);
             return Ok(Some(Verdict::Refused { line, cause }));
         }
     }
     Ok(None)
+}
+
+// The line of a cause that comes at the step.
+fn cause_line(step: &LogStep, cause: &Cause) -> u32
+    ensures { result ≡ cause_line step.now cause.now }
+{
+    match cause {
+        Cause::MidState { line, .. } => *line,
+        _ => step.line,
+    }
 }
 
 // What is left where all steps are legal: the end.

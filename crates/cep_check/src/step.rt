@@ -1,24 +1,26 @@
-ghost use Rattle.std.specs.Prelude.{◌≡◌, ◌↔◌, ◌≤◌, length, IfOk, MatchOption, IsSome};
+ghost use Rattle.std.specs.Prelude.{◌≡◌, ◌↔◌, ◌≤◌, length, IfOk, IfSome, MatchOption, IsSome, Some};
+ghost use Rattle.std.specs.FinMap as finite;
 ghost use Rattle.std.specs.List.{AllByRecursion};
 ghost use Rattle.cep_base.specs.declared.limits.TheConstants.{MOST_PREMISES};
 ghost use Rattle.cep_term.specs.Tree.{IsAtomInRange, IsGroundAtom};
 ghost use Rattle.cep_term.specs.Multiset.{nodes_in_all, IsContained};
 ghost use Rattle.cep_rule.specs.Binding.{needed_of};
 ghost use Rattle.cep_rule.specs.Instances.{full_instances, left_of};
+ghost use Rattle.cep_rule.specs.declared.signature.Signature.{Signature};
 ghost use Rattle.cep_rule.specs.Limits.{IsHeight};
 ghost use Rattle.cep_rule.specs.Stages.{HasOffer, own_group, leaving_group};
-ghost use Rattle.cep_log.specs.Legal.{IsStepOf, IsLegalStep};
+ghost use Rattle.cep_log.specs.Legal.{IsListing, IsStepOf, IsLegalStep};
 ghost use Rattle.cep_step.specs.Changes.{CanStep, IsWeighed};
 ghost use Rattle.cep_check.specs.Causes.{IsOfStage, IsInTurn, IsStepCause};
-ghost use Rattle.cep_check.specs.Walking.{stands_at, IsWalkOf, IsReadyStep, IsLackCause, IsQuietCause, IsStageCause, IsStepCauseOf};
+ghost use Rattle.cep_check.specs.Walking.{stands_at, IsWalkOf, IsReadyStep, IsLackCause, IsQuietCause, IsStageCause, IsDoneStep, IsMidCause, IsStepCauseOf};
 
 use crate::cause::{Cause, CheckLimit};
-use crate::counts::first_lack;
+use crate::counts::{first_difference, first_lack};
 use crate::needed::needed_atoms;
 use crate::premises::first_failure;
 use crate::walk::Walk;
 use cep_base::Steps;
-use cep_log::LogStep;
+use cep_log::{LogMid, LogStep};
 use cep_rule::laws::types_are_lawful;
 use cep_rule::{Program, Rule, Terms, gained};
 use cep_scratch::applies_any;
@@ -142,7 +144,8 @@ fn not_quiet<L: Ledger>(
     Ok(first.map(|offer| Cause::NotQuiet { offer }))
 }
 
-// Goes on by a step that is in turn, where it passes no limit and its stage is the rule's.
+// Goes on by a step that is in turn, where it passes no limit, its stage is the rule's, and a listing
+// behind it is that of the new state.
 fn change(
     alloc: Global,
     program: &Program,
@@ -156,6 +159,29 @@ fn change(
     requires walk { IsWalkOf program.now walk.old }
     ensures cause { IfOk result (λ cause. MatchOption cause
         (IsLegalStep program.now height (stands_at walk.old) (stands_at walk.new) step.now)
+        (IsStepCause program.now height (stands_at walk.old) rule.now step.now)) }
+    ensures walk { IfOk result (λ cause. MatchOption cause (IsWalkOf program.now walk.new) (λ _. Unit {0})) }
+{
+    if let Some(cause) = go_on(alloc, program, height, rule, step, walk)? {
+        return Ok(Some(cause));
+    }
+    mid_cause(alloc, &step.mid, &walk.state)
+}
+
+// Goes on by a step that is in turn, whatever is listed behind it.
+fn go_on(
+    alloc: Global,
+    program: &Program,
+    height: u32,
+    rule: &Rule,
+    step: &LogStep,
+    walk: &mut Walk,
+) -> Result<Option<Cause>, AllocError>
+    requires in_turn { IsInTurn program.now height (stands_at walk.old) rule.now step.now }
+    requires ready { IsReadyStep program.now rule.now step.now }
+    requires walk { IsWalkOf program.now walk.old }
+    ensures cause { IfOk result (λ cause. MatchOption cause
+        (IsDoneStep program.now height (stands_at walk.old) (stands_at walk.new) rule.now step.now)
         (IsStepCause program.now height (stands_at walk.old) rule.now step.now)) }
     ensures walk { IfOk result (λ cause. MatchOption cause (IsWalkOf program.now walk.new) (λ _. Unit {0})) }
 {
@@ -210,5 +236,36 @@ fn stage_cause(said: Option<u32>, named: Option<u32>) -> Option<Cause>
                 }
             }
         },
+    }
+}
+
+// Whether the listing is another than that of the state.
+fn mid_cause(alloc: Global, mid: &Option<LogMid>, state: &Bag) -> Result<Option<Cause>, AllocError>
+    requires { (signature : Signature) × IfSome mid.now (λ mid. IsListing signature mid.state) }
+    ensures { IfOk result (λ cause. MatchOption cause
+        (IfSome mid.now (λ mid. mid.state ≡ finite.entries state.now))
+        (IsMidCause mid.now state.now)) }
+{
+    match mid {
+        None => Ok(None),
+        Some(mid) => listing_cause(alloc, mid, state),
+    }
+}
+
+// The same where there is a listing.
+fn listing_cause(alloc: Global, mid: &LogMid, state: &Bag) -> Result<Option<Cause>, AllocError>
+    requires { (signature : Signature) × IsListing signature mid.now.state }
+    ensures { IfOk result (λ cause. MatchOption cause
+        (mid.now.state ≡ finite.entries state.now)
+        (IsMidCause (Some mid.now) state.now)) }
+{
+    match first_difference(&mid.state, state) {
+        None => Ok(None),
+        Some(difference) => Ok(Some(Cause::MidState {
+            line: mid.line,
+            atom: copy(alloc, difference.atom)?,
+            said: difference.said,
+            is: difference.is,
+        })),
     }
 }

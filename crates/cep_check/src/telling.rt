@@ -111,6 +111,9 @@ fn put_cause(program: &Program, cause: &Cause, out: &mut Text) -> Result<(), All
         Cause::StageLine { said, is } => {
             put_stages(program, b"StageLine said ", *said, *is, out)
         }
+        Cause::MidState { atom, said, is, .. } => {
+            put_counts(program, b"MidState said ", *said, b" is ", *is, atom, out)
+        }
         Cause::NotEnded => out.append(b"NotEnded"),
         Cause::EndState { atom, said, is } => {
             put_counts(program, b"EndState said ", *said, b" is ", *is, atom, out)

@@ -1,7 +1,8 @@
 -- What lines of each kind say.
-use Rattle.std.proofs.Common.{◌≡◌, inr, ℕ, zero, suc, ◌<◌, ◌≤◌, ◌^◌, List, [], ◌∷◌, ◌++◌, length, Bool, true, false, Option, Some, None, refl, sym, ap, ◌∙◌, subst, arith}
+use Rattle.std.proofs.Common.{◌≡◌, inr, ℕ, zero, suc, ◌<◌, ◌≤◌, ◌^◌, List, [], ◌∷◌, ◌++◌, length, Bool, true, false, Option, Some, None, bytes_eq, refl, sym, ap, ◌∙◌, subst, arith}
 use Rattle.std.specs.Prelude.{codes, decimal, slice_get, MatchOption, Contains, IsTrue, not, ◌↔◌}
 use Rattle.std.proofs.lemmas.Fmt.{decimal_injective}
+use Rattle.std.proofs.lemmas.Slice.Eq.{bytes_eq-Decides}
 use Rattle.std.proofs.lemmas.Option.{slice_get_within}
 use Rattle.cep_base.specs.declared.limits.TheConstants.{MOST_COPIES}
 use Rattle.cep_term.specs.Tree.{AtomTree}
@@ -10,7 +11,7 @@ use Rattle.cep_rule.specs.declared.parts.Parts.{Parts}
 use Rattle.cep_rule.specs.declared.parts.Stage.{Stage}
 use Rattle.cep_text.specs.Reads.{IsAtomText}
 use Rattle.cep_text.specs.StageNames.{IsStageNamed}
-use Rattle.cep_log.specs.Lines.{stage_name}
+use Rattle.cep_log.specs.Lines.{stage_name, state_text}
 use Rattle.cep_log.specs.Transcript.{IsHaveLine, IsStageLine, NamesNoRule}
 use Rattle.cep_log.proofs.Parted.{HasNone, Stops, one_parting}
 use Rattle.cep_log.proofs.Once.{decimal_unspaced, one_count}
@@ -98,3 +99,15 @@ named_as program line rest word behind is cut none stops found tells = (there fo
       let same : rest ≡ unknown.name ++ unknown.rest = cc in
       let names : word ≡ unknown.name = (one_parting 32 word unknown.name behind unknown.rest none unknown.unspaced stops unknown.cut (sym cut ∙ same)).0 in
       absurd (unknown.unknown some.0 some.1 (some.2 ∙ names))
+
+-- the number of the listing that the line begins
+pub state_said : (line word written : List ℕ) (number : ℕ) (same : Bool) → line ≡ codes "state " ++ word → same ≡ bytes_eq word written → written ≡ decimal number → (IsTrue same ↔ (line ≡ state_text number))
+state_said line word written number same is tells number_is = (there, back) where
+  there : IsTrue same → line ≡ state_text number
+  there t = is ∙ ap (λ text. codes "state " ++ text) ((bytes_eq-Decides word written).0 (sym tells ∙ t) ∙ number_is)
+
+  back : line ≡ state_text number → IsTrue same
+  back said =
+      let h : codes "state " ++ word ≡ codes "state " ++ decimal number = sym is ∙ said in
+      let equal : word ≡ decimal number = cc in
+      tells ∙ (bytes_eq-Decides word written).1 (equal ∙ sym number_is)

@@ -15,12 +15,15 @@ use Rattle.cep_rule.specs.Typing.{AreValues}
 use Rattle.cep_rule.specs.Derivations.{proof_height}
 use Rattle.cep_log.specs.declared.log.Log.{Log}
 use Rattle.cep_log.specs.declared.log.LogStep.{LogStep}
+use Rattle.cep_log.specs.declared.log.LogMid.{LogMid}
+use Rattle.cep_log.specs.declared.version.Version.{Version}
+use Rattle.cep_log.specs.Lines.{has_listing}
 use Rattle.cep_log.specs.declared.so_far.SoFar.{SoFar}
-use Rattle.cep_log.specs.declared.so_far.SoFar.TheVariants.{Nothing, Version, Height, Whole, Within, Ended}
-use Rattle.cep_log.specs.Legal.{IsHave, AtomsRise, IsListing, IsStepOf, IsLogOf}
+use Rattle.cep_log.specs.declared.so_far.SoFar.TheVariants.{Nothing, Begun, Height, Whole, Within, Unlisted, Listed, Ended}
+use Rattle.cep_log.specs.Legal.{IsHave, AtomsRise, IsListing, IsStepOf, HaveListings, IsLogOf}
 use Rattle.cep_base.specs.declared.limits.TheConstants.{MOST_LOG}
 use Rattle.cep_rule.specs.Derivations.{ProofTree}
-use Rattle.cep_log.specs.Transcript.{IsByLine, IsStageLine, IsBehind, GoesOnListing, Becomes, MovesOn, Leads, has_own_lines, with_step, said_by}
+use Rattle.cep_log.specs.Transcript.{IsByLine, IsStageLine, IsBehind, GoesOnListing, BeginsNext, Becomes, MovesOn, Leads, next_number, log_with, log_listed, step_begun, has_own_lines, with_own, with_step, said_by}
 
 -- Listings
 
@@ -59,12 +62,20 @@ listing_more through program line old new is more =
       rising = rising_pushed old more.entry is.rising (behind_all through old more.entry.0 is.rising more.behind);
     })
 
+-- one step more has a listing where its number wants one
+listings_pushed : (version : Version) (number : ℕ) (steps : List LogStep) (step : LogStep) → HaveListings version number steps → is_some step.mid ≡ has_listing version (number + length steps) → HaveListings version number (steps ++ step ∷ [])
+listings_pushed version number [] step all this = (subst (λ (n : ℕ). is_some step.mid ≡ has_listing version n) (let none : length {A = LogStep} [] ≡ 0 = refl in omega arith) this, tt)
+listings_pushed version number (first ∷ steps) step all this =
+    let at : number + length (first ∷ steps) ≡ number + 1 + length steps = omega arith in
+    (all.0, listings_pushed version (number + 1) steps step all.1 (subst (λ (n : ℕ). is_some step.mid ≡ has_listing version n) at this))
+
 -- What was read of a log before the line of this number: no step is of this line or a later one.
 pub record IsPartOf (program : Parts) (number : ℕ) (log : Log) : Type 0 where
   pub height : IsHeight log.height
   pub stage : log.stage < length program.stages
   pub start : IsListing program.signature log.start
   pub steps : AllByRecursion (IsStepOf program) log.steps
+  pub listed : HaveListings log.version 1 log.steps
   pub few : length log.steps < number
 
 -- A step that lacks own lines.
@@ -75,14 +86,22 @@ pub record IsOpenOf (program : Parts) (step : LogStep) : Type 0 where
   pub low : AllByRecursion (λ proof. proof_height proof ≤ MOST_HEIGHT) step.proofs
   pub few : length step.proofs ≤ length rule.backs
   pub no_stage : step.stage ≡ None
+  pub no_mid : step.mid ≡ None
   pub lacks : has_own_lines rule step ≡ false
+
+-- A step that lacks its listing alone.
+pub record IsUnlistedOf (program : Parts) (log : Log) (step : LogStep) : Type 0 where
+  pub of_program : IsStepOf program step
+  pub wants : has_listing log.version (next_number log) ≡ true
 
 abbrev pub IsReadOf : Parts → ℕ → SoFar → Type 0
 IsReadOf program number Nothing = Unit {0}
-IsReadOf program number Version = Unit {0}
-IsReadOf program number (Height height) = IsHeight height
+IsReadOf program number (Begun version) = Unit {0}
+IsReadOf program number (Height version height) = IsHeight height
 IsReadOf program number (Whole log) = IsPartOf program number log × (log.end ≡ None)
 IsReadOf program number (Within log step) = IsPartOf program number log × ((log.end ≡ None) × (suc (length log.steps) < number) × IsOpenOf program step)
+IsReadOf program number (Unlisted log step) = IsPartOf program number log × ((log.end ≡ None) × (suc (length log.steps) < number) × IsUnlistedOf program log step)
+IsReadOf program number (Listed log step mid) = IsPartOf program number log × ((log.end ≡ None) × (suc (length log.steps) < number) × IsUnlistedOf program log step × IsListing program.signature mid.state)
 IsReadOf program number (Ended log end) = IsPartOf program number log × IsListing program.signature end.state
 
 -- Own lines
@@ -111,59 +130,103 @@ le_tests m n h = le-leb m n h
 
 module _ (program : Parts) where
   part_later : (m n : ℕ) (log : Log) → IsPartOf program m log → m ≤ n → IsPartOf program n log
-  part_later m n log part h = record { height = part.height; stage = part.stage; start = part.start; steps = part.steps; few = let few = part.few in omega arith }
+  part_later m n log part h = record { height = part.height; stage = part.stage; start = part.start; steps = part.steps; listed = part.listed; few = let few = part.few in omega arith }
 
-  with_whole : (n : ℕ) (log : Log) (step : LogStep) → IsPartOf program n log → suc (length log.steps) < suc n → IsStepOf program step → IsPartOf program (suc n) (record log { steps = log.steps ++ step ∷ [] })
-  with_whole n log step part few of = record {
+  with_whole : (m n : ℕ) (log : Log) (step : LogStep) → IsPartOf program m log → suc (length log.steps) < n → IsStepOf program step → is_some step.mid ≡ has_listing log.version (next_number log) → IsPartOf program n (log_with log step)
+  with_whole m n log step part few of mid = record {
     height = part.height;
     stage = part.stage;
     start = part.start;
     steps = all_pushed (IsStepOf program) log.steps step part.steps of;
+    listed = listings_pushed log.version 1 log.steps step part.listed (subst (λ (n : ℕ). is_some step.mid ≡ has_listing log.version n) (omega arith) mid);
     few = let h = length-append log.steps (step ∷ []) in omega arith;
   }
 
-  -- a step without a stage is whole, or it lacks own lines
+  with_listing : (n : ℕ) (log : Log) (step : LogStep) (mid : LogMid) → IsPartOf program n log → suc (length log.steps) < n → IsUnlistedOf program log step → IsListing program.signature mid.state → IsPartOf program n (log_listed log step mid)
+  with_listing n log step mid part few is listing =
+      let of = is.of_program in
+      with_whole n n log (record step { mid = Some mid }) part few
+      (record { rule = of.rule; numbered = of.numbered; values = of.values; as_many = of.as_many; low = of.low; stage = of.stage; in_range = of.in_range; listing = listing }) (sym is.wants)
+
+  -- a step with all other own lines is whole, or it lacks its listing
+  owned : (n : ℕ) (log : Log) (step : LogStep) → IsPartOf program n log → log.end ≡ None → suc (length log.steps) < suc n → IsStepOf program step → step.mid ≡ None → IsReadOf program (suc n) (with_own log step)
+  owned n log step part unended few of no_mid = cases (has_listing log.version (next_number log)) refl where
+    cases : (wants : Bool) → has_listing log.version (next_number log) ≡ wants → IsReadOf program (suc n) (if wants then Unlisted log step else Whole (log_with log step))
+    cases true t = (part_later n (suc n) log part (omega arith), (unended, few, record { of_program = of; wants = t }))
+    cases false t = (with_whole n (suc n) log step part few of (ap is_some no_mid ∙ sym t), unended)
+
+  -- a step without a stage has all its own lines but for the listing, or it lacks some
   pending : (n : ℕ) (log : Log) (step : LogStep) (rule : Rule) → IsPartOf program n log → log.end ≡ None → suc (length log.steps) < suc n
       → slice_get program.rules step.offer.rule ≡ Some rule → AreValues program.signature.cons rule.kinds step.offer.values
-      → AllByRecursion (λ proof. proof_height proof ≤ MOST_HEIGHT) step.proofs → length step.proofs ≤ length rule.backs → step.stage ≡ None
+      → AllByRecursion (λ proof. proof_height proof ≤ MOST_HEIGHT) step.proofs → length step.proofs ≤ length rule.backs → step.stage ≡ None → step.mid ≡ None
       → IsReadOf program (suc n) (with_step rule log step)
-  pending n log step rule part unended few numbered values low within no_stage = cases (has_own_lines rule step) refl where
-    cases : (own : Bool) → has_own_lines rule step ≡ own → IsReadOf program (suc n) (if own then Whole (record log { steps = log.steps ++ step ∷ [] }) else Within log step)
+  pending n log step rule part unended few numbered values low within no_stage no_mid = cases (has_own_lines rule step) refl where
+    cases : (own : Bool) → has_own_lines rule step ≡ own → IsReadOf program (suc n) (if own then with_own log step else Within log step)
     cases true t =
         let own = own_none rule.next step.stage (nat_le (length rule.backs) (length step.proofs)) no_stage t in
         let enough = leb-true (length rule.backs) (length step.proofs) own.0 in
-        (with_whole n log step part few (record { rule = rule; numbered = numbered; values = values; as_many = omega arith; low = low; stage = own.1; in_range = subst (λ stage. IfSome stage (λ stage. stage < length program.stages)) (sym no_stage) tt }), unended)
+        owned n log step part unended few (record {
+          rule = rule;
+          numbered = numbered;
+          values = values;
+          as_many = omega arith;
+          low = low;
+          stage = own.1;
+          in_range = subst (λ stage. IfSome stage (λ stage. stage < length program.stages)) (sym no_stage) tt;
+          listing = subst (λ (mid : Option LogMid). IfSome mid (λ mid. IsListing program.signature mid.state)) (sym no_mid) tt;
+        }) no_mid
     cases false t =
-        (part_later n (suc n) log part (omega arith), (unended, few, record { rule = rule; numbered = numbered; values = values; low = low; few = within; no_stage = no_stage; lacks = t }))
+        (part_later n (suc n) log part (omega arith), (unended, few, record { rule = rule; numbered = numbered; values = values; low = low; few = within; no_stage = no_stage; no_mid = no_mid; lacks = t }))
 
-  -- a step with its stage is whole
+  -- and so has one with its stage
   staged : (n : ℕ) (log : Log) (step : LogStep) (rule : Rule) (stage : ℕ) → IsPartOf program n log → log.end ≡ None → suc (length log.steps) < suc n
       → slice_get program.rules step.offer.rule ≡ Some rule → AreValues program.signature.cons rule.kinds step.offer.values
-      → AllByRecursion (λ proof. proof_height proof ≤ MOST_HEIGHT) step.proofs → length step.proofs ≡ length rule.backs → IsSome rule.next → stage < length program.stages
+      → AllByRecursion (λ proof. proof_height proof ≤ MOST_HEIGHT) step.proofs → length step.proofs ≡ length rule.backs → IsSome rule.next → stage < length program.stages → step.mid ≡ None
       → IsReadOf program (suc n) (with_step rule log (record step { stage = Some stage }))
-  staged n log step rule stage part unended few numbered values low all leaves in_range =
+  staged n log step rule stage part unended few numbered values low all leaves in_range no_mid =
       let own : has_own_lines rule (record step { stage = Some stage }) ≡ true = has_stage rule.next (nat_le (length rule.backs) (length step.proofs)) stage (le_tests (length rule.backs) (length step.proofs) (omega arith)) in
-      let whole : IsStepOf program (record step { stage = Some stage }) = record { rule = rule; numbered = numbered; values = values; as_many = all; low = low; stage = ((λ h. leaves), (λ h. refl)); in_range = in_range } in
-      subst (λ (is : Bool). IsReadOf program (suc n) (if is then Whole (record log { steps = log.steps ++ (record step { stage = Some stage }) ∷ [] }) else Within log (record step { stage = Some stage }))) (sym own)
-      (with_whole n log (record step { stage = Some stage }) part few whole, unended)
+      let whole : IsStepOf program (record step { stage = Some stage }) = record {
+        rule = rule;
+        numbered = numbered;
+        values = values;
+        as_many = all;
+        low = low;
+        stage = ((λ h. leaves), (λ h. refl));
+        in_range = in_range;
+        listing = subst (λ (mid : Option LogMid). IfSome mid (λ mid. IsListing program.signature mid.state)) (sym no_mid) tt;
+      } in
+      subst (λ (is : Bool). IsReadOf program (suc n) (if is then with_own log (record step { stage = Some stage }) else Within log (record step { stage = Some stage }))) (sym own)
+      (owned n log (record step { stage = Some stage }) part unended few whole no_mid)
+
+  -- a line that begins a step or the end
+  begins_kept : (n : ℕ) (line : List ℕ) (log : Log) (new : SoFar) → IsPartOf program n log → log.end ≡ None → BeginsNext program n line log new → IsReadOf program (suc n) new
+  begins_kept n line log new part unended (inl begins) =
+      let values = subst (λ found. IsSomeAnd found (λ rule. AreValues program.signature.cons rule.kinds begins.offer.values)) begins.numbered begins.said.offer_is.of_rule in
+      let few = part.few in
+      subst (IsReadOf program (suc n)) (sym begins.step)
+      (pending n log (step_begun n begins.offer) begins.rule part unended (omega arith) begins.numbered values tt (omega arith) refl refl)
+  begins_kept n line log new part unended (inr ends) =
+      subst (IsReadOf program (suc n)) (sym ends.ended) (part_later n (suc n) log part (omega arith), record { each = tt; rising = tt })
 
   pub takes_kept : (through : Transitive) (n : ℕ) (line : List ℕ) (old new : SoFar) → IsReadOf program n old → Becomes program n line old new → IsReadOf program (suc n) new
-  takes_kept through n line Nothing new is takes = subst (IsReadOf program (suc n)) (sym takes.1) tt
-  takes_kept through n line Version new is takes = subst (IsReadOf program (suc n)) (sym takes.3) takes.1
-  takes_kept through n line (Height height) new is takes =
+  takes_kept through n line Nothing new is takes = subst (IsReadOf program (suc n)) (sym takes.2) tt
+  takes_kept through n line (Begun version) new is takes = subst (IsReadOf program (suc n)) (sym takes.3) takes.1
+  takes_kept through n line (Height version height) new is takes =
       subst (IsReadOf program (suc n)) (sym takes.2)
-      (record { height = is; stage = takes.1.in_range; start = record { each = tt; rising = tt }; steps = tt; few = omega arith }, refl)
+      (record { height = is; stage = takes.1.in_range; start = record { each = tt; rising = tt }; steps = tt; listed = tt; few = omega arith }, refl)
   takes_kept through n line (Whole log) new is (inl goes) =
       let part = is.0 in
       subst (IsReadOf program (suc n)) (sym goes.whole)
-      (record { height = part.height; stage = part.stage; start = listing_more through program line log.start goes.start part.start goes.listed; steps = part.steps; few = let few = part.few in omega arith }, is.1)
-  takes_kept through n line (Whole log) new is (inr (inl begins)) =
-      let values = subst (λ found. IsSomeAnd found (λ rule. AreValues program.signature.cons rule.kinds begins.offer.values)) begins.numbered begins.said.offer_is.of_rule in
-      let few = is.0.few in
-      subst (IsReadOf program (suc n)) (sym begins.step)
-      (pending n log (record { line = n; offer = begins.offer; proofs = []; stage = None }) begins.rule is.0 is.1 (omega arith) begins.numbered values tt (omega arith) refl)
-  takes_kept through n line (Whole log) new is (inr (inr ends)) =
-      subst (IsReadOf program (suc n)) (sym ends.ended) (part_later n (suc n) log is.0 (omega arith), record { each = tt; rising = tt })
+      (record { height = part.height; stage = part.stage; start = listing_more through program line log.start goes.start part.start goes.listed; steps = part.steps; listed = part.listed; few = let few = part.few in omega arith }, is.1)
+  takes_kept through n line (Whole log) new is (inr next) = begins_kept n line log new is.0 is.1 next
+  takes_kept through n line (Unlisted log step) new is takes =
+      subst (IsReadOf program (suc n)) (sym takes.1)
+      (part_later n (suc n) log is.0 (omega arith), (is.1.0, (let h = is.1.1 in omega arith), is.1.2, record { each = tt; rising = tt }))
+  takes_kept through n line (Listed log step mid) new is (inl goes) =
+      subst (IsReadOf program (suc n)) (sym goes.more)
+      (part_later n (suc n) log is.0 (omega arith), (is.1.0, (let h = is.1.1 in omega arith), is.1.2, listing_more through program line mid.state goes.state is.1.3 goes.listed))
+  takes_kept through n line (Listed log step mid) new is (inr next) =
+      begins_kept n line (log_listed log step mid) new (with_listing n log step mid is.0 is.1.1 is.1.2 is.1.3) is.1.0 next
   takes_kept through n line (Within log step) new is goes = cases goes.own where
     open_step : IsOpenOf program step
     open_step = is.1.2
@@ -185,7 +248,7 @@ module _ (program : Parts) where
         let below = more.1 in
         subst (IsReadOf program (suc n)) (sym more.3)
         (pending n log (record step { proofs = step.proofs ++ more.0 ∷ [] }) goes.rule is.0 is.1.0 few goes.numbered values
-        (all_pushed (λ proof. proof_height proof ≤ MOST_HEIGHT) step.proofs more.0 open_step.low more.2.proof_is.low) (omega arith) open_step.no_stage)
+        (all_pushed (λ proof. proof_height proof ≤ MOST_HEIGHT) step.proofs more.0 open_step.low more.2.proof_is.low) (omega arith) open_step.no_stage open_step.no_mid)
     cases (inr said) =
         let within : length step.proofs ≤ length goes.rule.backs = subst (λ rule. length step.proofs ≤ length rule.backs) same open_step.few in
         let enough = said.1 in
@@ -193,17 +256,19 @@ module _ (program : Parts) where
         let lacks_none : (nat_le (length goes.rule.backs) (length step.proofs) && (is_none goes.rule.next || false)) ≡ false = subst (λ stage. (nat_le (length goes.rule.backs) (length step.proofs) && (is_none goes.rule.next || is_some stage)) ≡ false) open_step.no_stage lacks in
         let leaves = lacks_stage goes.rule.next (nat_le (length goes.rule.backs) (length step.proofs)) (le_tests (length goes.rule.backs) (length step.proofs) (omega arith)) lacks_none in
         subst (IsReadOf program (suc n)) (sym said.3)
-        (staged n log step goes.rule said.0 is.0 is.1.0 few goes.numbered values open_step.low (omega arith) leaves said.2.in_range)
+        (staged n log step goes.rule said.0 is.0 is.1.0 few goes.numbered values open_step.low (omega arith) leaves said.2.in_range open_step.no_mid)
   takes_kept through n line (Ended log end) new is goes =
       subst (IsReadOf program (suc n)) (sym goes.ended) (part_later n (suc n) log is.0 (omega arith), listing_more through program line end.state goes.state is.1 goes.listed)
 
   -- a line that is passed over leaves all as it is
   read_later : (n : ℕ) (so_far : SoFar) → IsReadOf program n so_far → IsReadOf program (suc n) so_far
   read_later n Nothing is = tt
-  read_later n Version is = tt
-  read_later n (Height height) is = is
+  read_later n (Begun version) is = tt
+  read_later n (Height version height) is = is
   read_later n (Whole log) is = (part_later n (suc n) log is.0 (omega arith), is.1)
   read_later n (Within log step) is = (part_later n (suc n) log is.0 (omega arith), (is.1.0, (let h = is.1.1 in omega arith), is.1.2))
+  read_later n (Unlisted log step) is = (part_later n (suc n) log is.0 (omega arith), (is.1.0, (let h = is.1.1 in omega arith), is.1.2))
+  read_later n (Listed log step mid) is = (part_later n (suc n) log is.0 (omega arith), (is.1.0, (let h = is.1.1 in omega arith), is.1.2, is.1.3))
   read_later n (Ended log end) is = (part_later n (suc n) log is.0 (omega arith), is.1)
 
   passes_kept : (through : Transitive) (n : ℕ) (line : List ℕ) (old new : SoFar) → IsReadOf program n old → MovesOn program n line old new → IsReadOf program (suc n) new
@@ -216,28 +281,37 @@ module _ (program : Parts) where
       let next : IsReadOf program (n + 1) leads.0 = subst (λ (m : ℕ). IsReadOf program m leads.0) (sym (add-one n)) (passes_kept through n line old leads.0 is leads.1) in
       subst (λ (m : ℕ). IsReadOf program m new) (omega arith) (leads_kept through (n + 1) lines leads.0 new next leads.2)
 
+  whole_is_of : (lines : ℕ) (log : Log) → lines ≤ MOST_LOG → IsPartOf program (1 + lines) log → log.end ≡ None → IsLogOf program (record log { lines = lines })
+  whole_is_of lines log short part unended = record {
+    height = part.height;
+    stage = part.stage;
+    start = part.start;
+    steps = part.steps;
+    listed = part.listed;
+    ending = subst (λ end. IfSome end (λ end. IsListing program.signature end.state)) (sym unended) tt;
+    lines = short;
+    few = let few = part.few in omega arith;
+  }
+
   -- The log that is said is of the program.
   pub said_is_of : (lines : ℕ) (last : SoFar) (log : Log) → lines ≤ MOST_LOG → IsReadOf program (1 + lines) last → said_by last lines ≡ Some log → IsLogOf program log
   said_is_of lines Nothing log short is said = none_some log said
-  said_is_of lines Version log short is said = none_some log said
-  said_is_of lines (Height height) log short is said = none_some log said
+  said_is_of lines (Begun version) log short is said = none_some log said
+  said_is_of lines (Height version height) log short is said = none_some log said
   said_is_of lines (Within read step) log short is said = none_some log said
+  said_is_of lines (Unlisted read step) log short is said = none_some log said
   said_is_of lines (Whole read) log short is said =
-      subst (IsLogOf program) (some_same (record read { lines = lines }) log said) (record {
-        height = is.0.height;
-        stage = is.0.stage;
-        start = is.0.start;
-        steps = is.0.steps;
-        ending = subst (λ end. IfSome end (λ end. IsListing program.signature end.state)) (sym is.1) tt;
-        lines = short;
-        few = let few = is.0.few in omega arith;
-      })
+      subst (IsLogOf program) (some_same (record read { lines = lines }) log said) (whole_is_of lines read short is.0 is.1)
+  said_is_of lines (Listed read step mid) log short is said =
+      subst (IsLogOf program) (some_same (record (log_listed read step mid) { lines = lines }) log said)
+      (whole_is_of lines (log_listed read step mid) short (with_listing (1 + lines) read step mid is.0 is.1.1 is.1.2 is.1.3) is.1.0)
   said_is_of lines (Ended read end) log short is said =
       subst (IsLogOf program) (some_same (record read { end = Some end; lines = lines }) log said) (record {
         height = is.0.height;
         stage = is.0.stage;
         start = is.0.start;
         steps = is.0.steps;
+        listed = is.0.listed;
         ending = is.1;
         lines = short;
         few = let few = is.0.few in omega arith;

@@ -1,5 +1,5 @@
 -- What a line says, and what was read with it, is one thing.
-use Rattle.std.proofs.Common.{◌≡◌, ◌≢◌, ◌⊎◌, inl, inr, ℕ, zero, suc, ◌+◌, ◌<◌, ◌≤◌, ◌^◌, ◌&&◌, List, [], ◌∷◌, ◌++◌, length, map, Bool, true, false, Some, None, refl, sym, ap, ◌∙◌, subst, arith, bytes_eq}
+use Rattle.std.proofs.Common.{◌≡◌, ◌≢◌, ◌⊎◌, inl, inr, ℕ, zero, suc, ◌+◌, ◌<◌, ◌≤◌, ◌^◌, ◌&&◌, List, [], ◌∷◌, ◌++◌, length, map, Bool, true, false, Some, refl, sym, ap, ◌∙◌, subst, arith, bytes_eq}
 use Rattle.std.specs.Prelude.{codes, decimal, slice_get}
 use Rattle.std.specs.Char.{is_ascii_digit}
 use Rattle.std.proofs.lemmas.Bool.{false≢true}
@@ -22,10 +22,12 @@ use Rattle.cep_log.specs.declared.end_word.EndWord.{EndWord}
 use Rattle.cep_log.specs.declared.end_word.EndWord.TheVariants.{Quiet, Input, Turns, Offers, Typed, Atom, State}
 use Rattle.cep_log.specs.declared.log.Log.{Log}
 use Rattle.cep_log.specs.declared.log.LogStep.{LogStep}
+use Rattle.cep_log.specs.declared.version.Version.{Version}
+use Rattle.cep_log.specs.declared.version.Version.TheVariants.{One, Two}
 use Rattle.cep_log.specs.declared.so_far.SoFar.{SoFar}
-use Rattle.cep_log.specs.declared.so_far.SoFar.TheVariants.{Nothing, Version, Height, Whole, Within, Ended}
-use Rattle.cep_log.specs.Lines.{stage_name, ending_word}
-use Rattle.cep_log.specs.Transcript.{IsHaveLine, IsStageLine, IsStepLine, IsByLine, GoesOnListing, GoesOnStep, BeginsStep, Becomes, MovesOn, Leads, with_step}
+use Rattle.cep_log.specs.declared.so_far.SoFar.TheVariants.{Nothing, Begun, Height, Whole, Within, Unlisted, Listed, Ended}
+use Rattle.cep_log.specs.Lines.{version_text, stage_name, ending_word}
+use Rattle.cep_log.specs.Transcript.{IsHaveLine, IsStageLine, IsStepLine, IsByLine, GoesOnListing, GoesOnStep, BeginsStep, BeginsNext, Becomes, MovesOn, Leads, log_begun, step_begun, end_begun, log_listed, with_step}
 use Rattle.cep_log.proofs.Parted.{HasNone, one_parting}
 
 -- Numbers
@@ -81,6 +83,14 @@ words_apart a b t = absurd (false≢true t)
 
 pub one_word : (a b : EndWord) → ending_word a ≡ ending_word b → a ≡ b
 one_word a b e = words_apart a b ((bytes_eq-Decides (ending_word a) (ending_word b)).1 e)
+
+versions_apart : (a b : Version) → bytes_eq (version_text a) (version_text b) ≡ true → a ≡ b
+versions_apart One One t = refl
+versions_apart Two Two t = refl
+versions_apart a b t = absurd (false≢true t)
+
+one_version : (a b : Version) → version_text a ≡ version_text b → a ≡ b
+one_version a b e = versions_apart a b ((bytes_eq-Decides (version_text a) (version_text b)).1 e)
 
 first_byte : (a b : ℕ) (xs ys : List ℕ) → a ∷ xs ≡ b ∷ ys → a ≡ b
 first_byte a b xs ys e = cc
@@ -165,26 +175,36 @@ module _ (program : Parts) (laws : OneValue program) where
   one_begun number line log new new' a b =
       let offers : a.offer ≡ b.offer = one_step line a.offer b.offer a.said b.said in
       let rules : a.rule ≡ b.rule = one_rule b.offer.rule a.rule b.rule (subst (λ offer. slice_get program.rules offer.rule ≡ Some a.rule) offers a.numbered) b.numbered in
-      a.step ∙ (ap (λ rule. with_step rule log (record { line = number; offer = a.offer; proofs = []; stage = None })) rules
-      ∙ (ap (λ offer. with_step b.rule log (record { line = number; offer = offer; proofs = []; stage = None })) offers ∙ sym b.step))
+      a.step ∙ (ap (λ rule. with_step rule log (step_begun number a.offer)) rules ∙ (ap (λ offer. with_step b.rule log (step_begun number offer)) offers ∙ sym b.step))
 
-  pub one_taken : (number : ℕ) (line : List ℕ) (old new new' : SoFar) → Becomes program number line old new → Becomes program number line old new' → new ≡ new'
-  one_taken number line Nothing new new' a b = a.1 ∙ sym b.1
-  one_taken number line Version new new' a b = a.3 ∙ (ap Height (one_height line a.0 b.0 a.1.low b.1.low a.2 b.2) ∙ sym b.3)
-  one_taken number line (Height height) new new' a b = a.2 ∙ (ap (λ stage. Whole (record { height = height; stage_line = number; stage = stage; start = []; steps = []; end = None; lines = 0 })) (one_stage line a.0 b.0 a.1 b.1) ∙ sym b.2)
-  one_taken number line (Whole log) new new' (inl a) (inl b) = a.whole ∙ (ap (λ start. Whole (record log { start = start })) (one_listing line log.start a.start b.start a.listed b.listed) ∙ sym b.whole)
-  one_taken number line (Whole log) new new' (inl a) (inr (inl b)) = absurd (have_or_step _ _ (sym a.listed.said.written ∙ b.said.written))
-  one_taken number line (Whole log) new new' (inl a) (inr (inr b)) = absurd (have_or_end _ _ (sym a.listed.said.written ∙ b.said))
-  one_taken number line (Whole log) new new' (inr (inl a)) (inl b) = absurd (have_or_step _ _ (sym b.listed.said.written ∙ a.said.written))
-  one_taken number line (Whole log) new new' (inr (inl a)) (inr (inl b)) = one_begun number line log new new' a b
-  one_taken number line (Whole log) new new' (inr (inl a)) (inr (inr b)) = absurd (step_or_end _ _ (sym a.said.written ∙ b.said))
-  one_taken number line (Whole log) new new' (inr (inr a)) (inl b) = absurd (have_or_end _ _ (sym b.listed.said.written ∙ a.said))
-  one_taken number line (Whole log) new new' (inr (inr a)) (inr (inl b)) = absurd (step_or_end _ _ (sym b.said.written ∙ a.said))
-  one_taken number line (Whole log) new new' (inr (inr a)) (inr (inr b)) =
+  -- a line of a listing begins neither a step nor the end
+  listed_or_next : (number : ℕ) (line : List ℕ) (old more : List (AtomTree × ℕ)) (log : Log) (new : SoFar) → GoesOnListing program line old more → BeginsNext program number line log new → ⊥
+  listed_or_next number line old more log new goes (inl begins) = have_or_step _ _ (sym goes.said.written ∙ begins.said.written)
+  listed_or_next number line old more log new goes (inr ends) = have_or_end _ _ (sym goes.said.written ∙ ends.said)
+
+  one_next : (number : ℕ) (line : List ℕ) (log : Log) (new new' : SoFar) → BeginsNext program number line log new → BeginsNext program number line log new' → new ≡ new'
+  one_next number line log new new' (inl a) (inl b) = one_begun number line log new new' a b
+  one_next number line log new new' (inl a) (inr b) = absurd (step_or_end _ _ (sym a.said.written ∙ b.said))
+  one_next number line log new new' (inr a) (inl b) = absurd (step_or_end _ _ (sym b.said.written ∙ a.said))
+  one_next number line log new new' (inr a) (inr b) =
       let h : codes "end " ++ ending_word a.word ≡ codes "end " ++ ending_word b.word = sym a.said ∙ b.said in
       let same : ending_word a.word ≡ ending_word b.word = cc in
-      a.ended ∙ (ap (λ word. Ended log (record { line = number; word = word; state = [] })) (one_word a.word b.word same) ∙ sym b.ended)
+      a.ended ∙ (ap (λ word. Ended log (end_begun number word)) (one_word a.word b.word same) ∙ sym b.ended)
+
+  pub one_taken : (number : ℕ) (line : List ℕ) (old new new' : SoFar) → Becomes program number line old new → Becomes program number line old new' → new ≡ new'
+  one_taken number line Nothing new new' a b = a.2 ∙ (ap Begun (one_version a.0 b.0 (sym a.1 ∙ b.1)) ∙ sym b.2)
+  one_taken number line (Begun version) new new' a b = a.3 ∙ (ap (Height version) (one_height line a.0 b.0 a.1.low b.1.low a.2 b.2) ∙ sym b.3)
+  one_taken number line (Height version height) new new' a b = a.2 ∙ (ap (λ stage. Whole (log_begun version height number stage)) (one_stage line a.0 b.0 a.1 b.1) ∙ sym b.2)
+  one_taken number line (Whole log) new new' (inl a) (inl b) = a.whole ∙ (ap (λ start. Whole (record log { start = start })) (one_listing line log.start a.start b.start a.listed b.listed) ∙ sym b.whole)
+  one_taken number line (Whole log) new new' (inl a) (inr b) = absurd (listed_or_next number line log.start a.start log new' a.listed b)
+  one_taken number line (Whole log) new new' (inr a) (inl b) = absurd (listed_or_next number line log.start b.start log new b.listed a)
+  one_taken number line (Whole log) new new' (inr a) (inr b) = one_next number line log new new' a b
   one_taken number line (Within log step) new new' a b = one_own line log step new new' a b
+  one_taken number line (Unlisted log step) new new' a b = a.1 ∙ sym b.1
+  one_taken number line (Listed log step mid) new new' (inl a) (inl b) = a.more ∙ (ap (λ state. Listed log step (record mid { state = state })) (one_listing line mid.state a.state b.state a.listed b.listed) ∙ sym b.more)
+  one_taken number line (Listed log step mid) new new' (inl a) (inr b) = absurd (listed_or_next number line mid.state a.state (log_listed log step mid) new' a.listed b)
+  one_taken number line (Listed log step mid) new new' (inr a) (inl b) = absurd (listed_or_next number line mid.state b.state (log_listed log step mid) new b.listed a)
+  one_taken number line (Listed log step mid) new new' (inr a) (inr b) = one_next number line (log_listed log step mid) new new' a b
   one_taken number line (Ended log end) new new' a b = a.ended ∙ (ap (λ state. Ended log (record end { state = state })) (one_listing line end.state a.state b.state a.listed b.listed) ∙ sym b.ended)
 
   pub one_passed : (number : ℕ) (line : List ℕ) (old new new' : SoFar) → MovesOn program number line old new → MovesOn program number line old new' → new ≡ new'

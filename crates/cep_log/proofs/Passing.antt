@@ -9,11 +9,11 @@ use Rattle.cep_rule.specs.declared.parts.Parts.{Parts}
 use Rattle.cep_log.specs.declared.log.Log.{Log}
 use Rattle.cep_base.specs.declared.limits.TheConstants.{MOST_LOG}
 use Rattle.cep_log.specs.declared.so_far.SoFar.{SoFar}
-use Rattle.cep_log.specs.declared.so_far.SoFar.TheVariants.{Nothing, Version, Height, Whole, Within, Ended}
+use Rattle.cep_log.specs.declared.so_far.SoFar.TheVariants.{Nothing, Begun, Height, Whole, Within, Unlisted, Listed, Ended}
 use Rattle.cep_log.specs.declared.fault.LogFault.{LogFault}
 use Rattle.cep_log.specs.declared.fault.LogFault.TheVariants.{Line}
 use Rattle.cep_log.specs.Legal.{IsLogOf}
-use Rattle.cep_log.specs.Growing.{HasRule}
+use Rattle.cep_log.specs.Growing.{CanGrow}
 use Rattle.cep_log.specs.Transcript.{MovesOn, Leads, said_by, HasLog, HasMisfit, IsFaultOf}
 use Rattle.cep_log.proofs.Cuts.{lines_are, few_lines}
 use Rattle.cep_log.proofs.Ofs.{Transitive, IsReadOf, leads_kept, said_is_of}
@@ -61,13 +61,15 @@ pub read_is_of : (through : Transitive) (program : Parts) (lines left : List (Li
 read_is_of through program lines left number so_far passed =
     subst (λ (n : ℕ). IsReadOf program (1 + n) so_far) (sym passed.counted) (leads_kept program through 1 passed.done Nothing so_far tt passed.leads)
 
-pub has_rule : (program : Parts) (n : ℕ) (so_far : SoFar) → IsReadOf program n so_far → HasRule program so_far
-has_rule program n Nothing is = tt
-has_rule program n Version is = tt
-has_rule program n (Height height) is = tt
-has_rule program n (Whole log) is = tt
-has_rule program n (Within log step) is = slice_get_within program.rules step.offer.rule is.1.2.rule is.1.2.numbered
-has_rule program n (Ended log end) is = tt
+pub can_grow : (program : Parts) (number : ℕ) (so_far : SoFar) → number < MOST_LOG → IsReadOf program (1 + number) so_far → CanGrow program so_far
+can_grow program number Nothing short is = tt
+can_grow program number (Begun version) short is = tt
+can_grow program number (Height version height) short is = tt
+can_grow program number (Whole log) short is = let few = is.0.few in omega arith
+can_grow program number (Within log step) short is = ((let few = is.0.few in omega arith), slice_get_within program.rules step.offer.rule is.1.2.rule is.1.2.numbered)
+can_grow program number (Unlisted log step) short is = let few = is.0.few in omega arith
+can_grow program number (Listed log step mid) short is = let few = is.1.1 in omega arith
+can_grow program number (Ended log end) short is = tt
 
 -- all lines were read
 all_done : (program : Parts) (lines : List (List ℕ)) (number : ℕ) (so_far : SoFar) → HasPassed program lines [] number so_far → Leads program 1 lines Nothing so_far × (number ≡ length lines)

@@ -10,9 +10,10 @@ use Rattle.cep_rule.specs.Derivations.{ProofTree}
 use Rattle.cep_log.specs.declared.log.Log.{Log}
 use Rattle.cep_log.specs.declared.log.LogStep.{LogStep}
 use Rattle.cep_log.specs.declared.end_word.EndWord.{EndWord}
+use Rattle.cep_log.specs.declared.log.LogMid.{LogMid}
 use Rattle.cep_log.specs.declared.so_far.SoFar.{SoFar}
-use Rattle.cep_log.specs.declared.so_far.SoFar.TheVariants.{Whole}
-use Rattle.cep_log.specs.Transcript.{IsHaveLine, IsStepLine, IsByLine, IsEndLine, IsStageLine, IsBehind, GoesOnStart, GoesOnStep, Becomes, with_step}
+use Rattle.cep_log.specs.declared.so_far.SoFar.TheVariants.{Whole, Listed}
+use Rattle.cep_log.specs.Transcript.{IsHaveLine, IsStepLine, IsByLine, IsEndLine, IsStageLine, IsBehind, GoesOnStep, BeginsNext, Becomes, log_listed, with_step}
 use Rattle.cep_log.proofs.Once.{OneValue, one_have}
 
 pub told_some : {A : Type 0} (r : Option A) (x : A) (P : A → Type 0) → r ≡ Some x → MatchOption r (Unit {0}) P → P x
@@ -24,11 +25,26 @@ pub listed_none : (program : Parts) (laws : OneValue program) (line : List ℕ) 
 listed_none program laws line entries entry other said early said' behind =
     early (subst (λ (e : AtomTree × ℕ). IsBehind entries e.0) (one_have program laws line other entry said' said) behind)
 
--- neither a listing, a step nor the end goes on with the line
-pub nothing_goes_on : (program : Parts) (number : ℕ) (line : List ℕ) (log : Log) → ((word : EndWord) → ¬ (IsEndLine line word)) → ((offer : Offer) → ¬ (IsStepLine program line offer)) → ((new : SoFar) → ¬ (GoesOnStart program line log new)) → (new : SoFar) → ¬ (Becomes program number line (Whole log) new)
-nothing_goes_on program number line log no_end no_step no_start new (inl start) = no_start new start
-nothing_goes_on program number line log no_end no_step no_start new (inr (inl step)) = no_step step.offer step.said
-nothing_goes_on program number line log no_end no_step no_start new (inr (inr end)) = no_end end.word end.said
+-- the line begins neither a step nor the end
+pub nothing_begins : (program : Parts) (number : ℕ) (line : List ℕ) (log : Log) → ((word : EndWord) → ¬ (IsEndLine line word)) → ((offer : Offer) → ¬ (IsStepLine program line offer)) → (new : SoFar) → ¬ (BeginsNext program number line log new)
+nothing_begins program number line log no_end no_step new (inl step) = no_step step.offer step.said
+nothing_begins program number line log no_end no_step new (inr end) = no_end end.word end.said
+
+-- nothing behind a start listing goes on with the line
+pub nothing_behind_start : (program : Parts) (number : ℕ) (line : List ℕ) (log : Log) → ((entry : AtomTree × ℕ) → IsHaveLine program line entry → IsBehind log.start entry.0 → ⊥) → ((new : SoFar) → ¬ (BeginsNext program number line log new)) → (new : SoFar) → ¬ (Becomes program number line (Whole log) new)
+nothing_behind_start program number line log unlisted none new (inl start) = unlisted start.listed.entry start.listed.said start.listed.behind
+nothing_behind_start program number line log unlisted none new (inr next) = none new next
+
+-- nor behind whole steps
+pub nothing_behind_steps : (program : Parts) (number : ℕ) (line : List ℕ) (log : Log) → (log.steps ≡ [] → ⊥) → ((new : SoFar) → ¬ (BeginsNext program number line log new)) → (new : SoFar) → ¬ (Becomes program number line (Whole log) new)
+nothing_behind_steps program number line log some none new (inl start) = some start.first
+nothing_behind_steps program number line log some none new (inr next) = none new next
+
+-- nor behind a listing in the middle
+pub nothing_behind_mid : (program : Parts) (number : ℕ) (line : List ℕ) (log : Log) (step : LogStep) (mid : LogMid) (longer : Log) → longer ≡ log_listed log step mid
+    → ((entry : AtomTree × ℕ) → IsHaveLine program line entry → IsBehind mid.state entry.0 → ⊥) → ((new : SoFar) → ¬ (BeginsNext program number line longer new)) → (new : SoFar) → ¬ (Becomes program number line (Listed log step mid) new)
+nothing_behind_mid program number line log step mid longer is unlisted none new (inl goes) = unlisted goes.listed.entry goes.listed.said goes.listed.behind
+nothing_behind_mid program number line log step mid longer is unlisted none new (inr next) = none new (subst (λ (all : Log). BeginsNext program number line all new) (sym is) next)
 
 pub by_said : (program parts : Parts) (line : List ℕ) (log : Log) (step : LogStep) (rule : Rule) (proof : ProofTree) (pushed : List ProofTree) (new : SoFar) → parts ≡ program → slice_get parts.rules step.offer.rule ≡ Some rule
     → length step.proofs < length rule.backs → IsByLine program line proof → pushed ≡ step.proofs ++ proof ∷ [] → new ≡ with_step rule log (record step { proofs = pushed }) → GoesOnStep program line log step new

@@ -15,11 +15,14 @@ use Rattle.cep_rule.specs.declared.parts.Parts.{Parts}
 use Rattle.cep_rule.specs.State.{IsState, Fits}
 use Rattle.cep_text.specs.Texts.{atom_text}
 use Rattle.cep_log.specs.declared.log.Log.{Log}
+use Rattle.cep_log.specs.declared.log.LogStep.{LogStep}
+use Rattle.cep_log.specs.declared.log.LogMid.{LogMid}
 use Rattle.cep_log.specs.declared.log.LogEnd.{LogEnd}
 use Rattle.cep_log.specs.declared.so_far.SoFar.{SoFar}
-use Rattle.cep_log.specs.declared.so_far.SoFar.TheVariants.{Whole, Ended}
+use Rattle.cep_log.specs.declared.so_far.SoFar.TheVariants.{Whole, Listed, Ended}
 use Rattle.cep_log.specs.Legal.{IsHave, AtomsRise, IsListing}
-use Rattle.cep_log.specs.Transcript.{IsPassedOver, IsBehind, GoesOnListing, Leads, have_text}
+use Rattle.cep_log.specs.Lines.{have_text}
+use Rattle.cep_log.specs.Transcript.{IsPassedOver, IsBehind, GoesOnListing, Leads}
 
 -- The entries of a state that fits are a listing.
 
@@ -83,6 +86,16 @@ start_read program number log old (entry ∷ entries) first is = (
   inr (not_over program.signature entry, inl (record { first = first; start = old ++ entry ∷ []; listed = goes_on program old entry entries is; whole = refl })),
   subst (λ start. Leads program (number + 1) (map (have_text program.signature) entries) (Whole (record log { start = old ++ entry ∷ [] })) (Whole (record log { start = start }))) (append_assoc old (entry ∷ []) entries)
       (start_read program (number + 1) log (old ++ entry ∷ []) entries first (moved program.signature old entry entries is)),
+)
+
+pub mid_read : (program : Parts) (number : ℕ) (log : Log) (step : LogStep) (mid : LogMid) (old entries : List (AtomTree × ℕ)) → IsListing program.signature (old ++ entries)
+    → Leads program number (map (have_text program.signature) entries) (Listed log step (record mid { state = old })) (Listed log step (record mid { state = old ++ entries }))
+mid_read program number log step mid old [] is = ap (λ state. Listed log step (record mid { state = state })) (append-nil old)
+mid_read program number log step mid old (entry ∷ entries) is = (
+  Listed log step (record mid { state = old ++ entry ∷ [] }),
+  inr (not_over program.signature entry, inl (record { state = old ++ entry ∷ []; listed = goes_on program old entry entries is; more = refl })),
+  subst (λ state. Leads program (number + 1) (map (have_text program.signature) entries) (Listed log step (record mid { state = old ++ entry ∷ [] })) (Listed log step (record mid { state = state }))) (append_assoc old (entry ∷ []) entries)
+      (mid_read program (number + 1) log step mid (old ++ entry ∷ []) entries (moved program.signature old entry entries is)),
 )
 
 pub end_read : (program : Parts) (number : ℕ) (log : Log) (end : LogEnd) (old entries : List (AtomTree × ℕ)) → IsListing program.signature (old ++ entries)

@@ -1,6 +1,6 @@
 -- The lines of a step, as they are written, are read as the step.
 use Rattle.std.proofs.Common.{◌≡◌, inl, inr, ℕ, ◌+◌, ◌<◌, ◌&&◌, ◌||◌, cond, List, [], ◌∷◌, ◌++◌, length, map, Bool, true, false, Option, Some, None, refl, sym, ap, ◌∙◌, subst, arith, append_assoc, length-append}
-use Rattle.std.specs.Prelude.{codes, slice_get, nat_le, is_none, is_some}
+use Rattle.std.specs.Prelude.{slice_get, nat_le, is_none, is_some}
 use Rattle.std.specs.List.{AllByRecursion}
 use Rattle.std.proofs.lemmas.List.{append-nil}
 use Rattle.std.proofs.lemmas.Bool.{le-leb, lt-leb}
@@ -9,13 +9,13 @@ use Rattle.cep_rule.specs.declared.parts.Parts.{Parts}
 use Rattle.cep_rule.specs.declared.offer.Offer.{Offer}
 use Rattle.cep_rule.specs.Derivations.{ProofTree}
 use Rattle.cep_rule.specs.Shapes.{IsOfferOf, IsSmallTerm}
-use Rattle.cep_log.specs.Lines.{stage_name}
+use Rattle.cep_log.specs.Lines.{stage_text, step_text, by_text}
 use Rattle.cep_text.specs.Texts.{offer_text, proof_text}
 use Rattle.cep_log.specs.declared.log.Log.{Log}
 use Rattle.cep_log.specs.declared.log.LogStep.{LogStep}
 use Rattle.cep_log.specs.declared.so_far.SoFar.{SoFar}
 use Rattle.cep_log.specs.declared.so_far.SoFar.TheVariants.{Whole, Within}
-use Rattle.cep_log.specs.Transcript.{IsByLine, MovesOn, Leads, IsReadable, step_text, by_text, stage_texts, has_own_lines, with_step, step_begun}
+use Rattle.cep_log.specs.Transcript.{IsByLine, MovesOn, Leads, IsReadable, stage_texts, has_own_lines, with_own, with_step, step_begun}
 
 -- whether a step has all its own lines
 own_all : (next stage : Option ℕ) (full : Bool) → full ≡ true → next ≡ None → (full && (is_none next || is_some stage)) ≡ true
@@ -40,42 +40,39 @@ own_lacks next stage false f = refl
 own_lacks next stage true f = absurd cc
 
 module _ (program : Parts) (log : Log) (rule : Rule) where
-  whole : LogStep → SoFar
-  whole step = Whole (record log { steps = log.steps ++ step ∷ [] })
-
-  joined_whole : (step : LogStep) → has_own_lines rule step ≡ true → with_step rule log step ≡ Whole (record log { steps = log.steps ++ step ∷ [] })
-  joined_whole step own = ap (λ (is : Bool). cond is (Whole (record log { steps = log.steps ++ step ∷ [] })) (Within log step)) own
+  joined_own : (step : LogStep) → has_own_lines rule step ≡ true → with_step rule log step ≡ with_own log step
+  joined_own step own = ap (λ (is : Bool). cond is (with_own log step) (Within log step)) own
 
   joined_within : (step : LogStep) → has_own_lines rule step ≡ false → with_step rule log step ≡ Within log step
-  joined_within step own = ap (λ (is : Bool). cond is (Whole (record log { steps = log.steps ++ step ∷ [] })) (Within log step)) own
+  joined_within step own = ap (λ (is : Bool). cond is (with_own log step) (Within log step)) own
 
   -- the stage behind all derivations
   stage_read : (n : ℕ) (step : LogStep) (next : Option ℕ) → rule.next ≡ next → slice_get program.rules step.offer.rule ≡ Some rule → step.stage ≡ None → length step.proofs ≡ length rule.backs
       → ((stage : ℕ) → next ≡ Some stage → stage < length program.stages)
-      → Leads program n (stage_texts program next) (with_step rule log step) (Whole (record log { steps = log.steps ++ (record step { stage = next }) ∷ [] }))
+      → Leads program n (stage_texts program next) (with_step rule log step) (with_own log (record step { stage = next }))
   stage_read n step None is numbered no_stage all within =
       let full : nat_le (length rule.backs) (length step.proofs) ≡ true = le-leb (length rule.backs) (length step.proofs) (omega arith) in
       let own : has_own_lines rule step ≡ true = own_all rule.next step.stage (nat_le (length rule.backs) (length step.proofs)) full is in
-      ap (λ stage. Whole (record log { steps = log.steps ++ (record step { stage = stage }) ∷ [] })) (sym no_stage) ∙ sym (joined_whole step own)
+      ap (λ stage. with_own log (record step { stage = stage })) (sym no_stage) ∙ sym (joined_own step own)
   stage_read n step (Some stage) is numbered no_stage all within =
       let full : nat_le (length rule.backs) (length step.proofs) ≡ true = le-leb (length rule.backs) (length step.proofs) (omega arith) in
       let lacks : has_own_lines rule step ≡ false = own_unstaged rule.next step.stage (nat_le (length rule.backs) (length step.proofs)) stage is no_stage in
       let staged : LogStep = record step { stage = Some stage } in
       let own : has_own_lines rule (record step { stage = Some stage }) ≡ true = own_staged rule.next (nat_le (length rule.backs) (length step.proofs)) stage full in (
         with_step rule log (record step { stage = Some stage }),
-        subst (λ so_far. MovesOn program n (codes "stage " ++ stage_name (slice_get program.stages stage)) so_far (with_step rule log (record step { stage = Some stage }))) (sym (joined_within step lacks))
+        subst (λ so_far. MovesOn program n (stage_text program stage) so_far (with_step rule log (record step { stage = Some stage }))) (sym (joined_within step lacks))
             (inr ((λ e. omega arith), record { rule = rule; numbered = numbered; own = inr (stage, omega arith, record { in_range = within stage refl; written = refl }, refl) })),
-        sym (joined_whole (record step { stage = Some stage }) own),
+        sym (joined_own (record step { stage = Some stage }) own),
       )
 
   -- the derivations that are left, and the stage
   own_read : (n : ℕ) (step : LogStep) (left : List ProofTree) → slice_get program.rules step.offer.rule ≡ Some rule → step.stage ≡ None → length step.proofs + length left ≡ length rule.backs
       → AllByRecursion (IsReadable program) left → ((stage : ℕ) → rule.next ≡ Some stage → stage < length program.stages)
       → Leads program n (map (by_text program) left ++ stage_texts program rule.next) (with_step rule log step)
-      (Whole (record log { steps = log.steps ++ (record step { proofs = step.proofs ++ left; stage = rule.next }) ∷ [] }))
+      (with_own log (record step { proofs = step.proofs ++ left; stage = rule.next }))
   own_read n step [] numbered no_stage all readable within =
       let none : length {A = ProofTree} [] ≡ 0 = refl in
-      subst (λ proofs. Leads program n (stage_texts program rule.next) (with_step rule log step) (Whole (record log { steps = log.steps ++ (record step { proofs = proofs; stage = rule.next }) ∷ [] }))) (sym (append-nil step.proofs))
+      subst (λ proofs. Leads program n (stage_texts program rule.next) (with_step rule log step) (with_own log (record step { proofs = proofs; stage = rule.next }))) (sym (append-nil step.proofs))
       (stage_read n step rule.next refl numbered no_stage (omega arith) within)
   own_read n step (proof ∷ left) numbered no_stage all readable within =
       let few : length step.proofs < length rule.backs = omega arith in
@@ -85,7 +82,7 @@ module _ (program : Parts) (log : Log) (rule : Rule) where
         with_step rule log (record step { proofs = step.proofs ++ proof ∷ [] }),
         subst (λ so_far. MovesOn program n (by_text program proof) so_far (with_step rule log (record step { proofs = step.proofs ++ proof ∷ [] }))) (sym (joined_within step lacks))
             (inr ((λ e. omega arith), record { rule = rule; numbered = numbered; own = inl (proof, few, said, refl) })),
-        subst (λ proofs. Leads program (n + 1) (map (by_text program) left ++ stage_texts program rule.next) (with_step rule log (record step { proofs = step.proofs ++ proof ∷ [] })) (Whole (record log { steps = log.steps ++ (record step { proofs = proofs; stage = rule.next }) ∷ [] }))) (append_assoc step.proofs (proof ∷ []) left)
+        subst (λ proofs. Leads program (n + 1) (map (by_text program) left ++ stage_texts program rule.next) (with_step rule log (record step { proofs = step.proofs ++ proof ∷ [] })) (with_own log (record step { proofs = proofs; stage = rule.next }))) (append_assoc step.proofs (proof ∷ []) left)
             (own_read (n + 1) (record step { proofs = step.proofs ++ proof ∷ [] }) left numbered no_stage (omega arith) readable.1 within),
       )
 
@@ -93,7 +90,7 @@ module _ (program : Parts) (log : Log) (rule : Rule) where
   pub step_read : (n : ℕ) (offer : Offer) (proofs : List ProofTree) → slice_get program.rules offer.rule ≡ Some rule → IsOfferOf program offer → AllByRecursion IsSmallTerm offer.values → length proofs ≡ length rule.backs
       → AllByRecursion (IsReadable program) proofs → ((stage : ℕ) → rule.next ≡ Some stage → stage < length program.stages)
       → Leads program n (step_text program offer ∷ (map (by_text program) proofs ++ stage_texts program rule.next)) (Whole log)
-      (Whole (record log { steps = log.steps ++ (record { line = n; offer = offer; proofs = proofs; stage = rule.next }) ∷ [] }))
+      (with_own log (record { line = n; offer = offer; proofs = proofs; stage = rule.next; mid = None }))
   step_read n offer proofs numbered of small all readable within = (
     with_step rule log (step_begun n offer),
     inr ((λ e. omega arith), inr (inl (record { offer = offer; rule = rule; said = record { text = offer_text program offer; offer_is = record { of_rule = of; small = small; text = refl }; written = refl }; numbered = numbered; step = refl }))),

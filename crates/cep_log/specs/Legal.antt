@@ -1,5 +1,5 @@
 -- Which logs are of a program, and which of these are legal. Nothing is said here of bytes, of what was typed, or of who chose.
-use Rattle.std.specs.Prelude.{◌≡◌, ◌↔◌, ℕ, ◌≤◌, ◌<◌, List, [], ◌∷◌, length, Some, slice_get, IsSome, IfSome, IsSomeAnd}
+use Rattle.std.specs.Prelude.{◌≡◌, ◌↔◌, ℕ, ◌≤◌, ◌<◌, List, [], ◌∷◌, length, Some, slice_get, is_some, IsSome, IfSome, IsSomeAnd, ◌+◌}
 use Rattle.std.specs.List.{AllByRecursion}
 use Rattle.std.specs.FinMap as finite
 use Rattle.std.specs.declared.cmp.Ordering.TheVariants.{Less}
@@ -15,6 +15,8 @@ use Rattle.cep_rule.specs.Derivations.{proof_height}
 use Rattle.cep_rule.specs.Stages.{IsQuiet}
 use Rattle.cep_rule.specs.Steps.{Spot, IsMachineStep}
 use Rattle.cep_text.specs.Texts.{IsTypedGround}
+use Rattle.cep_log.specs.declared.version.Version.{Version}
+use Rattle.cep_log.specs.Lines.{has_listing}
 use Rattle.cep_log.specs.declared.end_word.EndWord.TheVariants.{Quiet}
 use Rattle.cep_log.specs.declared.log.Log.{Log}
 use Rattle.cep_log.specs.declared.log.LogStep.{LogStep}
@@ -38,7 +40,7 @@ pub record IsListing (signature : Signature) (entries : List (AtomTree × ℕ)) 
   pub each : AllByRecursion (IsHave signature) entries
   pub rising : AtomsRise entries
 
--- A step is of a program: it has a rule of the program with one value for each of its variables, one derivation for each backward premise, none too high, and a stage exactly where the rule leaves one.
+-- A step is of a program: it has a rule of the program with one value for each of its variables, one derivation for each backward premise, none too high, a stage exactly where the rule leaves one, and after it a listing or none.
 pub record IsStepOf (program : Parts) (step : LogStep) : Type 0 where
   pub rule : Rule
   pub numbered : slice_get program.rules step.offer.rule ≡ Some rule
@@ -47,22 +49,30 @@ pub record IsStepOf (program : Parts) (step : LogStep) : Type 0 where
   pub low : AllByRecursion (λ proof. proof_height proof ≤ MOST_HEIGHT) step.proofs
   pub stage : IsSome step.stage ↔ IsSome rule.next
   pub in_range : IfSome step.stage (λ stage. stage < length program.stages)
+  pub listing : IfSome step.mid (λ mid. IsListing program.signature mid.state)
 
--- A log is of a program: its numbers are in range, its listings are listings, and its steps are of the program.
+-- Of the steps, which are numbered from here on, exactly those have a listing after which the version has one.
+abbrev pub HaveListings : Version → ℕ → List LogStep → Type 0
+HaveListings version number [] = Unit {0}
+HaveListings version number (step ∷ steps) = (is_some step.mid ≡ has_listing version number) × HaveListings version (number + 1) steps
+
+-- A log is of a program: its numbers are in range, its listings are listings, and stand where its version has them, and its steps are of the program.
 pub record IsLogOf (program : Parts) (log : Log) : Type 0 where
   pub height : IsHeight log.height
   pub stage : log.stage < length program.stages
   pub start : IsListing program.signature log.start
   pub steps : AllByRecursion (IsStepOf program) log.steps
+  pub listed : HaveListings log.version 1 log.steps
   pub ending : IfSome log.end (λ end. IsListing program.signature end.state)
   pub lines : log.lines ≤ MOST_LOG
   pub few : length log.steps ≤ log.lines
 
--- A step is legal from one spot to another: it is a step of the machine within the height, and the stage that is written below it is the one that its rule names.
+-- A step is legal from one spot to another: it is a step of the machine within the height, the stage that is written below it is the one that its rule names, and a listing behind it is that of the state where it leads.
 pub record IsLegalStep (program : Parts) (height : ℕ) (old new : Spot) (step : LogStep) : Type 0 where
   pub rule : Rule
   pub machine : IsMachineStep program height old new step.offer rule step.proofs
   pub stage : step.stage ≡ rule.next
+  pub mid : IfSome step.mid (λ mid. mid.state ≡ finite.entries new.state)
 
 -- Each step is legal from where the one before it leads, and the last one leads to the last spot.
 abbrev pub AreLegalSteps : Parts → ℕ → List LogStep → Spot → Spot → Type 0

@@ -1,5 +1,5 @@
 -- The lines of a transcript.
-use Rattle.std.specs.Prelude.{ℕ, ◌+◌, List, [], ◌∷◌, ◌++◌, codes, decimal, Option, Some, None, slice_get}
+use Rattle.std.specs.Prelude.{ℕ, ◌+◌, ◌%◌, ◌==◌, Bool, false, List, [], ◌∷◌, ◌++◌, codes, decimal, Option, Some, None, slice_get}
 use Rattle.std.specs.List.{flat_map}
 use Rattle.std.specs.FinMap as finite
 use Rattle.cep_term.specs.Tree.{AtomTree}
@@ -11,6 +11,8 @@ use Rattle.cep_rule.specs.declared.parts.Parts.{Parts}
 use Rattle.cep_rule.specs.declared.offer.Offer.{Offer}
 use Rattle.cep_rule.specs.Derivations.{ProofTree}
 use Rattle.cep_text.specs.Texts.{atom_text, offer_text, proof_text}
+use Rattle.cep_log.specs.declared.version.Version.{Version}
+use Rattle.cep_log.specs.declared.version.Version.TheVariants.{One, Two}
 use Rattle.cep_log.specs.declared.end_word.EndWord.{EndWord}
 use Rattle.cep_log.specs.declared.end_word.EndWord.TheVariants.{Quiet, Input, Turns, Offers, Typed, Atom, State}
 
@@ -18,9 +20,28 @@ use Rattle.cep_log.specs.declared.end_word.EndWord.TheVariants.{Quiet, Input, Tu
 abbrev pub line : List ℕ → List ℕ
 line text = text ++ 10 ∷ []
 
+-- the number of a version
+abbrev pub version_number : Version → ℕ
+version_number One = 1
+version_number Two = 2
+
+-- the bytes of the first line
+abbrev pub version_text : Version → List ℕ
+version_text One = codes "ceptre 1"
+version_text Two = codes "ceptre 2"
+
+-- whether the state after the step of this number is listed: in version 2 that after each hundredth step
+abbrev pub has_listing : Version → ℕ → Bool
+has_listing One number = false
+has_listing Two number = number % 100 == 0
+
+-- the bytes of a line of a listing
+abbrev pub have_text : Signature → AtomTree × ℕ → List ℕ
+have_text signature entry = codes "have " ++ (decimal entry.1 ++ (codes " " ++ atom_text signature entry.0))
+
 -- `have N ATOM`
 unfoldable pub have_line : Signature → AtomTree × ℕ → List ℕ
-have_line signature entry = line (codes "have " ++ decimal entry.1 ++ codes " " ++ atom_text signature entry.0)
+have_line signature entry = line (have_text signature entry)
 
 -- the copies of each atom of a state, in the order of atoms
 unfoldable pub listing : Signature → Multiset → List ℕ
@@ -43,22 +64,34 @@ abbrev pub stage_name : Option Stage → List ℕ
 stage_name None = []
 stage_name (Some stage) = stage.name
 
+-- the bytes of the line of a stage
+abbrev pub stage_text : Parts → ℕ → List ℕ
+stage_text program stage = codes "stage " ++ stage_name (slice_get program.stages stage)
+
 -- `stage NAME`
 unfoldable pub stage_line : Parts → ℕ → List ℕ
-stage_line program stage = line (codes "stage " ++ stage_name (slice_get program.stages stage))
+stage_line program stage = line (stage_text program stage)
 
 -- the line of the stage that a rule leads to, where it leads to one
 abbrev pub next_line : Parts → Option ℕ → List ℕ
 next_line program None = []
 next_line program (Some stage) = stage_line program stage
 
+-- the bytes of the first line of a step
+abbrev pub step_text : Parts → Offer → List ℕ
+step_text program offer = codes "step " ++ offer_text program offer
+
 -- `step OFFER`
 unfoldable pub step_line : Parts → Offer → List ℕ
-step_line program offer = line (codes "step " ++ offer_text program offer)
+step_line program offer = line (step_text program offer)
+
+-- the bytes of the line of a derivation
+abbrev pub by_text : Parts → ProofTree → List ℕ
+by_text program proof = codes "by " ++ proof_text program proof
 
 -- `by DERIVATION`
 unfoldable pub by_line : Parts → ProofTree → List ℕ
-by_line program proof = line (codes "by " ++ proof_text program proof)
+by_line program proof = line (by_text program proof)
 
 -- the same for each backward premise
 unfoldable pub by_lines : Parts → List ProofTree → List ℕ
@@ -67,6 +100,14 @@ by_lines program proofs = flat_map (by_line program) proofs
 -- what is written of a step: its line, what proves the backward premises, and the next stage where the rule leads to one
 unfoldable pub step_lines : Parts → Offer → Rule → List ProofTree → List ℕ
 step_lines program offer rule proofs = step_line program offer ++ (by_lines program proofs ++ next_line program rule.next)
+
+-- the bytes of the line before the listing of the state after the step of this number
+abbrev pub state_text : ℕ → List ℕ
+state_text number = codes "state " ++ decimal number
+
+-- `state K`, and the listing of the state
+unfoldable pub mid_lines : Signature → ℕ → Multiset → List ℕ
+mid_lines signature number state = line (state_text number) ++ listing signature state
 
 abbrev pub ending_word : EndWord → List ℕ
 ending_word Quiet = codes "quiet"
@@ -77,11 +118,19 @@ ending_word Typed = codes "typed"
 ending_word Atom = codes "atom"
 ending_word State = codes "state"
 
+-- the bytes of the line of the end
+abbrev pub end_text : EndWord → List ℕ
+end_text word = codes "end " ++ ending_word word
+
 -- `end WORD`, and the listing of the state
 unfoldable pub end_lines : Signature → EndWord → Multiset → List ℕ
-end_lines signature word state = line (codes "end " ++ ending_word word) ++ listing signature state
+end_lines signature word state = line (end_text word) ++ listing signature state
+
+-- the bytes of the line of the height
+abbrev pub height_text : ℕ → List ℕ
+height_text height = codes "height " ++ decimal height
 
 -- the first three lines, and the listing of the start state
 unfoldable pub header : Parts → ℕ → List ℕ
 header program height =
-    line (codes "ceptre 1") ++ (line (codes "height " ++ decimal height) ++ (stage_line program program.start_stage ++ listing program.signature program.start))
+    line (version_text One) ++ (line (height_text height) ++ (stage_line program program.start_stage ++ listing program.signature program.start))

@@ -6,23 +6,23 @@ use Rattle.cep_base.specs.Spelling.{IsUnbroken}
 use Rattle.cep_base.specs.declared.limits.TheConstants.{MOST_COPIES, MOST_HEIGHT}
 use Rattle.cep_term.specs.Tree.{AtomTree}
 use Rattle.cep_term.specs.Order.{atom_cmp}
-use Rattle.cep_rule.specs.declared.signature.Signature.{Signature}
 use Rattle.cep_rule.specs.declared.rule.Rule.{Rule}
 use Rattle.cep_rule.specs.declared.parts.Parts.{Parts}
 use Rattle.cep_rule.specs.declared.offer.Offer.{Offer}
 use Rattle.cep_rule.specs.Limits.{IsHeight}
 use Rattle.cep_rule.specs.Derivations.{ProofTree, proof_height}
 use Rattle.cep_rule.specs.Shapes.{IsProofOf, HasSmallValues}
-use Rattle.cep_text.specs.Texts.{atom_text, offer_text, proof_text}
 use Rattle.cep_text.specs.Reads.{IsAtomText, IsOfferText, IsProofText}
-use Rattle.cep_log.specs.Lines.{stage_name, ending_word}
+use Rattle.cep_log.specs.Lines.{version_text, height_text, stage_text, state_text, end_text, has_listing}
+use Rattle.cep_log.specs.declared.version.Version.{Version}
 use Rattle.cep_log.specs.declared.end_word.EndWord.{EndWord}
 use Rattle.cep_log.specs.declared.log.Log.{Log}
 use Rattle.cep_log.specs.declared.log.LogStep.{LogStep}
+use Rattle.cep_log.specs.declared.log.LogMid.{LogMid}
 use Rattle.cep_log.specs.declared.log.LogEnd.{LogEnd}
 use Rattle.cep_base.specs.declared.limits.TheConstants.{MOST_LOG}
 use Rattle.cep_log.specs.declared.so_far.SoFar.{SoFar}
-use Rattle.cep_log.specs.declared.so_far.SoFar.TheVariants.{Nothing, Version, Height, Whole, Within, Ended}
+use Rattle.cep_log.specs.declared.so_far.SoFar.TheVariants.{Nothing, Begun, Height, Whole, Within, Unlisted, Listed, Ended}
 use Rattle.cep_log.specs.declared.fault.LogFault.{LogFault}
 use Rattle.cep_log.specs.declared.fault.LogFault.TheVariants.{Line, NoRule}
 
@@ -46,20 +46,10 @@ abbrev pub IsPassedOver : List ℕ → Type 0
 IsPassedOver [] = ⊥
 IsPassedOver (byte ∷ bytes) = byte ≡ 63
 
--- the bytes of a line of a listing
-abbrev pub have_text : Signature → AtomTree × ℕ → List ℕ
-have_text signature entry = codes "have " ++ (decimal entry.1 ++ (codes " " ++ atom_text signature entry.0))
-
--- the bytes of the own lines of a step: `step OFFER`, `by DERIVATION` for each derivation, and `stage NAME` where there is a stage
-abbrev pub step_text : Parts → Offer → List ℕ
-step_text program offer = codes "step " ++ offer_text program offer
-
-abbrev pub by_text : Parts → ProofTree → List ℕ
-by_text program proof = codes "by " ++ proof_text program proof
-
+-- the line of a stage, where there is one
 abbrev pub stage_texts : Parts → Option ℕ → List (List ℕ)
 stage_texts program None = []
-stage_texts program (Some stage) = (codes "stage " ++ stage_name (slice_get program.stages stage)) ∷ []
+stage_texts program (Some stage) = stage_text program stage ∷ []
 
 -- A derivation can be read back: it has the program's shape, small values, and not too many levels.
 pub record IsReadable (program : Parts) (proof : ProofTree) : Type 0 where
@@ -78,7 +68,7 @@ pub record IsHaveLine (program : Parts) (line : List ℕ) (entry : AtomTree × �
 -- `stage NAME`, of a stage of the program
 pub record IsStageLine (program : Parts) (line : List ℕ) (stage : ℕ) : Type 0 where
   pub in_range : stage < length program.stages
-  pub written : line ≡ codes "stage " ++ stage_name (slice_get program.stages stage)
+  pub written : line ≡ stage_text program stage
 
 -- `step OFFER`
 pub record IsStepLine (program : Parts) (line : List ℕ) (offer : Offer) : Type 0 where
@@ -94,7 +84,7 @@ pub record IsByLine (program : Parts) (line : List ℕ) (proof : ProofTree) : Ty
 
 -- `end WORD`
 abbrev pub IsEndLine : List ℕ → EndWord → Type 0
-IsEndLine line word = line ≡ codes "end " ++ ending_word word
+IsEndLine line word = line ≡ end_text word
 
 -- The atom stands behind the last atom of the listing.
 abbrev pub IsBehind : List (AtomTree × ℕ) → AtomTree → Type 0
@@ -108,20 +98,40 @@ pub record GoesOnListing (program : Parts) (line : List ℕ) (old new : List (At
   pub added : new ≡ old ++ entry ∷ []
 
 -- a log with its header alone
-abbrev pub log_begun : ℕ → ℕ → ℕ → Log
-log_begun height number stage = record { height = height; stage_line = number; stage = stage; start = []; steps = []; end = None; lines = 0 }
+abbrev pub log_begun : Version → ℕ → ℕ → ℕ → Log
+log_begun version height number stage = record { version = version; height = height; stage_line = number; stage = stage; start = []; steps = []; end = None; lines = 0 }
 
 -- a step with its first line alone
 abbrev pub step_begun : ℕ → Offer → LogStep
-step_begun number offer = record { line = number; offer = offer; proofs = []; stage = None }
+step_begun number offer = record { line = number; offer = offer; proofs = []; stage = None; mid = None }
 
--- whether a step has all its own lines: one derivation for each backward premise of its rule, and the stage where the rule names one
+-- the listing of the state after a step, with its first line alone
+abbrev pub mid_begun : ℕ → LogMid
+mid_begun number = record { line = number; state = [] }
+
+-- the number of the step that stands behind all of the log
+abbrev pub next_number : Log → ℕ
+next_number log = length log.steps + 1
+
+-- the log with one whole step more
+abbrev pub log_with : Log → LogStep → Log
+log_with log step = record log { steps = log.steps ++ step ∷ [] }
+
+-- the log with one whole step more, which has a listing
+abbrev pub log_listed : Log → LogStep → LogMid → Log
+log_listed log step mid = log_with log (record step { mid = Some mid })
+
+-- whether a step has all its own lines but for a listing: one derivation for each backward premise of its rule, and the stage where the rule names one
 abbrev pub has_own_lines : Rule → LogStep → Bool
 has_own_lines rule step = nat_le (length rule.backs) (length step.proofs) && (is_none rule.next || is_some step.stage)
 
--- the log with the step, which is whole or lacks own lines
+-- the log with the step, which is whole or lacks its listing
+abbrev pub with_own : Log → LogStep → SoFar
+with_own log step = if has_listing log.version (next_number log) then Unlisted log step else Whole (log_with log step)
+
+-- the log with the step, which may lack further own lines
 abbrev pub with_step : Rule → Log → LogStep → SoFar
-with_step rule log step = if has_own_lines rule step then Whole (record log { steps = log.steps ++ step ∷ [] }) else Within log step
+with_step rule log step = if has_own_lines rule step then with_own log step else Within log step
 
 -- The line begins a step.
 pub record BeginsStep (program : Parts) (number : ℕ) (line : List ℕ) (log : Log) (new : SoFar) : Type 0 where
@@ -148,6 +158,12 @@ pub record GoesOnStart (program : Parts) (line : List ℕ) (log : Log) (new : So
   pub listed : GoesOnListing program line log.start start
   pub whole : new ≡ Whole (record log { start = start })
 
+-- The line goes on with the listing of the state after a step.
+pub record GoesOnMid (program : Parts) (line : List ℕ) (log : Log) (step : LogStep) (mid : LogMid) (new : SoFar) : Type 0 where
+  pub state : List (AtomTree × ℕ)
+  pub listed : GoesOnListing program line mid.state state
+  pub more : new ≡ Listed log step (record mid { state = state })
+
 -- The line is the next own line of a step: a derivation while a backward premise has none, and then the stage.
 pub record GoesOnStep (program : Parts) (line : List ℕ) (log : Log) (step : LogStep) (new : SoFar) : Type 0 where
   pub rule : Rule
@@ -161,13 +177,19 @@ pub record GoesOnEnd (program : Parts) (line : List ℕ) (log : Log) (end : LogE
   pub listed : GoesOnListing program line end.state state
   pub ended : new ≡ Ended log (record end { state = state })
 
+-- The line begins what stands behind the log: a step, or the end.
+abbrev pub BeginsNext : Parts → ℕ → List ℕ → Log → SoFar → Type 0
+BeginsNext program number line log new = BeginsStep program number line log new ⊎ BeginsEnd number line log new
+
 -- With the line of this number, which is not passed over, what was read becomes the new.
 abbrev pub Becomes : Parts → ℕ → List ℕ → SoFar → SoFar → Type 0
-Becomes program number line Nothing new = (line ≡ codes "ceptre 1") × (new ≡ Version)
-Becomes program number line Version new = (height : ℕ) × IsHeight height × (line ≡ codes "height " ++ decimal height) × (new ≡ Height height)
-Becomes program number line (Height height) new = (stage : ℕ) × IsStageLine program line stage × (new ≡ Whole (log_begun height number stage))
-Becomes program number line (Whole log) new = GoesOnStart program line log new ⊎ (BeginsStep program number line log new ⊎ BeginsEnd number line log new)
+Becomes program number line Nothing new = (version : Version) × (line ≡ version_text version) × (new ≡ Begun version)
+Becomes program number line (Begun version) new = (height : ℕ) × IsHeight height × (line ≡ height_text height) × (new ≡ Height version height)
+Becomes program number line (Height version height) new = (stage : ℕ) × IsStageLine program line stage × (new ≡ Whole (log_begun version height number stage))
+Becomes program number line (Whole log) new = GoesOnStart program line log new ⊎ BeginsNext program number line log new
 Becomes program number line (Within log step) new = GoesOnStep program line log step new
+Becomes program number line (Unlisted log step) new = (line ≡ state_text (next_number log)) × (new ≡ Listed log step (mid_begun number))
+Becomes program number line (Listed log step mid) new = GoesOnMid program line log step mid new ⊎ BeginsNext program number line (log_listed log step mid) new
 Becomes program number line (Ended log end) new = GoesOnEnd program line log end new
 
 -- The same for every line: one that is passed over leaves all as it is.
@@ -182,10 +204,12 @@ Leads program number (line ∷ lines) old new = (next : SoFar) × MovesOn progra
 -- what a transcript of so many lines says, where it may end
 abbrev pub said_by : SoFar → ℕ → Option Log
 said_by Nothing lines = None
-said_by Version lines = None
-said_by (Height height) lines = None
+said_by (Begun version) lines = None
+said_by (Height version height) lines = None
 said_by (Whole log) lines = Some (record log { lines = lines })
 said_by (Within log step) lines = None
+said_by (Unlisted log step) lines = None
+said_by (Listed log step mid) lines = Some (record (log_listed log step mid) { lines = lines })
 said_by (Ended log end) lines = Some (record log { end = Some end; lines = lines })
 
 -- The bytes are a transcript, and this log is what it says.
@@ -209,10 +233,12 @@ pub record NamesNoRule (program : Parts) (line : List ℕ) : Type 0 where
 -- A step may stand next.
 abbrev pub MayStep : SoFar → Type 0
 MayStep Nothing = ⊥
-MayStep Version = ⊥
-MayStep (Height height) = ⊥
+MayStep (Begun version) = ⊥
+MayStep (Height version height) = ⊥
 MayStep (Whole log) = Unit {0}
 MayStep (Within log step) = ⊥
+MayStep (Unlisted log step) = ⊥
+MayStep (Listed log step mid) = Unit {0}
 MayStep (Ended log end) = ⊥
 
 -- Why the line of this number does not fit.

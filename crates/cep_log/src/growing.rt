@@ -1,18 +1,21 @@
 // A log that grows by a line.
-ghost use Rattle.std.specs.Prelude.{◌≡◌, ◌<◌, ◌↔◌, ℕ, length, None, IfOk, IfSome, IfNone, IsTrue};
+ghost use Rattle.std.specs.Prelude.{◌≡◌, ◌≢◌, ◌<◌, ◌↔◌, ℕ, length, None, MatchOption, IfOk, IfSome, IfNone, IsTrue};
 ghost use Rattle.cep_term.specs.Tree.{AtomTree};
 ghost use Rattle.cep_rule.specs.declared.rule.Rule.{Rule};
 ghost use Rattle.cep_log.specs.declared.so_far.SoFar.{SoFar};
-ghost use Rattle.cep_log.specs.declared.so_far.SoFar.TheVariants.{Whole, Within, Ended};
+ghost use Rattle.cep_log.specs.declared.so_far.SoFar.TheVariants.{Whole, Within, Unlisted, Listed, Ended};
 ghost use Rattle.cep_log.specs.Listed.{have_of};
-ghost use Rattle.cep_log.specs.Transcript.{IsHaveLine, IsBehind, GoesOnStart, GoesOnStep, GoesOnEnd, Becomes, has_own_lines, with_step, log_begun, step_begun, end_begun, said_by};
+ghost use Rattle.cep_log.specs.Lines.{state_text};
+ghost use Rattle.cep_log.specs.Growing.{HasRoom};
+ghost use Rattle.cep_log.specs.Transcript.{IsHaveLine, IsBehind, GoesOnStep, GoesOnEnd, BeginsNext, Becomes, has_own_lines, with_step, with_own, next_number, log_begun, log_listed, step_begun, mid_begun, end_begun, said_by};
 
 use crate::end_word::EndWord;
-use crate::line_kinds::{by_line, end_line, have_line, stage_line, step_line};
+use crate::line_kinds::{by_line, end_line, have_line, is_state_line, stage_line, step_line};
 use crate::listing::{Have, Haves};
-use crate::log::{Log, LogEnd, LogStep, LogSteps};
+use crate::log::{Log, LogEnd, LogMid, LogStep, LogSteps};
 use crate::proofs::Proofs;
 use crate::so_far::SoFar;
+use crate::version::Version;
 use cep_rule::{Offer, Rule};
 use cep_term::order;
 use cep_text::Vocabulary;
@@ -20,10 +23,17 @@ use cep_text::laws::one_value;
 use std::alloc::{AllocError, Global};
 
 // A log of which the header was read.
-pub(crate) fn log_begun(alloc: Global, height: u32, number: u32, stage: u32) -> Log
-    ensures { result ≡ log_begun height number stage }
+pub(crate) fn log_begun(
+    alloc: Global,
+    version: Version,
+    height: u32,
+    number: u32,
+    stage: u32,
+) -> Log
+    ensures { result ≡ log_begun version height number stage }
 {
     Log {
+        version,
         height,
         stage_line: number,
         stage,
@@ -43,28 +53,54 @@ fn step_begun(alloc: Global, number: u32, offer: Offer) -> LogStep
         offer,
         proofs: Proofs::new(alloc),
         stage: None,
+        mid: None,
+    }
+}
+
+// A listing of which the first line was read.
+fn mid_begun(alloc: Global, number: u32) -> LogMid
+    ensures { result ≡ mid_begun number }
+{
+    LogMid {
+        line: number,
+        state: Haves::new(alloc),
     }
 }
 
 // What the lines so far say, where a transcript may end behind them.
-pub(crate) fn finished(so_far: SoFar, lines: u32) -> Option<Log>
-    ensures { result ≡ said_by so_far lines }
+pub(crate) fn finished(so_far: SoFar, lines: u32) -> Result<Option<Log>, AllocError>
+    ensures { IfOk result (λ said. said ≡ said_by so_far lines) }
 {
     match so_far {
         SoFar::Whole(mut log) => {
             log.lines = lines;
-            Some(log)
+            Ok(Some(log))
+        }
+        SoFar::Listed(log, step, mid) => {
+            let mut log = log_listed(log, step, mid)?;
+            log.lines = lines;
+            Ok(Some(log))
         }
         SoFar::Ended(mut log, end) => {
             log.end = Some(end);
             log.lines = lines;
-            Some(log)
+            Ok(Some(log))
         }
-        SoFar::Nothing => None,
-        SoFar::Version => None,
-        SoFar::Height(_) => None,
-        SoFar::Within(_, _) => None,
+        SoFar::Nothing => Ok(None),
+        SoFar::Begun(_) => Ok(None),
+        SoFar::Height { .. } => Ok(None),
+        SoFar::Within(_, _) => Ok(None),
+        SoFar::Unlisted(_, _) => Ok(None),
     }
+}
+
+// The log with one whole step more, which has a listing.
+fn log_listed(mut log: Log, mut step: LogStep, mid: LogMid) -> Result<Log, AllocError>
+    ensures { IfOk result (λ longer. longer ≡ log_listed log step mid) }
+{
+    step.mid = Some(mid);
+    log.steps.push(step)?;
+    Ok(log)
 }
 
 // A line behind the start listing or behind a whole step.
@@ -73,10 +109,58 @@ pub(crate) fn behind_whole(
     vocabulary: &Vocabulary,
     number: u32,
     line: &[u8],
-    log: Log,
+    mut log: Log,
 ) -> Result<Option<SoFar>, AllocError>
+    requires { HasRoom 0 log }
     ensures some { IfOk result (λ read. IfSome read (Becomes vocabulary.now number line.now (Whole log))) }
     ensures none { IfOk result (λ read. IfNone read ((new : SoFar) → ¬ (Becomes vocabulary.now number line.now (Whole log) new))) }
+{
+    if !log.steps.is_empty() {
+        return begun(alloc, vocabulary, number, line, log);
+    }
+    match next_listed(alloc, vocabulary, line, &log.start)? {
+        Some(have) => {
+            log.start.push(have)?;
+            Ok(Some(SoFar::Whole(log)))
+        }
+        None => begun(alloc, vocabulary, number, line, log),
+    }
+}
+
+// A line behind a step with its listing.
+pub(crate) fn behind_listed(
+    alloc: Global,
+    vocabulary: &Vocabulary,
+    number: u32,
+    line: &[u8],
+    log: Log,
+    step: LogStep,
+    mut mid: LogMid,
+) -> Result<Option<SoFar>, AllocError>
+    requires { HasRoom 1 log }
+    ensures some { IfOk result (λ read. IfSome read (Becomes vocabulary.now number line.now (Listed log step mid))) }
+    ensures none { IfOk result (λ read. IfNone read ((new : SoFar) → ¬ (Becomes vocabulary.now number line.now (Listed log step mid) new))) }
+{
+    match next_listed(alloc, vocabulary, line, &mid.state)? {
+        Some(have) => {
+            mid.state.push(have)?;
+            Ok(Some(SoFar::Listed(log, step, mid)))
+        }
+        None => begun(alloc, vocabulary, number, line, log_listed(log, step, mid)?),
+    }
+}
+
+// The first line of a step or of the end.
+fn begun(
+    alloc: Global,
+    vocabulary: &Vocabulary,
+    number: u32,
+    line: &[u8],
+    log: Log,
+) -> Result<Option<SoFar>, AllocError>
+    requires { HasRoom 0 log }
+    ensures some { IfOk result (λ read. IfSome read (BeginsNext vocabulary.now number line.now log)) }
+    ensures none { IfOk result (λ read. IfNone read ((new : SoFar) → ¬ (BeginsNext vocabulary.now number line.now log new))) }
 {
     if let Some(word) = end_line(line) {
         return Ok(Some(SoFar::Ended(log, end_begun(alloc, number, word))));
@@ -86,7 +170,7 @@ pub(crate) fn behind_whole(
             let rule = vocabulary.parts().rules.get(offer.rule as usize);
             Ok(Some(joined(rule, log, step_begun(alloc, number, offer))?))
         }
-        None => behind_listing(alloc, vocabulary, line, log),
+        None => Ok(None),
     }
 }
 
@@ -101,29 +185,33 @@ fn end_begun(alloc: Global, number: u32, word: EndWord) -> LogEnd
     }
 }
 
-// A line of the start listing.
-fn behind_listing(
+// The first line of the listing behind a step.
+pub(crate) fn behind_unlisted(
     alloc: Global,
-    vocabulary: &Vocabulary,
+    number: u32,
     line: &[u8],
-    mut log: Log,
-) -> Result<Option<SoFar>, AllocError>
-    ensures some { IfOk result (λ read. IfSome read (GoesOnStart vocabulary.now line.now log)) }
-    ensures none { IfOk result (λ read. IfNone read ((new : SoFar) → ¬ (GoesOnStart vocabulary.now line.now log new))) }
+    log: Log,
+    step: LogStep,
+) -> Option<SoFar>
+    requires { HasRoom 0 log }
+    ensures { MatchOption result (line.now ≢ state_text (next_number log)) (λ new. (line.now ≡ state_text (next_number log)) × (new ≡ Listed log step (mid_begun number))) }
 {
-    if !log.steps.is_empty() {
-        return Ok(None);
-    }
-    match next_listed(alloc, vocabulary, line, &log.start)? {
-        Some(have) => {
-            log.start.push(have)?;
-            Ok(Some(SoFar::Whole(log)))
-        }
-        None => Ok(None),
+    if is_state_line(line, next_number(&log)) {
+        Some(SoFar::Listed(log, step, mid_begun(alloc, number)))
+    } else {
+        None
     }
 }
 
-// The next own line of a step.
+// The number of the step that stands behind all of the log.
+fn next_number(log: &Log) -> u32
+    requires { HasRoom 0 log.now }
+    ensures { result ≡ next_number log.now }
+{
+    log.steps.len() as u32 + 1
+}
+
+// The next derivation of a step, or its stage.
 pub(crate) fn behind_part(
     alloc: Global,
     vocabulary: &Vocabulary,
@@ -131,7 +219,8 @@ pub(crate) fn behind_part(
     log: Log,
     mut step: LogStep,
 ) -> Result<Option<SoFar>, AllocError>
-    requires { step.offer.rule < length vocabulary.now.rules }
+    requires room { HasRoom 0 log }
+    requires rule { step.offer.rule < length vocabulary.now.rules }
     ensures some { IfOk result (λ read. IfSome read (GoesOnStep vocabulary.now line.now log step)) }
     ensures none { IfOk result (λ read. IfNone read ((new : SoFar) → ¬ (GoesOnStep vocabulary.now line.now log step new))) }
 {
@@ -175,19 +264,31 @@ pub(crate) fn behind_end(
     }
 }
 
-// The log with the step, which is whole or lacks own lines.
-fn joined(rule: &Rule, mut log: Log, step: LogStep) -> Result<SoFar, AllocError>
+// The log with the step, which may lack own lines.
+fn joined(rule: &Rule, log: Log, step: LogStep) -> Result<SoFar, AllocError>
+    requires { HasRoom 0 log }
     ensures { IfOk result (λ new. new ≡ with_step rule.now log step) }
 {
     if has_own_lines(rule, &step) {
-        log.steps.push(step)?;
-        Ok(SoFar::Whole(log))
+        with_own(log, step)
     } else {
         Ok(SoFar::Within(log, step))
     }
 }
 
-// Whether the step has all its own lines.
+// The log with the step, which may lack its listing alone.
+fn with_own(mut log: Log, step: LogStep) -> Result<SoFar, AllocError>
+    requires { HasRoom 0 log }
+    ensures { IfOk result (λ new. new ≡ with_own log step) }
+{
+    if log.version.lists(next_number(&log)) {
+        return Ok(SoFar::Unlisted(log, step));
+    }
+    log.steps.push(step)?;
+    Ok(SoFar::Whole(log))
+}
+
+// Whether the step has all its own lines but for a listing.
 fn has_own_lines(rule: &Rule, step: &LogStep) -> bool
     ensures { result ≡ has_own_lines rule.now step.now }
 {

@@ -1,6 +1,6 @@
 //! Laws of transcripts, for the crates that rest on them. Each function computes nothing, and its
 //! contract is the law.
-ghost use Rattle.std.specs.Prelude.{◌≡◌, ◌<◌, ◌+◌, ◌++◌, [], ◌∷◌, Some, ℕ, List, length, map, decimal, slice_get};
+ghost use Rattle.std.specs.Prelude.{◌≡◌, ◌<◌, ◌+◌, ◌++◌, [], ◌∷◌, Some, ℕ, List, length, map, decimal, slice_get, None};
 ghost use Rattle.std.specs.FinMap as finite;
 ghost use Rattle.std.specs.List.{AllByRecursion, flat_map};
 ghost use Rattle.cep_term.specs.Tree.{AtomTree};
@@ -9,19 +9,21 @@ ghost use Rattle.cep_rule.specs.declared.offer.Offer.{Offer};
 ghost use Rattle.cep_rule.specs.Derivations.{ProofTree};
 ghost use Rattle.cep_rule.specs.Shapes.{IsOfferOf, IsProofOf, IsSmallTerm};
 ghost use Rattle.cep_text.specs.Texts.{atom_text, offer_text, proof_text, IsTypedGround};
-ghost use Rattle.cep_log.specs.Lines.{line, stage_name, have_line};
+ghost use Rattle.cep_log.specs.Lines.{line, stage_name, have_line, have_text, step_text, by_text};
 ghost use Rattle.cep_term.specs.Multiset.{Multiset};
 ghost use Rattle.cep_rule.specs.declared.signature.Signature.{Signature};
 ghost use Rattle.cep_rule.specs.State.{IsState, Fits};
 ghost use Rattle.cep_rule.specs.declared.parts.Parts.{Parts};
 ghost use Rattle.cep_rule.specs.Program.{IsProgram};
 ghost use Rattle.cep_log.specs.declared.log.Log.{Log};
+ghost use Rattle.cep_log.specs.declared.log.LogStep.{LogStep};
+ghost use Rattle.cep_log.specs.declared.log.LogMid.{LogMid};
 ghost use Rattle.cep_log.specs.declared.log.LogEnd.{LogEnd};
 ghost use Rattle.cep_log.specs.declared.so_far.SoFar.{SoFar};
-ghost use Rattle.cep_log.specs.declared.so_far.SoFar.TheVariants.{Whole, Ended};
+ghost use Rattle.cep_log.specs.declared.so_far.SoFar.TheVariants.{Whole, Listed, Ended};
 ghost use Rattle.cep_log.specs.Legal.{IsListing};
 ghost use Rattle.cep_log.specs.declared.fault.LogFault.{LogFault};
-ghost use Rattle.cep_log.specs.Transcript.{AreLines, IsOneLine, IsReadable, step_text, by_text, stage_texts, Leads, have_text, HasLog, HasMisfit};
+ghost use Rattle.cep_log.specs.Transcript.{AreLines, IsOneLine, IsReadable, stage_texts, Leads, with_own, HasLog, HasMisfit};
 
 use cep_term::laws::bags_are_lawful;
 use cep_text::laws::one_value;
@@ -59,7 +61,7 @@ pub fn lines_are_read_as_written()
 {}
 
 /// The entries of a state that fits are a listing, and its lines, as they are written, are read as
-/// these entries, in the start listing and behind the end. Ways through lines can be joined.
+/// these entries, in the start listing, behind a step and behind the end. Ways through lines can be joined.
 pub fn listings_are_read_as_written()
     ensures states { (signature : Signature) (state : Multiset) → IsState signature state → Fits state → IsListing signature (finite.entries state) }
     ensures written { (signature : Signature) (entry : AtomTree × ℕ) → have_line signature entry ≡ line (have_text signature entry) }
@@ -67,6 +69,9 @@ pub fn listings_are_read_as_written()
         → log.steps ≡ []
         → IsListing program.signature (old ++ entries)
         → Leads program number (map (have_text program.signature) entries) (Whole (record log { start = old })) (Whole (record log { start = old ++ entries })) }
+    ensures mid { (program : Parts) (number : ℕ) (log : Log) (step : LogStep) (mid : LogMid) (old entries : List (AtomTree × ℕ))
+        → IsListing program.signature (old ++ entries)
+        → Leads program number (map (have_text program.signature) entries) (Listed log step (record mid { state = old })) (Listed log step (record mid { state = old ++ entries })) }
     ensures last { (program : Parts) (number : ℕ) (log : Log) (end : LogEnd) (old entries : List (AtomTree × ℕ))
         → IsListing program.signature (old ++ entries)
         → Leads program number (map (have_text program.signature) entries) (Ended log (record end { state = old })) (Ended log (record end { state = old ++ entries })) }
@@ -79,7 +84,7 @@ pub fn listings_are_read_as_written()
 }
 
 /// The own lines of a step, as they are written, are read as the step: its line, one for each
-/// derivation, and the next stage where its rule names one.
+/// derivation, and the next stage where its rule names one. Its listing, if it has one, is left.
 pub fn steps_are_read_as_written()
     ensures { (program : Parts) (log : Log) (rule : Rule) (number : ℕ) (offer : Offer) (proofs : List ProofTree)
         → slice_get program.rules offer.rule ≡ Some rule
@@ -89,5 +94,5 @@ pub fn steps_are_read_as_written()
         → AllByRecursion (IsReadable program) proofs
         → ((stage : ℕ) → rule.next ≡ Some stage → stage < length program.stages)
         → Leads program number (step_text program offer ∷ (map (by_text program) proofs ++ stage_texts program rule.next)) (Whole log)
-        (Whole (record log { steps = log.steps ++ (record { line = number; offer = offer; proofs = proofs; stage = rule.next }) ∷ [] })) }
+        (with_own log (record { line = number; offer = offer; proofs = proofs; stage = rule.next; mid = None })) }
 {}

@@ -6,16 +6,19 @@ ghost use Rattle.cep_rule.specs.declared.offer.Offer.{Offer};
 ghost use Rattle.cep_rule.specs.Limits.{IsHeight};
 ghost use Rattle.cep_rule.specs.Derivations.{ProofTree, proof_of};
 ghost use Rattle.cep_log.specs.declared.end_word.EndWord.{EndWord};
-ghost use Rattle.cep_log.specs.Lines.{ending_word};
+ghost use Rattle.cep_log.specs.Lines.{ending_word, version_text, height_text, state_text};
+ghost use Rattle.cep_log.specs.declared.version.Version.{Version};
 ghost use Rattle.cep_log.specs.Listed.{have_of};
 ghost use Rattle.cep_log.specs.Transcript.{IsPassedOver, IsHaveLine, IsStageLine, IsStepLine, IsByLine, IsEndLine, NamesNoRule};
 
 use crate::end_word::EndWord;
 use crate::listing::Have;
+use crate::version::Version;
 use crate::words::{cut_word, plain, strip};
 use cep_base::limits::{MOST_COPIES, MOST_HEIGHT};
 use cep_rule::{Derivation, Offer};
 use cep_text::{Vocabulary, read_atom, read_offer, read_proof};
+use itoa::Buffer;
 use std::alloc::{AllocError, Global};
 
 // Whether the line is passed over.
@@ -25,11 +28,22 @@ pub(crate) fn is_passed_over(line: &[u8]) -> bool
     line.first() == Some(&b'?')
 }
 
+// The version that the line says.
+pub(crate) fn version_line(line: &[u8]) -> Option<Version>
+    ensures { MatchOption result ((version : Version) → line.now ≢ version_text version) (λ version. line.now ≡ version_text version) }
+{
+    match line {
+        b"ceptre 1" => Some(Version::One),
+        b"ceptre 2" => Some(Version::Two),
+        _ => None,
+    }
+}
+
 // The height that the line says.
 pub(crate) fn height_line(line: &[u8]) -> Option<u32>
     ensures { MatchOption result
-        ((height : ℕ) → IsHeight height → line.now ≢ codes "height " ++ decimal height)
-        (λ height. IsHeight height × (line.now ≡ codes "height " ++ decimal height)) }
+        ((height : ℕ) → IsHeight height → line.now ≢ height_text height)
+        (λ height. IsHeight height × (line.now ≡ height_text height)) }
 {
     let height = plain(strip(b"height ", line)?)?;
     if height >= 1 && height <= MOST_HEIGHT {
@@ -107,6 +121,17 @@ pub(crate) fn by_line(
     match strip(b"by ", line) {
         Some(text) => read_proof(alloc, vocabulary, text),
         None => Ok(None),
+    }
+}
+
+// Whether the line stands before the listing of the state after the step of this number.
+pub(crate) fn is_state_line(line: &[u8], number: u32) -> bool
+    ensures { IsTrue result ↔ (line.now ≡ state_text number) }
+{
+    let mut buffer = Buffer::new();
+    match strip(b"state ", line) {
+        Some(word) => word == buffer.format(number).as_bytes(),
+        None => false,
     }
 }
 

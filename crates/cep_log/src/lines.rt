@@ -6,7 +6,7 @@ ghost use Rattle.cep_rule.specs.Derivations.{proof_of};
 ghost use Rattle.cep_rule.specs.Shapes.{IsOfferOf, IsProofOf};
 ghost use Rattle.cep_text.specs.Texts.{IsTypedGround};
 ghost use Rattle.cep_text.specs.Writing.{IsBegun};
-ghost use Rattle.cep_log.specs.Lines.{have_line, listing, offer_line, stage_line, step_line, by_line, end_lines, header};
+ghost use Rattle.cep_log.specs.Lines.{have_line, listing, offer_line, stage_line, step_line, by_line, mid_lines, end_lines, header};
 
 use crate::end_word::EndWord;
 use cep_base::Text;
@@ -16,7 +16,7 @@ use cep_term::{Atom, Bag};
 use cep_text::{put_atom, put_offer, put_proof};
 use std::alloc::AllocError;
 
-/// The first three lines, and the listing of the program's start state. The height is 1 to 512
+/// The first three lines, of version 1, and the listing of the program's start state. The height is 1 to 512
 /// where the transcript is to be read again. After `AllocError` a front of the lines was added, as
 /// with every writer here.
 pub fn put_start(program: &Program, height: u32, out: &mut Text) -> Result<(), AllocError>
@@ -98,6 +98,20 @@ pub fn put_stage(program: &Program, stage: u32, out: &mut Text) -> Result<(), Al
     out.append(b"stage ")?;
     out.append(stages.get(stage as usize).name.bytes())?;
     out.append(b"\n")
+}
+
+/// The line before the listing of the state after a step, with the step's number, counted from 1, and
+/// that listing. Each count is at most 100,000 where the transcript is to be read again.
+#[tactic(auto, using(std::proofs::Common::append_assoc), unfolding(crate::specs::Lines::mid_lines))]
+pub fn put_mid(program: &Program, step: u32, state: &Bag, out: &mut Text) -> Result<(), AllocError>
+    requires { IsState program.now.signature state.now }
+    ensures ok { OnOk result (out.new ≡ out.old ++ mid_lines program.now.signature step state.now) }
+    ensures err { OnErr result (IsBegun out.old (mid_lines program.now.signature step state.now) out.new) }
+{
+    out.append(b"state ")?;
+    out.number(u64::from(step))?;
+    out.append(b"\n")?;
+    put_listing(program, state, out)
 }
 
 /// The line of the end, and the listing of the last state.

@@ -1,6 +1,7 @@
 use crate::end_word::EndWord;
 use crate::listing::Haves;
 use crate::proofs::Proofs;
+use crate::version::Version;
 use cep_base::List;
 use cep_rule::Offer;
 
@@ -11,6 +12,7 @@ use cep_rule::Offer;
 /// `IsLegal` which of these are legal.
 #[derive(Debug, Drop)]
 pub struct Log {
+    pub version: Version,
     /// How high a derivation may be.
     pub height: u32,
     /// The line of the header that names the stage.
@@ -30,14 +32,23 @@ pub struct Log {
 pub type LogSteps = List<LogStep>;
 
 /// A step of a log: the number of its line, the offer, a derivation for each backward premise of the
-/// offer's rule, and the stage that is written below it, which stands there exactly where the rule
-/// leaves a stage.
+/// offer's rule, the stage that is written below it, which stands there exactly where the rule
+/// leaves a stage, and the listing of the state after it, which stands there exactly where the
+/// version lists it.
 #[derive(Debug, Drop)]
 pub struct LogStep {
     pub line: u32,
     pub offer: Offer,
     pub proofs: Proofs,
     pub stage: Option<u32>,
+    pub mid: Option<LogMid>,
+}
+
+/// A listing behind a step: the number of its first line, and what it lists.
+#[derive(Debug, Drop)]
+pub struct LogMid {
+    pub line: u32,
+    pub state: Haves,
 }
 
 /// The end of a log: the number of its line, the word, and the listing of the last state.

@@ -2,12 +2,14 @@
 ghost use Rattle.std.specs.Prelude.{◌≡◌, ◌≤◌, ◌↔◌, ℕ, length, IfOk, IfSome, IfNone, IfErr, IsTrue};
 ghost use Rattle.cep_log.specs.declared.so_far.SoFar.{SoFar};
 ghost use Rattle.cep_log.specs.Legal.{IsLogOf};
-ghost use Rattle.cep_log.specs.Transcript.{Becomes, MovesOn, MayStep, NamesNoRule, HasLog, HasMisfit, IsFaultOf};
-ghost use Rattle.cep_log.specs.Growing.{HasRule};
+ghost use Rattle.cep_log.specs.Transcript.{Becomes, MovesOn, MayStep, HasLog, HasMisfit, IsFaultOf};
+ghost use Rattle.cep_log.specs.Growing.{CanGrow};
 
 use crate::fault::LogFault;
-use crate::growing::{behind_end, behind_part, behind_whole, finished, log_begun};
-use crate::line_kinds::{height_line, is_passed_over, names_no_rule, stage_line};
+use crate::growing::{
+    behind_end, behind_listed, behind_part, behind_unlisted, behind_whole, finished, log_begun,
+};
+use crate::line_kinds::{height_line, is_passed_over, names_no_rule, stage_line, version_line};
 use crate::log::Log;
 use crate::so_far::SoFar;
 use bstr::ByteSlice;
@@ -18,7 +20,7 @@ use cep_text::Vocabulary;
 use std::alloc::{AllocError, Global};
 
 /// The log that a transcript says, or else the first line of the bytes that does not fit. The bytes
-/// are at most 67,108,864. The grammar is this profile's, in version 1: an LF ends a line, and a CR
+/// are at most 67,108,864. The grammar is this profile's, in both versions: an LF ends a line, and a CR
 /// directly before it is dropped; the last line may lack its LF where it is not empty, and then
 /// keeps its CR. Lines are counted from 1, and one that begins with `?` is counted and passed over.
 /// The log is of the program; whether it is legal is left open.
@@ -62,7 +64,7 @@ fn read_by(
             Err(fault) => return Ok(Err(fault)),
         }
     }
-    match finished(so_far, number) {
+    match finished(so_far, number)? {
         Some(log) => Ok(Ok(log)),
         None => Ok(Err(LogFault::Line { line: number + 1 })),
     }
@@ -76,7 +78,7 @@ fn passed(
     line: &[u8],
     so_far: SoFar,
 ) -> Result<Result<SoFar, LogFault>, AllocError>
-    requires { HasRule vocabulary.now so_far }
+    requires { CanGrow vocabulary.now so_far }
     ensures taken { IfOk result (λ read. IfOk read (MovesOn vocabulary.now number line.now so_far)) }
     ensures nowhere { IfOk result (λ read. IfErr read (λ fault. (new : SoFar) → ¬ (MovesOn vocabulary.now number line.now so_far new))) }
     ensures fault { IfOk result (λ read. IfErr read (IsFaultOf vocabulary.now number line.now so_far)) }
@@ -95,7 +97,7 @@ fn passed(
 fn may_step(so_far: &SoFar) -> bool
     ensures { IsTrue result ↔ MayStep so_far.now }
 {
-    matches!(so_far, SoFar::Whole(_))
+    matches!(so_far, SoFar::Whole(_) | SoFar::Listed(_, _, _))
 }
 
 // Why the line does not fit, by whether a step may stand there.
@@ -117,28 +119,29 @@ fn taken(
     line: &[u8],
     so_far: SoFar,
 ) -> Result<Option<SoFar>, AllocError>
-    requires { HasRule vocabulary.now so_far }
+    requires { CanGrow vocabulary.now so_far }
     ensures some { IfOk result (λ read. IfSome read (Becomes vocabulary.now number line.now so_far)) }
     ensures none { IfOk result (λ read. IfNone read ((new : SoFar) → ¬ (Becomes vocabulary.now number line.now so_far new))) }
 {
     match so_far {
-        SoFar::Nothing => {
-            if line == b"ceptre 1".as_slice() {
-                Ok(Some(SoFar::Version))
-            } else {
-                Ok(None)
-            }
-        }
-        SoFar::Version => match height_line(line) {
-            Some(height) => Ok(Some(SoFar::Height(height))),
+        SoFar::Nothing => Ok(version_line(line).map(SoFar::Begun)),
+        SoFar::Begun(version) => match height_line(line) {
+            Some(height) => Ok(Some(SoFar::Height { version, height })),
             None => Ok(None),
         },
-        SoFar::Height(height) => match stage_line(vocabulary, line) {
-            Some(stage) => Ok(Some(SoFar::Whole(log_begun(alloc, height, number, stage)))),
+        SoFar::Height { version, height } => match stage_line(vocabulary, line) {
+            Some(stage) => {
+                let log = log_begun(alloc, version, height, number, stage);
+                Ok(Some(SoFar::Whole(log)))
+            }
             None => Ok(None),
         },
         SoFar::Whole(log) => behind_whole(alloc, vocabulary, number, line, log),
         SoFar::Within(log, step) => behind_part(alloc, vocabulary, line, log, step),
+        SoFar::Unlisted(log, step) => Ok(behind_unlisted(alloc, number, line, log, step)),
+        SoFar::Listed(log, step, mid) => {
+            behind_listed(alloc, vocabulary, number, line, log, step, mid)
+        }
         SoFar::Ended(log, end) => behind_end(alloc, vocabulary, line, log, end),
     }
 }

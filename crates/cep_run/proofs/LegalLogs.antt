@@ -19,6 +19,7 @@ use Rattle.cep_rule.specs.Steps.{Spot, AreProofs, IsMachineStep}
 use Rattle.cep_rule.specs.Program.{IsTypedRule, IsDividedRule, IsProgram}
 use Rattle.cep_log.specs.declared.log.Log.{Log}
 use Rattle.cep_log.specs.declared.log.LogStep.{LogStep}
+use Rattle.cep_log.specs.declared.log.LogMid.{LogMid}
 use Rattle.cep_log.specs.declared.log.LogEnd.{LogEnd}
 use Rattle.cep_log.specs.Legal.{IsListing, IsStepOf, AreLegalSteps, start_spot, IsLegalEnd, IsLegal}
 use Rattle.cep_log.specs.declared.end_word.EndWord.{EndWord}
@@ -46,6 +47,15 @@ pub record IsKept (program : Parts) (spot : Spot) : Type 0 where
   pub is_state : IsState program.signature spot.state
   pub fits : Fits spot.state
 
+-- The entries of states that fit are listings.
+abbrev pub AreListings : Parts → Type 0
+AreListings program = (state : Multiset) → IsState program.signature state → Fits state → IsListing program.signature (finite.entries state)
+
+-- a listing that is a state's is a listing
+mid_listing : (program : Parts) (found : Option LogMid) (state : Multiset) → IsListing program.signature (finite.entries state) → IfSome found (λ (mid : LogMid). mid.state ≡ finite.entries state) → IfSome found (λ (mid : LogMid). IsListing program.signature mid.state)
+mid_listing program None state is same = tt
+mid_listing program (Some mid) state is same = subst (IsListing program.signature) (sym same) is
+
 -- that logs of lawful deeds are legal, told for any
 abbrev pub AreLegalLogs : Type 0
 AreLegalLogs =
@@ -66,8 +76,8 @@ module _ (lead : LeadToStates) (program : Parts) (kept : IsProgram program) (hei
       }
 
   -- the step of a deed is one of the program
-  step_of : (old new : Spot) (rule : Rule) (step : LogStep) → IsMachineStep program height old new step.offer rule step.proofs → step.stage ≡ rule.next → IsStepOf program step
-  step_of old new rule step is stage = record {
+  step_of : AreListings program → (old new : Spot) (rule : Rule) (step : LogStep) → IsMachineStep program height old new step.offer rule step.proofs → IsKept program new → step.stage ≡ rule.next → IfSome step.mid (λ (mid : LogMid). mid.state ≡ finite.entries new.state) → IsStepOf program step
+  step_of listing_of old new rule step is after stage mid = record {
     rule = rule;
     numbered = is.numbered;
     values = is.values;
@@ -76,6 +86,7 @@ module _ (lead : LeadToStates) (program : Parts) (kept : IsProgram program) (hei
     stage = subst (λ (named : Option ℕ). IsSome named ↔ IsSome rule.next) (sym stage) ((λ some. some), (λ some. some));
     in_range = subst (λ (named : Option ℕ). IfSome named (λ other. other < length program.stages)) (sym stage)
         (holds_at (λ (r : Rule). IfSome r.next (λ other. other < length program.stages)) program.rules step.offer.rule rule kept.in_range.next_stages is.numbered);
+    listing = mid_listing program step.mid new.state (listing_of new.state after.is_state after.fits) mid;
   }
 
   -- the step of a deed, as the log holds it
@@ -90,29 +101,30 @@ module _ (lead : LeadToStates) (program : Parts) (kept : IsProgram program) (hei
     legal : AreLegalSteps program height steps old last
     kept_last : IsKept program last
 
-  held_steps : (at : Position) (deeds : List Deed) (last : Position) (steps : List LogStep) → AreDeeds program height at deeds last → AllZip HoldsDeed deeds steps → IsKept program at.spot → AreHeld steps at.spot last.spot
-  held_steps at [] last [] done all before = record {
+  held_steps : AreListings program → (at : Position) (deeds : List Deed) (last : Position) (steps : List LogStep) → AreDeeds program height at deeds last → AllZip HoldsDeed deeds steps → IsKept program at.spot → AreHeld steps at.spot last.spot
+  held_steps listing_of at [] last [] done all before = record {
     of_program = tt;
     legal = ap (λ (here : Position). here.spot) done;
     kept_last = subst (λ (here : Position). IsKept program here.spot) (sym done) before;
   }
-  held_steps at [] last (step ∷ steps) done all before = absurd all
-  held_steps at (deed ∷ deeds) last [] done all before = absurd all
-  held_steps at (deed ∷ deeds) last (step ∷ steps) done all before =
+  held_steps listing_of at [] last (step ∷ steps) done all before = absurd all
+  held_steps listing_of at (deed ∷ deeds) last [] done all before = absurd all
+  held_steps listing_of at (deed ∷ deeds) last (step ∷ steps) done all before =
       let machine = subst (λ (here : Position). IsMachineStep program height here.spot deed.after.spot step.offer deed.rule step.proofs) done.0 (held_step deed step done.1 all.0) in
-      let later = held_steps deed.after deeds last steps done.2 all.1 (step_keeps at.spot deed.after.spot step.offer deed.rule step.proofs machine before) in
+      let after = step_keeps at.spot deed.after.spot step.offer deed.rule step.proofs machine before in
+      let later = held_steps listing_of deed.after deeds last steps done.2 all.1 after in
       record {
-        of_program = ((step_of at.spot deed.after.spot deed.rule step machine all.0.stage), later.of_program);
-        legal = (deed.after.spot, (record { rule = deed.rule; machine = machine; stage = all.0.stage }), later.legal);
+        of_program = ((step_of listing_of at.spot deed.after.spot deed.rule step machine after all.0.stage all.0.mid), later.of_program);
+        legal = (deed.after.spot, (record { rule = deed.rule; machine = machine; stage = all.0.stage; mid = all.0.mid }), later.legal);
         kept_last = later.kept_last;
       }
 
   -- Ends
 
-  module _ (listing_of : (state : Multiset) → IsState program.signature state → Fits state → IsListing program.signature (finite.entries state)) (deeds : List Deed) (last : Position) (word : EndWord) (log : Log)
+  module _ (listing_of : AreListings program) (deeds : List Deed) (last : Position) (word : EndWord) (log : Log)
       (done : AreDeeds program height (start_of program) deeds last) (quiet : word ≡ Quiet → IsQuiet program height last.spot.state last.spot.stage) (holds : HoldsDeeds program height deeds word last.spot.state log) where
     held : AreHeld log.steps (start_spot program) last.spot
-    held = held_steps (start_of program) deeds last log.steps done holds.steps (record { is_state = kept.start; fits = kept.start_fits })
+    held = held_steps listing_of (start_of program) deeds last log.steps done holds.steps (record { is_state = kept.start; fits = kept.start_fits })
 
     legal_end : (end : LogEnd) → HoldsEnd word last.spot.state end → IsLegalEnd program height last.spot end
     legal_end end held_end = record { quiet = λ same. quiet (sym held_end.word_is ∙ same); state = held_end.state_is }
@@ -135,6 +147,7 @@ module _ (lead : LeadToStates) (program : Parts) (kept : IsProgram program) (hei
         stage = subst (λ stage. stage < length program.stages) (sym holds.stage) kept.in_range.start_stage;
         start = subst (IsListing program.signature) (sym holds.start) (listing_of program.start kept.start kept.start_fits);
         steps = held.of_program;
+        listed = holds.listed;
         ending = ends_listed log.end holds.ended;
         lines = lines;
         few = few;

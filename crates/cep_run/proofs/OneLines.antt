@@ -21,9 +21,9 @@ use Rattle.cep_log.specs.declared.log.Log.{Log}
 use Rattle.cep_log.specs.declared.log.LogEnd.{LogEnd}
 use Rattle.cep_log.specs.declared.so_far.SoFar.{SoFar}
 use Rattle.cep_log.specs.declared.so_far.SoFar.TheVariants as front
-use Rattle.cep_log.specs.Lines.{line, have_line, stage_name}
+use Rattle.cep_log.specs.Lines.{line, have_line, stage_name, have_text, step_text, by_text}
 use Rattle.cep_log.specs.Legal.{IsListing}
-use Rattle.cep_log.specs.Transcript.{AreLines, IsOneLine, Leads, have_text, IsReadable, step_text, by_text, stage_texts}
+use Rattle.cep_log.specs.Transcript.{AreLines, IsOneLine, Leads, IsReadable, stage_texts, with_own}
 
 -- What is written is read again, derivations have the program's shape, and values are small.
 pub record TextLaws : Type 0 where
@@ -43,7 +43,7 @@ pub record TextLaws : Type 0 where
   pub steps : (program : Parts) (log : Log) (rule : Rule) (number : ℕ) (offer : Offer) (proofs : List ProofTree) → slice_get program.rules offer.rule ≡ Some rule → IsOfferOf program offer → AllByRecursion IsSmallTerm offer.values
       → length proofs ≡ length rule.backs → AllByRecursion (IsReadable program) proofs → ((stage : ℕ) → rule.next ≡ Some stage → stage < length program.stages)
       → Leads program number (step_text program offer ∷ (map (by_text program) proofs ++ stage_texts program rule.next)) (front.Whole log)
-      (front.Whole (record log { steps = log.steps ++ (record { line = number; offer = offer; proofs = proofs; stage = rule.next }) ∷ [] }))
+      (with_own log (record { line = number; offer = offer; proofs = proofs; stage = rule.next; mid = None }))
   pub shapes : (program : Parts) (proof : ProofTree) (a : AtomTree) → Proves program proof a → IsProofOf program proof
   pub small_offers : (program : Parts) (height : ℕ) (state : Multiset) (offer : Offer) → IsProgram program → IsState program.signature state → Applies program height state offer → AllByRecursion IsSmallTerm offer.values
   pub small_proofs : (program : Parts) (proof : ProofTree) (a : AtomTree) → IsProgram program → Proves program proof a → HasSmallValues proof

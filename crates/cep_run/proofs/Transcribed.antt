@@ -1,6 +1,6 @@
 -- What is written of a dialogue is a transcript, and its log holds what was done.
-use Rattle.std.proofs.Common.{◌≡◌, map, inl, inr, ℕ, ◌+◌, ◌-◌, ◌<◌, ◌≤◌, List, [], ◌∷◌, ◌++◌, length, length-append, append_assoc, append-nil, refl, sym, ap, ◌∙◌, subst, arith, Option, None, Some, IfSome, IsSomeAnd}
-use Rattle.std.specs.Prelude.{slice_get, codes, decimal}
+use Rattle.std.proofs.Common.{◌≡◌, map, inl, inr, ℕ, ◌+◌, ◌-◌, ◌<◌, ◌≤◌, List, [], ◌∷◌, ◌++◌, length, length-append, append_assoc, append-nil, refl, sym, ap, ◌∙◌, subst, arith, cond, false, Option, None, Some, IfSome, IsSomeAnd}
+use Rattle.std.specs.Prelude.{slice_get, is_some, codes, decimal}
 use Rattle.std.specs.List.{AllByRecursion, AllZip, flat_map}
 use Rattle.std.specs.FinMap as finite
 use Rattle.std.proofs.lemmas.Grind.{flat_map-append}
@@ -32,11 +32,13 @@ use Rattle.cep_log.specs.declared.log.LogStep.{LogStep}
 use Rattle.cep_log.specs.declared.log.LogEnd.{LogEnd}
 use Rattle.cep_log.specs.declared.so_far.SoFar.{SoFar}
 use Rattle.cep_log.specs.declared.so_far.SoFar.TheVariants as front
+use Rattle.cep_log.specs.declared.version.Version.{Version}
+use Rattle.cep_log.specs.declared.version.Version.TheVariants as version
 use Rattle.cep_log.specs.declared.end_word.EndWord.{EndWord}
 use Rattle.cep_log.specs.declared.end_word.EndWord.TheVariants as end_word
-use Rattle.cep_log.specs.Lines.{line, have_line, listing, stage_name, stage_line, next_line, step_line, by_line, by_lines, step_lines, ending_word, end_lines, header}
-use Rattle.cep_log.specs.Legal.{IsHave, IsListing, IsLegal}
-use Rattle.cep_log.specs.Transcript.{IsOneLine, have_text, IsReadable, step_text, by_text, stage_texts, AreLines, IsPassedOver, log_begun, end_begun, MovesOn, Leads, HasLog}
+use Rattle.cep_log.specs.Lines.{line, has_listing, have_text, have_line, listing, stage_name, stage_line, next_line, step_text, step_line, by_text, by_line, by_lines, step_lines, ending_word, end_lines, header}
+use Rattle.cep_log.specs.Legal.{IsHave, IsListing, HaveListings, IsLegal}
+use Rattle.cep_log.specs.Transcript.{IsOneLine, IsReadable, stage_texts, AreLines, IsPassedOver, log_begun, end_begun, next_number, log_with, with_own, MovesOn, Leads, HasLog}
 use Rattle.cep_run.specs.declared.settings.Settings.{Settings}
 use Rattle.cep_run.specs.Deciding.{Supply}
 use Rattle.cep_run.specs.Deeds.{Position, start_of}
@@ -182,9 +184,13 @@ module _ (laws : LeadToStates) (legal : AreLegalLogs) (texts : TextLaws) (progra
       let is_offer : IsOffer program settings.height at.spot.state turn.question.group turn.deed.offer = is.asks.offered.no_other turn.deed.offer (k, slice_get_within offers k turn.deed.offer is.chosen.at_place, get_or_from_slice_get offers k turn.deed.offer turn.deed.offer is.chosen.at_place) in
       is_offer.applies
 
+  -- in version 1 a step with its own lines is whole
+  own_whole : (log : Log) (step : LogStep) → log.version ≡ version.One → with_own log step ≡ front.Whole (log_with log step)
+  own_whole log step first = ap (λ (form : Version). cond (has_listing form (next_number log)) (front.Unlisted log step) (front.Whole (log_with log step))) first
+
   -- the step of a log that holds a turn
   abbrev step_of_turn : ℕ → Turn → LogStep
-  step_of_turn number turn = record { line = number; offer = turn.deed.offer; proofs = turn.deed.proofs; stage = turn.deed.rule.next }
+  step_of_turn number turn = record { line = number; offer = turn.deed.offer; proofs = turn.deed.proofs; stage = turn.deed.rule.next; mid = None }
 
   -- it is one of the machine, from where the turn begins
   held_here : (at : Position) (from : Supply) (turn : Turn) (step : LogStep) → IsTurn program settings at from turn → HoldsDeed turn.deed step → IsMachineStep program settings.height at.spot turn.deed.after.spot step.offer turn.deed.rule step.proofs
@@ -195,14 +201,15 @@ module _ (laws : LeadToStates) (legal : AreLegalLogs) (texts : TextLaws) (progra
   record TellsTurn (number : ℕ) (turn : Turn) (log : Log) : Type 0 where
     step : LogStep
     holds : HoldsDeed turn.deed step
+    unlisted : is_some step.mid ≡ false
     told : Transcribes program number (written_bytes (turn_events program turn)) (front.Whole log) (front.Whole (record log { steps = log.steps ++ step ∷ [] }))
 
-  step_told : (number : ℕ) (log : Log) (at : Position) (from : Supply) (turn : Turn) → IsTurn program settings at from turn → IsKept program at.spot
+  step_told : (number : ℕ) (log : Log) → log.version ≡ version.One → (at : Position) (from : Supply) (turn : Turn) → IsTurn program settings at from turn → IsKept program at.spot
       → Transcribes program number (step_lines program turn.deed.offer turn.deed.rule turn.deed.proofs) (front.Whole log) (front.Whole (record log { steps = log.steps ++ step_of_turn number turn ∷ [] }))
-  step_told number log at from turn is before =
+  step_told number log first at from turn is before =
       let offer = turn.deed.offer in
       let rule = turn.deed.rule in
-      let holds : HoldsDeed turn.deed (step_of_turn number turn) = record { offer = refl; proofs = refl; stage = refl } in
+      let holds : HoldsDeed turn.deed (step_of_turn number turn) = record { offer = refl; proofs = refl; stage = refl; mid = tt } in
       let machine = held_here at from turn (step_of_turn number turn) is holds in
       let numbered : slice_get program.rules offer.rule ≡ Some rule = machine.numbered in
       let of_rule : IsOfferOf program offer = subst (λ (o : Option Rule). IsSomeAnd o (λ r. AreValues program.signature.cons r.kinds offer.values)) (sym numbered) machine.values in
@@ -216,20 +223,22 @@ module _ (laws : LeadToStates) (legal : AreLegalLogs) (texts : TextLaws) (progra
           (one_line_both (codes "step ") (offer_text program offer) (literal (codes "step ") refl) (texts.offers program offer kept of_rule)),
           (both_all IsOneLine (map (by_text program) turn.deed.proofs) (stage_texts program rule.next) (bys_one_line texts program kept turn.deed.proofs readable) (next_one_line texts program kept rule.next within)),
         );
-        leads = texts.steps program log rule number offer turn.deed.proofs numbered of_rule (texts.small_offers program settings.height at.spot.state offer kept before.is_state (turn_applies at from turn is)) many readable
-            (λ stage same. subst (λ (o : Option ℕ). IfSome o (λ s. s < length program.stages)) same within);
+        leads = subst (λ (so_far : SoFar). Leads program number (own_lines texts program offer rule turn.deed.proofs) (front.Whole log) so_far) (own_whole log (step_of_turn number turn) first)
+            (texts.steps program log rule number offer turn.deed.proofs numbered of_rule (texts.small_offers program settings.height at.spot.state offer kept before.is_state (turn_applies at from turn is)) many readable
+            (λ stage same. subst (λ (o : Option ℕ). IfSome o (λ s. s < length program.stages)) same within));
       }
 
-  turn_told : (number : ℕ) (log : Log) (at : Position) (from : Supply) (turn : Turn) → IsTurn program settings at from turn → IsKept program at.spot → TellsTurn number turn log
-  turn_told number log at from turn is before =
+  turn_told : (number : ℕ) (log : Log) → log.version ≡ version.One → (at : Position) (from : Supply) (turn : Turn) → IsTurn program settings at from turn → IsKept program at.spot → TellsTurn number turn log
+  turn_told number log one_is at from turn is before =
       let first = aside texts program number (question_events program turn.question) (front.Whole log) (question_aside texts program kept settings at from turn.question turn.left is.asks) in
       let later = number + length first.lines in
-      let second = step_told later log at from turn is before in
+      let second = step_told later log one_is at from turn is before in
       let bytes = written_both (question_events program turn.question) (outs (step_lines program turn.deed.offer turn.deed.rule turn.deed.proofs)) ∙ ap (λ rest. written_bytes (question_events program turn.question) ++ rest) (written_outs (step_lines program turn.deed.offer turn.deed.rule turn.deed.proofs)) in
       let done = front.Whole (record log { steps = log.steps ++ step_of_turn later turn ∷ [] }) in
       record {
         step = step_of_turn later turn;
-        holds = record { offer = refl; proofs = refl; stage = refl };
+        holds = record { offer = refl; proofs = refl; stage = refl; mid = tt };
+        unlisted = refl;
         told = subst (λ (all : List ℕ). Transcribes program number all (front.Whole log) done) (sym bytes)
             (both texts program number (written_bytes (question_events program turn.question)) (step_lines program turn.deed.offer turn.deed.rule turn.deed.proofs) (front.Whole log) (front.Whole log) done first second);
       }
@@ -247,24 +256,26 @@ module _ (laws : LeadToStates) (legal : AreLegalLogs) (texts : TextLaws) (progra
   record TellsTurns (number : ℕ) (turns : List Turn) (log : Log) (last : Position) : Type 0 where
     steps : List LogStep
     hold : AllZip HoldsDeed (deeds_of turns) steps
+    unlisted : (place : ℕ) → HaveListings version.One place steps
     told : Transcribes program number (written_bytes (flat_map (turn_events program) turns)) (front.Whole log) (front.Whole (record log { steps = log.steps ++ steps }))
     many : length turns ≤ length told.lines
     kept_last : IsKept program last.spot
 
-  turns_told : (number : ℕ) (log : Log) (at : Position) (from : Supply) (turns : List Turn) (last : Position) (to : Supply) → AreTurns program settings at from turns last to → IsKept program at.spot → TellsTurns number turns log last
-  turns_told number log at from [] last to done before = record {
+  turns_told : (number : ℕ) (log : Log) → log.version ≡ version.One → (at : Position) (from : Supply) (turns : List Turn) (last : Position) (to : Supply) → AreTurns program settings at from turns last to → IsKept program at.spot → TellsTurns number turns log last
+  turns_told number log one_is at from [] last to done before = record {
     steps = [];
     hold = tt;
+    unlisted = λ place. tt;
     told = nothing texts program number (front.Whole log) (front.Whole (record log { steps = log.steps ++ [] })) (ap (λ (steps : List LogStep). front.Whole (record log { steps = steps })) (append-nil log.steps));
     many = omega arith;
     kept_last = subst (λ (here : Position). IsKept program here.spot) (sym done.0) before;
   }
-  turns_told number log at from (turn ∷ turns) last to done before =
-      let first = turn_told number log at from turn done.0 before in
+  turns_told number log one_is at from (turn ∷ turns) last to done before =
+      let first = turn_told number log one_is at from turn done.0 before in
       let middle : Log = record log { steps = log.steps ++ first.step ∷ [] } in
       let machine = held_here at from turn first.step done.0 first.holds in
       let after = step_keeps laws program kept settings.height height_is at.spot turn.deed.after.spot first.step.offer turn.deed.rule first.step.proofs machine before in
-      let later = turns_told (number + length first.told.lines) middle turn.deed.after turn.left turns last to done.1 after in
+      let later = turns_told (number + length first.told.lines) middle one_is turn.deed.after turn.left turns last to done.1 after in
       let new = front.Whole (record log { steps = (log.steps ++ first.step ∷ []) ++ later.steps }) in
       let whole = both texts program number (written_bytes (turn_events program turn)) (written_bytes (flat_map (turn_events program) turns)) (front.Whole log) (front.Whole middle) new first.told later.told in
       let bytes = written_both (turn_events program turn) (flat_map (turn_events program) turns) in
@@ -273,6 +284,7 @@ module _ (laws : LeadToStates) (legal : AreLegalLogs) (texts : TextLaws) (progra
       record {
         steps = first.step ∷ later.steps;
         hold = (first.holds, later.hold);
+        unlisted = λ place. (first.unlisted, later.unlisted (place + 1));
         told = record {
           lines = first.told.lines ++ later.told.lines;
           whole = bytes ∙ ap (λ front. front ++ written_bytes (flat_map (turn_events program) turns)) first.told.whole ∙ ap (λ behind. bytes_of first.told.lines ++ behind) later.told.whole ∙ sym (flat_map-append line first.told.lines later.told.lines);
@@ -288,29 +300,29 @@ module _ (laws : LeadToStates) (legal : AreLegalLogs) (texts : TextLaws) (progra
 
   record TellsHeader : Type 0 where
     at : ℕ
-    told : Transcribes program 1 (header program settings.height) front.Nothing (front.Whole (record (log_begun settings.height at program.start_stage) { start = finite.entries program.start }))
+    told : Transcribes program 1 (header program settings.height) front.Nothing (front.Whole (record (log_begun version.One settings.height at program.start_stage) { start = finite.entries program.start }))
 
   header_told : TellsHeader
   unfolding header stage_line
   header_told =
       let height = settings.height in
       let stage = program.start_stage in
-      let first = one texts program 1 (codes "ceptre 1") front.Nothing front.Version (literal (codes "ceptre 1") refl) (inr ((λ over. omega (arith, over)), (refl, refl))) in
+      let first = one texts program 1 (codes "ceptre 1") front.Nothing (front.Begun version.One) (literal (codes "ceptre 1") refl) (inr ((λ over. omega (arith, over)), (version.One, refl, refl))) in
       let n = 1 + length first.lines in
-      let second = one texts program n (codes "height " ++ decimal height) front.Version (front.Height height) (one_line_both (codes "height ") (decimal height) (literal (codes "height ") refl) (texts.numbers height))
+      let second = one texts program n (codes "height " ++ decimal height) (front.Begun version.One) (front.Height version.One height) (one_line_both (codes "height ") (decimal height) (literal (codes "height ") refl) (texts.numbers height))
       (inr ((λ over. omega (arith, over)), (height, height_is, refl, refl))) in
       let m = n + length second.lines in
       let text = codes "stage " ++ stage_name (slice_get program.stages stage) in
-      let log = log_begun height m stage in
-      let third = one texts program m text (front.Height height) (front.Whole log) (one_line_both (codes "stage ") (stage_name (slice_get program.stages stage)) (literal (codes "stage ") refl) (texts.stages program stage kept kept.in_range.start_stage))
+      let log = log_begun version.One height m stage in
+      let third = one texts program m text (front.Height version.One height) (front.Whole log) (one_line_both (codes "stage ") (stage_name (slice_get program.stages stage)) (literal (codes "stage ") refl) (texts.stages program stage kept kept.in_range.start_stage))
       (inr ((λ over. omega (arith, over)), (stage, record { in_range = kept.in_range.start_stage; written = refl }, refl))) in
       let fourth = start_listed texts program kept program.start kept.start kept.start_fits (m + length third.lines) log refl in
       let new = front.Whole (record log { start = finite.entries program.start }) in
       record {
         at = m;
-        told = both texts program 1 (line (codes "ceptre 1")) (line (codes "height " ++ decimal height) ++ (line text ++ listing program.signature program.start)) front.Nothing front.Version new first
-            (both texts program n (line (codes "height " ++ decimal height)) (line text ++ listing program.signature program.start) front.Version (front.Height height) new second
-            (both texts program m (line text) (listing program.signature program.start) (front.Height height) (front.Whole log) new third fourth));
+        told = both texts program 1 (line (codes "ceptre 1")) (line (codes "height " ++ decimal height) ++ (line text ++ listing program.signature program.start)) front.Nothing (front.Begun version.One) new first
+            (both texts program n (line (codes "height " ++ decimal height)) (line text ++ listing program.signature program.start) (front.Begun version.One) (front.Height version.One height) new second
+            (both texts program m (line text) (listing program.signature program.start) (front.Height version.One height) (front.Whole log) new third fourth));
       }
 
   -- The end
@@ -351,8 +363,8 @@ module _ (laws : LeadToStates) (legal : AreLegalLogs) (texts : TextLaws) (progra
       let run = said.run in
       let one_header = header_told in
       let n = 1 + length one_header.told.lines in
-      let begun : Log = record (log_begun settings.height one_header.at program.start_stage) { start = finite.entries program.start } in
-      let steps = turns_told n begun (start_of program) (whole_supply come) turns run.last run.between run.done (record { is_state = kept.start; fits = kept.start_fits }) in
+      let begun : Log = record (log_begun version.One settings.height one_header.at program.start_stage) { start = finite.entries program.start } in
+      let steps = turns_told n begun refl (start_of program) (whole_supply come) turns run.last run.between run.done (record { is_state = kept.start; fits = kept.start_fits }) in
       let m = n + length steps.told.lines in
       let log : Log = record begun { steps = steps.steps } in
       let asked = aside texts program m (last_events program ending.question) (front.Whole log) (last_aside run.last run.between ending.word ending.question said.left run.ends) in
@@ -366,7 +378,7 @@ module _ (laws : LeadToStates) (legal : AreLegalLogs) (texts : TextLaws) (progra
       let told = both texts program 1 (header program settings.height) (written_bytes (flat_map (turn_events program) turns) ++ (written ++ end_lines program.signature ending.word run.last.spot.state)) front.Nothing (front.Whole begun) new one_header.told moved in
       let bytes = written_dialogue turns ending events said.whole ∙ ap (λ (state : Multiset). header program settings.height ++ (written_bytes (flat_map (turn_events program) turns) ++ (written ++ end_lines program.signature ending.word state))) run.state in
       let whole : Log = record log { end = Some end; lines = length told.lines } in
-      let holds : HoldsDeeds program settings.height (deeds_of turns) ending.word run.last.spot.state whole = record { height_is = refl; stage = refl; start = refl; steps = steps.hold; ended = record { word_is = refl; state_is = refl } } in
+      let holds : HoldsDeeds program settings.height (deeds_of turns) ending.word run.last.spot.state whole = record { height_is = refl; stage = refl; start = refl; steps = steps.hold; listed = steps.unlisted 1; ended = record { word_is = refl; state_is = refl } } in
       let as_many = AllZip-long HoldsDeed (deeds_of turns) steps.steps steps.hold ∙ length-map turns (λ (turn : Turn). turn.deed) in
       let few : length told.lines ≤ MOST_LOG = omega (arith, short, few_lines told.lines, ap length bytes, ap length told.whole) in
       let least = steps.many in

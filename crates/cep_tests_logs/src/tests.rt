@@ -2,4 +2,5 @@ mod changes;
 mod heights;
 mod stages;
 mod told;
+mod versions;
 mod walks;

@@ -1,5 +1,5 @@
 // Programs with a transcript, and what is told of the transcript and of changed ones.
-use crate::tests::told::expect_told;
+use crate::tests::told::{expect_told, is_accepted};
 use cep_ground::accept;
 use cep_rule::Program;
 use cep_tests_samples::{changed, spelled};
@@ -13,7 +13,7 @@ pub fn program_of(alloc: Global, text: &str) -> Result<Program, Fail> {
 }
 
 // The text of a program, and a transcript.
-pub fn parts(played: &str) -> Result<(&str, &str), Fail> {
+fn parts(played: &str) -> Result<(&str, &str), Fail> {
     Ok(played.split_once("-\n").ok_or("no transcript")?)
 }
 
@@ -62,7 +62,7 @@ fn returned(alloc: Global, transcript: &str) -> Result<String, AllocError> {
 }
 
 // A text without the line feed at its end.
-pub fn open(text: &str) -> Result<&str, Fail> {
+fn open(text: &str) -> Result<&str, Fail> {
     Ok(text.strip_suffix('\n').ok_or("no line feed")?)
 }
 
@@ -93,4 +93,23 @@ pub fn expect_whole(
     expect_told(rt, alloc, &program, transcript, whole)?;
     expect_told(rt, alloc, &program, open(transcript)?, whole)?;
     expect_returned(rt, alloc, &program, transcript, (whole, cut))
+}
+
+// Whether a front of the bytes is accepted that is not the whole.
+fn accepts_a_front(alloc: Global, program: &Program, bytes: &[u8]) -> Result<bool, Fail> {
+    for length in 0..bytes.len() {
+        if is_accepted(alloc, program, &bytes[..length])? {
+            return Ok(true);
+        }
+    }
+    Ok(false)
+}
+
+// No front of a transcript is accepted but that without its last line feed.
+pub fn expect_no_front(rt: &impl Abort, alloc: Global, played: &str) -> Result<(), Fail> {
+    let played = spelled(alloc, played)?;
+    let (text, transcript) = parts(played.as_str())?;
+    let program = program_of(alloc, text)?;
+    assert!(rt; !accepts_a_front(alloc, &program, open(transcript)?.as_bytes())?);
+    Ok(())
 }

@@ -77,6 +77,7 @@ fn cause_line(alloc: Global, cause: &Cause) -> Result<String, AllocError> {
         Cause::NotQuiet { .. } => String::from_str(alloc, "NotQuiet"),
         Cause::OverLimit { which } => format!(in alloc; "OverLimit {}", limit_word(*which)),
         Cause::StageLine { said, is } => format!(in alloc; "StageLine {said} {is}"),
+        Cause::MidState { said, is, .. } => format!(in alloc; "MidState {said} {is}"),
         Cause::NotEnded => String::from_str(alloc, "NotEnded"),
         Cause::EndState { said, is, .. } => format!(in alloc; "EndState {said} {is}"),
     }
@@ -140,6 +141,7 @@ fn names(alloc: Global, program: &Program, cause: &Cause, text: &str) -> Result<
     match cause {
         Cause::StartState { atom, .. } => is_atom(alloc, program, atom, text),
         Cause::NotContained { atom, .. } => is_atom(alloc, program, atom, text),
+        Cause::MidState { atom, .. } => is_atom(alloc, program, atom, text),
         Cause::EndState { atom, .. } => is_atom(alloc, program, atom, text),
         Cause::NotQuiet { offer } => is_offer(alloc, program, offer, text),
         _ => Ok(text.is_empty()),

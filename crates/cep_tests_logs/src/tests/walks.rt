@@ -1,8 +1,6 @@
 // A walk of three characters: what is told of its transcript, and of damaged ones.
-use crate::tests::changes::{expect_changes, expect_whole, open, parts, program_of};
-use crate::tests::told::is_accepted;
-use cep_rule::Program;
-use cep_tests_samples::{spelled, walk};
+use crate::tests::changes::{expect_changes, expect_no_front, expect_whole};
+use cep_tests_samples::walk;
 use std::alloc::Global;
 use std::process::Abort;
 use std::test::Fail;
@@ -39,7 +37,9 @@ fn a_line_that_begins_with_a_question_mark_is_passed_over(rt: HostRuntime) -> Re
 
 fn headers() -> &'static str {
     "\
-1 | ceptre 2 | 1 Line
+1 | ceptre 2 | accepted 2
+1 | ceptre 3 | 1 Line
+1 | ceptre 02 | 1 Line
 1 |  | 1 Line
 2 | height 0 | 2 Line
 2 | height 1 | accepted 2
@@ -195,21 +195,7 @@ fn a_transcript_that_is_cut_is_refused(rt: HostRuntime) -> Result<(), Fail> {
     expect_changes(&rt, rt.alloc(), walk(), cuts())
 }
 
-// Whether a front of the bytes is accepted that is not the whole.
-fn accepts_a_front(alloc: Global, program: &Program, bytes: &[u8]) -> Result<bool, Fail> {
-    for length in 0..bytes.len() {
-        if is_accepted(alloc, program, &bytes[..length])? {
-            return Ok(true);
-        }
-    }
-    Ok(false)
-}
-
 #[test]
 fn no_cut_but_of_the_last_line_feed_is_accepted(rt: HostRuntime) -> Result<(), Fail> {
-    let played = spelled(rt.alloc(), walk())?;
-    let (text, transcript) = parts(played.as_str())?;
-    let program = program_of(rt.alloc(), text)?;
-    assert!(rt; !accepts_a_front(rt.alloc(), &program, open(transcript)?.as_bytes())?);
-    Ok(())
+    expect_no_front(&rt, rt.alloc(), walk())
 }

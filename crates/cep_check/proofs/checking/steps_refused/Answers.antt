@@ -1,6 +1,7 @@
-use Rattle.std.proofs.Common.{◌≤◌, length, arith}
+use Rattle.std.proofs.Common.{ℕ, ◌≤◌, length, drop, sym, subst, arith}
 use Rattle.cep_base.proofs.Lists.{holds_at}
 use Rattle.cep_log.specs.Legal.{IsStepOf}
+use Rattle.cep_check.specs.Causes.{IsRefusedFrom}
 use Rattle.cep_check.specs.Walking.{stands_at}
 use Rattle.cep_check.proofs.Steps.{legal_next, refused_next, refused_here}
 use Rattle.cep_check.proofs.Verdicts.{none_left}
@@ -24,7 +25,10 @@ loop-i-preserved g c = record {
 }
 
 pub returns-in-Some-clause-done : goal.returns-in-Some-clause-done
-returns-in-Some-clause-done g c = c.loop-i.invariant.refused c.get-step.result.now.line c.in-Some.cause (refused_here c.args.program.now c.args.log.now c.args.log.now.steps c.loop-i.i c.get-step.result.now (stands_at c.loop-i.walk) c.in-Some.cause c.get-step.ensures (rw c.in-Some.is at c.in_ok-cause.ensures.cause))
+returns-in-Some-clause-done g c =
+    c.loop-i.invariant.refused c.cause_line-line.result c.in-Some.cause
+    (subst (λ (line : ℕ). IsRefusedFrom c.args.program.now c.args.log.now (stands_at c.loop-i.walk) (drop c.loop-i.i c.args.log.now.steps) line c.in-Some.cause) (sym c.cause_line-line.ensures)
+    (refused_here c.args.program.now c.args.log.now c.args.log.now.steps c.loop-i.i c.get-step.result.now (stands_at c.loop-i.walk) c.in-Some.cause c.get-step.ensures (rw c.in-Some.is at c.in_ok-cause.ensures.cause)))
 
 pub returns-clause-done : goal.returns-clause-done
 returns-clause-done g c =
