@@ -69,6 +69,7 @@ module _ (program : Parts) (height : ℕ) (old : Spot) (rule : Rule) (step : Log
 
     -- it is done
     pub is_done : (new : Spot) → new.stage ≡ stage_after rule old.stage → new.state ≡ edited old.state change → step.stage ≡ rule.next → IsDoneStep program height old new rule step
+    unfolding within
     is_done new stage_is state_is staged = record {
       machine = record {
         numbered = ready.numbered;

@@ -18,4 +18,4 @@ returns-in-Some-clause-cause c =
 pub returns-clause-cause : goal.returns-clause-cause
 returns-clause-cause c =
     let weighed = subst (λ (w : Weighed). IsWeighed c.args.program.now.signature c.args.rule.now c.args.step.now.offer.values c.args.walk.now.state w) c.in-Within.is c.in_ok-weighed.ensures in
-    is_done c.args.program.now c.args.height (stands_at c.args.walk.now) c.args.rule.now c.args.step.now c.requires.ready c.requires.walk.is_state c.requires.walk.fits c.requires.in_turn c.in-Within.change weighed _ c.unwrap_or.ensures c.in_ok-edit.ensures (rw c.in_default.is at c.stage_cause.ensures)
+    is_done c.args.program.now c.args.height (stands_at c.args.walk.now) c.args.rule.now c.args.step.now c.requires.ready c.requires.walk.is_state c.requires.walk.fits c.requires.in_turn c.in-Within.change weighed _ c.unwrap_or-walk.ensures c.in_ok-edit.ensures (rw c.in_default.is at c.stage_cause.ensures)
