@@ -3,6 +3,7 @@ use crate::tests::changes::{expect_changes, expect_no_front, expect_whole, progr
 use cep_base::Text;
 use cep_log::put_mid;
 use std::alloc::{AllocError, Global};
+use std::process::Abort;
 use std::test::Fail;
 
 // A program of which each turn makes one atom more.
@@ -25,8 +26,8 @@ fn hundred(alloc: Global) -> Result<String, AllocError> {
 }
 
 // What a table says of the hundred turns is told of them.
-fn expect_of_hundred(rt: &HostRuntime, table: &str) -> Result<(), Fail> {
-    expect_changes(rt, rt.alloc(), hundred(rt.alloc())?.as_str(), table)
+fn expect_of_hundred(rt: &impl Abort, alloc: Global, table: &str) -> Result<(), Fail> {
+    expect_changes(rt, alloc, hundred(alloc)?.as_str(), table)
 }
 
 #[test]
@@ -49,7 +50,7 @@ fn states() -> &'static str {
 
 #[test]
 fn a_state_in_the_middle_is_that_after_its_step(rt: HostRuntime) -> Result<(), Fail> {
-    expect_of_hundred(&rt, states())
+    expect_of_hundred(&rt, rt.alloc(), states())
 }
 
 fn places() -> &'static str {
@@ -73,7 +74,7 @@ fn places() -> &'static str {
 
 #[test]
 fn a_state_stands_behind_the_hundredth_step_alone(rt: HostRuntime) -> Result<(), Fail> {
-    expect_of_hundred(&rt, places())
+    expect_of_hundred(&rt, rt.alloc(), places())
 }
 
 fn versions() -> &'static str {
@@ -84,7 +85,7 @@ fn versions() -> &'static str {
 
 #[test]
 fn version_1_has_no_state_in_its_middle(rt: HostRuntime) -> Result<(), Fail> {
-    expect_of_hundred(&rt, versions())
+    expect_of_hundred(&rt, rt.alloc(), versions())
 }
 
 fn without_states() -> &'static str {
@@ -125,7 +126,7 @@ fn cuts() -> &'static str {
 
 #[test]
 fn a_transcript_that_is_cut_around_a_state_is_refused(rt: HostRuntime) -> Result<(), Fail> {
-    expect_of_hundred(&rt, cuts())
+    expect_of_hundred(&rt, rt.alloc(), cuts())
 }
 
 #[test]
