@@ -166,7 +166,17 @@ IsEndCause program height last end (MidState line atom said is) = ⊥
 -- the line of a cause that comes at a step: that of its listing where it is this, and else of the step
 abbrev pub cause_line : LogStep → Cause → ℕ
 cause_line step (MidState line atom said is) = line
-cause_line step cause = step.line
+cause_line step (StartStage said is) = step.line
+cause_line step (StartState atom said is) = step.line
+cause_line step (OtherStage rule) = step.line
+cause_line step (NotContained atom have need) = step.line
+cause_line step (NotProved premise) = step.line
+cause_line step (TooHigh premise height) = step.line
+cause_line step (NotQuiet offer) = step.line
+cause_line step (OverLimit which) = step.line
+cause_line step (StageLine said is) = step.line
+cause_line step NotEnded = step.line
+cause_line step (EndState atom said is) = step.line
 
 -- the line of the end, and where there is none the one behind the last
 abbrev pub end_line : Log → Option LogEnd → ℕ
