@@ -1,3 +1,4 @@
+pub mod Looks
 pub mod Faults
 pub mod Seen
 pub mod Levels

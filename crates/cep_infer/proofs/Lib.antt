@@ -3,6 +3,7 @@ pub mod Meeting
 pub mod FirstOccurrences
 pub mod Building
 pub mod RulesInTurn
+pub mod Interactive
 pub mod Placing
 pub mod Unbound
 pub mod GroundStates

@@ -7,6 +7,7 @@ mod clauses;
 mod draft;
 pub mod laws;
 mod left;
+mod listing;
 mod places;
 mod resolving;
 mod rules;

@@ -1,3 +1,4 @@
+pub mod Lookups
 pub mod Meeting
 pub mod FirstOccurrences
 pub mod Clashing

@@ -2,12 +2,11 @@
 #![tactic(auto)]
 
 mod clashes;
+mod declarations;
 mod firsts;
-mod numbers;
 mod sites;
 mod variables;
 
-pub use clashes::type_fault;
+pub use declarations::{Declarations, RawCon, RawPred, item_at};
 pub use firsts::Firsts;
-pub use numbers::{kinds, number};
 pub use variables::{Variables, blank_name, next_blank};
