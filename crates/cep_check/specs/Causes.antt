@@ -15,7 +15,7 @@ use Rattle.cep_rule.specs.Stages.{own_group, leaving_group, HasOffer}
 use Rattle.cep_rule.specs.Step.{Step}
 use Rattle.cep_rule.specs.Steps.{Spot, MakesFit, AreProofs}
 use Rattle.cep_scratch.specs.First.{IsFirstOffer}
-use Rattle.cep_log.specs.declared.end_word.EndWord.TheVariants.{Quiet}
+use Rattle.cep_lines.specs.declared.end_word.EndWord.TheVariants.{Quiet}
 use Rattle.cep_log.specs.declared.log.Log.{Log}
 use Rattle.cep_log.specs.declared.log.LogStep.{LogStep}
 use Rattle.cep_log.specs.declared.log.LogMid.{LogMid}

@@ -7,7 +7,7 @@ use Rattle.cep_rule.specs.Shapes.{IsOfferOf}
 use Rattle.cep_text.specs.Texts.{atom_text, offer_name, offer_text, IsTypedGround}
 use Rattle.cep_log.specs.declared.fault.LogFault.{LogFault}
 use Rattle.cep_log.specs.declared.fault.LogFault.TheVariants.{Line, NoRule}
-use Rattle.cep_log.specs.Lines.{stage_name}
+use Rattle.cep_lines.specs.Lines.{stage_name}
 use Rattle.cep_check.specs.declared.cause.CheckLimit.{CheckLimit}
 use Rattle.cep_check.specs.declared.cause.CheckLimit.TheVariants.{Atom, State}
 use Rattle.cep_check.specs.declared.cause.Cause.{Cause}

@@ -4,7 +4,7 @@ ghost use Rattle.cep_term.specs.Tree.{atom_of};
 ghost use Rattle.cep_rule.specs.Shapes.{IsOfferOf};
 ghost use Rattle.cep_text.specs.Texts.{offer_name, offer_text, IsTypedGround};
 ghost use Rattle.cep_text.specs.Writing.{IsBegun};
-ghost use Rattle.cep_log.specs.Lines.{line, stage_name};
+ghost use Rattle.cep_lines.specs.Lines.{line, stage_name};
 ghost use Rattle.cep_check.specs.Telling.{stages_text, copies_text, counts_text, limit_text, cause_text, refused_text, verdict_text, fault_text, IsTellableCause, IsTellable};
 
 use crate::cause::{Cause, CheckLimit, Verdict};

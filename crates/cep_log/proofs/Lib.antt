@@ -1,13 +1,9 @@
-pub mod Adding
-pub mod LineLemmas
-pub mod States
 pub mod Parted
 pub mod Cuts
 pub mod Once
 pub mod Ofs
 pub mod Passing
 pub mod Apart
-pub mod OfferLines
 pub mod OneLine
 pub mod WrittenListings
 pub mod WrittenSteps

@@ -11,7 +11,7 @@ use Rattle.cep_rule.specs.declared.parts.Parts.{Parts}
 use Rattle.cep_rule.specs.declared.parts.Stage.{Stage}
 use Rattle.cep_text.specs.Reads.{IsAtomText}
 use Rattle.cep_text.specs.StageNames.{IsStageNamed}
-use Rattle.cep_log.specs.Lines.{stage_name, state_text}
+use Rattle.cep_lines.specs.Lines.{stage_name, state_text}
 use Rattle.cep_log.specs.Transcript.{IsHaveLine, IsStageLine, NamesNoRule}
 use Rattle.cep_log.proofs.Parted.{HasNone, Stops, one_parting}
 use Rattle.cep_log.proofs.Once.{decimal_unspaced, one_count}

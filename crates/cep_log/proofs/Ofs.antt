@@ -16,8 +16,8 @@ use Rattle.cep_rule.specs.Derivations.{proof_height}
 use Rattle.cep_log.specs.declared.log.Log.{Log}
 use Rattle.cep_log.specs.declared.log.LogStep.{LogStep}
 use Rattle.cep_log.specs.declared.log.LogMid.{LogMid}
-use Rattle.cep_log.specs.declared.version.Version.{Version}
-use Rattle.cep_log.specs.Lines.{has_listing}
+use Rattle.cep_lines.specs.declared.version.Version.{Version}
+use Rattle.cep_lines.specs.Lines.{has_listing}
 use Rattle.cep_log.specs.declared.so_far.SoFar.{SoFar}
 use Rattle.cep_log.specs.declared.so_far.SoFar.TheVariants.{Nothing, Begun, Height, Whole, Within, Unlisted, Listed, Ended}
 use Rattle.cep_log.specs.Legal.{IsHave, AtomsRise, IsListing, IsStepOf, HaveListings, IsLogOf}

@@ -18,15 +18,15 @@ use Rattle.cep_rule.specs.Names.{AllDiffer}
 use Rattle.cep_rule.specs.Derivations.{ProofTree}
 use Rattle.cep_rule.specs.Shapes.{IsOfferOf, IsProofOf}
 use Rattle.cep_text.specs.Texts.{atom_text, offer_text, proof_text, IsTypedGround}
-use Rattle.cep_log.specs.declared.end_word.EndWord.{EndWord}
-use Rattle.cep_log.specs.declared.end_word.EndWord.TheVariants.{Quiet, Input, Turns, Offers, Typed, Atom, State}
+use Rattle.cep_lines.specs.declared.end_word.EndWord.{EndWord}
+use Rattle.cep_lines.specs.declared.end_word.EndWord.TheVariants.{Quiet, Input, Turns, Offers, Typed, Atom, State}
 use Rattle.cep_log.specs.declared.log.Log.{Log}
 use Rattle.cep_log.specs.declared.log.LogStep.{LogStep}
-use Rattle.cep_log.specs.declared.version.Version.{Version}
-use Rattle.cep_log.specs.declared.version.Version.TheVariants.{One, Two}
+use Rattle.cep_lines.specs.declared.version.Version.{Version}
+use Rattle.cep_lines.specs.declared.version.Version.TheVariants.{One, Two}
 use Rattle.cep_log.specs.declared.so_far.SoFar.{SoFar}
 use Rattle.cep_log.specs.declared.so_far.SoFar.TheVariants.{Nothing, Begun, Height, Whole, Within, Unlisted, Listed, Ended}
-use Rattle.cep_log.specs.Lines.{version_text, stage_name, ending_word}
+use Rattle.cep_lines.specs.Lines.{version_text, stage_name, ending_word}
 use Rattle.cep_log.specs.Transcript.{IsHaveLine, IsStageLine, IsStepLine, IsByLine, GoesOnListing, GoesOnStep, BeginsStep, BeginsNext, Becomes, MovesOn, Leads, log_begun, step_begun, end_begun, log_listed, with_step}
 use Rattle.cep_log.proofs.Parted.{HasNone, one_parting}
 

@@ -19,7 +19,7 @@ use Rattle.cep_rule.specs.Shapes.{IsOfferOf, IsProofOf, AreProofsOf}
 use Rattle.cep_rule.specs.Program.{IsProgram}
 use Rattle.cep_text.specs.Texts.{con_name, pred_name, offer_name, rule_vars, clause_vars, enclosed, term_text, args_text, atom_text, given_text, all_given_text, offer_text, begin_text, proof_text, proofs_text, IsTypedGround}
 use Rattle.cep_rule.specs.declared.parts.Stage.{Stage}
-use Rattle.cep_log.specs.Lines.{line, stage_name}
+use Rattle.cep_lines.specs.Lines.{line, stage_name}
 use Rattle.cep_log.specs.Transcript.{AreLines, IsOneLine}
 
 -- Bytes

@@ -21,7 +21,7 @@ use Rattle.cep_log.specs.declared.log.LogEnd.{LogEnd}
 use Rattle.cep_log.specs.declared.so_far.SoFar.{SoFar}
 use Rattle.cep_log.specs.declared.so_far.SoFar.TheVariants.{Whole, Listed, Ended}
 use Rattle.cep_log.specs.Legal.{IsHave, AtomsRise, IsListing}
-use Rattle.cep_log.specs.Lines.{have_text}
+use Rattle.cep_lines.specs.Lines.{have_text}
 use Rattle.cep_log.specs.Transcript.{IsPassedOver, IsBehind, GoesOnListing, Leads}
 
 -- The entries of a state that fits are a listing.

@@ -9,7 +9,7 @@ use Rattle.cep_rule.specs.declared.parts.Parts.{Parts}
 use Rattle.cep_rule.specs.declared.offer.Offer.{Offer}
 use Rattle.cep_rule.specs.Derivations.{ProofTree}
 use Rattle.cep_rule.specs.Shapes.{IsOfferOf, IsSmallTerm}
-use Rattle.cep_log.specs.Lines.{stage_text, step_text, by_text}
+use Rattle.cep_lines.specs.Lines.{stage_text, step_text, by_text}
 use Rattle.cep_text.specs.Texts.{offer_text, proof_text}
 use Rattle.cep_log.specs.declared.log.Log.{Log}
 use Rattle.cep_log.specs.declared.log.LogStep.{LogStep}

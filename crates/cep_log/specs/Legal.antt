@@ -15,9 +15,9 @@ use Rattle.cep_rule.specs.Derivations.{proof_height}
 use Rattle.cep_rule.specs.Stages.{IsQuiet}
 use Rattle.cep_rule.specs.Steps.{Spot, IsMachineStep}
 use Rattle.cep_text.specs.Texts.{IsTypedGround}
-use Rattle.cep_log.specs.declared.version.Version.{Version}
-use Rattle.cep_log.specs.Lines.{has_listing}
-use Rattle.cep_log.specs.declared.end_word.EndWord.TheVariants.{Quiet}
+use Rattle.cep_lines.specs.declared.version.Version.{Version}
+use Rattle.cep_lines.specs.Lines.{has_listing}
+use Rattle.cep_lines.specs.declared.end_word.EndWord.TheVariants.{Quiet}
 use Rattle.cep_log.specs.declared.log.Log.{Log}
 use Rattle.cep_log.specs.declared.log.LogStep.{LogStep}
 use Rattle.cep_log.specs.declared.log.LogEnd.{LogEnd}

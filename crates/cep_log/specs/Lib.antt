@@ -1,6 +1,6 @@
-pub mod Lines
 pub mod Codes
 pub mod Listed
 pub mod Legal
 pub mod Transcript
+pub mod Written
 pub mod Growing

@@ -13,9 +13,9 @@ use Rattle.cep_rule.specs.Limits.{IsHeight}
 use Rattle.cep_rule.specs.Derivations.{ProofTree, proof_height}
 use Rattle.cep_rule.specs.Shapes.{IsProofOf, HasSmallValues}
 use Rattle.cep_text.specs.Reads.{IsAtomText, IsOfferText, IsProofText}
-use Rattle.cep_log.specs.Lines.{version_text, height_text, stage_text, state_text, end_text, has_listing}
-use Rattle.cep_log.specs.declared.version.Version.{Version}
-use Rattle.cep_log.specs.declared.end_word.EndWord.{EndWord}
+use Rattle.cep_lines.specs.Lines.{version_text, height_text, stage_text, state_text, end_text, has_listing}
+use Rattle.cep_lines.specs.declared.version.Version.{Version}
+use Rattle.cep_lines.specs.declared.end_word.EndWord.{EndWord}
 use Rattle.cep_log.specs.declared.log.Log.{Log}
 use Rattle.cep_log.specs.declared.log.LogStep.{LogStep}
 use Rattle.cep_log.specs.declared.log.LogMid.{LogMid}

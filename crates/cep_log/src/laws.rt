@@ -1,6 +1,6 @@
 //! Laws of transcripts, for the crates that rest on them. Each function computes nothing, and its
 //! contract is the law.
-ghost use Rattle.std.specs.Prelude.{◌≡◌, ◌<◌, ◌+◌, ◌++◌, [], ◌∷◌, Some, ℕ, List, length, map, decimal, slice_get, None};
+ghost use Rattle.std.specs.Prelude.{◌≡◌, ◌≤◌, ◌<◌, ◌+◌, ◌++◌, [], ◌∷◌, Some, ℕ, List, length, map, decimal, slice_get, None};
 ghost use Rattle.std.specs.FinMap as finite;
 ghost use Rattle.std.specs.List.{AllByRecursion, flat_map};
 ghost use Rattle.cep_term.specs.Tree.{AtomTree};
@@ -9,7 +9,7 @@ ghost use Rattle.cep_rule.specs.declared.offer.Offer.{Offer};
 ghost use Rattle.cep_rule.specs.Derivations.{ProofTree};
 ghost use Rattle.cep_rule.specs.Shapes.{IsOfferOf, IsProofOf, IsSmallTerm};
 ghost use Rattle.cep_text.specs.Texts.{atom_text, offer_text, proof_text, IsTypedGround};
-ghost use Rattle.cep_log.specs.Lines.{line, stage_name, have_line, have_text, step_text, by_text};
+ghost use Rattle.cep_lines.specs.Lines.{line, stage_name, have_line, have_text, step_text, by_text};
 ghost use Rattle.cep_term.specs.Multiset.{Multiset};
 ghost use Rattle.cep_rule.specs.declared.signature.Signature.{Signature};
 ghost use Rattle.cep_rule.specs.State.{IsState, Fits};
@@ -21,10 +21,13 @@ ghost use Rattle.cep_log.specs.declared.log.LogMid.{LogMid};
 ghost use Rattle.cep_log.specs.declared.log.LogEnd.{LogEnd};
 ghost use Rattle.cep_log.specs.declared.so_far.SoFar.{SoFar};
 ghost use Rattle.cep_log.specs.declared.so_far.SoFar.TheVariants.{Whole, Listed, Ended};
-ghost use Rattle.cep_log.specs.Legal.{IsListing};
+ghost use Rattle.cep_log.specs.Legal.{IsListing, IsLegal};
+ghost use Rattle.cep_log.specs.Written.{text_of, TellLog, SayTheSame, TellTheSame};
+ghost use Rattle.cep_base.specs.declared.limits.TheConstants.{MOST_LOG};
 ghost use Rattle.cep_log.specs.declared.fault.LogFault.{LogFault};
 ghost use Rattle.cep_log.specs.Transcript.{AreLines, IsOneLine, IsReadable, stage_texts, Leads, with_own, HasLog, HasMisfit};
 
+use cep_rule::laws::{derivations_have_shape, values_are_small};
 use cep_term::laws::bags_are_lawful;
 use cep_text::laws::one_value;
 
@@ -96,3 +99,27 @@ pub fn steps_are_read_as_written()
         → Leads program number (step_text program offer ∷ (map (by_text program) proofs ++ stage_texts program rule.next)) (Whole log)
         (with_own log (record { line = number; offer = offer; proofs = proofs; stage = rule.next; mid = None })) }
 {}
+
+/// A legal log that is written line by line, with remarks between its steps or none, is read as a log
+/// that says the same and is legal: only the numbers of its lines differ. Lines are no more than
+/// bytes, and steps no more than lines. Logs that say the same in one version have one text.
+pub fn logs_are_read_as_written()
+    ensures read { (program : Parts) (log : Log) (lines : List (List ℕ))
+        → IsProgram program
+        → IsLegal program log
+        → TellLog program lines log
+        → length (flat_map line lines) ≤ MOST_LOG
+        → (read : Log) × HasLog program (flat_map line lines) read × IsLegal program read × (read.version ≡ log.version) × TellTheSame SayTheSame log read }
+    ensures few { (lines : List (List ℕ)) → length lines ≤ length (flat_map line lines) }
+    ensures long { (program : Parts) (log : Log) (lines : List (List ℕ)) → TellLog program lines log → length log.steps ≤ length lines }
+    ensures text { (program : Parts) (one other : Log)
+        → one.version ≡ other.version
+        → TellTheSame SayTheSame one other
+        → text_of program one ≡ text_of program other }
+{
+    steps_are_read_as_written();
+    listings_are_read_as_written();
+    lines_are_read_as_written();
+    derivations_have_shape();
+    values_are_small();
+}

@@ -1,8 +1,7 @@
-use crate::end_word::EndWord;
 use crate::listing::Haves;
 use crate::proofs::Proofs;
-use crate::version::Version;
 use cep_base::List;
+use cep_lines::{EndWord, Version};
 use cep_rule::Offer;
 
 /// The content of a transcript: its header, the start state as it is listed, the steps, and how it

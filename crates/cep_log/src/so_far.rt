@@ -1,5 +1,5 @@
 use crate::log::{Log, LogEnd, LogMid, LogStep};
-use crate::version::Version;
+use cep_lines::Version;
 
 /// What a front of a transcript's lines says, by what may stand next.
 #[derive(Debug, Drop)]

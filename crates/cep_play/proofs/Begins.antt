@@ -16,7 +16,7 @@ use Rattle.cep_refusal.specs.declared.refusal.Refusal.{Refusal}
 use Rattle.cep_refusal.specs.declared.fault.Fault.{Fault}
 use Rattle.cep_ground.specs.Texts.{Spells}
 use Rattle.cep_ground.specs.Refusals.{IsWrong, IsAccepted}
-use Rattle.cep_log.specs.Lines.{line}
+use Rattle.cep_lines.specs.Lines.{line}
 use Rattle.cep_words.specs.declared.options.Options.{Options}
 use Rattle.cep_words.specs.Words.{Request, Play, Check, World, AskFor, HaveNoForm}
 use Rattle.cep_run.specs.Fronts.{heard_bytes}

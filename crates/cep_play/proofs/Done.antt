@@ -12,9 +12,9 @@ use Rattle.cep_base.specs.Faults.{Rose}
 use Rattle.cep_base.specs.Talk.{outs}
 use Rattle.cep_base.proofs.Did.{did_put, did_map}
 use Rattle.cep_rule.specs.declared.parts.Parts.{Parts}
-use Rattle.cep_log.specs.declared.end_word.EndWord.{EndWord}
-use Rattle.cep_log.specs.declared.end_word.EndWord.TheVariants.{Quiet, Input, Turns, Offers, Typed, Atom, State}
-use Rattle.cep_log.specs.Lines.{line}
+use Rattle.cep_lines.specs.declared.end_word.EndWord.{EndWord}
+use Rattle.cep_lines.specs.declared.end_word.EndWord.TheVariants.{Quiet, Input, Turns, Offers, Typed, Atom, State}
+use Rattle.cep_lines.specs.Lines.{line}
 use Rattle.cep_words.specs.declared.options.Options.{Options}
 use Rattle.cep_words.specs.Words.{Request, Play, Check, World, AskFor, HaveNoForm}
 use Rattle.cep_term.specs.Multiset.{copies_in}

@@ -15,7 +15,7 @@ use Rattle.cep_ground.specs.Refusals.{IsWrong, IsAccepted}
 use Rattle.cep_log.specs.declared.log.Log.{Log}
 use Rattle.cep_log.specs.declared.fault.LogFault.{LogFault}
 use Rattle.cep_log.specs.Legal.{IsLegal}
-use Rattle.cep_log.specs.Lines.{line}
+use Rattle.cep_lines.specs.Lines.{line}
 use Rattle.cep_log.specs.Transcript.{HasLog, HasMisfit}
 use Rattle.cep_check.specs.declared.cause.Cause.{Cause}
 use Rattle.cep_check.specs.declared.cause.Verdict.{Verdict}

@@ -14,7 +14,7 @@ use Rattle.cep_refusal.specs.declared.refusal.Refusal.{Refusal}
 use Rattle.cep_refusal.specs.Told.{Tells}
 use Rattle.cep_ground.specs.Texts.{Spells}
 use Rattle.cep_ground.specs.Refusals.{IsRefusedFor}
-use Rattle.cep_log.specs.Lines.{line}
+use Rattle.cep_lines.specs.Lines.{line}
 use Rattle.cep_check.specs.declared.cause.Verdict.{Verdict}
 use Rattle.cep_check.specs.declared.cause.Verdict.TheVariants as verdicts
 use Rattle.cep_world.specs.World.{world}

@@ -9,9 +9,9 @@ use Rattle.cep_refusal.specs.declared.refusal.Refusal.{Refusal}
 use Rattle.cep_refusal.specs.Told.{Tells}
 use Rattle.cep_ground.specs.Texts.{Spells}
 use Rattle.cep_ground.specs.Refusals.{IsRefusedFor}
-use Rattle.cep_log.specs.declared.end_word.EndWord.{EndWord}
-use Rattle.cep_log.specs.declared.end_word.EndWord.TheVariants.{Quiet, Input, Turns, Offers, Typed, Atom, State}
-use Rattle.cep_log.specs.Lines.{line}
+use Rattle.cep_lines.specs.declared.end_word.EndWord.{EndWord}
+use Rattle.cep_lines.specs.declared.end_word.EndWord.TheVariants.{Quiet, Input, Turns, Offers, Typed, Atom, State}
+use Rattle.cep_lines.specs.Lines.{line}
 use Rattle.cep_play.specs.Command.{IsSpelledBy, refusal_text}
 
 -- what the shelf has, where that is told, and what is to be typed

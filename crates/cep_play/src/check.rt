@@ -4,7 +4,7 @@ ghost use Rattle.cep_base.specs.declared.limits.TheConstants.{MOST_LOG};
 ghost use Rattle.cep_base.specs.Faults.{Rose};
 ghost use Rattle.cep_base.specs.Talk.{ConsoleCause};
 ghost use Rattle.cep_log.specs.Legal.{IsLogOf};
-ghost use Rattle.cep_log.specs.Lines.{line};
+ghost use Rattle.cep_lines.specs.Lines.{line};
 ghost use Rattle.cep_check.specs.declared.cause.Verdict.{Verdict};
 ghost use Rattle.cep_check.specs.Causes.{IsVerdict};
 ghost use Rattle.cep_check.specs.Telling.{verdict_text};

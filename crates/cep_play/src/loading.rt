@@ -3,7 +3,7 @@ ghost use Rattle.std.specs.Prelude.{◌≡◌, ◌++◌, IfOk, IfErr, IsErrOf, O
 ghost use Rattle.cep_base.specs.declared.console.ConsoleFault.TheVariants.{Failed};
 ghost use Rattle.cep_base.specs.Faults.{Rose};
 ghost use Rattle.cep_base.specs.Talk.{ConsoleCause};
-ghost use Rattle.cep_log.specs.Lines.{line};
+ghost use Rattle.cep_lines.specs.Lines.{line};
 ghost use Rattle.cep_play.specs.declared.loading.NoProgram.TheVariants.{Refused};
 ghost use Rattle.cep_play.specs.Command.{IsProgramText, IsSpelledBy, refusal_text};
 ghost use Rattle.cep_play.specs.Outcome.{Wrote, Refuses, IsProgramIn, NoneIsRead, HasNoProgram, code_without, CountsBy, AsksFile};

@@ -2,7 +2,7 @@
 ghost use Rattle.std.specs.Prelude.{◌≡◌, ◌≤◌, IfOk, IfErr, OnErr};
 ghost use Rattle.cep_base.specs.Faults.{Rose};
 ghost use Rattle.cep_base.specs.Talk.{ConsoleCause};
-ghost use Rattle.cep_log.specs.declared.end_word.EndWord.{EndWord};
+ghost use Rattle.cep_lines.specs.declared.end_word.EndWord.{EndWord};
 ghost use Rattle.cep_words.specs.Words.{AreWithin};
 ghost use Rattle.cep_run.specs.Fronts.{FellShort};
 ghost use Rattle.cep_run.specs.Said.{Says, IsSomeSaid};
@@ -15,7 +15,7 @@ ghost use Rattle.cep_play.specs.CutShort.{InVain, BeginsPlay};
 use crate::loading::{NoProgram, program_in};
 use crate::settings::settings_of;
 use cep_base::{Console, ConsoleFault, Shelf, Steps};
-use cep_log::EndWord;
+use cep_lines::EndWord;
 use cep_net::Net;
 use cep_rule::Program;
 use cep_run::play;

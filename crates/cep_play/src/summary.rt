@@ -1,10 +1,10 @@
 // The lines that sum up the run of a generated world.
 ghost use Rattle.std.specs.Prelude.{◌≡◌, ◌++◌, codes, OnOk};
-ghost use Rattle.cep_log.specs.Lines.{line, ending_word};
+ghost use Rattle.cep_lines.specs.Lines.{line, ending_word};
 ghost use Rattle.cep_play.specs.World.{count_line, summary};
 
 use cep_base::Text;
-use cep_log::EndWord;
+use cep_lines::EndWord;
 use cep_run::Tally;
 use std::alloc::AllocError;
 

@@ -16,7 +16,7 @@ use Rattle.cep_rule.specs.Offers.{IsOffer}
 use Rattle.cep_rule.specs.Shapes.{IsOfferOf}
 use Rattle.cep_rule.specs.Program.{IsProgram}
 use Rattle.cep_text.specs.Texts.{offer_text}
-use Rattle.cep_log.specs.Lines.{line, offer_line, offer_lines, question}
+use Rattle.cep_lines.specs.Lines.{line, offer_line, offer_lines, question}
 use Rattle.cep_log.specs.Transcript.{IsPassedOver, IsOneLine}
 use Rattle.cep_run.specs.declared.choice.Choice.{Choice}
 use Rattle.cep_run.specs.declared.settings.Settings.{Settings}

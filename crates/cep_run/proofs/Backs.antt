@@ -23,7 +23,7 @@ use Rattle.cep_rule.specs.Offers.{Applies}
 use Rattle.cep_rule.specs.Program.{IsProgram}
 use Rattle.cep_rule.specs.Steps.{AreProofs}
 use Rattle.cep_prove.specs.Answers.{has_value, IsGoal, IsAnswer, AreAnswers, IsLowestProof}
-use Rattle.cep_log.specs.Lines.{by_line, by_lines}
+use Rattle.cep_lines.specs.Lines.{by_line, by_lines}
 use Rattle.cep_run.specs.Turn.{AddsProof, AddsProofs}
 
 -- Values that are given

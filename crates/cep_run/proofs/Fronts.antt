@@ -12,7 +12,7 @@ use Rattle.cep_rule.specs.declared.parts.Parts.{Parts}
 use Rattle.cep_rule.specs.declared.offer.Offer.{Offer}
 use Rattle.cep_choice.specs.Draws.{generator_behind, place_drawn}
 use Rattle.cep_choice.specs.TypedLine.{Cut, Ended, Last, Nothing, Full, ReadsLine, IsLine, IsCutShort}
-use Rattle.cep_log.specs.Lines.{question, offer_lines}
+use Rattle.cep_lines.specs.Lines.{question, offer_lines}
 use Rattle.cep_run.specs.declared.choice.Choice.TheVariants.{Place, NoMore, NoRoom}
 use Rattle.cep_run.specs.declared.deciding.Spent.{Spent}
 use Rattle.cep_run.specs.Choice.{room_after, no_line, Hears, chosen, again, no_more, no_room}

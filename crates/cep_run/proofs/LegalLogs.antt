@@ -22,8 +22,8 @@ use Rattle.cep_log.specs.declared.log.LogStep.{LogStep}
 use Rattle.cep_log.specs.declared.log.LogMid.{LogMid}
 use Rattle.cep_log.specs.declared.log.LogEnd.{LogEnd}
 use Rattle.cep_log.specs.Legal.{IsListing, IsStepOf, AreLegalSteps, start_spot, IsLegalEnd, IsLegal}
-use Rattle.cep_log.specs.declared.end_word.EndWord.{EndWord}
-use Rattle.cep_log.specs.declared.end_word.EndWord.TheVariants.{Quiet}
+use Rattle.cep_lines.specs.declared.end_word.EndWord.{EndWord}
+use Rattle.cep_lines.specs.declared.end_word.EndWord.TheVariants.{Quiet}
 use Rattle.cep_run.specs.Deeds.{Position, start_of, Deed, IsDeed, AreDeeds}
 use Rattle.cep_run.specs.Logs.{HoldsDeed, HoldsEnd, HoldsDeeds}
 use Rattle.cep_run.proofs.StepThere.{LeadToStates}

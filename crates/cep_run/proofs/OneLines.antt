@@ -21,7 +21,7 @@ use Rattle.cep_log.specs.declared.log.Log.{Log}
 use Rattle.cep_log.specs.declared.log.LogEnd.{LogEnd}
 use Rattle.cep_log.specs.declared.so_far.SoFar.{SoFar}
 use Rattle.cep_log.specs.declared.so_far.SoFar.TheVariants as front
-use Rattle.cep_log.specs.Lines.{line, have_line, stage_name, have_text, step_text, by_text}
+use Rattle.cep_lines.specs.Lines.{line, have_line, stage_name, have_text, step_text, by_text}
 use Rattle.cep_log.specs.Legal.{IsListing}
 use Rattle.cep_log.specs.Transcript.{AreLines, IsOneLine, Leads, IsReadable, stage_texts, with_own}
 

@@ -6,7 +6,7 @@ use Rattle.cep_base.proofs.Lists.{holds_at}
 use Rattle.cep_rule.specs.declared.parts.Parts.{Parts}
 use Rattle.cep_rule.specs.State.{IsState}
 use Rattle.cep_rule.specs.Program.{IsTypedRule, IsDividedRule, IsProgram}
-use Rattle.cep_log.specs.Lines.{step_lines, end_lines}
+use Rattle.cep_lines.specs.Lines.{step_lines, end_lines}
 use Rattle.cep_run.specs.declared.choice.Choice.{Choice}
 use Rattle.cep_run.specs.declared.settings.Settings.{Settings}
 use Rattle.cep_run.specs.Choice.{IsChoiceWithin}

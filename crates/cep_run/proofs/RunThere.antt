@@ -19,8 +19,8 @@ use Rattle.cep_rule.specs.Matching.{state_after}
 use Rattle.cep_rule.specs.Program.{IsTypedRule, IsDividedRule, IsProgram}
 use Rattle.cep_run.specs.declared.choice.Choice.{Choice}
 use Rattle.cep_run.specs.declared.choice.Choice.TheVariants.{Place, NoMore, NoRoom}
-use Rattle.cep_log.specs.declared.end_word.EndWord.{EndWord}
-use Rattle.cep_log.specs.declared.end_word.EndWord.TheVariants.{Quiet, Input, Turns, Offers, Typed, Atom, State}
+use Rattle.cep_lines.specs.declared.end_word.EndWord.{EndWord}
+use Rattle.cep_lines.specs.declared.end_word.EndWord.TheVariants.{Quiet, Input, Turns, Offers, Typed, Atom, State}
 use Rattle.cep_run.specs.declared.settings.Settings.{Settings}
 use Rattle.cep_run.specs.Choice.{IsChoiceWithin}
 use Rattle.cep_run.specs.Deciding.{Supply}

@@ -9,11 +9,11 @@ use Rattle.cep_machine.specs.Configuration.{Configuration}
 use Rattle.cep_rule.specs.declared.parts.Parts.{Parts}
 use Rattle.cep_rule.specs.declared.offer.Offer.{Offer}
 use Rattle.cep_rule.specs.Stages.{IsAsked, IsQuiet}
-use Rattle.cep_log.specs.declared.end_word.EndWord.{EndWord}
-use Rattle.cep_log.specs.declared.end_word.EndWord.TheVariants.{Quiet, Turns}
+use Rattle.cep_lines.specs.declared.end_word.EndWord.{EndWord}
+use Rattle.cep_lines.specs.declared.end_word.EndWord.TheVariants.{Quiet, Turns}
 use Rattle.cep_run.specs.declared.settings.Settings.{Settings}
 use Rattle.cep_run.specs.Deciding.{Supply}
-use Rattle.cep_log.specs.Lines.{end_lines, header}
+use Rattle.cep_lines.specs.Lines.{end_lines, header}
 use Rattle.cep_run.specs.Deeds.{Position, Deed, start_of}
 use Rattle.cep_run.specs.Run.{whole_supply, Turn, Ending, IsTurn, AreTurns, deeds_of, offers_listed, EndsAt, Run}
 use Rattle.cep_run.specs.Dialogue.{turn_events, last_events, events_of, Dialogue}

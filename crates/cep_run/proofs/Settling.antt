@@ -14,7 +14,7 @@ use Rattle.cep_run.specs.declared.choice.Choice.TheVariants.{Place}
 use Rattle.cep_run.specs.declared.deciding.Spent.{Spent}
 use Rattle.cep_run.specs.Choice.{Hears}
 use Rattle.cep_run.specs.Deciding.{Heard, Lone, Drawn, IsPlayers}
-use Rattle.cep_log.specs.Lines.{question, offer_lines}
+use Rattle.cep_lines.specs.Lines.{question, offer_lines}
 use Rattle.cep_run.specs.Turn.{AsksPlayer, HasSpent, Settles, supply_with}
 
 -- the text of the offers and the question was put, and then a choice was heard

@@ -11,7 +11,7 @@ use Rattle.cep_rule.specs.Offers.{Applies}
 use Rattle.cep_rule.specs.Program.{IsProgram}
 use Rattle.cep_rule.specs.Shapes.{IsOfferOf}
 use Rattle.cep_rule.specs.Typing.{AreValues}
-use Rattle.cep_log.specs.Lines.{step_line, by_lines, next_line, step_lines}
+use Rattle.cep_lines.specs.Lines.{step_line, by_lines, next_line, step_lines}
 use Rattle.cep_run.specs.Turn.{AddsProofs, TellsStep}
 
 -- an offer that applies has a text

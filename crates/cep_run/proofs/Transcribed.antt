@@ -32,11 +32,11 @@ use Rattle.cep_log.specs.declared.log.LogStep.{LogStep}
 use Rattle.cep_log.specs.declared.log.LogEnd.{LogEnd}
 use Rattle.cep_log.specs.declared.so_far.SoFar.{SoFar}
 use Rattle.cep_log.specs.declared.so_far.SoFar.TheVariants as front
-use Rattle.cep_log.specs.declared.version.Version.{Version}
-use Rattle.cep_log.specs.declared.version.Version.TheVariants as version
-use Rattle.cep_log.specs.declared.end_word.EndWord.{EndWord}
-use Rattle.cep_log.specs.declared.end_word.EndWord.TheVariants as end_word
-use Rattle.cep_log.specs.Lines.{line, has_listing, have_text, have_line, listing, stage_name, stage_line, next_line, step_text, step_line, by_text, by_line, by_lines, step_lines, ending_word, end_lines, header}
+use Rattle.cep_lines.specs.declared.version.Version.{Version}
+use Rattle.cep_lines.specs.declared.version.Version.TheVariants as version
+use Rattle.cep_lines.specs.declared.end_word.EndWord.{EndWord}
+use Rattle.cep_lines.specs.declared.end_word.EndWord.TheVariants as end_word
+use Rattle.cep_lines.specs.Lines.{line, has_listing, have_text, have_line, listing, stage_name, stage_line, next_line, step_text, step_line, by_text, by_line, by_lines, step_lines, ending_word, end_lines, header}
 use Rattle.cep_log.specs.Legal.{IsHave, IsListing, HaveListings, IsLegal}
 use Rattle.cep_log.specs.Transcript.{IsOneLine, IsReadable, stage_texts, AreLines, IsPassedOver, log_begun, end_begun, next_number, log_with, with_own, MovesOn, Leads, HasLog}
 use Rattle.cep_run.specs.declared.settings.Settings.{Settings}

@@ -11,8 +11,8 @@ use Rattle.cep_rule.specs.Offers.{IsOffer}
 use Rattle.cep_rule.specs.Typing.{AreValues}
 use Rattle.cep_rule.specs.Stages.{IsAsked, IsQuiet, HasOffer, own_group, leaving_group}
 use Rattle.cep_rule.specs.Steps.{Spot, StepsTo, AreProofs, IsMachineStep}
-use Rattle.cep_log.specs.declared.end_word.EndWord.{EndWord}
-use Rattle.cep_log.specs.declared.end_word.EndWord.TheVariants.{Quiet, Input, Typed, Turns}
+use Rattle.cep_lines.specs.declared.end_word.EndWord.{EndWord}
+use Rattle.cep_lines.specs.declared.end_word.EndWord.TheVariants.{Quiet, Input, Typed, Turns}
 use Rattle.cep_run.specs.declared.choice.Choice.{Choice}
 use Rattle.cep_run.specs.declared.choice.Choice.TheVariants.{Place, NoMore, NoRoom}
 use Rattle.cep_run.specs.declared.settings.Settings.{Settings}

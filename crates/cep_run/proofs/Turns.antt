@@ -32,14 +32,14 @@ use Rattle.cep_machine.specs.declared.stepped.Stepped.TheVariants as stepping
 use Rattle.cep_machine.specs.Stepping.{IsAskedAt, IsNext, Passes, IsStepped, RoseIfDone}
 use Rattle.cep_run.specs.declared.choice.Choice.{Choice}
 use Rattle.cep_run.specs.declared.choice.Choice.TheVariants.{Place, NoMore, NoRoom}
-use Rattle.cep_log.specs.declared.end_word.EndWord.{EndWord}
-use Rattle.cep_log.specs.declared.end_word.EndWord.TheVariants.{Quiet, Offers, Input, Typed}
+use Rattle.cep_lines.specs.declared.end_word.EndWord.{EndWord}
+use Rattle.cep_lines.specs.declared.end_word.EndWord.TheVariants.{Quiet, Offers, Input, Typed}
 use Rattle.cep_run.specs.declared.settings.Settings.{Settings}
 use Rattle.cep_run.specs.declared.turn.Turned.{Turned}
 use Rattle.cep_run.specs.declared.turn.Turned.TheVariants.{Done, Over}
 use Rattle.cep_run.specs.declared.deciding.Spent.{Spent}
 use Rattle.cep_run.specs.Deciding.{Supply, How}
-use Rattle.cep_log.specs.Lines.{step_lines}
+use Rattle.cep_lines.specs.Lines.{step_lines}
 use Rattle.cep_run.specs.Deeds.{Position, Deed, PassesLimit}
 use Rattle.cep_run.specs.Costs.{Edits, IsStepCost, IsDeedCost}
 use Rattle.cep_run.specs.Run.{Question, Turn, IsQuestion, IsChosen, IsTurn, LeadsNowhere}

@@ -7,8 +7,8 @@ use Rattle.cep_base.specs.Talk.{outs, ins}
 use Rattle.cep_rule.specs.declared.parts.Parts.{Parts}
 use Rattle.cep_rule.specs.declared.offer.Offer.{Offer}
 use Rattle.cep_choice.specs.TypedLine.{Cut, Ended, Last, Nothing, Full, ReadsLine}
-use Rattle.cep_log.specs.declared.end_word.EndWord.{EndWord}
-use Rattle.cep_log.specs.Lines.{question, step_lines, offer_lines}
+use Rattle.cep_lines.specs.declared.end_word.EndWord.{EndWord}
+use Rattle.cep_lines.specs.Lines.{question, step_lines, offer_lines}
 use Rattle.cep_run.specs.declared.choice.Choice.{Choice}
 use Rattle.cep_run.specs.declared.deciding.Spent.{Spent}
 use Rattle.cep_run.specs.declared.settings.Settings.{Settings}

@@ -9,7 +9,7 @@ use Rattle.cep_run.specs.declared.settings.Settings.{Settings}
 use Rattle.cep_run.specs.Deciding.{Supply, How, Heard, Lone, Drawn}
 use Rattle.cep_run.specs.Deeds.{start_of}
 use Rattle.cep_run.specs.Run.{whole_supply, Question, Turn, Ending, Run}
-use Rattle.cep_log.specs.Lines.{offer_lines, question, step_lines, end_lines, header}
+use Rattle.cep_lines.specs.Lines.{offer_lines, question, step_lines, end_lines, header}
 
 -- the events of a question: its offers, and where the player decides the line that asks for a choice, and what was heard
 abbrev pub asked_events : Parts → List Offer → How → List Event

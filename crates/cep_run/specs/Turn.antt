@@ -17,15 +17,15 @@ use Rattle.cep_machine.specs.declared.stepped.Which.{Which}
 use Rattle.cep_machine.specs.declared.stepped.Which.TheVariants as which
 use Rattle.cep_machine.specs.Configuration.{Configuration, spot_of, IsConfigurationOf}
 use Rattle.cep_run.specs.declared.choice.Choice.{Choice}
-use Rattle.cep_log.specs.declared.end_word.EndWord.{EndWord}
-use Rattle.cep_log.specs.declared.end_word.EndWord.TheVariants.{Atom, State}
+use Rattle.cep_lines.specs.declared.end_word.EndWord.{EndWord}
+use Rattle.cep_lines.specs.declared.end_word.EndWord.TheVariants.{Atom, State}
 use Rattle.cep_run.specs.declared.settings.Settings.{Settings}
 use Rattle.cep_run.specs.declared.turn.Turned.{Turned}
 use Rattle.cep_run.specs.declared.turn.Turned.TheVariants.{Done, Over}
 use Rattle.cep_run.specs.Choice.{Hears}
 use Rattle.cep_run.specs.declared.deciding.Spent.{Spent}
 use Rattle.cep_run.specs.Deciding.{Supply, How, Decides}
-use Rattle.cep_log.specs.Lines.{question, step_lines, by_line, by_lines}
+use Rattle.cep_lines.specs.Lines.{question, step_lines, by_line, by_lines}
 use Rattle.cep_rule.specs.Matching.{RoseBy}
 use Rattle.cep_run.specs.Deeds.{Position, Deed, PassesLimit}
 use Rattle.cep_run.specs.Costs.{Edits, IsStepCost, IsDeedCost}

@@ -13,7 +13,7 @@ ghost use Rattle.cep_prove.specs.Answers.{IsGoal};
 ghost use Rattle.cep_run.specs.Turn.{AddsProof, TellsStep};
 
 use cep_base::{Steps, Text};
-use cep_log::{put_by, put_next, put_step};
+use cep_lines::{put_by, put_next, put_step};
 use cep_prove::answers;
 use cep_rule::laws::{derivations_have_shape, more_positions_known_are_no_worse, types_are_lawful};
 use cep_rule::{Offer, Program};

@@ -1,4 +1,4 @@
-use cep_log::EndWord;
+use cep_lines::EndWord;
 
 /// What a run came to.
 #[derive(Clone, Copy, Debug, PartialEq, Eq)]

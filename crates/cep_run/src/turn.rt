@@ -18,7 +18,7 @@ use crate::laws::runs_go_on;
 use crate::proving::put_step_lines;
 use crate::settings::Settings;
 use cep_base::{Console, ConsoleFault, Steps, Text};
-use cep_log::EndWord;
+use cep_lines::EndWord;
 use cep_machine::{Config, Stepped, Which};
 use cep_rule::{Matcher, Program};
 use std::alloc::Global;

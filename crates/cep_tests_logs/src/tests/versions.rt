@@ -1,7 +1,7 @@
 // Transcripts of version 2, which list the state after each hundredth step.
 use crate::tests::changes::{expect_changes, expect_no_front, expect_whole, program_of};
 use cep_base::Text;
-use cep_log::put_mid;
+use cep_lines::put_mid;
 use std::alloc::{AllocError, Global};
 use std::process::Abort;
 use std::test::Fail;

@@ -1,5 +1,5 @@
 use Rattle.std.proofs.Common.{refl}
-use Rattle.cep_log.specs.Lines.{have_line}
+use Rattle.cep_lines.specs.Lines.{have_line}
 use Rattle.cep_log.proofs.WrittenListings.{state_listing, start_read, mid_read, end_read, ways_join}
 use Rattle.cep_log.proofs.laws.listings_are_read_as_written.Goals as goal
 

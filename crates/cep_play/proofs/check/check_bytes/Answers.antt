@@ -1,6 +1,6 @@
 use Rattle.std.proofs.Common.{◌++◌, inr, refl, ap, ◌∙◌}
 use Rattle.std.proofs.lemmas.Result.{err_from_is_err_and}
-use Rattle.cep_log.specs.Lines.{line}
+use Rattle.cep_lines.specs.Lines.{line}
 use Rattle.cep_play.proofs.Begins.{raised, begun_in_vain, front_written}
 use Rattle.cep_play.proofs.check.check_bytes.Goals as goal
 

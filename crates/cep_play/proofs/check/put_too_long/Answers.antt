@@ -1,6 +1,6 @@
 use Rattle.std.proofs.Common.{refl}
 use Rattle.std.proofs.lemmas.Result.{on_err_weaker}
-use Rattle.cep_log.specs.Lines.{line}
+use Rattle.cep_lines.specs.Lines.{line}
 use Rattle.cep_play.specs.Check.{too_long_text}
 use Rattle.cep_play.proofs.Begins.{front_written}
 use Rattle.cep_play.proofs.check.put_too_long.Goals as goal

@@ -1,7 +1,7 @@
 use Rattle.std.proofs.Common.{◌++◌, ap, ◌∙◌}
 use Rattle.std.proofs.lemmas.Result.{on_err_weaker}
 use Rattle.cep_base.proofs.Outcomes.{on_err}
-use Rattle.cep_log.specs.Lines.{line}
+use Rattle.cep_lines.specs.Lines.{line}
 use Rattle.cep_play.specs.Command.{refusal_text}
 use Rattle.cep_play.proofs.Begins.{nothing_written, front_written}
 use Rattle.cep_play.proofs.loading.refuse.Goals as goal

@@ -1,7 +1,7 @@
 use Rattle.std.proofs.lemmas.Result.{IfOk-weaker, on_err_weaker}
 use Rattle.std.proofs.Common.{◌++◌, ap, ◌∙◌}
 use Rattle.cep_rule.specs.Matching.{offers_of}
-use Rattle.cep_log.specs.Lines.{question}
+use Rattle.cep_lines.specs.Lines.{question}
 use Rattle.cep_base.proofs.Did.{did_put, did_then, did_map}
 use Rattle.cep_base.proofs.Outcomes.{on_err}
 use Rattle.cep_run.proofs.Fronts.{asks_on, hears_behind, did_part, did_nothing}

@@ -3,7 +3,7 @@ use Rattle.std.proofs.lemmas.Result.{IfOk-weaker, on_err_weaker}
 use Rattle.cep_rule.specs.Matching.{offers_of}
 use Rattle.cep_base.proofs.Did.{did_map}
 use Rattle.cep_base.proofs.Outcomes.{on_err}
-use Rattle.cep_log.specs.Lines.{offer_lines}
+use Rattle.cep_lines.specs.Lines.{offer_lines}
 use Rattle.cep_run.proofs.Fronts.{player_on, unasked_on}
 use Rattle.cep_run.proofs.Unheard.{put_left}
 use Rattle.cep_run.proofs.Settling.{player_settles, unasked_settles, player_spends, unasked_spends, count_seen, same_players, no_players}

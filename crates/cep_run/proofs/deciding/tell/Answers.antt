@@ -2,7 +2,7 @@ use Rattle.std.proofs.Common.{◌≡◌, ◌++◌, ap, ◌∙◌, subst}
 use Rattle.std.proofs.lemmas.Result.{on_ok_weaker, on_err_weaker}
 use Rattle.cep_base.specs.Talk.{outs, Did}
 use Rattle.cep_rule.specs.Matching.{offers_of}
-use Rattle.cep_log.specs.Lines.{offer_lines}
+use Rattle.cep_lines.specs.Lines.{offer_lines}
 use Rattle.cep_base.proofs.Did.{did_put}
 use Rattle.cep_base.proofs.Outcomes.{on_err}
 use Rattle.cep_run.proofs.Fronts.{did_part, did_nothing}

@@ -1,4 +1,4 @@
-use Rattle.cep_log.specs.Lines.{end_lines}
+use Rattle.cep_lines.specs.Lines.{end_lines}
 use Rattle.cep_base.proofs.Outcomes.{on_err}
 use Rattle.cep_run.proofs.Fronts.{did_nothing}
 use Rattle.cep_run.proofs.dialogue.finish.Goals as goal

@@ -1,7 +1,7 @@
 use Rattle.std.proofs.Common.{◌≡◌, ◌++◌, List, refl, sym, ap, ◌∙◌, subst}
 use Rattle.cep_base.specs.Talk.{outs, Did}
 use Rattle.cep_term.specs.Multiset.{copies_in}
-use Rattle.cep_log.specs.Lines.{end_lines, header}
+use Rattle.cep_lines.specs.Lines.{end_lines, header}
 use Rattle.cep_run.specs.Fronts.{BeginsSome, LeavesUnheard}
 use Rattle.cep_run.specs.Said.{IsSomeSaid}
 use Rattle.cep_run.specs.Begun.{PutsFront}

@@ -5,8 +5,8 @@ use Rattle.std.specs.List.{flat_map}
 use Rattle.std.proofs.lemmas.List.{drop_all}
 use Rattle.std.proofs.lemmas.List.Concat.{flat_map-cons}
 use Rattle.cep_rule.specs.declared.parts.Parts.{Parts}
-use Rattle.cep_log.specs.Lines.{stage_line, listing, header}
-use Rattle.cep_log.proofs.Adding.{IsAdding, adding_none, adding_next}
+use Rattle.cep_lines.specs.Lines.{stage_line, listing, header}
+use Rattle.cep_lines.proofs.Adding.{IsAdding, adding_none, adding_next}
 
 none_some : {A B : Type 0} (x : A) → ◌≡◌ {A = Option A} None (Some x) → B
 none_some x e = cc
@@ -33,20 +33,20 @@ module _ (program : Parts) (height : ℕ) where
   abbrev pub lines_behind : List ℕ
   lines_behind = stage_line program program.start_stage ++ listing program.signature program.start
 
-  header_is : codes "ceptre 1\nheight " ++ (decimal height ++ (10 ∷ [] ++ lines_behind)) ≡ header program height
+  header_is : codes "ceptre 2\nheight " ++ (decimal height ++ (10 ∷ [] ++ lines_behind)) ≡ header program height
   unfolding header
   header_is = rw (append_assoc (decimal height) (10 ∷ [])) refl
 
-  pub header_opened : (out one : List ℕ) → one ≡ out ++ codes "ceptre 1\nheight " → IsAdding out (header program height) one (decimal height ++ (10 ∷ [] ++ lines_behind))
-  header_opened out one e = adding_next out (header program height) out one _ (codes "ceptre 1\nheight ") (decimal height ++ (10 ∷ [] ++ lines_behind)) (adding_none out (header program height) _ header_is) refl e
+  pub header_opened : (out one : List ℕ) → one ≡ out ++ codes "ceptre 2\nheight " → IsAdding out (header program height) one (decimal height ++ (10 ∷ [] ++ lines_behind))
+  header_opened out one e = adding_next out (header program height) out one _ (codes "ceptre 2\nheight ") (decimal height ++ (10 ∷ [] ++ lines_behind)) (adding_none out (header program height) _ header_is) refl e
 
-  pub header_with_height : (out one two : List ℕ) → one ≡ out ++ codes "ceptre 1\nheight " → two ≡ one ++ decimal height → IsAdding out (header program height) two (10 ∷ [] ++ lines_behind)
+  pub header_with_height : (out one two : List ℕ) → one ≡ out ++ codes "ceptre 2\nheight " → two ≡ one ++ decimal height → IsAdding out (header program height) two (10 ∷ [] ++ lines_behind)
   header_with_height out one two e f = adding_next out (header program height) one two _ (decimal height) (10 ∷ [] ++ lines_behind) (header_opened out one e) refl f
 
-  pub header_with_line : (out one two three : List ℕ) → one ≡ out ++ codes "ceptre 1\nheight " → two ≡ one ++ decimal height → three ≡ two ++ 10 ∷ [] → IsAdding out (header program height) three lines_behind
+  pub header_with_line : (out one two three : List ℕ) → one ≡ out ++ codes "ceptre 2\nheight " → two ≡ one ++ decimal height → three ≡ two ++ 10 ∷ [] → IsAdding out (header program height) three lines_behind
   header_with_line out one two three e f g = adding_next out (header program height) two three _ (10 ∷ []) lines_behind (header_with_height out one two e f) refl g
 
-  pub header_with_stage : (out one two three four : List ℕ) → one ≡ out ++ codes "ceptre 1\nheight " → two ≡ one ++ decimal height → three ≡ two ++ 10 ∷ [] → four ≡ three ++ stage_line program program.start_stage
+  pub header_with_stage : (out one two three four : List ℕ) → one ≡ out ++ codes "ceptre 2\nheight " → two ≡ one ++ decimal height → three ≡ two ++ 10 ∷ [] → four ≡ three ++ stage_line program program.start_stage
       → IsAdding out (header program height) four (listing program.signature program.start)
   header_with_stage out one two three four e f g h =
       adding_next out (header program height) three four _ (stage_line program program.start_stage) (listing program.signature program.start) (header_with_line out one two three e f g) refl h

@@ -1,5 +1,5 @@
 ghost use Rattle.std.specs.Prelude.{◌≡◌};
-ghost use Rattle.cep_log.specs.Lines.{ending_word};
+ghost use Rattle.cep_lines.specs.Lines.{ending_word};
 
 /// Why a run ended.
 #[derive(Clone, Copy, Debug, PartialEq, Eq)]

@@ -4,8 +4,8 @@ use Rattle.std.specs.Prelude.{slice_get, Some}
 use Rattle.std.proofs.lemmas.List.{drop_all}
 use Rattle.cep_rule.specs.declared.parts.Parts.{Parts}
 use Rattle.cep_rule.specs.declared.offer.Offer.{Offer}
-use Rattle.cep_log.specs.Lines.{offer_line, offer_lines}
-use Rattle.cep_log.proofs.LineLemmas.{drop_at}
+use Rattle.cep_lines.specs.Lines.{offer_line, offer_lines}
+use Rattle.cep_lines.proofs.LineLemmas.{drop_at}
 
 -- what is left of the offers: those from a place on
 abbrev pub offers_from : Parts → List Offer → ℕ → List ℕ

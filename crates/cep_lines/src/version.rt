@@ -1,5 +1,5 @@
 ghost use Rattle.std.specs.Prelude.{◌≡◌};
-ghost use Rattle.cep_log.specs.Lines.{version_number, version_text, has_listing};
+ghost use Rattle.cep_lines.specs.Lines.{version_number, version_text, has_listing};
 
 /// The form of a transcript. (Profile.)
 #[derive(Clone, Copy, Debug, PartialEq, Eq)]

@@ -6,9 +6,10 @@ ghost use Rattle.cep_rule.specs.Derivations.{proof_of};
 ghost use Rattle.cep_rule.specs.Shapes.{IsOfferOf, IsProofOf};
 ghost use Rattle.cep_text.specs.Texts.{IsTypedGround};
 ghost use Rattle.cep_text.specs.Writing.{IsBegun};
-ghost use Rattle.cep_log.specs.Lines.{have_line, listing, offer_line, stage_line, step_line, by_line, mid_lines, end_lines, header};
+ghost use Rattle.cep_lines.specs.Lines.{have_line, listing, offer_line, stage_line, step_line, by_line, mid_lines, due_lines, end_lines, header};
 
 use crate::end_word::EndWord;
+use crate::version::Version;
 use cep_base::Text;
 use cep_rule::{Derivation, Offer, Program};
 use cep_term::laws::bags_are_lawful;
@@ -16,14 +17,14 @@ use cep_term::{Atom, Bag};
 use cep_text::{put_atom, put_offer, put_proof};
 use std::alloc::AllocError;
 
-/// The first three lines, of version 1, and the listing of the program's start state. The height is 1 to 512
+/// The first three lines, of version 2, and the listing of the program's start state. The height is 1 to 512
 /// where the transcript is to be read again. After `AllocError` a front of the lines was added, as
 /// with every writer here.
 pub fn put_start(program: &Program, height: u32, out: &mut Text) -> Result<(), AllocError>
     ensures ok { OnOk result (out.new ≡ out.old ++ header program.now height) }
     ensures err { OnErr result (IsBegun out.old (header program.now height) out.new) }
 {
-    out.append(b"ceptre 1\nheight ")?;
+    out.append(b"ceptre 2\nheight ")?;
     out.number(u64::from(height))?;
     out.append(b"\n")?;
     let parts = program.parts();
@@ -112,6 +113,22 @@ pub fn put_mid(program: &Program, step: u32, state: &Bag, out: &mut Text) -> Res
     out.number(u64::from(step))?;
     out.append(b"\n")?;
     put_listing(program, state, out)
+}
+
+/// What version 2 has behind the own lines of a step: after each hundredth the listing of the state
+/// after it, as `put_mid` writes it, and after any other nothing. The step is told by its number,
+/// counted from 1.
+#[tactic(auto, unfolding(crate::specs::Lines::due_lines))]
+pub fn put_due(program: &Program, step: u32, state: &Bag, out: &mut Text) -> Result<(), AllocError>
+    requires { IsState program.now.signature state.now }
+    ensures ok { OnOk result (out.new ≡ out.old ++ due_lines program.now.signature step state.now) }
+    ensures err { OnErr result (IsBegun out.old (due_lines program.now.signature step state.now) out.new) }
+{
+    if Version::Two.lists(step) {
+        put_mid(program, step, state, out)
+    } else {
+        Ok(())
+    }
 }
 
 /// The line of the end, and the listing of the last state.

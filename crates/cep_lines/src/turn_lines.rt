@@ -4,7 +4,7 @@ ghost use Rattle.cep_base.specs.declared.limits.TheConstants.{MOST_OFFERS};
 ghost use Rattle.cep_rule.specs.Matching.{offers_of};
 ghost use Rattle.cep_rule.specs.Shapes.{IsOfferOf};
 ghost use Rattle.cep_text.specs.Writing.{IsBegun};
-ghost use Rattle.cep_log.specs.Lines.{offer_lines, question, next_line};
+ghost use Rattle.cep_lines.specs.Lines.{offer_lines, question, next_line};
 
 use crate::lines::{put_offer_line, put_stage};
 use cep_base::Text;

@@ -1,5 +1,5 @@
 -- The lines of a transcript.
-use Rattle.std.specs.Prelude.{ℕ, ◌+◌, ◌%◌, ◌==◌, Bool, false, List, [], ◌∷◌, ◌++◌, codes, decimal, Option, Some, None, slice_get}
+use Rattle.std.specs.Prelude.{ℕ, ◌+◌, ◌%◌, ◌==◌, Bool, false, if◌then◌else◌, List, [], ◌∷◌, ◌++◌, codes, decimal, Option, Some, None, slice_get}
 use Rattle.std.specs.List.{flat_map}
 use Rattle.std.specs.FinMap as finite
 use Rattle.cep_term.specs.Tree.{AtomTree}
@@ -11,10 +11,10 @@ use Rattle.cep_rule.specs.declared.parts.Parts.{Parts}
 use Rattle.cep_rule.specs.declared.offer.Offer.{Offer}
 use Rattle.cep_rule.specs.Derivations.{ProofTree}
 use Rattle.cep_text.specs.Texts.{atom_text, offer_text, proof_text}
-use Rattle.cep_log.specs.declared.version.Version.{Version}
-use Rattle.cep_log.specs.declared.version.Version.TheVariants.{One, Two}
-use Rattle.cep_log.specs.declared.end_word.EndWord.{EndWord}
-use Rattle.cep_log.specs.declared.end_word.EndWord.TheVariants.{Quiet, Input, Turns, Offers, Typed, Atom, State}
+use Rattle.cep_lines.specs.declared.version.Version.{Version}
+use Rattle.cep_lines.specs.declared.version.Version.TheVariants.{One, Two}
+use Rattle.cep_lines.specs.declared.end_word.EndWord.{EndWord}
+use Rattle.cep_lines.specs.declared.end_word.EndWord.TheVariants.{Quiet, Input, Turns, Offers, Typed, Atom, State}
 
 -- a text and the LF that ends its line
 abbrev pub line : List ℕ → List ℕ
@@ -109,6 +109,10 @@ state_text number = codes "state " ++ decimal number
 unfoldable pub mid_lines : Signature → ℕ → Multiset → List ℕ
 mid_lines signature number state = line (state_text number) ++ listing signature state
 
+-- what is written behind the own lines of the step of a number: the listing of the state after it, where one is due
+unfoldable pub due_lines : Signature → ℕ → Multiset → List ℕ
+due_lines signature number state = if has_listing Two number then mid_lines signature number state else []
+
 abbrev pub ending_word : EndWord → List ℕ
 ending_word Quiet = codes "quiet"
 ending_word Input = codes "input"
@@ -133,4 +137,4 @@ height_text height = codes "height " ++ decimal height
 -- the first three lines, and the listing of the start state
 unfoldable pub header : Parts → ℕ → List ℕ
 header program height =
-    line (version_text One) ++ (line (height_text height) ++ (stage_line program program.start_stage ++ listing program.signature program.start))
+    line (version_text Two) ++ (line (height_text height) ++ (stage_line program program.start_stage ++ listing program.signature program.start))

@@ -1,0 +1,4 @@
+pub mod Adding
+pub mod LineLemmas
+pub mod States
+pub mod OfferLines
