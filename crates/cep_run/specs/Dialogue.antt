@@ -7,9 +7,9 @@ use Rattle.cep_rule.specs.declared.parts.Parts.{Parts}
 use Rattle.cep_rule.specs.declared.offer.Offer.{Offer}
 use Rattle.cep_run.specs.declared.settings.Settings.{Settings}
 use Rattle.cep_run.specs.Deciding.{Supply, How, Heard, Lone, Drawn}
-use Rattle.cep_run.specs.Deeds.{start_of}
+use Rattle.cep_run.specs.Deeds.{start_of, Deed}
 use Rattle.cep_run.specs.Run.{whole_supply, Question, Turn, Ending, Run}
-use Rattle.cep_lines.specs.Lines.{offer_lines, question, step_lines, end_lines, header}
+use Rattle.cep_lines.specs.Lines.{offer_lines, question, step_lines, due_lines, end_lines, header}
 
 -- the events of a question: its offers, and where the player decides the line that asks for a choice, and what was heard
 abbrev pub asked_events : Parts → List Offer → How → List Event
@@ -25,9 +25,14 @@ abbrev pub last_events : Parts → Option Question → List Event
 last_events program None = []
 last_events program (Some asked) = question_events program asked
 
+-- what is written of a deed: the lines of its step, and the listing of the state where it leads, where one is due
+abbrev pub deed_lines : Parts → Deed → List ℕ
+deed_lines program deed =
+    step_lines program deed.offer deed.rule deed.proofs ++ due_lines program.signature deed.after.turns deed.after.spot.state
+
 -- the events of a turn
 abbrev pub turn_events : Parts → Turn → List Event
-turn_events program turn = question_events program turn.question ++ outs (step_lines program turn.deed.offer turn.deed.rule turn.deed.proofs)
+turn_events program turn = question_events program turn.question ++ outs (deed_lines program turn.deed)
 
 -- the events of a run: those of its turns, and of its end
 abbrev pub events_of : Parts → List Turn → Ending → List Event

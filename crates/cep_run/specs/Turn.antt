@@ -7,6 +7,7 @@ use Rattle.cep_base.specs.declared.limits.TheConstants.{MOST_OFFERS, MOST_TYPED}
 use Rattle.cep_base.specs.Talk.{outs, Did}
 use Rattle.cep_choice.specs.Draws.{generator_behind}
 use Rattle.cep_term.specs.Tree.{AtomTree}
+use Rattle.cep_term.specs.Multiset.{Multiset}
 use Rattle.cep_rule.specs.declared.parts.Parts.{Parts}
 use Rattle.cep_rule.specs.declared.offer.Offer.{Offer}
 use Rattle.cep_rule.specs.declared.rule.Rule.{Rule}
@@ -25,7 +26,7 @@ use Rattle.cep_run.specs.declared.turn.Turned.TheVariants.{Done, Over}
 use Rattle.cep_run.specs.Choice.{Hears}
 use Rattle.cep_run.specs.declared.deciding.Spent.{Spent}
 use Rattle.cep_run.specs.Deciding.{Supply, How, Decides}
-use Rattle.cep_lines.specs.Lines.{question, step_lines, by_line, by_lines}
+use Rattle.cep_lines.specs.Lines.{question, step_lines, due_lines, by_line, by_lines}
 use Rattle.cep_rule.specs.Matching.{RoseBy}
 use Rattle.cep_run.specs.Deeds.{Position, Deed, PassesLimit}
 use Rattle.cep_run.specs.Costs.{Edits, IsStepCost, IsDeedCost}
@@ -89,7 +90,13 @@ pub record TellsStep (program : Parts) (height : ℕ) (offer : Offer) (old new :
   pub proved : AreProofs program height proofs (full_instances offer.values rule.backs)
   pub added : new ≡ old ++ step_lines program offer rule proofs
 
--- The step by the offer at a place leads from one position to the other, its backward premises are proved within the height, and its lines are written.
+-- The lines of a step with a number were added, and behind them the listing of the state where it led, where one is due.
+pub record TellsDeed (program : Parts) (height : ℕ) (offer : Offer) (number : ℕ) (state : Multiset) (old new : List ℕ) : Type 0 where
+  pub between : List ℕ
+  pub step : TellsStep program height offer old between
+  pub due : new ≡ between ++ due_lines program.signature number state
+
+-- The step by the offer at a place leads from one position to the other, its backward premises are proved within the height, and its lines are written, with the listing of the state where it leads, where one is due.
 pub record Acts (program : Parts) (height : ℕ) (offers : List Offer) (place : ℕ) (old new : Position) (come : List ℕ) (events : List Event) (rest : List ℕ) : Type 0 where
   pub offer : Offer
   pub rule : Rule
@@ -97,7 +104,7 @@ pub record Acts (program : Parts) (height : ℕ) (offers : List Offer) (place : 
   pub placed : IsPlaced program offers place offer rule
   pub proved : AreProofs program height proofs (full_instances offer.values rule.backs)
   pub steps : StepsTo program rule offer.values old.spot new.spot
-  pub written : events ≡ outs (step_lines program offer rule proofs)
+  pub written : events ≡ outs (step_lines program offer rule proofs ++ due_lines program.signature new.turns new.spot.state)
   pub untaken : rest ≡ come
 
 -- the word for a limit that a step would pass

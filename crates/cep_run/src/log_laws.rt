@@ -18,9 +18,9 @@ ghost use Rattle.cep_run.specs.Dialogue.{Dialogue};
 ghost use Rattle.cep_run.specs.Logs.{written_bytes, HoldsDeeds};
 
 use cep_log::laws::{
-    lines_are_read_as_written, listings_are_read_as_written, steps_are_read_as_written,
+    lines_are_read_as_written, listings_are_read_as_written, logs_are_read_as_written,
 };
-use cep_rule::laws::{derivations_have_shape, steps_lead_to_states, values_are_small};
+use cep_rule::laws::steps_lead_to_states;
 
 /// A log that holds lawful deeds from where the program begins, and how they ended, is legal, whoever
 /// decided on them: so a check accepts it.
@@ -50,10 +50,6 @@ pub fn dialogues_have_logs()
         → (log : Log) × HasLog program (written_bytes events) log × HoldsDeeds program settings.height (deeds_of turns) ending.word ending.state log × IsLegal program log × (length log.steps ≡ length turns) }
 {
     logs_of_deeds_are_legal();
-    steps_lead_to_states();
-    derivations_have_shape();
-    values_are_small();
     lines_are_read_as_written();
-    listings_are_read_as_written();
-    steps_are_read_as_written();
+    logs_are_read_as_written();
 }

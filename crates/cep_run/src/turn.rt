@@ -1,7 +1,12 @@
 // One turn of a run: the offers are written, one of them is chosen, and the step is done.
-ghost use Rattle.std.specs.Prelude.{◌≡◌, ◌+◌, ◌<◌, ◌≤◌, length, IfOk, OnErr};
+ghost use Rattle.std.specs.Prelude.{◌≡◌, ◌+◌, ◌<◌, ◌≤◌, length, slice_get, Some, IfOk, OnOk, OnErr};
 ghost use Rattle.cep_base.specs.declared.limits.TheConstants.{MOST_TURNS};
 ghost use Rattle.cep_base.specs.Talk.{Did, ConsoleCause};
+ghost use Rattle.cep_term.specs.Multiset.{Multiset};
+ghost use Rattle.cep_rule.specs.declared.rule.Rule.{Rule};
+ghost use Rattle.cep_rule.specs.Limits.{IsHeight};
+ghost use Rattle.cep_rule.specs.State.{IsState};
+ghost use Rattle.cep_rule.specs.Offers.{Applies};
 ghost use Rattle.cep_rule.specs.Matching.{offers_of};
 ghost use Rattle.cep_machine.specs.Asking.{asked_offers};
 ghost use Rattle.cep_run.specs.declared.turn.Turned.TheVariants.{Over};
@@ -9,7 +14,7 @@ ghost use Rattle.cep_run.specs.Fronts.{FellShort, IsRunOf};
 ghost use Rattle.cep_run.specs.Begun.{BeginsAct};
 ghost use Rattle.cep_rule.specs.Matching.{RoseBy};
 ghost use Rattle.cep_run.specs.Costs.{IsDeedCost};
-ghost use Rattle.cep_run.specs.Turn.{position_of, supply_with, HasSpent, IsPlayed, IsActed, RoseByAct, IsTurned, config_left, limit_word};
+ghost use Rattle.cep_run.specs.Turn.{position_of, supply_with, HasSpent, IsPlayed, TellsDeed, IsActed, RoseByAct, IsTurned, config_left, limit_word};
 
 use crate::choice::Choice;
 use crate::copying::copy_offer;
@@ -18,10 +23,10 @@ use crate::laws::runs_go_on;
 use crate::proving::put_step_lines;
 use crate::settings::Settings;
 use cep_base::{Console, ConsoleFault, Steps, Text};
-use cep_lines::EndWord;
+use cep_lines::{EndWord, put_due};
 use cep_machine::{Config, Stepped, Which};
-use cep_rule::{Matcher, Program};
-use std::alloc::Global;
+use cep_rule::{Matcher, Offer, Program};
+use std::alloc::{AllocError, Global};
 use std::sync::ledger::Ledger;
 
 /// Where a run ended, and why.
@@ -80,12 +85,34 @@ fn act<C: Console, M: Matcher, L: Ledger>(
     match config.step(alloc, program, i, steps)? {
         Stepped::Done(config) => {
             let mut lines = Text::new(alloc);
-            put_step_lines(alloc, program, &offer, settings.height, &mut lines, steps)?;
+            put_deed(alloc, program, settings, &offer, &config, &mut lines, steps)?;
             console.put(lines.bytes())?;
             Ok(Turned::Done(config))
         }
         Stepped::Limit { config, which, .. } => Ok(over(config, word_of(which))),
     }
+}
+
+// What is written of a step that was done: its lines, and where one is due the listing of the state
+// where it led.
+fn put_deed<M: Matcher, L: Ledger>(
+    alloc: Global,
+    program: &Program,
+    settings: Settings,
+    offer: &Offer,
+    config: &Config<M>,
+    out: &mut Text,
+    steps: &mut Steps<L>,
+) -> Result<(), AllocError>
+    requires height { IsHeight settings.height }
+    requires applies { (state : Multiset) × Applies program.now settings.height state offer.now }
+    requires state { IsState program.now.signature config.now.state }
+    ensures ok { OnOk result (TellsDeed program.now settings.height offer.now config.now.turns config.now.state out.old out.new) }
+    ensures ticked { OnOk result ((rule : Rule) → slice_get program.now.rules offer.now.rule ≡ Some rule → steps.new ≡ steps.old + length rule.backs) }
+    ensures counted { steps.old ≤ steps.new }
+{
+    put_step_lines(alloc, program, offer, settings.height, out, steps)?;
+    put_due(program, config.turns(), config.state(), out)
 }
 
 // The word with which a step that passes a limit ends a run.

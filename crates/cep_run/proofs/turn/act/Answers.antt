@@ -13,7 +13,7 @@ returns-in-Done-clause-acted g c =
     (g.met.M.Matcher.exact c.args.program.now c.args.config.matcher c.requires.played.of_program.matcher) c.requires.listed c.requires.asked
     c.matcher.result.now c.matcher.ensures.matcher c.offer-chosen.result.now c.in_ok-offer.offer c.offer-chosen.ensures c.in_ok-offer.ensures
     g.C.Console.talk g.C.Console.left c.args.console.now c.args.settings.height _ c.in_ok-config.ensures.stepped
-    c.in-Done.config c.in-Done.is c.put.new.self c.new-lines.result c.put_step_lines.new.out c.bytes.result.now c.new-lines.ensures c.in_ok-put_step_lines-in-Done.ensures.ok c.bytes.ensures
+    c.in-Done.config c.in-Done.is c.put.new.self c.new-lines.result c.put_deed.new.out c.bytes.result.now c.new-lines.ensures c.in_ok-put_deed-in-Done.ensures.ok c.bytes.ensures
     c.in_ok-put-in-Done.ensures.written c.in_ok-put-in-Done.ensures.left
 
 pub returns-clause-acted : goal.returns-clause-acted
@@ -30,8 +30,8 @@ returns-in-Done-clause-ticked g c =
     (g.met.M.Matcher.exact c.args.program.now c.args.config.matcher c.requires.played.of_program.matcher) c.requires.listed c.requires.asked
     c.matcher.result.now c.matcher.ensures.matcher c.offer-chosen.result.now c.in_ok-offer.offer c.offer-chosen.ensures c.in_ok-offer.ensures
     g.C.Console.talk g.C.Console.left c.args.console.now c.args.settings.height _ c.in_ok-config.ensures.stepped
-    g.M.Matcher.may_edit c.in-Done.config c.in-Done.is c.args.steps.now c.step.new.steps c.put_step_lines.new.steps
-    c.in_ok-config.ensures.ticked c.in_ok-put_step_lines-in-Done.ensures.ticked c.args.settings.height c.requires.played.height
+    g.M.Matcher.may_edit c.in-Done.config c.in-Done.is c.args.steps.now c.step.new.steps c.put_deed.new.steps
+    c.in_ok-config.ensures.ticked c.in_ok-put_deed-in-Done.ensures.ticked c.args.settings.height c.requires.played.height
 
 pub returns-clause-ticked : goal.returns-clause-ticked
 returns-clause-ticked g c =
@@ -59,16 +59,20 @@ returns-clause-played g c =
     g.C.Console.talk g.C.Console.left c.args.console.now c.args.settings.height _ c.in_ok-config.ensures.stepped
     c.in-Limit.config c.in-Limit.which c.in-Limit.number c.in-Limit.is g.M.Matcher.is_of c.args.settings c.requires.played c.word_of.result _ c.over.ensures
 
-pub put_step_lines-requires-clause-height : goal.put_step_lines-requires-clause-height
-put_step_lines-requires-clause-height g c =
+pub put_deed-requires-clause-height : goal.put_deed-requires-clause-height
+put_deed-requires-clause-height g c =
     subst (λ h. IsHeight h) c.requires.played.height (g.met.M.Matcher.low c.args.program.now c.args.config.matcher c.requires.played.of_program.matcher)
 
-pub put_step_lines-requires-clause-applies : goal.put_step_lines-requires-clause-applies
-put_step_lines-requires-clause-applies g c =
+pub put_deed-requires-clause-applies : goal.put_deed-requires-clause-applies
+put_deed-requires-clause-applies g c =
     copy_applies g.M.Matcher.height_held g.M.Matcher.state_held g.M.Matcher.offers_held c.args.program.now c.args.group c.args.place c.args.config
     (g.met.M.Matcher.exact c.args.program.now c.args.config.matcher c.requires.played.of_program.matcher) c.requires.listed c.requires.asked
     c.matcher.result.now c.matcher.ensures.matcher c.offer-chosen.result.now c.in_ok-offer.offer c.offer-chosen.ensures c.in_ok-offer.ensures
     c.args.settings c.requires.played.height
+
+pub put_deed-requires-clause-state : goal.put_deed-requires-clause-state
+put_deed-requires-clause-state g c =
+    (subst (λ s. IsConfigurationOf g.M.Matcher.is_of c.args.program.now (config_after s)) c.in-Done.is c.in_ok-config.ensures.of_program).is_state
 
 pub returns-in_err-offer-clause-begun : goal.returns-in_err-offer-clause-begun
 returns-in_err-offer-clause-begun g c = on_err c.from_residual.result _ (did_map g.C.Console.talk g.C.Console.left c.args.console.now c.args.console.now _ _ (λ come events rest same. inl same) (did_same g.C.Console.talk g.C.Console.left c.args.console.now c.args.console.now refl refl))
@@ -76,8 +80,8 @@ returns-in_err-offer-clause-begun g c = on_err c.from_residual.result _ (did_map
 pub returns-in_err-config-clause-begun : goal.returns-in_err-config-clause-begun
 returns-in_err-config-clause-begun g c = on_err c.from_residual-in_err-config.result _ (did_map g.C.Console.talk g.C.Console.left c.args.console.now c.args.console.now _ _ (λ come events rest same. inl same) (did_same g.C.Console.talk g.C.Console.left c.args.console.now c.args.console.now refl refl))
 
-pub returns-in_err-put_step_lines-in-Done-clause-begun : goal.returns-in_err-put_step_lines-in-Done-clause-begun
-returns-in_err-put_step_lines-in-Done-clause-begun g c = on_err c.from_residual-in_err-put_step_lines-in-Done.result _ (did_map g.C.Console.talk g.C.Console.left c.args.console.now c.args.console.now _ _ (λ come events rest same. inl same) (did_same g.C.Console.talk g.C.Console.left c.args.console.now c.args.console.now refl refl))
+pub returns-in_err-put_deed-in-Done-clause-begun : goal.returns-in_err-put_deed-in-Done-clause-begun
+returns-in_err-put_deed-in-Done-clause-begun g c = on_err c.from_residual-in_err-put_deed-in-Done.result _ (did_map g.C.Console.talk g.C.Console.left c.args.console.now c.args.console.now _ _ (λ come events rest same. inl same) (did_same g.C.Console.talk g.C.Console.left c.args.console.now c.args.console.now refl refl))
 
 pub returns-in_err-put-in-Done-clause-begun : goal.returns-in_err-put-in-Done-clause-begun
 returns-in_err-put-in-Done-clause-begun g c =
@@ -86,5 +90,5 @@ returns-in_err-put-in-Done-clause-begun g c =
     (g.met.M.Matcher.exact c.args.program.now c.args.config.matcher c.requires.played.of_program.matcher) c.requires.listed c.requires.asked
     c.matcher.result.now c.matcher.ensures.matcher c.offer-chosen.result.now c.in_ok-offer.offer c.offer-chosen.ensures c.in_ok-offer.ensures
     g.C.Console.talk g.C.Console.left c.args.console.now c.args.settings.height _ c.in_ok-config.ensures.stepped
-    c.in-Done.config c.in-Done.is c.put.new.self c.new-lines.result c.put_step_lines.new.out c.bytes.result.now c.in_err-put-in-Done.ensures.part.0 c.new-lines.ensures c.in_ok-put_step_lines-in-Done.ensures.ok c.bytes.ensures
+    c.in-Done.config c.in-Done.is c.put.new.self c.new-lines.result c.put_deed.new.out c.bytes.result.now c.in_err-put-in-Done.ensures.part.0 c.new-lines.ensures c.in_ok-put_deed-in-Done.ensures.ok c.bytes.ensures
     c.in_err-put-in-Done.ensures.part.1 c.in_err-put-in-Done.ensures.left)
