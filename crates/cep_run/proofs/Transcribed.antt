@@ -1,5 +1,5 @@
 -- What is written of a dialogue is a transcript, and its log holds what was done.
-use Rattle.std.proofs.Common.{◌≡◌, map, ℕ, ◌+◌, ◌≤◌, Bool, true, false, List, [], ◌∷◌, ◌++◌, length, append_assoc, append-nil, refl, sym, ap, ◌∙◌, subst, arith, Option, None, Some, IfSome, IsSomeAnd}
+use Rattle.std.proofs.Common.{◌≡◌, map, ℕ, ◌+◌, ◌≤◌, Bool, true, false, List, [], ◌∷◌, ◌++◌, length, append_assoc, append-nil, refl, sym, ap, ◌∙◌, subst, arith, cond, Option, None, Some, IfSome, IsSomeAnd}
 use Rattle.std.specs.Prelude.{slice_get, is_some, codes}
 use Rattle.std.specs.List.{AllByRecursion, AllZip, flat_map}
 use Rattle.std.specs.FinMap as finite
@@ -24,7 +24,7 @@ use Rattle.cep_log.specs.declared.log.LogMid.{LogMid}
 use Rattle.cep_log.specs.declared.log.LogEnd.{LogEnd}
 use Rattle.cep_lines.specs.declared.version.Version.TheVariants.{Two}
 use Rattle.cep_lines.specs.declared.end_word.EndWord.{EndWord}
-use Rattle.cep_lines.specs.Lines.{line, version_text, has_listing, have_text, have_line, height_text, stage_name, stage_text, next_line, state_text, step_text, by_text, by_line, step_lines, mid_lines, due_lines, end_text, end_lines, header}
+use Rattle.cep_lines.specs.Lines.{line, version_text, has_listing, have_text, have_line, listing, height_text, stage_name, stage_text, stage_line, next_line, state_text, step_text, step_line, by_text, by_line, by_lines, step_lines, mid_lines, due_lines, end_text, end_lines, header}
 use Rattle.cep_log.specs.Legal.{HaveListings, IsLegal}
 use Rattle.cep_log.specs.Transcript.{IsOneLine, IsPassedOver, stage_texts, HasLog}
 use Rattle.cep_log.specs.Written.{start_texts, mid_texts, step_texts, end_texts, IsRemark, TellSteps, TellLog, ListTheSame, SayTheSame, EndTheSame}
@@ -99,7 +99,7 @@ module _ (program : Parts) where
       ∙ ap (λ rest. line (step_text program offer) ++ (bytes_of (map (by_text program) proofs) ++ rest)) (next_written rule.next)
       ∙ ap (λ rest. line (step_text program offer) ++ rest) (sym (flat_map-append line (map (by_text program) proofs) (stage_texts program rule.next)))
 
-  mid_written : (due : Bool) (number : ℕ) (state : Multiset) → (if due then mid_lines program.signature number state else []) ≡ bytes_of (mid_texts program number (mid_if due state))
+  mid_written : (due : Bool) (number : ℕ) (state : Multiset) → cond due (mid_lines program.signature number state) [] ≡ bytes_of (mid_texts program number (mid_if due state))
   unfolding mid_lines listing
   mid_written true number state = ap (λ rest. line (state_text number) ++ rest) (haves_written program.signature (finite.entries state))
   mid_written false number state = refl

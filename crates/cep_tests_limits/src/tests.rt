@@ -4,6 +4,7 @@ mod expecting;
 mod fullest;
 mod growing;
 mod heights;
+mod hundreds;
 mod numbers;
 mod offers;
 mod rooms;

@@ -16,7 +16,7 @@ pub use walks::{meetings, walk};
 
 /// The header of a run in a stage `main`.
 fn header() -> &'static str {
-    "ceptre 1\nheight 128\nstage main\n"
+    "ceptre 2\nheight 128\nstage main\n"
 }
 
 /// A text in full: in a table a line `@sums` stands for the declarations of numbers and their sums,

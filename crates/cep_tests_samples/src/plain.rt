@@ -10,7 +10,7 @@ qui * stage one -o stage two.
 #interactive one.
 #trace _ one { a }.
 -
-ceptre 1
+ceptre 2
 height 128
 stage one
 have 1 a

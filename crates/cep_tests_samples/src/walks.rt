@@ -1,7 +1,7 @@
 /// The header of a run of the walk, with its start.
 pub(crate) fn begun() -> &'static str {
     "\
-ceptre 1
+ceptre 2
 height 128
 stage walk
 have 1 at alice park

@@ -31,7 +31,7 @@ fn constructors(alloc: Global, number: u32) -> Result<String, AllocError> {
 fn there_may_be_65536_constructors(rt: HostRuntime) -> Result<(), Fail> {
     let text = constructors(rt.alloc(), 65_536)?;
     let said =
-        "ceptre 1\nheight 128\nstage main\nhave 1 p c65535\n? 1 r X=c65535\nstep r X=c65535\nend quiet\n";
+        "ceptre 2\nheight 128\nstage main\nhave 1 p c65535\n? 1 r X=c65535\nstep r X=c65535\nend quiet\n";
     expect_played(&rt, rt.alloc(), (text.as_str(), ""), (0, said))
 }
 
@@ -57,7 +57,7 @@ fn predicates(alloc: Global, number: u32) -> Result<String, AllocError> {
 fn there_may_be_1024_predicates(rt: HostRuntime) -> Result<(), Fail> {
     let text = predicates(rt.alloc(), 1_024)?;
     let said =
-        "ceptre 1\nheight 128\nstage main\nhave 1 p1023\n? 1 r\nstep r\nend quiet\nhave 1 p0\n";
+        "ceptre 2\nheight 128\nstage main\nhave 1 p1023\n? 1 r\nstep r\nend quiet\nhave 1 p0\n";
     expect_played(&rt, rt.alloc(), (text.as_str(), ""), (0, said))
 }
 
@@ -108,7 +108,7 @@ fn said_of_rules(alloc: Global) -> Result<String, AllocError> {
     let offers = offers(alloc, 4_096)?;
     let values = values(alloc, "c")?;
     format!(in alloc;
-        "ceptre 1\nheight 128\nstage main\nhave 16 p c c\n{offers}? choose\nstep r4095{values}\nend quiet\n"
+        "ceptre 2\nheight 128\nstage main\nhave 16 p c c\n{offers}? choose\nstep r4095{values}\nend quiet\n"
     )
 }
 
@@ -148,7 +148,7 @@ top <- q <- q <- q <- q <- q <- q <- q <- q.";
 fn there_may_be_4096_clauses_of_8_goals(rt: HostRuntime) -> Result<(), Fail> {
     let text = clauses(rt.alloc(), 4_094)?;
     let said = "\
-ceptre 1\nheight 2\nstage main\nhave 1 a\n? 1 r\nstep r
+ceptre 2\nheight 2\nstage main\nhave 1 a\n? 1 r\nstep r
 by [1 [4096] [4096] [4096] [4096] [4096] [4096] [4096] [4096]]\nend quiet\n";
     let outcome = run_text(rt.alloc(), "play f height=2", text.as_str(), "")?;
     expect(&rt, &outcome, (0, said));

@@ -1,5 +1,6 @@
 // Runs at the limits: deepest atoms, longest left sides, fullest states.
 use crate::tests::expecting::expect_played;
+use crate::tests::hundreds::{Copies, listed};
 use std::alloc::{AllocError, Global};
 use std::process::Abort;
 use std::test::Fail;
@@ -22,12 +23,23 @@ stage main = {{ up : num N -o num (s N). }}
     )
 }
 
+// The listing after a step of this number, where one is due.
+fn put_risen(said: &mut String, step: usize) -> Result<(), AllocError> {
+    let alloc = *said.allocator();
+    if step % 100 == 0 {
+        let value = number(alloc, step)?;
+        said.push_str(format!(in alloc; "state {step}\nhave 1 num {value}\n")?.as_str())?;
+    }
+    Ok(())
+}
+
 // The lines of so many turns that raise it.
 fn risen(alloc: Global, turns: usize) -> Result<String, AllocError> {
-    let mut said = String::from_str(alloc, "ceptre 1\nheight 128\nstage main\nhave 1 num z\n")?;
+    let mut said = String::from_str(alloc, "ceptre 2\nheight 128\nstage main\nhave 1 num z\n")?;
     for turn in 0..turns {
         let value = number(alloc, turn)?;
         said.push_str(format!(in alloc; "? 1 up N={value}\nstep up N={value}\n")?.as_str())?;
+        put_risen(&mut said, turn.saturating_add(1))?;
     }
     Ok(said)
 }
@@ -60,8 +72,13 @@ stage main = {{ r : a * a * a * a * a * a * a * a * a * a * a * a * a * a * a * 
 
 // What is said until all of 100,000 copies are taken.
 fn said_of_sixteens(alloc: Global) -> Result<String, AllocError> {
-    let turns = "? 1 r\nstep r\n".repeat(alloc, 6_250)?;
-    let head = "ceptre 1\nheight 128\nstage main\nhave 100000 a\n";
+    let taken = Copies {
+        first: 100_000,
+        made: 0,
+        taken: 16,
+    };
+    let turns = listed(alloc, "? 1 r\nstep r\n", 6_250, taken)?;
+    let head = "ceptre 2\nheight 128\nstage main\nhave 100000 a\n";
     format!(in alloc; "{head}{turns}end quiet\n")
 }
 
@@ -118,7 +135,7 @@ stage main = { go : at X * path X Y -o at Y. }
 }
 
 fn said_of_paths() -> &'static str {
-    "ceptre 1
+    "ceptre 2
 height 128
 stage main
 have 1 at a

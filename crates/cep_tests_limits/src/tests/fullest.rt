@@ -63,7 +63,7 @@ fn said(alloc: Global) -> Result<String, AllocError> {
     let values = values(alloc, term())?;
     let proof = format!(in alloc; "by [2{values} [1] [1] [1] [1] [1] [1] [1] [1]]\n")?;
     let proofs = proof.repeat(alloc, 8)?;
-    let head = format!(in alloc; "ceptre 1\nheight 128\nstage main\nhave 16 p {arguments}\n")?;
+    let head = format!(in alloc; "ceptre 2\nheight 128\nstage main\nhave 16 p {arguments}\n")?;
     format!(in alloc;
         "{head}? 1 r{values}\nstep r{values}\n{proofs}end quiet\nhave 32 n {arguments}\n"
     )

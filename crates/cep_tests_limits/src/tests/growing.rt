@@ -1,5 +1,6 @@
 // Runs that grow until an atom or a state passes a limit, and their transcripts.
 use crate::tests::expecting::{expect, expect_checked};
+use crate::tests::hundreds::{Copies, listed};
 use cep_tests_command::play;
 use std::alloc::{AllocError, Global};
 use std::process::Abort;
@@ -26,7 +27,7 @@ fn put_doubled(out: &mut String, turns: usize) -> Result<String, AllocError> {
 
 // The dialogue of its fifteen turns.
 fn doubled(alloc: Global) -> Result<String, AllocError> {
-    let mut said = String::from_str(alloc, "ceptre 1\nheight 128\nstage main\nhave 1 p z\n")?;
+    let mut said = String::from_str(alloc, "ceptre 2\nheight 128\nstage main\nhave 1 p z\n")?;
     let term = put_doubled(&mut said, 15)?;
     said.push_str(format!(in alloc; "? 1 g X={term}\nend atom\nhave 1 p {term}\n")?.as_str())?;
     Ok(said)
@@ -77,8 +78,13 @@ stage main = { r : () -o a * a * a * a * a * a * a * a * a * a * a * a * a * a *
 
 // The header of its transcript, with so many times these lines behind it.
 fn flooded(alloc: Global, lines: &str, turns: usize) -> Result<String, AllocError> {
-    let mut log = String::from_str(alloc, "ceptre 1\nheight 128\nstage main\n")?;
-    log.push_str(lines.repeat(alloc, turns)?.as_str())?;
+    let mut log = String::from_str(alloc, "ceptre 2\nheight 128\nstage main\n")?;
+    let made = Copies {
+        first: 0,
+        made: 32,
+        taken: 0,
+    };
+    log.push_str(listed(alloc, lines, turns, made)?.as_str())?;
     Ok(log)
 }
 
@@ -93,6 +99,6 @@ fn a_run_ends_before_a_state_grows_too_large(rt: HostRuntime) -> Result<(), Fail
 #[test]
 fn a_transcript_is_refused_where_a_state_grows_too_large(rt: HostRuntime) -> Result<(), Fail> {
     let log = flooded(rt.alloc(), "step r\n", 3_126)?;
-    let told = "refused 3129 OverLimit state\n";
+    let told = "refused 3191 OverLimit state\n";
     expect_checked(&rt, rt.alloc(), (flooding(), log.as_str()), (1, told))
 }

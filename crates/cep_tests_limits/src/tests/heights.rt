@@ -24,7 +24,7 @@ stage main = {{ r : val N * ok N -o done. }}
 // What is said first of the number 510 within a height.
 fn begun(alloc: Global, height: usize) -> Result<String, AllocError> {
     let value = number(alloc, 510)?;
-    format!(in alloc; "ceptre 1\nheight {height}\nstage main\nhave 1 val {value}\n")
+    format!(in alloc; "ceptre 2\nheight {height}\nstage main\nhave 1 val {value}\n")
 }
 
 // The derivation of the number 510, of 512 levels, and so many above them.
@@ -89,7 +89,7 @@ fn expect_asked(rt: &impl Abort, alloc: Global, levels: usize, rest: &str) -> Re
     let text = asking(alloc, levels)?;
     let value = number(alloc, levels)?;
     let head = format!(in alloc;
-        "ceptre 1\nheight 128\nstage main\nhave 1 val *\n{rest}have 1 val *\n"
+        "ceptre 2\nheight 128\nstage main\nhave 1 val *\n{rest}have 1 val *\n"
     )?;
     let said = head.replace(alloc, '*', value.as_str())?;
     expect_played(rt, alloc, (text.as_str(), ""), (0, said.as_str()))

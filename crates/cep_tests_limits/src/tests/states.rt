@@ -38,7 +38,7 @@ fn copied(
     let term = largest(alloc)?;
     let lines = lines.repeat(alloc, turns)?;
     let log = format!(in alloc;
-        "ceptre 1\nheight 128\nstage main\nhave {copies} p *\n{lines}{rest}"
+        "ceptre 2\nheight 128\nstage main\nhave {copies} p *\n{lines}{rest}"
     )?;
     log.replace(alloc, '*', term.as_str())
 }
@@ -119,7 +119,7 @@ fn an_atom_with_one_node_too_many_is_refused(rt: HostRuntime) -> Result<(), Fail
 fn a_line_that_lists_such_an_atom_is_none(rt: HostRuntime) -> Result<(), Fail> {
     let atom = too_large(rt.alloc())?;
     let text = of_two(rt.alloc(), "")?;
-    let log = format!(in rt.alloc(); "ceptre 1\nheight 128\nstage main\nhave 1 {atom}\n")?;
+    let log = format!(in rt.alloc(); "ceptre 2\nheight 128\nstage main\nhave 1 {atom}\n")?;
     expect_checked(
         &rt,
         rt.alloc(),

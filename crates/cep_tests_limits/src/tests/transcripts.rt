@@ -8,7 +8,7 @@ use std::test::Fail;
 
 // The record of no step, behind a line of the conversation that makes it so many bytes in all.
 fn padded(alloc: Global, bytes: usize) -> Result<String, AllocError> {
-    let record = "\nceptre 1\nheight 128\nstage main\nend turns\n";
+    let record = "\nceptre 2\nheight 128\nstage main\nend turns\n";
     let mut log = "?".repeat(alloc, bytes.saturating_sub(record.len()))?;
     log.push_str(record)?;
     Ok(log)

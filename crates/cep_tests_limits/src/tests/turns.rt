@@ -1,5 +1,6 @@
 // Runs of as many turns as are done where nothing says how many.
 use crate::tests::expecting::{expect, expect_played};
+use crate::tests::hundreds::{Copies, listed};
 use cep_tests_command::run_text;
 use std::alloc::{AllocError, Global};
 use std::test::Fail;
@@ -11,8 +12,13 @@ fn idling() -> &'static str {
 
 // What is said of so many turns of it.
 fn idled(alloc: Global, turns: usize) -> Result<String, AllocError> {
-    let steps = "? 1 r\nstep r\n".repeat(alloc, turns)?;
-    format!(in alloc; "ceptre 1\nheight 128\nstage main\nhave 1 a\n{steps}end turns\nhave 1 a\n")
+    let kept = Copies {
+        first: 1,
+        made: 0,
+        taken: 0,
+    };
+    let steps = listed(alloc, "? 1 r\nstep r\n", turns, kept)?;
+    format!(in alloc; "ceptre 2\nheight 128\nstage main\nhave 1 a\n{steps}end turns\nhave 1 a\n")
 }
 
 #[test]
@@ -36,7 +42,7 @@ fn resting() -> &'static str {
 
 #[test]
 fn a_million_turns_may_be_asked_for(rt: HostRuntime) -> Result<(), Fail> {
-    let said = "ceptre 1\nheight 128\nstage main\nend quiet\n";
+    let said = "ceptre 2\nheight 128\nstage main\nend quiet\n";
     expect_played(&rt, rt.alloc(), (resting(), ""), (0, said))?;
     let outcome = run_text(rt.alloc(), "play f turns=1000000", resting(), "")?;
     expect(&rt, &outcome, (0, said));

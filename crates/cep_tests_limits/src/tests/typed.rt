@@ -19,7 +19,7 @@ fn typed(alloc: Global, bytes: usize) -> Result<String, AllocError> {
 
 // The dialogue behind the first such line.
 fn said(alloc: Global, rest: &str) -> Result<String, AllocError> {
-    let head = "ceptre 1\nheight 128\nstage main\nhave 1 a\n";
+    let head = "ceptre 2\nheight 128\nstage main\nhave 1 a\n";
     format!(in alloc; "{head}? 1 r\n? choose\n? no\n{rest}")
 }
 

@@ -52,7 +52,7 @@ even z. even (s (s N)) <- even N.
 stage main = { r : val N * even N -o seen N. }
 #interactive main. #trace _ main { val (s (s z)) }.
 -
-ceptre 1
+ceptre 2
 height 1
 stage main
 have 1 val (s (s z))
@@ -79,7 +79,7 @@ nat : type. z : nat. s nat : nat. num nat : pred.
 stage main = { up : num N -o num (s N). }
 #trace _ main { num @ }.
 -
-ceptre 1
+ceptre 2
 height 128
 stage main
 have 1 num @

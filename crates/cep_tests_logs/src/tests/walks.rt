@@ -5,8 +5,10 @@ use std::alloc::Global;
 use std::process::Abort;
 use std::test::Fail;
 
-// Each line of this table changes a line of the walk, and says what is told then.
+// Each line of this table changes a line of the walk, and says what is told then, in both versions.
 fn expect_walks(rt: &impl Abort, alloc: Global, table: &str) -> Result<(), Fail> {
+    let first = walk().replace(alloc, "ceptre 2\n", "ceptre 1\n")?;
+    expect_changes(rt, alloc, first.as_str(), table)?;
     expect_changes(rt, alloc, walk(), table)
 }
 
@@ -26,7 +28,7 @@ fn passed_over() -> &'static str {
 7 | ? no | accepted 2
 15 | ? | accepted 2
 40 | ?have 1 met alice carol | 36 EndState 0 1: met alice carol
-1 | ? ceptre 1 | 2 Line
+1 | ? ceptre 2 | 2 Line
 7 |  ? choose | 7 Line"
 }
 

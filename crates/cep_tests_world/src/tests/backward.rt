@@ -82,7 +82,7 @@ fn a_cycle_is_offered_once(rt: HostRuntime) -> Result<(), Fail> {
 // What is said of a step that two clauses prove, up to the line of the derivation, and behind it.
 fn said_of_it() -> (&'static str, &'static str) {
     (
-        "ceptre 1\nheight 128\nstage main\nhave 1 p c\n? 1 r X=c\n? choose\nstep r X=c\n",
+        "ceptre 2\nheight 128\nstage main\nhave 1 p c\n? 1 r X=c\n? choose\nstep r X=c\n",
         "end quiet\nhave 1 q c\n",
     )
 }
@@ -117,7 +117,7 @@ num z. num (s N) <- num N.
 stage main = { r : num N -o got N. }
 #interactive main. #trace _ main {}.
 -
-ceptre 1
+ceptre 2
 height 3
 stage main
 ? 1 r N=z
@@ -133,7 +133,7 @@ stage main = { r : val N * even N -o seen N. }
 #interactive main.
 #trace _ main { val (s (s (s (s z)))), val (s (s (s (s (s (s z)))))) }.
 -
-ceptre 1
+ceptre 2
 height 3
 stage main
 have 1 val (s (s (s (s z))))
@@ -154,7 +154,7 @@ num z. num (s N) <- num N.
 stage main = { r : num N -o got N. }
 #interactive main. #trace _ main {}.
 -
-ceptre 1
+ceptre 2
 height 1
 stage main
 ? 1 r N=z
@@ -169,7 +169,7 @@ fn circular() -> &'static str {
 1/
 a : pred. b : bwd. b <- b. b. stage main = { r : a * b -o (). } #interactive main. #trace _ main { a }.
 -
-ceptre 1
+ceptre 2
 height 512
 stage main
 have 1 a

@@ -20,7 +20,7 @@ on : qui * stage one -o stage two.
 // A transcript that is legal, and the same with other ends of lines and other questions.
 fn legal() -> &'static str {
     "\
-ceptre 1
+ceptre 2
 height 128
 stage one
 have 1 a
@@ -31,7 +31,7 @@ step t
 end quiet
 have 1 c
 =
-ceptre 1
+ceptre 2
 height 7
 stage one
 have 1 a
@@ -40,7 +40,7 @@ step r
 end input
 have 1 b
 =
-ceptre 1
+ceptre 2
 height 128
 stage one
 have 1 a
@@ -68,7 +68,7 @@ refused 1 Line
 =
 refused 5 NoRule
 -
-ceptre 1
+ceptre 2
 height 128
 stage one
 have 1 a
@@ -76,7 +76,7 @@ step s
 =
 refused 3 StartStage said two is one
 -
-ceptre 1
+ceptre 2
 height 128
 stage two
 have 1 a
@@ -85,7 +85,7 @@ have 1 a
 =
 refused 5 NotQuiet r
 -
-ceptre 1
+ceptre 2
 height 128
 stage one
 have 1 a
@@ -96,7 +96,7 @@ have 1 a
 =
 refused 6 OtherStage t
 -
-ceptre 1
+ceptre 2
 height 128
 stage one
 have 1 a
@@ -107,7 +107,7 @@ have 1 c
 =
 refused 6 EndState said 1 is 0 a
 -
-ceptre 1
+ceptre 2
 height 128
 stage one
 have 1 a
@@ -117,7 +117,7 @@ have 1 a
 =
 refused 6 NotEnded
 -
-ceptre 1
+ceptre 2
 height 128
 stage one
 have 1 a

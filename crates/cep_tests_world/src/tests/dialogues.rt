@@ -31,7 +31,7 @@ have 1 b
 
 coin : pred. toy : pred. stage shop = { buy : coin -o toy. } #interactive shop. #trace _ shop { coin }.
 -
-ceptre 1
+ceptre 2
 height 128
 stage shop
 have 1 coin
@@ -58,7 +58,7 @@ have 1 b
 x
 egg : pred. hen : pred. stage farm = { hatch : egg -o hen. } #interactive farm. #trace _ farm { egg }.
 -
-ceptre 1
+ceptre 2
 height 128
 stage farm
 have 1 egg
@@ -247,7 +247,7 @@ fn a_text_that_is_too_long_is_refused(rt: HostRuntime) -> Result<(), Fail> {
 #[test]
 fn a_run_ends_where_no_more_may_be_typed(rt: HostRuntime) -> Result<(), Fail> {
     let typed = "x".repeat(rt.alloc(), MOST_TYPED as usize)?;
-    let said = "ceptre 1\nheight 128\nstage main\nhave 1 a\n? 1 r\n? choose\nend typed\nhave 1 a\n";
+    let said = "ceptre 2\nheight 128\nstage main\nhave 1 a\n? 1 r\n? choose\nend typed\nhave 1 a\n";
     let played = (turning(), typed.as_str());
     expect_run(&rt, rt.alloc(), "play f", played, (4, said))?;
     expect_checked(&rt, rt.alloc(), (turning(), said), (0, "accepted 0\n"))

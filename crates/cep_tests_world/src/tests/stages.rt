@@ -20,7 +20,7 @@ right : qui * stage one -o stage two * b.
 #interactive one.
 #trace _ one {}.
 -
-ceptre 1
+ceptre 2
 height 128
 stage one
 ? 1 left
