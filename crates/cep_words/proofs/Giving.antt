@@ -11,7 +11,8 @@ use Rattle.cep_base.proofs.Elements.{contains_right, contains_first, map_cases, 
 use Rattle.cep_words.specs.declared.run_option.RunOption.{RunOption}
 use Rattle.cep_words.specs.declared.run_option.RunOption.TheVariants.{Seed, Height, Turns}
 use Rattle.cep_words.specs.declared.options.Options.{Options}
-use Rattle.cep_words.specs.Words.{option_text, IsInBounds, asked_if, all_asked, AreWithin, Give, Play, Check, World, AskFor, HaveNoForm}
+use Rattle.cep_words.specs.declared.request.Task.{Task}
+use Rattle.cep_words.specs.Words.{option_text, IsInBounds, asked_if, all_asked, AreWithin, Give, Play, Examine, World, AskFor, HaveNoForm}
 use Rattle.cep_words.specs.Adding.{IsThere, AddsOne}
 
 -- How many words begin as those of a kind do
@@ -200,10 +201,10 @@ none_weaker None P P' Q less holds = less holds
 none_weaker (Some x) P P' Q less holds = holds
 
 -- words that ask for none of these have no form
-pub no_form : (words : List (List ℕ)) → ((file : List ℕ) (options : Options) → ¬ (AskFor words (Play file options))) → ((file log : List ℕ) → ¬ (AskFor words (Check file log))) → ((rooms : ℕ) (options : Options) → ¬ (AskFor words (World rooms options))) → HaveNoForm words
-no_form words unplayed unchecked unrun (Play file options) ask = unplayed file options ask
-no_form words unplayed unchecked unrun (Check file log) ask = unchecked file log ask
-no_form words unplayed unchecked unrun (World rooms options) ask = unrun rooms options ask
+pub no_form : (words : List (List ℕ)) → ((file : List ℕ) (options : Options) → ¬ (AskFor words (Play file options))) → ((task : Task) (file log : List ℕ) → ¬ (AskFor words (Examine task file log))) → ((rooms : ℕ) (options : Options) → ¬ (AskFor words (World rooms options))) → HaveNoForm words
+no_form words unplayed unexamined unrun (Play file options) ask = unplayed file options ask
+no_form words unplayed unexamined unrun (Examine task file log) ask = unexamined task file log ask
+no_form words unplayed unexamined unrun (World rooms options) ask = unrun rooms options ask
 
 -- three items
 pub three_items : {X : Type 0} (items : List X) (one other third : X) → length items ≡ 3 → one ≡ get_or items 0 one → other ≡ get_or items 1 other → third ≡ get_or items 2 third → items ≡ one ∷ other ∷ third ∷ []

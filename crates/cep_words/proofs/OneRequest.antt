@@ -8,7 +8,9 @@ use Rattle.cep_base.proofs.Elements.{contains_none, contains_cases, contains_eit
 use Rattle.cep_words.specs.declared.run_option.RunOption.{RunOption}
 use Rattle.cep_words.specs.declared.run_option.RunOption.TheVariants.{Seed, Height, Turns}
 use Rattle.cep_words.specs.declared.options.Options.{Options}
-use Rattle.cep_words.specs.Words.{option_text, IsInBounds, asked_if, all_asked, Give, Request, Play, Check, World, AskFor}
+use Rattle.cep_words.specs.declared.request.Task.{Task}
+use Rattle.cep_words.specs.declared.request.Task.TheVariants.{Check, Renew}
+use Rattle.cep_words.specs.Words.{option_text, IsInBounds, asked_if, all_asked, Give, task_word, Request, Play, Examine, World, AskFor}
 
 abbrev head : List ℕ → ℕ
 head [] = 0
@@ -106,6 +108,18 @@ given_once words one other given given' =
     let turns = same_option one.turns other.turns (λ n. there (Turns n)) (λ n. back (Turns n)) in
     λ i. record { seed = seed i; height = height i; turns = turns i }
 
+-- a word names one task at most
+one_task : (one other : Task) → task_word one ≡ task_word other → one ≡ other
+one_task Check Check same = refl
+one_task Renew Renew same = refl
+one_task Check Renew same = let letter : 99 ≡ 114 = ap head same in absurd (omega (arith, letter))
+one_task Renew Check same = let letter : 114 ≡ 99 = ap head same in absurd (omega (arith, letter))
+
+-- and no word that begins otherwise
+no_task : (task : Task) (byte : ℕ) → ¬ (byte ≡ 99) → ¬ (byte ≡ 114) → ¬ (byte ≡ head (task_word task))
+no_task Check byte check renew same = check same
+no_task Renew byte check renew same = renew same
+
 pub one_request : (words : List (List ℕ)) (one other : Request) → AskFor words one → AskFor words other → one ≡ other
 one_request words (Play file options) (Play file' options') ask ask' =
     let same : codes "play" ∷ file ∷ ask.0 ≡ codes "play" ∷ file' ∷ ask'.0 = sym ask.1 ∙ ask'.1 in
@@ -113,19 +127,18 @@ one_request words (Play file options) (Play file' options') ask ask' =
     let others : ask.0 ≡ ask'.0 = ap behind_two same in
     let given = given_once ask'.0 options options' (subst (λ ws. Give ws options) others ask.2) ask'.2 in
     λ i. Play (files i) (given i)
-one_request words (Check file log) (Check file' log') ask ask' =
-    let same : codes "check" ∷ file ∷ log ∷ [] ≡ codes "check" ∷ file' ∷ log' ∷ [] = sym ask ∙ ask' in
+one_request words (Examine task file log) (Examine task' file' log') ask ask' =
+    let same : task_word task ∷ file ∷ log ∷ [] ≡ task_word task' ∷ file' ∷ log' ∷ [] = sym ask ∙ ask' in
+    let tasks : task ≡ task' = one_task task task' (ap first same) in
     let files : file ≡ file' = ap second same in
     let logs : log ≡ log' = ap (λ ws. first (behind_two ws)) same in
-    λ i. Check (files i) (logs i)
-one_request words (Play file options) (Check file' log) ask ask' =
-    let same : codes "play" ∷ file ∷ ask.0 ≡ codes "check" ∷ file' ∷ log ∷ [] = sym ask.1 ∙ ask' in
-    let letter : 112 ≡ 99 = ap (λ ws. head (first ws)) same in
-    absurd (omega (arith, letter))
-one_request words (Check file log) (Play file' options) ask ask' =
-    let same : codes "check" ∷ file ∷ log ∷ [] ≡ codes "play" ∷ file' ∷ ask'.0 = sym ask ∙ ask'.1 in
-    let letter : 99 ≡ 112 = ap (λ ws. head (first ws)) same in
-    absurd (omega (arith, letter))
+    λ i. Examine (tasks i) (files i) (logs i)
+one_request words (Play file options) (Examine task file' log) ask ask' =
+    let same : codes "play" ∷ file ∷ ask.0 ≡ task_word task ∷ file' ∷ log ∷ [] = sym ask.1 ∙ ask' in
+    absurd (no_task task 112 (λ letter. omega (arith, letter)) (λ letter. omega (arith, letter)) (ap (λ ws. head (first ws)) same))
+one_request words (Examine task file log) (Play file' options) ask ask' =
+    let same : codes "play" ∷ file' ∷ ask'.0 ≡ task_word task ∷ file ∷ log ∷ [] = sym ask'.1 ∙ ask in
+    absurd (no_task task 112 (λ letter. omega (arith, letter)) (λ letter. omega (arith, letter)) (ap (λ ws. head (first ws)) same))
 one_request words (World rooms options) (World rooms' options') ask ask' =
     let same : codes "world" ∷ decimal rooms ∷ ask.1.0 ≡ codes "world" ∷ decimal rooms' ∷ ask'.1.0 = sym ask.1.1 ∙ ask'.1.1 in
     let few = ask.0.1 in
@@ -142,11 +155,9 @@ one_request words (Play file options) (World rooms options') ask ask' =
     let same : codes "play" ∷ file ∷ ask.0 ≡ codes "world" ∷ decimal rooms ∷ ask'.1.0 = sym ask.1 ∙ ask'.1.1 in
     let letter : 112 ≡ 119 = ap (λ ws. head (first ws)) same in
     absurd (omega (arith, letter))
-one_request words (World rooms options) (Check file log) ask ask' =
-    let same : codes "world" ∷ decimal rooms ∷ ask.1.0 ≡ codes "check" ∷ file ∷ log ∷ [] = sym ask.1.1 ∙ ask' in
-    let letter : 119 ≡ 99 = ap (λ ws. head (first ws)) same in
-    absurd (omega (arith, letter))
-one_request words (Check file log) (World rooms options) ask ask' =
-    let same : codes "check" ∷ file ∷ log ∷ [] ≡ codes "world" ∷ decimal rooms ∷ ask'.1.0 = sym ask ∙ ask'.1.1 in
-    let letter : 99 ≡ 119 = ap (λ ws. head (first ws)) same in
-    absurd (omega (arith, letter))
+one_request words (World rooms options) (Examine task file log) ask ask' =
+    let same : codes "world" ∷ decimal rooms ∷ ask.1.0 ≡ task_word task ∷ file ∷ log ∷ [] = sym ask.1.1 ∙ ask' in
+    absurd (no_task task 119 (λ letter. omega (arith, letter)) (λ letter. omega (arith, letter)) (ap (λ ws. head (first ws)) same))
+one_request words (Examine task file log) (World rooms options) ask ask' =
+    let same : codes "world" ∷ decimal rooms ∷ ask'.1.0 ≡ task_word task ∷ file ∷ log ∷ [] = sym ask'.1.1 ∙ ask in
+    absurd (no_task task 119 (λ letter. omega (arith, letter)) (λ letter. omega (arith, letter)) (ap (λ ws. head (first ws)) same))

@@ -6,6 +6,8 @@ use Rattle.cep_base.specs.declared.limits.TheConstants.{MOST_HEIGHT, MOST_TURNS,
 use Rattle.cep_words.specs.declared.run_option.RunOption.{RunOption}
 use Rattle.cep_words.specs.declared.run_option.RunOption.TheVariants.{Seed, Height, Turns}
 use Rattle.cep_words.specs.declared.options.Options.{Options}
+use Rattle.cep_words.specs.declared.request.Task.{Task}
+use Rattle.cep_words.specs.declared.request.Task.TheVariants.{Check, Renew}
 
 -- the word that asks one thing of a run: its name, `=`, and the number in decimal without leading zeros
 abbrev pub option_text : RunOption → List ℕ
@@ -40,16 +42,21 @@ AreWithin options = AllByRecursion IsInBounds (all_asked options)
 abbrev pub Give : List (List ℕ) → Options → Type 0
 Give words options = AreWithin options × IsPermutation (map option_text (all_asked options)) words
 
--- What words may ask for: that the program in a file is played, with options; that the transcript in a file is checked against it; or that the generated world of so many rooms is run, with options.
+-- the word that names what is done with a transcript
+abbrev pub task_word : Task → List ℕ
+task_word Check = codes "check"
+task_word Renew = codes "renew"
+
+-- What words may ask for: that the program in a file is played, with options; that the transcript in a file is examined against it, for a task; or that the generated world of so many rooms is run, with options.
 pub data Request : Type 0 where
   Play : (file : List ℕ) → (options : Options) → Request
-  Check : (file : List ℕ) → (log : List ℕ) → Request
+  Examine : (task : Task) → (file : List ℕ) → (log : List ℕ) → Request
   World : (rooms : ℕ) → (options : Options) → Request
 
 -- These words ask for this.
 abbrev pub AskFor : List (List ℕ) → Request → Type 0
 AskFor words (Play file options) = (others : List (List ℕ)) × (words ≡ codes "play" ∷ file ∷ others) × Give others options
-AskFor words (Check file log) = words ≡ codes "check" ∷ file ∷ log ∷ []
+AskFor words (Examine task file log) = words ≡ task_word task ∷ file ∷ log ∷ []
 AskFor words (World rooms options) = IsUpTo MOST_WORLD rooms × ((others : List (List ℕ)) × (words ≡ codes "world" ∷ decimal rooms ∷ others) × Give others options)
 
 -- the words have no form: they ask for nothing

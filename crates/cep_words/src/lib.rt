@@ -8,5 +8,5 @@ mod request;
 mod run_option;
 
 pub use options::Options;
-pub use request::Request;
+pub use request::{Request, Task};
 pub use run_option::RunOption;
