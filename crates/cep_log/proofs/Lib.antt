@@ -5,7 +5,11 @@ pub mod Ofs
 pub mod Passing
 pub mod Apart
 pub mod OneLine
+pub mod LineTexts
 pub mod WrittenListings
 pub mod WrittenSteps
+pub mod Writable
+pub mod SameLogs
+pub mod WrittenLogs
 pub mod LineKindLemmas
 pub mod StepLemmas

@@ -14,8 +14,31 @@ use Rattle.cep_text.specs.Texts.{offer_text, proof_text}
 use Rattle.cep_log.specs.declared.log.Log.{Log}
 use Rattle.cep_log.specs.declared.log.LogStep.{LogStep}
 use Rattle.cep_log.specs.declared.so_far.SoFar.{SoFar}
-use Rattle.cep_log.specs.declared.so_far.SoFar.TheVariants.{Whole, Within}
-use Rattle.cep_log.specs.Transcript.{IsByLine, MovesOn, Leads, IsReadable, stage_texts, has_own_lines, with_own, with_step, step_begun}
+use Rattle.cep_log.specs.declared.so_far.SoFar.TheVariants.{Nothing, Begun, Height, Whole, Within, Unlisted, Listed, Ended}
+use Rattle.cep_log.specs.Transcript.{IsByLine, BeginsNext, Becomes, MovesOn, Leads, IsReadable, stage_texts, has_own_lines, with_own, with_step, step_begun, log_listed}
+use Rattle.cep_base.proofs.Lists.{none_some, some_same}
+
+-- the log behind which a step or the end is next
+abbrev pub whole_log : SoFar → Option Log
+whole_log Nothing = None
+whole_log (Begun version) = None
+whole_log (Height version height) = None
+whole_log (Whole log) = Some log
+whole_log (Within log step) = None
+whole_log (Unlisted log step) = None
+whole_log (Listed log step mid) = Some (log_listed log step mid)
+whole_log (Ended log end) = None
+
+-- What begins behind the log may stand next.
+pub next_stands : (program : Parts) (number : ℕ) (line : List ℕ) (so_far : SoFar) (log : Log) (new : SoFar) → whole_log so_far ≡ Some log → BeginsNext program number line log new → Becomes program number line so_far new
+next_stands program number line Nothing log new whole next = none_some log whole
+next_stands program number line (Begun version) log new whole next = none_some log whole
+next_stands program number line (Height version height) log new whole next = none_some log whole
+next_stands program number line (Whole old) log new whole next = inr (subst (λ log. BeginsNext program number line log new) (sym (some_same old log whole)) next)
+next_stands program number line (Within old step) log new whole next = none_some log whole
+next_stands program number line (Unlisted old step) log new whole next = none_some log whole
+next_stands program number line (Listed old step mid) log new whole next = inr (subst (λ log. BeginsNext program number line log new) (sym (some_same (log_listed old step mid) log whole)) next)
+next_stands program number line (Ended old end) log new whole next = none_some log whole
 
 -- whether a step has all its own lines
 own_all : (next stage : Option ℕ) (full : Bool) → full ≡ true → next ≡ None → (full && (is_none next || is_some stage)) ≡ true
@@ -87,12 +110,16 @@ module _ (program : Parts) (log : Log) (rule : Rule) where
       )
 
   -- A step, whole.
-  pub step_read : (n : ℕ) (offer : Offer) (proofs : List ProofTree) → slice_get program.rules offer.rule ≡ Some rule → IsOfferOf program offer → AllByRecursion IsSmallTerm offer.values → length proofs ≡ length rule.backs
+  pub step_read : (n : ℕ) (so_far : SoFar) → whole_log so_far ≡ Some log → (offer : Offer) (proofs : List ProofTree) → slice_get program.rules offer.rule ≡ Some rule → IsOfferOf program offer → AllByRecursion IsSmallTerm offer.values → length proofs ≡ length rule.backs
       → AllByRecursion (IsReadable program) proofs → ((stage : ℕ) → rule.next ≡ Some stage → stage < length program.stages)
-      → Leads program n (step_text program offer ∷ (map (by_text program) proofs ++ stage_texts program rule.next)) (Whole log)
+      → Leads program n (step_text program offer ∷ (map (by_text program) proofs ++ stage_texts program rule.next)) so_far
       (with_own log (record { line = n; offer = offer; proofs = proofs; stage = rule.next; mid = None }))
-  step_read n offer proofs numbered of small all readable within = (
+  step_read n so_far whole offer proofs numbered of small all readable within = (
     with_step rule log (step_begun n offer),
-    inr ((λ e. omega arith), inr (inl (record { offer = offer; rule = rule; said = record { text = offer_text program offer; offer_is = record { of_rule = of; small = small; text = refl }; written = refl }; numbered = numbered; step = refl }))),
+    inr (
+      (λ e. omega arith),
+      next_stands program n (step_text program offer) so_far log (with_step rule log (step_begun n offer)) whole
+          (inl (record { offer = offer; rule = rule; said = record { text = offer_text program offer; offer_is = record { of_rule = of; small = small; text = refl }; written = refl }; numbered = numbered; step = refl })),
+    ),
     own_read (n + 1) (step_begun n offer) proofs numbered refl (omega arith) readable within,
   )

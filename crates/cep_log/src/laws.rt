@@ -1,33 +1,29 @@
 //! Laws of transcripts, for the crates that rest on them. Each function computes nothing, and its
 //! contract is the law.
-ghost use Rattle.std.specs.Prelude.{◌≡◌, ◌≤◌, ◌<◌, ◌+◌, ◌++◌, [], ◌∷◌, Some, ℕ, List, length, map, decimal, slice_get, None};
+ghost use Rattle.std.specs.Prelude.{◌≡◌, ◌≤◌, ◌<◌, ℕ, List, length, decimal, slice_get};
 ghost use Rattle.std.specs.FinMap as finite;
 ghost use Rattle.std.specs.List.{AllByRecursion, flat_map};
 ghost use Rattle.cep_term.specs.Tree.{AtomTree};
-ghost use Rattle.cep_rule.specs.declared.rule.Rule.{Rule};
 ghost use Rattle.cep_rule.specs.declared.offer.Offer.{Offer};
 ghost use Rattle.cep_rule.specs.Derivations.{ProofTree};
-ghost use Rattle.cep_rule.specs.Shapes.{IsOfferOf, IsProofOf, IsSmallTerm};
+ghost use Rattle.cep_rule.specs.Shapes.{IsOfferOf, IsProofOf};
 ghost use Rattle.cep_text.specs.Texts.{atom_text, offer_text, proof_text, IsTypedGround};
-ghost use Rattle.cep_lines.specs.Lines.{line, stage_name, have_line, have_text, step_text, by_text};
+ghost use Rattle.cep_lines.specs.Lines.{line, stage_name};
 ghost use Rattle.cep_term.specs.Multiset.{Multiset};
 ghost use Rattle.cep_rule.specs.declared.signature.Signature.{Signature};
 ghost use Rattle.cep_rule.specs.State.{IsState, Fits};
 ghost use Rattle.cep_rule.specs.declared.parts.Parts.{Parts};
 ghost use Rattle.cep_rule.specs.Program.{IsProgram};
 ghost use Rattle.cep_log.specs.declared.log.Log.{Log};
-ghost use Rattle.cep_log.specs.declared.log.LogStep.{LogStep};
-ghost use Rattle.cep_log.specs.declared.log.LogMid.{LogMid};
-ghost use Rattle.cep_log.specs.declared.log.LogEnd.{LogEnd};
-ghost use Rattle.cep_log.specs.declared.so_far.SoFar.{SoFar};
-ghost use Rattle.cep_log.specs.declared.so_far.SoFar.TheVariants.{Whole, Listed, Ended};
 ghost use Rattle.cep_log.specs.Legal.{IsListing, IsLegal};
 ghost use Rattle.cep_log.specs.Written.{text_of, TellLog, SayTheSame, TellTheSame};
 ghost use Rattle.cep_base.specs.declared.limits.TheConstants.{MOST_LOG};
 ghost use Rattle.cep_log.specs.declared.fault.LogFault.{LogFault};
-ghost use Rattle.cep_log.specs.Transcript.{AreLines, IsOneLine, IsReadable, stage_texts, Leads, with_own, HasLog, HasMisfit};
+ghost use Rattle.cep_log.specs.Transcript.{AreLines, IsOneLine, HasLog, HasMisfit};
 
-use cep_rule::laws::{derivations_have_shape, values_are_small};
+use cep_rule::laws::{
+    derivations_have_shape, steps_lead_to_states, values_are_small, what_is_needed_is_there,
+};
 use cep_term::laws::bags_are_lawful;
 use cep_text::laws::one_value;
 
@@ -63,42 +59,12 @@ pub fn lines_are_read_as_written()
     ensures stages { (program : Parts) (stage : ℕ) → IsProgram program → stage < length program.stages → IsOneLine (stage_name (slice_get program.stages stage)) }
 {}
 
-/// The entries of a state that fits are a listing, and its lines, as they are written, are read as
-/// these entries, in the start listing, behind a step and behind the end. Ways through lines can be joined.
+/// The entries of a state that fits are a listing.
 pub fn listings_are_read_as_written()
-    ensures states { (signature : Signature) (state : Multiset) → IsState signature state → Fits state → IsListing signature (finite.entries state) }
-    ensures written { (signature : Signature) (entry : AtomTree × ℕ) → have_line signature entry ≡ line (have_text signature entry) }
-    ensures start { (program : Parts) (number : ℕ) (log : Log) (old entries : List (AtomTree × ℕ))
-        → log.steps ≡ []
-        → IsListing program.signature (old ++ entries)
-        → Leads program number (map (have_text program.signature) entries) (Whole (record log { start = old })) (Whole (record log { start = old ++ entries })) }
-    ensures mid { (program : Parts) (number : ℕ) (log : Log) (step : LogStep) (mid : LogMid) (old entries : List (AtomTree × ℕ))
-        → IsListing program.signature (old ++ entries)
-        → Leads program number (map (have_text program.signature) entries) (Listed log step (record mid { state = old })) (Listed log step (record mid { state = old ++ entries })) }
-    ensures last { (program : Parts) (number : ℕ) (log : Log) (end : LogEnd) (old entries : List (AtomTree × ℕ))
-        → IsListing program.signature (old ++ entries)
-        → Leads program number (map (have_text program.signature) entries) (Ended log (record end { state = old })) (Ended log (record end { state = old ++ entries })) }
-    ensures joined { (program : Parts) (number : ℕ) (lines later : List (List ℕ)) (one mid end : SoFar)
-        → Leads program number lines one mid
-        → Leads program (number + length lines) later mid end
-        → Leads program number (lines ++ later) one end }
+    ensures { (signature : Signature) (state : Multiset) → IsState signature state → Fits state → IsListing signature (finite.entries state) }
 {
     bags_are_lawful();
 }
-
-/// The own lines of a step, as they are written, are read as the step: its line, one for each
-/// derivation, and the next stage where its rule names one. Its listing, if it has one, is left.
-pub fn steps_are_read_as_written()
-    ensures { (program : Parts) (log : Log) (rule : Rule) (number : ℕ) (offer : Offer) (proofs : List ProofTree)
-        → slice_get program.rules offer.rule ≡ Some rule
-        → IsOfferOf program offer
-        → AllByRecursion IsSmallTerm offer.values
-        → length proofs ≡ length rule.backs
-        → AllByRecursion (IsReadable program) proofs
-        → ((stage : ℕ) → rule.next ≡ Some stage → stage < length program.stages)
-        → Leads program number (step_text program offer ∷ (map (by_text program) proofs ++ stage_texts program rule.next)) (Whole log)
-        (with_own log (record { line = number; offer = offer; proofs = proofs; stage = rule.next; mid = None })) }
-{}
 
 /// A legal log that is written line by line, with remarks between its steps or none, is read as a log
 /// that says the same and is legal: only the numbers of its lines differ. Lines are no more than
@@ -117,9 +83,8 @@ pub fn logs_are_read_as_written()
         → TellTheSame SayTheSame one other
         → text_of program one ≡ text_of program other }
 {
-    steps_are_read_as_written();
-    listings_are_read_as_written();
-    lines_are_read_as_written();
+    steps_lead_to_states();
+    what_is_needed_is_there();
     derivations_have_shape();
     values_are_small();
 }

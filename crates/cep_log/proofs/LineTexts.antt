@@ -1,0 +1,101 @@
+-- The lines that are written of a log can each be written as one line.
+use Rattle.std.proofs.Common.{◌≡◌, ◌≢◌, ℕ, ◌+◌, ◌<◌, ◌==◌, ◌&&◌, not, List, [], ◌∷◌, ◌++◌, map, Bool, true, false, Option, Some, None, refl, sym, ap, ◌∙◌}
+use Rattle.std.specs.Prelude.{codes, decimal, slice_get, IfSome, length}
+use Rattle.std.specs.List.{AllByRecursion}
+use Rattle.std.proofs.lemmas.Bool.{and_parts}
+use Rattle.cep_base.proofs.Elements.{both_all}
+use Rattle.cep_term.specs.Tree.{AtomTree}
+use Rattle.cep_rule.specs.declared.parts.Parts.{Parts}
+use Rattle.cep_rule.specs.declared.offer.Offer.{Offer}
+use Rattle.cep_rule.specs.Derivations.{ProofTree}
+use Rattle.cep_rule.specs.Shapes.{IsOfferOf}
+use Rattle.cep_rule.specs.Program.{IsProgram}
+use Rattle.cep_text.specs.Texts.{atom_text, offer_text, proof_text}
+use Rattle.cep_lines.specs.declared.version.Version.{Version}
+use Rattle.cep_lines.specs.declared.version.Version.TheVariants.{One, Two}
+use Rattle.cep_lines.specs.declared.end_word.EndWord.{EndWord}
+use Rattle.cep_lines.specs.declared.end_word.EndWord.TheVariants.{Quiet, Input, Turns, Offers, Typed, Atom, State}
+use Rattle.cep_lines.specs.Lines.{version_text, height_text, stage_name, stage_text, have_text, step_text, by_text, state_text, end_text}
+use Rattle.cep_log.specs.declared.log.LogMid.{LogMid}
+use Rattle.cep_log.specs.declared.log.LogEnd.{LogEnd}
+use Rattle.cep_log.specs.Legal.{IsHave, IsListing}
+use Rattle.cep_log.specs.Transcript.{IsOneLine, IsReadable, stage_texts}
+use Rattle.cep_log.specs.Written.{mid_texts, end_texts}
+use Rattle.cep_log.proofs.OneLine.{decimal_one, atom_one, offer_one, proof_one, stage_one}
+
+-- Literals are told by a test.
+
+abbrev is_plain : ℕ → Bool
+is_plain byte = not (byte == 10) && not (byte == 13)
+
+abbrev all_plain : List ℕ → Bool
+all_plain [] = true
+all_plain (byte ∷ bytes) = is_plain byte && all_plain bytes
+
+not_plain : (bad byte : ℕ) → is_plain bad ≡ false → is_plain byte ≡ true → byte ≢ bad
+not_plain bad byte fails plain same = let both : false ≡ true = sym fails ∙ sym (ap is_plain same) ∙ plain in cc
+
+literal : (bytes : List ℕ) → all_plain bytes ≡ true → IsOneLine bytes
+literal [] all = tt
+literal (byte ∷ bytes) all =
+    let parts = and_parts (is_plain byte) (all_plain bytes) all in
+    ((not_plain 10 byte refl parts.0, not_plain 13 byte refl parts.0), literal bytes parts.1)
+
+joined : (one other : List ℕ) → IsOneLine one → IsOneLine other → IsOneLine (one ++ other)
+joined one other here there = both_all (λ byte. (byte ≢ 10) × (byte ≢ 13)) one other here there
+
+-- Lines that are made of words and numbers.
+
+pub version_one : (version : Version) → IsOneLine (version_text version)
+version_one One = literal (codes "ceptre 1") refl
+version_one Two = literal (codes "ceptre 2") refl
+
+pub height_one : (height : ℕ) → IsOneLine (height_text height)
+height_one height = joined (codes "height ") (decimal height) (literal (codes "height ") refl) (decimal_one height)
+
+state_one : (number : ℕ) → IsOneLine (state_text number)
+state_one number = joined (codes "state ") (decimal number) (literal (codes "state ") refl) (decimal_one number)
+
+end_one : (word : EndWord) → IsOneLine (end_text word)
+end_one Quiet = literal (codes "end quiet") refl
+end_one Input = literal (codes "end input") refl
+end_one Turns = literal (codes "end turns") refl
+end_one Offers = literal (codes "end offers") refl
+end_one Typed = literal (codes "end typed") refl
+end_one Atom = literal (codes "end atom") refl
+end_one State = literal (codes "end state") refl
+
+-- Lines that are made of parts of a program.
+
+module _ (program : Parts) (is : IsProgram program) where
+  pub stage_text_one : (stage : ℕ) → stage < length program.stages → IsOneLine (stage_text program stage)
+  stage_text_one stage within = joined (codes "stage ") (stage_name (slice_get program.stages stage)) (literal (codes "stage ") refl) (stage_one program is stage within)
+
+  pub step_text_one : (offer : Offer) → IsOfferOf program offer → IsOneLine (step_text program offer)
+  step_text_one offer of = joined (codes "step ") (offer_text program offer) (literal (codes "step ") refl) (offer_one program is offer of)
+
+  have_one : (entry : AtomTree × ℕ) → IsHave program.signature entry → IsOneLine (have_text program.signature entry)
+  have_one entry have =
+      joined (codes "have ") (decimal entry.1 ++ (codes " " ++ atom_text program.signature entry.0)) (literal (codes "have ") refl)
+      (joined (decimal entry.1) (codes " " ++ atom_text program.signature entry.0) (decimal_one entry.1)
+      (joined (codes " ") (atom_text program.signature entry.0) (literal (codes " ") refl) (atom_one program is entry.0 have.atom)))
+
+  pub haves_one : (entries : List (AtomTree × ℕ)) → AllByRecursion (IsHave program.signature) entries → AllByRecursion IsOneLine (map (have_text program.signature) entries)
+  haves_one [] all = tt
+  haves_one (entry ∷ entries) all = (have_one entry all.0, haves_one entries all.1)
+
+  pub bys_one : (proofs : List ProofTree) → AllByRecursion (IsReadable program) proofs → AllByRecursion IsOneLine (map (by_text program) proofs)
+  bys_one [] all = tt
+  bys_one (proof ∷ proofs) all = (joined (codes "by ") (proof_text program proof) (literal (codes "by ") refl) (proof_one program is proof all.0.of_clauses), bys_one proofs all.1)
+
+  pub stages_one : (stage : Option ℕ) → IfSome stage (λ stage. stage < length program.stages) → AllByRecursion IsOneLine (stage_texts program stage)
+  stages_one None within = tt
+  stages_one (Some stage) within = (stage_text_one stage within, tt)
+
+  pub mids_one : (number : ℕ) (mid : Option LogMid) → IfSome mid (λ mid. IsListing program.signature mid.state) → AllByRecursion IsOneLine (mid_texts program number mid)
+  mids_one number None listing = tt
+  mids_one number (Some mid) listing = (state_one number, haves_one mid.state listing.each)
+
+  pub ends_one : (end : Option LogEnd) → IfSome end (λ end. IsListing program.signature end.state) → AllByRecursion IsOneLine (end_texts program end)
+  ends_one None listing = tt
+  ends_one (Some end) listing = (end_one end.word, haves_one end.state listing.each)
