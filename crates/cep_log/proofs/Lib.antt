@@ -13,3 +13,4 @@ pub mod SameLogs
 pub mod WrittenLogs
 pub mod LineKindLemmas
 pub mod StepLemmas
+pub mod OneText

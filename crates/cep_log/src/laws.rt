@@ -16,13 +16,14 @@ ghost use Rattle.cep_rule.specs.declared.parts.Parts.{Parts};
 ghost use Rattle.cep_rule.specs.Program.{IsProgram};
 ghost use Rattle.cep_log.specs.declared.log.Log.{Log};
 ghost use Rattle.cep_log.specs.Legal.{IsListing, IsLegal};
-ghost use Rattle.cep_log.specs.Written.{text_of, TellLog, SayTheSame, TellTheSame};
+ghost use Rattle.cep_log.specs.Written.{text_of, TellLog, SayTheSame, TellTheSame, IsRenewal};
 ghost use Rattle.cep_base.specs.declared.limits.TheConstants.{MOST_LOG};
 ghost use Rattle.cep_log.specs.declared.fault.LogFault.{LogFault};
 ghost use Rattle.cep_log.specs.Transcript.{AreLines, IsOneLine, HasLog, HasMisfit};
 
 use cep_rule::laws::{
-    derivations_have_shape, steps_lead_to_states, values_are_small, what_is_needed_is_there,
+    derivations_have_shape, one_state_after_a_step, steps_lead_to_states, values_are_small,
+    what_is_needed_is_there,
 };
 use cep_term::laws::bags_are_lawful;
 use cep_text::laws::one_value;
@@ -60,7 +61,7 @@ pub fn lines_are_read_as_written()
 {}
 
 /// The entries of a state that fits are a listing.
-pub fn listings_are_read_as_written()
+pub fn states_are_listings()
     ensures { (signature : Signature) (state : Multiset) → IsState signature state → Fits state → IsListing signature (finite.entries state) }
 {
     bags_are_lawful();
@@ -87,4 +88,14 @@ pub fn logs_are_read_as_written()
     what_is_needed_is_there();
     derivations_have_shape();
     values_are_small();
+}
+
+/// What a log is renewed into has one text: the states after its steps are determined.
+pub fn renewals_have_one_text()
+    ensures { (program : Parts) (old one other : Log)
+        → IsRenewal program old one
+        → IsRenewal program old other
+        → text_of program one ≡ text_of program other }
+{
+    one_state_after_a_step();
 }

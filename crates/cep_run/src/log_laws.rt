@@ -17,9 +17,7 @@ ghost use Rattle.cep_run.specs.Run.{Turn, Ending, deeds_of};
 ghost use Rattle.cep_run.specs.Dialogue.{Dialogue};
 ghost use Rattle.cep_run.specs.Logs.{written_bytes, HoldsDeeds};
 
-use cep_log::laws::{
-    lines_are_read_as_written, listings_are_read_as_written, logs_are_read_as_written,
-};
+use cep_log::laws::{lines_are_read_as_written, logs_are_read_as_written, states_are_listings};
 use cep_rule::laws::steps_lead_to_states;
 
 /// A log that holds lawful deeds from where the program begins, and how they ended, is legal, whoever
@@ -36,7 +34,7 @@ pub fn logs_of_deeds_are_legal()
         → IsLegal program log }
 {
     steps_lead_to_states();
-    listings_are_read_as_written();
+    states_are_listings();
 }
 
 /// What is written of a dialogue is a transcript, if it is not too long: its log holds what was
