@@ -8,10 +8,10 @@ _ceptre() {
         return
     fi
     case $COMP_CWORD:$command in
-    1:*) mapfile -t COMPREPLY < <(compgen -W 'play check world' -- "$word") ;;
-    2:play | 2:check) _ceptre_files cep "$word" ;;
-    3:check) _ceptre_files log "$word" ;;
-    2:world | *:check) ;;
+    1:*) mapfile -t COMPREPLY < <(compgen -W 'play check renew world' -- "$word") ;;
+    2:play | 2:check | 2:renew) _ceptre_files cep "$word" ;;
+    3:check | 3:renew) _ceptre_files log "$word" ;;
+    2:world | *:check | *:renew) ;;
     *:play | *:world) _ceptre_options "$word" ;;
     esac
 }

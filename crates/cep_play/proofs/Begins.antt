@@ -17,8 +17,9 @@ use Rattle.cep_refusal.specs.declared.fault.Fault.{Fault}
 use Rattle.cep_ground.specs.Texts.{Spells}
 use Rattle.cep_ground.specs.Refusals.{IsWrong, IsAccepted}
 use Rattle.cep_lines.specs.Lines.{line}
+use Rattle.cep_words.specs.declared.request.Task.{Task}
 use Rattle.cep_words.specs.declared.options.Options.{Options}
-use Rattle.cep_words.specs.Words.{Request, Play, Check, World, AskFor, HaveNoForm}
+use Rattle.cep_words.specs.Words.{Request, Play, Examine, World, AskFor, HaveNoForm}
 use Rattle.cep_run.specs.Fronts.{heard_bytes}
 use Rattle.cep_play.specs.declared.play.Played.{Played}
 use Rattle.cep_play.specs.Command.{OfRequest, AsksUpTo, Adds, refusal_text, usage, no_program, no_transcript}
@@ -160,20 +161,20 @@ module _ {C : Type 0} (talk : C → Option (List Event)) (left : C → Option (L
       }) fell
 
   -- a verdict that is due was begun
-  verdict_begun : (file log : List ℕ) (program : Parts) (bytes text : List ℕ) (legal : Bool) → AskFor words (Check file log) → IsProgramIn files file program → HasFile files log bytes → AsksFront before after (file ∷ log ∷ [])
-      → TellsOf program bytes text legal → WroteFront talk left old new (line text) → Begun
-  verdict_begun file log program bytes text true ask is_in has asks tells wrote =
-      text_begun (line text) 0 (file ∷ log ∷ []) wrote asks (λ come. inl (inr (Check file log, ask, (is_in.0, is_in.1, inr (program, is_in.2, (bytes, has, (text, inl (tells, refl))))))))
-  verdict_begun file log program bytes text false ask is_in has asks tells wrote =
-      text_begun (line text) 1 (file ∷ log ∷ []) wrote asks (λ come. inl (inr (Check file log, ask, (is_in.0, is_in.1, inr (program, is_in.2, (bytes, has, (text, inr (tells, refl))))))))
+  verdict_begun : (task : Task) (file log : List ℕ) (program : Parts) (bytes text : List ℕ) (legal : Bool) → AskFor words (Examine task file log) → IsProgramIn files file program → HasFile files log bytes → AsksFront before after (file ∷ log ∷ [])
+      → TellsOf task program bytes text legal → WroteFront talk left old new text → Begun
+  verdict_begun task file log program bytes text true ask is_in has asks tells wrote =
+      text_begun text 0 (file ∷ log ∷ []) wrote asks (λ come. inl (inr (Examine task file log, ask, (is_in.0, is_in.1, inr (program, is_in.2, (bytes, has, (text, inl (tells, refl))))))))
+  verdict_begun task file log program bytes text false ask is_in has asks tells wrote =
+      text_begun text 1 (file ∷ log ∷ []) wrote asks (λ come. inl (inr (Examine task file log, ask, (is_in.0, is_in.1, inr (program, is_in.2, (bytes, has, (text, inr (tells, refl))))))))
 
-  pub check_begun : (file log : List ℕ) → AskFor words (Check file log) → BeginsCheck talk left old new files unread before after file log → Begun
-  check_begun file log ask (inl (none, asks)) =
+  pub check_begun : (task : Task) (file log : List ℕ) → AskFor words (Examine task file log) → BeginsCheck talk left old new files unread before after task file log → Begun
+  check_begun task file log ask (inl (none, asks)) =
       no_program_begun file asks none
-      (λ text come due has refused. inl (inr (Check file log, ask, (text, has, inl refused)))) (λ failed come. inr (failed, (Check file log, ask, inl refl)))
-  check_begun file log ask (inr (program, is_in, inl (bytes, has, (text, legal, tells, wrote)), asks)) = verdict_begun file log program bytes text legal ask is_in has asks tells wrote
-  check_begun file log ask (inr (program, is_in, inr (failed, wrote), asks)) =
-      text_begun (line no_transcript) 7 (file ∷ log ∷ []) wrote asks (λ come. inr (failed, (Check file log, ask, inr ((is_in.0, is_in.1, (program, is_in.2.0)), refl))))
+      (λ text come due has refused. inl (inr (Examine task file log, ask, (text, has, inl refused)))) (λ failed come. inr (failed, (Examine task file log, ask, inl refl)))
+  check_begun task file log ask (inr (program, is_in, inl (bytes, has, (text, legal, tells, wrote)), asks)) = verdict_begun task file log program bytes text legal ask is_in has asks tells wrote
+  check_begun task file log ask (inr (program, is_in, inr (failed, wrote), asks)) =
+      text_begun (line no_transcript) 7 (file ∷ log ∷ []) wrote asks (λ come. inr (failed, (Examine task file log, ask, inr ((is_in.0, is_in.1, (program, is_in.2.0)), refl))))
 
   -- a summary that is due was begun
   pub tour_begun : (rooms : ℕ) (options : Options) → AskFor words (World rooms options) → after ≡ before → BeginsTour talk left old new rooms options → Begun
@@ -202,12 +203,12 @@ module _ (files : Option Files) (held : Files) (told : files ≡ Some held) (com
   asks_front : (request : Request) → AsksUpTo files (Adds before after) request → IsDueOf request (record { files = files; come = come }) due → AsksFront before after due.names
   asks_front (Play file options) adds (text, has, inl refused) = told_front 1 _ refused.is adds
   asks_front (Play file options) adds (text, has, inr (program, spelled, said)) = front_of 1 (file ∷ []) said.1 adds
-  asks_front (Check file log) (inl ((other, has', (program, spells)), adds)) (text, has, inl refused) = absurd (refused.no_program program (subst (λ t. Spells t program) (one_text file other text has' has) spells))
-  asks_front (Check file log) (inl (of, adds)) (text, has, inr (program, spelled, (bytes, has', (verdict, inl (accepts, is))))) = told_front 2 _ is adds
-  asks_front (Check file log) (inl (of, adds)) (text, has, inr (program, spelled, (bytes, has', (verdict, inr (rejects, is))))) = told_front 2 _ is adds
-  asks_front (Check file log) (inr adds) (text, has, inl refused) = told_front 1 _ refused.is adds
-  asks_front (Check file log) (inr adds) (text, has, inr (program, spelled, (bytes, has', (verdict, inl (accepts, is))))) = told_front 1 _ is adds
-  asks_front (Check file log) (inr adds) (text, has, inr (program, spelled, (bytes, has', (verdict, inr (rejects, is))))) = told_front 1 _ is adds
+  asks_front (Examine task file log) (inl ((other, has', (program, spells)), adds)) (text, has, inl refused) = absurd (refused.no_program program (subst (λ t. Spells t program) (one_text file other text has' has) spells))
+  asks_front (Examine task file log) (inl (of, adds)) (text, has, inr (program, spelled, (bytes, has', (verdict, inl (accepts, is))))) = told_front 2 _ is adds
+  asks_front (Examine task file log) (inl (of, adds)) (text, has, inr (program, spelled, (bytes, has', (verdict, inr (rejects, is))))) = told_front 2 _ is adds
+  asks_front (Examine task file log) (inr adds) (text, has, inl refused) = told_front 1 _ refused.is adds
+  asks_front (Examine task file log) (inr adds) (text, has, inr (program, spelled, (bytes, has', (verdict, inl (accepts, is))))) = told_front 1 _ is adds
+  asks_front (Examine task file log) (inr adds) (text, has, inr (program, spelled, (bytes, has', (verdict, inr (rejects, is))))) = told_front 1 _ is adds
   asks_front (World rooms options) adds (inl refused) = told_front 0 _ refused.is adds
   asks_front (World rooms options) adds (inr (program, spelled, (tally, tallied, is))) = told_front 0 _ is adds
 

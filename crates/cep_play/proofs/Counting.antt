@@ -3,8 +3,9 @@ use Rattle.std.proofs.Common.{◌≡◌, ◌⊎◌, inl, inr, ⊎_elim, ℕ, Lis
 use Rattle.cep_base.specs.declared.console.Event.{Event}
 use Rattle.cep_base.specs.Files.{Files}
 use Rattle.cep_rule.specs.declared.parts.Parts.{Parts}
+use Rattle.cep_words.specs.declared.request.Task.{Task}
 use Rattle.cep_words.specs.declared.options.Options.{Options}
-use Rattle.cep_words.specs.Words.{Request, Play, Check, World, AskFor, HaveNoForm}
+use Rattle.cep_words.specs.Words.{Request, Play, Examine, World, AskFor, HaveNoForm}
 use Rattle.cep_run.specs.declared.settings.Settings.{Settings}
 use Rattle.cep_run.specs.declared.tally.Tally.{Tally}
 use Rattle.cep_run.specs.Run.{Turn, Ending}
@@ -34,8 +35,8 @@ module _ {C : Type 0} (talk : C → Option (List Event)) (left : C → Option (L
   play_rose file options (played.Without none.Refused) ask rose ran = absurd (⊎_elim (λ e. absurd (omega (arith, e))) (λ e. absurd (omega (arith, e))) ran)
   play_rose file options (played.Without none.Unread) ask rose ran = absurd (⊎_elim (λ e. absurd (omega (arith, e))) (λ e. absurd (omega (arith, e))) ran)
 
-  pub check_rose : (file log : List ℕ) → AskFor words (Check file log) → RoseByAll talk left old new files ticks ticks' words
-  check_rose file log ask = alone (Check file log) ask tt
+  pub check_rose : (task : Task) (file log : List ℕ) → AskFor words (Examine task file log) → RoseByAll talk left old new files ticks ticks' words
+  check_rose task file log ask = alone (Examine task file log) ask tt
 
   pub tour_rose : (rooms : ℕ) (options : Options) (what : Toured) → AskFor words (World rooms options) → TourRose rooms options ticks ticks' what → (code_toured what ≡ 0) ⊎ (code_toured what ≡ 4) → RoseByAll talk left old new files ticks ticks' words
   tour_rose rooms options (toured.Ended tally) ask rose ran = alone (World rooms options) ask rose

@@ -15,8 +15,9 @@ use Rattle.cep_rule.specs.declared.parts.Parts.{Parts}
 use Rattle.cep_lines.specs.declared.end_word.EndWord.{EndWord}
 use Rattle.cep_lines.specs.declared.end_word.EndWord.TheVariants.{Quiet, Input, Turns, Offers, Typed, Atom, State}
 use Rattle.cep_lines.specs.Lines.{line}
+use Rattle.cep_words.specs.declared.request.Task.{Task}
 use Rattle.cep_words.specs.declared.options.Options.{Options}
-use Rattle.cep_words.specs.Words.{Request, Play, Check, World, AskFor, HaveNoForm}
+use Rattle.cep_words.specs.Words.{Request, Play, Examine, World, AskFor, HaveNoForm}
 use Rattle.cep_term.specs.Multiset.{copies_in}
 use Rattle.cep_run.specs.declared.settings.Settings.{Settings}
 use Rattle.cep_run.specs.declared.tally.Tally.{Tally}
@@ -116,16 +117,16 @@ adds_twice before between after one other first second = second ∙ ap (option_m
   joined None = refl
   joined (Some asked) = ap Some (append_assoc asked (one ∷ []) (other ∷ []))
 
--- words that ask for a check or for a world ask for no program to be played
-checks_alone : IsOneRequest → (words : List (List ℕ)) (name log : List ℕ) (code : ℕ) → AskFor words (Check name log) → IsNoDialogue words code
-checks_alone one words name log code ask file options other = let same : Check name log ≡ Play file options = one words (Check name log) (Play file options) ask other in absurd (cc)
+-- words that ask for a transcript to be examined or for a world ask for no program to be played
+checks_alone : IsOneRequest → (words : List (List ℕ)) (task : Task) (name log : List ℕ) (code : ℕ) → AskFor words (Examine task name log) → IsNoDialogue words code
+checks_alone one words task name log code ask file options other = let same : Examine task name log ≡ Play file options = one words (Examine task name log) (Play file options) ask other in absurd (cc)
 
 tours_alone : IsOneRequest → (words : List (List ℕ)) (rooms : ℕ) (asked : Options) (code : ℕ) → AskFor words (World rooms asked) → IsNoDialogue words code
 tours_alone one words rooms asked code ask file options other = let same : World rooms asked ≡ Play file options = one words (World rooms asked) (Play file options) ask other in absurd (cc)
 
 abbrev file_played : Request → List ℕ
 file_played (Play file options) = file
-file_played (Check file log) = file
+file_played (Examine task file log) = file
 file_played (World rooms options) = []
 
 module _ {C : Type 0} (talk : C → Option (List Event)) (left : C → Option (List ℕ)) (old new : C) (files : Option Files) (was is : ℕ) (before after : Option (List (List ℕ))) (words : List (List ℕ)) where
@@ -177,28 +178,28 @@ module _ {C : Type 0} (talk : C → Option (List Event)) (left : C → Option (L
       text_done (line no_program) 7 (file ∷ []) it adds (λ come. inr (counts.0 refl, (Play file options, ask, refl)))
       (λ _ _ _. ((λ e. absurd (omega arith)), (λ e. absurd (omega arith)))) (inl (Play file options, ask, adds)) counts (5, lit< tt, refl)
 
-  pub check_done : IsOneRequest → (file log : List ℕ) (what : Checked) → AskFor words (Check file log) → ChecksFile talk left old new files file log what → AsksFiles files (Rose was is) before file log after (Ok what) → CountsBy was is (code_checked what) → Done (code_checked what)
-  check_done one file log (checked.Against found.Accepted) ask it adds counts =
+  pub check_done : IsOneRequest → (task : Task) (file log : List ℕ) (what : Checked) → AskFor words (Examine task file log) → ChecksFile talk left old new files task file log what → AsksFiles task files (Rose was is) before file log after (Ok what) → CountsBy was is (code_checked what) → Done (code_checked what)
+  check_done one task file log (checked.Against found.Accepted) ask it adds counts =
       let text = it.1 in
       let bytes = it.2 in
-      text_done (line bytes.2.0) 0 (file ∷ log ∷ []) bytes.2.2 adds (λ come. inl (inr (Check file log, ask, (text.0, text.1, inr (it.0, text.2, (bytes.0, bytes.1, (bytes.2.0, inl (bytes.2.1, refl))))))))
-      (checks_alone one words file log 0 ask) (inl (Check file log, ask, inl ((text.0, text.1, (it.0, text.2.0)), adds))) counts (0, lit< tt, refl)
-  check_done one file log (checked.Against found.Rejected) ask it adds counts =
+      text_done bytes.2.0 0 (file ∷ log ∷ []) bytes.2.2 adds (λ come. inl (inr (Examine task file log, ask, (text.0, text.1, inr (it.0, text.2, (bytes.0, bytes.1, (bytes.2.0, inl (bytes.2.1, refl))))))))
+      (checks_alone one words task file log 0 ask) (inl (Examine task file log, ask, inl ((text.0, text.1, (it.0, text.2.0)), adds))) counts (0, lit< tt, refl)
+  check_done one task file log (checked.Against found.Rejected) ask it adds counts =
       let text = it.1 in
       let bytes = it.2 in
-      text_done (line bytes.2.0) 1 (file ∷ log ∷ []) bytes.2.2 adds (λ come. inl (inr (Check file log, ask, (text.0, text.1, inr (it.0, text.2, (bytes.0, bytes.1, (bytes.2.0, inr (bytes.2.1, refl))))))))
-      (checks_alone one words file log 1 ask) (inl (Check file log, ask, inl ((text.0, text.1, (it.0, text.2.0)), adds))) counts (1, lit< tt, refl)
-  check_done one file log (checked.Against found.Unread) ask it adds counts =
+      text_done bytes.2.0 1 (file ∷ log ∷ []) bytes.2.2 adds (λ come. inl (inr (Examine task file log, ask, (text.0, text.1, inr (it.0, text.2, (bytes.0, bytes.1, (bytes.2.0, inr (bytes.2.1, refl))))))))
+      (checks_alone one words task file log 1 ask) (inl (Examine task file log, ask, inl ((text.0, text.1, (it.0, text.2.0)), adds))) counts (1, lit< tt, refl)
+  check_done one task file log (checked.Against found.Unread) ask it adds counts =
       let text = it.1 in
-      text_done (line no_transcript) 7 (file ∷ log ∷ []) it.2 adds (λ come. inr (counts.0 refl, (Check file log, ask, inr ((text.0, text.1, (it.0, text.2.0)), refl))))
-      (checks_alone one words file log 7 ask) (inl (Check file log, ask, inl ((text.0, text.1, (it.0, text.2.0)), adds))) counts (5, lit< tt, refl)
-  check_done one file log (checked.Without none.Refused) ask it adds counts =
+      text_done (line no_transcript) 7 (file ∷ log ∷ []) it.2 adds (λ come. inr (counts.0 refl, (Examine task file log, ask, inr ((text.0, text.1, (it.0, text.2.0)), refl))))
+      (checks_alone one words task file log 7 ask) (inl (Examine task file log, ask, inl ((text.0, text.1, (it.0, text.2.0)), adds))) counts (5, lit< tt, refl)
+  check_done one task file log (checked.Without none.Refused) ask it adds counts =
       text_done (line (refusal_text it.2.refusal)) 3 (file ∷ []) it.2.writes adds
-      (λ come. inl (inr (Check file log, ask, (it.0, it.1, inl (record { fault = it.2.fault; refusal = it.2.refusal; refused = it.2.refused; tells = it.2.tells; no_program = it.2.no_program; is = refl })))))
-      (checks_alone one words file log 3 ask) (inl (Check file log, ask, inr (inl (it.0, it.1, λ some. it.2.no_program some.0 some.1), adds))) counts (3, lit< tt, refl)
-  check_done one file log (checked.Without none.Unread) ask it adds counts =
-      text_done (line no_program) 7 (file ∷ []) it adds (λ come. inr (counts.0 refl, (Check file log, ask, inl refl)))
-      (checks_alone one words file log 7 ask) (inl (Check file log, ask, inr (inr (counts.0 refl), adds))) counts (5, lit< tt, refl)
+      (λ come. inl (inr (Examine task file log, ask, (it.0, it.1, inl (record { fault = it.2.fault; refusal = it.2.refusal; refused = it.2.refused; tells = it.2.tells; no_program = it.2.no_program; is = refl })))))
+      (checks_alone one words task file log 3 ask) (inl (Examine task file log, ask, inr (inl (it.0, it.1, λ some. it.2.no_program some.0 some.1), adds))) counts (3, lit< tt, refl)
+  check_done one task file log (checked.Without none.Unread) ask it adds counts =
+      text_done (line no_program) 7 (file ∷ []) it adds (λ come. inr (counts.0 refl, (Examine task file log, ask, inl refl)))
+      (checks_alone one words task file log 7 ask) (inl (Examine task file log, ask, inr (inr (counts.0 refl), adds))) counts (5, lit< tt, refl)
 
   pub tour_done : IsOneRequest → (rooms : ℕ) (options : Options) (what : Toured) → AskFor words (World rooms options) → RunsWorld talk left old new rooms options what → Adds before after [] → is ≡ was → Done (code_toured what)
   tour_done one rooms options (toured.Ended tally) ask it adds same =
@@ -221,11 +222,11 @@ played_in_vain files unread before words name options after faults.Failed ask ad
 played_in_vain files unread before words name options after (faults.Memory error) ask (inl adds) = inl (Play name options, ask, adds)
 played_in_vain files unread before words name options after (faults.Memory error) ask (inr same) = inr same
 
-pub checked_in_vain : (files : Option Files) (unread : Type 0) (before : Option (List (List ℕ))) (words : List (List ℕ)) (name log : List ℕ) (after : Option (List (List ℕ))) (fault : ConsoleFault)
-    → AskFor words (Check name log) → AsksFiles files unread before name log after (Err fault) → AskedInVain files unread before words after (Err fault)
-checked_in_vain files unread before words name log after faults.Failed ask adds = inl (Check name log, ask, adds)
-checked_in_vain files unread before words name log after (faults.Memory error) ask (inl adds) = inl (Check name log, ask, adds)
-checked_in_vain files unread before words name log after (faults.Memory error) ask (inr same) = inr same
+pub checked_in_vain : (files : Option Files) (unread : Type 0) (before : Option (List (List ℕ))) (words : List (List ℕ)) (task : Task) (name log : List ℕ) (after : Option (List (List ℕ))) (fault : ConsoleFault)
+    → AskFor words (Examine task name log) → AsksFiles task files unread before name log after (Err fault) → AskedInVain files unread before words after (Err fault)
+checked_in_vain files unread before words task name log after faults.Failed ask adds = inl (Examine task name log, ask, adds)
+checked_in_vain files unread before words task name log after (faults.Memory error) ask (inl adds) = inl (Examine task name log, ask, adds)
+checked_in_vain files unread before words task name log after (faults.Memory error) ask (inr same) = inr same
 
 pub toured_in_vain : (files : Option Files) (unread : Type 0) (asked : Option (List (List ℕ))) (words : List (List ℕ)) (rooms : ℕ) (options : Options) (fault : ConsoleFault)
     → AskFor words (World rooms options) → AskedInVain files unread asked words asked (Err fault)
@@ -236,15 +237,15 @@ pub unasked_in_vain : (files : Option Files) (unread : Type 0) (asked : Option (
 unasked_in_vain files unread asked words faults.Failed none = inr (none, adds_none asked)
 unasked_in_vain files unread asked words (faults.Memory error) none = inr refl
 
--- what is asked for a check: the transcript behind a program that was read, and else the program alone
-pub both_in_vain : (files : Option Files) (unread : Type 0) (before between : Option (List (List ℕ))) (name log : List ℕ) (after : Option (List (List ℕ))) (fault : ConsoleFault) (program : Parts)
-    → IsProgramIn files name program → Adds before between (name ∷ []) → AsksFile {T = Found} between log after (Err fault) → AsksFiles files unread before name log after (Err fault)
-both_in_vain files unread before between name log after faults.Failed program is_in first second = inl ((is_in.0, is_in.1, (program, is_in.2.0)), adds_twice before between after name log first second)
-both_in_vain files unread before between name log after (faults.Memory error) program is_in first (inl second) = inl (inl ((is_in.0, is_in.1, (program, is_in.2.0)), adds_twice before between after name log first second))
-both_in_vain files unread before between name log after (faults.Memory error) program is_in first (inr same) = inl (inr (subst (λ asked. Adds before asked (name ∷ [])) (sym same) first))
+-- what is asked for a transcript: its file behind a program that was read, and else the program alone
+pub both_in_vain : (task : Task) (files : Option Files) (unread : Type 0) (before between : Option (List (List ℕ))) (name log : List ℕ) (after : Option (List (List ℕ))) (fault : ConsoleFault) (program : Parts)
+    → IsProgramIn files name program → Adds before between (name ∷ []) → AsksFile {T = Found} between log after (Err fault) → AsksFiles task files unread before name log after (Err fault)
+both_in_vain task files unread before between name log after faults.Failed program is_in first second = inl ((is_in.0, is_in.1, (program, is_in.2.0)), adds_twice before between after name log first second)
+both_in_vain task files unread before between name log after (faults.Memory error) program is_in first (inl second) = inl (inl ((is_in.0, is_in.1, (program, is_in.2.0)), adds_twice before between after name log first second))
+both_in_vain task files unread before between name log after (faults.Memory error) program is_in first (inr same) = inl (inr (subst (λ asked. Adds before asked (name ∷ [])) (sym same) first))
 
-pub one_in_vain : (files : Option Files) (unread : Type 0) (before : Option (List (List ℕ))) (name log : List ℕ) (after : Option (List (List ℕ))) (fault : ConsoleFault)
-    → (fault ≡ faults.Failed → NoneIsRead files unread name) → AsksFile {T = Checked} before name after (Err fault) → AsksFiles files unread before name log after (Err fault)
-one_in_vain files unread before name log after faults.Failed none adds = inr (none refl, adds)
-one_in_vain files unread before name log after (faults.Memory error) none (inl adds) = inl (inr adds)
-one_in_vain files unread before name log after (faults.Memory error) none (inr same) = inr same
+pub one_in_vain : (task : Task) (files : Option Files) (unread : Type 0) (before : Option (List (List ℕ))) (name log : List ℕ) (after : Option (List (List ℕ))) (fault : ConsoleFault)
+    → (fault ≡ faults.Failed → NoneIsRead files unread name) → AsksFile {T = Checked} before name after (Err fault) → AsksFiles task files unread before name log after (Err fault)
+one_in_vain task files unread before name log after faults.Failed none adds = inr (none refl, adds)
+one_in_vain task files unread before name log after (faults.Memory error) none (inl adds) = inl (inr adds)
+one_in_vain task files unread before name log after (faults.Memory error) none (inr same) = inr same

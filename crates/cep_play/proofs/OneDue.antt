@@ -5,14 +5,16 @@ use Rattle.cep_base.proofs.Lists.{some_same}
 use Rattle.cep_rule.specs.declared.parts.Parts.{Parts}
 use Rattle.cep_ground.specs.Texts.{Spells}
 use Rattle.cep_world.specs.World.{world}
+use Rattle.cep_words.specs.declared.request.Task.{Task}
 use Rattle.cep_words.specs.declared.options.Options.{Options}
-use Rattle.cep_words.specs.Words.{Request, Play, Check, World}
+use Rattle.cep_words.specs.Words.{Request, Play, Examine, World}
 use Rattle.cep_run.specs.Run.{Ending}
 use Rattle.cep_run.specs.Said.{IsSaid}
 use Rattle.cep_play.specs.Command.{OfFile, settings_of}
 use Rattle.cep_play.specs.Outside.{Outside, Due, OfText, code_told}
 use Rattle.cep_play.specs.Play.{IsDialogueDue}
-use Rattle.cep_play.specs.Check.{IsVerdictDue}
+use Rattle.cep_play.specs.Examined.{IsVerdictDue}
+use Rattle.cep_play.proofs.Judged.{fails_alone}
 use Rattle.cep_play.specs.World.{IsTallied, IsSummaryDue}
 use Rattle.cep_play.specs.Due.{IsDueOf, IsDue}
 use Rattle.cep_play.proofs.Done.{IsOneRequest}
@@ -48,17 +50,17 @@ module _ (files : Files) (come : List ℕ) where
       let only = said.only one.0.turns one.0.ending due.events due.rest one.0.dialogue in
       (one.0.holds ∙ ap (λ (e : Ending). code_told e.word) only.1 ∙ sym said.holds, only.2, one.1 ∙ sym two.1))
 
-  verdicts_are_one : (program : Parts) (bytes : List ℕ) (names : List (List ℕ)) (due other : Due) → IsVerdictDue program bytes names come due → IsVerdictDue program bytes names come other → AreOne due other
-  verdicts_are_one program bytes names due other (text, inl (accepted, is)) (text', inl (accepted', is')) = both_told due other _ _ is is' (refl, refl, refl)
-  verdicts_are_one program bytes names due other (text, inr (rejected, is)) (text', inr (rejected', is')) = both_told due other _ _ is is' (refl, refl, refl)
-  verdicts_are_one program bytes names due other (text, inl (accepted, is)) (text', inr (rejected, is')) = absurd (rejected.no_legal accepted.0 accepted.1)
-  verdicts_are_one program bytes names due other (text, inr (rejected, is)) (text', inl (accepted, is')) = absurd (rejected.no_legal accepted.0 accepted.1)
+  verdicts_are_one : (task : Task) (program : Parts) (bytes : List ℕ) (names : List (List ℕ)) (due other : Due) → IsVerdictDue task program bytes names come due → IsVerdictDue task program bytes names come other → AreOne due other
+  verdicts_are_one task program bytes names due other (written, inl (done, is)) (written', inl (done', is')) = both_told due other _ _ is is' (refl, refl, refl)
+  verdicts_are_one task program bytes names due other (written, inr (failed, is)) (written', inr (failed', is')) = both_told due other _ _ is is' (refl, refl, refl)
+  verdicts_are_one task program bytes names due other (written, inl (done, is)) (written', inr (failed, is')) = absurd (fails_alone task program bytes written' written failed done)
+  verdicts_are_one task program bytes names due other (written, inr (failed, is)) (written', inl (done, is')) = absurd (fails_alone task program bytes written written' failed done)
 
-  checks_are_one : (file log : List ℕ) (due other : Due) → IsDueOf (Check file log) over due → IsDueOf (Check file log) over other → AreOne due other
-  checks_are_one file log due other (text, has, is) (text', has', is') = of_text text text' (file ∷ []) come
-      (λ program. OfFile (Some files) log (λ bytes. IsVerdictDue program bytes (file ∷ log ∷ []) come due)) (λ program. OfFile (Some files) log (λ bytes. IsVerdictDue program bytes (file ∷ log ∷ []) come other)) due other (one_file file text text' has has') is is'
-      (λ program program' same one two. verdicts_are_one program one.0 (file ∷ log ∷ []) due other one.2
-      (subst (λ bytes. IsVerdictDue program bytes (file ∷ log ∷ []) come other) (sym (one_file log one.0 two.0 one.1 two.1)) (subst (λ (p : Parts). IsVerdictDue p two.0 (file ∷ log ∷ []) come other) (sym same) two.2)))
+  checks_are_one : (task : Task) (file log : List ℕ) (due other : Due) → IsDueOf (Examine task file log) over due → IsDueOf (Examine task file log) over other → AreOne due other
+  checks_are_one task file log due other (text, has, is) (text', has', is') = of_text text text' (file ∷ []) come
+      (λ program. OfFile (Some files) log (λ bytes. IsVerdictDue task program bytes (file ∷ log ∷ []) come due)) (λ program. OfFile (Some files) log (λ bytes. IsVerdictDue task program bytes (file ∷ log ∷ []) come other)) due other (one_file file text text' has has') is is'
+      (λ program program' same one two. verdicts_are_one task program one.0 (file ∷ log ∷ []) due other one.2
+      (subst (λ bytes. IsVerdictDue task program bytes (file ∷ log ∷ []) come other) (sym (one_file log one.0 two.0 one.1 two.1)) (subst (λ (p : Parts). IsVerdictDue task p two.0 (file ∷ log ∷ []) come other) (sym same) two.2)))
 
   tours_are_one : (rooms : ℕ) (options : Options) (due other : Due) → IsDueOf (World rooms options) over due → IsDueOf (World rooms options) over other → AreOne due other
   tours_are_one rooms options due other is is' = of_text (world rooms) (world rooms) [] come (λ program. IsSummaryDue rooms options program come due) (λ program. IsSummaryDue rooms options program come other) due other refl is is'
@@ -71,7 +73,7 @@ module _ (files : Files) (come : List ℕ) where
 
   of_request : (request : Request) (due other : Due) → IsDueOf request over due → IsDueOf request over other → AreOne due other
   of_request (Play file options) due other = plays_are_one file options due other
-  of_request (Check file log) due other = checks_are_one file log due other
+  of_request (Examine task file log) due other = checks_are_one task file log due other
   of_request (World rooms options) due other = tours_are_one rooms options due other
 
   pub one_due : IsOneRequest → (words : List (List ℕ)) (due other : Due) → IsDue words over due → IsDue words over other → AreOne due other

@@ -9,16 +9,17 @@ use Rattle.cep_base.proofs.Lists.{some_same}
 use Rattle.cep_rule.specs.declared.parts.Parts.{Parts}
 use Rattle.cep_rule.specs.Program.{IsProgram}
 use Rattle.cep_ground.specs.Texts.{Spells}
-use Rattle.cep_log.specs.declared.log.Log.{Log}
 use Rattle.cep_world.specs.World.{world}
+use Rattle.cep_words.specs.declared.request.Task.{Task}
 use Rattle.cep_words.specs.declared.options.Options.{Options}
-use Rattle.cep_words.specs.Words.{Request, Play, Check, World, AskFor}
+use Rattle.cep_words.specs.Words.{Request, Play, Examine, World, AskFor}
 use Rattle.cep_run.specs.declared.settings.Settings.{Settings}
 use Rattle.cep_run.specs.Run.{Turn, Ending}
 use Rattle.cep_run.specs.Dialogue.{Dialogue}
 use Rattle.cep_play.specs.Command.{OfRequest, Adds, settings_of}
 use Rattle.cep_play.specs.Outside.{Due, code_told}
-use Rattle.cep_play.specs.Check.{IsLegalTranscript}
+use Rattle.cep_play.specs.Examined.{Succeeds}
+use Rattle.cep_play.proofs.Judged.{fails_alone}
 use Rattle.cep_play.specs.Due.{IsDueOf, IsDue, IsDueUnreadOf, IsDueUnread}
 use Rattle.cep_play.specs.Answered.{IsOnShelf, EndsBy, TellsWhatIsDue}
 use Rattle.cep_play.proofs.Done.{IsOneRequest}
@@ -77,8 +78,8 @@ module _ (one : IsOneRequest)
   -- these statuses may come whatever is due
   pub tells_anyway : (left : Option (List ℕ)) (request : Request) (status : ℕ) → Contains (6 ∷ 9 ∷ []) status → TellsWhatIsDue request files left status
   tells_anyway left (Play file options) status among = λ text program come told spells coming. ends_anyway text program (settings_of program options) come (6 ∷ 7 ∷ 9 ∷ []) status spells (with_unread status among)
-  tells_anyway left (Check file log) status among = λ text program bytes told spells there'. (
-    (λ legal is. contains_behind 0 (6 ∷ 7 ∷ 9 ∷ []) status (with_unread status among)),
+  tells_anyway left (Examine task file log) status among = λ text program bytes told spells there'. (
+    (λ written is. contains_behind 0 (6 ∷ 7 ∷ 9 ∷ []) status (with_unread status among)),
     (λ none. contains_behind 1 (6 ∷ 7 ∷ 9 ∷ []) status (with_unread status among)),
   )
   tells_anyway left (World rooms options) status among = λ program spells. ends_anyway (world rooms) program (settings_of program options) [] (6 ∷ 9 ∷ []) status spells among
@@ -105,34 +106,34 @@ module _ (one : IsOneRequest)
         let is = asked_due one words (Play file options) ask (λ r. IsDueUnreadOf r (record { files = files; come = come }) due) of in
         ends_anyway text program (settings_of program options) come (6 ∷ 7 ∷ 9 ∷ []) code spells (unread_among (6 ∷ 7 ∷ 9 ∷ []) code (1, lit< tt, refl) (status ∙ ap (λ (d : Due). d.code) is))
 
-    abbrev TellsOfLegal : Parts → List ℕ → Type 0
-    TellsOfLegal program bytes =
-        ((legal : Log) → IsLegalTranscript program bytes legal → Contains (0 ∷ 6 ∷ 7 ∷ 9 ∷ []) code) × (((legal : Log) → ¬ (IsLegalTranscript program bytes legal)) → Contains (1 ∷ 6 ∷ 7 ∷ 9 ∷ []) code)
+    abbrev TellsOfDone : Task → Parts → List ℕ → Type 0
+    TellsOfDone task program bytes =
+        ((written : List ℕ) → Succeeds task program bytes written → Contains (0 ∷ 6 ∷ 7 ∷ 9 ∷ []) code) × (((written : List ℕ) → ¬ (Succeeds task program bytes written)) → Contains (1 ∷ 6 ∷ 7 ∷ 9 ∷ []) code)
 
     -- a verdict that is due
-    checks : (file log : List ℕ) (text : List ℕ) (program : Parts) (bytes : List ℕ) → AskFor words (Check file log) → IsOnShelf files file text → Spells text program → IsOnShelf files log bytes
-        → (due : Due) → code ≡ due.code → IsDue words (record { files = files; come = [] }) due ⊎ (unread × IsDueUnread words (record { files = files; come = [] }) due) → TellsOfLegal program bytes
-    checks file log text program bytes ask told spells there' due status (inl (inl none)) = absurd (none.0 (Check file log) ask)
-    checks file log text program bytes ask told spells there' due status (inl (inr of)) = by (asked_due one words (Check file log) ask (λ r. IsDueOf r (record { files = files; come = [] }) due) of) where
-      by : IsDueOf (Check file log) (record { files = files; come = [] }) due → TellsOfLegal program bytes
+    checks : (task : Task) (file log : List ℕ) (text : List ℕ) (program : Parts) (bytes : List ℕ) → AskFor words (Examine task file log) → IsOnShelf files file text → Spells text program → IsOnShelf files log bytes
+        → (due : Due) → code ≡ due.code → IsDue words (record { files = files; come = [] }) due ⊎ (unread × IsDueUnread words (record { files = files; come = [] }) due) → TellsOfDone task program bytes
+    checks task file log text program bytes ask told spells there' due status (inl (inl none)) = absurd (none.0 (Examine task file log) ask)
+    checks task file log text program bytes ask told spells there' due status (inl (inr of)) = by (asked_due one words (Examine task file log) ask (λ r. IsDueOf r (record { files = files; come = [] }) due) of) where
+      by : IsDueOf (Examine task file log) (record { files = files; come = [] }) due → TellsOfDone task program bytes
       by (other, has, inl refused) = absurd (refused.no_program program (subst (λ t. Spells t program) (sym (one_text files file file other text refl has told)) spells))
-      by (other, has, inr (spelled, is, (others, has', (told', inl (accepted, e))))) =
+      by (other, has, inr (spelled, is, (others, has', (written, inl (done, e))))) =
           let programs : program ≡ spelled = is.1 program (subst (λ t. Spells t program) (sym (one_text files file file other text refl has told)) spells) in
           let same : others ≡ bytes = one_text files log log others bytes refl has' there' in (
-            (λ legal it. contains_same 0 (6 ∷ 7 ∷ 9 ∷ []) code (sym (status ∙ ap (λ (d : Due). d.code) e))),
-            (λ none. absurd (none accepted.0 (subst (λ (p : Parts). IsLegalTranscript p bytes accepted.0) (sym programs) (subst (λ b. IsLegalTranscript spelled b accepted.0) same accepted.1)))),
+            (λ other it. contains_same 0 (6 ∷ 7 ∷ 9 ∷ []) code (sym (status ∙ ap (λ (d : Due). d.code) e))),
+            (λ none. absurd (none written (subst (λ (p : Parts). Succeeds task p bytes written) (sym programs) (subst (λ b. Succeeds task spelled b written) same done)))),
           )
-      by (other, has, inr (spelled, is, (others, has', (told', inr (rejected, e))))) =
+      by (other, has, inr (spelled, is, (others, has', (written, inr (failed, e))))) =
           let programs : program ≡ spelled = is.1 program (subst (λ t. Spells t program) (sym (one_text files file file other text refl has told)) spells) in
           let same : others ≡ bytes = one_text files log log others bytes refl has' there' in (
-            (λ legal it. absurd (rejected.no_legal legal (subst (λ b. IsLegalTranscript spelled b legal) (sym same) (subst (λ (p : Parts). IsLegalTranscript p bytes legal) programs it)))),
+            (λ other it. absurd (fails_alone task spelled others written other failed (subst (λ b. Succeeds task spelled b other) (sym same) (subst (λ (p : Parts). Succeeds task p bytes other) programs it)))),
             (λ none. contains_same 1 (6 ∷ 7 ∷ 9 ∷ []) code (sym (status ∙ ap (λ (d : Due). d.code) e))),
           )
-    checks file log text program bytes ask told spells there' due status (inr (_, of)) = by (asked_due one words (Check file log) ask (λ r. IsDueUnreadOf r (record { files = files; come = [] }) due) of) where
-      both : code ≡ 7 → TellsOfLegal program bytes
-      both is = ((λ legal it. unread_among (0 ∷ 6 ∷ 7 ∷ 9 ∷ []) code (2, lit< tt, refl) is), (λ none. unread_among (1 ∷ 6 ∷ 7 ∷ 9 ∷ []) code (2, lit< tt, refl) is))
+    checks task file log text program bytes ask told spells there' due status (inr (_, of)) = by (asked_due one words (Examine task file log) ask (λ r. IsDueUnreadOf r (record { files = files; come = [] }) due) of) where
+      both : code ≡ 7 → TellsOfDone task program bytes
+      both is = ((λ other it. unread_among (0 ∷ 6 ∷ 7 ∷ 9 ∷ []) code (2, lit< tt, refl) is), (λ none. unread_among (1 ∷ 6 ∷ 7 ∷ 9 ∷ []) code (2, lit< tt, refl) is))
 
-      by : IsDueUnreadOf (Check file log) (record { files = files; come = [] }) due → TellsOfLegal program bytes
+      by : IsDueUnreadOf (Examine task file log) (record { files = files; come = [] }) due → TellsOfDone task program bytes
       by (inl is) = both (status ∙ ap (λ (d : Due). d.code) is)
       by (inr (_, is)) = both (status ∙ ap (λ (d : Due). d.code) is)
 
@@ -160,9 +161,9 @@ module _ (one : IsOneRequest)
     tells_what_is_due (Play file options) ask code done = λ text program come told spells coming.
         let did = done.answered come coming in
         plays (Rose was is) (Adds before after) code file options text program come ask told spells did.4.due did.4.status did.4.is
-    tells_what_is_due (Check file log) ask code done = λ text program bytes told spells there'.
-        let wrote = done.written (λ other options ask'. let same : Check file log ≡ Play other options = one words (Check file log) (Play other options) ask ask' in absurd (cc)) [] in
-        checks (Rose was is) (Adds before after) code file log text program bytes ask told spells there' wrote.3.due wrote.3.status wrote.3.is
+    tells_what_is_due (Examine task file log) ask code done = λ text program bytes told spells there'.
+        let wrote = done.written (λ other options ask'. let same : Examine task file log ≡ Play other options = one words (Examine task file log) (Play other options) ask ask' in absurd (cc)) [] in
+        checks (Rose was is) (Adds before after) code task file log text program bytes ask told spells there' wrote.3.due wrote.3.status wrote.3.is
     tells_what_is_due (World rooms options) ask code done = λ program spells.
         let wrote = done.written (λ other options' ask'. let same : World rooms options ≡ Play other options' = one words (World rooms options) (Play other options') ask ask' in absurd (cc)) [] in
         tours (Rose was is) (Adds before after) code rooms options program ask spells wrote.3.due wrote.3.status wrote.3.is

@@ -6,16 +6,15 @@ use Rattle.cep_base.specs.Talk.{GoesOn}
 use Rattle.cep_base.specs.Files.{Files}
 use Rattle.cep_rule.specs.declared.parts.Parts.{Parts}
 use Rattle.cep_ground.specs.Texts.{Spells}
-use Rattle.cep_log.specs.declared.log.Log.{Log}
 use Rattle.cep_world.specs.World.{world}
 use Rattle.cep_words.specs.declared.options.Options.{Options}
-use Rattle.cep_words.specs.Words.{Request, Play, Check, World, AskFor}
+use Rattle.cep_words.specs.Words.{Request, Play, Examine, World, AskFor}
 use Rattle.cep_run.specs.declared.settings.Settings.{Settings}
 use Rattle.cep_run.specs.Run.{Turn, Ending}
 use Rattle.cep_run.specs.Dialogue.{Dialogue}
 use Rattle.cep_play.specs.Command.{OfFile, IsSpelledBy, settings_of}
 use Rattle.cep_play.specs.Outside.{Due, code_told}
-use Rattle.cep_play.specs.Check.{IsLegalTranscript}
+use Rattle.cep_play.specs.Examined.{Succeeds}
 use Rattle.cep_play.specs.Due.{IsDueAtAll}
 
 -- What is due of the words was done, or what is due where a file could not be read: these are its events, this is left, its names were asked, and the status is its code.
@@ -50,17 +49,17 @@ EndsBy program settings come others status =
     (turns : List Turn) × (ending : Ending) × (events : List Event) × (rest : List ℕ)
     × Dialogue program settings come turns ending events rest × Contains (code_told ending.word ∷ others) status
 
--- Where the program's text spells one, and what is read and typed is told: but for faults of the outside (6 and 7) and want of memory (9) the status tells how a run ends, which is there whatever is typed; and it is 0 where a transcript is legal, and 1 where it is not.
+-- Where the program's text spells one, and what is read and typed is told: but for faults of the outside (6 and 7) and want of memory (9) the status tells how a run ends, which is there whatever is typed; and it is 0 where a transcript is legal, and its new text not too long if it is renewed, and else 1.
 abbrev pub TellsWhatIsDue : Request → Option Files → Option (List ℕ) → ℕ → Type 0
 TellsWhatIsDue (Play file options) files left status =
     (text : List ℕ) (program : Parts) (come : List ℕ)
     → IsOnShelf files file text → Spells text program → left ≡ Some come
     → EndsBy program (settings_of program options) come (6 ∷ 7 ∷ 9 ∷ []) status
-TellsWhatIsDue (Check file log) files left status =
+TellsWhatIsDue (Examine task file log) files left status =
     (text : List ℕ) (program : Parts) (bytes : List ℕ)
     → IsOnShelf files file text → Spells text program → IsOnShelf files log bytes
-    → ((legal : Log) → IsLegalTranscript program bytes legal → Contains (0 ∷ 6 ∷ 7 ∷ 9 ∷ []) status)
-    × (((legal : Log) → ¬ (IsLegalTranscript program bytes legal)) → Contains (1 ∷ 6 ∷ 7 ∷ 9 ∷ []) status)
+    → ((written : List ℕ) → Succeeds task program bytes written → Contains (0 ∷ 6 ∷ 7 ∷ 9 ∷ []) status)
+    × (((written : List ℕ) → ¬ (Succeeds task program bytes written)) → Contains (1 ∷ 6 ∷ 7 ∷ 9 ∷ []) status)
 TellsWhatIsDue (World rooms options) files left status =
     (program : Parts) → Spells (world rooms) program → EndsBy program (settings_of program options) [] (6 ∷ 9 ∷ []) status
 

@@ -1,5 +1,5 @@
--- What is due where a transcript is to be checked.
-use Rattle.std.specs.Prelude.{◌≡◌, ◌⊎◌, ℕ, ◌≤◌, ◌<◌, List, [], ◌∷◌, ◌++◌, length, codes, decimal}
+-- What a check tells of the bytes of a transcript.
+use Rattle.std.specs.Prelude.{◌≡◌, ◌⊎◌, ℕ, ◌≤◌, ◌<◌, List, ◌++◌, length, codes, decimal}
 use Rattle.cep_base.specs.declared.limits.TheConstants.{MOST_LOG}
 use Rattle.cep_rule.specs.declared.parts.Parts.{Parts}
 use Rattle.cep_log.specs.declared.log.Log.{Log}
@@ -9,8 +9,6 @@ use Rattle.cep_log.specs.Transcript.{HasLog, HasMisfit}
 use Rattle.cep_check.specs.declared.cause.Cause.{Cause}
 use Rattle.cep_check.specs.Causes.{IsLogRefused}
 use Rattle.cep_check.specs.Telling.{cause_text, refused_text, fault_text}
-use Rattle.cep_play.specs.Command.{OfFile}
-use Rattle.cep_play.specs.Outside.{Outside, Due, line_due, OfText}
 
 -- The bytes are a transcript of at most 67,108,864 bytes, and its log is legal.
 abbrev pub IsLegalTranscript : Parts → List ℕ → Log → Type 0
@@ -34,12 +32,3 @@ TellsWhy program bytes text =
 pub record Rejects (program : Parts) (bytes : List ℕ) (text : List ℕ) : Type 0 where
   pub no_legal : (log : Log) → ¬ (IsLegalTranscript program bytes log)
   pub why : TellsWhy program bytes text
-
--- the line of the verdict on these bytes, with the status that tells it
-abbrev pub IsVerdictDue : Parts → List ℕ → List (List ℕ) → List ℕ → Due → Type 0
-IsVerdictDue program bytes names come due = (text : List ℕ) × ((Accepts program bytes text × (due ≡ line_due text 0 names come)) ⊎ (Rejects program bytes text × (due ≡ line_due text 1 names come)))
-
--- this is due where the transcript in a file is to be checked against the program in another
-abbrev pub IsCheckDue : List ℕ → List ℕ → Outside → Due → Type 0
-IsCheckDue file log outside due =
-    OfFile outside.files file (λ text. OfText text (file ∷ []) outside.come (λ program. OfFile outside.files log (λ bytes. IsVerdictDue program bytes (file ∷ log ∷ []) outside.come due)) due)

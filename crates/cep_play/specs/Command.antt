@@ -8,7 +8,7 @@ use Rattle.cep_refusal.specs.Reasons.{number, reason_name}
 use Rattle.cep_refusal.specs.declared.refusal.Refusal.{Refusal}
 use Rattle.cep_ground.specs.Texts.{Spells}
 use Rattle.cep_words.specs.declared.options.Options.{Options}
-use Rattle.cep_words.specs.Words.{Request, Play, Check, World, AskFor}
+use Rattle.cep_words.specs.Words.{Request, Play, Examine, World, AskFor}
 use Rattle.cep_run.specs.declared.settings.Settings.{Settings}
 
 -- P holds of what the words ask for
@@ -27,16 +27,16 @@ IsProgramText text = (program : Parts) × Spells text program
 abbrev pub IsSpelledBy : Parts → List ℕ → Type 0
 IsSpelledBy program text = Spells text program × ((other : Parts) → Spells text other → other ≡ program)
 
--- The names that are asked of the shelf for a request have P: the program's file; for a check, the transcript's behind it where the program's was read and spells one; and none for a generated world.
+-- The names that are asked of the shelf for a request have P: the program's file; where a transcript is examined, the transcript's behind it where the program's was read and spells one; and none for a generated world.
 abbrev pub AsksFor : Option Files → (unread : Type 0) → (List (List ℕ) → Type 0) → Request → Type 0
 AsksFor files unread P (Play file options) = P (file ∷ [])
-AsksFor files unread P (Check file log) = (OfFile files file IsProgramText × P (file ∷ log ∷ [])) ⊎ ((OfFile files file (λ text. ¬ (IsProgramText text)) ⊎ unread) × P (file ∷ []))
+AsksFor files unread P (Examine task file log) = (OfFile files file IsProgramText × P (file ∷ log ∷ [])) ⊎ ((OfFile files file (λ text. ¬ (IsProgramText text)) ⊎ unread) × P (file ∷ []))
 AsksFor files unread P (World rooms options) = P []
 
 -- Where memory ran out, the names that were asked of the shelf have P: not more than are asked for the request.
 abbrev pub AsksUpTo : Option Files → (List (List ℕ) → Type 0) → Request → Type 0
 AsksUpTo files P (Play file options) = P (file ∷ [])
-AsksUpTo files P (Check file log) = (OfFile files file IsProgramText × P (file ∷ log ∷ [])) ⊎ P (file ∷ [])
+AsksUpTo files P (Examine task file log) = (OfFile files file IsProgramText × P (file ∷ log ∷ [])) ⊎ P (file ∷ [])
 AsksUpTo files P (World rooms options) = P []
 
 -- where the names asked for are told, these were added
@@ -44,7 +44,7 @@ abbrev pub Adds : Option (List (List ℕ)) → Option (List (List ℕ)) → List
 Adds before after names = after ≡ option_map (λ asked. asked ++ names) before
 
 abbrev pub usage : List ℕ
-usage = codes "usage: play FILE [seed=N] [height=N] [turns=N] | check FILE LOG | world N [seed=N] [height=N] [turns=N]"
+usage = codes "usage: play FILE [seed=N] [height=N] [turns=N] | check FILE LOG | world N [seed=N] [height=N] [turns=N] | renew FILE LOG"
 
 -- `refused LINE:COL NUMBER NAME`
 unfoldable pub refusal_text : Refusal → List ℕ

@@ -5,7 +5,7 @@ use Rattle.cep_base.specs.Files.{Files}
 use Rattle.cep_rule.specs.declared.parts.Parts.{Parts}
 use Rattle.cep_rule.specs.Matching.{RoseBy}
 use Rattle.cep_world.specs.World.{world}
-use Rattle.cep_words.specs.Words.{Request, Play, Check, World, AskFor}
+use Rattle.cep_words.specs.Words.{Request, Play, Examine, World, AskFor}
 use Rattle.cep_run.specs.declared.settings.Settings.{Settings}
 use Rattle.cep_run.specs.Costs.{Beginnings, Edits, IsRunCost}
 use Rattle.cep_run.specs.Run.{Turn, Ending, deeds_of}
@@ -29,11 +29,11 @@ RoseByRun program settings old new turns ending = RoseBy (IsRunCost NetBegins Ne
 abbrev pub OfTour : Parts → Settings → (List Turn → Ending → Type 0) → Type 0
 OfTour program settings P = (turns : List Turn) × (ending : Ending) × (events : List Event) × (rest : List ℕ) × Dialogue program settings [] turns ending events rest × P turns ending
 
--- The counter rose by what was done of a request: where a program was to be played, by the run whose dialogue was said; where a world was to be run, by its run; and of a check nothing is said.
+-- The counter rose by what was done of a request: where a program was to be played, by the run whose dialogue was said; where a world was to be run, by its run; and where a transcript was to be examined nothing is said.
 abbrev pub RoseByRequest : {C : Type 0} → (C → Option (List Event)) → (C → Option (List ℕ)) → C → C → Option Files → ℕ → ℕ → Request → Type 0
 RoseByRequest talk left old new files ticks ticks' (Play file options) =
     (program : Parts) × OfFile files file (IsSpelledBy program) × Says talk left old new program (settings_of program options) (RoseByRun program (settings_of program options) ticks ticks')
-RoseByRequest talk left old new files ticks ticks' (Check file log) = Unit {0}
+RoseByRequest talk left old new files ticks ticks' (Examine task file log) = Unit {0}
 RoseByRequest talk left old new files ticks ticks' (World rooms options) =
     (program : Parts) × IsSpelledBy program (world rooms) × OfTour program (settings_of program options) (RoseByRun program (settings_of program options) ticks ticks')
 

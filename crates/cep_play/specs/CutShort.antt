@@ -10,6 +10,7 @@ use Rattle.cep_base.specs.Talk.{outs, GoesOn, Did}
 use Rattle.cep_rule.specs.declared.parts.Parts.{Parts}
 use Rattle.cep_lines.specs.Lines.{line}
 use Rattle.cep_world.specs.World.{world}
+use Rattle.cep_words.specs.declared.request.Task.{Task}
 use Rattle.cep_words.specs.declared.options.Options.{Options}
 use Rattle.cep_run.specs.declared.tally.Tally.{Tally}
 use Rattle.cep_run.specs.Fronts.{FellShort}
@@ -48,19 +49,19 @@ BeginsPlay talk left old new files unread name options =
     BeginsNoProgram talk left old new files unread name
     ⊎ ((program : Parts) × IsProgramIn files name program × FellShort talk left old new (λ come. come) (IsSomeSaid program (settings_of program options)))
 
--- a front was written of the line of the verdict on bytes
-abbrev pub BeginsVerdict : {C : Type 0} → (C → Option (List Event)) → (C → Option (List ℕ)) → C → C → Parts → List ℕ → Type 0
-BeginsVerdict talk left old new program bytes = (text : List ℕ) × (legal : Bool) × TellsOf program bytes text legal × WroteFront talk left old new (line text)
+-- a front was written of what is written of bytes
+abbrev pub BeginsVerdict : {C : Type 0} → (C → Option (List Event)) → (C → Option (List ℕ)) → C → C → Task → Parts → List ℕ → Type 0
+BeginsVerdict talk left old new task program bytes = (written : List ℕ) × (done : Bool) × TellsOf task program bytes written done × WroteFront talk left old new written
 
--- a front was written of the line that tells what was found of the transcript in a file
-abbrev pub BeginsFinding : {C : Type 0} → (C → Option (List Event)) → (C → Option (List ℕ)) → C → C → Option Files → (unread : Type 0) → Parts → List ℕ → Type 0
-BeginsFinding talk left old new files unread program log = OfFile files log (BeginsVerdict talk left old new program) ⊎ (unread × WroteFront talk left old new (line no_transcript))
+-- a front was written of what is written of the transcript in a file
+abbrev pub BeginsFinding : {C : Type 0} → (C → Option (List Event)) → (C → Option (List ℕ)) → C → C → Option Files → (unread : Type 0) → Task → Parts → List ℕ → Type 0
+BeginsFinding talk left old new files unread task program log = OfFile files log (BeginsVerdict talk left old new task program) ⊎ (unread × WroteFront talk left old new (line no_transcript))
 
--- the transcript in a file was being checked against the program in another
-abbrev pub BeginsCheck : {C : Type 0} → (C → Option (List Event)) → (C → Option (List ℕ)) → C → C → Option Files → (unread : Type 0) → Option (List (List ℕ)) → Option (List (List ℕ)) → List ℕ → List ℕ → Type 0
-BeginsCheck talk left old new files unread before after name log =
+-- the transcript in a file was being examined against the program in another
+abbrev pub BeginsCheck : {C : Type 0} → (C → Option (List Event)) → (C → Option (List ℕ)) → C → C → Option Files → (unread : Type 0) → Option (List (List ℕ)) → Option (List (List ℕ)) → Task → List ℕ → List ℕ → Type 0
+BeginsCheck talk left old new files unread before after task name log =
     (BeginsNoProgram talk left old new files unread name × AsksFront before after (name ∷ []))
-    ⊎ ((program : Parts) × IsProgramIn files name program × BeginsFinding talk left old new files unread program log × AsksFront before after (name ∷ log ∷ []))
+    ⊎ ((program : Parts) × IsProgramIn files name program × BeginsFinding talk left old new files unread task program log × AsksFront before after (name ∷ log ∷ []))
 
 -- a front was written of the summary of a run of the world of so many rooms
 abbrev pub BeginsSummary : {C : Type 0} → (C → Option (List Event)) → (C → Option (List ℕ)) → C → C → Parts → ℕ → Options → Type 0

@@ -1,16 +1,16 @@
 -- What is due of a list of words, over what the outside holds.
 use Rattle.std.specs.Prelude.{◌≡◌, ◌⊎◌, ℕ, List, [], ◌∷◌}
-use Rattle.cep_words.specs.Words.{Request, Play, Check, World, HaveNoForm}
+use Rattle.cep_words.specs.Words.{Request, Play, Examine, World, HaveNoForm}
 use Rattle.cep_play.specs.Command.{OfRequest, OfFile, IsProgramText, usage, no_program, no_transcript}
 use Rattle.cep_play.specs.Outside.{Outside, Due, line_due}
 use Rattle.cep_play.specs.Play.{IsPlayDue}
-use Rattle.cep_play.specs.Check.{IsCheckDue}
+use Rattle.cep_play.specs.Examined.{IsExaminationDue}
 use Rattle.cep_play.specs.World.{IsWorldDue}
 
 -- this is due of a request
 abbrev pub IsDueOf : Request → Outside → Due → Type 0
 IsDueOf (Play file options) outside due = IsPlayDue file options outside due
-IsDueOf (Check file log) outside due = IsCheckDue file log outside due
+IsDueOf (Examine task file log) outside due = IsExaminationDue task file log outside due
 IsDueOf (World rooms options) outside due = IsWorldDue rooms options outside due
 
 -- this is due of words: the usage line where they have no form, and else what is due of what they ask for
@@ -20,7 +20,7 @@ IsDue words outside due = (HaveNoForm words × (due ≡ line_due usage 2 [] outs
 -- this is due of a request where a file could not be read: the program's, or, behind a program that was read, the transcript's
 abbrev pub IsDueUnreadOf : Request → Outside → Due → Type 0
 IsDueUnreadOf (Play file options) outside due = due ≡ line_due no_program 7 (file ∷ []) outside.come
-IsDueUnreadOf (Check file log) outside due =
+IsDueUnreadOf (Examine task file log) outside due =
     (due ≡ line_due no_program 7 (file ∷ []) outside.come) ⊎ (OfFile outside.files file IsProgramText × (due ≡ line_due no_transcript 7 (file ∷ log ∷ []) outside.come))
 IsDueUnreadOf (World rooms options) outside due = ⊥
 

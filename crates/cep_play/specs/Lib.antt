@@ -2,6 +2,8 @@ pub mod Command
 pub mod Outside
 pub mod Play
 pub mod Check
+pub mod Renew
+pub mod Examined
 pub mod World
 pub mod Due
 pub mod Answered

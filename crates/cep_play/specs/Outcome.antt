@@ -19,7 +19,7 @@ use Rattle.cep_check.specs.declared.cause.Verdict.{Verdict}
 use Rattle.cep_check.specs.declared.cause.Verdict.TheVariants as verdicts
 use Rattle.cep_world.specs.World.{world}
 use Rattle.cep_words.specs.declared.options.Options.{Options}
-use Rattle.cep_words.specs.Words.{Play, Check, HaveNoForm}
+use Rattle.cep_words.specs.Words.{Play, Examine, HaveNoForm}
 use Rattle.cep_run.specs.Said.{Says}
 use Rattle.cep_play.specs.declared.loading.NoProgram.{NoProgram}
 use Rattle.cep_play.specs.declared.loading.NoProgram.TheVariants as none
@@ -33,7 +33,14 @@ use Rattle.cep_play.specs.declared.world.Toured.{Toured}
 use Rattle.cep_play.specs.declared.world.Toured.TheVariants as toured
 use Rattle.cep_play.specs.Command.{OfRequest, OfFile, IsProgramText, IsSpelledBy, AsksFor, AsksUpTo, Adds, refusal_text, no_program, no_transcript, settings_of}
 use Rattle.cep_play.specs.Outside.{code_told}
-use Rattle.cep_play.specs.Check.{Accepts, Rejects}
+use Rattle.cep_log.specs.declared.log.Log.{Log}
+use Rattle.cep_log.specs.Legal.{IsLegal}
+use Rattle.cep_check.specs.Causes.{IsVerdict}
+use Rattle.cep_check.specs.Telling.{verdict_text}
+use Rattle.cep_words.specs.declared.request.Task.{Task}
+use Rattle.cep_renew.specs.Renewed.{IsRenewedText, IsTooLongRenewed}
+use Rattle.cep_play.specs.Renew.{new_too_long_text}
+use Rattle.cep_play.specs.Examined.{Succeeds, Fails}
 use Rattle.cep_play.specs.World.{summary, IsTallied}
 use Rattle.cep_play.specs.Counted.{RoseByRun, OfTour, RoseByRequest}
 use Rattle.cep_play.specs.Answered.{DoesWhatIsDue, IsNoDialogue, IsSpelled, IsWritten}
@@ -75,25 +82,36 @@ abbrev pub accepts : Verdict → Bool
 accepts (verdicts.Accepted steps) = true
 accepts (verdicts.Refused at cause) = false
 
--- this line tells what was found of bytes, which are a legal transcript or are not
-abbrev pub TellsOf : Parts → List ℕ → List ℕ → Bool → Type 0
-TellsOf program bytes text true = Accepts program bytes text
-TellsOf program bytes text false = Rejects program bytes text
+-- this is written of a log that was renewed, or whose new text is too long
+abbrev pub IsWrittenAnew : Parts → Log → List ℕ → Bool → Type 0
+IsWrittenAnew program log written true = IsRenewedText program log written
+IsWrittenAnew program log written false = IsTooLongRenewed program log × (written ≡ line new_too_long_text)
 
--- bytes were checked: the line is written that tells what was found
-abbrev pub AreChecked : {C : Type 0} → (C → Option (List Event)) → (C → Option (List ℕ)) → C → C → Parts → List ℕ → Bool → Type 0
-AreChecked talk left old new program bytes legal = (text : List ℕ) × TellsOf program bytes text legal × Wrote talk left old new (line text)
+-- a log is legal, and this was written anew of it; or the line was written of a verdict that refuses it
+abbrev pub IsLogRenewed : Parts → Log → List ℕ → Bool → Type 0
+IsLogRenewed program log written renewed =
+    (IsLegal program log × IsWrittenAnew program log written renewed)
+    ⊎ ((verdict : Verdict) × IsVerdict program log verdict × (accepts verdict ≡ false) × (renewed ≡ false) × (written ≡ line (verdict_text program verdict)))
+
+-- this is written of bytes, with which the task succeeds or fails
+abbrev pub TellsOf : Task → Parts → List ℕ → List ℕ → Bool → Type 0
+TellsOf task program bytes written true = Succeeds task program bytes written
+TellsOf task program bytes written false = Fails task program bytes written
+
+-- bytes were examined: it is written what was found
+abbrev pub AreChecked : {C : Type 0} → (C → Option (List Event)) → (C → Option (List ℕ)) → C → C → Task → Parts → List ℕ → Bool → Type 0
+AreChecked talk left old new task program bytes done = (written : List ℕ) × TellsOf task program bytes written done × Wrote talk left old new written
 
 -- what was found of a transcript in a file
-abbrev pub FindsTranscript : {C : Type 0} → (C → Option (List Event)) → (C → Option (List ℕ)) → C → C → Option Files → Parts → List ℕ → Found → Type 0
-FindsTranscript talk left old new files program log found.Accepted = OfFile files log (λ bytes. AreChecked talk left old new program bytes true)
-FindsTranscript talk left old new files program log found.Rejected = OfFile files log (λ bytes. AreChecked talk left old new program bytes false)
-FindsTranscript talk left old new files program log found.Unread = Wrote talk left old new (line no_transcript)
+abbrev pub FindsTranscript : {C : Type 0} → (C → Option (List Event)) → (C → Option (List ℕ)) → C → C → Option Files → Task → Parts → List ℕ → Found → Type 0
+FindsTranscript talk left old new files task program log found.Accepted = OfFile files log (λ bytes. AreChecked talk left old new task program bytes true)
+FindsTranscript talk left old new files task program log found.Rejected = OfFile files log (λ bytes. AreChecked talk left old new task program bytes false)
+FindsTranscript talk left old new files task program log found.Unread = Wrote talk left old new (line no_transcript)
 
--- the transcript in a file was checked against the program in another
-abbrev pub ChecksFile : {C : Type 0} → (C → Option (List Event)) → (C → Option (List ℕ)) → C → C → Option Files → List ℕ → List ℕ → Checked → Type 0
-ChecksFile talk left old new files name log (checked.Against what) = (program : Parts) × IsProgramIn files name program × FindsTranscript talk left old new files program log what
-ChecksFile talk left old new files name log (checked.Without why) = HasNoProgram talk left old new files name why
+-- the transcript in a file was examined against the program in another
+abbrev pub ChecksFile : {C : Type 0} → (C → Option (List Event)) → (C → Option (List ℕ)) → C → C → Option Files → Task → List ℕ → List ℕ → Checked → Type 0
+ChecksFile talk left old new files task name log (checked.Against what) = (program : Parts) × IsProgramIn files name program × FindsTranscript talk left old new files task program log what
+ChecksFile talk left old new files task name log (checked.Without why) = HasNoProgram talk left old new files name why
 
 -- the world of so many rooms was run with options
 abbrev pub RunsWorld : {C : Type 0} → (C → Option (List Event)) → (C → Option (List ℕ)) → C → C → ℕ → Options → Toured → Type 0
@@ -145,12 +163,12 @@ AsksFile before name after (Ok found) = Adds before after (name ∷ [])
 AsksFile before name after (Err faults.Failed) = Adds before after (name ∷ [])
 AsksFile before name after (Err (faults.Memory error)) = Adds before after (name ∷ []) ⊎ (after ≡ before)
 
--- what is asked for a check was asked for, but for want of memory perhaps
-abbrev pub AsksFiles : Option Files → Type 0 → Option (List (List ℕ)) → List ℕ → List ℕ → Option (List (List ℕ)) → Result Checked ConsoleFault → Type 0
-AsksFiles files unread before name log after (Ok (checked.Against what)) = Adds before after (name ∷ log ∷ [])
-AsksFiles files unread before name log after (Ok (checked.Without why)) = Adds before after (name ∷ [])
-AsksFiles files unread before name log after (Err faults.Failed) = AsksFor files unread (Adds before after) (Check name log)
-AsksFiles files unread before name log after (Err (faults.Memory error)) = AsksUpTo files (Adds before after) (Check name log) ⊎ (after ≡ before)
+-- what is asked for a transcript was asked for, but for want of memory perhaps
+abbrev pub AsksFiles : Task → Option Files → Type 0 → Option (List (List ℕ)) → List ℕ → List ℕ → Option (List (List ℕ)) → Result Checked ConsoleFault → Type 0
+AsksFiles task files unread before name log after (Ok (checked.Against what)) = Adds before after (name ∷ log ∷ [])
+AsksFiles task files unread before name log after (Ok (checked.Without why)) = Adds before after (name ∷ [])
+AsksFiles task files unread before name log after (Err faults.Failed) = AsksFor files unread (Adds before after) (Examine task name log)
+AsksFiles task files unread before name log after (Err (faults.Memory error)) = AsksUpTo files (Adds before after) (Examine task name log) ⊎ (after ≡ before)
 
 -- what the words ask for was asked for
 abbrev pub AskedAsSaid : Option Files → Type 0 → Option (List (List ℕ)) → List (List ℕ) → Option (List (List ℕ)) → Type 0

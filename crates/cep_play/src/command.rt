@@ -23,7 +23,7 @@ use std::alloc::Global;
 use std::sync::ledger::Ledger;
 
 const USAGE: &[u8] =
-    b"usage: play FILE [seed=N] [height=N] [turns=N] | check FILE LOG | world N [seed=N] [height=N] [turns=N]\n";
+    b"usage: play FILE [seed=N] [height=N] [turns=N] | check FILE LOG | world N [seed=N] [height=N] [turns=N] | renew FILE LOG\n";
 
 /// Does what the words ask for, and answers the status of the process.
 fn command<C: Console, H: Shelf, L: Ledger>(
@@ -50,9 +50,9 @@ fn command<C: Console, H: Shelf, L: Ledger>(
                 Err(fault) => Err(fault),
             }
         }
-        Some(Request::Check { file, log }) => {
+        Some(Request::Examine { task, file, log }) => {
             let (file, log) = (file.as_str(), log.as_str());
-            match check_file(alloc, file, log, console, shelf, steps) {
+            match check_file(alloc, task, file, log, console, shelf, steps) {
                 Ok(checked) => Ok(checked.code()),
                 Err(fault) => Err(fault),
             }
@@ -71,13 +71,13 @@ fn command<C: Console, H: Shelf, L: Ledger>(
 }
 
 /// Does all that the program does: reads the program that the words name from the shelf, plays it
-/// with the person at the console or checks a transcript against it, or runs a generated world, and
-/// answers the status that the process ends with.
+/// with the person at the console or checks a transcript against it, which it may write anew, or runs a
+/// generated world, and answers the status that the process ends with.
 ///
 /// | status | comes |
 /// |---|---|
-/// | 0 | the run ended in quiet, or at the end of the input; or the transcript is accepted |
-/// | 1 | the transcript is too long, none, or not legal; the line that says so was written |
+/// | 0 | the run ended in quiet, or at the end of the input; or the transcript is accepted, or written anew |
+/// | 1 | the transcript is too long, none, or not legal, or too long anew; the line that says so was written |
 /// | 2 | the words have no form; the usage line was written |
 /// | 3 | the program's text is refused; the line that says so was written |
 /// | 4 | the run ended by a limit |

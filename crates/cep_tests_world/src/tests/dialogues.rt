@@ -267,7 +267,7 @@ pub fn expect_answer(
 }
 
 fn usage() -> &'static str {
-    "usage: play FILE [seed=N] [height=N] [turns=N] | check FILE LOG | world N [seed=N] [height=N] [turns=N]\n"
+    "usage: play FILE [seed=N] [height=N] [turns=N] | check FILE LOG | world N [seed=N] [height=N] [turns=N] | renew FILE LOG\n"
 }
 
 // Lines whose words have no form, of which one is empty.

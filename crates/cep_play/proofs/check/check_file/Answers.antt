@@ -19,14 +19,14 @@ returns-in-Ok-check_transcript-clause-outcome g c =
     let found = rw c.in-Ok.is at c.in_ok-program.ensures.program in (
       program,
       found.0,
-      subst (λ old. FindsTranscript talk left old new (g.H.Shelf.files c.args.shelf.now) program c.args.log.now what) found.1
-          (subst (λ held. FindsTranscript talk left c.program_in.new.console new held program c.args.log.now what) c.in_ok-program.ensures.files c.in-Ok-check_transcript.ensures.outcome),
+      subst (λ old. FindsTranscript talk left old new (g.H.Shelf.files c.args.shelf.now) c.args.task program c.args.log.now what) found.1
+          (subst (λ held. FindsTranscript talk left c.program_in.new.console new held c.args.task program c.args.log.now what) c.in_ok-program.ensures.files c.in-Ok-check_transcript.ensures.outcome),
     )
 
 pub returns-in-Ok-clause-asked : goal.returns-in-Ok-clause-asked
 returns-in-Ok-clause-asked g c =
     let found = rw c.in-Ok.is at c.in_ok-program.ensures.program in
-    both_in_vain (g.H.Shelf.files c.args.shelf.now) _ (g.H.Shelf.asked c.args.shelf.now) (g.H.Shelf.asked c.program_in.new.shelf) c.args.file.now c.args.log.now (g.H.Shelf.asked c.check_transcript.new.shelf) c.in-Err-check_transcript.fault c.in-Ok.program found.0 c.in_ok-program.ensures.asked c.in-Err-check_transcript.ensures.asked
+    both_in_vain c.args.task (g.H.Shelf.files c.args.shelf.now) _ (g.H.Shelf.asked c.args.shelf.now) (g.H.Shelf.asked c.program_in.new.shelf) c.args.file.now c.args.log.now (g.H.Shelf.asked c.check_transcript.new.shelf) c.in-Err-check_transcript.fault c.in-Ok.program found.0 c.in_ok-program.ensures.asked c.in-Err-check_transcript.ensures.asked
 
 pub returns-in_err-program-clause-begun : goal.returns-in_err-program-clause-begun
 returns-in_err-program-clause-begun g c =
@@ -51,9 +51,9 @@ returns-in-Ok-clause-begun g c =
     in_vain c.in-Err-check_transcript.fault _ _ _ _ (λ finding. inr (
       program,
       found.0,
-      subst (λ old. BeginsFinding talk left old new files unread program log) found.1
-          (subst (λ held. BeginsFinding talk left c.program_in.new.console new held unread program log) c.in_ok-program.ensures.files
-          (subst (λ was. BeginsFinding talk left c.program_in.new.console new (g.H.Shelf.files c.program_in.new.shelf) (Rose was is) program log) found.2 finding)),
+      subst (λ old. BeginsFinding talk left old new files unread c.args.task program log) found.1
+          (subst (λ held. BeginsFinding talk left c.program_in.new.console new held unread c.args.task program log) c.in_ok-program.ensures.files
+          (subst (λ was. BeginsFinding talk left c.program_in.new.console new (g.H.Shelf.files c.program_in.new.shelf) (Rose was is) c.args.task program log) found.2 finding)),
       two_asked (g.H.Shelf.asked c.args.shelf.now) after Found between c.args.file.now log c.in-Err-check_transcript.fault c.in_ok-program.ensures.asked c.in-Err-check_transcript.ensures.asked,
     ))
     (λ same. same ∙ found.1) c.in-Err-check_transcript.ensures.begun

@@ -53,14 +53,14 @@ returns-in-Ok-check_file-clause-done g c =
     let before = g.H.Shelf.asked c.args.shelf.now in
     let after = g.H.Shelf.asked c.check_file.new.shelf in
     let words = map string_bytes c.args.words.now in
-    let in_arm = c.in-Some-Check in
+    let in_arm = c.in-Some-Examine in
     let what = c.in-Ok-check_file.checked in
     subst (CommandDid talk left old new files was is before after words) (sym c.code-in-Ok-check_file.ensures)
-    (check_done talk left old new files was is before after words c.one_request.ensures (string_bytes in_arm.file.now) (string_bytes in_arm.log.now) what (subst (λ (request : code.Request). AskFor words (request_of request)) c.in-Some-Check.field-0-is c.in-Some-Check.ensures)
-    (subst (λ name. ChecksFile talk left old new files name (string_bytes in_arm.log.now) what) c.as_str-file-in-Some-Check.ensures.value
-    (subst (λ log. ChecksFile talk left old new files c.as_str-file-in-Some-Check.result.now log what) c.as_str-log.ensures.value c.in-Ok-check_file.ensures.outcome))
-    (subst (λ name. AsksFiles files (Rose was is) before name (string_bytes in_arm.log.now) after (Ok what)) c.as_str-file-in-Some-Check.ensures.value
-    (subst (λ log. AsksFiles files (Rose was is) before c.as_str-file-in-Some-Check.result.now log after (Ok what)) c.as_str-log.ensures.value c.in-Ok-check_file.ensures.asked)) c.in-Ok-check_file.ensures.faults)
+    (check_done talk left old new files was is before after words c.one_request.ensures in_arm.task (string_bytes in_arm.file.now) (string_bytes in_arm.log.now) what (subst (λ (request : code.Request). AskFor words (request_of request)) c.in-Some-Examine.field-0-is c.in-Some-Examine.ensures)
+    (subst (λ name. ChecksFile talk left old new files in_arm.task name (string_bytes in_arm.log.now) what) c.as_str-file-in-Some-Examine.ensures.value
+    (subst (λ log. ChecksFile talk left old new files in_arm.task c.as_str-file-in-Some-Examine.result.now log what) c.as_str-log.ensures.value c.in-Ok-check_file.ensures.outcome))
+    (subst (λ name. AsksFiles in_arm.task files (Rose was is) before name (string_bytes in_arm.log.now) after (Ok what)) c.as_str-file-in-Some-Examine.ensures.value
+    (subst (λ log. AsksFiles in_arm.task files (Rose was is) before c.as_str-file-in-Some-Examine.result.now log after (Ok what)) c.as_str-log.ensures.value c.in-Ok-check_file.ensures.asked)) c.in-Ok-check_file.ensures.faults)
 
 pub returns-in-Err-check_file-clause-asked : goal.returns-in-Err-check_file-clause-asked
 returns-in-Err-check_file-clause-asked g c =
@@ -68,11 +68,11 @@ returns-in-Err-check_file-clause-asked g c =
     let files = g.H.Shelf.files c.args.shelf.now in
     let unread = Rose (g.H.Shelf.faults c.args.shelf.now) (g.H.Shelf.faults c.check_file.new.shelf) in
     let words = map string_bytes c.args.words.now in
-    let in_arm = c.in-Some-Check in
+    let in_arm = c.in-Some-Examine in
     let fault = c.in-Err-check_file.fault in
-    checked_in_vain files unread (asked c.args.shelf.now) words (string_bytes in_arm.file.now) (string_bytes in_arm.log.now) (asked c.check_file.new.shelf) fault (subst (λ (request : code.Request). AskFor words (request_of request)) c.in-Some-Check.field-0-is c.in-Some-Check.ensures)
-    (subst (λ name. AsksFiles files unread (asked c.args.shelf.now) name (string_bytes in_arm.log.now) (asked c.check_file.new.shelf) (Err fault)) c.as_str-file-in-Some-Check.ensures.value
-    (subst (λ log. AsksFiles files unread (asked c.args.shelf.now) c.as_str-file-in-Some-Check.result.now log (asked c.check_file.new.shelf) (Err fault)) c.as_str-log.ensures.value c.in-Err-check_file.ensures.asked))
+    checked_in_vain files unread (asked c.args.shelf.now) words in_arm.task (string_bytes in_arm.file.now) (string_bytes in_arm.log.now) (asked c.check_file.new.shelf) fault (subst (λ (request : code.Request). AskFor words (request_of request)) c.in-Some-Examine.field-0-is c.in-Some-Examine.ensures)
+    (subst (λ name. AsksFiles in_arm.task files unread (asked c.args.shelf.now) name (string_bytes in_arm.log.now) (asked c.check_file.new.shelf) (Err fault)) c.as_str-file-in-Some-Examine.ensures.value
+    (subst (λ log. AsksFiles in_arm.task files unread (asked c.args.shelf.now) c.as_str-file-in-Some-Examine.result.now log (asked c.check_file.new.shelf) (Err fault)) c.as_str-log.ensures.value c.in-Err-check_file.ensures.asked))
 
 pub returns-in-Ok-run_world-clause-done : goal.returns-in-Ok-run_world-clause-done
 returns-in-Ok-run_world-clause-done g c =
@@ -139,11 +139,11 @@ returns-in-Err-check_file-clause-begun g c =
     let unread = Rose (g.H.Shelf.faults c.args.shelf.now) (g.H.Shelf.faults c.check_file.new.shelf) in
     let before = asked c.args.shelf.now in
     let after = asked c.check_file.new.shelf in
-    let in_arm = c.in-Some-Check in
+    let in_arm = c.in-Some-Examine in
     in_vain c.in-Err-check_file.fault _ _ _ _ (λ begun.
-    check_begun talk left old new words files unread before after (string_bytes in_arm.file.now) (string_bytes in_arm.log.now) (subst (λ (request : code.Request). AskFor words (request_of request)) c.in-Some-Check.field-0-is c.in-Some-Check.ensures)
-    (subst (λ name. BeginsCheck talk left old new files unread before after name (string_bytes in_arm.log.now)) c.as_str-file-in-Some-Check.ensures.value
-    (subst (λ log. BeginsCheck talk left old new files unread before after c.as_str-file-in-Some-Check.result.now log) c.as_str-log.ensures.value begun))) (λ same. same) c.in-Err-check_file.ensures.begun
+    check_begun talk left old new words files unread before after in_arm.task (string_bytes in_arm.file.now) (string_bytes in_arm.log.now) (subst (λ (request : code.Request). AskFor words (request_of request)) c.in-Some-Examine.field-0-is c.in-Some-Examine.ensures)
+    (subst (λ name. BeginsCheck talk left old new files unread before after in_arm.task name (string_bytes in_arm.log.now)) c.as_str-file-in-Some-Examine.ensures.value
+    (subst (λ log. BeginsCheck talk left old new files unread before after in_arm.task c.as_str-file-in-Some-Examine.result.now log) c.as_str-log.ensures.value begun))) (λ same. same) c.in-Err-check_file.ensures.begun
 
 pub returns-in-Err-run_world-clause-begun : goal.returns-in-Err-run_world-clause-begun
 returns-in-Err-run_world-clause-begun g c =
@@ -188,10 +188,10 @@ returns-in-Ok-clause-ticked g c =
 pub returns-in-Ok-check_file-clause-ticked : goal.returns-in-Ok-check_file-clause-ticked
 returns-in-Ok-check_file-clause-ticked g c =
     let words = map string_bytes c.args.words.now in
-    let in_arm = c.in-Some-Check in
+    let in_arm = c.in-Some-Examine in
     λ _.
-    check_rose g.C.Console.talk g.C.Console.left c.args.console.now c.check_file.new.console (g.H.Shelf.files c.args.shelf.now) c.args.steps.now c.check_file.new.steps words c.one_request.ensures (string_bytes in_arm.file.now) (string_bytes in_arm.log.now)
-    (subst (λ (request : code.Request). AskFor words (request_of request)) c.in-Some-Check.field-0-is c.in-Some-Check.ensures)
+    check_rose g.C.Console.talk g.C.Console.left c.args.console.now c.check_file.new.console (g.H.Shelf.files c.args.shelf.now) c.args.steps.now c.check_file.new.steps words c.one_request.ensures in_arm.task (string_bytes in_arm.file.now) (string_bytes in_arm.log.now)
+    (subst (λ (request : code.Request). AskFor words (request_of request)) c.in-Some-Examine.field-0-is c.in-Some-Examine.ensures)
 
 pub returns-in-Ok-run_world-clause-ticked : goal.returns-in-Ok-run_world-clause-ticked
 returns-in-Ok-run_world-clause-ticked g c =
