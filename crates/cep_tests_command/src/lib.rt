@@ -3,4 +3,4 @@
 
 mod outside;
 
-pub use outside::{Outcome, check, play, run_line, run_text, shelf_of, status, written};
+pub use outside::{Outcome, check, play, renew, run_line, run_text, shelf_of, status, written};

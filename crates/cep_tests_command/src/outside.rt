@@ -94,9 +94,19 @@ pub fn play(alloc: Global, text: &str, typed: &str) -> Result<Outcome, AllocErro
     run_text(alloc, "play f", text, typed)
 }
 
-/// Checks a transcript against a text.
-pub fn check(alloc: Global, text: &str, log: &str) -> Result<Outcome, AllocError> {
+// Runs the command with the words of this line, where the file `f` is this text and `g` this log.
+fn run_both(alloc: Global, line: &str, text: &str, log: &str) -> Result<Outcome, AllocError> {
     let mut shelf = shelf_of(alloc, text)?;
     shelf.file("g", log.as_bytes())?;
-    run_line(alloc, "check f g", &mut shelf, "")
+    run_line(alloc, line, &mut shelf, "")
+}
+
+/// Checks a transcript against a text.
+pub fn check(alloc: Global, text: &str, log: &str) -> Result<Outcome, AllocError> {
+    run_both(alloc, "check f g", text, log)
+}
+
+/// Renews a transcript of the program of a text.
+pub fn renew(alloc: Global, text: &str, log: &str) -> Result<Outcome, AllocError> {
+    run_both(alloc, "renew f g", text, log)
 }

@@ -4,6 +4,7 @@ mod checks;
 mod dialogues;
 mod faults;
 mod outside;
+mod renewed;
 mod stages;
 mod walks;
 mod worlds;

@@ -2,6 +2,7 @@
 use crate::tests::backward::{low, paths, twice};
 use crate::tests::dialogues::{copied, played};
 use crate::tests::outside::{check, expect, run_text};
+use crate::tests::renewed::expect_renewed;
 use crate::tests::stages::{drawn, endless, left, limited, lone};
 use cep_tests_samples::{division, meetings, spelled, stages, sum, two_proofs, walk};
 use std::alloc::{AllocError, Global};
@@ -30,7 +31,7 @@ fn accepted(alloc: Global, said: &str) -> Result<String, AllocError> {
 }
 
 // A sample is played by these words with this typed, of which each line ends with a slash, and what was
-// written is accepted.
+// written is accepted, and renewed into its record.
 fn expect_accepted(
     rt: &impl Abort,
     alloc: Global,
@@ -43,7 +44,8 @@ fn expect_accepted(
     let outcome = run_text(alloc, line, text, typed.as_str())?;
     let told = accepted(alloc, said)?;
     let log = outcome.written.as_str();
-    expect_checked(rt, alloc, (text, log), (0, told.as_str()))
+    expect_checked(rt, alloc, (text, log), (0, told.as_str()))?;
+    expect_renewed(rt, alloc, (text, log))
 }
 
 // So too for all samples of a table, each behind what is typed.
