@@ -22,9 +22,9 @@ returns c =
     let same : sample_rule ≡ c.get.result.now = some_same sample_rule c.get.result.now (sym (ap (λ (p : Parts). slice_get p.rules 0) (c.parts.ensures.parts ∙ c.requires.sample)) ∙ c.get.ensures) in
     let pred = pred_under c.args.alpha.now.held c.args.id c.pred_of-pred.result (subst (λ (h : Held). (args : Trees) × (slice_get h.atoms c.args.id ≡ Some (record { pred = c.pred_of-pred.result; args = args }))) c.store.ensures c.pred_of-pred.ensures) in
     let both = c.sweep.ensures sample held c.args.alpha.now.state
-        (subst (λ (r : Rule). IsBetaOf sample held r c.args.beta.now) same c.requires.memories.is_beta)
-        (subst (λ (r : Rule). ListsMatches sample held r c.args.alpha.now.state c.args.beta.now) same c.requires.memories.lists)
-        c.atoms_are_lawful.ensures.ids c.requires.named pred (no_fact a) (omega arith) in
+    (subst (λ (r : Rule). IsBetaOf sample held r c.args.beta.now) same c.requires.memories.is_beta)
+    (subst (λ (r : Rule). ListsMatches sample held r c.args.alpha.now.state c.args.beta.now) same c.requires.memories.lists)
+    c.atoms_are_lawful.ensures.ids c.requires.named pred (no_fact a) (omega arith) in
     have_gone c.args.alpha.now c.take.new.self c.sweep.new.self c.args.id 0 c.take.ensures.stays (c.take.ensures.state ∙ ap (λ n. with_count c.args.alpha.now.state a n) none) (c.take.ensures.of_program sample_signature c.requires.memories.of_signature)
     (subst (λ (r : Rule). IsBetaOf sample held r c.sweep.new.self) (sym same) both.0)
     (subst (λ (r : Rule). ListsMatches sample held r (with_count c.args.alpha.now.state a 0) c.sweep.new.self) (sym same) both.1)
