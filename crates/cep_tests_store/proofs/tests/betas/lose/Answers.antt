@@ -6,7 +6,7 @@ use Rattle.cep_store.specs.Held.{Held}
 use Rattle.cep_rule.specs.declared.rule.Rule.{Rule}
 use Rattle.cep_rule.specs.declared.parts.Parts.{Parts}
 use Rattle.cep_alpha.specs.Alpha.{atom_under}
-use Rattle.cep_beta.specs.Beta.{Beta, IsBetaOf, ListsMatches}
+use Rattle.cep_beta.specs.Beta.{IsBetaOf, ListsMatches}
 use Rattle.cep_tests_store.specs.Sample.{sample_signature, sample_rule, sample}
 use Rattle.cep_tests_store.proofs.Memories.{no_fact, pred_under, have_gone}
 use Rattle.cep_tests_store.proofs.tests.betas.lose.Goals as goal
