@@ -1,9 +1,9 @@
 -- The memories of the sample, while a copy comes and while copies go.
-use Rattle.std.proofs.Common.{◌≡◌, ℕ, zero, suc, ◌<◌, true, false, List, length, slice_get, Some, refl, sym, ap, subst, ◌∙◌}
+use Rattle.std.proofs.Common.{◌≡◌, ℕ, zero, suc, ◌<◌, true, false, length, slice_get, Some, refl, sym, ap, subst, ◌∙◌}
 use Rattle.std.specs.FinMap as finite
 use Rattle.std.proofs.lemmas.Option.{get_or_from_slice_get}
 use Rattle.cep_term.specs.Tree.{AtomTree, Trees}
-use Rattle.cep_term.specs.Multiset.{Multiset, count_of, with_one, with_count}
+use Rattle.cep_term.specs.Multiset.{Multiset, with_one, with_count}
 use Rattle.cep_store.specs.Held.{Held}
 use Rattle.cep_rule.specs.declared.rule.Rule.{Rule}
 use Rattle.cep_rule.specs.declared.parts.Parts.{Parts}
