@@ -1,8 +1,9 @@
 -- The memories of the sample, while a copy comes and while copies go.
-use Rattle.std.proofs.Common.{◌≡◌, ℕ, zero, suc, ◌<◌, true, false, List, length, slice_get, Some, refl, sym, ap, subst, ◌∙◌}
+use Rattle.std.proofs.Common.{◌≡◌, ℕ, zero, suc, ◌<◌, true, false, length, slice_get, Some, refl, sym, ap, subst, ◌∙◌}
 use Rattle.std.specs.FinMap as finite
+use Rattle.std.proofs.lemmas.Option.{get_or_from_slice_get}
 use Rattle.cep_term.specs.Tree.{AtomTree, Trees}
-use Rattle.cep_term.specs.Multiset.{Multiset, count_of, with_one, with_count}
+use Rattle.cep_term.specs.Multiset.{Multiset, with_one, with_count}
 use Rattle.cep_store.specs.Held.{Held}
 use Rattle.cep_rule.specs.declared.rule.Rule.{Rule}
 use Rattle.cep_rule.specs.declared.parts.Parts.{Parts}
@@ -24,6 +25,9 @@ no_fact a = by_number a.pred a.args
 
 pub never : {A : Type 0} (a : AtomTree) → is_fact sample_signature a ≡ true → A
 never a is = let e = sym (no_fact a) ∙ is in cc
+
+pub pred_under : (held : Held) (id pred : ℕ) → (args : Trees) × (slice_get held.atoms id ≡ Some (record { pred = pred; args = args })) → (atom_under held id).pred ≡ pred
+pred_under held id pred there = ap (λ (a : AtomTree). a.pred) (get_or_from_slice_get held.atoms id (record { pred = pred; args = there.0 }) _ there.1)
 
 pub may_grow : (program : Parts) (mid new : Alpha) (before : Multiset) (beta : Beta) (id : ℕ) → program ≡ sample → IsBetaOf sample mid.held sample_rule beta → ListsMatches sample mid.held sample_rule before beta
     → id < length mid.held.atoms → new.held ≡ mid.held → new.state ≡ with_one before (atom_under mid.held id) → IsAlphaOf sample_signature new → MayGrow program new id beta

@@ -55,16 +55,18 @@ fn gain<L: Ledger>(
 }
 
 // Takes all copies of an atom from the state.
-fn lose(alpha: &mut AlphaMemory, beta: &mut BetaMemory, id: u64)
+fn lose(program: &Program, alpha: &mut AlphaMemory, beta: &mut BetaMemory, id: u64)
+    requires sample { program.now ≡ sample }
     requires memories { AreSampleMemories alpha.old beta.old }
     requires named { id < length alpha.old.held.atoms }
     ensures { AreSampleMemories alpha.new beta.new }
 {
     bags_are_lawful();
     alpha.atoms_are_lawful();
+    let pred = alpha.store().pred_of(id);
     let copies = alpha.count(id);
     alpha.take(id, copies);
-    beta.sweep(id, 0);
+    beta.sweep(program.parts().rules.get(0), pred, id, 0);
 }
 
 // The memories of the state without atoms.
@@ -103,7 +105,7 @@ fn course_with<L: Ledger>(
     let both = standing(alpha, beta);
     let id = gain(alloc, program, alpha, beta, &q(alloc, 0, 1)?, steps)?;
     let twice = standing(alpha, beta);
-    lose(alpha, beta, id);
+    lose(program, alpha, beta, id);
     Ok([
         before,
         first,
