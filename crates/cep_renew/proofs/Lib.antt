@@ -1,0 +1,4 @@
+pub mod Bytes
+pub mod Steps
+pub mod Changes
+pub mod Logs

@@ -1,0 +1,3 @@
+pub mod Renewed
+pub mod Renewing
+pub mod RenewLaws
