@@ -31,11 +31,11 @@ use Rattle.cep_play.specs.Command.{IsSpelledBy, refusal_text}
 use Rattle.cep_play.specs.Check.{Rejects, too_long_text}
 use Rattle.cep_renew.specs.Renewed.{IsTooLongRenewed}
 use Rattle.cep_play.specs.Renew.{Renews}
-use Rattle.cep_play.specs.Examined.{Succeeds, Fails}
+use Rattle.cep_play.specs.Examined.{Succeeds, ComesToNothing}
 use Rattle.cep_play.specs.Outcome.{Wrote, Refuses, IsProgramIn, HasNoProgram, accepts, IsWrittenAnew, IsLogRenewed, TellsOf, code_without, CountsBy}
 
 -- what tells why a task fails, and what is written where it succeeds, are of different bytes
-pub fails_alone : (task : Task) (program : Parts) (bytes written other : List ℕ) → Fails task program bytes written → ¬ (Succeeds task program bytes other)
+pub fails_alone : (task : Task) (program : Parts) (bytes written other : List ℕ) → ComesToNothing task program bytes written → ¬ (Succeeds task program bytes other)
 fails_alone Check program bytes written other failed done = failed.1.no_legal done.1.0 done.1.1
 fails_alone Renew program bytes written other (inl failed) done = failed.1.no_legal done.0 done.1
 fails_alone Renew program bytes written other (inr long) done = long.0.no_text other done

@@ -19,14 +19,14 @@ abbrev pub WritesWhy : Parts → List ℕ → List ℕ → Type 0
 WritesWhy program bytes written = (text : List ℕ) × Rejects program bytes text × (written ≡ line text)
 
 -- The bytes are no legal transcript, or, where they are renewed, the new text is too long; and the line is written that tells so.
-abbrev pub Fails : Task → Parts → List ℕ → List ℕ → Type 0
-Fails Check program bytes written = WritesWhy program bytes written
-Fails Renew program bytes written = WritesWhy program bytes written ⊎ (RenewsTooLong program bytes × (written ≡ line new_too_long_text))
+abbrev pub ComesToNothing : Task → Parts → List ℕ → List ℕ → Type 0
+ComesToNothing Check program bytes written = WritesWhy program bytes written
+ComesToNothing Renew program bytes written = WritesWhy program bytes written ⊎ (RenewsTooLong program bytes × (written ≡ line new_too_long_text))
 
 -- what is due of the bytes of a transcript, with the status that tells it
 abbrev pub IsVerdictDue : Task → Parts → List ℕ → List (List ℕ) → List ℕ → Due → Type 0
 IsVerdictDue task program bytes names come due =
-    (written : List ℕ) × ((Succeeds task program bytes written × (due ≡ text_due written 0 names come)) ⊎ (Fails task program bytes written × (due ≡ text_due written 1 names come)))
+    (written : List ℕ) × ((Succeeds task program bytes written × (due ≡ text_due written 0 names come)) ⊎ (ComesToNothing task program bytes written × (due ≡ text_due written 1 names come)))
 
 -- this is due where the transcript in a file is to be examined against the program in another
 abbrev pub IsExaminationDue : Task → List ℕ → List ℕ → Outside → Due → Type 0

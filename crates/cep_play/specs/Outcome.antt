@@ -40,7 +40,7 @@ use Rattle.cep_check.specs.Telling.{verdict_text}
 use Rattle.cep_words.specs.declared.request.Task.{Task}
 use Rattle.cep_renew.specs.Renewed.{IsRenewedText, IsTooLongRenewed}
 use Rattle.cep_play.specs.Renew.{new_too_long_text}
-use Rattle.cep_play.specs.Examined.{Succeeds, Fails}
+use Rattle.cep_play.specs.Examined.{Succeeds, ComesToNothing}
 use Rattle.cep_play.specs.World.{summary, IsTallied}
 use Rattle.cep_play.specs.Counted.{RoseByRun, OfTour, RoseByRequest}
 use Rattle.cep_play.specs.Answered.{DoesWhatIsDue, IsNoDialogue, IsSpelled, IsWritten}
@@ -96,7 +96,7 @@ IsLogRenewed program log written renewed =
 -- this is written of bytes, with which the task succeeds or fails
 abbrev pub TellsOf : Task → Parts → List ℕ → List ℕ → Bool → Type 0
 TellsOf task program bytes written true = Succeeds task program bytes written
-TellsOf task program bytes written false = Fails task program bytes written
+TellsOf task program bytes written false = ComesToNothing task program bytes written
 
 -- bytes were examined: it is written what was found
 abbrev pub AreChecked : {C : Type 0} → (C → Option (List Event)) → (C → Option (List ℕ)) → C → C → Task → Parts → List ℕ → Bool → Type 0
