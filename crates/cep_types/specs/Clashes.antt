@@ -11,8 +11,8 @@ use Rattle.cep_parse.specs.declared.raw.RawItem.{RawItem}
 use Rattle.cep_parse.specs.declared.raw.RawItem.TheVariants as item
 use Rattle.cep_refusal.specs.declared.fault.Fault.{Fault}
 use Rattle.cep_refusal.specs.declared.reason.Reason.TheVariants.{TypeClash}
-use Rattle.cep_names.specs.Items.{Source, said}
-use Rattle.cep_names.specs.Spaces.{con_named}
+use Rattle.cep_source.specs.Items.{Source, said}
+use Rattle.cep_source.specs.Spaces.{con_named}
 use Rattle.cep_parse.specs.Raw.{atoms_of, start_listed}
 use Rattle.cep_refusal.specs.First.{wrong}
 use Rattle.cep_types.specs.Sites.{Site, sites_in, type_of}
@@ -45,7 +45,4 @@ item_scopes (item.Stage name rules) = map (λ rule. atoms_of rule.left ++ atoms_
 item_scopes (item.Clause label head goals) = (head ∷ goals) ∷ []
 item_scopes (item.Context name atoms) = map (λ atom. atom ∷ []) atoms
 item_scopes (item.Trace at limit stage start) = map (λ atom. atom ∷ []) (start_listed start)
-item_scopes (item.Sort name) = []
-item_scopes (item.Pred name args back) = []
-item_scopes (item.Colon left args right) = []
-item_scopes (item.Interactive name) = []
+item_scopes _ = []

@@ -1,10 +1,14 @@
-use Rattle.std.proofs.Common.{subst}
-use Rattle.cep_names.specs.Items.{Source}
-use Rattle.cep_names.specs.Named.{IsNamed}
+use Rattle.std.proofs.Common.{subst, inl}
+use Rattle.cep_refusal.specs.First.{IsFirstOrNone}
+use Rattle.cep_source.specs.Misnamed.{Misnamed}
 use Rattle.cep_infer.proofs.Drafting.{sound_or_first}
 use Rattle.cep_infer.proofs.resolving.drafted.Goals as goal
 
-pub returns-in-Ok : goal.returns-in-Ok
-returns-in-Ok c =
-    let source : Source = record { text = c.args.text.now; file = c.args.file.now } in
-    sound_or_first source (subst (IsNamed source) c.in-Ok.is c.in_ok-names.ensures).sound c.typed_by.result c.typed_by.ensures
+pub returns-in-Some : goal.returns-in-Some
+returns-in-Some c = inl (subst (IsFirstOrNone (Misnamed c.args.source.now)) c.in-Some.is c.in_ok-name_fault.ensures)
+
+pub typed-requires-clause-named : goal.typed-requires-clause-named
+typed-requires-clause-named c = subst (IsFirstOrNone (Misnamed c.args.source.now)) c.in-None.is c.in_ok-name_fault.ensures
+
+pub returns-in-None : goal.returns-in-None
+returns-in-None c = sound_or_first c.args.source.now (subst (IsFirstOrNone (Misnamed c.args.source.now)) c.in-None.is c.in_ok-name_fault.ensures) c.typed.result c.typed.ensures
