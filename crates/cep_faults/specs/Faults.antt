@@ -163,7 +163,14 @@ outers_in (item.Trace at limit stage start) = []
 
 abbrev pub state_role : RawItem → Role
 state_role (item.Trace at limit stage start) = role.Start
-state_role _ = role.Listed
+state_role (item.Sort name) = role.Listed
+state_role (item.Pred name args back) = role.Listed
+state_role (item.Colon left args right) = role.Listed
+state_role (item.Clause label head goals) = role.Listed
+state_role (item.Outer rule) = role.Listed
+state_role (item.Stage name rules) = role.Listed
+state_role (item.Context name atoms) = role.Listed
+state_role (item.Interactive name) = role.Listed
 
 abbrev pub state_atoms : RawItem → List Placed
 state_atoms item = map (placed (state_role item)) (listed_atoms item)

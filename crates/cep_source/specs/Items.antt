@@ -56,7 +56,14 @@ pub record TraceItem : Type 0 where
 -- the types
 abbrev pub sorts_in : RawItem → List Span
 sorts_in (item.Sort name) = name ∷ []
-sorts_in _ = []
+sorts_in (item.Pred name args back) = []
+sorts_in (item.Colon left args right) = []
+sorts_in (item.Clause label head goals) = []
+sorts_in (item.Outer rule) = []
+sorts_in (item.Stage name rules) = []
+sorts_in (item.Context name atoms) = []
+sorts_in (item.Interactive name) = []
+sorts_in (item.Trace at limit stage start) = []
 
 abbrev pub sorts_of : Source → List Span
 sorts_of source = flat_map sorts_in source.file
@@ -64,7 +71,14 @@ sorts_of source = flat_map sorts_in source.file
 -- the predicates
 abbrev pub preds_in : RawItem → List PredItem
 preds_in (item.Pred name args back) = record { name = name; args = args; back = back } ∷ []
-preds_in _ = []
+preds_in (item.Sort name) = []
+preds_in (item.Colon left args right) = []
+preds_in (item.Clause label head goals) = []
+preds_in (item.Outer rule) = []
+preds_in (item.Stage name rules) = []
+preds_in (item.Context name atoms) = []
+preds_in (item.Interactive name) = []
+preds_in (item.Trace at limit stage start) = []
 
 abbrev pub preds_of : Source → List PredItem
 preds_of source = flat_map preds_in source.file
@@ -89,7 +103,14 @@ con_or_none false con = con ∷ []
 
 abbrev pub cons_in : Source → RawItem → List ConItem
 cons_in source (item.Colon left args right) = con_or_none (is_labelled source args right) (record { name = left; args = args; sort = right })
-cons_in source _ = []
+cons_in source (item.Sort name) = []
+cons_in source (item.Pred name args back) = []
+cons_in source (item.Clause label head goals) = []
+cons_in source (item.Outer rule) = []
+cons_in source (item.Stage name rules) = []
+cons_in source (item.Context name atoms) = []
+cons_in source (item.Interactive name) = []
+cons_in source (item.Trace at limit stage start) = []
 
 abbrev pub cons_of : Source → List ConItem
 cons_of source = flat_map (cons_in source) source.file
@@ -102,7 +123,13 @@ clause_or_none false clause = []
 abbrev pub clauses_in : Source → RawItem → List ClauseItem
 clauses_in source (item.Clause label head goals) = record { head = head; goals = goals } ∷ []
 clauses_in source (item.Colon left args right) = clause_or_none (is_labelled source args right) (record { head = bare right; goals = [] })
-clauses_in source _ = []
+clauses_in source (item.Sort name) = []
+clauses_in source (item.Pred name args back) = []
+clauses_in source (item.Outer rule) = []
+clauses_in source (item.Stage name rules) = []
+clauses_in source (item.Context name atoms) = []
+clauses_in source (item.Interactive name) = []
+clauses_in source (item.Trace at limit stage start) = []
 
 abbrev pub clauses_of : Source → List ClauseItem
 clauses_of source = flat_map (clauses_in source) source.file
@@ -110,7 +137,14 @@ clauses_of source = flat_map (clauses_in source) source.file
 -- the stages
 abbrev pub stages_in : RawItem → List Span
 stages_in (item.Stage name rules) = name ∷ []
-stages_in _ = []
+stages_in (item.Sort name) = []
+stages_in (item.Pred name args back) = []
+stages_in (item.Colon left args right) = []
+stages_in (item.Clause label head goals) = []
+stages_in (item.Outer rule) = []
+stages_in (item.Context name atoms) = []
+stages_in (item.Interactive name) = []
+stages_in (item.Trace at limit stage start) = []
 
 abbrev pub stages_of : Source → List Span
 stages_of source = flat_map stages_in source.file
@@ -118,7 +152,14 @@ stages_of source = flat_map stages_in source.file
 -- the names of the stages that are said to be interactive
 abbrev pub interactives_in : RawItem → List Span
 interactives_in (item.Interactive name) = name ∷ []
-interactives_in _ = []
+interactives_in (item.Sort name) = []
+interactives_in (item.Pred name args back) = []
+interactives_in (item.Colon left args right) = []
+interactives_in (item.Clause label head goals) = []
+interactives_in (item.Outer rule) = []
+interactives_in (item.Stage name rules) = []
+interactives_in (item.Context name atoms) = []
+interactives_in (item.Trace at limit stage start) = []
 
 abbrev pub interactives_of : Source → List Span
 interactives_of source = flat_map interactives_in source.file
@@ -127,11 +168,24 @@ interactives_of source = flat_map interactives_in source.file
 abbrev pub rules_in : ℕ → RawItem → List RuleItem
 rules_in stages (item.Outer raw) = record { home = None; raw = raw } ∷ []
 rules_in stages (item.Stage name rules) = map (λ raw. record { home = Some stages; raw = raw }) rules
-rules_in stages _ = []
+rules_in stages (item.Sort name) = []
+rules_in stages (item.Pred name args back) = []
+rules_in stages (item.Colon left args right) = []
+rules_in stages (item.Clause label head goals) = []
+rules_in stages (item.Context name atoms) = []
+rules_in stages (item.Interactive name) = []
+rules_in stages (item.Trace at limit stage start) = []
 
 abbrev pub stages_behind : ℕ → RawItem → ℕ
 stages_behind stages (item.Stage name rules) = stages + 1
-stages_behind stages _ = stages
+stages_behind stages (item.Sort name) = stages
+stages_behind stages (item.Pred name args back) = stages
+stages_behind stages (item.Colon left args right) = stages
+stages_behind stages (item.Clause label head goals) = stages
+stages_behind stages (item.Outer rule) = stages
+stages_behind stages (item.Context name atoms) = stages
+stages_behind stages (item.Interactive name) = stages
+stages_behind stages (item.Trace at limit stage start) = stages
 
 abbrev pub rules_from : ℕ → List RawItem → List RuleItem
 rules_from stages [] = []
@@ -143,7 +197,14 @@ rules_of source = rules_from 0 source.file
 -- the contexts
 abbrev pub contexts_in : RawItem → List ContextItem
 contexts_in (item.Context name atoms) = record { name = name; atoms = atoms } ∷ []
-contexts_in _ = []
+contexts_in (item.Sort name) = []
+contexts_in (item.Pred name args back) = []
+contexts_in (item.Colon left args right) = []
+contexts_in (item.Clause label head goals) = []
+contexts_in (item.Outer rule) = []
+contexts_in (item.Stage name rules) = []
+contexts_in (item.Interactive name) = []
+contexts_in (item.Trace at limit stage start) = []
 
 abbrev pub contexts_of : Source → List ContextItem
 contexts_of source = flat_map contexts_in source.file
@@ -151,7 +212,14 @@ contexts_of source = flat_map contexts_in source.file
 -- the traces
 abbrev pub traces_in : RawItem → List TraceItem
 traces_in (item.Trace at limit stage start) = record { at = at; limit = limit; stage = stage; start = start } ∷ []
-traces_in _ = []
+traces_in (item.Sort name) = []
+traces_in (item.Pred name args back) = []
+traces_in (item.Colon left args right) = []
+traces_in (item.Clause label head goals) = []
+traces_in (item.Outer rule) = []
+traces_in (item.Stage name rules) = []
+traces_in (item.Context name atoms) = []
+traces_in (item.Interactive name) = []
 
 abbrev pub traces_of : Source → List TraceItem
 traces_of source = flat_map traces_in source.file

@@ -70,7 +70,10 @@ context_named source name = find (λ context. bytes_eq (said source context.name
 abbrev pub arity_of : Source → Space → List ℕ → Option ℕ
 arity_of source space.Constructors name = option_map (λ con. length con.args) (con_named source name)
 arity_of source space.Predicates name = option_map (λ pred. length pred.args) (pred_named source name)
-arity_of source _ name = None
+arity_of source space.Sorts name = None
+arity_of source space.Stages name = None
+arity_of source space.Contexts name = None
+arity_of source space.Rules name = None
 
 -- whether the predicate of this name is declared as a backward one, or as a linear one
 abbrev pub back_named : Source → List ℕ → Option Bool

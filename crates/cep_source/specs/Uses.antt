@@ -42,7 +42,11 @@ own_atoms (item.Outer rule) = rule_atoms rule
 own_atoms (item.Stage name rules) = flat_map rule_atoms rules
 own_atoms (item.Context name atoms) = map (placed role.Listed) atoms
 own_atoms (item.Trace at limit stage start) = map (placed role.Start) (start_listed start)
-own_atoms _ = []
+own_atoms (item.Sort name) = []
+own_atoms (item.Pred name args back) = []
+own_atoms (item.Colon left args right) = []
+own_atoms (item.Clause label head goals) = []
+own_atoms (item.Interactive name) = []
 
 abbrev pub item_atoms : Source → RawItem → List Placed
 item_atoms source item = own_atoms item ++ flat_map clause_atoms (clauses_in source item)
@@ -63,7 +67,10 @@ use_in space name = record { space = space; name = name; args = 0 }
 -- whether the role is that of an atom in the braces of a trace
 abbrev pub is_start : Role → Bool
 is_start role.Start = true
-is_start _ = false
+is_start role.Needed = false
+is_start role.Made = false
+is_start role.Clause = false
+is_start role.Listed = false
 
 -- Whether an atom of this name and so many arguments stands for a context's atoms: in the braces of a trace, a name without arguments that is no predicate but a context.
 abbrev pub names_context : Source → Role → Span → ℕ → Bool
@@ -111,7 +118,11 @@ own_uses (item.Pred name args back) = map (use_in space.Sorts) args
 own_uses (item.Outer rule) = flat_map elem_uses (rule.left ++ rule.right)
 own_uses (item.Interactive name) = use_in space.Stages name ∷ []
 own_uses (item.Trace at limit stage start) = use_in space.Stages stage ∷ start_uses start
-own_uses _ = []
+own_uses (item.Sort name) = []
+own_uses (item.Colon left args right) = []
+own_uses (item.Clause label head goals) = []
+own_uses (item.Stage name rules) = []
+own_uses (item.Context name atoms) = []
 
 abbrev pub item_uses : Source → RawItem → List Use
 item_uses source item = own_uses item ++ (flat_map con_uses (cons_in source item) ++ flat_map (atom_uses source) (item_atoms source item))
