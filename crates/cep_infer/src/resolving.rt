@@ -100,7 +100,7 @@ fn drafted(source: &Source) -> Result<Result<Draft, Fault>, AllocError>
 
 /// What a text declares, as a draft, or the refusal that tells the first fault of its names, or,
 /// where nothing is wrong with these, of its types. Each place is a line and a column from 1. That
-/// terms are typed, and how predicates, rules and stages are source, is Ceptre's; the spaces of
+/// terms are typed, and how predicates, rules and stages are declared, is Ceptre's; the spaces of
 /// names, the limits and which fault is the first are this profile's.
 pub fn resolve(
     alloc: Global,

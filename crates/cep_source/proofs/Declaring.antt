@@ -1,5 +1,5 @@
 -- One declaration more, and the places and the faults that are known then.
-use Rattle.std.proofs.Common.{◌≡◌, ℕ, suc, ◌+◌, ◌<◌, Bool, true, false, ◌||◌, cond, if◌then◌else◌, List, [], ◌∷◌, ◌++◌, map, length, take, get_or, min, Option, Some, None, is_some, position, refl, ap, sym, subst, ◌∙◌, append_assoc, append-nil, arith}
+use Rattle.std.proofs.Common.{◌≡◌, ℕ, suc, ◌+◌, ◌<◌, Bool, true, false, ◌||◌, cond, if◌then◌else◌, List, [], ◌∷◌, ◌++◌, map, length, take, get_or, Option, Some, None, is_some, refl, ap, sym, subst, ◌∙◌, append_assoc, append-nil, arith}
 use Rattle.std.specs.List.{list_any, position_from}
 use Rattle.std.specs.Map.{lookup}
 use Rattle.std.specs.Str.{bytes_eq}
@@ -17,7 +17,7 @@ use Rattle.cep_source.specs.Items.{Source, RuleItem}
 use Rattle.cep_parse.specs.declared.raw.Span.{Span}
 use Rattle.cep_parse.specs.Symbols.{slice_of}
 use Rattle.cep_source.specs.Spaces.{Named, named, place_among, rule_name, rule_names_from, unlabelled_behind}
-use Rattle.cep_source.specs.Firsts.{AreDeclared, has_name, place_under, declared_after, again_among, text_alone}
+use Rattle.cep_source.specs.Firsts.{AreDeclared, no_names, has_name, place_under, declared_after, again_among, text_alone}
 use Rattle.cep_source.specs.Kept.{rule_item}
 use Rattle.cep_source.proofs.Labels.{has_place}
 
@@ -73,7 +73,7 @@ again_push before (m ∷ names) n =
     (again_push (before ++ m.name ∷ []) names n ∙ ap (λ seen. again_among (before ++ m.name ∷ []) names ++ (if list_any (λ name. bytes_eq name n.name) seen then wrong Twice n.at ∷ [] else [])) (append_assoc before (m.name ∷ []) (map (λ m. m.name) names)))
     ∙ sym (append_assoc (if list_any (λ name. bytes_eq name m.name) before then wrong Twice m.at ∷ [] else []) (again_among (before ++ m.name ∷ []) names) _)
 
-pub none_declared : (new : Declared) → new ≡ record { places = []; twice = None } → AreDeclared [] new
+pub none_declared : (new : Declared) → new ≡ no_names → AreDeclared [] new
 none_declared new is = subst (AreDeclared []) (sym is) (record { places = λ name. refl; twice = refl })
 
 module _ (names : List Named) (n : Named) (place : ℕ) (old : Declared) (are : AreDeclared names old) (at : place ≡ length names) where

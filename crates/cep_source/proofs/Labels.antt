@@ -1,5 +1,5 @@
 -- A name that has a place is in its space.
-use Rattle.std.proofs.Common.{◌≡◌, ℕ, ◌+◌, Bool, true, false, ◌||◌, ◌==◌, ◌&&◌, not, cond, List, [], ◌∷◌, map, length, Option, Some, None, is_some, position, refl, ap, sym, ◌∙◌}
+use Rattle.std.proofs.Common.{◌≡◌, ℕ, ◌+◌, Bool, true, false, ◌||◌, ◌==◌, ◌&&◌, not, cond, List, [], ◌∷◌, map, length, Option, Some, is_some, refl, ap, sym, ◌∙◌}
 use Rattle.std.specs.List.{list_any, position_from}
 use Rattle.std.specs.Str.{bytes_eq}
 use Rattle.std.proofs.lemmas.Iterator.Adapters.{position_from-zero}

@@ -1,5 +1,5 @@
 -- At which place of a list a name stands, and what stands there.
-use Rattle.std.proofs.Common.{◌≡◌, ℕ, zero, suc, ◌+◌, ◌<◌, Bool, true, false, not, List, [], ◌∷◌, ◌++◌, map, Option, Some, None, length, take, get_or, refl, ap, sym, ◌∙◌, cond, nat_lt}
+use Rattle.std.proofs.Common.{◌≡◌, ℕ, zero, suc, ◌+◌, ◌<◌, Bool, true, false, not, List, [], ◌∷◌, ◌++◌, map, Some, None, length, take, get_or, refl, ap, sym, ◌∙◌, cond, nat_lt}
 use Rattle.std.specs.Option.{option_map}
 use Rattle.std.specs.List.{position, position_or_len, prefix_len, find, slice_get}
 use Rattle.std.specs.Str.{bytes_eq}

@@ -1,5 +1,5 @@
 -- The places of first declarations, where names come one after another.
-use Rattle.std.specs.Prelude.{◌≡◌, ℕ, Bool, if◌then◌else◌, List, [], ◌∷◌, ◌++◌, Option, Some, map}
+use Rattle.std.specs.Prelude.{◌≡◌, ℕ, Bool, if◌then◌else◌, List, [], ◌∷◌, ◌++◌, Option, Some, None}
 use Rattle.std.specs.Str.{bytes_eq}
 use Rattle.std.specs.List.{list_any}
 use Rattle.std.specs.Map.{lookup}
@@ -16,6 +16,10 @@ has_name table name = list_any (λ entry. bytes_eq name entry.0) table
 
 abbrev pub place_under : List (List ℕ × ℕ) → List ℕ → Option ℕ
 place_under table name = lookup (λ other. bytes_eq name other) table
+
+-- no declaration
+abbrev pub no_names : Declared
+no_names = record { places = []; twice = None }
 
 -- one declaration later: of a name that is there the first declaration counts, and the later one is wrong
 abbrev pub declared_after : Declared → Named → ℕ → Declared

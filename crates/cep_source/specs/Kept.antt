@@ -5,15 +5,15 @@ use Rattle.cep_parse.specs.declared.raw.RawItem.{RawItem}
 use Rattle.cep_parse.specs.declared.raw.RawRule.{RawRule}
 use Rattle.cep_source.specs.declared.space.Space.TheVariants as space
 use Rattle.cep_source.specs.Items.{Source, ConItem, PredItem, ContextItem, RuleItem, TraceItem, sorts_in, preds_in, stages_in, interactives_in, contexts_in, traces_in, rules_from, cons_of, interactives_of}
-use Rattle.cep_source.specs.Spaces.{named, names_in, rule_names_from}
-use Rattle.cep_source.specs.Firsts.{AreDeclared, text_alone}
+use Rattle.cep_source.specs.Spaces.{named, names_in}
+use Rattle.cep_source.specs.Firsts.{AreDeclared, no_names}
 use Rattle.cep_source.specs.declared.items.RawCon.{RawCon}
 use Rattle.cep_source.specs.declared.items.RawPred.{RawPred}
 use Rattle.cep_source.specs.declared.items.RawContext.{RawContext}
 use Rattle.cep_source.specs.declared.items.RuleRef.{RuleRef}
 use Rattle.cep_source.specs.declared.items.TraceRef.{TraceRef}
 use Rattle.cep_source.specs.declared.kinds.Kinds.{Kinds}
-use Rattle.cep_source.specs.declared.kinds.NameSpaces.{NameSpaces}
+use Rattle.cep_source.specs.declared.kinds.Names.{Names}
 use Rattle.cep_source.specs.declared.source.Source.TheInside.{Inside}
 
 abbrev pub con_item : RawCon → ConItem
@@ -48,23 +48,28 @@ pub record AreKinds (file : List RawItem) (kinds : Kinds) : Type 0 where
   pub rules : map rule_item kinds.rules.items ≡ rules_from 0 file
   pub traces : map trace_item kinds.traces.items ≡ flat_map traces_in file
 
--- Each space has the names of its kind.
-pub record AreSpaces (text : List ℕ) (kinds : Kinds) (names : NameSpaces) : Type 0 where
-  pub sorts : AreDeclared (map (named (text_alone text)) kinds.sorts.items) names.sorts
-  pub predicates : AreDeclared (map (λ pred. named (text_alone text) (pred_item pred).name) kinds.preds.items) names.predicates
-  pub stages : AreDeclared (map (named (text_alone text)) kinds.stages.items) names.stages
-  pub contexts : AreDeclared (map (λ context. named (text_alone text) (context_item context).name) kinds.contexts.items) names.contexts
-  pub rules : AreDeclared (rule_names_from (text_alone text) 0 (map rule_item kinds.rules.items)) names.rules
-  pub interactives : AreDeclared (map (named (text_alone text)) kinds.interactives.items) names.interactives
+-- No name is declared yet.
+pub record AreNone (names : Names) : Type 0 where
+  pub sorts : names.sorts ≡ no_names
+  pub predicates : names.predicates ≡ no_names
+  pub constructors : names.constructors ≡ no_names
+  pub stages : names.stages ≡ no_names
+  pub contexts : names.contexts ≡ no_names
+  pub rules : names.rules ≡ no_names
+  pub interactives : names.interactives ≡ no_names
+
+-- The constructors are those of the source, and each space has its names.
+pub record AreNames (source : Source) (names : Names) : Type 0 where
+  pub cons : map con_item names.cons.items ≡ cons_of source
+  pub sorts : AreDeclared (names_in source space.Sorts) names.sorts
+  pub predicates : AreDeclared (names_in source space.Predicates) names.predicates
+  pub constructors : AreDeclared (names_in source space.Constructors) names.constructors
+  pub stages : AreDeclared (names_in source space.Stages) names.stages
+  pub contexts : AreDeclared (names_in source space.Contexts) names.contexts
+  pub rules : AreDeclared (names_in source space.Rules) names.rules
+  pub interactives : AreDeclared (map (named source) (interactives_of source)) names.interactives
 
 -- What is kept is what the source declares, and the names of it.
 pub record IsGathered (inside : Inside) : Type 0 where
   pub kinds : AreKinds (source_of inside).file inside.kinds
-  pub cons : map con_item inside.cons.items ≡ cons_of (source_of inside)
-  pub sort_names : AreDeclared (names_in (source_of inside) space.Sorts) inside.names.sorts
-  pub pred_names : AreDeclared (names_in (source_of inside) space.Predicates) inside.names.predicates
-  pub con_names : AreDeclared (names_in (source_of inside) space.Constructors) inside.con_names
-  pub stage_names : AreDeclared (names_in (source_of inside) space.Stages) inside.names.stages
-  pub context_names : AreDeclared (names_in (source_of inside) space.Contexts) inside.names.contexts
-  pub rule_names : AreDeclared (names_in (source_of inside) space.Rules) inside.names.rules
-  pub interactive_names : AreDeclared (map (named (source_of inside)) (interactives_of (source_of inside))) inside.names.interactives
+  pub names : AreNames (source_of inside) inside.names

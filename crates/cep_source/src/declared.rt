@@ -1,7 +1,7 @@
 // The names of each space, one declaration after another.
 ghost use Rattle.std.specs.Prelude.{◌≡◌, [], ◌++◌, map, codes, decimal, is_some, IfOk, OnOk, None};
 ghost use Rattle.cep_source.specs.Spaces.{named, rule_names_from, unlabelled_behind, rule_name};
-ghost use Rattle.cep_source.specs.Firsts.{AreDeclared, declared_after, place_under, text_alone};
+ghost use Rattle.cep_source.specs.Firsts.{AreDeclared, no_names, declared_after, place_under, text_alone};
 ghost use Rattle.cep_source.specs.Kept.{con_item, pred_item, context_item, rule_item};
 
 use crate::items::{RawCon, RawContext, RawPred, RuleRef};
@@ -22,8 +22,8 @@ pub(crate) struct Declared {
 
 impl Declared {
     // No names. It takes no memory.
-    fn new(alloc: Global) -> Declared
-        ensures { result ≡ record { places = []; twice = None } }
+    pub(crate) fn new(alloc: Global) -> Declared
+        ensures { result ≡ no_names }
     {
         Declared {
             places: FirstPlaces::new(alloc),
@@ -52,65 +52,53 @@ impl Declared {
         Ok(())
     }
 
-    // The names at these spans.
-    pub(crate) fn of_spans(
-        alloc: Global,
-        text: &[u8],
-        spans: &[Span],
-    ) -> Result<Declared, AllocError>
-        ensures { IfOk result (AreDeclared (map (named (text_alone text.now)) spans.now)) }
+    // Declares the names at these spans, where none was declared before.
+    pub(crate) fn declare_spans(&mut self, text: &[u8], spans: &[Span]) -> Result<(), AllocError>
+        requires { self.old ≡ no_names }
+        ensures { OnOk result (AreDeclared (map (named (text_alone text.now)) spans.now) self.new) }
     {
-        let mut names = Declared::new(alloc);
         for i in 0..spans.len() {
             let span = spans[i];
-            names.declare(said(text, span), span.from, i)?;
+            self.declare(said(text, span), span.from, i)?;
         }
-        Ok(names)
+        Ok(())
     }
 
-    pub(crate) fn of_preds(
-        alloc: Global,
-        text: &[u8],
-        preds: &[RawPred],
-    ) -> Result<Declared, AllocError>
-        ensures { IfOk result (AreDeclared (map (λ pred. named (text_alone text.now) (pred_item pred).name) preds.now)) }
+    pub(crate) fn declare_preds(&mut self, text: &[u8], preds: &[RawPred]) -> Result<(), AllocError>
+        requires { self.old ≡ no_names }
+        ensures { OnOk result (AreDeclared (map (λ pred. named (text_alone text.now) (pred_item pred).name) preds.now) self.new) }
     {
-        let mut names = Declared::new(alloc);
         for i in 0..preds.len() {
             let pred = preds[i].name;
-            names.declare(said(text, pred), pred.from, i)?;
+            self.declare(said(text, pred), pred.from, i)?;
         }
-        Ok(names)
+        Ok(())
     }
 
-    pub(crate) fn of_cons(
-        alloc: Global,
-        text: &[u8],
-        cons: &[RawCon],
-    ) -> Result<Declared, AllocError>
-        ensures { IfOk result (AreDeclared (map (λ con. named (text_alone text.now) (con_item con).name) cons.now)) }
+    pub(crate) fn declare_cons(&mut self, text: &[u8], cons: &[RawCon]) -> Result<(), AllocError>
+        requires { self.old ≡ no_names }
+        ensures { OnOk result (AreDeclared (map (λ con. named (text_alone text.now) (con_item con).name) cons.now) self.new) }
     {
-        let mut names = Declared::new(alloc);
         for i in 0..cons.len() {
             let con = cons[i].name;
-            names.declare(said(text, con), con.from, i)?;
+            self.declare(said(text, con), con.from, i)?;
         }
-        Ok(names)
+        Ok(())
     }
 
-    pub(crate) fn of_contexts(
-        alloc: Global,
+    pub(crate) fn declare_contexts(
+        &mut self,
         text: &[u8],
         contexts: &[RawContext],
-    ) -> Result<Declared, AllocError>
-        ensures { IfOk result (AreDeclared (map (λ context. named (text_alone text.now) (context_item context).name) contexts.now)) }
+    ) -> Result<(), AllocError>
+        requires { self.old ≡ no_names }
+        ensures { OnOk result (AreDeclared (map (λ context. named (text_alone text.now) (context_item context).name) contexts.now) self.new) }
     {
-        let mut names = Declared::new(alloc);
         for i in 0..contexts.len() {
             let context = contexts[i].name;
-            names.declare(said(text, context), context.from, i)?;
+            self.declare(said(text, context), context.from, i)?;
         }
-        Ok(names)
+        Ok(())
     }
 
     // Declares the name of a rule behind so many without a label, and answers how many of these
@@ -142,21 +130,22 @@ impl Declared {
         }
     }
 
-    // The names of rules.
-    pub(crate) fn of_rules(
+    // Declares the names of rules, where none was declared before.
+    pub(crate) fn declare_rules(
+        &mut self,
         alloc: Global,
         text: &[u8],
         rules: &[RuleRef],
-    ) -> Result<Declared, AllocError>
-        ensures { IfOk result (AreDeclared (rule_names_from (text_alone text.now) 0 (map rule_item rules.now))) }
+    ) -> Result<(), AllocError>
+        requires { self.old ≡ no_names }
+        ensures { OnOk result (AreDeclared (rule_names_from (text_alone text.now) 0 (map rule_item rules.now)) self.new) }
     {
-        let mut names = Declared::new(alloc);
         let mut unlabelled = 0;
         for i in 0..rules.len() {
             let rule = rules[i];
-            unlabelled = names.declare_rule(alloc, text, &rule, unlabelled, i)?;
+            unlabelled = self.declare_rule(alloc, text, &rule, unlabelled, i)?;
         }
-        Ok(names)
+        Ok(())
     }
 }
 

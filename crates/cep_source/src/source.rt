@@ -7,10 +7,9 @@ ghost use Rattle.cep_source.specs.Misnamed.{IsTwice};
 ghost use Rattle.cep_source.specs.Starts.{listed_in};
 ghost use Rattle.cep_source.specs.Kept.{con_item, pred_item, rule_item, context_item, trace_item};
 
-use crate::declared::Declared;
 use crate::gathering;
 use crate::items::{RawCon, RawContext, RawPred, RuleRef, TraceRef, item_at};
-use crate::kinds::{Kinds, NameSpaces};
+use crate::kinds::{Kinds, Names};
 use crate::space::Space;
 use crate::text::said;
 use cep_parse::{RawAtom, RawFile, RawItem, Span, Spans};
@@ -27,9 +26,7 @@ pub struct Source<'a> {
     text: &'a [u8],
     file: &'a RawFile,
     kinds: Kinds<'a>,
-    cons: Vec<RawCon<'a>>,
-    names: NameSpaces,
-    con_names: Declared,
+    names: Names<'a>,
 }
 
 impl<'a> Model for Source<'a> {
@@ -53,17 +50,13 @@ impl<'a> Source<'a> {
         ensures { IfOk result (λ source. source ≡ record { text = text.entry.now; file = file.entry.now }) }
     {
         let kinds = Kinds::of(alloc, file)?;
-        let names = NameSpaces::of(alloc, text, &kinds)?;
-        let cons = gathering::cons_of(alloc, text, &names.sorts, &names.predicates, file)?;
-        let con_names = Declared::of_cons(alloc, text, &cons)?;
+        let names = Names::of(alloc, text, file, &kinds)?;
         Ok(Source {
             alloc,
             text,
             file,
             kinds,
-            cons,
             names,
-            con_names,
         })
     }
 
@@ -104,7 +97,7 @@ impl<'a> Source<'a> {
     pub fn cons(&self) -> &[RawCon<'a>]
         ensures { map con_item result.now ≡ cons_of self.now }
     {
-        &self.cons
+        &self.names.cons
     }
 
     /// The stages.
@@ -148,7 +141,7 @@ impl<'a> Source<'a> {
     {
         match space {
             Space::Sorts => self.names.sorts.places.place(name),
-            Space::Constructors => self.con_names.places.place(name),
+            Space::Constructors => self.names.constructors.places.place(name),
             Space::Predicates => self.names.predicates.places.place(name),
             Space::Stages => self.names.stages.places.place(name),
             Space::Contexts => self.names.contexts.places.place(name),
@@ -174,7 +167,7 @@ impl<'a> Source<'a> {
     pub fn con(&self, name: Span) -> Option<RawCon<'a>>
         ensures { option_map con_item result ≡ con_named self.now (said self.now name) }
     {
-        let cons = &self.cons;
+        let cons = &self.names.cons;
         let Some(place) = self.place(Space::Constructors, self.said(name)) else {
             return None;
         };
@@ -253,7 +246,7 @@ impl<'a> Source<'a> {
         let names = &self.names;
         let basics = Fault::first_of(names.sorts.twice, names.predicates.twice);
         let states = Fault::first_of(names.stages.twice, names.contexts.twice);
-        let rest = Fault::first_of(self.con_names.twice, names.rules.twice);
+        let rest = Fault::first_of(names.constructors.twice, names.rules.twice);
         let some = Fault::first_of(basics, states);
         Fault::first_of(some, rest)
     }

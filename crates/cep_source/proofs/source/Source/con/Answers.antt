@@ -13,7 +13,7 @@ pub returns-in_default : goal.returns-in_default
 returns-in_default c =
     let source = source_of c.self.inside in
     let name = c.said.result.now in
-    sym (told_none con_item (λ item. named source item.name) c.self.inside.cons.items (cons_of source) name c.self.invariant.cons
+    sym (told_none con_item (λ item. named source item.name) c.self.inside.names.cons.items (cons_of source) name c.self.invariant.names.cons
     (ap (λ (s : Source). first_place s space.Constructors name) c.self.view_is ∙ sym c.place.ensures ∙ c.in_default.is))
     ∙ ap (λ (s : Source). con_named s name) c.self.view_is ∙ ap (con_named c.args.self.now) c.said.ensures
 
@@ -22,6 +22,6 @@ returns c =
     let source = source_of c.self.inside in
     let name = c.said.result.now in
     ap (option_map con_item) (c.item_at.ensures ∙ ap (λ (items : List RawCon). slice_get items c.in-Some.place) c.deref.ensures.value)
-    ∙ told_some con_item (λ item. named source item.name) c.self.inside.cons.items (cons_of source) name c.self.invariant.cons c.in-Some.place
+    ∙ told_some con_item (λ item. named source item.name) c.self.inside.names.cons.items (cons_of source) name c.self.invariant.names.cons c.in-Some.place
     (ap (λ (s : Source). first_place s space.Constructors name) c.self.view_is ∙ sym c.place.ensures ∙ c.in-Some.is)
     ∙ ap (λ (s : Source). con_named s name) c.self.view_is ∙ ap (con_named c.args.self.now) c.said.ensures

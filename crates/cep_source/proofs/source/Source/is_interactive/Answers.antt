@@ -11,7 +11,7 @@ pub returns : goal.returns
 returns c =
     let source = source_of c.self.inside in
     let name = c.said.result.now in
-    c.has.ensures ∙ ap is_some (c.self.invariant.interactive_names.places name) ∙ has_place _ name
+    c.has.ensures ∙ ap is_some (c.self.invariant.names.interactives.places name) ∙ has_place _ name
     ∙ any_map (λ (other : Named). bytes_eq other.name name) (named source) (interactives_of source)
     ∙ ap (λ (s : Source). is_said s (interactives_of s) name) c.self.view_is
     ∙ ap (is_said c.args.self.now (interactives_of c.args.self.now)) c.said.ensures

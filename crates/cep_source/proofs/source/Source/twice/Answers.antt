@@ -8,8 +8,8 @@ use Rattle.cep_source.proofs.source.Source.twice.Goals as goal
 
 pub returns : goal.returns
 returns c =
-    let names = c.self.invariant in
+    let names = c.self.invariant.names in
     subst (λ (s : Source). IsFirstOrNone (IsTwice s) c.first_of.result) c.self.view_is
     (first_twice (source_of c.self.inside) _ _ _ _ _ _ c.first_of-basics.result c.first_of-states.result c.first_of-some.result c.first_of-rest.result c.first_of.result
-    names.sort_names.twice names.pred_names.twice c.first_of-basics.ensures names.stage_names.twice names.context_names.twice c.first_of-states.ensures c.first_of-some.ensures
-    names.con_names.twice names.rule_names.twice c.first_of-rest.ensures c.first_of.ensures)
+    names.sorts.twice names.predicates.twice c.first_of-basics.ensures names.stages.twice names.contexts.twice c.first_of-states.ensures c.first_of-some.ensures
+    names.constructors.twice names.rules.twice c.first_of-rest.ensures c.first_of.ensures)
