@@ -1,6 +1,6 @@
 -- The sizes of contexts by the places of their names.
 use Rattle.std.proofs.Common.{◌≡◌, ℕ, Bool, List, map, Option, Some, None, refl, ap, sym, ◌∙◌, position}
-use Rattle.std.specs.List.{slice_get, find}
+use Rattle.std.specs.List.{slice_get}
 use Rattle.std.specs.Option.{option_map}
 use Rattle.std.specs.Str.{bytes_eq}
 use Rattle.cep_source.specs.declared.space.Space.TheVariants as space

@@ -1,5 +1,5 @@
 -- The first of all faults.
-use Rattle.std.proofs.Common.{◌≡◌, ℕ, ◌⊎◌, inl, inr, ⊎_elim, List, ◌++◌, Option, Some, None, refl, ap, sym, ◌∙◌, subst}
+use Rattle.std.proofs.Common.{◌≡◌, ◌⊎◌, inl, inr, ⊎_elim, List, ◌++◌, Option, ap, sym, ◌∙◌, subst}
 use Rattle.std.specs.List.{flat_map, Contains}
 use Rattle.cep_parse.specs.declared.raw.RawItem.{RawItem}
 use Rattle.cep_refusal.specs.declared.fault.Fault.{Fault}

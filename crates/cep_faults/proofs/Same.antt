@@ -1,7 +1,6 @@
 -- What the faults count is what the definitions count.
-use Rattle.std.proofs.Common.{◌≡◌, ℕ, ◌+◌, ◌<◌, min, nat_lt, Bool, true, false, ◌||◌, cond, if◌then◌else◌, List, [], ◌∷◌, ◌++◌, length, map, Option, Some, None, refl, ap, sym, ◌∙◌, arith, codes, decimal, lit<, length-append}
+use Rattle.std.proofs.Common.{◌≡◌, ℕ, ◌+◌, ◌<◌, min, nat_lt, Bool, true, false, ◌||◌, cond, if◌then◌else◌, List, [], ◌∷◌, ◌++◌, length, map, Some, refl, ap, sym, ◌∙◌, arith, codes, decimal, lit<, length-append}
 use Rattle.std.specs.List.{flat_map, list_any, filter, sum_by}
-use Rattle.std.specs.Option.{option_map}
 use Rattle.std.specs.Str.{bytes_eq}
 use Rattle.std.proofs.lemmas.Bool.Decides.{nat_tests}
 use Rattle.std.proofs.lemmas.List.{map-append}
@@ -24,12 +23,12 @@ use Rattle.cep_source.specs.declared.space.Role.TheVariants as role
 use Rattle.cep_faults.specs.declared.sizes.Size.{Size}
 use Rattle.cep_faults.specs.declared.variables.Seen.{Seen}
 use Rattle.cep_faults.specs.declared.counts.Counted.TheVariants as counted
-use Rattle.cep_source.specs.Items.{Source, ContextItem, ClauseItem, RuleItem, clauses_in, clauses_of, said, preds_in, preds_of, cons_in, cons_of, rules_in, rules_from, rules_of, stages_behind, contexts_of}
+use Rattle.cep_source.specs.Items.{Source, ClauseItem, RuleItem, clauses_in, clauses_of, said, preds_in, preds_of, cons_in, cons_of, rules_in, rules_from, rules_of, stages_behind}
 use Rattle.cep_parse.specs.Raw.{item_rules, atoms_of}
 use Rattle.cep_source.specs.Misnamed.{is_declared}
 use Rattle.cep_faults.specs.Seen.{met, new_at, blanked, new_in, new_kind, met_kind}
-use Rattle.cep_source.specs.Spaces.{Named, named, back_named, names_in, rule_names_from, unlabelled_behind, context_named}
-use Rattle.cep_source.specs.Starts.{nodes_written, listed_in, listed_or, start_atoms}
+use Rattle.cep_source.specs.Spaces.{Named, named, back_named, names_in, rule_names_from, unlabelled_behind}
+use Rattle.cep_source.specs.Starts.{nodes_written, listed_or, start_atoms}
 use Rattle.cep_source.specs.Firsts.{has_name}
 use Rattle.cep_source.specs.Uses.{placed, is_context}
 use Rattle.cep_source.specs.Variables.{Occurrence, occurrence_at, blanks_behind, occurrences_from, firsts_beside}

@@ -25,7 +25,7 @@ use Rattle.cep_source.specs.Variables.{variables_of}
 use Rattle.cep_faults.specs.Seen.{unseen, new_in}
 use Rattle.cep_faults.specs.Faults.{use_faults, placed_faults, past, places, argument_faults, con_faults, size_faults, rule_faults, clause_faults, premise_places, atom_places, is_qui_rule, qui_faults, turns_faults, trace_faults, outers_in, state_role, state_atoms, item_faults}
 use Rattle.cep_faults.specs.Totals.{variable_faults, item_variable_faults, is_fit, unfit_faults, item_unfit_faults, count_faults, all_count_faults, places_in, written_size, is_large, start_size, start_faults, traces_faults, all_faults}
-use Rattle.cep_base.proofs.Members.{In, in_nil, in_one, in_same, in_left, in_right, in_parts, through, via, image, mapped, to_contains, got}
+use Rattle.cep_base.proofs.Members.{In, in_nil, in_one, in_left, in_right, in_parts, through, via, image, mapped, to_contains, got}
 use Rattle.cep_faults.proofs.Parts.{own_use, con_use, own_placed, clause_placed, state_own, rule_own, numbered, outer}
 use Rattle.cep_faults.proofs.Same.{atom_at, entry_at, occurrence_from, premise_list, atom_list, preds_at, cons_at, head_at, clauses_at, rules_at, variables_same, size_same, large_same}
 use Rattle.cep_faults.proofs.Sound.{use_sound, placed_sound}

@@ -1,6 +1,6 @@
 -- Private.
 -- The faults of a whole file: of its numbers of declarations, of the variables of its rules and clauses, of the sizes of its atoms, and of its traces.
-use Rattle.std.specs.Prelude.{◌≡◌, ℕ, Bool, true, false, ◌||◌, ◌&&◌, if◌then◌else◌, List, [], ◌∷◌, ◌++◌, map, length, ◌^◌, ◌-◌, min, nat_lt, nat_le, sum_by, slice_get}
+use Rattle.std.specs.Prelude.{◌≡◌, ℕ, Bool, ◌||◌, ◌&&◌, if◌then◌else◌, List, [], ◌∷◌, ◌++◌, map, length, ◌^◌, ◌-◌, min, nat_lt, nat_le, sum_by, slice_get}
 use Rattle.std.specs.List.{flat_map}
 use Rattle.cep_parse.specs.declared.raw.RawAtom.{RawAtom}
 use Rattle.cep_parse.specs.declared.raw.RawStart.{RawStart}
