@@ -87,8 +87,8 @@ fn typed(source: &Source) -> Result<Result<Draft, Fault>, AllocError>
     Ok(Ok(draft_from(source, &trace)?))
 }
 
-// The draft of a text, or its first fault.
-fn drafted(source: &Source) -> Result<Result<Draft, Fault>, AllocError>
+// The draft of what a text declares, or its first fault.
+fn drafted_from(source: &Source) -> Result<Result<Draft, Fault>, AllocError>
     requires { length source.now.text ≤ MOST_TEXT }
     ensures { IfOk result (λ answer. MatchResult answer (IsSound source.now) (IsFirstFault source.now)) }
 {
@@ -96,6 +96,15 @@ fn drafted(source: &Source) -> Result<Result<Draft, Fault>, AllocError>
         Some(fault) => Ok(Err(fault)),
         None => typed(source),
     }
+}
+
+// The draft of a text, or its first fault. What was gathered is dropped here, and in one place.
+fn drafted(alloc: Global, text: &[u8], file: &RawFile) -> Result<Result<Draft, Fault>, AllocError>
+    requires { length text.now ≤ MOST_TEXT }
+    ensures { IfOk result (λ answer. MatchResult answer (IsSound (record { text = text.now; file = file.now })) (IsFirstFault (record { text = text.now; file = file.now }))) }
+{
+    let source = Source::of(alloc, text, file)?;
+    drafted_from(&source)
 }
 
 /// What a text declares, as a draft, or the refusal that tells the first fault of its names, or,
@@ -111,7 +120,6 @@ pub fn resolve(
     requires source { IsSource (record { text = text.now; file = file.now }) }
     ensures { IfOk result (IsResolved (record { text = text.now; file = file.now })) }
 {
-    let source = Source::of(alloc, text, file)?;
-    let drafted = drafted(&source)?;
+    let drafted = drafted(alloc, text, file)?;
     Ok(drafted.map_err(|fault| Refusal::of(text, fault)))
 }

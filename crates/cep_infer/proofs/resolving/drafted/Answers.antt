@@ -1,14 +1,11 @@
-use Rattle.std.proofs.Common.{subst, inl}
-use Rattle.cep_refusal.specs.First.{IsFirstOrNone}
-use Rattle.cep_source.specs.Misnamed.{Misnamed}
-use Rattle.cep_infer.proofs.Drafting.{sound_or_first}
+use Rattle.std.proofs.Common.{◌≤◌, length, sym, subst}
+use Rattle.std.specs.Prelude.{MatchResult, IfOk}
+use Rattle.cep_source.specs.Items.{Source}
+use Rattle.cep_infer.specs.Resolved.{IsSound, IsFirstFault}
 use Rattle.cep_infer.proofs.resolving.drafted.Goals as goal
 
-pub returns-in-Some : goal.returns-in-Some
-returns-in-Some c = inl (subst (IsFirstOrNone (Misnamed c.args.source.now)) c.in-Some.is c.in_ok-name_fault.ensures)
+pub drafted_from-requires : goal.drafted_from-requires
+drafted_from-requires c = subst (λ (s : Source). length s.text ≤ 1048576) (sym c.in_ok-source.ensures) c.requires
 
-pub typed-requires-clause-named : goal.typed-requires-clause-named
-typed-requires-clause-named c = subst (IsFirstOrNone (Misnamed c.args.source.now)) c.in-None.is c.in_ok-name_fault.ensures
-
-pub returns-in-None : goal.returns-in-None
-returns-in-None c = sound_or_first c.args.source.now (subst (IsFirstOrNone (Misnamed c.args.source.now)) c.in-None.is c.in_ok-name_fault.ensures) c.typed.result c.typed.ensures
+pub returns : goal.returns
+returns c = subst (λ (s : Source). IfOk c.drafted_from.result (λ answer. MatchResult answer (IsSound s) (IsFirstFault s))) c.in_ok-source.ensures c.drafted_from.ensures

@@ -1,4 +1,3 @@
-use Rattle.std.proofs.Common.{subst}
 use Rattle.cep_infer.proofs.Drafting.{first_of_all}
 use Rattle.cep_infer.proofs.resolving.first_trace.Goals as goal
 
