@@ -26,7 +26,6 @@ use Rattle.cep_base.specs.Bounds.{IsTurnLimit}
 use Rattle.cep_base.specs.declared.limits.TheConstants.{MOST_TURNS}
 use Rattle.cep_rule.specs.Groundness.{IsGrounded}
 use Rattle.cep_modes.specs.Grounding.{AreInOrder}
-use Rattle.cep_rule.specs.Binding.{needed_of}
 use Rattle.cep_rule.specs.State.{IsState}
 use Rattle.cep_rule.specs.Program.{AreSorts, AreNumbersDeclared, IsTypedRule, IsTypedClause, IsDividedRule, IsDividedClause, IsGroupedRule, IsProgram}
 use Rattle.cep_refusal.specs.declared.reason.Reason.TheVariants.{OverLimit}
