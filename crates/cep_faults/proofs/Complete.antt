@@ -10,32 +10,30 @@ use Rattle.cep_parse.specs.declared.raw.RawItem.{RawItem}
 use Rattle.cep_base.specs.declared.limits.TheConstants.{MOST_ARGUMENTS, MOST_BACKS, MOST_CLAUSES, MOST_CONS, MOST_COPIES, MOST_DEPTH, MOST_GOALS, MOST_NODES, MOST_PREDS, MOST_PREMISES, MOST_RIGHT, MOST_RULES, MOST_STATE_NODES, MOST_VARIABLES}
 use Rattle.cep_refusal.specs.declared.fault.Fault.{Fault}
 use Rattle.cep_refusal.specs.declared.reason.Reason.TheVariants.{WrongArity, VarInContext, BwdInState, LinearInClause, BadQui, TwoTraces, OverLimit}
-use Rattle.cep_names.specs.declared.space.Space.{Space}
-use Rattle.cep_names.specs.declared.space.Space.TheVariants as space
-use Rattle.cep_names.specs.declared.space.Role.{Role}
-use Rattle.cep_names.specs.declared.space.Role.TheVariants as role
+use Rattle.cep_source.specs.declared.space.Space.{Space}
+use Rattle.cep_source.specs.declared.space.Space.TheVariants as space
+use Rattle.cep_source.specs.declared.space.Role.{Role}
+use Rattle.cep_source.specs.declared.space.Role.TheVariants as role
 use Rattle.cep_faults.specs.declared.counts.Counted.TheVariants as counted
-use Rattle.cep_names.specs.Items.{Source, PredItem, ConItem, ClauseItem, RuleItem, TraceItem, said, cons_in, cons_of, preds_in, preds_of, clauses_in, clauses_of, rules_of, traces_in, traces_of}
+use Rattle.cep_source.specs.Items.{Source, PredItem, ConItem, ClauseItem, RuleItem, TraceItem, said, cons_in, cons_of, preds_in, preds_of, clauses_in, clauses_of, rules_of, traces_in, traces_of}
 use Rattle.cep_parse.specs.Raw.{item_rules, atoms_of, raw_nodes, listed_atoms}
-use Rattle.cep_names.specs.Misnamed.{Misnamed, IsTwice, IsOver, IsOfState, ComesToState, IsOpen, IsQuiRule, is_somewhere, arguments_of, linear_of, backward_of, is_qui, is_stage, turns_said}
+use Rattle.cep_source.specs.Misnamed.{Misnamed, IsTwice, IsOver, IsOfState, ComesToState, IsOpen, IsQuiRule, is_somewhere, arguments_of, linear_of, backward_of, is_qui, is_stage, turns_said}
 use Rattle.cep_refusal.specs.First.{wrong}
-use Rattle.cep_names.specs.Misnamed.Misnamed.{twice, unknown, wrong_kind, wrong_arity, variable_in_state, backward_in_state, linear_in_clause, bad_qui, no_trace, two_traces, over}
-use Rattle.cep_names.specs.Misnamed.IsOpen.{variable, blank}
-use Rattle.cep_names.specs.Misnamed.IsOfState.{listed, start}
-use Rattle.cep_names.specs.Misnamed.ComesToState.{made}
-use Rattle.cep_names.specs.Spaces.{names_in, is_in, arity_of, back_of}
-use Rattle.cep_names.specs.Starts.{IsFitWritten, nodes_written, depth_written, start_atoms}
-use Rattle.cep_names.specs.Uses.{Placed, Use, placed, is_context, own_uses, con_uses, pred_uses, node_uses, atom_uses, item_uses, uses_of, own_atoms, item_atoms, placed_of, rule_atoms, clause_atoms}
-use Rattle.cep_names.specs.Variables.{variables_of}
+use Rattle.cep_source.specs.Misnamed.Misnamed.{twice, unknown, wrong_kind, wrong_arity, variable_in_state, backward_in_state, linear_in_clause, bad_qui, no_trace, two_traces, over}
+use Rattle.cep_source.specs.Misnamed.IsOpen.{variable, blank}
+use Rattle.cep_source.specs.Misnamed.IsOfState.{listed, start}
+use Rattle.cep_source.specs.Misnamed.ComesToState.{made}
+use Rattle.cep_source.specs.Spaces.{names_in, is_in, arity_of, back_of}
+use Rattle.cep_source.specs.Starts.{IsFitWritten, nodes_written, depth_written, start_atoms}
+use Rattle.cep_source.specs.Uses.{Placed, Use, placed, is_context, own_uses, con_uses, pred_uses, node_uses, atom_uses, item_uses, uses_of, own_atoms, item_atoms, placed_of, rule_atoms, clause_atoms}
+use Rattle.cep_source.specs.Variables.{variables_of}
 use Rattle.cep_faults.specs.Seen.{unseen, new_in}
-use Rattle.cep_faults.specs.Looks.{looks_of, cons_by, clauses_by}
 use Rattle.cep_faults.specs.Faults.{lack_faults, arity_faults, use_faults, pred_faults, node_faults, open_faults, back_faults, linear_faults, state_faults, role_faults, placed_faults, past, places, argument_faults, con_faults, size_faults, rule_faults, clause_faults, premise_places, is_qui_rule, qui_faults, turns_faults, trace_faults, outers_in, state_role, state_atoms, item_faults}
 use Rattle.cep_faults.specs.Totals.{variable_faults, item_variable_faults, is_fit, unfit_faults, item_unfit_faults, count_faults, all_count_faults, written_size, is_large, start_size, start_faults, traces_faults, all_faults}
 use Rattle.cep_base.proofs.Members.{In, here, in_nil, in_one, in_same, in_left, in_right, in_parts, through, via, image, mapped, from_contains, give}
 use Rattle.cep_faults.proofs.Parts.{own_parts, housed}
 use Rattle.cep_faults.proofs.Same.{atom_at, entry_at, head_at, occurrence_from, premise_list, atom_list, preds_at, cons_at, clauses_at, rules_at, size_same, large_same}
-use Rattle.cep_faults.proofs.SoundItems.{variable_list, context_sizes}
-use Rattle.cep_faults.proofs.SourceLooks.{cons_by_is, clauses_by_is}
+use Rattle.cep_faults.proofs.SoundItems.{variable_list}
 
 is_one : (w fault : Fault) → fault ≡ w → In (w ∷ []) fault
 is_one w fault e = subst (In (w ∷ [])) (sym e) (here w [])
@@ -44,58 +42,58 @@ in_same_fault : (faults : List Fault) (w fault : Fault) → fault ≡ w → In f
 in_same_fault faults w fault e h = subst (In faults) (sym e) h
 
 -- the faults of an item are among all
-in_item : (source : Source) (item : RawItem) (fault : Fault) → In source.file item → In (item_faults (looks_of source) item) fault → In (all_faults (looks_of source) source.file) fault
-in_item source item fault member h = in_left (flat_map (item_faults (looks_of source)) source.file) _ fault (via (item_faults (looks_of source)) source.file item fault member h)
+in_item : (source : Source) (item : RawItem) (fault : Fault) → In source.file item → In (item_faults source item) fault → In (all_faults source source.file) fault
+in_item source item fault member h = in_left (flat_map (item_faults source) source.file) _ fault (via (item_faults source) source.file item fault member h)
 
 module _ (source : Source) (item : RawItem) (fault : Fault) where
-  part_uses : In (flat_map (use_faults (looks_of source)) (own_uses item)) fault → In (item_faults (looks_of source) item) fault
-  part_uses h = in_left (flat_map (use_faults (looks_of source)) (own_uses item)) _ fault h
+  part_uses : In (flat_map (use_faults source) (own_uses item)) fault → In (item_faults source item) fault
+  part_uses h = in_left (flat_map (use_faults source) (own_uses item)) _ fault h
 
-  past_cons : In (flat_map (λ (pred : PredItem). argument_faults pred.args) (preds_in item) ++ (flat_map (placed_faults (looks_of source)) (state_atoms item) ++ (flat_map (clause_faults (looks_of source)) (clauses_by (looks_of source) item)
-      ++ (flat_map (rule_faults (looks_of source)) (item_rules item) ++ (flat_map qui_faults (outers_in item) ++ flat_map (trace_faults (looks_of source)) (traces_in item)))))) fault
-      → In (item_faults (looks_of source) item) fault
-  past_cons h = in_right (flat_map (use_faults (looks_of source)) (own_uses item)) _ fault (in_right (flat_map (con_faults (looks_of source)) (cons_by (looks_of source) item)) _ fault h)
+  past_cons : In (flat_map (λ (pred : PredItem). argument_faults pred.args) (preds_in item) ++ (flat_map (placed_faults source) (state_atoms item) ++ (flat_map (clause_faults source) (clauses_in source item)
+      ++ (flat_map (rule_faults source) (item_rules item) ++ (flat_map qui_faults (outers_in item) ++ flat_map (trace_faults source) (traces_in item)))))) fault
+      → In (item_faults source item) fault
+  past_cons h = in_right (flat_map (use_faults source) (own_uses item)) _ fault (in_right (flat_map (con_faults source) (cons_in source item)) _ fault h)
 
-  part_con : (con : ConItem) → In (cons_in source item) con → In (con_faults (looks_of source) con) fault → In (item_faults (looks_of source) item) fault
+  part_con : (con : ConItem) → In (cons_in source item) con → In (con_faults source con) fault → In (item_faults source item) fault
   part_con con m h =
-      in_right (flat_map (use_faults (looks_of source)) (own_uses item)) _ fault (in_left (flat_map (con_faults (looks_of source)) (cons_by (looks_of source) item)) _ fault
-      (via (con_faults (looks_of source)) (cons_by (looks_of source) item) con fault (in_same (cons_by (looks_of source) item) (cons_in source item) con (cons_by_is source item) m) h))
+      in_right (flat_map (use_faults source) (own_uses item)) _ fault (in_left (flat_map (con_faults source) (cons_in source item)) _ fault
+      (via (con_faults source) (cons_in source item) con fault m h))
 
-  part_pred : (pred : PredItem) → In (preds_in item) pred → In (argument_faults pred.args) fault → In (item_faults (looks_of source) item) fault
+  part_pred : (pred : PredItem) → In (preds_in item) pred → In (argument_faults pred.args) fault → In (item_faults source item) fault
   part_pred pred m h = past_cons (in_left (flat_map (λ (pred : PredItem). argument_faults pred.args) (preds_in item)) _ fault (via (λ (pred : PredItem). argument_faults pred.args) (preds_in item) pred fault m h))
 
-  past_states : In (flat_map (clause_faults (looks_of source)) (clauses_by (looks_of source) item)
-      ++ (flat_map (rule_faults (looks_of source)) (item_rules item) ++ (flat_map qui_faults (outers_in item) ++ flat_map (trace_faults (looks_of source)) (traces_in item)))) fault
-      → In (item_faults (looks_of source) item) fault
-  past_states h = past_cons (in_right (flat_map (λ (pred : PredItem). argument_faults pred.args) (preds_in item)) _ fault (in_right (flat_map (placed_faults (looks_of source)) (state_atoms item)) _ fault h))
+  past_states : In (flat_map (clause_faults source) (clauses_in source item)
+      ++ (flat_map (rule_faults source) (item_rules item) ++ (flat_map qui_faults (outers_in item) ++ flat_map (trace_faults source) (traces_in item)))) fault
+      → In (item_faults source item) fault
+  past_states h = past_cons (in_right (flat_map (λ (pred : PredItem). argument_faults pred.args) (preds_in item)) _ fault (in_right (flat_map (placed_faults source) (state_atoms item)) _ fault h))
 
-  part_state : (p : Placed) → In (state_atoms item) p → In (placed_faults (looks_of source) p) fault → In (item_faults (looks_of source) item) fault
+  part_state : (p : Placed) → In (state_atoms item) p → In (placed_faults source p) fault → In (item_faults source item) fault
   part_state p m h =
       past_cons (in_right (flat_map (λ (pred : PredItem). argument_faults pred.args) (preds_in item)) _ fault
-      (in_left (flat_map (placed_faults (looks_of source)) (state_atoms item)) _ fault (via (placed_faults (looks_of source)) (state_atoms item) p fault m h)))
+      (in_left (flat_map (placed_faults source) (state_atoms item)) _ fault (via (placed_faults source) (state_atoms item) p fault m h)))
 
-  part_clause : (clause : ClauseItem) → In (clauses_in source item) clause → In (clause_faults (looks_of source) clause) fault → In (item_faults (looks_of source) item) fault
+  part_clause : (clause : ClauseItem) → In (clauses_in source item) clause → In (clause_faults source clause) fault → In (item_faults source item) fault
   part_clause clause m h =
-      past_states (in_left (flat_map (clause_faults (looks_of source)) (clauses_by (looks_of source) item)) _ fault
-      (via (clause_faults (looks_of source)) (clauses_by (looks_of source) item) clause fault (in_same (clauses_by (looks_of source) item) (clauses_in source item) clause (clauses_by_is source item) m) h))
+      past_states (in_left (flat_map (clause_faults source) (clauses_in source item)) _ fault
+      (via (clause_faults source) (clauses_in source item) clause fault m h))
 
-  part_rule : (rule : RawRule) → In (item_rules item) rule → In (rule_faults (looks_of source) rule) fault → In (item_faults (looks_of source) item) fault
+  part_rule : (rule : RawRule) → In (item_rules item) rule → In (rule_faults source rule) fault → In (item_faults source item) fault
   part_rule rule m h =
-      past_states (in_right (flat_map (clause_faults (looks_of source)) (clauses_by (looks_of source) item)) _ fault
-      (in_left (flat_map (rule_faults (looks_of source)) (item_rules item)) _ fault (via (rule_faults (looks_of source)) (item_rules item) rule fault m h)))
+      past_states (in_right (flat_map (clause_faults source) (clauses_in source item)) _ fault
+      (in_left (flat_map (rule_faults source) (item_rules item)) _ fault (via (rule_faults source) (item_rules item) rule fault m h)))
 
-  past_rules : In (flat_map qui_faults (outers_in item) ++ flat_map (trace_faults (looks_of source)) (traces_in item)) fault → In (item_faults (looks_of source) item) fault
+  past_rules : In (flat_map qui_faults (outers_in item) ++ flat_map (trace_faults source) (traces_in item)) fault → In (item_faults source item) fault
   past_rules h =
-      past_states (in_right (flat_map (clause_faults (looks_of source)) (clauses_by (looks_of source) item)) _ fault (in_right (flat_map (rule_faults (looks_of source)) (item_rules item)) _ fault h))
+      past_states (in_right (flat_map (clause_faults source) (clauses_in source item)) _ fault (in_right (flat_map (rule_faults source) (item_rules item)) _ fault h))
 
-  part_qui : (rule : RawRule) → In (outers_in item) rule → In (qui_faults rule) fault → In (item_faults (looks_of source) item) fault
+  part_qui : (rule : RawRule) → In (outers_in item) rule → In (qui_faults rule) fault → In (item_faults source item) fault
   part_qui rule m h = past_rules (in_left (flat_map qui_faults (outers_in item)) _ fault (via qui_faults (outers_in item) rule fault m h))
 
-  part_trace : (trace : TraceItem) → In (traces_in item) trace → In (trace_faults (looks_of source) trace) fault → In (item_faults (looks_of source) item) fault
-  part_trace trace m h = past_rules (in_right (flat_map qui_faults (outers_in item)) _ fault (via (trace_faults (looks_of source)) (traces_in item) trace fault m h))
+  part_trace : (trace : TraceItem) → In (traces_in item) trace → In (trace_faults source trace) fault → In (item_faults source item) fault
+  part_trace trace m h = past_rules (in_right (flat_map qui_faults (outers_in item)) _ fault (via (trace_faults source) (traces_in item) trace fault m h))
 
 -- atoms
-placed_all : (source : Source) (p : Placed) (fault : Fault) → In (placed_of source) p → In (placed_faults (looks_of source) p) fault → In (all_faults (looks_of source) source.file) fault
+placed_all : (source : Source) (p : Placed) (fault : Fault) → In (placed_of source) p → In (placed_faults source p) fault → In (all_faults source source.file) fault
 placed_all source p fault at h =
     let t = through (item_atoms source) source.file p at in
     in_item source t.from fault t.member
@@ -103,41 +101,41 @@ placed_all source p fault at h =
     (λ own. ⊎_elim
     (λ k. part_state source t.from fault p k h)
     (λ r. part_rule source t.from fault r.rule r.member
-    (in_left (flat_map (placed_faults (looks_of source)) (rule_atoms r.rule)) _ fault (via (placed_faults (looks_of source)) (rule_atoms r.rule) p fault r.atom h)))
+    (in_left (flat_map (placed_faults source) (rule_atoms r.rule)) _ fault (via (placed_faults source) (rule_atoms r.rule) p fault r.atom h)))
     (own_parts t.from p own))
     (λ k. let c = through clause_atoms (clauses_in source t.from) p k in
     part_clause source t.from fault c.from c.member
-    (in_left (flat_map (placed_faults (looks_of source)) (clause_atoms c.from)) _ fault (via (placed_faults (looks_of source)) (clause_atoms c.from) p fault c.given h)))
+    (in_left (flat_map (placed_faults source) (clause_atoms c.from)) _ fault (via (placed_faults source) (clause_atoms c.from) p fault c.given h)))
     (in_parts (own_atoms t.from) _ p t.given))
 
 -- uses
 pred_complete : (source : Source) (p : Placed) (used : Use) (fault : Fault) (context : Bool) → is_context source p ≡ context
     → In (let uses : List Use = if context then [] else record { space = space.Predicates; name = p.atom.name; args = p.atom.args } ∷ [] in uses) used
-    → In (use_faults (looks_of source) used) fault → In (pred_faults (looks_of source) p.role p.atom.name p.atom.args) fault
+    → In (use_faults source used) fault → In (pred_faults source p.role p.atom.name p.atom.args) fault
 pred_complete source p used fault true c m h = absurd (in_nil used m)
 pred_complete source p used fault false c m h =
-    in_same (pred_faults (looks_of source) p.role p.atom.name p.atom.args) (use_faults (looks_of source) used) fault
-    (ap (λ (b : Bool). let found : List Fault = if b then [] else use_faults (looks_of source) (record { space = space.Predicates; name = p.atom.name; args = p.atom.args }) in found) c
-    ∙ ap (use_faults (looks_of source)) (sym (in_one _ used m))) h
+    in_same (pred_faults source p.role p.atom.name p.atom.args) (use_faults source used) fault
+    (ap (λ (b : Bool). let found : List Fault = if b then [] else use_faults source (record { space = space.Predicates; name = p.atom.name; args = p.atom.args }) in found) c
+    ∙ ap (use_faults source) (sym (in_one _ used m))) h
 
-atom_use : (source : Source) (p : Placed) (used : Use) (fault : Fault) → In (atom_uses source p) used → In (use_faults (looks_of source) used) fault → In (placed_faults (looks_of source) p) fault
+atom_use : (source : Source) (p : Placed) (used : Use) (fault : Fault) → In (atom_uses source p) used → In (use_faults source used) fault → In (placed_faults source p) fault
 atom_use source p used fault m h =
     ⊎_elim
-    (λ k. in_left (pred_faults (looks_of source) p.role p.atom.name p.atom.args) _ fault (pred_complete source p used fault (is_context source p) refl k h))
+    (λ k. in_left (pred_faults source p.role p.atom.name p.atom.args) _ fault (pred_complete source p used fault (is_context source p) refl k h))
     (λ k. let t = through node_uses p.atom.nodes used k in
-    in_right (pred_faults (looks_of source) p.role p.atom.name p.atom.args) _ fault (in_left (flat_map (node_faults (looks_of source)) p.atom.nodes) _ fault
-    (via (node_faults (looks_of source)) p.atom.nodes t.from fault t.member (via (use_faults (looks_of source)) (node_uses t.from) used fault t.given h))))
+    in_right (pred_faults source p.role p.atom.name p.atom.args) _ fault (in_left (flat_map (node_faults source) p.atom.nodes) _ fault
+    (via (node_faults source) p.atom.nodes t.from fault t.member (via (use_faults source) (node_uses t.from) used fault t.given h))))
     (in_parts (pred_uses source p) (flat_map node_uses p.atom.nodes) used m)
 
-use_all : (source : Source) (used : Use) (fault : Fault) → In (uses_of source) used → In (use_faults (looks_of source) used) fault → In (all_faults (looks_of source) source.file) fault
+use_all : (source : Source) (used : Use) (fault : Fault) → In (uses_of source) used → In (use_faults source used) fault → In (all_faults source source.file) fault
 use_all source used fault at h =
     let t = through (item_uses source) source.file used at in
     ⊎_elim
-    (λ k. in_item source t.from fault t.member (part_uses source t.from fault (via (use_faults (looks_of source)) (own_uses t.from) used fault k h)))
+    (λ k. in_item source t.from fault t.member (part_uses source t.from fault (via (use_faults source) (own_uses t.from) used fault k h)))
     (λ r. ⊎_elim
     (λ k. let c = through con_uses (cons_in source t.from) used k in
     in_item source t.from fault t.member (part_con source t.from fault c.from c.member
-    (in_left (flat_map (use_faults (looks_of source)) (con_uses c.from)) _ fault (via (use_faults (looks_of source)) (con_uses c.from) used fault c.given h))))
+    (in_left (flat_map (use_faults source) (con_uses c.from)) _ fault (via (use_faults source) (con_uses c.from) used fault c.given h))))
     (λ k. let a = through (atom_uses source) (item_atoms source t.from) used k in
     placed_all source a.from fault (via (item_atoms source) source.file t.from a.from t.member a.member) (atom_use source a.from used fault a.given h))
     (in_parts (flat_map con_uses (cons_in source t.from)) _ used r))
@@ -161,7 +159,7 @@ nowhere source space.Contexts name h = (none_of_six (is_in source space.Sorts na
 nowhere source space.Rules name h = (none_of_six (is_in source space.Sorts name) (is_in source space.Constructors name) (is_in source space.Predicates name) (is_in source space.Stages name) (is_in source space.Contexts name) (is_in source space.Rules name) h).5
 
 lack_in : (source : Source) (used : Use) (fault : Fault) (has anywhere : Bool) → is_in source used.space (said source used.name) ≡ has → is_somewhere source (said source used.name) ≡ anywhere
-    → In (lack_faults has anywhere used.name.from) fault → In (use_faults (looks_of source) used) fault
+    → In (lack_faults has anywhere used.name.from) fault → In (use_faults source used) fault
 lack_in source used fault has anywhere h a m =
     in_left (lack_faults (is_in source used.space (said source used.name)) (is_somewhere source (said source used.name)) used.name.from) _ fault
     (in_same _ (lack_faults has anywhere used.name.from) fault (ap (λ (b : Bool). lack_faults b (is_somewhere source (said source used.name)) used.name.from) h ∙ ap (λ (b : Bool). lack_faults has b used.name.from) a) m)
@@ -171,7 +169,7 @@ unequal a b true ne e = absurd (ne (eqb-true a b e))
 unequal a b false ne e = e
 
 arity_in : (source : Source) (used : Use) (fault : Fault) (n : ℕ) → arity_of source used.space (said source used.name) ≡ Some n → used.args ≢ n → fault ≡ wrong WrongArity used.name.from
-    → In (use_faults (looks_of source) used) fault
+    → In (use_faults source used) fault
 arity_in source used fault n a ne is =
     in_right (lack_faults (is_in source used.space (said source used.name)) (is_somewhere source (said source used.name)) used.name.from) _ fault
     (in_same (arity_faults (arity_of source used.space (said source used.name)) used.args used.name.from) (wrong WrongArity used.name.from ∷ []) fault
@@ -188,13 +186,13 @@ comes_cases : (r : Role) → ComesToState r → (r ≡ role.Made) ⊎ IsOfState 
 comes_cases r made = inl refl
 comes_cases r (ComesToState.state s h) = inr h
 
-role_part : (source : Source) (p : Placed) (fault : Fault) → In (role_faults (looks_of source) p.role p.atom.name p.atom.nodes) fault → In (placed_faults (looks_of source) p) fault
-role_part source p fault h = in_right (pred_faults (looks_of source) p.role p.atom.name p.atom.args) _ fault (in_right (flat_map (node_faults (looks_of source)) p.atom.nodes) _ fault h)
+role_part : (source : Source) (p : Placed) (fault : Fault) → In (role_faults source p.role p.atom.name p.atom.nodes) fault → In (placed_faults source p) fault
+role_part source p fault h = in_right (pred_faults source p.role p.atom.name p.atom.args) _ fault (in_right (flat_map (node_faults source) p.atom.nodes) _ fault h)
 
-role_is : (source : Source) (p : Placed) (fault : Fault) (r : Role) → p.role ≡ r → In (role_faults (looks_of source) r p.atom.name p.atom.nodes) fault → In (placed_faults (looks_of source) p) fault
-role_is source p fault r e h = role_part source p fault (in_same _ (role_faults (looks_of source) r p.atom.name p.atom.nodes) fault (ap (λ (q : Role). role_faults (looks_of source) q p.atom.name p.atom.nodes) e) h)
+role_is : (source : Source) (p : Placed) (fault : Fault) (r : Role) → p.role ≡ r → In (role_faults source r p.atom.name p.atom.nodes) fault → In (placed_faults source p) fault
+role_is source p fault r e h = role_part source p fault (in_same _ (role_faults source r p.atom.name p.atom.nodes) fault (ap (λ (q : Role). role_faults source q p.atom.name p.atom.nodes) e) h)
 
-state_part : (source : Source) (p : Placed) (fault : Fault) → IsOfState p.role → In (state_faults (looks_of source) p.atom.name p.atom.nodes) fault → In (placed_faults (looks_of source) p) fault
+state_part : (source : Source) (p : Placed) (fault : Fault) → IsOfState p.role → In (state_faults source p.atom.name p.atom.nodes) fault → In (placed_faults source p) fault
 state_part source p fault s h = ⊎_elim (λ e. role_is source p fault role.Listed e h) (λ e. role_is source p fault role.Start e h) (state_cases p.role s)
 
 open_in : (node : RawNode) (fault : Fault) → IsOpen node → fault ≡ wrong VarInContext node.at.from → In (open_faults node) fault
@@ -275,68 +273,68 @@ past_in : (o : Option ℕ) (at : ℕ) (fault : Fault) → o ≡ Some at → faul
 past_in o at fault e is = in_same (past o) (wrong OverLimit at ∷ []) fault (ap past e) (is_one _ fault is)
 
 module _ (source : Source) (fault : Fault) where
-  in_unfit : (item : RawItem) → In source.file item → In (item_unfit_faults item) fault → In (all_faults (looks_of source) source.file) fault
-  in_unfit item m h = in_right (flat_map (item_faults (looks_of source)) source.file) _ fault (in_left (flat_map item_unfit_faults source.file) _ fault (via item_unfit_faults source.file item fault m h))
+  in_unfit : (item : RawItem) → In source.file item → In (item_unfit_faults item) fault → In (all_faults source source.file) fault
+  in_unfit item m h = in_right (flat_map (item_faults source) source.file) _ fault (in_left (flat_map item_unfit_faults source.file) _ fault (via item_unfit_faults source.file item fault m h))
 
-  in_variables : (item : RawItem) → In source.file item → In (item_variable_faults (looks_of source) item) fault → In (all_faults (looks_of source) source.file) fault
+  in_variables : (item : RawItem) → In source.file item → In (item_variable_faults source item) fault → In (all_faults source source.file) fault
   in_variables item m h =
-      in_right (flat_map (item_faults (looks_of source)) source.file) _ fault (in_right (flat_map item_unfit_faults source.file) _ fault
-      (in_left (flat_map (item_variable_faults (looks_of source)) source.file) _ fault (via (item_variable_faults (looks_of source)) source.file item fault m h)))
+      in_right (flat_map (item_faults source) source.file) _ fault (in_right (flat_map item_unfit_faults source.file) _ fault
+      (in_left (flat_map (item_variable_faults source) source.file) _ fault (via (item_variable_faults source) source.file item fault m h)))
 
-  past_variables : In (all_count_faults (looks_of source) source.file ++ traces_faults (looks_of source) (context_sizes source) (traces_of source)) fault → In (all_faults (looks_of source) source.file) fault
+  past_variables : In (all_count_faults source source.file ++ traces_faults source (traces_of source)) fault → In (all_faults source source.file) fault
   past_variables h =
-      in_right (flat_map (item_faults (looks_of source)) source.file) _ fault (in_right (flat_map item_unfit_faults source.file) _ fault (in_right (flat_map (item_variable_faults (looks_of source)) source.file) _ fault h))
+      in_right (flat_map (item_faults source) source.file) _ fault (in_right (flat_map item_unfit_faults source.file) _ fault (in_right (flat_map (item_variable_faults source) source.file) _ fault h))
 
-  in_counts : In (all_count_faults (looks_of source) source.file) fault → In (all_faults (looks_of source) source.file) fault
-  in_counts h = past_variables (in_left (all_count_faults (looks_of source) source.file) _ fault h)
+  in_counts : In (all_count_faults source source.file) fault → In (all_faults source source.file) fault
+  in_counts h = past_variables (in_left (all_count_faults source source.file) _ fault h)
 
-  in_traces : In (traces_faults (looks_of source) (context_sizes source) (traces_of source)) fault → In (all_faults (looks_of source) source.file) fault
-  in_traces h = past_variables (in_right (all_count_faults (looks_of source) source.file) _ fault h)
+  in_traces : In (traces_faults source (traces_of source)) fault → In (all_faults source source.file) fault
+  in_traces h = past_variables (in_right (all_count_faults source source.file) _ fault h)
 
-  traced : (traces : List TraceItem) → traces_of source ≡ traces → In (traces_faults (looks_of source) (context_sizes source) traces) fault → In (all_faults (looks_of source) source.file) fault
-  traced traces e h = in_traces (in_same _ (traces_faults (looks_of source) (context_sizes source) traces) fault (ap (traces_faults (looks_of source) (context_sizes source)) e) h)
+  traced : (traces : List TraceItem) → traces_of source ≡ traces → In (traces_faults source traces) fault → In (all_faults source source.file) fault
+  traced traces e h = in_traces (in_same _ (traces_faults source traces) fault (ap (traces_faults source) e) h)
 
-  large_trace : (trace : TraceItem) (rest : List TraceItem) → traces_of source ≡ trace ∷ rest → is_large (written_size (start_atoms source trace.start)) ≡ true → fault ≡ wrong OverLimit trace.at → In (all_faults (looks_of source) source.file) fault
+  large_trace : (trace : TraceItem) (rest : List TraceItem) → traces_of source ≡ trace ∷ rest → is_large (written_size (start_atoms source trace.start)) ≡ true → fault ≡ wrong OverLimit trace.at → In (all_faults source source.file) fault
   large_trace trace rest e large is =
-      traced (trace ∷ rest) e (in_left (start_faults (looks_of source) (context_sizes source) trace.at trace.start) _ fault
-      (when (is_large (start_size (looks_of source) (context_sizes source) trace.start)) (wrong OverLimit trace.at) fault (ap is_large (size_same source trace.start) ∙ large_same (written_size (start_atoms source trace.start)) ∙ large) is))
+      traced (trace ∷ rest) e (in_left (start_faults source trace) _ fault
+      (when (is_large (start_size source trace.start)) (wrong OverLimit trace.at) fault (ap is_large (size_same source trace.start) ∙ large_same (written_size (start_atoms source trace.start)) ∙ large) is))
 
-  argument_all : (args : List Span) (name : Span) → In (arguments_of source) args → slice_get args MOST_ARGUMENTS ≡ Some name → fault ≡ wrong OverLimit name.from → In (all_faults (looks_of source) source.file) fault
+  argument_all : (args : List Span) (name : Span) → In (arguments_of source) args → slice_get args MOST_ARGUMENTS ≡ Some name → fault ≡ wrong OverLimit name.from → In (all_faults source source.file) fault
   argument_all args name m g is =
       let found : In (argument_faults args) fault = past_in (slice_get (map (λ (span : Span). span.from) args) MOST_ARGUMENTS) name.from fault (give (λ (span : Span). span.from) args MOST_ARGUMENTS name g) is in
       ⊎_elim
       (λ k. let i = image (λ (con : ConItem). con.args) (cons_of source) args k in
       let t = through (cons_in source) source.file i.from i.member in
       in_item source t.from fault t.member (part_con source t.from fault i.from t.given
-      (in_right (flat_map (use_faults (looks_of source)) (con_uses i.from)) _ fault (in_same (argument_faults i.from.args) (argument_faults args) fault (ap argument_faults (sym i.is)) found))))
+      (in_right (flat_map (use_faults source) (con_uses i.from)) _ fault (in_same (argument_faults i.from.args) (argument_faults args) fault (ap argument_faults (sym i.is)) found))))
       (λ k. let i = image (λ (pred : PredItem). pred.args) (preds_of source) args k in
       let t = through preds_in source.file i.from i.member in
       in_item source t.from fault t.member (part_pred source t.from fault i.from t.given (in_same (argument_faults i.from.args) (argument_faults args) fault (ap argument_faults (sym i.is)) found)))
       (in_parts (map (λ (con : ConItem). con.args) (cons_of source)) _ args m)
 
-  sized_all : (rule : RuleItem) → In (rules_of source) rule → In (size_faults (looks_of source) rule.raw) fault → In (all_faults (looks_of source) source.file) fault
+  sized_all : (rule : RuleItem) → In (rules_of source) rule → In (size_faults source rule.raw) fault → In (all_faults source source.file) fault
   sized_all rule m h =
       let t = housed 0 source.file rule m in
-      in_item source t.item fault t.member (part_rule source t.item fault rule.raw t.raw (in_right (flat_map (placed_faults (looks_of source)) (rule_atoms rule.raw)) _ fault h))
+      in_item source t.item fault t.member (part_rule source t.item fault rule.raw t.raw (in_right (flat_map (placed_faults source) (rule_atoms rule.raw)) _ fault h))
 
-  premise_all : (rule : RuleItem) (atom : RawAtom) → In (rules_of source) rule → slice_get (linear_of source rule.raw) MOST_PREMISES ≡ Some atom → fault ≡ wrong OverLimit atom.name.from → In (all_faults (looks_of source) source.file) fault
+  premise_all : (rule : RuleItem) (atom : RawAtom) → In (rules_of source) rule → slice_get (linear_of source rule.raw) MOST_PREMISES ≡ Some atom → fault ≡ wrong OverLimit atom.name.from → In (all_faults source source.file) fault
   premise_all rule atom m g is =
-      sized_all rule m (in_left (past (slice_get (flat_map (premise_places (looks_of source) false) rule.raw.left) MOST_PREMISES)) _ fault
-      (past_in _ atom.name.from fault (ap (λ (ys : List ℕ). slice_get ys MOST_PREMISES) (premise_list (looks_of source) false rule.raw.left) ∙ give atom_at (linear_of source rule.raw) MOST_PREMISES atom g) is))
+      sized_all rule m (in_left (past (slice_get (flat_map (premise_places source false) rule.raw.left) MOST_PREMISES)) _ fault
+      (past_in _ atom.name.from fault (ap (λ (ys : List ℕ). slice_get ys MOST_PREMISES) (premise_list source false rule.raw.left) ∙ give atom_at (linear_of source rule.raw) MOST_PREMISES atom g) is))
 
-  backs_all : (rule : RuleItem) (atom : RawAtom) → In (rules_of source) rule → slice_get (backward_of source rule.raw) MOST_BACKS ≡ Some atom → fault ≡ wrong OverLimit atom.name.from → In (all_faults (looks_of source) source.file) fault
+  backs_all : (rule : RuleItem) (atom : RawAtom) → In (rules_of source) rule → slice_get (backward_of source rule.raw) MOST_BACKS ≡ Some atom → fault ≡ wrong OverLimit atom.name.from → In (all_faults source source.file) fault
   backs_all rule atom m g is =
-      sized_all rule m (in_right (past (slice_get (flat_map (premise_places (looks_of source) false) rule.raw.left) MOST_PREMISES)) _ fault
-      (in_left (past (slice_get (flat_map (premise_places (looks_of source) true) rule.raw.left) MOST_BACKS)) _ fault
-      (past_in _ atom.name.from fault (ap (λ (ys : List ℕ). slice_get ys MOST_BACKS) (premise_list (looks_of source) true rule.raw.left) ∙ give atom_at (backward_of source rule.raw) MOST_BACKS atom g) is)))
+      sized_all rule m (in_right (past (slice_get (flat_map (premise_places source false) rule.raw.left) MOST_PREMISES)) _ fault
+      (in_left (past (slice_get (flat_map (premise_places source true) rule.raw.left) MOST_BACKS)) _ fault
+      (past_in _ atom.name.from fault (ap (λ (ys : List ℕ). slice_get ys MOST_BACKS) (premise_list source true rule.raw.left) ∙ give atom_at (backward_of source rule.raw) MOST_BACKS atom g) is)))
 
-  rights_all : (rule : RuleItem) (atom : RawAtom) → In (rules_of source) rule → slice_get (atoms_of rule.raw.right) MOST_RIGHT ≡ Some atom → fault ≡ wrong OverLimit atom.name.from → In (all_faults (looks_of source) source.file) fault
+  rights_all : (rule : RuleItem) (atom : RawAtom) → In (rules_of source) rule → slice_get (atoms_of rule.raw.right) MOST_RIGHT ≡ Some atom → fault ≡ wrong OverLimit atom.name.from → In (all_faults source source.file) fault
   rights_all rule atom m g is =
-      sized_all rule m (in_right (past (slice_get (flat_map (premise_places (looks_of source) false) rule.raw.left) MOST_PREMISES)) _ fault
-      (in_right (past (slice_get (flat_map (premise_places (looks_of source) true) rule.raw.left) MOST_BACKS)) _ fault
+      sized_all rule m (in_right (past (slice_get (flat_map (premise_places source false) rule.raw.left) MOST_PREMISES)) _ fault
+      (in_right (past (slice_get (flat_map (premise_places source true) rule.raw.left) MOST_BACKS)) _ fault
       (past_in _ atom.name.from fault (ap (λ (ys : List ℕ). slice_get ys MOST_RIGHT) (atom_list rule.raw.right) ∙ give atom_at (atoms_of rule.raw.right) MOST_RIGHT atom g) is)))
 
-  over_all : (at : ℕ) → IsOver source at → fault ≡ wrong OverLimit at → In (all_faults (looks_of source) source.file) fault
+  over_all : (at : ℕ) → IsOver source at → fault ≡ wrong OverLimit at → In (all_faults source source.file) fault
   over_all at (IsOver.argument args name m g e) is = argument_all args name (from_contains (arguments_of source) args m) g (is ∙ ap (wrong OverLimit) e)
   over_all at (IsOver.premise rule atom m g e) is = premise_all rule atom (from_contains (rules_of source) rule m) g (is ∙ ap (wrong OverLimit) e)
   over_all at (IsOver.back rule atom m g e) is = backs_all rule atom (from_contains (rules_of source) rule m) g (is ∙ ap (wrong OverLimit) e)
@@ -344,7 +342,7 @@ module _ (source : Source) (fault : Fault) where
   over_all at (IsOver.goal clause atom m g e) is =
       let t = through (clauses_in source) source.file clause (from_contains (clauses_of source) clause m) in
       in_item source t.from fault t.member (part_clause source t.from fault clause t.given
-      (in_right (flat_map (placed_faults (looks_of source)) (clause_atoms clause)) _ fault (past_in (slice_get (places clause.goals) MOST_GOALS) atom.name.from fault (give atom_at clause.goals MOST_GOALS atom g) (is ∙ ap (wrong OverLimit) e))))
+      (in_right (flat_map (placed_faults source) (clause_atoms clause)) _ fault (past_in (slice_get (places clause.goals) MOST_GOALS) atom.name.from fault (give atom_at clause.goals MOST_GOALS atom g) (is ∙ ap (wrong OverLimit) e))))
   over_all at (IsOver.rule_variable rule occurrence m g e) is =
       let t = housed 0 source.file rule (from_contains (rules_of source) rule m) in
       in_variables t.item t.member (in_left (flat_map (λ (other : RawRule). variable_faults source.text (atoms_of other.left)) (item_rules t.item)) _ fault
@@ -354,22 +352,22 @@ module _ (source : Source) (fault : Fault) where
   over_all at (IsOver.clause_variable clause occurrence m g e) is =
       let t = through (clauses_in source) source.file clause (from_contains (clauses_of source) clause m) in
       in_variables t.from t.member (in_right (flat_map (λ (other : RawRule). variable_faults source.text (atoms_of other.left)) (item_rules t.from)) _ fault
-      (via (λ (other : ClauseItem). variable_faults source.text (other.head ∷ other.goals)) (clauses_by (looks_of source) t.from) clause fault (in_same (clauses_by (looks_of source) t.from) (clauses_in source t.from) clause (clauses_by_is source t.from) t.given)
+      (via (λ (other : ClauseItem). variable_faults source.text (other.head ∷ other.goals)) (clauses_in source t.from) clause fault t.given
       (past_in (slice_get (new_in source.text unseen (raw_nodes (clause.head ∷ clause.goals))) MOST_VARIABLES) occurrence.at.from fault
       (variable_list source (clause.head ∷ clause.goals) ∙ give occurrence_from (variables_of source (clause.head ∷ clause.goals)) MOST_VARIABLES occurrence g) (is ∙ ap (wrong OverLimit) e))))
   over_all at (IsOver.predicate entry g e) is =
-      in_counts (in_left (count_faults (looks_of source) counted.Predicates MOST_PREDS source.file) _ fault
+      in_counts (in_left (count_faults source counted.Predicates MOST_PREDS source.file) _ fault
       (past_in _ entry.at fault (ap (λ (ys : List ℕ). slice_get ys MOST_PREDS) (preds_at source) ∙ give entry_at (names_in source space.Predicates) MOST_PREDS entry g) (is ∙ ap (wrong OverLimit) e)))
   over_all at (IsOver.constructor entry g e) is =
-      in_counts (in_right (count_faults (looks_of source) counted.Predicates MOST_PREDS source.file) _ fault (in_left (count_faults (looks_of source) counted.Constructors MOST_CONS source.file) _ fault
+      in_counts (in_right (count_faults source counted.Predicates MOST_PREDS source.file) _ fault (in_left (count_faults source counted.Constructors MOST_CONS source.file) _ fault
       (past_in _ entry.at fault (ap (λ (ys : List ℕ). slice_get ys MOST_CONS) (cons_at source) ∙ give entry_at (names_in source space.Constructors) MOST_CONS entry g) (is ∙ ap (wrong OverLimit) e))))
   over_all at (IsOver.rule entry g e) is =
-      in_counts (in_right (count_faults (looks_of source) counted.Predicates MOST_PREDS source.file) _ fault (in_right (count_faults (looks_of source) counted.Constructors MOST_CONS source.file) _ fault
-      (in_left (count_faults (looks_of source) counted.Rules MOST_RULES source.file) _ fault
+      in_counts (in_right (count_faults source counted.Predicates MOST_PREDS source.file) _ fault (in_right (count_faults source counted.Constructors MOST_CONS source.file) _ fault
+      (in_left (count_faults source counted.Rules MOST_RULES source.file) _ fault
       (past_in _ entry.at fault (ap (λ (ys : List ℕ). slice_get ys MOST_RULES) (rules_at source) ∙ give entry_at (names_in source space.Rules) MOST_RULES entry g) (is ∙ ap (wrong OverLimit) e)))))
   over_all at (IsOver.clause clause g e) is =
-      in_counts (in_right (count_faults (looks_of source) counted.Predicates MOST_PREDS source.file) _ fault (in_right (count_faults (looks_of source) counted.Constructors MOST_CONS source.file) _ fault
-      (in_right (count_faults (looks_of source) counted.Rules MOST_RULES source.file) _ fault
+      in_counts (in_right (count_faults source counted.Predicates MOST_PREDS source.file) _ fault (in_right (count_faults source counted.Constructors MOST_CONS source.file) _ fault
+      (in_right (count_faults source counted.Rules MOST_RULES source.file) _ fault
       (past_in _ clause.head.name.from fault (ap (λ (ys : List ℕ). slice_get ys MOST_CLAUSES) (clauses_at source) ∙ give head_at (clauses_of source) MOST_CLAUSES clause g) (is ∙ ap (wrong OverLimit) e)))))
   over_all at (IsOver.unfit p m s n e) is =
       let t = through (item_atoms source) source.file p (from_contains (placed_of source) p m) in
@@ -385,7 +383,7 @@ module _ (source : Source) (fault : Fault) where
       (in_same (turns_faults source.text trace.limit) (turns_faults source.text (Some number)) fault (ap (turns_faults source.text) l)
       (unless (is_some (turns_said source.text number)) (wrong OverLimit number.from) fault (ap is_some n) (is ∙ ap (wrong OverLimit) e))))
 
-pub complete : (source : Source) (fault : Fault) → Misnamed source fault → IsTwice source fault ⊎ In (all_faults (looks_of source) source.file) fault
+pub complete : (source : Source) (fault : Fault) → Misnamed source fault → IsTwice source fault ⊎ In (all_faults source source.file) fault
 complete source fault (twice h) = inl h
 complete source fault (unknown used c a is) =
     inr (use_all source used fault (from_contains (uses_of source) used c) (lack_in source used fault false false (nowhere source used.space (said source used.name) a) a (is_one _ fault is)))
@@ -406,6 +404,6 @@ complete source fault (bad_qui rule c home n is) =
     (unless (is_qui_rule rule.raw) (wrong BadQui rule.raw.at) fault (refuted (is_qui_rule rule.raw) (is_qui_rule rule.raw) (is_qui_by rule.raw) n refl) is)))
 complete source fault (no_trace e is) = inr (traced source fault [] e (is_one _ fault is))
 complete source fault (two_traces first trace rest e c is) =
-    inr (traced source fault (first ∷ rest) e (in_right (start_faults (looks_of source) (context_sizes source) first.at first.start) _ fault
+    inr (traced source fault (first ∷ rest) e (in_right (start_faults source first) _ fault
     (in_same_fault (map (λ (other : TraceItem). wrong TwoTraces other.at) rest) (wrong TwoTraces trace.at) fault is (mapped (λ (other : TraceItem). wrong TwoTraces other.at) rest trace (from_contains rest trace c)))))
 complete source fault (over at h is) = inr (over_all source fault at h is)

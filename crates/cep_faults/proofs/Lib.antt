@@ -1,10 +1,9 @@
 pub mod Firsts
 pub mod Nths
-pub mod SizeTables
-pub mod TraceSteps
+pub mod ContextSizes
+pub mod TraceFaults
 pub mod SeenLaws
 pub mod Pending
-pub mod SourceLooks
 pub mod Parts
 pub mod Same
 pub mod Sound

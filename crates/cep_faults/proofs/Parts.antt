@@ -4,9 +4,9 @@ use Rattle.std.specs.List.{flat_map}
 use Rattle.cep_parse.specs.declared.raw.RawRule.{RawRule}
 use Rattle.cep_parse.specs.declared.raw.RawItem.{RawItem}
 use Rattle.cep_parse.specs.declared.raw.RawItem.TheVariants as item
-use Rattle.cep_names.specs.Items.{Source, ConItem, ClauseItem, RuleItem, cons_in, clauses_in, rules_in, rules_from, rules_of, stages_behind}
+use Rattle.cep_source.specs.Items.{Source, ConItem, ClauseItem, RuleItem, cons_in, clauses_in, rules_in, rules_from, rules_of, stages_behind}
 use Rattle.cep_parse.specs.Raw.{item_rules}
-use Rattle.cep_names.specs.Uses.{Placed, Use, own_atoms, item_atoms, placed_of, rule_atoms, clause_atoms, own_uses, con_uses, atom_uses, item_uses, uses_of}
+use Rattle.cep_source.specs.Uses.{Placed, Use, own_atoms, item_atoms, placed_of, rule_atoms, clause_atoms, own_uses, con_uses, atom_uses, item_uses, uses_of}
 use Rattle.cep_faults.specs.Faults.{outers_in, state_atoms}
 use Rattle.cep_base.proofs.Members.{In, here, there, in_nil, in_one, in_same, in_left, in_right, in_parts, through, via, image, mapped}
 

@@ -7,7 +7,7 @@ use Rattle.cep_parse.specs.declared.raw.RawNode.{RawNode}
 use Rattle.cep_base.specs.declared.limits.TheConstants.{MOST_DEPTH}
 use Rattle.cep_faults.specs.declared.fitness.Run.{Run}
 use Rattle.cep_faults.specs.Levels.{pending, is_shallow}
-use Rattle.cep_names.specs.Starts.{levels, greatest}
+use Rattle.cep_source.specs.Starts.{levels, greatest}
 use Rattle.cep_faults.proofs.Nths.{take_past}
 
 pub pending_push : (runs : List Run) (run : Run) → pending (runs ++ run ∷ []) ≡ run.level ∷ (repeat run.more (run.level ∷ []) ++ pending runs)

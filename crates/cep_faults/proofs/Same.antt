@@ -1,7 +1,6 @@
 -- What the faults count is what the definitions count.
-use Rattle.std.proofs.Common.{◌≡◌, ℕ, ◌+◌, ◌<◌, min, nat_lt, Bool, true, false, ◌||◌, cond, if◌then◌else◌, List, [], ◌∷◌, ◌++◌, length, map, Option, Some, None, refl, ap, sym, ◌∙◌, arith, codes, decimal, lit<, length-append}
+use Rattle.std.proofs.Common.{◌≡◌, ℕ, ◌+◌, ◌<◌, min, nat_lt, Bool, true, false, ◌||◌, cond, if◌then◌else◌, List, [], ◌∷◌, ◌++◌, length, map, Some, refl, ap, sym, ◌∙◌, arith, codes, decimal, lit<, length-append}
 use Rattle.std.specs.List.{flat_map, list_any, filter, sum_by}
-use Rattle.std.specs.Option.{option_map}
 use Rattle.std.specs.Str.{bytes_eq}
 use Rattle.std.proofs.lemmas.Bool.Decides.{nat_tests}
 use Rattle.std.proofs.lemmas.List.{map-append}
@@ -19,27 +18,24 @@ use Rattle.cep_parse.specs.declared.raw.RawStart.{RawStart}
 use Rattle.cep_parse.specs.declared.raw.RawStart.TheVariants as start
 use Rattle.cep_parse.specs.declared.raw.RawItem.{RawItem}
 use Rattle.cep_parse.specs.declared.raw.RawItem.TheVariants as item
-use Rattle.cep_names.specs.declared.space.Space.TheVariants as space
-use Rattle.cep_names.specs.declared.space.Role.TheVariants as role
+use Rattle.cep_source.specs.declared.space.Space.TheVariants as space
+use Rattle.cep_source.specs.declared.space.Role.TheVariants as role
 use Rattle.cep_faults.specs.declared.sizes.Size.{Size}
 use Rattle.cep_faults.specs.declared.variables.Seen.{Seen}
 use Rattle.cep_faults.specs.declared.counts.Counted.TheVariants as counted
-use Rattle.cep_names.specs.Items.{Source, ContextItem, ClauseItem, RuleItem, clauses_in, clauses_of, said, preds_in, preds_of, cons_in, cons_of, rules_in, rules_from, rules_of, stages_behind, contexts_of}
+use Rattle.cep_source.specs.Items.{Source, ClauseItem, RuleItem, clauses_in, clauses_of, said, preds_in, preds_of, cons_in, cons_of, rules_in, rules_from, rules_of, stages_behind}
 use Rattle.cep_parse.specs.Raw.{item_rules, atoms_of}
-use Rattle.cep_names.specs.Filling.{plain}
-use Rattle.cep_names.specs.Misnamed.{is_declared}
+use Rattle.cep_source.specs.Misnamed.{is_declared}
 use Rattle.cep_faults.specs.Seen.{met, new_at, blanked, new_in, new_kind, met_kind}
-use Rattle.cep_names.specs.Spaces.{Named, named, names_in, rule_names_from, unlabelled_behind, context_named}
-use Rattle.cep_names.specs.Starts.{nodes_written, listed_in, listed_or, start_atoms}
-use Rattle.cep_names.specs.Tables.{has_name}
-use Rattle.cep_names.specs.Uses.{placed, is_context}
-use Rattle.cep_names.specs.Variables.{Occurrence, occurrence_at, blanks_behind, occurrences_from, firsts_beside}
-use Rattle.cep_faults.specs.Looks.{Looks, looks_of, says}
+use Rattle.cep_source.specs.Spaces.{Named, named, back_named, names_in, rule_names_from, unlabelled_behind}
+use Rattle.cep_source.specs.Starts.{nodes_written, listed_or, start_atoms}
+use Rattle.cep_source.specs.Firsts.{has_name}
+use Rattle.cep_source.specs.Uses.{placed, is_context}
+use Rattle.cep_source.specs.Variables.{Occurrence, occurrence_at, blanks_behind, occurrences_from, firsts_beside}
 use Rattle.cep_faults.specs.Faults.{place_if, premise_places, atom_places}
-use Rattle.cep_faults.specs.Totals.{places_in, cut, most_counted, written_size, size_or_none, first_size, listed_size, start_size, is_large}
+use Rattle.cep_faults.specs.Totals.{places_in, cut, most_counted, written_size, context_size, listed_size, start_size, is_large}
 use Rattle.cep_base.proofs.Members.{map-flat_map}
 use Rattle.cep_base.proofs.Bytes.{bytes_eq_sym}
-use Rattle.cep_faults.proofs.SourceLooks.{cons_by_is, clauses_by_is}
 
 abbrev pub atom_at : RawAtom → ℕ
 atom_at atom = atom.name.from
@@ -49,13 +45,13 @@ premise_step true atom rest = refl
 premise_step false atom rest = refl
 
 -- the places of premises
-pub premise_list : (looks : Looks) (back : Bool) (left : List RawElem) → flat_map (premise_places looks back) left ≡ map atom_at (filter (λ atom. is_declared back (looks.back (says looks atom.name))) (atoms_of left))
-premise_list looks back [] = refl
-premise_list looks back (elem.Atom kept atom ∷ left) =
-    ap (λ rest. place_if (is_declared back (looks.back (says looks atom.name))) atom.name.from ++ rest) (premise_list looks back left)
-    ∙ premise_step (is_declared back (looks.back (says looks atom.name))) atom (filter (λ other. is_declared back (looks.back (says looks other.name))) (atoms_of left))
-premise_list looks back (elem.Qui span ∷ left) = premise_list looks back left
-premise_list looks back (elem.Stage span ∷ left) = premise_list looks back left
+pub premise_list : (source : Source) (back : Bool) (left : List RawElem) → flat_map (premise_places source back) left ≡ map atom_at (filter (λ atom. is_declared back (back_named source (said source atom.name))) (atoms_of left))
+premise_list source back [] = refl
+premise_list source back (elem.Atom kept atom ∷ left) =
+    ap (λ rest. place_if (is_declared back (back_named source (said source atom.name))) atom.name.from ++ rest) (premise_list source back left)
+    ∙ premise_step (is_declared back (back_named source (said source atom.name))) atom (filter (λ other. is_declared back (back_named source (said source other.name))) (atoms_of left))
+premise_list source back (elem.Qui span ∷ left) = premise_list source back left
+premise_list source back (elem.Stage span ∷ left) = premise_list source back left
 
 -- the places of atoms
 pub atom_list : (side : List RawElem) → flat_map atom_places side ≡ map atom_at (atoms_of side)
@@ -72,21 +68,19 @@ map_map g f [] = refl
 map_map g f (x ∷ xs) = ap (λ ys. g (f x) ∷ ys) (map_map g f xs)
 
 -- the places of the names of a space
-pub preds_at : (source : Source) → flat_map (places_in (looks_of source) counted.Predicates) source.file ≡ map entry_at (names_in source space.Predicates)
+pub preds_at : (source : Source) → flat_map (places_in source counted.Predicates) source.file ≡ map entry_at (names_in source space.Predicates)
 preds_at source = sym (map_map entry_at (λ pred. named source pred.name) (preds_of source) ∙ map-flat_map (λ pred. pred.name.from) preds_in source.file)
 
-pub cons_at : (source : Source) → flat_map (places_in (looks_of source) counted.Constructors) source.file ≡ map entry_at (names_in source space.Constructors)
+pub cons_at : (source : Source) → flat_map (places_in source counted.Constructors) source.file ≡ map entry_at (names_in source space.Constructors)
 cons_at source =
-    ap (λ (f : RawItem → List ℕ). flat_map f source.file) (λ i item. map (λ con. con.name.from) (cons_by_is source item i))
-    ∙ sym (map_map entry_at (λ con. named source con.name) (cons_of source) ∙ map-flat_map (λ con. con.name.from) (cons_in source) source.file)
+    sym (map_map entry_at (λ con. named source con.name) (cons_of source) ∙ map-flat_map (λ con. con.name.from) (cons_in source) source.file)
 
 abbrev pub head_at : ClauseItem → ℕ
 head_at clause = clause.head.name.from
 
-pub clauses_at : (source : Source) → flat_map (places_in (looks_of source) counted.Clauses) source.file ≡ map head_at (clauses_of source)
+pub clauses_at : (source : Source) → flat_map (places_in source counted.Clauses) source.file ≡ map head_at (clauses_of source)
 clauses_at source =
-    ap (λ (f : RawItem → List ℕ). flat_map f source.file) (λ i item. map (λ clause. clause.head.name.from) (clauses_by_is source item i))
-    ∙ sym (map-flat_map head_at (clauses_in source) source.file)
+    sym (map-flat_map head_at (clauses_in source) source.file)
 
 rule_places : (stages : ℕ) (item : RawItem) → map (λ (rule : RuleItem). rule.raw.at) (rules_in stages item) ≡ map (λ (rule : RawRule). rule.at) (item_rules item)
 rule_places stages (item.Outer rule) = refl
@@ -104,7 +98,7 @@ names_places : (source : Source) (unlabelled : ℕ) (rules : List RuleItem) → 
 names_places source unlabelled [] = refl
 names_places source unlabelled (rule ∷ rules) = ap (λ ys. rule.raw.at ∷ ys) (names_places source (unlabelled_behind unlabelled rule.raw.label) rules)
 
-pub rules_at : (source : Source) → flat_map (places_in (looks_of source) counted.Rules) source.file ≡ map entry_at (names_in source space.Rules)
+pub rules_at : (source : Source) → flat_map (places_in source counted.Rules) source.file ≡ map entry_at (names_in source space.Rules)
 rules_at source = sym (names_places source 0 (rules_of source) ∙ rules_places 0 source.file)
 
 -- variables
@@ -124,15 +118,15 @@ or_none false = refl
 module _ (source : Source) where
   abbrev new_step : Bool → Seen → List ℕ → ℕ → List RawNode → List ℕ
   new_step b seen name at nodes =
-      (if b then [] else at ∷ []) ++ new_in source.text (if b then seen else record { table = seen.table ++ (name, plain) ∷ []; count = seen.count + 1; blanks = seen.blanks }) nodes
+      (if b then [] else at ∷ []) ++ new_in source.text (if b then seen else record { table = seen.table ++ (name, seen.count) ∷ []; count = seen.count + 1; blanks = seen.blanks }) nodes
 
   abbrev first_step : Bool → List (List ℕ) → Occurrence → List Occurrence → List Occurrence
   first_step b names occurrence rest = if b then firsts_beside names rest else occurrence ∷ firsts_beside (occurrence.name ∷ names) rest
 
   same_pushed : (seen : Seen) (names : List (List ℕ)) (name : List ℕ) → ((x : List ℕ) → has_name seen.table x ≡ list_any (λ other. bytes_eq other x) names)
-      → (x : List ℕ) → has_name (seen.table ++ (name, plain) ∷ []) x ≡ list_any (λ other. bytes_eq other x) (name ∷ names)
+      → (x : List ℕ) → has_name (seen.table ++ (name, seen.count) ∷ []) x ≡ list_any (λ other. bytes_eq other x) (name ∷ names)
   same_pushed seen names name same x =
-      list_any-append (λ entry. bytes_eq x entry.0) seen.table ((name, plain) ∷ [])
+      list_any-append (λ entry. bytes_eq x entry.0) seen.table ((name, seen.count) ∷ [])
       ∙ ap (λ (b : Bool). b || (bytes_eq x name || false)) (same x)
       ∙ ap (λ (b : Bool). list_any (λ other. bytes_eq other x) names || b) (or_none (bytes_eq x name) ∙ bytes_eq_sym x name)
       ∙ or_swap (list_any (λ other. bytes_eq other x) names) (bytes_eq name x)
@@ -143,7 +137,7 @@ module _ (source : Source) where
       → new_step b seen name at.from nodes ≡ map occurrence_from (first_step b names (record { name = name; at = at }) (occurrences_from source seen.blanks nodes))
   name_step true seen names name at nodes rest same = rest seen names same
   name_step false seen names name at nodes rest same =
-      ap (λ ys. at.from ∷ ys) (rest (record { table = seen.table ++ (name, plain) ∷ []; count = seen.count + 1; blanks = seen.blanks }) (name ∷ names) (same_pushed seen names name same))
+      ap (λ ys. at.from ∷ ys) (rest (record { table = seen.table ++ (name, seen.count) ∷ []; count = seen.count + 1; blanks = seen.blanks }) (name ∷ names) (same_pushed seen names name same))
 
   name_case : (seen : Seen) (names : List (List ℕ)) (name : List ℕ) (at : Span) (nodes : List RawNode)
       → ((seen : Seen) (names : List (List ℕ)) → ((name : List ℕ) → has_name seen.table name ≡ list_any (λ other. bytes_eq other name) names) → new_in source.text seen nodes ≡ map occurrence_from (firsts_beside names (occurrences_from source seen.blanks nodes)))
@@ -167,15 +161,8 @@ module _ (source : Source) where
   variables_same seen names (node ∷ nodes) same = node_case node.kind seen names node.at nodes (λ s n. variables_same s n nodes) same
 
   -- sizes
-  abbrev contexts_size : List ℕ → Option Size
-  contexts_size name = first_size source.text (contexts_of source) name
-
-  named_size : (found : Option ContextItem) → size_or_none (option_map (λ context. cut (written_size context.atoms)) found) ≡ cut (written_size (listed_in found))
-  named_size None = refl
-  named_size (Some context) = refl
-
-  listed_case : (b : Bool) (atom : RawAtom) → (if b then size_or_none (contexts_size (said source atom.name)) else cut (written_size (atom ∷ []))) ≡ cut (written_size (listed_or b source atom))
-  listed_case true atom = named_size (context_named source (said source atom.name))
+  listed_case : (b : Bool) (atom : RawAtom) → (if b then context_size source (said source atom.name) else cut (written_size (atom ∷ []))) ≡ cut (written_size (listed_or b source atom))
+  listed_case true atom = refl
   listed_case false atom = refl
 
   abbrev lists : RawAtom → List RawAtom
@@ -184,26 +171,26 @@ module _ (source : Source) where
   cut_step : (a s t m : ℕ) → min s m ≡ min t m → min (min a m + s) m ≡ min (a + t) m
   cut_step a s t m e = omega arith
 
-  copies_all : (atoms : List RawAtom) → min (sum_by (λ (size : Size). size.copies) (map (listed_size (looks_of source) contexts_size) atoms)) most_counted ≡ min (length (flat_map lists atoms)) most_counted
+  copies_all : (atoms : List RawAtom) → min (sum_by (λ (size : Size). size.copies) (map (listed_size source) atoms)) most_counted ≡ min (length (flat_map lists atoms)) most_counted
   copies_all [] = refl
   copies_all (atom ∷ atoms) =
       ap (λ n. min n most_counted)
-      (sum_by-cons (λ (size : Size). size.copies) (listed_size (looks_of source) contexts_size atom) (map (listed_size (looks_of source) contexts_size) atoms)
-      ∙ ap (λ (size : Size). size.copies + sum_by (λ (other : Size). other.copies) (map (listed_size (looks_of source) contexts_size) atoms)) (listed_case (is_context source (placed role.Start atom)) atom))
-      ∙ cut_step (length (lists atom)) (sum_by (λ (size : Size). size.copies) (map (listed_size (looks_of source) contexts_size) atoms)) (length (flat_map lists atoms)) most_counted (copies_all atoms)
+      (sum_by-cons (λ (size : Size). size.copies) (listed_size source atom) (map (listed_size source) atoms)
+      ∙ ap (λ (size : Size). size.copies + sum_by (λ (other : Size). other.copies) (map (listed_size source) atoms)) (listed_case (is_context source (placed role.Start atom)) atom))
+      ∙ cut_step (length (lists atom)) (sum_by (λ (size : Size). size.copies) (map (listed_size source) atoms)) (length (flat_map lists atoms)) most_counted (copies_all atoms)
       ∙ sym (ap (λ n. min n most_counted) (length-append (lists atom) (flat_map lists atoms)))
 
-  nodes_all : (atoms : List RawAtom) → min (sum_by (λ (size : Size). size.nodes) (map (listed_size (looks_of source) contexts_size) atoms)) most_counted ≡ min (sum_by nodes_written (flat_map lists atoms)) most_counted
+  nodes_all : (atoms : List RawAtom) → min (sum_by (λ (size : Size). size.nodes) (map (listed_size source) atoms)) most_counted ≡ min (sum_by nodes_written (flat_map lists atoms)) most_counted
   nodes_all [] = refl
   nodes_all (atom ∷ atoms) =
       ap (λ n. min n most_counted)
-      (sum_by-cons (λ (size : Size). size.nodes) (listed_size (looks_of source) contexts_size atom) (map (listed_size (looks_of source) contexts_size) atoms)
-      ∙ ap (λ (size : Size). size.nodes + sum_by (λ (other : Size). other.nodes) (map (listed_size (looks_of source) contexts_size) atoms)) (listed_case (is_context source (placed role.Start atom)) atom))
-      ∙ cut_step (sum_by nodes_written (lists atom)) (sum_by (λ (size : Size). size.nodes) (map (listed_size (looks_of source) contexts_size) atoms)) (sum_by nodes_written (flat_map lists atoms)) most_counted (nodes_all atoms)
+      (sum_by-cons (λ (size : Size). size.nodes) (listed_size source atom) (map (listed_size source) atoms)
+      ∙ ap (λ (size : Size). size.nodes + sum_by (λ (other : Size). other.nodes) (map (listed_size source) atoms)) (listed_case (is_context source (placed role.Start atom)) atom))
+      ∙ cut_step (sum_by nodes_written (lists atom)) (sum_by (λ (size : Size). size.nodes) (map (listed_size source) atoms)) (sum_by nodes_written (flat_map lists atoms)) most_counted (nodes_all atoms)
       ∙ sym (ap (λ n. min n most_counted) (sum_by-append nodes_written (lists atom) (flat_map lists atoms)))
 
-  pub size_same : (from : RawStart) → start_size (looks_of source) contexts_size from ≡ cut (written_size (start_atoms source from))
-  size_same (start.Named name) = named_size (context_named source (said source name))
+  pub size_same : (from : RawStart) → start_size source from ≡ cut (written_size (start_atoms source from))
+  size_same (start.Named name) = refl
   size_same (start.Listed atoms) = λ i. record { copies = copies_all atoms i; nodes = nodes_all atoms i }
 
 -- what is cut is as large as what is not

@@ -13,8 +13,7 @@ use Rattle.cep_base.specs.declared.limits.TheConstants.{MOST_VARIABLES}
 use Rattle.cep_refusal.specs.declared.fault.Fault.{Fault}
 use Rattle.cep_refusal.specs.First.{first_in}
 use Rattle.cep_faults.specs.Faults.{past}
-use Rattle.cep_names.specs.Filling.{plain}
-use Rattle.cep_names.specs.Tables.{has_name}
+use Rattle.cep_source.specs.Firsts.{has_name}
 use Rattle.cep_faults.specs.Seen.{unseen, met, new_at, blanked, blank_name, met_kind, new_kind, met_all, new_in}
 use Rattle.cep_faults.proofs.Nths.{slice_get_at, slice_get_kept, slice_get_behind, take_past, given_more, given_rest}
 
@@ -29,7 +28,7 @@ new_in_append text seen (node ∷ xs) ys =
     ∙ sym (append_assoc (new_kind text seen node.at node.kind) (new_in text (met_kind text seen node.at node.kind) xs) (new_in text (met_all text (met_kind text seen node.at node.kind) xs) ys))
 
 count_name : (there : Bool) (seen : Seen) (name : List ℕ) (at : ℕ)
-    → (let next : Seen = if there then seen else record { table = seen.table ++ (name, plain) ∷ []; count = seen.count + 1; blanks = seen.blanks } in next.count) ≡ seen.count + length (let new : List ℕ = if there then [] else at ∷ [] in new)
+    → (let next : Seen = if there then seen else record { table = seen.table ++ (name, seen.count) ∷ []; count = seen.count + 1; blanks = seen.blanks } in next.count) ≡ seen.count + length (let new : List ℕ = if there then [] else at ∷ [] in new)
 count_name true seen name at = omega arith
 count_name false seen name at = refl
 

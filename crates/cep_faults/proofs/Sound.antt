@@ -7,19 +7,18 @@ use Rattle.cep_parse.specs.declared.raw.RawKind.{RawKind}
 use Rattle.cep_parse.specs.declared.raw.RawKind.TheVariants as kind
 use Rattle.cep_refusal.specs.declared.fault.Fault.{Fault}
 use Rattle.cep_refusal.specs.declared.reason.Reason.TheVariants.{WrongArity, VarInContext}
-use Rattle.cep_names.specs.declared.space.Space.TheVariants as space
-use Rattle.cep_names.specs.declared.space.Role.{Role}
-use Rattle.cep_names.specs.declared.space.Role.TheVariants as role
-use Rattle.cep_names.specs.Items.{Source, said}
-use Rattle.cep_names.specs.Misnamed.{Misnamed, IsOfState, ComesToState, IsOpen, is_somewhere}
+use Rattle.cep_source.specs.declared.space.Space.TheVariants as space
+use Rattle.cep_source.specs.declared.space.Role.{Role}
+use Rattle.cep_source.specs.declared.space.Role.TheVariants as role
+use Rattle.cep_source.specs.Items.{Source, said}
+use Rattle.cep_source.specs.Misnamed.{Misnamed, IsOfState, ComesToState, IsOpen, is_somewhere}
 use Rattle.cep_refusal.specs.First.{wrong}
-use Rattle.cep_names.specs.Misnamed.Misnamed.{unknown, wrong_kind, wrong_arity, variable_in_state, backward_in_state, linear_in_clause}
-use Rattle.cep_names.specs.Misnamed.IsOfState.{listed, start}
-use Rattle.cep_names.specs.Misnamed.ComesToState.{made}
-use Rattle.cep_names.specs.Misnamed.IsOpen.{variable, blank}
-use Rattle.cep_names.specs.Spaces.{is_in, arity_of, back_of}
-use Rattle.cep_names.specs.Uses.{Placed, Use, is_context, placed_of, uses_of, pred_uses, node_uses}
-use Rattle.cep_faults.specs.Looks.{looks_of}
+use Rattle.cep_source.specs.Misnamed.Misnamed.{unknown, wrong_kind, wrong_arity, variable_in_state, backward_in_state, linear_in_clause}
+use Rattle.cep_source.specs.Misnamed.IsOfState.{listed, start}
+use Rattle.cep_source.specs.Misnamed.ComesToState.{made}
+use Rattle.cep_source.specs.Misnamed.IsOpen.{variable, blank}
+use Rattle.cep_source.specs.Spaces.{is_in, arity_of, back_of}
+use Rattle.cep_source.specs.Uses.{Placed, Use, is_context, placed_of, uses_of, pred_uses, node_uses}
 use Rattle.cep_faults.specs.Faults.{lack_faults, arity_faults, use_faults, pred_faults, node_faults, open_by, open_faults, back_faults, linear_faults, state_faults, role_faults, placed_faults}
 use Rattle.cep_base.proofs.Members.{In, here, in_nil, in_one, in_same, in_left, in_right, in_parts, through, via, to_contains}
 use Rattle.cep_faults.proofs.Parts.{placed_use}
@@ -40,7 +39,7 @@ arity : (source : Source) (used : Use) (fault : Fault) (known : Option ℕ) → 
 arity source used fault None use_ a found = absurd (in_nil fault found)
 arity source used fault (Some n) use_ a found = miscounted source used fault n (used.args == n) use_ a refl found
 
-pub use_sound : (source : Source) (used : Use) (fault : Fault) → In (uses_of source) used → In (use_faults (looks_of source) used) fault → Misnamed source fault
+pub use_sound : (source : Source) (used : Use) (fault : Fault) → In (uses_of source) used → In (use_faults source used) fault → Misnamed source fault
 use_sound source used fault use_ found =
     ⊎_elim
     (lack source used fault (is_in source used.space (said source used.name)) (is_somewhere source (said source used.name)) use_ refl refl)
@@ -49,7 +48,7 @@ use_sound source used fault use_ found =
 
 -- an atom
 pred_sound : (source : Source) (p : Placed) (fault : Fault) (context : Bool) → In (placed_of source) p → is_context source p ≡ context
-    → In (let found : List Fault = if context then [] else use_faults (looks_of source) (record { space = space.Predicates; name = p.atom.name; args = p.atom.args }) in found) fault → Misnamed source fault
+    → In (let found : List Fault = if context then [] else use_faults source (record { space = space.Predicates; name = p.atom.name; args = p.atom.args }) in found) fault → Misnamed source fault
 pred_sound source p fault true at c found = absurd (in_nil fault found)
 pred_sound source p fault false at c found =
     use_sound source (record { space = space.Predicates; name = p.atom.name; args = p.atom.args }) fault
@@ -58,10 +57,10 @@ pred_sound source p fault false at c found =
     (ap (λ (b : Bool). let uses : List Use = if b then [] else record { space = space.Predicates; name = p.atom.name; args = p.atom.args } ∷ [] in uses) c) (here _ []))))
     found
 
-node_sound : (source : Source) (p : Placed) (fault : Fault) → In (placed_of source) p → In (flat_map (node_faults (looks_of source)) p.atom.nodes) fault → Misnamed source fault
+node_sound : (source : Source) (p : Placed) (fault : Fault) → In (placed_of source) p → In (flat_map (node_faults source) p.atom.nodes) fault → Misnamed source fault
 node_sound source p fault at found =
-    let node = through (node_faults (looks_of source)) p.atom.nodes fault found in
-    let used = through (use_faults (looks_of source)) (node_uses node.from) fault node.given in
+    let node = through (node_faults source) p.atom.nodes fault found in
+    let used = through (use_faults source) (node_uses node.from) fault node.given in
     use_sound source used.from fault
     (placed_use source p used.from at (in_right (pred_uses source p) (flat_map node_uses p.atom.nodes) used.from (via node_uses p.atom.nodes node.from used.from node.member used.member)))
     used.given
@@ -87,25 +86,25 @@ linear_sound source p fault None at is b found = absurd (in_nil fault found)
 linear_sound source p fault (Some true) at is b found = absurd (in_nil fault found)
 linear_sound source p fault (Some false) at is b found = linear_in_clause p (to_contains (placed_of source) p at) is b (in_one _ fault found)
 
-state_sound : (source : Source) (p : Placed) (fault : Fault) → In (placed_of source) p → IsOfState p.role → In (state_faults (looks_of source) p.atom.name p.atom.nodes) fault → Misnamed source fault
+state_sound : (source : Source) (p : Placed) (fault : Fault) → In (placed_of source) p → IsOfState p.role → In (state_faults source p.atom.name p.atom.nodes) fault → Misnamed source fault
 state_sound source p fault at state_ found =
     ⊎_elim (open_sound source p fault at state_)
     (back_sound source p fault (back_of source p.atom) at (ComesToState.state p.role state_) refl)
     (in_parts (flat_map open_faults p.atom.nodes) (back_faults (back_of source p.atom) p.atom.name.from) fault found)
 
-role_sound : (source : Source) (p : Placed) (fault : Fault) (role_ : Role) → In (placed_of source) p → p.role ≡ role_ → In (role_faults (looks_of source) role_ p.atom.name p.atom.nodes) fault → Misnamed source fault
+role_sound : (source : Source) (p : Placed) (fault : Fault) (role_ : Role) → In (placed_of source) p → p.role ≡ role_ → In (role_faults source role_ p.atom.name p.atom.nodes) fault → Misnamed source fault
 role_sound source p fault role.Needed at is found = absurd (in_nil fault found)
 role_sound source p fault role.Made at is found = back_sound source p fault (back_of source p.atom) at (subst ComesToState (sym is) made) refl found
 role_sound source p fault role.Clause at is found = linear_sound source p fault (back_of source p.atom) at is refl found
 role_sound source p fault role.Listed at is found = state_sound source p fault at (subst IsOfState (sym is) listed) found
 role_sound source p fault role.Start at is found = state_sound source p fault at (subst IsOfState (sym is) start) found
 
-pub placed_sound : (source : Source) (p : Placed) (fault : Fault) → In (placed_of source) p → In (placed_faults (looks_of source) p) fault → Misnamed source fault
+pub placed_sound : (source : Source) (p : Placed) (fault : Fault) → In (placed_of source) p → In (placed_faults source p) fault → Misnamed source fault
 placed_sound source p fault at found =
     ⊎_elim (pred_sound source p fault (is_context source p) at refl)
     (λ rest. ⊎_elim (node_sound source p fault at) (role_sound source p fault p.role at refl)
-    (in_parts (flat_map (node_faults (looks_of source)) p.atom.nodes) (role_faults (looks_of source) p.role p.atom.name p.atom.nodes) fault rest))
-    (in_parts (pred_faults (looks_of source) p.role p.atom.name p.atom.args) _ fault found)
+    (in_parts (flat_map (node_faults source) p.atom.nodes) (role_faults source p.role p.atom.name p.atom.nodes) fault rest))
+    (in_parts (pred_faults source p.role p.atom.name p.atom.args) _ fault found)
 
 pub sound : (source : Source) (fault : Fault) → Misnamed source fault → Misnamed source fault
 sound source fault h = let a = placed_sound in h

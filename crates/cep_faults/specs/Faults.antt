@@ -1,5 +1,5 @@
 -- Private.
--- The faults of each part of a file, by what is looked up of its names.
+-- The faults of each part of a file.
 use Rattle.std.specs.Prelude.{ℕ, ◌==◌, Bool, true, false, ◌&&◌, if◌then◌else◌, List, [], ◌∷◌, ◌++◌, Option, Some, None, is_some, map, count_by, slice_get}
 use Rattle.std.specs.List.{flat_map}
 use Rattle.cep_parse.specs.declared.raw.Span.{Span}
@@ -15,15 +15,15 @@ use Rattle.cep_parse.specs.declared.raw.RawItem.TheVariants as item
 use Rattle.cep_base.specs.declared.limits.TheConstants.{MOST_ARGUMENTS, MOST_BACKS, MOST_GOALS, MOST_PREMISES, MOST_RIGHT}
 use Rattle.cep_refusal.specs.declared.fault.Fault.{Fault}
 use Rattle.cep_refusal.specs.declared.reason.Reason.TheVariants.{Unknown, WrongKind, WrongArity, VarInContext, BwdInState, LinearInClause, BadQui, OverLimit}
-use Rattle.cep_names.specs.declared.space.Space.TheVariants as space
-use Rattle.cep_names.specs.declared.space.Role.{Role}
-use Rattle.cep_names.specs.declared.space.Role.TheVariants as role
-use Rattle.cep_names.specs.Items.{ConItem, ClauseItem, TraceItem, preds_in, traces_in}
+use Rattle.cep_source.specs.declared.space.Space.TheVariants as space
+use Rattle.cep_source.specs.declared.space.Role.{Role}
+use Rattle.cep_source.specs.declared.space.Role.TheVariants as role
+use Rattle.cep_source.specs.Items.{Source, ConItem, ClauseItem, TraceItem, said, preds_in, cons_in, clauses_in, traces_in}
+use Rattle.cep_source.specs.Spaces.{is_in, arity_of, back_named}
 use Rattle.cep_parse.specs.Raw.{item_rules, listed_atoms}
-use Rattle.cep_names.specs.Uses.{Placed, Use, placed, node_uses, con_uses, own_uses, rule_atoms, clause_atoms}
+use Rattle.cep_source.specs.Uses.{Placed, Use, placed, names_context, node_uses, con_uses, own_uses, rule_atoms, clause_atoms}
 use Rattle.cep_refusal.specs.First.{wrong}
-use Rattle.cep_names.specs.Misnamed.{is_declared, is_qui, is_stage, turns_said}
-use Rattle.cep_faults.specs.Looks.{Looks, says, is_anywhere, names_context, cons_by, clauses_by}
+use Rattle.cep_source.specs.Misnamed.{is_somewhere, is_declared, is_qui, is_stage, turns_said}
 
 -- a name that its space has not, where some space has it or none
 abbrev pub lack_faults : Bool → Bool → ℕ → List Fault
@@ -37,18 +37,18 @@ arity_faults None args at = []
 arity_faults (Some arity) args at = if args == arity then [] else wrong WrongArity at ∷ []
 
 -- a use of a name
-abbrev pub use_faults : Looks → Use → List Fault
-use_faults looks used =
-    lack_faults (looks.has used.space (says looks used.name)) (is_anywhere looks (says looks used.name)) used.name.from
-    ++ arity_faults (looks.arity used.space (says looks used.name)) used.args used.name.from
+abbrev pub use_faults : Source → Use → List Fault
+use_faults source used =
+    lack_faults (is_in source used.space (said source used.name)) (is_somewhere source (said source used.name)) used.name.from
+    ++ arity_faults (arity_of source used.space (said source used.name)) used.args used.name.from
 
 -- the predicate of an atom
-abbrev pub pred_faults : Looks → Role → Span → ℕ → List Fault
-pred_faults looks role name args = if names_context looks role name args then [] else use_faults looks (record { space = space.Predicates; name = name; args = args })
+abbrev pub pred_faults : Source → Role → Span → ℕ → List Fault
+pred_faults source role name args = if names_context source role name args then [] else use_faults source (record { space = space.Predicates; name = name; args = args })
 
 -- a constructor at a node
-abbrev pub node_faults : Looks → RawNode → List Fault
-node_faults looks node = flat_map (use_faults looks) (node_uses node)
+abbrev pub node_faults : Source → RawNode → List Fault
+node_faults source node = flat_map (use_faults source) (node_uses node)
 
 -- a variable or a blank in a state
 abbrev pub open_by : RawKind → ℕ → List Fault
@@ -71,21 +71,21 @@ linear_faults (Some true) at = []
 linear_faults None at = []
 
 -- an atom by its role
-abbrev pub state_faults : Looks → Span → List RawNode → List Fault
-state_faults looks name nodes = flat_map open_faults nodes ++ back_faults (looks.back (says looks name)) name.from
+abbrev pub state_faults : Source → Span → List RawNode → List Fault
+state_faults source name nodes = flat_map open_faults nodes ++ back_faults (back_named source (said source name)) name.from
 
-abbrev pub role_faults : Looks → Role → Span → List RawNode → List Fault
-role_faults looks role.Needed name nodes = []
-role_faults looks role.Made name nodes = back_faults (looks.back (says looks name)) name.from
-role_faults looks role.Clause name nodes = linear_faults (looks.back (says looks name)) name.from
-role_faults looks role.Listed name nodes = state_faults looks name nodes
-role_faults looks role.Start name nodes = state_faults looks name nodes
+abbrev pub role_faults : Source → Role → Span → List RawNode → List Fault
+role_faults source role.Needed name nodes = []
+role_faults source role.Made name nodes = back_faults (back_named source (said source name)) name.from
+role_faults source role.Clause name nodes = linear_faults (back_named source (said source name)) name.from
+role_faults source role.Listed name nodes = state_faults source name nodes
+role_faults source role.Start name nodes = state_faults source name nodes
 
 -- an atom, but for its size
-abbrev pub placed_faults : Looks → Placed → List Fault
-placed_faults looks p =
-    pred_faults looks p.role p.atom.name p.atom.args
-    ++ (flat_map (node_faults looks) p.atom.nodes ++ role_faults looks p.role p.atom.name p.atom.nodes)
+abbrev pub placed_faults : Source → Placed → List Fault
+placed_faults source p =
+    pred_faults source p.role p.atom.name p.atom.args
+    ++ (flat_map (node_faults source) p.atom.nodes ++ role_faults source p.role p.atom.name p.atom.nodes)
 
 -- the first one too many
 abbrev pub past : Option ℕ → List Fault
@@ -100,18 +100,18 @@ abbrev pub places : List RawAtom → List ℕ
 places atoms = map (λ atom. atom.name.from) atoms
 
 -- a constructor's types
-abbrev pub con_faults : Looks → ConItem → List Fault
-con_faults looks con = flat_map (use_faults looks) (con_uses con) ++ argument_faults con.args
+abbrev pub con_faults : Source → ConItem → List Fault
+con_faults source con = flat_map (use_faults source) (con_uses con) ++ argument_faults con.args
 
 -- the place of an element that is a premise declared as a linear one, or as a backward one
 abbrev pub place_if : Bool → ℕ → List ℕ
 place_if true at = at ∷ []
 place_if false at = []
 
-abbrev pub premise_places : Looks → Bool → RawElem → List ℕ
-premise_places looks back (elem.Atom kept atom) = place_if (is_declared back (looks.back (says looks atom.name))) atom.name.from
-premise_places looks back (elem.Qui span) = []
-premise_places looks back (elem.Stage name) = []
+abbrev pub premise_places : Source → Bool → RawElem → List ℕ
+premise_places source back (elem.Atom kept atom) = place_if (is_declared back (back_named source (said source atom.name))) atom.name.from
+premise_places source back (elem.Qui span) = []
+premise_places source back (elem.Stage name) = []
 
 -- the place of an element that is an atom
 abbrev pub atom_places : RawElem → List ℕ
@@ -120,19 +120,19 @@ atom_places (elem.Qui span) = []
 atom_places (elem.Stage name) = []
 
 -- a rule's numbers of premises and right atoms
-abbrev pub size_faults : Looks → RawRule → List Fault
-size_faults looks rule =
-    past (slice_get (flat_map (premise_places looks false) rule.left) MOST_PREMISES)
-    ++ (past (slice_get (flat_map (premise_places looks true) rule.left) MOST_BACKS)
+abbrev pub size_faults : Source → RawRule → List Fault
+size_faults source rule =
+    past (slice_get (flat_map (premise_places source false) rule.left) MOST_PREMISES)
+    ++ (past (slice_get (flat_map (premise_places source true) rule.left) MOST_BACKS)
     ++ past (slice_get (flat_map atom_places rule.right) MOST_RIGHT))
 
 -- a rule, but for its variables
-abbrev pub rule_faults : Looks → RawRule → List Fault
-rule_faults looks rule = flat_map (placed_faults looks) (rule_atoms rule) ++ size_faults looks rule
+abbrev pub rule_faults : Source → RawRule → List Fault
+rule_faults source rule = flat_map (placed_faults source) (rule_atoms rule) ++ size_faults source rule
 
 -- a clause, but for its variables
-abbrev pub clause_faults : Looks → ClauseItem → List Fault
-clause_faults looks clause = flat_map (placed_faults looks) (clause_atoms clause) ++ past (slice_get (places clause.goals) MOST_GOALS)
+abbrev pub clause_faults : Source → ClauseItem → List Fault
+clause_faults source clause = flat_map (placed_faults source) (clause_atoms clause) ++ past (slice_get (places clause.goals) MOST_GOALS)
 
 -- whether a rule leads from one stage to one stage at quiescence
 abbrev pub is_qui_rule : RawRule → Bool
@@ -146,8 +146,8 @@ abbrev pub turns_faults : List ℕ → Option Span → List Fault
 turns_faults text None = []
 turns_faults text (Some number) = if is_some (turns_said text number) then [] else wrong OverLimit number.from ∷ []
 
-abbrev pub trace_faults : Looks → TraceItem → List Fault
-trace_faults looks trace = turns_faults looks.text trace.limit
+abbrev pub trace_faults : Source → TraceItem → List Fault
+trace_faults source trace = turns_faults source.text trace.limit
 
 -- the rules outside of stages
 abbrev pub outers_in : RawItem → List RawRule
@@ -163,19 +163,26 @@ outers_in (item.Trace at limit stage start) = []
 
 abbrev pub state_role : RawItem → Role
 state_role (item.Trace at limit stage start) = role.Start
-state_role _ = role.Listed
+state_role (item.Sort name) = role.Listed
+state_role (item.Pred name args back) = role.Listed
+state_role (item.Colon left args right) = role.Listed
+state_role (item.Clause label head goals) = role.Listed
+state_role (item.Outer rule) = role.Listed
+state_role (item.Stage name rules) = role.Listed
+state_role (item.Context name atoms) = role.Listed
+state_role (item.Interactive name) = role.Listed
 
 abbrev pub state_atoms : RawItem → List Placed
 state_atoms item = map (placed (state_role item)) (listed_atoms item)
 
 -- an item, but for its variables, the sizes of its atoms and its number among others
-abbrev pub item_faults : Looks → RawItem → List Fault
-item_faults looks item =
-    flat_map (use_faults looks) (own_uses item)
-    ++ (flat_map (con_faults looks) (cons_by looks item)
+abbrev pub item_faults : Source → RawItem → List Fault
+item_faults source item =
+    flat_map (use_faults source) (own_uses item)
+    ++ (flat_map (con_faults source) (cons_in source item)
     ++ (flat_map (λ pred. argument_faults pred.args) (preds_in item)
-    ++ (flat_map (placed_faults looks) (state_atoms item)
-    ++ (flat_map (clause_faults looks) (clauses_by looks item)
-    ++ (flat_map (rule_faults looks) (item_rules item)
+    ++ (flat_map (placed_faults source) (state_atoms item)
+    ++ (flat_map (clause_faults source) (clauses_in source item)
+    ++ (flat_map (rule_faults source) (item_rules item)
     ++ (flat_map qui_faults (outers_in item)
-    ++ flat_map (trace_faults looks) (traces_in item)))))))
+    ++ flat_map (trace_faults source) (traces_in item)))))))

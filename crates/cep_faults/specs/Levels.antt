@@ -5,7 +5,7 @@ use Rattle.std.specs.List.{repeat}
 use Rattle.cep_parse.specs.declared.raw.RawNode.{RawNode}
 use Rattle.cep_base.specs.declared.limits.TheConstants.{MOST_DEPTH}
 use Rattle.cep_faults.specs.declared.fitness.Run.{Run}
-use Rattle.cep_names.specs.Starts.{levels, greatest}
+use Rattle.cep_source.specs.Starts.{levels, greatest}
 
 -- the levels of the terms that runs stand for, those of the last run first
 abbrev pub pending : List Run → List ℕ

@@ -1,4 +1,3 @@
-pub mod Looks
 pub mod Faults
 pub mod Seen
 pub mod Levels

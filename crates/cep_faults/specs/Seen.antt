@@ -7,8 +7,7 @@ use Rattle.cep_parse.specs.declared.raw.RawKind.TheVariants as kind
 use Rattle.cep_parse.specs.declared.raw.RawNode.{RawNode}
 use Rattle.cep_parse.specs.Symbols.{slice_of}
 use Rattle.cep_faults.specs.declared.variables.Seen.{Seen}
-use Rattle.cep_names.specs.Filling.{plain}
-use Rattle.cep_names.specs.Tables.{has_name}
+use Rattle.cep_source.specs.Firsts.{has_name}
 
 -- nothing was met
 abbrev pub unseen : Seen
@@ -16,7 +15,7 @@ unseen = record { table = []; count = 0; blanks = 0 }
 
 -- a name is met
 abbrev pub met : Seen → List ℕ → Seen
-met seen name = if has_name seen.table name then seen else record { table = seen.table ++ (name, plain) ∷ []; count = seen.count + 1; blanks = seen.blanks }
+met seen name = if has_name seen.table name then seen else record { table = seen.table ++ (name, seen.count) ∷ []; count = seen.count + 1; blanks = seen.blanks }
 
 -- its place, if it is new
 abbrev pub new_at : Seen → List ℕ → ℕ → List ℕ

@@ -2,14 +2,13 @@
 ghost use Rattle.std.specs.Prelude.{◌≡◌, ◌≢◌, ◌++◌, length, slice_get, option_to_list};
 ghost use Rattle.std.specs.List.{flat_map};
 ghost use Rattle.cep_refusal.specs.First.{first_in};
-ghost use Rattle.cep_faults.specs.Looks.{looks_in};
 ghost use Rattle.cep_faults.specs.Totals.{places_in, count_faults, all_count_faults};
 
 use crate::rules::past;
 use cep_base::limits::{MOST_CLAUSES, MOST_CONS, MOST_PREDS, MOST_RULES};
-use cep_names::Names;
 use cep_parse::RawItem;
 use cep_refusal::Fault;
+use cep_source::Source;
 
 /// What there may not be too many of.
 #[derive(Clone, Copy)]
@@ -21,8 +20,8 @@ pub(crate) enum Counted {
 }
 
 // The place of the predicate, the constructor or the clause of an item.
-fn place(names: &Names, text: &[u8], counted: Counted, item: &RawItem) -> Option<u32>
-    ensures { counted ≢ Counted.Rules → option_to_list result ≡ places_in (looks_in text.now names.now) counted item.now }
+fn place(source: &Source, counted: Counted, item: &RawItem) -> Option<u32>
+    ensures { counted ≢ Counted.Rules → option_to_list result ≡ places_in source.now counted item.now }
 {
     match item {
         RawItem::Pred { name, .. } => match counted {
@@ -30,8 +29,8 @@ fn place(names: &Names, text: &[u8], counted: Counted, item: &RawItem) -> Option
             _ => None,
         },
         RawItem::Colon { left, args, right } => match counted {
-            Counted::Constructors if !names.is_labelled(text, args, *right) => Some(left.from),
-            Counted::Clauses if names.is_labelled(text, args, *right) => Some(right.from),
+            Counted::Constructors if !source.is_labelled(args, *right) => Some(left.from),
+            Counted::Clauses if source.is_labelled(args, *right) => Some(right.from),
             _ => None,
         },
         RawItem::Clause { head, .. } => match counted {
@@ -43,26 +42,26 @@ fn place(names: &Names, text: &[u8], counted: Counted, item: &RawItem) -> Option
 }
 
 // The place of the n-th of what an item declares, from 0.
-fn nth_place(names: &Names, text: &[u8], counted: Counted, item: &RawItem, n: usize) -> Option<u32>
-    ensures { result ≡ slice_get (places_in (looks_in text.now names.now) counted item.now) n }
+fn nth_place(source: &Source, counted: Counted, item: &RawItem, n: usize) -> Option<u32>
+    ensures { result ≡ slice_get (places_in source.now counted item.now) n }
 {
     match counted {
         Counted::Rules => {
             let rule = item.rules().get(n)?;
             Some(rule.at)
         }
-        _ if n == 0 => place(names, text, counted, item),
+        _ if n == 0 => place(source, counted, item),
         _ => None,
     }
 }
 
 // How many an item declares.
-fn places(names: &Names, text: &[u8], counted: Counted, item: &RawItem) -> usize
-    ensures { result ≡ length (places_in (looks_in text.now names.now) counted item.now) }
+fn places(source: &Source, counted: Counted, item: &RawItem) -> usize
+    ensures { result ≡ length (places_in source.now counted item.now) }
 {
     match counted {
         Counted::Rules => item.rules().len(),
-        _ => match place(names, text, counted, item) {
+        _ => match place(source, counted, item) {
             Some(_) => 1,
             None => 0,
         },
@@ -70,40 +69,34 @@ fn places(names: &Names, text: &[u8], counted: Counted, item: &RawItem) -> usize
 }
 
 // The first of what a file declares that is one too many.
-fn count_past(
-    names: &Names,
-    text: &[u8],
-    counted: Counted,
-    most: usize,
-    items: &[RawItem],
-) -> Option<Fault>
-    ensures { result ≡ first_in (count_faults (looks_in text.now names.now) counted most items.now) }
+fn count_past(source: &Source, counted: Counted, most: usize, items: &[RawItem]) -> Option<Fault>
+    ensures { result ≡ first_in (count_faults source.now counted most items.now) }
 {
     let mut before = 0;
     for item in items {
-        if let Some(at) = nth_place(names, text, counted, item, most - before) {
+        if let Some(at) = nth_place(source, counted, item, most - before) {
             return past(Some(at));
         }
-        before += places(names, text, counted, item);
+        before += places(source, counted, item);
     }
     None
 }
 
 // The first of all that is one too many.
 #[tactic(auto, using(crate::proofs::Firsts::first_in_append))]
-pub(crate) fn counts_fault(names: &Names, text: &[u8], items: &[RawItem]) -> Option<Fault>
-    ensures { result ≡ first_in (all_count_faults (looks_in text.now names.now) items.now) }
+pub(crate) fn counts_fault(source: &Source, items: &[RawItem]) -> Option<Fault>
+    ensures { result ≡ first_in (all_count_faults source.now items.now) }
 {
     let last = Fault::first_of(
-        count_past(names, text, Counted::Rules, MOST_RULES, items),
-        count_past(names, text, Counted::Clauses, MOST_CLAUSES, items),
+        count_past(source, Counted::Rules, MOST_RULES, items),
+        count_past(source, Counted::Clauses, MOST_CLAUSES, items),
     );
     let rest = Fault::first_of(
-        count_past(names, text, Counted::Constructors, MOST_CONS, items),
+        count_past(source, Counted::Constructors, MOST_CONS, items),
         last,
     );
     Fault::first_of(
-        count_past(names, text, Counted::Predicates, MOST_PREDS, items),
+        count_past(source, Counted::Predicates, MOST_PREDS, items),
         rest,
     )
 }

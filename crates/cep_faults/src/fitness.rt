@@ -4,7 +4,7 @@ ghost use Rattle.cep_base.specs.declared.limits.TheConstants.{MOST_DEPTH};
 ghost use Rattle.std.specs.List.{flat_map, repeat};
 ghost use Rattle.cep_refusal.specs.First.{first_in};
 ghost use Rattle.cep_faults.specs.Levels.{pending, is_shallow};
-ghost use Rattle.cep_names.specs.Starts.{levels, greatest};
+ghost use Rattle.cep_source.specs.Starts.{levels, greatest};
 ghost use Rattle.cep_faults.specs.Totals.{is_fit, unfit_faults, item_unfit_faults};
 
 use cep_base::limits::{MOST_DEPTH, MOST_NODES};

@@ -12,4 +12,4 @@ mod traces;
 mod uses;
 mod variables;
 
-pub use checking::named;
+pub use checking::name_fault;

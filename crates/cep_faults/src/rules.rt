@@ -2,18 +2,17 @@
 ghost use Rattle.std.specs.Prelude.{◌≡◌, [], ◌++◌, ◌≤◌, Some, map, count_by, length, slice_get, option_to_list};
 ghost use Rattle.std.specs.List.{flat_map};
 ghost use Rattle.cep_refusal.specs.First.{first_in};
-ghost use Rattle.cep_names.specs.Items.{bare};
-ghost use Rattle.cep_names.specs.Misnamed.{is_declared, is_qui, is_stage};
-ghost use Rattle.cep_faults.specs.Looks.{looks_in};
-ghost use Rattle.cep_names.specs.Uses.{rule_atoms, elem_uses, clause_atoms};
+ghost use Rattle.cep_source.specs.Items.{bare};
+ghost use Rattle.cep_source.specs.Misnamed.{is_declared, is_qui, is_stage};
+ghost use Rattle.cep_source.specs.Uses.{rule_atoms, elem_uses, clause_atoms};
 ghost use Rattle.cep_faults.specs.Faults.{use_faults, placed_faults, past, places, premise_places, atom_places, size_faults, rule_faults, is_qui_rule, qui_faults, clause_faults};
 
 use crate::atoms::{atom_fault, atoms_fault, placed_fault, side_fault};
 use crate::uses::use_fault;
 use cep_base::limits::{MOST_BACKS, MOST_GOALS, MOST_PREMISES, MOST_RIGHT};
-use cep_names::{Names, Role, Space, said};
 use cep_parse::{RawAtom, RawElem, RawRule, Span};
 use cep_refusal::{Fault, FirstFault, Reason};
+use cep_source::{Role, Source, Space};
 
 // The fault of the first one too many.
 pub(crate) fn past(at: Option<u32>) -> Option<Fault>
@@ -37,11 +36,11 @@ fn is_declared(back: bool, declared: Option<bool>) -> bool
 }
 
 // The place of an element that is such a premise.
-fn premise_place(names: &Names, text: &[u8], back: bool, elem: &RawElem) -> Option<u32>
-    ensures { option_to_list result ≡ premise_places (looks_in text.now names.now) back elem.now }
+fn premise_place(source: &Source, back: bool, elem: &RawElem) -> Option<u32>
+    ensures { option_to_list result ≡ premise_places source.now back elem.now }
 {
     match elem {
-        RawElem::Atom { atom, .. } if is_declared(back, names.back(said(text, atom.name))) => {
+        RawElem::Atom { atom, .. } if is_declared(back, source.back(atom.name)) => {
             Some(atom.name.from)
         }
         _ => None,
@@ -49,18 +48,12 @@ fn premise_place(names: &Names, text: &[u8], back: bool, elem: &RawElem) -> Opti
 }
 
 // The fault of the first such premise that is one too many.
-fn premise_past(
-    names: &Names,
-    text: &[u8],
-    back: bool,
-    side: &[RawElem],
-    most: usize,
-) -> Option<Fault>
-    ensures { result ≡ first_in (past (slice_get (flat_map (premise_places (looks_in text.now names.now) back) side.now) most)) }
+fn premise_past(source: &Source, back: bool, side: &[RawElem], most: usize) -> Option<Fault>
+    ensures { result ≡ first_in (past (slice_get (flat_map (premise_places source.now back) side.now) most)) }
 {
     let mut before = 0;
     for elem in side {
-        let Some(at) = premise_place(names, text, back, elem) else {
+        let Some(at) = premise_place(source, back, elem) else {
             continue;
         };
         if before == most {
@@ -99,46 +92,43 @@ fn atom_past(side: &[RawElem], most: usize) -> Option<Fault>
 
 // The first of what is too many in a rule.
 #[tactic(auto, using(crate::proofs::Firsts::first_in_append))]
-fn size_fault(names: &Names, text: &[u8], rule: &RawRule) -> Option<Fault>
-    ensures { result ≡ first_in (size_faults (looks_in text.now names.now) rule.now) }
+fn size_fault(source: &Source, rule: &RawRule) -> Option<Fault>
+    ensures { result ≡ first_in (size_faults source.now rule.now) }
 {
     let left = rule.left.as_slice();
     let rest = Fault::first_of(
-        premise_past(names, text, true, left, MOST_BACKS),
+        premise_past(source, true, left, MOST_BACKS),
         atom_past(rule.right.as_slice(), MOST_RIGHT),
     );
-    Fault::first_of(premise_past(names, text, false, left, MOST_PREMISES), rest)
+    Fault::first_of(premise_past(source, false, left, MOST_PREMISES), rest)
 }
 
 // The first fault of the atoms of a rule.
 #[tactic(auto, using(crate::proofs::Firsts::first_in_parts))]
-fn rule_atoms_fault(names: &Names, text: &[u8], rule: &RawRule) -> Option<Fault>
-    ensures { result ≡ first_in (flat_map (placed_faults (looks_in text.now names.now)) (rule_atoms rule.now)) }
+fn rule_atoms_fault(source: &Source, rule: &RawRule) -> Option<Fault>
+    ensures { result ≡ first_in (flat_map (placed_faults source.now) (rule_atoms rule.now)) }
 {
     Fault::first_of(
-        side_fault(names, text, Role::Needed, rule.left.as_slice()),
-        side_fault(names, text, Role::Made, rule.right.as_slice()),
+        side_fault(source, Role::Needed, rule.left.as_slice()),
+        side_fault(source, Role::Made, rule.right.as_slice()),
     )
 }
 
 // The first fault of a rule, but for its variables.
 #[tactic(auto, using(crate::proofs::Firsts::first_in_append))]
-pub(crate) fn rule_fault(names: &Names, text: &[u8], rule: &RawRule) -> Option<Fault>
-    ensures { result ≡ first_in (rule_faults (looks_in text.now names.now) rule.now) }
+pub(crate) fn rule_fault(source: &Source, rule: &RawRule) -> Option<Fault>
+    ensures { result ≡ first_in (rule_faults source.now rule.now) }
 {
-    Fault::first_of(
-        rule_atoms_fault(names, text, rule),
-        size_fault(names, text, rule),
-    )
+    Fault::first_of(rule_atoms_fault(source, rule), size_fault(source, rule))
 }
 
 // The first fault of rules, but for their variables.
-pub(crate) fn rules_fault(names: &Names, text: &[u8], rules: &[RawRule]) -> Option<Fault>
-    ensures { result ≡ first_in (flat_map (rule_faults (looks_in text.now names.now)) rules.now) }
+pub(crate) fn rules_fault(source: &Source, rules: &[RawRule]) -> Option<Fault>
+    ensures { result ≡ first_in (flat_map (rule_faults source.now) rules.now) }
 {
     let mut first = FirstFault::none();
     for rule in rules {
-        first.note(rule_fault(names, text, rule));
+        first.note(rule_fault(source, rule));
     }
     first.found()
 }
@@ -182,22 +172,22 @@ pub(crate) fn qui_fault(rule: &RawRule) -> Option<Fault>
 }
 
 // A stage that an element names.
-fn elem_fault(names: &Names, text: &[u8], elem: &RawElem) -> Option<Fault>
-    ensures { result ≡ first_in (flat_map (use_faults (looks_in text.now names.now)) (elem_uses elem.now)) }
+fn elem_fault(source: &Source, elem: &RawElem) -> Option<Fault>
+    ensures { result ≡ first_in (flat_map (use_faults source.now) (elem_uses elem.now)) }
 {
     match elem {
-        RawElem::Stage(name) => use_fault(names, text, Space::Stages, *name, 0),
+        RawElem::Stage(name) => use_fault(source, Space::Stages, *name, 0),
         RawElem::Atom { .. } | RawElem::Qui(_) => None,
     }
 }
 
 // The first fault of the stages that a side names.
-pub(crate) fn stages_fault(names: &Names, text: &[u8], side: &[RawElem]) -> Option<Fault>
-    ensures { result ≡ first_in (flat_map (use_faults (looks_in text.now names.now)) (flat_map elem_uses side.now)) }
+pub(crate) fn stages_fault(source: &Source, side: &[RawElem]) -> Option<Fault>
+    ensures { result ≡ first_in (flat_map (use_faults source.now) (flat_map elem_uses side.now)) }
 {
     let mut first = FirstFault::none();
     for elem in side {
-        first.note(elem_fault(names, text, elem));
+        first.note(elem_fault(source, elem));
     }
     first.found()
 }
@@ -212,25 +202,20 @@ fn goal_past(goals: &[RawAtom]) -> Option<Fault>
 
 // The first fault of a clause, but for its variables.
 #[tactic(auto, using(crate::proofs::Firsts::first_in_append))]
-pub(crate) fn clause_fault(
-    names: &Names,
-    text: &[u8],
-    head: &RawAtom,
-    goals: &[RawAtom],
-) -> Option<Fault>
-    ensures { result ≡ first_in (clause_faults (looks_in text.now names.now) (record { head = head.now; goals = goals.now })) }
+pub(crate) fn clause_fault(source: &Source, head: &RawAtom, goals: &[RawAtom]) -> Option<Fault>
+    ensures { result ≡ first_in (clause_faults source.now (record { head = head.now; goals = goals.now })) }
 {
     let atoms = Fault::first_of(
-        atom_fault(names, text, Role::Clause, head),
-        atoms_fault(names, text, Role::Clause, goals),
+        atom_fault(source, Role::Clause, head),
+        atoms_fault(source, Role::Clause, goals),
     );
     Fault::first_of(atoms, goal_past(goals))
 }
 
 // The first fault of a clause that is a predicate without arguments.
 #[tactic(auto, using(crate::proofs::Firsts::first_in_append))]
-pub(crate) fn bare_fault(names: &Names, text: &[u8], name: Span) -> Option<Fault>
-    ensures { result ≡ first_in (clause_faults (looks_in text.now names.now) (record { head = bare name; goals = [] })) }
+pub(crate) fn bare_fault(source: &Source, name: Span) -> Option<Fault>
+    ensures { result ≡ first_in (clause_faults source.now (record { head = bare name; goals = [] })) }
 {
-    placed_fault(names, text, Role::Clause, name, 0, &[])
+    placed_fault(source, Role::Clause, name, 0, &[])
 }

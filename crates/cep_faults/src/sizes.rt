@@ -1,17 +1,12 @@
-// The sizes of contexts and of start states.
-ghost use Rattle.std.specs.Prelude.{◌≡◌, [], ◌∷◌, List, ℕ, if◌then◌else◌, map, Some, None, IfOk, OnOk};
-ghost use Rattle.std.specs.Str.{bytes_eq};
-ghost use Rattle.cep_names.specs.Items.{contexts_in};
-ghost use Rattle.std.specs.List.{flat_map};
-ghost use Rattle.cep_faults.specs.Looks.{looks_in};
-ghost use Rattle.cep_faults.specs.Totals.{cut, written_size, total_size, size_under, or_else, first_size, size_or_none, listed_size, start_size};
+// The sizes of the contexts and of a start state.
+ghost use Rattle.std.specs.Prelude.{◌≡◌, ◌∷◌, [], map, IfOk};
+ghost use Rattle.cep_source.specs.Items.{said};
+ghost use Rattle.cep_faults.specs.Totals.{AreSizes, cut, written_size, total_size, context_size, listed_size, start_size};
 
 use crate::atoms::names_context;
-use cep_names::{Names, Role, said};
-use cep_parse::{RawAtom, RawItem, RawStart};
-use indexmap::IndexMap;
-use std::alloc::{AllocError, Global};
-use std::marker::Model;
+use cep_parse::{RawAtom, RawStart, Span};
+use cep_source::{Role, Source, Space, item_at};
+use std::alloc::AllocError;
 
 /// How many atoms there are, each a copy, and how many nodes they have.
 #[derive(Clone, Copy)]
@@ -58,110 +53,69 @@ impl Size {
     }
 }
 
-/// The sizes of contexts, by their names. Of a name that is declared more than once the first
-/// declaration counts.
+/// The sizes of the contexts, in written order.
 #[derive(Drop)]
 pub(crate) struct Sizes {
-    entries: IndexMap<Vec<u8>, Size>,
-}
-
-impl Model for Sizes {
-    ghost use Rattle.std.specs.Prelude.{List, ℕ, map};
-    ghost use Rattle.cep_faults.specs.declared.sizes.Size.{Size};
-
-    ghost Value = { List (List ℕ × Size) };
-
-    ghost view = { λ sizes. map (λ entry. (entry.0.items, entry.1)) sizes.entries.entries };
+    pub each: Vec<Size>,
 }
 
 impl Sizes {
-    fn new(alloc: Global) -> Sizes
-        ensures { result ≡ [] }
+    /// The sizes of the contexts of a text.
+    pub(crate) fn of(source: &Source) -> Result<Sizes, AllocError>
+        ensures { IfOk result (AreSizes source.now) }
     {
-        Sizes {
-            entries: IndexMap::new(alloc),
+        let mut each = Vec::new(source.alloc());
+        for context in source.contexts() {
+            each.push(Size::of_atoms(context.atoms))?;
         }
-    }
-
-    // Enters a context, unless its name is there.
-    fn enter(&mut self, name: &[u8], size: Size) -> Result<(), AllocError>
-        ensures { OnOk result ((other : List ℕ) → size_under self.new other ≡ or_else (size_under self.old other) (if bytes_eq name.now other then Some size else None)) }
-    {
-        if self.entries.contains_key(name) {
-            return Ok(());
-        }
-        let name = Vec::from_slice(*self.entries.allocator(), name)?;
-        self.entries.insert(name, size)?;
-        Ok(())
-    }
-
-    // Enters the context of an item.
-    fn enter_item(&mut self, text: &[u8], item: &RawItem) -> Result<(), AllocError>
-        ensures { OnOk result ((other : List ℕ) → size_under self.new other ≡ or_else (size_under self.old other) (first_size text.now (contexts_in item.now) other)) }
-    {
-        match item {
-            RawItem::Context { name, atoms } => {
-                self.enter(said(text, *name), Size::of_atoms(atoms.as_slice()))
-            }
-            _ => Ok(()),
-        }
-    }
-
-    /// The sizes of the contexts of a file.
-    pub(crate) fn of(alloc: Global, text: &[u8], items: &[RawItem]) -> Result<Sizes, AllocError>
-        ensures { IfOk result (λ sizes. (name : List ℕ) → size_under sizes name ≡ first_size text.now (flat_map contexts_in items.now) name) }
-    {
-        let mut sizes = Sizes::new(alloc);
-        for item in items {
-            sizes.enter_item(text, item)?;
-        }
-        Ok(sizes)
-    }
-
-    fn under(&self, name: &[u8]) -> Option<Size>
-        ensures { result ≡ size_under self.now name.now }
-    {
-        self.entries.get(name).copied()
+        Ok(Sizes { each })
     }
 
     // The size of the context of this name, and of no atoms where there is none.
-    fn get(&self, name: &[u8]) -> Size
-        ensures { result ≡ size_or_none (size_under self.now name.now) }
+    fn of_context(&self, source: &Source, name: Span) -> Size
+        requires { AreSizes source.now self.now }
+        ensures { result ≡ context_size source.now (said source.now name) }
     {
-        match self.under(name) {
+        let Some(place) = source.place(Space::Contexts, source.said(name)) else {
+            return Size::NONE;
+        };
+        match item_at(&self.each, place) {
             Some(size) => size,
             None => Size::NONE,
         }
     }
 
     // The size of what an atom in braces lists.
-    fn of_listed(&self, names: &Names, text: &[u8], atom: &RawAtom) -> Size
-        ensures { result ≡ listed_size (looks_in text.now names.now) (size_under self.now) atom.now }
+    fn of_listed(&self, source: &Source, atom: &RawAtom) -> Size
+        requires { AreSizes source.now self.now }
+        ensures { result ≡ listed_size source.now atom.now }
     {
-        if names_context(names, text, Role::Start, atom.name, atom.args) {
-            self.get(said(text, atom.name))
+        if names_context(source, Role::Start, atom.name, atom.args) {
+            self.of_context(source, atom.name)
         } else {
             Size::of_atom(atom)
         }
     }
 
-    fn of_all(&self, names: &Names, text: &[u8], atoms: &[RawAtom]) -> Size
-        ensures { result ≡ cut (total_size (map (listed_size (looks_in text.now names.now) (size_under self.now)) atoms.now)) }
+    fn of_all(&self, source: &Source, atoms: &[RawAtom]) -> Size
+        requires { AreSizes source.now self.now }
+        ensures { result ≡ cut (total_size (map (listed_size source.now) atoms.now)) }
     {
         let mut size = Size::NONE;
         for atom in atoms {
-            size = size.and(self.of_listed(names, text, atom));
+            size = size.and(self.of_listed(source, atom));
         }
         size
     }
 
     /// The size of a start state.
-    pub(crate) fn of_start(&self, names: &Names, text: &[u8], start: &RawStart) -> Size
-        ensures { result ≡ start_size (looks_in text.now names.now) (size_under self.now) start.now }
+    pub(crate) fn of_start(&self, source: &Source, start: &RawStart) -> Size
+        requires { AreSizes source.now self.now }
+        ensures { result ≡ start_size source.now start.now }
     {
         match start {
-            RawStart::Named(name) => self.get(said(text, *name)),
-            RawStart::Listed(atoms) => self.of_all(names, text, atoms.as_slice()),
+            RawStart::Named(name) => self.of_context(source, *name),
+            RawStart::Listed(atoms) => self.of_all(source, atoms.as_slice()),
         }
     }
 }

@@ -1,92 +1,67 @@
 // The traces of a file.
-ghost use Rattle.std.specs.Prelude.{◌≡◌, ◌≤◌, ◌++◌, List, ℕ, Option, Bool, length};
+ghost use Rattle.std.specs.Prelude.{◌≡◌, ◌≤◌, ◌++◌, map, length};
 ghost use Rattle.cep_base.specs.declared.limits.TheConstants.{MOST_TEXT};
-ghost use Rattle.std.specs.List.{flat_map};
-ghost use Rattle.cep_refusal.specs.First.{first_in};
-ghost use Rattle.cep_names.specs.Items.{traces_in};
-ghost use Rattle.cep_faults.specs.Looks.{looks_in};
-ghost use Rattle.cep_faults.specs.Totals.{is_large, size_under, start_faults, traces_faults, trace_step, after_trace};
+ghost use Rattle.cep_refusal.specs.First.{first_in, wrong};
+ghost use Rattle.cep_source.specs.Items.{traces_of};
+ghost use Rattle.cep_source.specs.Kept.{trace_item};
+ghost use Rattle.cep_faults.specs.Totals.{AreSizes, is_large, start_faults, two_faults, traces_faults};
 
-use crate::sizes::{Size, Sizes};
+use crate::sizes::Sizes;
 use cep_base::limits::{MOST_COPIES, MOST_STATE_NODES};
-use cep_names::Names;
-use cep_parse::{RawItem, RawStart};
 use cep_refusal::{Fault, FirstFault, Reason};
+use cep_source::{Source, TraceRef};
 
 // The fault of a start state that is too large.
-fn start_fault(
-    names: &Names,
-    text: &[u8],
-    sizes: &Sizes,
-    at: u32,
-    start: &RawStart,
-) -> Option<Fault>
-    ensures { result ≡ first_in (start_faults (looks_in text.now names.now) (size_under sizes.now) at start.now) }
+fn start_fault(source: &Source, sizes: &Sizes, trace: &TraceRef) -> Option<Fault>
+    requires { AreSizes source.now sizes.now }
+    ensures { result ≡ first_in (start_faults source.now (trace_item trace.now)) }
 {
-    let size = sizes.of_start(names, text, start);
+    let size = sizes.of_start(source, trace.start);
     if size.copies > MOST_COPIES || size.nodes > MOST_STATE_NODES {
         return Some(Fault {
             reason: Reason::OverLimit,
-            at,
+            at: trace.at,
         });
     }
     None
 }
 
-// The fault of an item that is a trace, where one stands before it or not.
-fn trace_fault(
-    names: &Names,
-    text: &[u8],
-    sizes: &Sizes,
-    seen: bool,
-    item: &RawItem,
-) -> Option<Fault>
-    ensures { result ≡ first_in (trace_step (looks_in text.now names.now) (size_under sizes.now) seen (traces_in item.now)) }
+// The first fault of traces behind the first one.
+fn two_fault(traces: &[TraceRef]) -> Option<Fault>
+    ensures { result ≡ first_in (two_faults (map trace_item traces.now)) }
 {
-    match item {
-        RawItem::Trace { at, start, .. } => {
-            if seen {
-                Some(Fault {
-                    reason: Reason::TwoTraces,
-                    at: *at,
-                })
-            } else {
-                start_fault(names, text, sizes, *at, start)
-            }
-        }
-        _ => None,
+    let mut first = FirstFault::none();
+    for trace in traces {
+        first.note(Some(Fault {
+            reason: Reason::TwoTraces,
+            at: trace.at,
+        }));
     }
+    first.found()
 }
 
-// Whether a trace was seen, behind an item.
-fn after_trace(seen: bool, item: &RawItem) -> bool
-    ensures { result ≡ after_trace seen (traces_in item.now) }
+// The fault that there is none.
+fn no_trace(source: &Source) -> Fault
+    requires { length source.now.text ≤ MOST_TEXT }
+    ensures { result ≡ wrong Reason.NoTrace (length source.now.text) }
 {
-    seen || matches!(item, RawItem::Trace { .. })
+    Fault {
+        reason: Reason::NoTrace,
+        at: source.text().len() as u32,
+    }
 }
 
 // The first fault of the traces: the first one's start state, each one after it, or that there is
 // none.
-pub(crate) fn traces_fault(
-    names: &Names,
-    text: &[u8],
-    sizes: &Sizes,
-    items: &[RawItem],
-) -> Option<Fault>
-    requires { length text.now ≤ MOST_TEXT }
-    ensures { result ≡ first_in (traces_faults (looks_in text.now names.now) (size_under sizes.now) (flat_map traces_in items.now)) }
+pub(crate) fn traces_fault(source: &Source, sizes: &Sizes) -> Option<Fault>
+    requires short { length source.now.text ≤ MOST_TEXT }
+    requires sizes { AreSizes source.now sizes.now }
+    ensures { result ≡ first_in (traces_faults source.now (traces_of source.now)) }
 {
-    let mut first = FirstFault::none();
-    let mut seen = false;
-    for item in items {
-        first.note(trace_fault(names, text, sizes, seen, item));
-        seen = after_trace(seen, item);
+    match source.traces().split_first() {
+        Some((trace, rest)) => {
+            Fault::first_of(start_fault(source, sizes, trace), two_fault(rest))
+        }
+        None => Some(no_trace(source)),
     }
-    if seen {
-        return first.found();
-    }
-    Some(Fault {
-        reason: Reason::NoTrace,
-        at: text.len() as u32,
-    })
 }

@@ -3,8 +3,7 @@ ghost use Rattle.std.specs.Prelude.{◌≡◌, ◌≤◌, ◌+◌, [], ◌∷◌
 ghost use Rattle.std.specs.List.{flat_map};
 ghost use Rattle.cep_refusal.specs.First.{first_in};
 ghost use Rattle.cep_faults.specs.Faults.{past};
-ghost use Rattle.cep_faults.specs.Looks.{looks_in};
-ghost use Rattle.cep_names.specs.Tables.{has_name};
+ghost use Rattle.cep_source.specs.Firsts.{has_name};
 ghost use Rattle.cep_faults.specs.Totals.{variable_faults, item_variable_faults};
 ghost use Rattle.cep_parse.specs.Raw.{atoms_in, atoms_of, raw_nodes};
 ghost use Rattle.cep_faults.specs.Seen.{unseen, met, new_at, blank_name, met_kind, new_kind, met_all, new_in};
@@ -12,16 +11,16 @@ ghost use Rattle.cep_faults.specs.Seen.{unseen, met, new_at, blank_name, met_kin
 use crate::rules::past;
 use cep_base::Text;
 use cep_base::limits::MOST_VARIABLES;
-use cep_names::{Names, Shape, Table, said};
 use cep_parse::{RawAtom, RawElem, RawItem, RawKind, RawNode, RawRule};
 use cep_refusal::{Fault, FirstFault};
+use cep_source::{FirstPlaces, Source, said};
 use std::alloc::{AllocError, Global};
 
 /// The names of the variables that were met so far, their number, and the number of blanks. Each
 /// blank is a variable of its own.
 #[derive(Drop)]
 pub(crate) struct Seen {
-    pub table: Table,
+    pub table: FirstPlaces,
     pub count: usize,
     pub blanks: u64,
 }
@@ -41,7 +40,7 @@ impl Seen {
         ensures { result ≡ unseen }
     {
         Seen {
-            table: Table::new(alloc),
+            table: FirstPlaces::new(alloc),
             count: 0,
             blanks: 0,
         }
@@ -53,11 +52,7 @@ impl Seen {
         ensures new { IfOk result (λ new. new ≡ not (has_name self.old.table name.now)) }
         ensures met { OnOk result (self.new ≡ met self.old name.now) }
     {
-        let plain = Shape {
-            args: 0,
-            back: false,
-        };
-        if self.table.declare(name, plain)? {
+        if self.table.add(name, self.count)? {
             self.count += 1;
             return Ok(true);
         }
@@ -176,14 +171,11 @@ fn clause_fault(
 }
 
 // The first variable of an item that is one too many.
-fn item_fault(
-    alloc: Global,
-    names: &Names,
-    text: &[u8],
-    item: &RawItem,
-) -> Result<Option<Fault>, AllocError>
-    ensures { IfOk result (λ first. first ≡ first_in (item_variable_faults (looks_in text.now names.now) item.now)) }
+fn item_fault(source: &Source, item: &RawItem) -> Result<Option<Fault>, AllocError>
+    ensures { IfOk result (λ first. first ≡ first_in (item_variable_faults source.now item.now)) }
 {
+    let alloc = source.alloc();
+    let text = source.text();
     match item {
         RawItem::Clause { head, goals, .. } => clause_fault(alloc, text, head, goals.as_slice()),
         _ => rules_fault(alloc, text, item.rules()),
@@ -192,16 +184,14 @@ fn item_fault(
 
 // The first variable that is one too many in a rule's left side or a clause.
 pub(crate) fn variables_fault(
-    alloc: Global,
-    names: &Names,
-    text: &[u8],
+    source: &Source,
     items: &[RawItem],
 ) -> Result<Option<Fault>, AllocError>
-    ensures { IfOk result (λ first. first ≡ first_in (flat_map (item_variable_faults (looks_in text.now names.now)) items.now)) }
+    ensures { IfOk result (λ first. first ≡ first_in (flat_map (item_variable_faults source.now) items.now)) }
 {
     let mut first = FirstFault::none();
     for item in items {
-        first.note(item_fault(alloc, names, text, item)?);
+        first.note(item_fault(source, item)?);
     }
     Ok(first.found())
 }

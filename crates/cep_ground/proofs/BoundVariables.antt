@@ -16,9 +16,9 @@ use Rattle.cep_term.specs.Tree.{AtomTree, OccursIn}
 use Rattle.cep_rule.specs.declared.rule.Rule.{Rule}
 use Rattle.cep_rule.specs.Patterns.{PremiseTree, ClauseTree}
 use Rattle.cep_rule.specs.Binding.{OccursInSome, IsBoundRule, IsBoundClause}
-use Rattle.cep_names.specs.Items.{Source, RuleItem, ClauseItem, said}
+use Rattle.cep_source.specs.Items.{Source, RuleItem, ClauseItem, said}
 use Rattle.cep_parse.specs.Raw.{atoms_of, raw_nodes}
-use Rattle.cep_names.specs.Variables.{Occurrence, occurrence_at, blanks_behind, occurrences_from, occurrences_of, firsts_beside, variables_of}
+use Rattle.cep_source.specs.Variables.{Occurrence, occurrence_at, blanks_behind, occurrences_from, occurrences_of, firsts_beside, variables_of}
 use Rattle.cep_types.specs.Sites.{rule_scope, clause_scope}
 use Rattle.cep_types.specs.Heads.{var, variable_of, head_at, heads_from, blanks_after}
 use Rattle.cep_infer.specs.Heads.{IsAtomBy, AreAtomsBy}

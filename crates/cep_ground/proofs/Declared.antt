@@ -17,15 +17,15 @@ use Rattle.cep_rule.specs.declared.rule.Rule.{Rule}
 use Rattle.cep_rule.specs.declared.parts.Parts.{Parts}
 use Rattle.cep_rule.specs.Patterns.{PremiseTree, ClauseTree}
 use Rattle.cep_refusal.specs.declared.reason.Reason.TheVariants.{NoTrace}
-use Rattle.cep_names.specs.declared.space.Space.TheVariants as space
-use Rattle.cep_names.specs.Items.{Source, ClauseItem, RuleItem, TraceItem, said, stages_of, clauses_of, rules_of, traces_of}
-use Rattle.cep_names.specs.Spaces.{Named, names_in, rule_names_from, unlabelled_behind}
+use Rattle.cep_source.specs.declared.space.Space.TheVariants as space
+use Rattle.cep_source.specs.Items.{Source, ClauseItem, RuleItem, TraceItem, said, stages_of, clauses_of, rules_of, traces_of}
+use Rattle.cep_source.specs.Spaces.{Named, names_in, rule_names_from, unlabelled_behind}
 use Rattle.cep_parse.specs.Raw.{atoms_of, raw_nodes}
-use Rattle.cep_names.specs.Variables.{blanks_behind}
-use Rattle.cep_names.specs.Starts.{start_atoms}
+use Rattle.cep_source.specs.Variables.{blanks_behind}
+use Rattle.cep_source.specs.Starts.{start_atoms}
 use Rattle.cep_refusal.specs.First.{wrong}
-use Rattle.cep_names.specs.Misnamed.{turns_said}
-use Rattle.cep_names.specs.Misnamed.Misnamed.{no_trace}
+use Rattle.cep_source.specs.Misnamed.{turns_said}
+use Rattle.cep_source.specs.Misnamed.Misnamed.{no_trace}
 use Rattle.cep_types.specs.Sites.{rule_scope, clause_scope}
 use Rattle.cep_types.specs.Heads.{Head, var, con, number_of, variable_of, head_at, heads_from, blanks_after}
 use Rattle.cep_infer.specs.Heads.{argument_count, heads_of, heads_among, IsAtomBy, AreAtomsBy}

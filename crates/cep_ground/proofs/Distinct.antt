@@ -2,14 +2,14 @@
 use Rattle.std.proofs.Common.{◌≡◌, ◌≢◌, List, [], ◌∷◌, ◌++◌, map, refl, sym, subst, append_assoc, Contains}
 use Rattle.std.specs.List.{AllByRecursion}
 use Rattle.cep_rule.specs.Names.{AllDiffer}
-use Rattle.cep_names.specs.declared.space.Space.{Space}
+use Rattle.cep_source.specs.declared.space.Space.{Space}
 use Rattle.cep_refusal.specs.declared.reason.Reason.TheVariants.{Twice}
 use Rattle.cep_refusal.specs.declared.fault.Fault.{Fault}
-use Rattle.cep_names.specs.Items.{Source}
-use Rattle.cep_names.specs.Spaces.{Named, names_in}
-use Rattle.cep_names.specs.Misnamed.{Misnamed}
+use Rattle.cep_source.specs.Items.{Source}
+use Rattle.cep_source.specs.Spaces.{Named, names_in}
+use Rattle.cep_source.specs.Misnamed.{Misnamed}
 use Rattle.cep_refusal.specs.First.{wrong}
-use Rattle.cep_names.specs.Misnamed.Misnamed.{twice}
+use Rattle.cep_source.specs.Misnamed.Misnamed.{twice}
 use Rattle.cep_base.proofs.Elements.{contains_first, contains_behind}
 
 -- no name of a list stands before itself

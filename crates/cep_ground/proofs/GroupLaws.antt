@@ -11,13 +11,13 @@ use Rattle.cep_parse.specs.declared.raw.Span.{Span}
 use Rattle.cep_parse.specs.declared.raw.RawElem.{RawElem}
 use Rattle.cep_parse.specs.declared.raw.RawElem.TheVariants as elem
 use Rattle.cep_refusal.specs.declared.reason.Reason.TheVariants.{BadQui}
-use Rattle.cep_names.specs.declared.space.Space.TheVariants as space
-use Rattle.cep_names.specs.Items.{Source, RuleItem, said, rules_of, stages_of}
-use Rattle.cep_names.specs.Spaces.{named, names_in, is_in}
-use Rattle.cep_names.specs.Uses.{Use, use_in, elem_uses, uses_of}
+use Rattle.cep_source.specs.declared.space.Space.TheVariants as space
+use Rattle.cep_source.specs.Items.{Source, RuleItem, said, rules_of, stages_of}
+use Rattle.cep_source.specs.Spaces.{named, names_in, is_in}
+use Rattle.cep_source.specs.Uses.{Use, use_in, elem_uses, uses_of}
 use Rattle.cep_refusal.specs.First.{wrong}
-use Rattle.cep_names.specs.Misnamed.{is_stage, IsQuiRule}
-use Rattle.cep_names.specs.Misnamed.Misnamed.{bad_qui}
+use Rattle.cep_source.specs.Misnamed.{is_stage, IsQuiRule}
+use Rattle.cep_source.specs.Misnamed.Misnamed.{bad_qui}
 use Rattle.cep_types.specs.Heads.{number_of}
 use Rattle.cep_infer.specs.Meaning.{stages_in_elem, first_stage, stage_named, group_of, next_of}
 use Rattle.cep_rule.specs.declared.rule.Rule.{Rule}

@@ -14,13 +14,13 @@ use Rattle.cep_parse.specs.declared.raw.RawItem.TheVariants as item
 use Rattle.cep_parse.specs.Written.{IsNameAt, IsLabelOf, IsRuleOf, IsItemOf}
 use Rattle.cep_rule.specs.Names.{IsName, AreNames, AllDiffer}
 use Rattle.cep_refusal.specs.declared.reason.Reason.TheVariants.{OverLimit}
-use Rattle.cep_names.specs.declared.space.Space.{Space}
-use Rattle.cep_names.specs.declared.space.Space.TheVariants as space
-use Rattle.cep_names.specs.Items.{Source, PredItem, ConItem, RuleItem, said, sorts_in, sorts_of, preds_in, preds_of, con_or_none, cons_in, cons_of, stages_in, stages_of, rules_of, is_labelled}
-use Rattle.cep_names.specs.Spaces.{Named, named, names_in, rule_name, unlabelled_behind, rule_names_from}
+use Rattle.cep_source.specs.declared.space.Space.{Space}
+use Rattle.cep_source.specs.declared.space.Space.TheVariants as space
+use Rattle.cep_source.specs.Items.{Source, PredItem, ConItem, RuleItem, said, sorts_in, sorts_of, preds_in, preds_of, con_or_none, cons_in, cons_of, stages_in, stages_of, rules_of, is_labelled}
+use Rattle.cep_source.specs.Spaces.{Named, named, names_in, rule_name, unlabelled_behind, rule_names_from}
 use Rattle.cep_refusal.specs.First.{wrong}
-use Rattle.cep_names.specs.Misnamed.Misnamed.{over}
-use Rattle.cep_names.specs.Misnamed.{IsOver as overs}
+use Rattle.cep_source.specs.Misnamed.Misnamed.{over}
+use Rattle.cep_source.specs.Misnamed.{IsOver as overs}
 use Rattle.cep_ground.specs.Texts.{IsClean}
 use Rattle.cep_base.proofs.Elements.{contains_none, contains_first, contains_behind, contains_cases, flat_cases, all_at, all_of}
 use Rattle.cep_ground.proofs.Distinct.{names_differ}

@@ -12,7 +12,7 @@ use Rattle.cep_rule.specs.declared.parts.Parts.{Parts}
 use Rattle.cep_rule.specs.Typing.{is_fact}
 use Rattle.cep_rule.specs.Program.{HasNoFacts}
 use Rattle.cep_refusal.specs.declared.refusal.Refusal.{Refusal}
-use Rattle.cep_names.specs.Items.{Source, PredItem, preds_of}
+use Rattle.cep_source.specs.Items.{Source, PredItem, preds_of}
 use Rattle.cep_infer.specs.Meaning.{kind_by, pred_by, signature_of}
 use Rattle.cep_ground.specs.Texts.{Spells}
 use Rattle.cep_ground.specs.Refusals.{IsAccepted}

@@ -2,8 +2,8 @@
 use Rattle.std.proofs.Common.{◌≡◌, ℕ, not, List, [], ◌∷◌, map, filter, refl, sym, ap, subst, ◌∙◌}
 use Rattle.std.proofs.lemmas.List.{append-nil}
 use Rattle.std.specs.Option.{option_and_then}
-use Rattle.cep_names.specs.declared.space.Space.TheVariants as space
-use Rattle.cep_names.specs.Misnamed.{turns_said}
+use Rattle.cep_source.specs.declared.space.Space.TheVariants as space
+use Rattle.cep_source.specs.Misnamed.{turns_said}
 use Rattle.cep_parse.specs.declared.raw.RawAtom.{RawAtom}
 use Rattle.cep_parse.specs.declared.raw.RawElem.{RawElem}
 use Rattle.cep_parse.specs.declared.raw.RawElem.TheVariants as elem
@@ -12,7 +12,7 @@ use Rattle.cep_term.specs.Multiset.{Multiset, gathered}
 use Rattle.cep_rule.specs.declared.rule.Rule.{Rule}
 use Rattle.cep_rule.specs.declared.parts.Parts.{Parts}
 use Rattle.cep_rule.specs.Patterns.{PremiseTree, ClauseTree}
-use Rattle.cep_names.specs.Items.{Source, ClauseItem, RuleItem, TraceItem, said}
+use Rattle.cep_source.specs.Items.{Source, ClauseItem, RuleItem, TraceItem, said}
 use Rattle.cep_parse.specs.Raw.{atoms_of, raw_nodes}
 use Rattle.cep_types.specs.Sites.{clause_scope}
 use Rattle.cep_types.specs.Heads.{number_of, blanks_after}

@@ -8,7 +8,7 @@ use Rattle.cep_parse.specs.declared.raw.RawItem.{RawItem}
 use Rattle.cep_parse.specs.Symbols.{symbols_of}
 use Rattle.cep_parse.specs.Grammar.{File}
 use Rattle.cep_rule.specs.declared.parts.Parts.{Parts}
-use Rattle.cep_names.specs.Items.{Source}
+use Rattle.cep_source.specs.Items.{Source}
 use Rattle.cep_infer.specs.Shapes.{IsSource}
 use Rattle.cep_infer.specs.Meaning.{AreParts}
 use Rattle.cep_ground.specs.Texts.{Spells}

@@ -26,25 +26,24 @@ use Rattle.cep_base.specs.Bounds.{IsTurnLimit}
 use Rattle.cep_base.specs.declared.limits.TheConstants.{MOST_TURNS}
 use Rattle.cep_rule.specs.Groundness.{IsGrounded}
 use Rattle.cep_modes.specs.Grounding.{AreInOrder}
-use Rattle.cep_rule.specs.Binding.{needed_of}
 use Rattle.cep_rule.specs.State.{IsState}
 use Rattle.cep_rule.specs.Program.{AreSorts, AreNumbersDeclared, IsTypedRule, IsTypedClause, IsDividedRule, IsDividedClause, IsGroupedRule, IsProgram}
 use Rattle.cep_refusal.specs.declared.reason.Reason.TheVariants.{OverLimit}
-use Rattle.cep_names.specs.declared.space.Space.TheVariants as space
-use Rattle.cep_names.specs.Items.{Source, PredItem, ConItem, ClauseItem, RuleItem, TraceItem, said, sorts_in, sorts_of, preds_of, cons_of, stages_in, stages_of, clauses_of, rules_of, traces_in, traces_of}
-use Rattle.cep_names.specs.Spaces.{Named, named, names_in}
+use Rattle.cep_source.specs.declared.space.Space.TheVariants as space
+use Rattle.cep_source.specs.Items.{Source, PredItem, ConItem, ClauseItem, RuleItem, TraceItem, said, sorts_in, sorts_of, preds_of, cons_of, stages_in, stages_of, clauses_of, rules_of, traces_in, traces_of}
+use Rattle.cep_source.specs.Spaces.{Named, named, names_in}
 use Rattle.cep_parse.specs.Raw.{atoms_of, raw_nodes}
-use Rattle.cep_names.specs.Uses.{use_in, own_uses, start_uses}
-use Rattle.cep_names.specs.Variables.{Occurrence, variables_of}
+use Rattle.cep_source.specs.Uses.{use_in, own_uses, start_uses}
+use Rattle.cep_source.specs.Variables.{Occurrence, variables_of}
 use Rattle.cep_refusal.specs.First.{wrong}
-use Rattle.cep_names.specs.Misnamed.{turns_said}
-use Rattle.cep_names.specs.Misnamed.Misnamed.{over}
-use Rattle.cep_names.specs.Misnamed.{IsOver as overs}
+use Rattle.cep_source.specs.Misnamed.{turns_said}
+use Rattle.cep_source.specs.Misnamed.Misnamed.{over}
+use Rattle.cep_source.specs.Misnamed.{IsOver as overs}
 use Rattle.cep_types.specs.Sites.{rule_scope, clause_scope}
 use Rattle.cep_types.specs.Heads.{number_of, sorts_said}
 use Rattle.cep_infer.specs.Meaning.{con_by, pred_by, signature_of, stage_by, names_of, is_back, IsRuleBy, AreRulesBy, IsClauseBy, AreClausesBy, AreParts}
 use Rattle.cep_infer.specs.Places.{backs_at, unbound_of}
-use Rattle.cep_names.specs.Misnamed.{backward_of}
+use Rattle.cep_source.specs.Misnamed.{backward_of}
 use Rattle.cep_parse.specs.declared.raw.RawAtom.{RawAtom}
 use Rattle.cep_ground.specs.Texts.{IsClean, IsBound}
 use Rattle.cep_base.proofs.Elements.{contains_none, contains_first, contains_behind, contains_cases, contains_left, contains_right, contains_map, flat_cases, all_at, all_of}

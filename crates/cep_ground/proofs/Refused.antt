@@ -19,11 +19,11 @@ use Rattle.cep_rule.specs.declared.parts.Parts.{Parts}
 use Rattle.cep_refusal.specs.declared.fault.Fault.{Fault}
 use Rattle.cep_refusal.specs.declared.reason.Reason.{Reason}
 use Rattle.cep_refusal.specs.declared.reason.Reason.TheVariants.{BadByte, NameLong, Unexpected, Nested, Unbound, Ungrounded, TooLong}
-use Rattle.cep_names.specs.Items.{Source, RuleItem, rules_of}
-use Rattle.cep_names.specs.Variables.{Occurrence}
+use Rattle.cep_source.specs.Items.{Source, RuleItem, rules_of}
+use Rattle.cep_source.specs.Variables.{Occurrence}
 use Rattle.cep_refusal.specs.First.{IsFirst, IsNoLater, wrong, IsToldFirst}
-use Rattle.cep_names.specs.Misnamed.{Misnamed}
-use Rattle.cep_names.specs.Misnamed.{Misnamed as misnamed_}
+use Rattle.cep_source.specs.Misnamed.{Misnamed}
+use Rattle.cep_source.specs.Misnamed.{Misnamed as misnamed_}
 use Rattle.cep_types.specs.Sites.{Mistyped}
 use Rattle.cep_types.specs.Sites.{Mistyped as mistyped_}
 use Rattle.cep_infer.specs.Shapes.{IsSource}

@@ -2,7 +2,7 @@
 use Rattle.std.proofs.Common.{inl, inr, ◌≤◌, length, refl}
 use Rattle.cep_base.specs.declared.limits.TheConstants.{MOST_TEXT}
 use Rattle.cep_refusal.specs.declared.fault.Fault.{Fault}
-use Rattle.cep_names.specs.Items.{Source}
+use Rattle.cep_source.specs.Items.{Source}
 use Rattle.cep_refusal.specs.declared.refusal.Refusal.{Refusal}
 use Rattle.cep_infer.specs.Shapes.{IsSource}
 use Rattle.cep_infer.specs.Resolved.{IsFirstFault, IsRefused}

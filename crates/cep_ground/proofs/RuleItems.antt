@@ -6,8 +6,8 @@ use Rattle.cep_parse.specs.declared.raw.Span.{Span}
 use Rattle.cep_parse.specs.declared.raw.RawRule.{RawRule}
 use Rattle.cep_parse.specs.declared.raw.RawItem.{RawItem}
 use Rattle.cep_parse.specs.declared.raw.RawItem.TheVariants as item
-use Rattle.cep_names.specs.Items.{Source, RuleItem, rules_in, stages_behind, rules_from, rules_of, stages_in, stages_of}
-use Rattle.cep_names.specs.Uses.{Placed, Use, rule_atoms, own_atoms, elem_uses, own_uses, uses_of, placed_of}
+use Rattle.cep_source.specs.Items.{Source, RuleItem, rules_in, stages_behind, rules_from, rules_of, stages_in, stages_of}
+use Rattle.cep_source.specs.Uses.{Placed, Use, rule_atoms, own_atoms, elem_uses, own_uses, uses_of, placed_of}
 use Rattle.cep_base.proofs.Elements.{contains_first, contains_behind, contains_none, contains_cases, contains_either, contains_flat, map_cases}
 use Rattle.cep_ground.proofs.Known.{own_placed, own_item_uses}
 

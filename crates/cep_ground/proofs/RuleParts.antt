@@ -20,17 +20,17 @@ use Rattle.cep_rule.specs.Typing.{IsTyped, HasStatePredicate, IsBackward, is_fac
 use Rattle.cep_rule.specs.Binding.{needed_of}
 use Rattle.cep_rule.specs.Program.{IsTypedRule, IsDividedRule, IsTypedClause, IsDividedClause}
 use Rattle.cep_refusal.specs.declared.reason.Reason.TheVariants.{BwdInState, LinearInClause}
-use Rattle.cep_names.specs.declared.space.Role.TheVariants as role
-use Rattle.cep_names.specs.declared.space.Space.TheVariants as space
-use Rattle.cep_names.specs.Items.{Source, RuleItem, ClauseItem, PredItem, said, rules_of, clauses_of, preds_of}
-use Rattle.cep_names.specs.Spaces.{named, back_of}
+use Rattle.cep_source.specs.declared.space.Role.TheVariants as role
+use Rattle.cep_source.specs.declared.space.Space.TheVariants as space
+use Rattle.cep_source.specs.Items.{Source, RuleItem, ClauseItem, PredItem, said, rules_of, clauses_of, preds_of}
+use Rattle.cep_source.specs.Spaces.{named, back_of}
 use Rattle.cep_parse.specs.Raw.{atoms_of, raw_nodes}
-use Rattle.cep_names.specs.Uses.{placed, placed_of}
-use Rattle.cep_names.specs.Variables.{blanks_behind, variables_of, Occurrence}
+use Rattle.cep_source.specs.Uses.{placed, placed_of}
+use Rattle.cep_source.specs.Variables.{blanks_behind, variables_of, Occurrence}
 use Rattle.cep_refusal.specs.First.{wrong}
-use Rattle.cep_names.specs.Misnamed.{is_declared}
-use Rattle.cep_names.specs.Misnamed.ComesToState.{made}
-use Rattle.cep_names.specs.Misnamed.Misnamed.{backward_in_state, linear_in_clause}
+use Rattle.cep_source.specs.Misnamed.{is_declared}
+use Rattle.cep_source.specs.Misnamed.ComesToState.{made}
+use Rattle.cep_source.specs.Misnamed.Misnamed.{backward_in_state, linear_in_clause}
 use Rattle.cep_types.specs.Sites.{sites_of, wanted_from, type_of, rule_scope, clause_scope}
 use Rattle.cep_types.specs.Heads.{number_of, heads_from, blanks_after}
 use Rattle.cep_infer.specs.Heads.{IsAtomBy, AreAtomsBy}

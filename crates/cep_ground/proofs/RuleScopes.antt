@@ -15,16 +15,16 @@ use Rattle.cep_lex.specs.declared.token.TokenKind.TheVariants as token
 use Rattle.cep_parse.specs.Written.{IsTokenAt}
 use Rattle.cep_rule.specs.Names.{IsWord}
 use Rattle.cep_refusal.specs.declared.reason.Reason.TheVariants.{OverLimit}
-use Rattle.cep_names.specs.declared.space.Role.{Role}
-use Rattle.cep_names.specs.declared.space.Role.TheVariants as role
-use Rattle.cep_names.specs.Items.{Source, RuleItem, ClauseItem, PredItem, said, rules_of, clauses_of}
-use Rattle.cep_names.specs.Spaces.{back_of}
+use Rattle.cep_source.specs.declared.space.Role.{Role}
+use Rattle.cep_source.specs.declared.space.Role.TheVariants as role
+use Rattle.cep_source.specs.Items.{Source, RuleItem, ClauseItem, PredItem, said, rules_of, clauses_of}
+use Rattle.cep_source.specs.Spaces.{back_of}
 use Rattle.cep_parse.specs.Raw.{atoms_of, raw_nodes}
-use Rattle.cep_names.specs.Uses.{Placed, placed, placed_of}
+use Rattle.cep_source.specs.Uses.{Placed, placed, placed_of}
 use Rattle.cep_refusal.specs.First.{wrong}
-use Rattle.cep_names.specs.Misnamed.{is_declared, linear_of, backward_of}
-use Rattle.cep_names.specs.Misnamed.Misnamed.{over}
-use Rattle.cep_names.specs.Misnamed.IsOver.{premise, back, right, goal}
+use Rattle.cep_source.specs.Misnamed.{is_declared, linear_of, backward_of}
+use Rattle.cep_source.specs.Misnamed.Misnamed.{over}
+use Rattle.cep_source.specs.Misnamed.IsOver.{premise, back, right, goal}
 use Rattle.cep_types.specs.Sites.{Site, sites_of, IsScope, rule_scope, clause_scope}
 use Rattle.cep_types.specs.Sites.{IsScope as scopes}
 use Rattle.cep_infer.specs.Shapes.{IsSource}

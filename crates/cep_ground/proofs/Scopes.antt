@@ -20,13 +20,13 @@ use Rattle.cep_rule.specs.Patterns.{PremiseTree}
 use Rattle.cep_rule.specs.Typing.{HaveSorts, IsTyped}
 use Rattle.cep_refusal.specs.declared.fault.Fault.{Fault}
 use Rattle.cep_refusal.specs.declared.reason.Reason.TheVariants.{TypeClash}
-use Rattle.cep_names.specs.declared.space.Role.{Role}
-use Rattle.cep_names.specs.declared.space.Space.TheVariants as space
-use Rattle.cep_names.specs.Items.{Source, ConItem, PredItem, said, cons_of, preds_of}
-use Rattle.cep_names.specs.Spaces.{named, pred_named, con_named}
+use Rattle.cep_source.specs.declared.space.Role.{Role}
+use Rattle.cep_source.specs.declared.space.Space.TheVariants as space
+use Rattle.cep_source.specs.Items.{Source, ConItem, PredItem, said, cons_of, preds_of}
+use Rattle.cep_source.specs.Spaces.{named, pred_named, con_named}
 use Rattle.cep_parse.specs.Raw.{atoms_of, raw_nodes}
-use Rattle.cep_names.specs.Uses.{placed, placed_of, is_context}
-use Rattle.cep_names.specs.Variables.{Occurrence, occurrence_at, blanks_behind, occurrences_from, variables_of}
+use Rattle.cep_source.specs.Uses.{placed, placed_of, is_context}
+use Rattle.cep_source.specs.Variables.{Occurrence, occurrence_at, blanks_behind, occurrences_from, variables_of}
 use Rattle.cep_refusal.specs.First.{wrong}
 use Rattle.cep_types.specs.Sites.{Site, Wanted, con_types, pred_types, node_types, sites_from, sites_in, sites_of, wanted_from, type_of, IsScope, Mistyped}
 use Rattle.cep_types.specs.Sites.Mistyped.{constructor, variable}

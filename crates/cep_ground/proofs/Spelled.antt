@@ -13,7 +13,7 @@ use Rattle.cep_parse.specs.Symbols.{slice_of}
 use Rattle.cep_parse.specs.declared.raw.Span.{Span}
 use Rattle.cep_parse.specs.Written.{IsTokenAt, IsNameAt}
 use Rattle.cep_rule.specs.Names.{IsName, IsVariableName, IsWord}
-use Rattle.cep_names.specs.Items.{Source, said}
+use Rattle.cep_source.specs.Items.{Source, said}
 use Rattle.cep_infer.specs.Shapes.{IsSource}
 use Rattle.cep_base.proofs.Elements.{all_at}
 

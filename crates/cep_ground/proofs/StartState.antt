@@ -17,16 +17,16 @@ use Rattle.cep_rule.specs.declared.signature.PredDecl.{PredDecl}
 use Rattle.cep_rule.specs.Typing.{IsTyped, HasStatePredicate}
 use Rattle.cep_rule.specs.State.{IsStateAtom, IsState, Fits}
 use Rattle.cep_refusal.specs.declared.reason.Reason.TheVariants.{OverLimit, BwdInState}
-use Rattle.cep_names.specs.Items.{Source, TraceItem, traces_of}
+use Rattle.cep_source.specs.Items.{Source, TraceItem, traces_of}
 use Rattle.cep_parse.specs.Raw.{raw_nodes}
-use Rattle.cep_names.specs.Uses.{placed}
-use Rattle.cep_names.specs.declared.space.Space.TheVariants as space
-use Rattle.cep_names.specs.Variables.{Occurrence, firsts, occurrences_from, blanks_behind}
-use Rattle.cep_names.specs.Starts.{start_atoms, nodes_written, IsFitWritten}
+use Rattle.cep_source.specs.Uses.{placed}
+use Rattle.cep_source.specs.declared.space.Space.TheVariants as space
+use Rattle.cep_source.specs.Variables.{Occurrence, firsts, occurrences_from, blanks_behind}
+use Rattle.cep_source.specs.Starts.{start_atoms, nodes_written, IsFitWritten}
 use Rattle.cep_refusal.specs.First.{wrong}
-use Rattle.cep_names.specs.Misnamed.{ComesToState as comes}
-use Rattle.cep_names.specs.Misnamed.Misnamed.{over, backward_in_state}
-use Rattle.cep_names.specs.Misnamed.IsOver.{unfit, copies, nodes}
+use Rattle.cep_source.specs.Misnamed.{ComesToState as comes}
+use Rattle.cep_source.specs.Misnamed.Misnamed.{over, backward_in_state}
+use Rattle.cep_source.specs.Misnamed.IsOver.{unfit, copies, nodes}
 use Rattle.cep_types.specs.Sites.{type_of}
 use Rattle.cep_types.specs.Sites.{IsScope as scopes}
 use Rattle.cep_types.specs.Heads.{number_of, blanks_after}

@@ -10,9 +10,9 @@ use Rattle.cep_parse.specs.declared.raw.RawKind.TheVariants as kind
 use Rattle.cep_parse.specs.declared.raw.RawNode.{RawNode}
 use Rattle.cep_parse.specs.declared.raw.RawAtom.{RawAtom}
 use Rattle.cep_term.specs.Tree.{Tree, Trees, AtomTree, variable, node, none, more, term_depth, argument_depth, atom_depth}
-use Rattle.cep_names.specs.Items.{Source}
-use Rattle.cep_names.specs.Variables.{blanks_behind}
-use Rattle.cep_names.specs.Starts.{levels, greatest, depth_written}
+use Rattle.cep_source.specs.Items.{Source}
+use Rattle.cep_source.specs.Variables.{blanks_behind}
+use Rattle.cep_source.specs.Starts.{levels, greatest, depth_written}
 use Rattle.cep_types.specs.Heads.{Head, var, con, head_at, heads_from}
 use Rattle.cep_infer.specs.Heads.{argument_count, heads_of, heads_among, IsAtomBy}
 use Rattle.cep_infer.specs.States.{AreClosed}

@@ -8,9 +8,9 @@ use Rattle.cep_parse.specs.declared.raw.RawNode.{RawNode}
 use Rattle.cep_term.specs.Tree.{Tree, Trees, variable, node, none, more}
 use Rattle.cep_rule.specs.declared.signature.Con.{Con}
 use Rattle.cep_rule.specs.Typing.{HasSort, HaveSorts}
-use Rattle.cep_names.specs.declared.space.Space.TheVariants as space
-use Rattle.cep_names.specs.Items.{Source, said}
-use Rattle.cep_names.specs.Variables.{blanks_behind}
+use Rattle.cep_source.specs.declared.space.Space.TheVariants as space
+use Rattle.cep_source.specs.Items.{Source, said}
+use Rattle.cep_source.specs.Variables.{blanks_behind}
 use Rattle.cep_types.specs.Sites.{node_types}
 use Rattle.cep_types.specs.Heads.{Head, var, con, number_of, variable_of, head_at, heads_from}
 use Rattle.cep_infer.specs.Heads.{argument_count, heads_of, heads_among}

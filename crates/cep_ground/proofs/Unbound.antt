@@ -4,8 +4,8 @@ use Rattle.std.specs.Prelude.{Some, None}
 use Rattle.std.specs.List.{flat_map}
 use Rattle.cep_base.specs.declared.place.Pos.{Pos}
 use Rattle.cep_lex.specs.Places.{IsPlaceBehind}
-use Rattle.cep_names.specs.Items.{Source, RuleItem, rules_of}
-use Rattle.cep_names.specs.Variables.{Occurrence}
+use Rattle.cep_source.specs.Items.{Source, RuleItem, rules_of}
+use Rattle.cep_source.specs.Variables.{Occurrence}
 use Rattle.cep_infer.specs.Places.{unbound_of, unbound_at, ArePlaceLists}
 use Rattle.cep_ground.specs.Texts.{IsBound}
 use Rattle.cep_ground.specs.Earliest.{IsEarliest}

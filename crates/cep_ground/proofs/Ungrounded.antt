@@ -1,5 +1,5 @@
 -- The first backward premise that calls a bad pair, by the marks of the premises and the places that a draft keeps.
-use Rattle.std.proofs.Common.{◌≡◌, ℕ, zero, suc, ◌<◌, ◌≤◌, Bool, true, false, List, [], ◌∷◌, ◌++◌, length, map, take, refl, sym, ap, subst, ◌∙◌, arith, Contains}
+use Rattle.std.proofs.Common.{◌≡◌, ℕ, zero, suc, ◌<◌, ◌≤◌, Bool, true, false, List, [], ◌∷◌, length, map, take, refl, ap, subst, ◌∙◌, arith, Contains}
 use Rattle.std.specs.Prelude.{Some, None, slice_get}
 use Rattle.std.specs.List.{AllByRecursion}
 use Rattle.std.proofs.lemmas.Option.{slice_get_within}
@@ -15,9 +15,9 @@ use Rattle.cep_term.specs.Tree.{AtomTree}
 use Rattle.cep_rule.specs.Binding.{needed_of}
 use Rattle.cep_rule.specs.Groundness.{Known, nothing, known_after, known_after_all, CallsAt, IsBad, IsUngroundedAt, IsGrounded}
 use Rattle.cep_modes.specs.Grounding.{AreMarks, AreAllMarks}
-use Rattle.cep_names.specs.declared.space.Space.TheVariants as space
-use Rattle.cep_names.specs.Spaces.{names_in}
-use Rattle.cep_names.specs.Items.{Source, RuleItem, rules_of}
+use Rattle.cep_source.specs.declared.space.Space.TheVariants as space
+use Rattle.cep_source.specs.Spaces.{names_in}
+use Rattle.cep_source.specs.Items.{Source, RuleItem, rules_of}
 use Rattle.cep_infer.specs.Meaning.{AreParts, IsRuleBy, AreRulesBy}
 use Rattle.cep_infer.specs.Places.{backs_at, ArePlaces, ArePlaceLists}
 use Rattle.cep_ground.specs.Earliest.{IsEarliest, marked_among, all_marked}

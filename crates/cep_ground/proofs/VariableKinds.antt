@@ -13,12 +13,12 @@ use Rattle.cep_parse.specs.declared.raw.RawNode.{RawNode}
 use Rattle.cep_parse.specs.declared.raw.RawAtom.{RawAtom}
 use Rattle.cep_parse.specs.Written.{IsWrittenAt}
 use Rattle.cep_rule.specs.Names.{IsVariableName}
-use Rattle.cep_names.specs.declared.space.Space.TheVariants as space
-use Rattle.cep_names.specs.Items.{Source, ConItem, PredItem, said, sorts_of, cons_of, preds_of}
-use Rattle.cep_names.specs.Spaces.{named, names_in, is_in, con_named, pred_named}
-use Rattle.cep_names.specs.Uses.{use_in}
+use Rattle.cep_source.specs.declared.space.Space.TheVariants as space
+use Rattle.cep_source.specs.Items.{Source, ConItem, PredItem, said, sorts_of, cons_of, preds_of}
+use Rattle.cep_source.specs.Spaces.{named, names_in, is_in, con_named, pred_named}
+use Rattle.cep_source.specs.Uses.{use_in}
 use Rattle.cep_parse.specs.Raw.{raw_nodes}
-use Rattle.cep_names.specs.Variables.{Occurrence, occurrence_at, blanks_behind, occurrences_from, occurrences_of, variables_of}
+use Rattle.cep_source.specs.Variables.{Occurrence, occurrence_at, blanks_behind, occurrences_from, occurrences_of, variables_of}
 use Rattle.cep_types.specs.Sites.{Site, Wanted, con_types, pred_types, node_types, sites_from, sites_in, sites_of, wanted_from, type_of}
 use Rattle.cep_types.specs.Heads.{number_of}
 use Rattle.cep_infer.specs.Meaning.{names_of, kinds_of}

@@ -12,8 +12,8 @@ use Rattle.cep_parse.specs.declared.raw.RawKind.TheVariants as kind
 use Rattle.cep_parse.specs.declared.raw.RawNode.{RawNode}
 use Rattle.cep_parse.specs.Written.{Fill, IsCount}
 use Rattle.cep_rule.specs.Names.{IsWord}
-use Rattle.cep_names.specs.Items.{Source, ConItem, said}
-use Rattle.cep_names.specs.Variables.{Occurrence, occurrence_at, blanks_behind, occurrences_from, firsts_beside}
+use Rattle.cep_source.specs.Items.{Source, ConItem, said}
+use Rattle.cep_source.specs.Variables.{Occurrence, occurrence_at, blanks_behind, occurrences_from, firsts_beside}
 use Rattle.cep_types.specs.Sites.{Site, Wanted, con_types, node_types, sites_from, wanted_from}
 use Rattle.cep_types.specs.Heads.{blanks_after}
 use Rattle.cep_base.proofs.Elements.{contains_none, contains_first, contains_behind, contains_cases}

@@ -5,8 +5,8 @@ use Rattle.cep_base.specs.declared.limits.TheConstants.{MOST_TEXT}
 use Rattle.cep_rule.specs.declared.parts.Parts.{Parts}
 use Rattle.cep_rule.specs.Groundness.{IsGrounded}
 use Rattle.cep_refusal.specs.declared.fault.Fault.{Fault}
-use Rattle.cep_names.specs.Items.{Source, rules_of}
-use Rattle.cep_names.specs.Misnamed.{Misnamed}
+use Rattle.cep_source.specs.Items.{Source, rules_of}
+use Rattle.cep_source.specs.Misnamed.{Misnamed}
 use Rattle.cep_types.specs.Sites.{Mistyped}
 use Rattle.cep_infer.specs.Shapes.{IsSource}
 use Rattle.cep_infer.specs.Meaning.{AreParts}

@@ -7,7 +7,7 @@ ghost use Rattle.cep_rule.specs.Groundness.{IsGrounded};
 ghost use Rattle.cep_rule.specs.Program.{IsProgram, HasNoFacts};
 ghost use Rattle.cep_refusal.specs.declared.fault.Fault.{Fault};
 ghost use Rattle.cep_modes.specs.Grounding.{AreInOrder};
-ghost use Rattle.cep_names.specs.Items.{Source, RuleItem, rules_of};
+ghost use Rattle.cep_source.specs.Items.{Source, RuleItem, rules_of};
 ghost use Rattle.cep_infer.specs.Meaning.{AreParts, IsRuleBy};
 ghost use Rattle.cep_infer.specs.Places.{backs_at};
 ghost use Rattle.cep_ground.specs.Texts.{IsClean, IsBound, Spells};

@@ -11,7 +11,7 @@ use Rattle.cep_parse.specs.declared.raw.RawItem.{RawItem}
 use Rattle.cep_rule.specs.declared.rule.Rule.{Rule}
 use Rattle.cep_term.specs.Tree.{AtomTree}
 use Rattle.cep_rule.specs.Patterns.{PremiseTree, ClauseTree}
-use Rattle.cep_names.specs.Items.{Source, ClauseItem, RuleItem}
+use Rattle.cep_source.specs.Items.{Source, ClauseItem, RuleItem}
 use Rattle.cep_parse.specs.Raw.{atoms_in, atoms_of, raw_nodes}
 use Rattle.cep_types.specs.declared.variables.Variables.{Variables}
 use Rattle.cep_infer.specs.Heads.{IsAtomBy, AreAtomsBy}

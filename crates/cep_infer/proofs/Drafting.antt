@@ -1,6 +1,7 @@
 -- A draft's rules and its trace, as they are kept at hand.
-use Rattle.std.proofs.Common.{◌≡◌, ℕ, List, length, map, ap, sym, refl, ◌∙◌, subst, inr, Contains}
+use Rattle.std.proofs.Common.{◌≡◌, ℕ, List, [], ◌∷◌, length, map, ap, sym, refl, ◌∙◌, subst, inr, Contains}
 use Rattle.std.proofs.lemmas.Simd.{map-map}
+use Rattle.std.specs.List.{slice_get}
 use Rattle.std.specs.Prelude.{Option, Some, None, Result, Ok, Err, IfOk, IsErrAnd, MatchResult}
 use Rattle.std.specs.Option.{IsSome}
 use Rattle.cep_base.specs.declared.place.Pos.{Pos}
@@ -9,17 +10,18 @@ use Rattle.cep_refusal.specs.declared.reason.Reason.TheVariants.{NoTrace}
 use Rattle.cep_refusal.specs.declared.fault.Fault.{Fault}
 use Rattle.cep_refusal.specs.declared.refusal.Refusal.{Refusal}
 use Rattle.cep_refusal.specs.Told.{Tells}
-use Rattle.cep_names.specs.declared.space.Space.TheVariants as space
-use Rattle.cep_names.specs.Items.{Source, RuleItem, TraceItem, rules_of, traces_of}
-use Rattle.cep_names.specs.Spaces.{names_in, rule_names_from}
+use Rattle.cep_source.specs.declared.space.Space.TheVariants as space
+use Rattle.cep_source.specs.Items.{Source, RuleItem, TraceItem, rules_of, traces_of}
+use Rattle.cep_source.specs.Spaces.{names_in, rule_names_from}
 use Rattle.cep_refusal.specs.First.{wrong}
-use Rattle.cep_names.specs.Misnamed.{Misnamed as misnamed}
+use Rattle.cep_source.specs.Misnamed.{Misnamed as misnamed}
 use Rattle.cep_infer.specs.declared.draft.Draft.{Draft}
-use Rattle.cep_infer.specs.declared.listing.RuleRef.{RuleRef}
-use Rattle.cep_infer.specs.declared.listing.TraceRef.{TraceRef}
+use Rattle.cep_source.specs.declared.items.RuleRef.{RuleRef}
+use Rattle.cep_source.specs.declared.items.TraceRef.{TraceRef}
 use Rattle.cep_infer.specs.Meaning.{AreRulesBy}
 use Rattle.cep_infer.specs.Places.{ArePlaceLists}
-use Rattle.cep_infer.specs.Listed.{rule_item, trace_item, IsFirstTrace}
+use Rattle.cep_source.specs.Kept.{rule_item, trace_item}
+use Rattle.cep_infer.specs.Listed.{IsFirstTrace}
 use Rattle.cep_infer.specs.Resolved.{IsWellNamed, IsFirstFault, IsTypedDraft, IsSound, IsResolved}
 use Rattle.cep_base.proofs.Elements.{contains_first}
 
@@ -27,6 +29,11 @@ use Rattle.cep_base.proofs.Elements.{contains_first}
 pub all_rules : (source : Source) (items : List RuleItem) (rules : List Rule) → items ≡ rules_of source → AreRulesBy source (map (λ named. named.name) (rule_names_from source 0 items)) items rules
     → AreRulesBy source (map (λ named. named.name) (names_in source space.Rules)) (rules_of source) rules
 all_rules source items rules all are = subst (λ (them : List RuleItem). AreRulesBy source (map (λ named. named.name) (rule_names_from source 0 them)) them rules) all are
+
+-- the first trace
+pub first_of_all : (source : Source) (refs : List TraceRef) (first : Option TraceRef) → map trace_item refs ≡ traces_of source → first ≡ slice_get refs 0 → IsFirstTrace (traces_of source) first
+first_of_all source [] first are is = subst (IsFirstTrace (traces_of source)) (sym is) (sym are)
+first_of_all source (trace ∷ refs) first are is = subst (IsFirstTrace (traces_of source)) (sym is) (map trace_item refs, sym are)
 
 -- the first trace is one of all
 pub first_there : (traces : List TraceItem) (trace : TraceRef) → IsFirstTrace traces (Some trace) → Contains traces (trace_item trace)

@@ -14,11 +14,11 @@ use Rattle.cep_parse.specs.declared.raw.RawItem.TheVariants as item
 use Rattle.cep_parse.specs.Symbols.{symbols_of}
 use Rattle.cep_parse.specs.Grammar.{File}
 use Rattle.cep_parse.specs.Written.{IsNameAt, IsAtomOf, IsElemOf, IsRuleOf, IsStartOf, IsItemOf}
-use Rattle.cep_names.specs.declared.space.Role.{Role}
-use Rattle.cep_names.specs.declared.space.Role.TheVariants as role
-use Rattle.cep_names.specs.Items.{Source, clause_or_none, clauses_in, is_labelled, bare}
+use Rattle.cep_source.specs.declared.space.Role.{Role}
+use Rattle.cep_source.specs.declared.space.Role.TheVariants as role
+use Rattle.cep_source.specs.Items.{Source, clause_or_none, clauses_in, is_labelled, bare}
 use Rattle.cep_parse.specs.Raw.{atoms_of, start_listed}
-use Rattle.cep_names.specs.Uses.{Placed, placed, placed_of, rule_atoms, clause_atoms, own_atoms, item_atoms}
+use Rattle.cep_source.specs.Uses.{Placed, placed, placed_of, rule_atoms, clause_atoms, own_atoms, item_atoms}
 use Rattle.cep_infer.specs.Shapes.{IsSource, AreFilled}
 use Rattle.cep_base.proofs.Elements.{both_all, all_at}
 

@@ -15,17 +15,17 @@ use Rattle.cep_parse.specs.declared.raw.RawItem.{RawItem}
 use Rattle.cep_parse.specs.declared.raw.RawItem.TheVariants as item
 use Rattle.cep_term.specs.Tree.{Tree, Trees, AtomTree, variable, node, none, more, AreGround, IsGround, IsGroundAtom}
 use Rattle.cep_refusal.specs.declared.reason.Reason.TheVariants.{VarInContext}
-use Rattle.cep_names.specs.declared.space.Role.TheVariants as role
-use Rattle.cep_names.specs.Items.{Source, TraceItem, ContextItem, said, contexts_in, contexts_of, traces_in, traces_of}
-use Rattle.cep_names.specs.Spaces.{context_named}
+use Rattle.cep_source.specs.declared.space.Role.TheVariants as role
+use Rattle.cep_source.specs.Items.{Source, TraceItem, ContextItem, said, contexts_in, contexts_of, traces_in, traces_of}
+use Rattle.cep_source.specs.Spaces.{context_named}
 use Rattle.cep_parse.specs.Raw.{start_listed}
-use Rattle.cep_names.specs.Uses.{Placed, placed, placed_of, own_atoms, item_atoms, is_context}
-use Rattle.cep_names.specs.Variables.{blanks_behind}
-use Rattle.cep_names.specs.Starts.{listed_in, listed_or, start_atoms}
+use Rattle.cep_source.specs.Uses.{Placed, placed, placed_of, own_atoms, item_atoms, is_context}
+use Rattle.cep_source.specs.Variables.{blanks_behind}
+use Rattle.cep_source.specs.Starts.{listed_in, listed_or, start_atoms}
 use Rattle.cep_refusal.specs.First.{wrong}
-use Rattle.cep_names.specs.Misnamed.{IsOfState as of_state}
-use Rattle.cep_names.specs.Misnamed.{IsOpen as opens}
-use Rattle.cep_names.specs.Misnamed.Misnamed.{variable_in_state}
+use Rattle.cep_source.specs.Misnamed.{IsOfState as of_state}
+use Rattle.cep_source.specs.Misnamed.{IsOpen as opens}
+use Rattle.cep_source.specs.Misnamed.Misnamed.{variable_in_state}
 use Rattle.cep_types.specs.Heads.{Head, var, con, head_at, heads_from, blanks_after}
 use Rattle.cep_infer.specs.Heads.{heads_of, heads_among, IsAtomBy, AreAtomsBy}
 use Rattle.cep_infer.specs.Resolved.{IsWellNamed}

@@ -3,7 +3,6 @@ pub mod Meeting
 pub mod FirstOccurrences
 pub mod Building
 pub mod RulesInTurn
-pub mod Interactive
 pub mod Placing
 pub mod Unbound
 pub mod GroundStates

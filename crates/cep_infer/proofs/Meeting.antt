@@ -1,7 +1,7 @@
 -- The nodes of terms, and the blanks among nodes.
 use Rattle.std.proofs.Common.{◌≡◌, ℕ, List, [], ◌∷◌, ◌++◌, map, refl}
 use Rattle.cep_parse.specs.declared.raw.RawNode.{RawNode}
-use Rattle.cep_names.specs.Variables.{blanks_behind}
+use Rattle.cep_source.specs.Variables.{blanks_behind}
 use Rattle.cep_types.specs.Sites.{Site}
 use Rattle.cep_types.specs.Heads.{blanks_after}
 

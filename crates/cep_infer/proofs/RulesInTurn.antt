@@ -1,36 +1,27 @@
 -- Rules are built one after another.
-use Rattle.std.proofs.Common.{◌≡◌, ℕ, suc, ◌+◌, ◌<◌, List, [], ◌∷◌, ◌++◌, map, length, take, drop, get_or, refl, ap, sym, subst, ◌∙◌, append_assoc}
+use Rattle.std.proofs.Common.{◌≡◌, ℕ, suc, ◌+◌, ◌<◌, List, [], ◌∷◌, ◌++◌, map, length, take, drop, get_or, refl, ap, sym, subst, ◌∙◌}
 use Rattle.std.specs.List.{flat_map}
 use Rattle.std.proofs.lemmas.List.{map-append, take_more, drop_more}
 use Rattle.cep_parse.specs.declared.raw.Span.{Span}
 use Rattle.cep_parse.specs.declared.raw.RawElem.{RawElem}
-use Rattle.cep_parse.specs.declared.raw.RawItem.{RawItem}
 use Rattle.cep_rule.specs.declared.rule.Rule.{Rule}
-use Rattle.cep_names.specs.declared.space.Space.TheVariants as space
-use Rattle.cep_names.specs.Items.{Source, RuleItem, said, rules_in, rules_from, stages_behind}
-use Rattle.cep_names.specs.Spaces.{Named, rule_name, unlabelled_behind, rule_names_from}
+use Rattle.cep_source.specs.declared.space.Space.TheVariants as space
+use Rattle.cep_source.specs.Items.{Source, RuleItem, said}
+use Rattle.cep_source.specs.Spaces.{Named, rule_name, unlabelled_behind, rule_names_from}
 use Rattle.cep_parse.specs.Raw.{atoms_of, raw_nodes}
 use Rattle.cep_types.specs.declared.variables.Variables.{Variables}
 use Rattle.cep_types.specs.Sites.{rule_scope}
 use Rattle.cep_infer.specs.Heads.{AreAtomsBy}
+use Rattle.cep_source.proofs.Declaring.{unlabelled_over}
 use Rattle.cep_types.specs.Heads.{blanks_after, number_of}
 use Rattle.cep_types.specs.Met.{AreMet, none_met, names_seen, kinds_met}
 use Rattle.cep_infer.specs.declared.left.LeftSide.{LeftSide}
-use Rattle.cep_infer.specs.declared.listing.RuleRef.{RuleRef}
+use Rattle.cep_source.specs.declared.items.RuleRef.{RuleRef}
 use Rattle.cep_infer.specs.Meaning.{IsRuleBy, AreRulesBy, ArePremisesBy, group_of, next_of, stages_in_elem, first_stage}
 use Rattle.cep_infer.specs.Built.{IsLeftBuilt}
-use Rattle.cep_infer.specs.Listed.{rule_item}
+use Rattle.cep_source.specs.Kept.{rule_item}
 use Rattle.cep_infer.proofs.FirstOccurrences.{names_met, kinds_are_met}
 use Rattle.cep_infer.proofs.Building.{rules_more}
-
--- how many rules without a label there are behind some
-abbrev pub unlabelled_over : ℕ → List RuleItem → ℕ
-unlabelled_over unlabelled [] = unlabelled
-unlabelled_over unlabelled (rule ∷ rules) = unlabelled_over (unlabelled_behind unlabelled rule.raw.label) rules
-
-over_more : (unlabelled : ℕ) (items : List RuleItem) (item : RuleItem) → unlabelled_over unlabelled (items ++ item ∷ []) ≡ unlabelled_behind (unlabelled_over unlabelled items) item.raw.label
-over_more unlabelled [] item = refl
-over_more unlabelled (x ∷ items) item = over_more (unlabelled_behind unlabelled x.raw.label) items item
 
 names_more : (source : Source) (unlabelled : ℕ) (items : List RuleItem) (item : RuleItem)
     → map (λ (n : Named). n.name) (rule_names_from source unlabelled (items ++ item ∷ [])) ≡ map (λ (n : Named). n.name) (rule_names_from source unlabelled items) ++ rule_name source (unlabelled_over unlabelled items) item.raw.label ∷ []
@@ -41,27 +32,12 @@ names_count : (source : Source) (unlabelled : ℕ) (items : List RuleItem) → l
 names_count source unlabelled [] = refl
 names_count source unlabelled (x ∷ items) = ap suc (names_count source (unlabelled_behind unlabelled x.raw.label) items)
 
--- the rules of one item more
-pub item_listed : (items : List RawItem) (i : ℕ) (item : RawItem) (stages behind : ℕ) (old new all : List RuleItem) → i < length items → item ≡ get_or items i item
-    → behind ≡ stages_behind stages item → new ≡ old ++ rules_in stages item → old ++ rules_from stages (drop i items) ≡ all → new ++ rules_from behind (drop (i + 1) items) ≡ all
-item_listed items i item stages behind old new all h at behind_is new_is was =
-    ap (λ (rules : List RuleItem). rules ++ rules_from behind rest) new_is ∙ append_assoc old (rules_in stages item) (rules_from behind rest) ∙ ap (λ (rules : List RuleItem). old ++ rules) (sym here) ∙ was
-  where
-    rest : List RawItem
-    rest = drop (i + 1) items
-
-    here : rules_from stages (drop i items) ≡ rules_in stages item ++ rules_from behind rest
-    here = ap (rules_from stages) (drop_more items i item h ∙ ap (λ (next : RawItem). next ∷ rest) (sym at)) ∙ ap (λ n. rules_in stages item ++ rules_from n rest) (sym behind_is)
-
 module _ (source : Source) (refs : List RuleRef) (i : ℕ) (d : RuleRef) (h : i < length refs) where
   abbrev before : List RuleItem
   before = map rule_item (take i refs)
 
   items_are : map rule_item (take (i + 1) refs) ≡ before ++ rule_item (get_or refs i d) ∷ []
   items_are = ap (map rule_item) (take_more refs i d h) ∙ map-append rule_item (take i refs) (get_or refs i d ∷ [])
-
-  pub unlabelled_more : (old new : ℕ) → old ≡ unlabelled_over 0 before → new ≡ unlabelled_behind old (get_or refs i d).raw.now.label → new ≡ unlabelled_over 0 (map rule_item (take (i + 1) refs))
-  unlabelled_more old new was is = is ∙ ap (λ n. unlabelled_behind n (get_or refs i d).raw.now.label) was ∙ sym (ap (unlabelled_over 0) items_are ∙ over_more 0 before (rule_item (get_or refs i d)))
 
   pub rule_more : (old : ℕ) (rules new : List Rule) (rule : Rule) → old ≡ unlabelled_over 0 before → AreRulesBy source (map (λ (n : Named). n.name) (rule_names_from source 0 before)) before rules
       → IsRuleBy source (rule_name source old (get_or refs i d).raw.now.label) (rule_item (get_or refs i d)) rule → new ≡ rules ++ rule ∷ []

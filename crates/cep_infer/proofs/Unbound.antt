@@ -9,10 +9,10 @@ use Rattle.cep_parse.specs.declared.raw.Span.{Span}
 use Rattle.cep_parse.specs.declared.raw.RawNode.{RawNode}
 use Rattle.cep_parse.specs.declared.raw.RawAtom.{RawAtom}
 use Rattle.cep_parse.specs.declared.raw.RawElem.{RawElem}
-use Rattle.cep_names.specs.Items.{Source, RuleItem}
-use Rattle.cep_names.specs.Misnamed.{is_declared}
+use Rattle.cep_source.specs.Items.{Source, RuleItem}
+use Rattle.cep_source.specs.Misnamed.{is_declared}
 use Rattle.cep_parse.specs.Raw.{atoms_in, atoms_of, raw_nodes}
-use Rattle.cep_names.specs.Variables.{Occurrence, occurrence_at, occurrences_from, blanks_behind}
+use Rattle.cep_source.specs.Variables.{Occurrence, occurrence_at, occurrences_from, blanks_behind}
 use Rattle.cep_types.specs.declared.variables.Variables.{Variables}
 use Rattle.cep_types.specs.Heads.{blanks_after}
 use Rattle.cep_types.specs.Met.{is_met, names_seen, none_met, AreMet}

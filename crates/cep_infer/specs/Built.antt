@@ -5,7 +5,7 @@ use Rattle.cep_parse.specs.declared.raw.RawAtom.{RawAtom}
 use Rattle.cep_parse.specs.declared.raw.RawElem.{RawElem}
 use Rattle.cep_term.specs.Tree.{AtomTree}
 use Rattle.cep_rule.specs.Patterns.{PremiseTree}
-use Rattle.cep_names.specs.Items.{Source}
+use Rattle.cep_source.specs.Items.{Source}
 use Rattle.cep_parse.specs.Raw.{atoms_of, raw_nodes}
 use Rattle.cep_infer.specs.Heads.{AreAtomsBy}
 use Rattle.cep_types.specs.Heads.{blanks_after}

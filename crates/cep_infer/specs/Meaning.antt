@@ -17,13 +17,13 @@ use Rattle.cep_rule.specs.declared.rule.Rule.{Rule}
 use Rattle.cep_rule.specs.declared.parts.Stage.{Stage}
 use Rattle.cep_rule.specs.declared.parts.Parts.{Parts}
 use Rattle.cep_rule.specs.Patterns.{PremiseTree, ClauseTree}
-use Rattle.cep_names.specs.declared.space.Space.TheVariants as space
-use Rattle.cep_names.specs.Items.{Source, PredItem, ConItem, ClauseItem, RuleItem, TraceItem, said, is_said, sorts_of, preds_of, cons_of, stages_of, interactives_of, clauses_of, rules_of, traces_of}
-use Rattle.cep_names.specs.Spaces.{names_in}
+use Rattle.cep_source.specs.declared.space.Space.TheVariants as space
+use Rattle.cep_source.specs.Items.{Source, PredItem, ConItem, ClauseItem, RuleItem, TraceItem, said, is_said, sorts_of, preds_of, cons_of, stages_of, interactives_of, clauses_of, rules_of, traces_of}
+use Rattle.cep_source.specs.Spaces.{names_in}
 use Rattle.cep_parse.specs.Raw.{atoms_of, raw_nodes}
-use Rattle.cep_names.specs.Variables.{variables_of}
-use Rattle.cep_names.specs.Starts.{start_atoms}
-use Rattle.cep_names.specs.Misnamed.{turns_said}
+use Rattle.cep_source.specs.Variables.{variables_of}
+use Rattle.cep_source.specs.Starts.{start_atoms}
+use Rattle.cep_source.specs.Misnamed.{turns_said}
 use Rattle.cep_types.specs.Sites.{type_of, rule_scope, clause_scope}
 use Rattle.cep_types.specs.Heads.{number_of, sorts_said, blanks_after}
 use Rattle.cep_infer.specs.Heads.{IsAtomBy, AreAtomsBy}

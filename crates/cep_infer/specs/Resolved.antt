@@ -1,9 +1,9 @@
 -- What a text comes to: a draft, or why it is refused.
 use Rattle.std.specs.Prelude.{◌⊎◌, Result, Ok, Err}
 use Rattle.cep_refusal.specs.declared.fault.Fault.{Fault}
-use Rattle.cep_names.specs.Items.{Source}
+use Rattle.cep_source.specs.Items.{Source}
 use Rattle.cep_refusal.specs.First.{IsFirst}
-use Rattle.cep_names.specs.Misnamed.{Misnamed}
+use Rattle.cep_source.specs.Misnamed.{Misnamed}
 use Rattle.cep_types.specs.Sites.{Mistyped}
 use Rattle.cep_infer.specs.declared.draft.Draft.{Draft}
 use Rattle.cep_refusal.specs.declared.refusal.Refusal.{Refusal}

@@ -6,8 +6,8 @@ use Rattle.cep_parse.specs.Symbols.{symbols_of}
 use Rattle.cep_parse.specs.Grammar.{File}
 use Rattle.cep_parse.specs.Files.{IsShallow}
 use Rattle.cep_parse.specs.Written.{Fill}
-use Rattle.cep_names.specs.Items.{Source}
-use Rattle.cep_names.specs.Uses.{Placed, placed_of}
+use Rattle.cep_source.specs.Items.{Source}
+use Rattle.cep_source.specs.Uses.{Placed, placed_of}
 
 -- The file is the raw file of the text's tokens, with never too many parentheses open.
 pub record IsSource (source : Source) : Type 0 where

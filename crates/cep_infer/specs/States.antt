@@ -4,10 +4,10 @@ use Rattle.std.specs.List.{AllByRecursion}
 use Rattle.cep_parse.specs.declared.raw.RawKind.TheVariants as kind
 use Rattle.cep_parse.specs.declared.raw.RawNode.{RawNode}
 use Rattle.cep_parse.specs.declared.raw.RawAtom.{RawAtom}
-use Rattle.cep_names.specs.declared.space.Role.{Role}
-use Rattle.cep_names.specs.Items.{Source}
-use Rattle.cep_names.specs.Uses.{placed, placed_of, is_context}
-use Rattle.cep_names.specs.Misnamed.{IsOfState}
+use Rattle.cep_source.specs.declared.space.Role.{Role}
+use Rattle.cep_source.specs.Items.{Source}
+use Rattle.cep_source.specs.Uses.{placed, placed_of, is_context}
+use Rattle.cep_source.specs.Misnamed.{IsOfState}
 
 -- An atom of a start state: it stands in a context or in the braces of a trace, and stands for itself.
 pub record IsStateWritten (source : Source) (raw : RawAtom) : Type 0 where

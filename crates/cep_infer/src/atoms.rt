@@ -8,82 +8,83 @@ ghost use Rattle.cep_infer.specs.Built.{AreBuilt};
 use crate::terms::read_atom;
 use cep_parse::{RawAtom, RawElem};
 use cep_rule::AtomList;
-use cep_types::{Declarations, Variables};
+use cep_source::Source;
+use cep_types::Variables;
 use std::alloc::AllocError;
 
 // Adds the atom that is written, before which so many blanks stand.
 pub(crate) fn push_atom(
-    declared: &Declarations,
+    source: &Source,
     variables: &Variables,
     raw: &RawAtom,
     blanks: &mut u64,
     atoms: &mut AtomList,
 ) -> Result<(), AllocError>
-    ensures { OnOk result (AreBuilt declared.now (names_seen variables.now.firsts) (raw.now ∷ []) blanks.old blanks.new atoms.old atoms.new) }
+    ensures { OnOk result (AreBuilt source.now (names_seen variables.now.firsts) (raw.now ∷ []) blanks.old blanks.new atoms.old atoms.new) }
 {
-    let atom = read_atom(declared, variables, blanks, raw)?;
+    let atom = read_atom(source, variables, blanks, raw)?;
     atoms.push(atom)
 }
 
 // Adds the atoms that are written.
 pub(crate) fn push_atoms(
-    declared: &Declarations,
+    source: &Source,
     variables: &Variables,
     raws: &[RawAtom],
     blanks: &mut u64,
     atoms: &mut AtomList,
 ) -> Result<(), AllocError>
-    ensures { OnOk result (AreBuilt declared.now (names_seen variables.now.firsts) raws.now blanks.old blanks.new atoms.old atoms.new) }
+    ensures { OnOk result (AreBuilt source.now (names_seen variables.now.firsts) raws.now blanks.old blanks.new atoms.old atoms.new) }
 {
     for raw in raws {
-        push_atom(declared, variables, raw, blanks, atoms)?;
+        push_atom(source, variables, raw, blanks, atoms)?;
     }
     Ok(())
 }
 
 // The atoms that are written, before which so many blanks stand.
 pub(crate) fn read_atoms(
-    declared: &Declarations,
+    source: &Source,
     variables: &Variables,
     raws: &[RawAtom],
     blanks: u64,
 ) -> Result<AtomList, AllocError>
-    ensures { IfOk result (λ atoms. AreAtomsBy declared.now (names_seen variables.now.firsts) blanks raws.now atoms) }
+    ensures { IfOk result (λ atoms. AreAtomsBy source.now (names_seen variables.now.firsts) blanks raws.now atoms) }
 {
     let mut behind = blanks;
-    let mut atoms = AtomList::new(declared.alloc());
-    push_atoms(declared, variables, raws, &mut behind, &mut atoms)?;
+    let mut atoms = AtomList::new(source.alloc());
+    push_atoms(source, variables, raws, &mut behind, &mut atoms)?;
     Ok(atoms)
 }
 
 fn push_elem(
-    declared: &Declarations,
+    source: &Source,
     variables: &Variables,
     elem: &RawElem,
     blanks: &mut u64,
     atoms: &mut AtomList,
 ) -> Result<(), AllocError>
-    ensures { OnOk result (AreBuilt declared.now (names_seen variables.now.firsts) (atoms_in elem.now) blanks.old blanks.new atoms.old atoms.new) }
+    ensures { OnOk result (AreBuilt source.now (names_seen variables.now.firsts) (atoms_in elem.now) blanks.old blanks.new atoms.old atoms.new) }
 {
     match elem.atom() {
-        Some(atom) => push_atom(declared, variables, atom, blanks, atoms),
+        Some(atom) => push_atom(source, variables, atom, blanks, atoms),
         None => Ok(()),
     }
 }
 
 // The atoms of a side, before which so many blanks stand.
 pub(crate) fn read_side(
-    declared: &Declarations,
+    source: &Source,
     variables: &Variables,
     side: &[RawElem],
     blanks: u64,
 ) -> Result<AtomList, AllocError>
-    ensures { IfOk result (λ atoms. AreAtomsBy declared.now (names_seen variables.now.firsts) blanks (atoms_of side.now) atoms) }
+    ensures { IfOk result (λ atoms. AreAtomsBy source.now (names_seen variables.now.firsts) blanks (atoms_of side.now) atoms) }
 {
     let mut behind = blanks;
-    let mut atoms = AtomList::new(declared.alloc());
+    let mut atoms = AtomList::new(source.alloc());
     for elem in side {
-        push_elem(declared, variables, elem, &mut behind, &mut atoms)?;
+        push_elem(source, variables, elem, &mut behind, &mut atoms)?;
     }
     Ok(atoms)
 }

@@ -8,8 +8,9 @@ ghost use Rattle.cep_infer.specs.Built.{IsLeftBuilt};
 use crate::terms::read_atom;
 use cep_parse::RawElem;
 use cep_rule::{AtomList, Premise, Premises};
+use cep_source::{Source, item_at};
 use cep_term::Atom;
-use cep_types::{Declarations, Variables, item_at};
+use cep_types::Variables;
 use std::alloc::{AllocError, Global};
 
 /// The premises of a left side, the linear ones and the backward ones.
@@ -45,28 +46,28 @@ impl LeftSide {
 }
 
 // Whether clauses define the predicate of an atom.
-fn is_back(declared: &Declarations, atom: &Atom) -> bool
-    ensures { result ≡ is_back declared.now (atom_of atom.now) }
+fn is_back(source: &Source, atom: &Atom) -> bool
+    ensures { result ≡ is_back source.now (atom_of atom.now) }
 {
-    match item_at(declared.preds(), atom.pred as usize) {
+    match item_at(source.preds(), atom.pred as usize) {
         Some(pred) => pred.back,
         None => false,
     }
 }
 
 fn push_premise(
-    declared: &Declarations,
+    source: &Source,
     variables: &Variables,
     elem: &RawElem,
     blanks: &mut u64,
     left: &mut LeftSide,
 ) -> Result<(), AllocError>
-    ensures { OnOk result (IsLeftBuilt declared.now (names_seen variables.now.firsts) (elem.now ∷ []) blanks.old blanks.new left.old left.new) }
+    ensures { OnOk result (IsLeftBuilt source.now (names_seen variables.now.firsts) (elem.now ∷ []) blanks.old blanks.new left.old left.new) }
 {
     match elem {
         RawElem::Atom { kept, atom } => {
-            let atom = read_atom(declared, variables, blanks, atom)?;
-            let back = is_back(declared, &atom);
+            let atom = read_atom(source, variables, blanks, atom)?;
+            let back = is_back(source, &atom);
             left.push(back, *kept, atom)
         }
         RawElem::Qui(_) | RawElem::Stage(_) => Ok(()),
@@ -75,16 +76,16 @@ fn push_premise(
 
 // The premises of a left side, before which so many blanks stand.
 pub(crate) fn read_left(
-    declared: &Declarations,
+    source: &Source,
     variables: &Variables,
     side: &[RawElem],
     blanks: &mut u64,
 ) -> Result<LeftSide, AllocError>
-    ensures { IfOk result (IsLeftBuilt declared.now (names_seen variables.now.firsts) side.now blanks.old blanks.new (record { premises = []; backs = [] })) }
+    ensures { IfOk result (IsLeftBuilt source.now (names_seen variables.now.firsts) side.now blanks.old blanks.new (record { premises = []; backs = [] })) }
 {
-    let mut left = LeftSide::new(declared.alloc());
+    let mut left = LeftSide::new(source.alloc());
     for elem in side {
-        push_premise(declared, variables, elem, blanks, &mut left)?;
+        push_premise(source, variables, elem, blanks, &mut left)?;
     }
     Ok(left)
 }

@@ -7,7 +7,6 @@ mod clauses;
 mod draft;
 pub mod laws;
 mod left;
-mod listing;
 mod places;
 mod resolving;
 mod rules;

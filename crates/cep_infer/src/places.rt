@@ -2,21 +2,21 @@
 ghost use Rattle.std.specs.Prelude.{◌≡◌, ◌<◌, ◌≤◌, ◌+◌, ◌^◌, ◌++◌, ◌∷◌, [], ℕ, List, length, take, true, not, if◌then◌else◌, map, filter, option_to_list, IfOk, OnOk};
 ghost use Rattle.cep_base.specs.declared.limits.TheConstants.{MOST_TEXT};
 ghost use Rattle.cep_lex.specs.Places.{IsPlaceBehind};
-ghost use Rattle.cep_names.specs.Misnamed.{is_declared};
-ghost use Rattle.cep_names.specs.Spaces.{back_of};
+ghost use Rattle.cep_source.specs.Misnamed.{is_declared};
+ghost use Rattle.cep_source.specs.Spaces.{back_of};
 ghost use Rattle.cep_parse.specs.Raw.{atoms_in, atoms_of, raw_nodes};
-ghost use Rattle.cep_names.specs.Variables.{occurrence_at, occurrences_from};
+ghost use Rattle.cep_source.specs.Variables.{occurrence_at, occurrences_from};
 ghost use Rattle.cep_types.specs.Heads.{blanks_after};
 ghost use Rattle.cep_types.specs.Met.{is_met};
 ghost use Rattle.cep_infer.specs.Places.{IsReached, ArePlaces, ArePlaceLists, backs_at, unbound_at};
-ghost use Rattle.cep_infer.specs.Listed.{rule_item};
+ghost use Rattle.cep_source.specs.Kept.{rule_item};
 
 use crate::draft::{PlaceLists, Places};
-use crate::listing::RuleRef;
 use crate::terms::blanks_behind;
 use cep_base::Pos;
 use cep_parse::{RawAtom, RawElem, RawKind, RawNode};
-use cep_types::{Declarations, Variables, blank_name, next_blank};
+use cep_source::{RuleRef, Source};
+use cep_types::{Variables, blank_name, next_blank};
 use std::alloc::{AllocError, Global};
 
 /// A place in a text, in bytes from the front, and its line and column.
@@ -107,32 +107,29 @@ fn place_all(
 }
 
 // Whether the predicate of an atom is a backward one.
-fn is_backward(declared: &Declarations, atom: &RawAtom) -> bool
-    ensures { result ≡ is_declared true (back_of declared.now atom.now) }
+fn is_backward(source: &Source, atom: &RawAtom) -> bool
+    ensures { result ≡ is_declared true (back_of source.now atom.now) }
 {
-    declared
-        .names()
-        .back(declared.said(atom.name))
-        .unwrap_or(false)
+    source.back(atom.name).unwrap_or(false)
 }
 
 // The place of an element that is a backward premise.
-fn back_at(declared: &Declarations, elem: &RawElem) -> Option<u32>
-    ensures { option_to_list result ≡ map (λ atom. atom.name.from) (filter (λ atom. is_declared true (back_of declared.now atom)) (atoms_in elem.now)) }
+fn back_at(source: &Source, elem: &RawElem) -> Option<u32>
+    ensures { option_to_list result ≡ map (λ atom. atom.name.from) (filter (λ atom. is_declared true (back_of source.now atom)) (atoms_in elem.now)) }
 {
     match elem.atom() {
-        Some(atom) if is_backward(declared, atom) => Some(atom.name.from),
+        Some(atom) if is_backward(source, atom) => Some(atom.name.from),
         _ => None,
     }
 }
 
 // The places of the backward premises of a left side.
-fn backs_at(declared: &Declarations, side: &[RawElem]) -> Result<Vec<u32>, AllocError>
-    ensures { IfOk result (λ ats. ats.items ≡ map (λ atom. atom.name.from) (filter (λ atom. is_declared true (back_of declared.now atom)) (atoms_of side.now))) }
+fn backs_at(source: &Source, side: &[RawElem]) -> Result<Vec<u32>, AllocError>
+    ensures { IfOk result (λ ats. ats.items ≡ map (λ atom. atom.name.from) (filter (λ atom. is_declared true (back_of source.now atom)) (atoms_of side.now))) }
 {
-    let mut ats = Vec::new(declared.alloc());
+    let mut ats = Vec::new(source.alloc());
     for elem in side {
-        if let Some(at) = back_at(declared, elem) {
+        if let Some(at) = back_at(source, elem) {
             ats.push(at)?;
         }
     }
@@ -141,18 +138,18 @@ fn backs_at(declared: &Declarations, side: &[RawElem]) -> Result<Vec<u32>, Alloc
 
 // Whether a node is a variable that is not on the left, or a blank.
 fn is_unbound(
-    declared: &Declarations,
+    source: &Source,
     left: &Variables,
     blanks: u64,
     node: &RawNode,
 ) -> Result<bool, AllocError>
-    ensures { IfOk result (λ unbound. (if unbound then node.now.at.from ∷ [] else []) ≡ map (λ occurrence. occurrence.at.from) (filter (λ occurrence. not (is_met left.now.firsts occurrence.name)) (occurrence_at declared.now blanks node.now.at node.now.kind))) }
+    ensures { IfOk result (λ unbound. (if unbound then node.now.at.from ∷ [] else []) ≡ map (λ occurrence. occurrence.at.from) (filter (λ occurrence. not (is_met left.now.firsts occurrence.name)) (occurrence_at source.now blanks node.now.at node.now.kind))) }
 {
     match node.kind {
         RawKind::App => Ok(false),
-        RawKind::Var => Ok(!left.firsts.has(declared.said(node.at))),
+        RawKind::Var => Ok(!left.firsts.has(source.said(node.at))),
         RawKind::Blank => {
-            let name = blank_name(declared.alloc(), next_blank(blanks)?)?;
+            let name = blank_name(source.alloc(), next_blank(blanks)?)?;
             Ok(!left.firsts.has(name.bytes()))
         }
     }
@@ -160,15 +157,15 @@ fn is_unbound(
 
 // Adds the place of a node that is unbound.
 fn push_node(
-    declared: &Declarations,
+    source: &Source,
     left: &Variables,
     blanks: u64,
     node: &RawNode,
     ats: &mut Vec<u32>,
 ) -> Result<(), AllocError>
-    ensures { OnOk result (ats.new.items ≡ ats.old.items ++ map (λ occurrence. occurrence.at.from) (filter (λ occurrence. not (is_met left.now.firsts occurrence.name)) (occurrence_at declared.now blanks node.now.at node.now.kind))) }
+    ensures { OnOk result (ats.new.items ≡ ats.old.items ++ map (λ occurrence. occurrence.at.from) (filter (λ occurrence. not (is_met left.now.firsts occurrence.name)) (occurrence_at source.now blanks node.now.at node.now.kind))) }
 {
-    if is_unbound(declared, left, blanks, node)? {
+    if is_unbound(source, left, blanks, node)? {
         ats.push(node.at.from)?;
     }
     Ok(())
@@ -176,77 +173,67 @@ fn push_node(
 
 // The places of the unbound ones among nodes.
 fn push_unbound(
-    declared: &Declarations,
+    source: &Source,
     left: &Variables,
     blanks: &mut u64,
     nodes: &[RawNode],
     ats: &mut Vec<u32>,
 ) -> Result<(), AllocError>
-    ensures ats { OnOk result (ats.new.items ≡ ats.old.items ++ map (λ occurrence. occurrence.at.from) (filter (λ occurrence. not (is_met left.now.firsts occurrence.name)) (occurrences_from declared.now blanks.old nodes.now))) }
+    ensures ats { OnOk result (ats.new.items ≡ ats.old.items ++ map (λ occurrence. occurrence.at.from) (filter (λ occurrence. not (is_met left.now.firsts occurrence.name)) (occurrences_from source.now blanks.old nodes.now))) }
     ensures blanks { OnOk result (blanks.new ≡ blanks_after blanks.old nodes.now) }
 {
     for node in nodes {
-        push_node(declared, left, *blanks, node, ats)?;
+        push_node(source, left, *blanks, node, ats)?;
         *blanks = blanks_behind(*blanks, node.kind)?;
     }
     Ok(())
 }
 
 // The places of the unbound ones of a side.
-fn unbound_in(
-    declared: &Declarations,
-    left: &Variables,
-    side: &[RawElem],
-) -> Result<Vec<u32>, AllocError>
-    ensures { IfOk result (λ ats. ats.items ≡ map (λ occurrence. occurrence.at.from) (filter (λ occurrence. not (is_met left.now.firsts occurrence.name)) (occurrences_from declared.now left.now.blanks (raw_nodes (atoms_of side.now))))) }
+fn unbound_in(source: &Source, left: &Variables, side: &[RawElem]) -> Result<Vec<u32>, AllocError>
+    ensures { IfOk result (λ ats. ats.items ≡ map (λ occurrence. occurrence.at.from) (filter (λ occurrence. not (is_met left.now.firsts occurrence.name)) (occurrences_from source.now left.now.blanks (raw_nodes (atoms_of side.now))))) }
 {
     let mut blanks = left.blanks;
-    let mut ats = Vec::new(declared.alloc());
+    let mut ats = Vec::new(source.alloc());
     for elem in side {
-        push_unbound(declared, left, &mut blanks, elem.nodes(), &mut ats)?;
+        push_unbound(source, left, &mut blanks, elem.nodes(), &mut ats)?;
     }
     Ok(ats)
 }
 
 // The places of the unbound ones of a rule.
-fn unbound_at(declared: &Declarations, item: &RuleRef) -> Result<Vec<u32>, AllocError>
-    ensures { IfOk result (λ ats. ats.items ≡ unbound_at declared.now (rule_item item.now)) }
+fn unbound_at(source: &Source, item: &RuleRef) -> Result<Vec<u32>, AllocError>
+    ensures { IfOk result (λ ats. ats.items ≡ unbound_at source.now (rule_item item.now)) }
 {
-    let mut left = Variables::new(declared.alloc());
-    left.meet_side(declared, item.raw.left.as_slice())?;
-    unbound_in(declared, &left, item.raw.right.as_slice())
+    let mut left = Variables::new(source.alloc());
+    left.meet_side(source, item.raw.left.as_slice())?;
+    unbound_in(source, &left, item.raw.right.as_slice())
 }
 
 // For each rule the places of its backward premises.
-pub(crate) fn back_places(
-    declared: &Declarations,
-    rules: &[RuleRef],
-) -> Result<PlaceLists, AllocError>
-    requires { length declared.now.text ≤ MOST_TEXT }
-    ensures { IfOk result (λ lists. ArePlaceLists declared.now.text (map (λ rule. backs_at declared.now (rule_item rule)) rules.now) lists) }
+pub(crate) fn back_places(source: &Source, rules: &[RuleRef]) -> Result<PlaceLists, AllocError>
+    requires { length source.now.text ≤ MOST_TEXT }
+    ensures { IfOk result (λ lists. ArePlaceLists source.now.text (map (λ rule. backs_at source.now (rule_item rule)) rules.now) lists) }
 {
     let mut reached = FRONT;
-    let mut lists = PlaceLists::new(declared.alloc());
+    let mut lists = PlaceLists::new(source.alloc());
     for rule in rules {
-        let ats = backs_at(declared, rule.raw.left.as_slice())?;
-        lists.push(place_all(declared.alloc(), declared.text(), &mut reached, &ats)?)?;
+        let ats = backs_at(source, rule.raw.left.as_slice())?;
+        lists.push(place_all(source.alloc(), source.text(), &mut reached, &ats)?)?;
     }
     Ok(lists)
 }
 
 // For each rule the places of what is unbound on its right side.
-pub(crate) fn right_places(
-    declared: &Declarations,
-    rules: &[RuleRef],
-) -> Result<PlaceLists, AllocError>
-    requires { length declared.now.text ≤ MOST_TEXT }
-    ensures { IfOk result (λ lists. ArePlaceLists declared.now.text (map (λ rule. unbound_at declared.now (rule_item rule)) rules.now) lists) }
+pub(crate) fn right_places(source: &Source, rules: &[RuleRef]) -> Result<PlaceLists, AllocError>
+    requires { length source.now.text ≤ MOST_TEXT }
+    ensures { IfOk result (λ lists. ArePlaceLists source.now.text (map (λ rule. unbound_at source.now (rule_item rule)) rules.now) lists) }
 {
     let mut reached = FRONT;
-    let mut lists = PlaceLists::new(declared.alloc());
+    let mut lists = PlaceLists::new(source.alloc());
     for rule in rules {
-        let ats = unbound_at(declared, rule)?;
-        lists.push(place_all(declared.alloc(), declared.text(), &mut reached, &ats)?)?;
+        let ats = unbound_at(source, rule)?;
+        lists.push(place_all(source.alloc(), source.text(), &mut reached, &ats)?)?;
     }
     Ok(lists)
 }

@@ -1,114 +1,110 @@
 ghost use Rattle.std.specs.Prelude.{◌≡◌, ◌≤◌, Some, length, map, take, IfOk, MatchResult};
 ghost use Rattle.cep_base.specs.declared.limits.TheConstants.{MOST_TEXT};
 ghost use Rattle.std.specs.Option.{option_and_then};
-ghost use Rattle.cep_names.specs.Items.{rules_of, traces_of};
-ghost use Rattle.cep_names.specs.Misnamed.{turns_said};
-ghost use Rattle.cep_names.specs.Named.{AreNamedRight};
+ghost use Rattle.cep_source.specs.Items.{rules_of, traces_of};
+ghost use Rattle.cep_source.specs.Misnamed.{turns_said};
 ghost use Rattle.cep_infer.specs.Shapes.{IsSource};
 ghost use Rattle.cep_infer.specs.Meaning.{AreParts};
 ghost use Rattle.cep_infer.specs.Places.{IsDraft};
-ghost use Rattle.cep_infer.specs.Listed.{rule_item, IsFirstTrace};
+ghost use Rattle.cep_source.specs.Kept.{rule_item};
+ghost use Rattle.cep_infer.specs.Listed.{IsFirstTrace};
 ghost use Rattle.cep_infer.specs.Resolved.{IsWellNamed, IsFirstFault, IsResolved, IsSound, IsTypedDraft};
 
 use crate::clauses::read_clauses;
 use crate::draft::Draft;
-use crate::listing::{RuleRef, TraceRef, first_trace, rule_refs};
 use crate::places::{back_places, right_places};
 use crate::rules::read_rules;
 use crate::signature::{read_signature, read_stages};
 use crate::start::read_start;
-use cep_faults::named;
-use cep_names::{Names, Space, turns_said};
+use cep_faults::name_fault;
 use cep_parse::{RawFile, Span};
 use cep_refusal::{Fault, Refusal};
 use cep_rule::Parts;
-use cep_types::Declarations;
+use cep_source::{RuleRef, Source, Space, TraceRef, item_at, turns_said};
+use cep_types::{number, type_fault};
 use std::alloc::{AllocError, Global};
 
 // The number of turns.
-fn turns(declared: &Declarations, limit: Option<Span>) -> Option<u32>
-    ensures { result ≡ option_and_then (turns_said declared.now.text) limit }
+fn turns(source: &Source, limit: Option<Span>) -> Option<u32>
+    ensures { result ≡ option_and_then (turns_said source.now.text) limit }
 {
-    turns_said(declared.text(), limit?)
+    turns_said(source.text(), limit?)
 }
 
 // The parts of a program, where these are its rules, and it starts as the first trace says. They
 // are made in an order that leaves little to give up where one fails.
-fn parts_from(
-    declared: &Declarations,
-    rules: &[RuleRef],
-    trace: &TraceRef,
-) -> Result<Parts, AllocError>
-    requires named { IsWellNamed declared.now }
-    requires all { map rule_item rules.now ≡ rules_of declared.now }
-    requires first { IsFirstTrace (traces_of declared.now) (Some trace.now) }
-    ensures { IfOk result (λ parts. AreParts declared.now parts) }
+fn parts_from(source: &Source, rules: &[RuleRef], trace: &TraceRef) -> Result<Parts, AllocError>
+    requires named { IsWellNamed source.now }
+    requires all { map rule_item rules.now ≡ rules_of source.now }
+    requires first { IsFirstTrace (traces_of source.now) (Some trace.now) }
+    ensures { IfOk result (λ parts. AreParts source.now parts) }
 {
     Ok(Parts {
-        turns: turns(declared, trace.limit),
-        start_stage: declared.number(Space::Stages, trace.stage)?,
-        stages: read_stages(declared)?,
-        start: read_start(declared, trace)?,
-        clauses: read_clauses(declared)?,
-        rules: read_rules(declared, rules)?,
-        signature: read_signature(declared)?,
+        turns: turns(source, trace.limit),
+        start_stage: number(source, Space::Stages, trace.stage)?,
+        stages: read_stages(source)?,
+        start: read_start(source, trace)?,
+        clauses: read_clauses(source)?,
+        rules: read_rules(source, rules)?,
+        signature: read_signature(source)?,
     })
 }
 
 // The draft of a text without wrong names that starts as the first trace says. The parts come last,
 // so that nothing fails while they are held.
-fn draft_from(declared: &Declarations, trace: &TraceRef) -> Result<Draft, AllocError>
-    requires short { length declared.now.text ≤ MOST_TEXT }
-    requires named { IsWellNamed declared.now }
-    requires first { IsFirstTrace (traces_of declared.now) (Some trace.now) }
-    ensures { IfOk result (λ draft. IsDraft declared.now draft) }
+fn draft_from(source: &Source, trace: &TraceRef) -> Result<Draft, AllocError>
+    requires short { length source.now.text ≤ MOST_TEXT }
+    requires named { IsWellNamed source.now }
+    requires first { IsFirstTrace (traces_of source.now) (Some trace.now) }
+    ensures { IfOk result (λ draft. IsDraft source.now draft) }
 {
-    let rules = rule_refs(declared)?;
+    let rules = source.rules();
     Ok(Draft {
-        back_places: back_places(declared, &rules)?,
-        right_places: right_places(declared, &rules)?,
-        parts: parts_from(declared, &rules, trace)?,
+        back_places: back_places(source, rules)?,
+        right_places: right_places(source, rules)?,
+        parts: parts_from(source, rules, trace)?,
     })
 }
 
-// The draft of a text without wrong names, or the first fault of its types.
-fn typed(declared: &Declarations) -> Result<Result<Draft, Fault>, AllocError>
-    requires short { length declared.now.text ≤ MOST_TEXT }
-    requires named { IsWellNamed declared.now }
-    ensures { IfOk result (λ answer. IsTypedDraft declared.now answer) }
+// The first trace, where there is one.
+fn first_trace<'a>(source: &Source<'a>) -> Option<TraceRef<'a>>
+    ensures { IsFirstTrace (traces_of source.now) result }
 {
-    if let Some(fault) = declared.first_clash()? {
+    item_at(source.traces(), 0)
+}
+
+// The draft of a text without wrong names, or the first fault of its types.
+fn typed(source: &Source) -> Result<Result<Draft, Fault>, AllocError>
+    requires short { length source.now.text ≤ MOST_TEXT }
+    requires named { IsWellNamed source.now }
+    ensures { IfOk result (λ answer. IsTypedDraft source.now answer) }
+{
+    if let Some(fault) = type_fault(source)? {
         return Ok(Err(fault));
     }
     // In a text without wrong names there is a trace.
-    let trace = first_trace(declared).unwrap();
-    Ok(Ok(draft_from(declared, &trace)?))
+    let trace = first_trace(source).unwrap();
+    Ok(Ok(draft_from(source, &trace)?))
 }
 
-// The same, where these are the names of the text.
-fn typed_by(
-    alloc: Global,
-    text: &[u8],
-    file: &RawFile,
-    names: &Names,
-) -> Result<Result<Draft, Fault>, AllocError>
-    requires short { length text.now ≤ MOST_TEXT }
-    requires sound { AreNamedRight (record { text = text.now; file = file.now }) names.now }
-    ensures { IfOk result (λ answer. IsTypedDraft (record { text = text.now; file = file.now }) answer) }
+// The draft of what a text declares, or its first fault.
+fn drafted_from(source: &Source) -> Result<Result<Draft, Fault>, AllocError>
+    requires { length source.now.text ≤ MOST_TEXT }
+    ensures { IfOk result (λ answer. MatchResult answer (IsSound source.now) (IsFirstFault source.now)) }
 {
-    let declared = Declarations::of(alloc, text, file, names)?;
-    typed(&declared)
+    match name_fault(source)? {
+        Some(fault) => Ok(Err(fault)),
+        None => typed(source),
+    }
 }
 
-// The draft of a text, or its first fault.
+// The draft of a text, or its first fault. What was gathered is dropped here, and in one place.
 fn drafted(alloc: Global, text: &[u8], file: &RawFile) -> Result<Result<Draft, Fault>, AllocError>
     requires { length text.now ≤ MOST_TEXT }
     ensures { IfOk result (λ answer. MatchResult answer (IsSound (record { text = text.now; file = file.now })) (IsFirstFault (record { text = text.now; file = file.now }))) }
 {
-    match named(alloc, text, file)? {
-        Ok(names) => typed_by(alloc, text, file, &names),
-        Err(fault) => Ok(Err(fault)),
-    }
+    let source = Source::of(alloc, text, file)?;
+    drafted_from(&source)
 }
 
 /// What a text declares, as a draft, or the refusal that tells the first fault of its names, or,

@@ -5,87 +5,82 @@ ghost use Rattle.cep_parse.specs.declared.raw.RawStart.TheVariants as start;
 ghost use Rattle.cep_term.specs.Multiset.{gathered};
 ghost use Rattle.cep_term.specs.Tree.{IsGroundAtom, atom_of};
 ghost use Rattle.std.specs.List.{AllByRecursion};
-ghost use Rattle.cep_names.specs.declared.space.Role.TheVariants as role;
-ghost use Rattle.cep_names.specs.Items.{traces_of};
-ghost use Rattle.cep_names.specs.Starts.{listed_or, start_atoms};
-ghost use Rattle.cep_names.specs.Uses.{placed, is_context};
+ghost use Rattle.cep_source.specs.declared.space.Role.TheVariants as role;
+ghost use Rattle.cep_source.specs.Items.{traces_of};
+ghost use Rattle.cep_source.specs.Starts.{listed_or, start_atoms};
+ghost use Rattle.cep_source.specs.Uses.{placed, is_context};
 ghost use Rattle.cep_infer.specs.Heads.{AreAtomsBy};
 ghost use Rattle.cep_types.specs.Met.{names_seen};
 ghost use Rattle.cep_infer.specs.Meaning.{IsStartBy};
 ghost use Rattle.cep_infer.specs.Built.{AreBuilt};
-ghost use Rattle.cep_infer.specs.Listed.{trace_item};
+ghost use Rattle.cep_source.specs.Kept.{trace_item};
 ghost use Rattle.cep_infer.specs.Resolved.{IsWellNamed};
 
 use crate::atoms::{push_atom, push_atoms, read_atoms};
-use crate::listing::TraceRef;
-use cep_names::Space;
 use cep_parse::{RawAtom, RawStart};
 use cep_rule::AtomList;
+use cep_source::{Source, Space, TraceRef};
 use cep_term::laws::bags_are_lawful;
 use cep_term::{Atom, Bag, order};
-use cep_types::{Declarations, Variables};
+use cep_types::Variables;
 use std::alloc::{AllocError, Global};
 
 // Whether an atom in braces stands for the atoms of a context.
-fn is_context(declared: &Declarations, atom: &RawAtom) -> bool
-    ensures { result ≡ is_context declared.now (placed role.Start atom.now) }
+fn is_context(source: &Source, atom: &RawAtom) -> bool
+    ensures { result ≡ is_context source.now (placed role.Start atom.now) }
 {
     atom.args == 0
-        && !declared.has(Space::Predicates, atom.name)
-        && declared.has(Space::Contexts, atom.name)
+        && !source.has(Space::Predicates, atom.name)
+        && source.has(Space::Contexts, atom.name)
 }
 
 // Adds an atom in braces, or the atoms of the context for which it stands.
 fn push_listed(
-    declared: &Declarations,
+    source: &Source,
     none: &Variables,
     raw: &RawAtom,
     blanks: &mut u64,
     atoms: &mut AtomList,
 ) -> Result<(), AllocError>
-    ensures { OnOk result (AreBuilt declared.now (names_seen none.now.firsts) (listed_or (is_context declared.now (placed role.Start raw.now)) declared.now raw.now) blanks.old blanks.new atoms.old atoms.new) }
+    ensures { OnOk result (AreBuilt source.now (names_seen none.now.firsts) (listed_or (is_context source.now (placed role.Start raw.now)) source.now raw.now) blanks.old blanks.new atoms.old atoms.new) }
 {
-    if is_context(declared, raw) {
-        return push_atoms(declared, none, declared.context(raw.name), blanks, atoms);
+    if is_context(source, raw) {
+        return push_atoms(source, none, source.listed(raw.name), blanks, atoms);
     }
-    push_atom(declared, none, raw, blanks, atoms)
+    push_atom(source, none, raw, blanks, atoms)
 }
 
 // The atoms in braces, each a copy.
-fn read_listed(
-    declared: &Declarations,
-    none: &Variables,
-    raws: &[RawAtom],
-) -> Result<AtomList, AllocError>
-    ensures { IfOk result (λ atoms. AreAtomsBy declared.now (names_seen none.now.firsts) 0 (start_atoms declared.now (start.Listed raws.now)) atoms) }
+fn read_listed(source: &Source, none: &Variables, raws: &[RawAtom]) -> Result<AtomList, AllocError>
+    ensures { IfOk result (λ atoms. AreAtomsBy source.now (names_seen none.now.firsts) 0 (start_atoms source.now (start.Listed raws.now)) atoms) }
 {
     let mut blanks = 0;
-    let mut atoms = AtomList::new(declared.alloc());
+    let mut atoms = AtomList::new(source.alloc());
     for raw in raws {
-        push_listed(declared, none, raw, &mut blanks, &mut atoms)?;
+        push_listed(source, none, raw, &mut blanks, &mut atoms)?;
     }
     Ok(atoms)
 }
 
 // The atoms of a start state, each a copy. They have no variables.
-fn start_atoms(declared: &Declarations, start: &RawStart) -> Result<AtomList, AllocError>
-    ensures { IfOk result (λ atoms. AreAtomsBy declared.now [] 0 (start_atoms declared.now start.now) atoms) }
+fn start_atoms(source: &Source, start: &RawStart) -> Result<AtomList, AllocError>
+    ensures { IfOk result (λ atoms. AreAtomsBy source.now [] 0 (start_atoms source.now start.now) atoms) }
 {
-    let none = Variables::new(declared.alloc());
+    let none = Variables::new(source.alloc());
     match start {
-        RawStart::Named(name) => read_atoms(declared, &none, declared.context(*name), 0),
-        RawStart::Listed(raws) => read_listed(declared, &none, raws.as_slice()),
+        RawStart::Named(name) => read_atoms(source, &none, source.listed(*name), 0),
+        RawStart::Listed(raws) => read_listed(source, &none, raws.as_slice()),
     }
 }
 
 // The start state of a trace.
-pub(crate) fn read_start(declared: &Declarations, trace: &TraceRef) -> Result<Bag, AllocError>
-    requires named { IsWellNamed declared.now }
-    requires there { Contains (traces_of declared.now) (trace_item trace.now) }
-    ensures { IfOk result (λ start. IsStartBy declared.now (trace_item trace.now) start) }
+pub(crate) fn read_start(source: &Source, trace: &TraceRef) -> Result<Bag, AllocError>
+    requires named { IsWellNamed source.now }
+    requires there { Contains (traces_of source.now) (trace_item trace.now) }
+    ensures { IfOk result (λ start. IsStartBy source.now (trace_item trace.now) start) }
 {
-    let atoms = start_atoms(declared, trace.start)?;
-    gather(declared.alloc(), &atoms)
+    let atoms = start_atoms(source, trace.start)?;
+    gather(source.alloc(), &atoms)
 }
 
 // The multiset of ground atoms. The least is added first, so that each comes behind those that are

@@ -1,15 +1,15 @@
 // From the nodes of an atom, which stand in prefix order, to its tree.
 ghost use Rattle.std.specs.Prelude.{◌≡◌, ◌++◌, ◌≤◌, ◌<◌, length, drop, IfOk, OnOk};
 ghost use Rattle.cep_term.specs.Tree.{atom_of, tree_of, trees_of};
-ghost use Rattle.cep_names.specs.Variables.{blanks_behind};
+ghost use Rattle.cep_source.specs.Variables.{blanks_behind};
 ghost use Rattle.cep_infer.specs.Heads.{IsAtomBy, heads_of, heads_among, argument_count};
 ghost use Rattle.cep_types.specs.Heads.{heads_from, blanks_after};
 ghost use Rattle.cep_types.specs.Met.{names_seen};
 
-use cep_names::Space;
 use cep_parse::{RawAtom, RawKind, RawNode};
+use cep_source::{Source, Space};
 use cep_term::{Args, Atom, Term};
-use cep_types::{Declarations, Variables, next_blank};
+use cep_types::{Variables, next_blank, number};
 use std::alloc::AllocError;
 
 /// Where the nodes of an atom are read: the place of the next node, and how many blanks stand
@@ -33,25 +33,25 @@ pub(crate) fn blanks_behind(blanks: u64, kind: RawKind) -> Result<u64, AllocErro
 // The next term.
 #[cycle(terms)]
 fn read_term(
-    declared: &Declarations,
+    source: &Source,
     variables: &Variables,
     nodes: &[RawNode],
     cursor: &mut Cursor,
 ) -> Result<Term, AllocError>
-    ensures heads { IfOk result (λ term. heads_from declared.now (names_seen variables.now.firsts) cursor.old.blanks (drop cursor.old.at nodes.now) ≡ heads_of (tree_of term) ++ heads_from declared.now (names_seen variables.now.firsts) cursor.new.blanks (drop cursor.new.at nodes.now)) }
+    ensures heads { IfOk result (λ term. heads_from source.now (names_seen variables.now.firsts) cursor.old.blanks (drop cursor.old.at nodes.now) ≡ heads_of (tree_of term) ++ heads_from source.now (names_seen variables.now.firsts) cursor.new.blanks (drop cursor.new.at nodes.now)) }
     ensures blanks { OnOk result (blanks_after cursor.old.blanks (drop cursor.old.at nodes.now) ≡ blanks_after cursor.new.blanks (drop cursor.new.at nodes.now)) }
     ensures further { OnOk result (cursor.old.at < cursor.new.at) }
     ensures within { OnOk result (cursor.new.at ≤ length nodes.now) }
 {
     // In a text without wrong names the nodes do not run out.
     let node = nodes.get(cursor.at).ok_or(AllocError)?;
-    let number = variables.head(declared, cursor.blanks, node)?;
+    let number = variables.head(source, cursor.blanks, node)?;
     cursor.blanks = blanks_behind(cursor.blanks, node.kind)?;
     cursor.at += 1;
     match node.kind {
         RawKind::App => {
-            let args = read_args(declared, variables, nodes, cursor, node.args)?;
-            Ok(Term::App(number, Box::new(declared.alloc(), args)?))
+            let args = read_args(source, variables, nodes, cursor, node.args)?;
+            Ok(Term::App(number, Box::new(source.alloc(), args)?))
         }
         RawKind::Var | RawKind::Blank => Ok(Term::Var(number)),
     }
@@ -60,13 +60,13 @@ fn read_term(
 // So many terms.
 #[cycle(terms)]
 fn read_args(
-    declared: &Declarations,
+    source: &Source,
     variables: &Variables,
     nodes: &[RawNode],
     cursor: &mut Cursor,
     count: u32,
 ) -> Result<Args, AllocError>
-    ensures heads { IfOk result (λ args. heads_from declared.now (names_seen variables.now.firsts) cursor.old.blanks (drop cursor.old.at nodes.now) ≡ heads_among (trees_of args) ++ heads_from declared.now (names_seen variables.now.firsts) cursor.new.blanks (drop cursor.new.at nodes.now)) }
+    ensures heads { IfOk result (λ args. heads_from source.now (names_seen variables.now.firsts) cursor.old.blanks (drop cursor.old.at nodes.now) ≡ heads_among (trees_of args) ++ heads_from source.now (names_seen variables.now.firsts) cursor.new.blanks (drop cursor.new.at nodes.now)) }
     ensures count { IfOk result (λ args. argument_count (trees_of args) ≡ count) }
     ensures blanks { OnOk result (blanks_after cursor.old.blanks (drop cursor.old.at nodes.now) ≡ blanks_after cursor.new.blanks (drop cursor.new.at nodes.now)) }
     ensures further { OnOk result (cursor.old.at ≤ cursor.new.at) }
@@ -75,28 +75,28 @@ fn read_args(
     if count == 0 {
         return Ok(Args::Nil);
     }
-    let term = read_term(declared, variables, nodes, cursor)?;
-    let rest = read_args(declared, variables, nodes, cursor, count - 1)?;
-    Ok(Args::Cons(term, Box::new(declared.alloc(), rest)?))
+    let term = read_term(source, variables, nodes, cursor)?;
+    let rest = read_args(source, variables, nodes, cursor, count - 1)?;
+    Ok(Args::Cons(term, Box::new(source.alloc(), rest)?))
 }
 
 // The atom that is written, where so many blanks stand before it.
 pub(crate) fn read_atom(
-    declared: &Declarations,
+    source: &Source,
     variables: &Variables,
     blanks: &mut u64,
     raw: &RawAtom,
 ) -> Result<Atom, AllocError>
-    ensures atom { IfOk result (λ atom. IsAtomBy declared.now (names_seen variables.now.firsts) blanks.old raw.now (atom_of atom)) }
+    ensures atom { IfOk result (λ atom. IsAtomBy source.now (names_seen variables.now.firsts) blanks.old raw.now (atom_of atom)) }
     ensures blanks { OnOk result (blanks.new ≡ blanks_after blanks.old raw.now.nodes) }
 {
-    let pred = declared.number(Space::Predicates, raw.name)?;
+    let pred = number(source, Space::Predicates, raw.name)?;
     let nodes = raw.nodes.as_slice();
     let mut cursor = Cursor {
         at: 0,
         blanks: *blanks,
     };
-    let args = read_args(declared, variables, nodes, &mut cursor, raw.args)?;
+    let args = read_args(source, variables, nodes, &mut cursor, raw.args)?;
     if cursor.at < nodes.len() {
         // In a text without wrong names no node is left.
         return Err(AllocError);

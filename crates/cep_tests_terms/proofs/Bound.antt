@@ -2,8 +2,8 @@
 use Rattle.std.proofs.Common.{◌≡◌, ℕ, List, [], ◌∷◌, map, refl, subst}
 use Rattle.std.specs.List.{AllByRecursion}
 use Rattle.cep_base.specs.declared.place.Pos.{Pos}
-use Rattle.cep_names.specs.Items.{Source, RuleItem}
-use Rattle.cep_names.specs.Variables.{Occurrence}
+use Rattle.cep_source.specs.Items.{Source, RuleItem}
+use Rattle.cep_source.specs.Variables.{Occurrence}
 use Rattle.cep_infer.specs.Places.{unbound_of, unbound_at, ArePlaces, ArePlaceLists}
 
 -- no lines and columns are those of no places

@@ -8,7 +8,7 @@ use Rattle.cep_parse.specs.declared.raw.RawKind.TheVariants as kind
 use Rattle.cep_parse.specs.declared.raw.RawNode.{RawNode}
 use Rattle.cep_parse.specs.declared.raw.RawAtom.{RawAtom}
 use Rattle.cep_refusal.specs.declared.fault.Fault.{Fault}
-use Rattle.cep_names.specs.Items.{Source, said}
+use Rattle.cep_source.specs.Items.{Source, said}
 use Rattle.cep_refusal.specs.First.{standing, first_of, first_in}
 use Rattle.cep_types.specs.declared.variables.Variables.{Variables}
 use Rattle.cep_types.specs.Sites.{Site, sites_from, sites_in, type_of}

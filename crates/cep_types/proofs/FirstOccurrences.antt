@@ -4,7 +4,7 @@ use Rattle.std.specs.Option.{option_map}
 use Rattle.std.specs.Str.{bytes_eq}
 use Rattle.cep_parse.specs.declared.raw.Span.{Span}
 use Rattle.cep_parse.specs.declared.raw.RawAtom.{RawAtom}
-use Rattle.cep_names.specs.Items.{Source, said}
+use Rattle.cep_source.specs.Items.{Source, said}
 use Rattle.cep_types.specs.declared.variables.Variables.{Variables}
 use Rattle.cep_types.specs.Sites.{Wanted, sites_of, wanted_from, type_of}
 use Rattle.cep_types.specs.Met.{met_under, type_met, none_met, wanted_in, AreMet}

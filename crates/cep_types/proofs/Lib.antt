@@ -1,4 +1,3 @@
-pub mod Lookups
 pub mod Meeting
 pub mod FirstOccurrences
 pub mod Clashing

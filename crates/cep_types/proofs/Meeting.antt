@@ -11,9 +11,9 @@ use Rattle.cep_parse.specs.declared.raw.RawKind.{RawKind}
 use Rattle.cep_parse.specs.declared.raw.RawKind.TheVariants as kind
 use Rattle.cep_parse.specs.declared.raw.RawNode.{RawNode}
 use Rattle.cep_parse.specs.declared.raw.RawAtom.{RawAtom}
-use Rattle.cep_names.specs.Items.{Source, said}
+use Rattle.cep_source.specs.Items.{Source, said}
 use Rattle.cep_parse.specs.Raw.{raw_nodes}
-use Rattle.cep_names.specs.Variables.{occurrence_at, blanks_behind}
+use Rattle.cep_source.specs.Variables.{occurrence_at, blanks_behind}
 use Rattle.cep_types.specs.declared.variables.Variables.{Variables}
 use Rattle.cep_types.specs.Sites.{Site, Wanted, sites_from, sites_in, sites_of, wanted_from}
 use Rattle.cep_types.specs.Heads.{blanks_after}

@@ -10,8 +10,8 @@ use Rattle.cep_parse.specs.declared.raw.RawAtom.{RawAtom}
 use Rattle.cep_refusal.specs.declared.fault.Fault.{Fault}
 use Rattle.cep_refusal.specs.declared.reason.Reason.TheVariants.{TypeClash}
 use Rattle.cep_refusal.specs.First.{standing, IsFirstOrNone, first_in, wrong}
-use Rattle.cep_names.specs.Items.{Source, ConItem, said}
-use Rattle.cep_names.specs.Spaces.{con_named, pred_named}
+use Rattle.cep_source.specs.Items.{Source, ConItem, said}
+use Rattle.cep_source.specs.Spaces.{con_named, pred_named}
 use Rattle.cep_types.specs.Sites.{Site, pred_types, sites_from, sites_in, sites_of, type_of, IsScope, Mistyped}
 use Rattle.cep_types.specs.Sites.Mistyped.{constructor, variable}
 use Rattle.cep_types.specs.Clashes.{type_at, clash_if, clash_of, atom_clashes, scope_clashes, item_scopes}

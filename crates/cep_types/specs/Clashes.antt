@@ -11,8 +11,8 @@ use Rattle.cep_parse.specs.declared.raw.RawItem.{RawItem}
 use Rattle.cep_parse.specs.declared.raw.RawItem.TheVariants as item
 use Rattle.cep_refusal.specs.declared.fault.Fault.{Fault}
 use Rattle.cep_refusal.specs.declared.reason.Reason.TheVariants.{TypeClash}
-use Rattle.cep_names.specs.Items.{Source, said}
-use Rattle.cep_names.specs.Spaces.{con_named}
+use Rattle.cep_source.specs.Items.{Source, said}
+use Rattle.cep_source.specs.Spaces.{con_named}
 use Rattle.cep_parse.specs.Raw.{atoms_of, start_listed}
 use Rattle.cep_refusal.specs.First.{wrong}
 use Rattle.cep_types.specs.Sites.{Site, sites_in, type_of}

@@ -6,11 +6,11 @@ use Rattle.cep_parse.specs.declared.raw.Span.{Span}
 use Rattle.cep_parse.specs.declared.raw.RawKind.{RawKind}
 use Rattle.cep_parse.specs.declared.raw.RawKind.TheVariants as kind
 use Rattle.cep_parse.specs.declared.raw.RawNode.{RawNode}
-use Rattle.cep_names.specs.declared.space.Space.{Space}
-use Rattle.cep_names.specs.declared.space.Space.TheVariants as space
-use Rattle.cep_names.specs.Items.{Source, said}
-use Rattle.cep_names.specs.Spaces.{names_in}
-use Rattle.cep_names.specs.Variables.{blanks_behind}
+use Rattle.cep_source.specs.declared.space.Space.{Space}
+use Rattle.cep_source.specs.declared.space.Space.TheVariants as space
+use Rattle.cep_source.specs.Items.{Source, said}
+use Rattle.cep_source.specs.Spaces.{first_place}
+use Rattle.cep_source.specs.Variables.{blanks_behind}
 
 -- what stands at a node of a term: a variable, or a constructor with so many arguments
 pub data Head : Type 0 where
@@ -19,7 +19,7 @@ pub data Head : Type 0 where
 
 -- the number of a name in its space, from 0
 abbrev pub number_of : Source → Space → List ℕ → ℕ
-number_of source space name = unwrap_or (position (λ other. bytes_eq other.name name) (names_in source space)) 0
+number_of source space name = unwrap_or (first_place source space name) 0
 
 -- the numbers of types by their names
 abbrev pub sorts_said : Source → List Span → List ℕ

@@ -8,8 +8,8 @@ use Rattle.cep_parse.specs.declared.raw.Span.{Span}
 use Rattle.cep_parse.specs.declared.raw.RawKind.{RawKind}
 use Rattle.cep_parse.specs.declared.raw.RawKind.TheVariants as kind
 use Rattle.cep_parse.specs.declared.raw.RawAtom.{RawAtom}
-use Rattle.cep_names.specs.declared.space.Space.TheVariants as space
-use Rattle.cep_names.specs.Items.{Source, said, is_said, interactives_of}
+use Rattle.cep_source.specs.declared.space.Space.TheVariants as space
+use Rattle.cep_source.specs.Items.{Source, said}
 use Rattle.cep_parse.specs.Raw.{raw_nodes}
 use Rattle.cep_types.specs.declared.variables.Variables.{Variables}
 use Rattle.cep_types.specs.Sites.{Wanted, sites_of, wanted_from}
@@ -29,10 +29,6 @@ met_under firsts name = lookup (λ other. bytes_eq name other) firsts
 -- one more name, if it is new
 abbrev pub added : List (List ℕ × Span) → List ℕ × Span → List (List ℕ × Span)
 added firsts entry = if is_met firsts entry.0 then firsts else firsts ++ entry ∷ []
-
--- These names are those of the stages that are said to be interactive.
-abbrev pub AreInteractive : Source → List (List ℕ × Span) → Type 0
-AreInteractive source firsts = (name : List ℕ) → is_met firsts name ≡ is_said source (interactives_of source) name
 
 -- the name of a name's type
 abbrev pub type_met : Source → List (List ℕ × Span) → List ℕ → Option (List ℕ)

@@ -10,13 +10,13 @@ use Rattle.cep_parse.specs.declared.raw.RawNode.{RawNode}
 use Rattle.cep_parse.specs.declared.raw.RawAtom.{RawAtom}
 use Rattle.cep_refusal.specs.declared.fault.Fault.{Fault}
 use Rattle.cep_refusal.specs.declared.reason.Reason.TheVariants.{TypeClash}
-use Rattle.cep_names.specs.Items.{Source, PredItem, ConItem, ClauseItem, RuleItem, said, clauses_of, rules_of}
-use Rattle.cep_names.specs.Spaces.{pred_named, con_named}
-use Rattle.cep_names.specs.Variables.{occurrence_at, blanks_behind}
+use Rattle.cep_source.specs.Items.{Source, PredItem, ConItem, ClauseItem, RuleItem, said, clauses_of, rules_of}
+use Rattle.cep_source.specs.Spaces.{pred_named, con_named}
+use Rattle.cep_source.specs.Variables.{occurrence_at, blanks_behind}
 use Rattle.cep_parse.specs.Raw.{atoms_of}
-use Rattle.cep_names.specs.Uses.{Placed, placed_of}
+use Rattle.cep_source.specs.Uses.{Placed, placed_of}
 use Rattle.cep_refusal.specs.First.{wrong}
-use Rattle.cep_names.specs.Misnamed.{IsOfState}
+use Rattle.cep_source.specs.Misnamed.{IsOfState}
 
 -- A term by its node, and the name of the type that is wanted of it.
 pub record Site : Type 0 where

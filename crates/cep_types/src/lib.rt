@@ -2,11 +2,12 @@
 #![tactic(auto)]
 
 mod clashes;
-mod declarations;
 mod firsts;
+mod numbers;
 mod sites;
 mod variables;
 
-pub use declarations::{Declarations, RawCon, RawPred, item_at};
+pub use clashes::type_fault;
 pub use firsts::Firsts;
+pub use numbers::{kinds, number};
 pub use variables::{Variables, blank_name, next_blank};

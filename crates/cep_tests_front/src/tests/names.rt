@@ -1,8 +1,8 @@
 // To which declaration the names of texts go, and what is wrong with those that go to none.
 use crate::tests::source::file_of;
 use cep_base::limits::MOST_TEXT;
-use cep_faults::named;
-use cep_names::{Fault, Names, Space, Tabled};
+use cep_faults::name_fault;
+use cep_source::{Fault, Source, Space, item_at};
 use std::alloc::Global;
 use std::process::Abort;
 use std::test::Fail;
@@ -31,7 +31,7 @@ qui -o (). stage s = { qui/2 : () -o (). } _ : qui -o (). x : qui -o ().
 Twice 43
 qui/1: rule 0
 qui/2: rule 1
-x: rule 2"
+x: rule 3"
 }
 
 // Texts, each under the line of what is told of its names. Behind each a stage, a context and a trace
@@ -92,12 +92,6 @@ OverLimit 7
 #trace 00 s c."
 }
 
-// The names of a text.
-fn tabled(alloc: Global, text: &str) -> Result<Tabled, Fail> {
-    let file = file_of(alloc, text)?;
-    Ok(Names::of(alloc, text.as_bytes(), &file)?)
-}
-
 // The spaces, each with a word for what is in it.
 const SPACES: [(Space, &str); 6] = [
     (Space::Sorts, " sort"),
@@ -117,16 +111,33 @@ fn put_number(out: &mut String, word: &str, number: Option<usize>) -> Result<(),
     Ok(())
 }
 
+// How many arguments the constructor of a name takes, and the predicate of it.
+fn con_takes(source: &Source, name: &[u8]) -> Option<usize> {
+    let con = item_at(source.cons(), source.place(Space::Constructors, name)?)?;
+    Some(con.args.len())
+}
+
+fn pred_takes(source: &Source, name: &[u8]) -> Option<usize> {
+    let pred = item_at(source.preds(), source.place(Space::Predicates, name)?)?;
+    Some(pred.args.len())
+}
+
+// Whether clauses define the predicate of a name.
+fn is_back(source: &Source, name: &[u8]) -> Option<bool> {
+    let pred = item_at(source.preds(), source.place(Space::Predicates, name)?)?;
+    Some(pred.back)
+}
+
 // A name, and what it is.
-fn described(alloc: Global, names: &Names, name: &str) -> Result<String, Fail> {
+fn described(alloc: Global, source: &Source, name: &str) -> Result<String, Fail> {
     let mut out = format!(in alloc; "{name}:")?;
     let name = name.as_bytes();
     for (space, word) in &SPACES {
-        put_number(&mut out, word, names.number(*space, name))?;
+        put_number(&mut out, word, source.place(*space, name))?;
     }
-    put_number(&mut out, " takes", names.arity(Space::Constructors, name))?;
-    put_number(&mut out, " takes", names.arity(Space::Predicates, name))?;
-    out.push_str(if names.back(name) == Some(true) {
+    put_number(&mut out, " takes", con_takes(source, name))?;
+    put_number(&mut out, " takes", pred_takes(source, name))?;
+    out.push_str(if is_back(source, name) == Some(true) {
         " backward"
     } else {
         ""
@@ -143,17 +154,17 @@ fn fault_word(alloc: Global, fault: Option<Fault>) -> Result<String, Fail> {
 }
 
 // The line is what a name is.
-fn expect_name(rt: &impl Abort, alloc: Global, names: &Names, line: &str) -> Result<(), Fail> {
+fn expect_name(rt: &impl Abort, alloc: Global, source: &Source, line: &str) -> Result<(), Fail> {
     let (name, _) = line.split_once(':').ok_or("no name")?;
-    let described = described(alloc, names, name)?;
+    let described = described(alloc, source, name)?;
     assert_eq!(rt; described.as_str(), line);
     Ok(())
 }
 
 // Each line is what a name is.
-fn expect_names(rt: &impl Abort, alloc: Global, names: &Names, lines: &str) -> Result<(), Fail> {
+fn expect_names(rt: &impl Abort, alloc: Global, source: &Source, lines: &str) -> Result<(), Fail> {
     for line in lines.split('\n') {
-        expect_name(rt, alloc, names, line)?;
+        expect_name(rt, alloc, source, line)?;
     }
     Ok(())
 }
@@ -170,28 +181,17 @@ fn expect_fault(
     Ok(())
 }
 
-// Of names that are declared twice this is the first fault, and these are the names.
-fn expect_tabled(
-    rt: &impl Abort,
-    alloc: Global,
-    tabled: &Tabled,
-    (fault, lines): (&str, &str),
-) -> Result<(), Fail> {
-    expect_fault(rt, alloc, tabled.first, fault)?;
-    expect_names(rt, alloc, &tabled.names, lines)
-}
-
 // The text has this first fault of names that are declared twice, and these names.
 fn expect_declared(
     rt: &impl Abort,
     alloc: Global,
     text: &str,
-    told: (&str, &str),
+    (fault, lines): (&str, &str),
 ) -> Result<(), Fail> {
-    let tabled = tabled(alloc, text)?;
-    let expected = expect_tabled(rt, alloc, &tabled, told);
-    drop(tabled);
-    expected
+    let file = file_of(alloc, text)?;
+    let source = Source::of(alloc, text.as_bytes(), &file)?;
+    expect_fault(rt, alloc, source.twice(), fault)?;
+    expect_names(rt, alloc, &source, lines)
 }
 
 #[test]
@@ -210,7 +210,8 @@ fn first_fault(alloc: Global, text: &str) -> Result<Option<Fault>, Fail> {
         return Err(Fail::from("long"));
     }
     let file = file_of(alloc, text)?;
-    Ok(named(alloc, text.as_bytes(), &file)?.err())
+    let source = Source::of(alloc, text.as_bytes(), &file)?;
+    Ok(name_fault(&source)?)
 }
 
 // A stage, a context and a trace with which nothing is wrong.

@@ -1,11 +1,10 @@
-use Rattle.cep_names.specs.declared.space.Space.TheVariants as space
-use Rattle.cep_faults.specs.Looks.{looks_in}
-use Rattle.cep_names.specs.Uses.{use_in}
+use Rattle.cep_source.specs.declared.space.Space.TheVariants as space
+use Rattle.cep_source.specs.Uses.{use_in}
 use Rattle.cep_faults.specs.Faults.{use_faults, argument_faults}
 use Rattle.cep_faults.proofs.Firsts.{first_with_end}
 use Rattle.cep_faults.proofs.items.con_fault.Goals as goal
 
 pub returns : goal.returns
 returns c =
-    first_with_end (use_faults (looks_in c.args.text.now c.args.names.now)) (use_in space.Sorts) c.args.args.now c.args.right (argument_faults c.args.args.now) _ _ _ _ _
+    first_with_end (use_faults c.args.source.now) (use_in space.Sorts) c.args.args.now c.args.right (argument_faults c.args.args.now) _ _ _ _ _
     c.sorts_fault.ensures c.use_fault.ensures c.first_of-sorts.ensures c.argument_past.ensures c.first_of.ensures

@@ -1,9 +1,8 @@
 use Rattle.std.proofs.Common.{◌≡◌, take}
 use Rattle.std.specs.List.{flat_map}
 use Rattle.cep_refusal.specs.First.{first_in}
-use Rattle.cep_faults.specs.Looks.{looks_in}
 use Rattle.cep_faults.specs.Faults.{rule_faults}
 use Rattle.cep_faults.proofs.rules.rules_fault.Given as goal
 
 abbrev pub invariant-loop-rule : goal.invariant-loop-rule
-invariant-loop-rule l = l.first ≡ first_in (flat_map (rule_faults (looks_in l.text l.names)) (take l.rule-index l.rules))
+invariant-loop-rule l = l.first ≡ first_in (flat_map (rule_faults l.source) (take l.rule-index l.rules))

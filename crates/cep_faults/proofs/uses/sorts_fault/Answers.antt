@@ -1,6 +1,5 @@
-use Rattle.cep_faults.specs.Looks.{looks_in}
-use Rattle.cep_names.specs.declared.space.Space.TheVariants as space
-use Rattle.cep_names.specs.Uses.{use_in}
+use Rattle.cep_source.specs.declared.space.Space.TheVariants as space
+use Rattle.cep_source.specs.Uses.{use_in}
 use Rattle.cep_faults.specs.Faults.{use_faults}
 use Rattle.cep_refusal.specs.First.{standing}
 use Rattle.cep_base.proofs.ForemostLoops.{foremost_more_map}
@@ -8,4 +7,4 @@ use Rattle.cep_faults.proofs.uses.sorts_fault.Goals as goal
 
 pub loop-sort-preserved : goal.loop-sort-preserved
 loop-sort-preserved c =
-    foremost_more_map standing (use_faults (looks_in c.args.text.now c.args.names.now)) (use_in space.Sorts) c.args.sorts.now c.loop-sort.sort-index _ _ _ _ c.loop-sort-test.true c.loop-sort.invariant c.use_fault.ensures c.note.ensures
+    foremost_more_map standing (use_faults c.args.source.now) (use_in space.Sorts) c.args.sorts.now c.loop-sort.sort-index _ _ _ _ c.loop-sort-test.true c.loop-sort.invariant c.use_fault.ensures c.note.ensures

@@ -3,7 +3,7 @@ use Rattle.std.proofs.lemmas.Result.{IfOk-weaker}
 use Rattle.cep_lex.specs.Cuts.{IsLexed}
 use Rattle.cep_parse.specs.Symbols.{symbols_of}
 use Rattle.cep_parse.specs.Files.{IsParsed}
-use Rattle.cep_names.specs.Items.{Source}
+use Rattle.cep_source.specs.Items.{Source}
 use Rattle.cep_infer.specs.Shapes.{IsSource}
 use Rattle.cep_infer.specs.Resolved.{IsResolved}
 use Rattle.cep_ground.proofs.NoFacts.{no_facts_answered}

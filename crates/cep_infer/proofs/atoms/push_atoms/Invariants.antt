@@ -4,4 +4,4 @@ use Rattle.cep_infer.specs.Built.{AreBuilt}
 use Rattle.cep_infer.proofs.atoms.push_atoms.Given as goal
 
 abbrev pub invariant-loop-raw : goal.invariant-loop-raw
-invariant-loop-raw l = AreBuilt l.declared (names_seen l.variables.firsts) (take l.raw-index l.raws) l.fn.blanks l.blanks l.fn.atoms l.atoms
+invariant-loop-raw l = AreBuilt l.source (names_seen l.variables.firsts) (take l.raw-index l.raws) l.fn.blanks l.blanks l.fn.atoms l.atoms

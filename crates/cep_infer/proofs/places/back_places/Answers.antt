@@ -1,18 +1,18 @@
 use Rattle.std.proofs.Common.{List, ℕ, true, map, filter, ap, subst, ◌∙◌}
 use Rattle.cep_parse.specs.declared.raw.RawAtom.{RawAtom}
 use Rattle.cep_parse.specs.declared.raw.RawElem.{RawElem}
-use Rattle.cep_names.specs.Misnamed.{is_declared}
-use Rattle.cep_names.specs.Spaces.{back_of}
+use Rattle.cep_source.specs.Misnamed.{is_declared}
+use Rattle.cep_source.specs.Spaces.{back_of}
 use Rattle.cep_parse.specs.Raw.{atoms_of}
-use Rattle.cep_infer.specs.declared.listing.RuleRef.{RuleRef}
-use Rattle.cep_infer.specs.Listed.{rule_item}
+use Rattle.cep_source.specs.declared.items.RuleRef.{RuleRef}
+use Rattle.cep_source.specs.Kept.{rule_item}
 use Rattle.cep_infer.specs.Places.{IsReached, ArePlaces, backs_at}
 use Rattle.cep_infer.proofs.Placing.{lists_more}
 use Rattle.cep_infer.proofs.places.back_places.Goals as goal
 
 pub loop-rule-preserved : goal.loop-rule-preserved
 loop-rule-preserved c =
-    let source = c.args.declared.now in
+    let source = c.args.source.now in
     record {
       reached = subst (λ (text : List ℕ). IsReached text c.place_all.new.reached) c.text.ensures c.in_ok-place_all.ensures.reached;
       lists = lists_more source.text (λ (rule : RuleRef). backs_at source (rule_item rule)) c.args.rules.now c.loop-rule.rule-index c.rule-item.result c.loop-rule.lists c.push.new.self c.deref.result.now c.in_ok-place_all.field-0

@@ -1,13 +1,13 @@
 use Rattle.std.proofs.Common.{List, ℕ, subst, ◌∙◌}
-use Rattle.cep_infer.specs.declared.listing.RuleRef.{RuleRef}
-use Rattle.cep_infer.specs.Listed.{rule_item}
+use Rattle.cep_source.specs.declared.items.RuleRef.{RuleRef}
+use Rattle.cep_source.specs.Kept.{rule_item}
 use Rattle.cep_infer.specs.Places.{IsReached, ArePlaces, unbound_at}
 use Rattle.cep_infer.proofs.Placing.{lists_more}
 use Rattle.cep_infer.proofs.places.right_places.Goals as goal
 
 pub loop-rule-preserved : goal.loop-rule-preserved
 loop-rule-preserved c =
-    let source = c.args.declared.now in
+    let source = c.args.source.now in
     record {
       reached = subst (λ (text : List ℕ). IsReached text c.place_all.new.reached) c.text.ensures c.in_ok-place_all.ensures.reached;
       lists = lists_more source.text (λ (rule : RuleRef). unbound_at source (rule_item rule)) c.args.rules.now c.loop-rule.rule-index c.rule-item.result c.loop-rule.lists c.push.new.self c.deref.result.now c.in_ok-place_all.field-0

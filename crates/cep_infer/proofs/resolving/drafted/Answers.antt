@@ -1,10 +1,11 @@
-use Rattle.std.proofs.Common.{subst}
-use Rattle.cep_names.specs.Items.{Source}
-use Rattle.cep_names.specs.Named.{IsNamed}
-use Rattle.cep_infer.proofs.Drafting.{sound_or_first}
+use Rattle.std.proofs.Common.{◌≤◌, length, sym, subst}
+use Rattle.std.specs.Prelude.{MatchResult, IfOk}
+use Rattle.cep_source.specs.Items.{Source}
+use Rattle.cep_infer.specs.Resolved.{IsSound, IsFirstFault}
 use Rattle.cep_infer.proofs.resolving.drafted.Goals as goal
 
-pub returns-in-Ok : goal.returns-in-Ok
-returns-in-Ok c =
-    let source : Source = record { text = c.args.text.now; file = c.args.file.now } in
-    sound_or_first source (subst (IsNamed source) c.in-Ok.is c.in_ok-names.ensures).sound c.typed_by.result c.typed_by.ensures
+pub drafted_from-requires : goal.drafted_from-requires
+drafted_from-requires c = subst (λ (s : Source). length s.text ≤ 1048576) (sym c.in_ok-source.ensures) c.requires
+
+pub returns : goal.returns
+returns c = subst (λ (s : Source). IfOk c.drafted_from.result (λ answer. MatchResult answer (IsSound s) (IsFirstFault s))) c.in_ok-source.ensures c.drafted_from.ensures

@@ -1,18 +1,18 @@
 use Rattle.std.proofs.Common.{List, [], ap, refl, subst, ◌∙◌}
 use Rattle.cep_parse.specs.declared.raw.RawElem.{RawElem}
-use Rattle.cep_names.specs.Spaces.{rule_name}
+use Rattle.cep_source.specs.Spaces.{rule_name}
 use Rattle.cep_parse.specs.Raw.{atoms_of}
 use Rattle.cep_types.specs.Met.{names_seen}
 use Rattle.cep_infer.specs.Heads.{AreAtomsBy}
 use Rattle.cep_infer.specs.Meaning.{group_of, next_of}
 use Rattle.cep_infer.specs.Built.{IsLeftBuilt}
-use Rattle.cep_infer.specs.Listed.{rule_item}
+use Rattle.cep_source.specs.Kept.{rule_item}
 use Rattle.cep_infer.proofs.RulesInTurn.{rule_built}
 use Rattle.cep_infer.proofs.rules.rule_of.Goals as goal
 
 pub returns : goal.returns
 returns c =
-    let source = c.args.declared.now in
+    let source = c.args.source.now in
     let item = c.args.item.now in
     let variables = c.args.variables.now in
     rule_built source (rule_name source c.args.unlabelled item.raw.now.label) (rule_item item) variables _ c.read_left.new.blanks c.in_ok-left.left

@@ -1,7 +1,6 @@
 use Rattle.std.proofs.Common.{◌≡◌, map, take}
-use Rattle.std.specs.List.{flat_map}
-use Rattle.cep_names.specs.Items.{said, sorts_in}
+use Rattle.cep_source.specs.Items.{said}
 use Rattle.cep_infer.proofs.signature.sorts.Given as goal
 
-abbrev pub invariant-loop-item : goal.invariant-loop-item
-invariant-loop-item l = l.names ≡ map (said l.declared) (flat_map sorts_in (take l.item-index l.item-items))
+abbrev pub invariant-loop-span : goal.invariant-loop-span
+invariant-loop-span l = l.names ≡ map (said l.source) (take l.span-index l.span-items)

@@ -1,4 +1,4 @@
-use Rattle.cep_names.specs.Items.{Source, rules_of}
+use Rattle.cep_source.specs.Items.{Source, rules_of}
 use Rattle.cep_tests_terms.proofs.Bound.{all_bound}
 use Rattle.cep_tests_terms.proofs.Plain.{all_grounded}
 use Rattle.cep_tests_terms.proofs.sample.sealed.Goals as goal

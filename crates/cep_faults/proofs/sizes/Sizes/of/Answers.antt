@@ -1,5 +1,12 @@
-use Rattle.cep_faults.proofs.SizeTables.{sizes_more}
+use Rattle.std.proofs.Common.{◌∙◌, ap, sym, map}
+use Rattle.std.proofs.lemmas.List.{take_all}
+use Rattle.std.proofs.lemmas.Simd.{map-map}
+use Rattle.cep_source.specs.declared.items.RawContext.{RawContext}
+use Rattle.cep_source.specs.Kept.{context_item}
+use Rattle.cep_faults.proofs.ContextSizes.{size}
 use Rattle.cep_faults.proofs.sizes.Sizes.of.Goals as goal
 
-pub loop-item-preserved : goal.loop-item-preserved
-loop-item-preserved c = sizes_more c.args.text.now c.args.items.now c.loop-item.item-index c.item-item.result _ _ c.loop-item-test.true c.item-item.is c.loop-item.invariant c.in_ok-enter_item.ensures
+pub returns : goal.returns
+returns c =
+    c.loop-context.invariant ∙ ap (map (λ (context : RawContext). size (context_item context))) (take_all c.loop-context.context-index c.contexts-context-items.result.now c.loop-context-test.false)
+    ∙ sym (map-map size context_item c.contexts-context-items.result.now) ∙ ap (map size) c.contexts-context-items.ensures

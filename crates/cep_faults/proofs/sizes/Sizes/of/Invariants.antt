@@ -1,8 +1,7 @@
-use Rattle.std.proofs.Common.{◌≡◌, ℕ, List, take}
-use Rattle.std.specs.List.{flat_map}
-use Rattle.cep_names.specs.Items.{contexts_in}
-use Rattle.cep_faults.specs.Totals.{size_under, first_size}
+use Rattle.std.proofs.Common.{◌≡◌, map, take}
+use Rattle.cep_source.specs.Kept.{context_item}
+use Rattle.cep_faults.specs.Totals.{cut, written_size}
 use Rattle.cep_faults.proofs.sizes.Sizes.of.Given as goal
 
-abbrev pub invariant-loop-item : goal.invariant-loop-item
-invariant-loop-item l = (name : List ℕ) → size_under l.sizes name ≡ first_size l.text (flat_map contexts_in (take l.item-index l.items)) name
+abbrev pub invariant-loop-context : goal.invariant-loop-context
+invariant-loop-context l = l.each.items ≡ map (λ context. cut (written_size (context_item context).atoms)) (take l.context-index l.context-items)

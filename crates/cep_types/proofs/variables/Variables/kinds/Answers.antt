@@ -8,7 +8,7 @@ use Rattle.cep_types.proofs.variables.Variables.kinds.Goals as goal
 
 pub returns : goal.returns
 returns c =
-    let source = c.args.declared.now in
+    let source = c.args.source.now in
     let same : sorts_said source c.deref.result.now ≡ kinds_met source c.args.self.now.firsts =
     ap (λ (spans : List Span). sorts_said source spans) (c.deref.ensures.value ∙ c.in_ok-types.ensures) ∙ simp map-map in
     subst (λ (ks : List ℕ). IfOk c.kinds.result (λ kinds. kinds ≡ ks)) same c.kinds.ensures

@@ -1,12 +1,12 @@
 use Rattle.std.proofs.Common.{List, ℕ, ◌+◌, map, drop, ap}
-use Rattle.cep_names.specs.Items.{said}
+use Rattle.cep_source.specs.Items.{said}
 use Rattle.cep_types.specs.Sites.{sites_from}
 use Rattle.cep_types.proofs.Meeting.{meeting_more, meeting_over}
 use Rattle.cep_types.proofs.variables.Variables.meet_atom.Goals as goal
 
 pub loop-node-preserved : goal.loop-node-preserved
 loop-node-preserved c =
-    let source = c.args.declared.now in
+    let source = c.args.source.now in
     let nodes = c.as_slice-node-items.result.now in
     meeting_more source (sites_from source (map (said source) c.in_ok-pending.pending) nodes) nodes c.args.self.now c.loop-node.self c.meet_node.new.self
     (map (said source) c.loop-node.pending) (map (said source) c.site.new.pending) c.loop-node.node-index _ c.in_ok-wants.wants c.loop-node-test.true
@@ -14,6 +14,6 @@ loop-node-preserved c =
 
 pub returns : goal.returns
 returns c =
-    let source = c.args.declared.now in
+    let source = c.args.source.now in
     meeting_over source c.args.atom.now (map (said source) c.in_ok-pending.pending) c.as_slice-node-items.result.now c.args.self.now c.loop-node.self (map (said source) c.loop-node.pending) c.loop-node.node-index
     (ap (λ (types : List (List ℕ)). sites_from source types c.args.atom.now.nodes) c.in_ok-pending.ensures) c.as_slice-node-items.ensures c.loop-node-test.false c.loop-node.invariant

@@ -3,4 +3,4 @@ use Rattle.cep_types.specs.Met.{AreMet}
 use Rattle.cep_types.proofs.variables.Variables.meet_atoms.Given as goal
 
 abbrev pub invariant-loop-atom : goal.invariant-loop-atom
-invariant-loop-atom l = AreMet l.declared (take l.atom-index l.atoms) l.fn.self l.self
+invariant-loop-atom l = AreMet l.source (take l.atom-index l.atoms) l.fn.self l.self

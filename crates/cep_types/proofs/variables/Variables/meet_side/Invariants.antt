@@ -4,4 +4,4 @@ use Rattle.cep_types.specs.Met.{AreMet}
 use Rattle.cep_types.proofs.variables.Variables.meet_side.Given as goal
 
 abbrev pub invariant-loop-elem : goal.invariant-loop-elem
-invariant-loop-elem l = AreMet l.declared (atoms_of (take l.elem-index l.side)) l.fn.self l.self
+invariant-loop-elem l = AreMet l.source (atoms_of (take l.elem-index l.side)) l.fn.self l.self

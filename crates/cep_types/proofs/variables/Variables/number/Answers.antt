@@ -1,5 +1,5 @@
 use Rattle.std.proofs.Common.{◌∙◌, ap, unwrap_or}
-use Rattle.cep_types.proofs.Lookups.{number_among}
+use Rattle.cep_source.proofs.Lookups.{number_among}
 use Rattle.cep_types.proofs.variables.Variables.number.Goals as goal
 
 pub returns-in-Ok : goal.returns-in-Ok

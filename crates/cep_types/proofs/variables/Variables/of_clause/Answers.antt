@@ -6,7 +6,7 @@ use Rattle.cep_types.proofs.variables.Variables.of_clause.Goals as goal
 
 pub returns : goal.returns
 returns c =
-    let source = c.args.declared.now in
+    let source = c.args.source.now in
     let head = c.args.head.now in
     let goals = c.args.goals.now in
     subst (λ (v : Variables). AreMet source (head ∷ goals) v c.meet_atoms.new.self) c.new-variables.ensures

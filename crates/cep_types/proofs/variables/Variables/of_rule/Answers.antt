@@ -8,7 +8,7 @@ use Rattle.cep_types.proofs.variables.Variables.of_rule.Goals as goal
 
 pub returns : goal.returns
 returns c =
-    let source = c.args.declared.now in
+    let source = c.args.source.now in
     let rule = c.args.rule.now in
     subst (λ (v : Variables). AreMet source (atoms_of rule.left ++ atoms_of rule.right) v c.meet_side-2.new.self) c.new-variables.ensures
     (both_are_met source (atoms_of rule.left) (atoms_of rule.right) c.new-variables.result c.meet_side.new.self c.meet_side-2.new.self

@@ -1,9 +1,0 @@
-pub mod Items
-pub mod Spaces
-pub mod Uses
-pub mod Variables
-pub mod Starts
-pub mod Tables
-pub mod Misnamed
-pub mod Filling
-pub mod Named

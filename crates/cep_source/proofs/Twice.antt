@@ -1,0 +1,122 @@
+-- The first of the names that are declared again.
+use Rattle.std.proofs.Common.{◌≡◌, ℕ, ◌⊎◌, inl, inr, ⊎_elim, Bool, true, false, if◌then◌else◌, List, [], ◌∷◌, ◌++◌, map, Option, get_or, refl, ap, sym, subst, append_assoc, append-nil, arith}
+use Rattle.std.specs.List.{list_any, Contains}
+use Rattle.std.specs.Str.{bytes_eq}
+use Rattle.std.proofs.lemmas.Bool.{false≢true, or_cases}
+use Rattle.std.proofs.lemmas.List.Elements.{Contains-get_or, Contains-append_right}
+use Rattle.std.proofs.lemmas.List.Folds.{list_any_at}
+use Rattle.std.proofs.lemmas.Slice.Eq.{bytes_eq-Decides}
+use Rattle.cep_base.proofs.Foremost.{foremost_union, foremost_same, foremost_among}
+use Rattle.cep_base.proofs.Members.{In, here, in_nil, in_one, in_same, in_left, in_right, in_parts, to_contains, from_contains}
+use Rattle.cep_refusal.specs.declared.fault.Fault.{Fault}
+use Rattle.cep_refusal.specs.declared.reason.Reason.TheVariants.{Twice}
+use Rattle.cep_refusal.specs.First.{standing, IsFirstOrNone, first_of, first_in, wrong}
+use Rattle.cep_source.specs.declared.space.Space.{Space}
+use Rattle.cep_source.specs.declared.space.Space.TheVariants as space
+use Rattle.cep_source.specs.Items.{Source}
+use Rattle.cep_source.specs.Spaces.{Named, names_in}
+use Rattle.cep_source.specs.Misnamed.{IsTwice}
+use Rattle.cep_source.specs.Firsts.{again_among}
+
+there : (name : List ℕ) (names : List (List ℕ)) → list_any (λ other. bytes_eq other name) names ≡ true → Contains names name
+there name [] any = absurd (false≢true any)
+there name (other ∷ names) any =
+    ⊎_elim
+    (λ same. subst (Contains (other ∷ names)) ((bytes_eq-Decides other name).0 same) (Contains-get_or (other ∷ names) 0 other (omega arith)))
+    (λ later. Contains-append_right (other ∷ []) names name (there name names later))
+    (or_cases (bytes_eq other name) (list_any (λ other. bytes_eq other name) names) any)
+
+found : (name : List ℕ) (names : List (List ℕ)) → Contains names name → list_any (λ other. bytes_eq other name) names ≡ true
+found name [] at = absurd (omega (arith, at.1))
+found name (other ∷ names) at = list_any_at (λ other. bytes_eq other name) (other ∷ names) at.0 name at.1 ((bytes_eq-Decides (get_or (other ∷ names) at.0 name) name).1 at.2)
+
+-- a name among some of which others stand before
+record Later (before : List (List ℕ)) (names : List Named) (fault : Fault) : Type 0 where
+  front : List Named
+  entry : Named
+  back : List Named
+  are : names ≡ front ++ entry ∷ back
+  earlier : Contains (before ++ map (λ named. named.name) front) entry.name
+  is : fault ≡ wrong Twice entry.at
+
+here_later : (before : List (List ℕ)) (named : Named) (names : List Named) (fault : Fault) (again : Bool) → list_any (λ name. bytes_eq name named.name) before ≡ again
+    → In (let faults : List Fault = if again then wrong Twice named.at ∷ [] else [] in faults) fault → Later before (named ∷ names) fault
+here_later before named names fault false e h = absurd (in_nil fault h)
+here_later before named names fault true e h = record {
+  front = [];
+  entry = named;
+  back = names;
+  are = refl;
+  earlier = subst (λ list. Contains list named.name) (sym (append-nil before)) (there named.name before e);
+  is = in_one _ fault h;
+}
+
+is_later : (before : List (List ℕ)) (names : List Named) (fault : Fault) → In (again_among before names) fault → Later before names fault
+is_later before [] fault h = absurd (in_nil fault h)
+is_later before (named ∷ names) fault h =
+    ⊎_elim (here_later before named names fault (list_any (λ name. bytes_eq name named.name) before) refl)
+    (λ k. let l = is_later (before ++ named.name ∷ []) names fault k in record {
+      front = named ∷ l.front;
+      entry = l.entry;
+      back = l.back;
+      are = ap (λ rest. named ∷ rest) l.are;
+      earlier = subst (λ list. Contains list l.entry.name) (append_assoc before (named.name ∷ []) (map (λ named. named.name) l.front)) l.earlier;
+      is = l.is;
+    })
+    (in_parts (if list_any (λ name. bytes_eq name named.name) before then wrong Twice named.at ∷ [] else []) (again_among (before ++ named.name ∷ []) names) fault h)
+
+later_in : (before : List (List ℕ)) (front back : List Named) (entry : Named) → Contains (before ++ map (λ named. named.name) front) entry.name → In (again_among before (front ++ entry ∷ back)) (wrong Twice entry.at)
+later_in before [] back entry at =
+    in_left (if list_any (λ name. bytes_eq name entry.name) before then wrong Twice entry.at ∷ [] else []) (again_among (before ++ entry.name ∷ []) back) (wrong Twice entry.at)
+    (in_same _ (wrong Twice entry.at ∷ []) (wrong Twice entry.at)
+    (ap (λ b. if b then wrong Twice entry.at ∷ [] else []) (found entry.name before (subst (λ list. Contains list entry.name) (append-nil before) at))) (here (wrong Twice entry.at) []))
+later_in before (named ∷ front) back entry at =
+    in_right (if list_any (λ name. bytes_eq name named.name) before then wrong Twice named.at ∷ [] else []) (again_among (before ++ named.name ∷ []) (front ++ entry ∷ back)) (wrong Twice entry.at)
+    (later_in (before ++ named.name ∷ []) front back entry (subst (λ list. Contains list entry.name) (sym (append_assoc before (named.name ∷ []) (map (λ named. named.name) front))) at))
+
+module _ (source : Source) where
+  abbrev Again : Space → Fault → Type 0
+  Again space_ = Contains (again_among [] (names_in source space_))
+
+  again_twice : (space_ : Space) (fault : Fault) → Again space_ fault → IsTwice source fault
+  again_twice space_ fault h =
+      let l = is_later [] (names_in source space_) fault (from_contains (again_among [] (names_in source space_)) fault h) in
+      record { space = space_; before = l.front; entry = l.entry; after = l.back; names = l.are; earlier = l.earlier; is = l.is }
+
+  twice_again : (fault : Fault) (h : IsTwice source fault) → Again h.space fault
+  twice_again fault h =
+      to_contains (again_among [] (names_in source h.space)) fault
+      (subst (In (again_among [] (names_in source h.space))) (sym h.is)
+      (in_same (again_among [] (names_in source h.space)) (again_among [] (h.before ++ h.entry ∷ h.after)) (wrong Twice h.entry.at) (ap (again_among []) h.names) (later_in [] h.before h.after h.entry h.earlier)))
+
+  abbrev first_again : Space → Option Fault
+  first_again space_ = first_in (again_among [] (names_in source space_))
+
+  abbrev Any : Fault → Type 0
+  Any fault = ((Again space.Sorts fault ⊎ Again space.Predicates fault) ⊎ (Again space.Stages fault ⊎ Again space.Contexts fault)) ⊎ (Again space.Constructors fault ⊎ Again space.Rules fault)
+
+  in_space : (space_ : Space) (fault : Fault) → Again space_ fault → Any fault
+  in_space space.Sorts fault h = inl (inl (inl h))
+  in_space space.Predicates fault h = inl (inl (inr h))
+  in_space space.Stages fault h = inl (inr (inl h))
+  in_space space.Contexts fault h = inl (inr (inr h))
+  in_space space.Constructors fault h = inr (inl h)
+  in_space space.Rules fault h = inr (inr h)
+
+  both : (P Q : Fault → Type 0) (one two : Option Fault) → IsFirstOrNone P one → IsFirstOrNone Q two → IsFirstOrNone (λ fault. P fault ⊎ Q fault) (first_of one two)
+  both = foremost_union standing
+
+  among : (space_ : Space) → IsFirstOrNone (Again space_) (first_again space_)
+  among space_ = foremost_among standing (again_among [] (names_in source space_))
+
+  pub first_twice : (sorts preds stages contexts cons rules basics states some rest all : Option Fault)
+      → sorts ≡ first_again space.Sorts → preds ≡ first_again space.Predicates → basics ≡ first_of sorts preds
+      → stages ≡ first_again space.Stages → contexts ≡ first_again space.Contexts → states ≡ first_of stages contexts → some ≡ first_of basics states
+      → cons ≡ first_again space.Constructors → rules ≡ first_again space.Rules → rest ≡ first_of cons rules → all ≡ first_of some rest
+      → IsFirstOrNone (IsTwice source) all
+  first_twice sorts preds stages contexts cons rules basics states some rest all a b ab c d cd abcd e f ef is =
+      rw (is, abcd, ef, ab, cd, a, b, c, d, e, f)
+      (foremost_same standing Any (IsTwice source) _
+      (λ fault. ⊎_elim (⊎_elim (⊎_elim (again_twice space.Sorts fault) (again_twice space.Predicates fault)) (⊎_elim (again_twice space.Stages fault) (again_twice space.Contexts fault))) (⊎_elim (again_twice space.Constructors fault) (again_twice space.Rules fault)))
+      (λ fault h. in_space h.space fault (twice_again fault h))
+      (both _ _ _ _ (both _ _ _ _ (both _ _ _ _ (among space.Sorts) (among space.Predicates)) (both _ _ _ _ (among space.Stages) (among space.Contexts))) (both _ _ _ _ (among space.Constructors) (among space.Rules))))

@@ -1,0 +1,84 @@
+-- The spaces of names, and to which declaration a name goes: to the first that has it.
+use Rattle.std.specs.Prelude.{ℕ, ◌+◌, Bool, List, [], ◌∷◌, ◌++◌, Option, Some, None, map, length, codes, decimal}
+use Rattle.std.specs.Option.{option_map}
+use Rattle.std.specs.Str.{bytes_eq}
+use Rattle.std.specs.List.{list_any, find, position}
+use Rattle.cep_parse.specs.declared.raw.Span.{Span}
+use Rattle.cep_parse.specs.declared.raw.RawAtom.{RawAtom}
+use Rattle.cep_source.specs.declared.space.Space.{Space}
+use Rattle.cep_source.specs.declared.space.Space.TheVariants as space
+use Rattle.cep_source.specs.Items.{Source, PredItem, ConItem, RuleItem, ContextItem, said, sorts_of, preds_of, cons_of, stages_of, rules_of, contexts_of}
+
+-- A name that is declared, and its place.
+pub record Named : Type 0 where
+  pub name : List ℕ
+  pub at : ℕ
+
+-- the name that a span says, at its place
+abbrev pub named : Source → Span → Named
+named source span = record { name = said source span; at = span.from }
+
+-- the name of a rule: its label, or, without one, `qui/` and its number among those without, from 1
+abbrev pub rule_name : Source → ℕ → Option Span → List ℕ
+rule_name source unlabelled (Some label) = said source label
+rule_name source unlabelled None = codes "qui/" ++ decimal (unlabelled + 1)
+
+-- how many rules without a label there are behind one with this label
+abbrev pub unlabelled_behind : ℕ → Option Span → ℕ
+unlabelled_behind unlabelled (Some label) = unlabelled
+unlabelled_behind unlabelled None = unlabelled + 1
+
+-- the names of the rules, where so many without a label stand before them, each at the rule's place
+abbrev pub rule_names_from : Source → ℕ → List RuleItem → List Named
+rule_names_from source unlabelled [] = []
+rule_names_from source unlabelled (rule ∷ rules) =
+    record { name = rule_name source unlabelled rule.raw.label; at = rule.raw.at }
+    ∷ rule_names_from source (unlabelled_behind unlabelled rule.raw.label) rules
+
+-- the names that are declared in a space, in written order
+abbrev pub names_in : Source → Space → List Named
+names_in source space.Sorts = map (named source) (sorts_of source)
+names_in source space.Constructors = map (λ con. named source con.name) (cons_of source)
+names_in source space.Predicates = map (λ pred. named source pred.name) (preds_of source)
+names_in source space.Stages = map (named source) (stages_of source)
+names_in source space.Contexts = map (λ context. named source context.name) (contexts_of source)
+names_in source space.Rules = rule_names_from source 0 (rules_of source)
+
+-- whether the space has the name
+abbrev pub is_in : Source → Space → List ℕ → Bool
+is_in source space name = list_any (λ other. bytes_eq other.name name) (names_in source space)
+
+-- the place of the first of some names that is this one, from 0
+abbrev pub place_among : List Named → List ℕ → Option ℕ
+place_among names name = position (λ other. bytes_eq other.name name) names
+
+-- the place of the first declaration of a name among those of its space
+abbrev pub first_place : Source → Space → List ℕ → Option ℕ
+first_place source space name = place_among (names_in source space) name
+
+-- the predicate, the constructor, the context that has the name
+abbrev pub pred_named : Source → List ℕ → Option PredItem
+pred_named source name = find (λ pred. bytes_eq (said source pred.name) name) (preds_of source)
+
+abbrev pub con_named : Source → List ℕ → Option ConItem
+con_named source name = find (λ con. bytes_eq (said source con.name) name) (cons_of source)
+
+abbrev pub context_named : Source → List ℕ → Option ContextItem
+context_named source name = find (λ context. bytes_eq (said source context.name) name) (contexts_of source)
+
+-- how many arguments the predicate or the constructor of this name takes
+abbrev pub arity_of : Source → Space → List ℕ → Option ℕ
+arity_of source space.Constructors name = option_map (λ con. length con.args) (con_named source name)
+arity_of source space.Predicates name = option_map (λ pred. length pred.args) (pred_named source name)
+arity_of source space.Sorts name = None
+arity_of source space.Stages name = None
+arity_of source space.Contexts name = None
+arity_of source space.Rules name = None
+
+-- whether the predicate of this name is declared as a backward one, or as a linear one
+abbrev pub back_named : Source → List ℕ → Option Bool
+back_named source name = option_map (λ pred. pred.back) (pred_named source name)
+
+-- the same of an atom's predicate
+abbrev pub back_of : Source → RawAtom → Option Bool
+back_of source atom = back_named source (said source atom.name)

@@ -1,0 +1,51 @@
+-- The start state of a trace, and the sizes of atoms as they are written.
+use Rattle.std.specs.Prelude.{ℕ, ◌+◌, ◌≤◌, Bool, true, false, List, [], ◌∷◌, ◌++◌, Option, Some, None, length, max}
+use Rattle.std.specs.List.{flat_map, repeat}
+use Rattle.cep_parse.specs.declared.raw.RawNode.{RawNode}
+use Rattle.cep_parse.specs.declared.raw.RawAtom.{RawAtom}
+use Rattle.cep_parse.specs.declared.raw.RawStart.{RawStart}
+use Rattle.cep_parse.specs.declared.raw.RawStart.TheVariants as start
+use Rattle.cep_base.specs.declared.limits.TheConstants.{MOST_DEPTH, MOST_NODES}
+use Rattle.cep_source.specs.declared.space.Role.TheVariants as role
+use Rattle.cep_source.specs.Items.{Source, ContextItem, said}
+use Rattle.cep_source.specs.Spaces.{context_named}
+use Rattle.cep_source.specs.Uses.{placed, is_context}
+
+-- the atoms of a context, and none where there is no such context
+abbrev pub listed_in : Option ContextItem → List RawAtom
+listed_in (Some context) = context.atoms
+listed_in None = []
+
+-- what an atom in braces lists: itself, or the atoms of the context for which it stands
+abbrev pub listed_or : Bool → Source → RawAtom → List RawAtom
+listed_or true source atom = listed_in (context_named source (said source atom.name))
+listed_or false source atom = atom ∷ []
+
+-- the atoms of a start state, each a copy
+abbrev pub start_atoms : Source → RawStart → List RawAtom
+start_atoms source (start.Named name) = listed_in (context_named source (said source name))
+start_atoms source (start.Listed atoms) = flat_map (λ atom. listed_or (is_context source (placed role.Start atom)) source atom) atoms
+
+-- how many nodes an atom has: its own and those of its arguments
+abbrev pub nodes_written : RawAtom → ℕ
+nodes_written atom = 1 + length atom.nodes
+
+-- the level of each node, where the next ones stand on these levels: a term's arguments stand one level below it
+abbrev pub levels : List ℕ → List RawNode → List ℕ
+levels [] nodes = []
+levels (level ∷ next) [] = []
+levels (level ∷ next) (node ∷ nodes) = level ∷ levels (repeat node.args ((level + 1) ∷ []) ++ next) nodes
+
+-- the greatest of all
+abbrev pub greatest : List ℕ → ℕ
+greatest [] = 0
+greatest (n ∷ ns) = max n (greatest ns)
+
+-- how many levels an atom has, its own included
+abbrev pub depth_written : RawAtom → ℕ
+depth_written atom = max 1 (greatest (levels (repeat atom.args (2 ∷ [])) atom.nodes))
+
+-- An atom is small enough to be kept in a state.
+pub record IsFitWritten (atom : RawAtom) : Type 0 where
+  pub nodes : nodes_written atom ≤ MOST_NODES
+  pub depth : depth_written atom ≤ MOST_DEPTH

@@ -1,9 +1,0 @@
-use Rattle.cep_names.specs.declared.space.Space.TheVariants as space
-use Rattle.cep_names.specs.Items.{said}
-use Rattle.cep_types.specs.Heads.{number_of}
-use Rattle.cep_types.proofs.Lookups.{push_map}
-use Rattle.cep_types.proofs.declarations.Declarations.kinds.Goals as goal
-
-pub loop-name-preserved : goal.loop-name-preserved
-loop-name-preserved c =
-    push_map (λ span. number_of c.args.self.now space.Sorts (said c.args.self.now span)) c.args.names.now c.loop-name.name-index _ _ _ c.in_ok-number.field-0 c.loop-name-test.true c.loop-name.invariant c.in_ok-number.ensures c.in_ok-push.ensures.ok

@@ -1,8 +1,0 @@
-use Rattle.std.proofs.Common.{◌≡◌, ◌∷◌, [], take}
-use Rattle.std.specs.List.{flat_map}
-use Rattle.cep_refusal.specs.First.{first_in}
-use Rattle.cep_types.specs.Clashes.{scope_clashes}
-use Rattle.cep_types.proofs.declarations.Declarations.states_clash.Given as goal
-
-abbrev pub invariant-loop-atom : goal.invariant-loop-atom
-invariant-loop-atom l = l.first ≡ first_in (flat_map (λ atom. scope_clashes l.self (atom ∷ [])) (take l.atom-index l.atoms))
