@@ -98,13 +98,15 @@ fn drafted_from(source: &Source) -> Result<Result<Draft, Fault>, AllocError>
     }
 }
 
-// The draft of a text, or its first fault. What was gathered is dropped here, and in one place.
+// The draft of a text, or its first fault.
 fn drafted(alloc: Global, text: &[u8], file: &RawFile) -> Result<Result<Draft, Fault>, AllocError>
     requires { length text.now ≤ MOST_TEXT }
     ensures { IfOk result (λ answer. MatchResult answer (IsSound (record { text = text.now; file = file.now })) (IsFirstFault (record { text = text.now; file = file.now }))) }
 {
     let source = Source::of(alloc, text, file)?;
-    drafted_from(&source)
+    let drafted = drafted_from(&source);
+    drop(source);
+    drafted
 }
 
 /// What a text declares, as a draft, or the refusal that tells the first fault of its names, or,

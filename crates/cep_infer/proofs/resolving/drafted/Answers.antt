@@ -4,8 +4,8 @@ use Rattle.cep_source.specs.Items.{Source}
 use Rattle.cep_infer.specs.Resolved.{IsSound, IsFirstFault}
 use Rattle.cep_infer.proofs.resolving.drafted.Goals as goal
 
-pub drafted_from-requires : goal.drafted_from-requires
-drafted_from-requires c = subst (λ (s : Source). length s.text ≤ 1048576) (sym c.in_ok-source.ensures) c.requires
+pub drafted_from-drafted-requires : goal.drafted_from-drafted-requires
+drafted_from-drafted-requires c = subst (λ (s : Source). length s.text ≤ 1048576) (sym c.in_ok-source.ensures) c.requires
 
 pub returns : goal.returns
-returns c = subst (λ (s : Source). IfOk c.drafted_from.result (λ answer. MatchResult answer (IsSound s) (IsFirstFault s))) c.in_ok-source.ensures c.drafted_from.ensures
+returns c = subst (λ (s : Source). IfOk c.drafted_from-drafted.result (λ answer. MatchResult answer (IsSound s) (IsFirstFault s))) c.in_ok-source.ensures c.drafted_from-drafted.ensures
