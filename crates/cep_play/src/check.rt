@@ -108,7 +108,8 @@ fn put_renewed(
     requires { IsLegal program.now log.now }
     ensures { IfOk result (λ renewed. (written : List ℕ) × IsWrittenAnew program.now log.now written renewed × (out.new ≡ out.old ++ written)) }
 {
-    match renew(alloc, program, log)? {
+    let anew = renew(alloc, program, log)?;
+    match anew {
         Some(text) => {
             out.append(text.bytes())?;
             Ok(true)

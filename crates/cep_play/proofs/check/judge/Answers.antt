@@ -22,8 +22,8 @@ returns-in-Check-clause-judged g c =
     ))
     c.judge_log.ensures.judged
 
-pub returns-in-Renew-clause-judged : goal.returns-in-Renew-clause-judged
-returns-in-Renew-clause-judged g c =
+pub returns-in-Ok-clause-judged : goal.returns-in-Ok-clause-judged
+returns-in-Ok-clause-judged g c =
     let program = c.args.program.now in
     let bytes = c.args.bytes.now in
     let kept = c.parts.ensures.kept in
@@ -37,8 +37,8 @@ returns-in-Renew-clause-judged g c =
     ))
     c.renew_log.ensures.renewed
 
-pub returns-in_ok-put_fault-in-Err-clause-judged : goal.returns-in_ok-put_fault-in-Err-clause-judged
-returns-in_ok-put_fault-in-Err-clause-judged g c =
+pub returns-clause-judged : goal.returns-clause-judged
+returns-clause-judged g c =
     let program = c.args.program.now in
     let bytes = c.args.bytes.now in
     let fault = c.in-Err.fault in (
