@@ -1,5 +1,5 @@
 -- How the counter rose, command by command.
-use Rattle.std.proofs.Common.{◌≡◌, ◌⊎◌, inl, inr, ⊎_elim, ℕ, List, [], refl, sym, subst, arith, Option}
+use Rattle.std.proofs.Common.{◌≡◌, ◌⊎◌, ⊎_elim, ℕ, List, [], subst, arith, Option}
 use Rattle.cep_base.specs.declared.console.Event.{Event}
 use Rattle.cep_base.specs.Files.{Files}
 use Rattle.cep_rule.specs.declared.parts.Parts.{Parts}
@@ -8,14 +8,12 @@ use Rattle.cep_words.specs.declared.options.Options.{Options}
 use Rattle.cep_words.specs.Words.{Request, Play, Examine, World, AskFor, HaveNoForm}
 use Rattle.cep_run.specs.declared.settings.Settings.{Settings}
 use Rattle.cep_run.specs.declared.tally.Tally.{Tally}
-use Rattle.cep_run.specs.Run.{Turn, Ending}
 use Rattle.cep_run.specs.Said.{IsSaid, IsTally}
 use Rattle.cep_play.specs.declared.loading.NoProgram.TheVariants as none
 use Rattle.cep_play.specs.declared.play.Played.{Played}
 use Rattle.cep_play.specs.declared.play.Played.TheVariants as played
 use Rattle.cep_play.specs.declared.world.Toured.{Toured}
 use Rattle.cep_play.specs.declared.world.Toured.TheVariants as toured
-use Rattle.cep_play.specs.Command.{settings_of}
 use Rattle.cep_play.specs.Outcome.{code_played, code_toured, PlayRose, TourRose}
 use Rattle.cep_play.specs.Counted.{RoseByRun, OfTour, RoseByRequest, RoseByAll}
 use Rattle.cep_play.proofs.Done.{IsOneRequest}

@@ -1,5 +1,5 @@
 -- How the counter of matching steps rises where a program is played to an end: by no more than what the network may tick for the very turns that were done, and by one for each backward premise of what was done in them.
-use Rattle.std.specs.Prelude.{◌≡◌, ℕ, List, [], Option}
+use Rattle.std.specs.Prelude.{ℕ, List, [], Option}
 use Rattle.cep_base.specs.declared.console.Event.{Event}
 use Rattle.cep_base.specs.Files.{Files}
 use Rattle.cep_rule.specs.declared.parts.Parts.{Parts}

@@ -3,7 +3,6 @@ use Rattle.cep_run.specs.declared.settings.Settings.{Settings}
 use Rattle.cep_run.specs.Fronts.{FellShort}
 use Rattle.cep_run.specs.Said.{Says, IsTally, IsSomeSaid}
 use Rattle.cep_base.proofs.Outcomes.{on_err}
-use Rattle.cep_play.specs.Command.{settings_of}
 use Rattle.cep_play.specs.Counted.{RoseByRun}
 use Rattle.cep_play.proofs.Done.{says_less}
 use Rattle.cep_play.proofs.play.play_program.Goals as goal
