@@ -59,7 +59,7 @@ pub record AreNone (names : Names) : Type 0 where
   pub interactives : names.interactives ≡ no_names
 
 -- The constructors are those of the source, and each space has its names.
-pub record AreNames (source : Source) (names : Names) : Type 0 where
+pub record AreNamesOf (source : Source) (names : Names) : Type 0 where
   pub cons : map con_item names.cons.items ≡ cons_of source
   pub sorts : AreDeclared (names_in source space.Sorts) names.sorts
   pub predicates : AreDeclared (names_in source space.Predicates) names.predicates
@@ -72,4 +72,4 @@ pub record AreNames (source : Source) (names : Names) : Type 0 where
 -- What is kept is what the source declares, and the names of it.
 pub record IsGathered (inside : Inside) : Type 0 where
   pub kinds : AreKinds (source_of inside).file inside.kinds
-  pub names : AreNames (source_of inside) inside.names
+  pub names : AreNamesOf (source_of inside) inside.names

@@ -1,6 +1,6 @@
 // What a file declares, kind by kind, and the names of it.
 ghost use Rattle.std.specs.Prelude.{◌≡◌, IfOk, OnOk};
-ghost use Rattle.cep_source.specs.Kept.{AreKinds, AreNone, AreNames};
+ghost use Rattle.cep_source.specs.Kept.{AreKinds, AreNone, AreNamesOf};
 
 use crate::declared::Declared;
 use crate::gathering::{
@@ -81,7 +81,7 @@ impl<'a> Names<'a> {
     ) -> Result<(), AllocError>
         requires none { AreNone self.old }
         requires kinds { AreKinds file.now kinds.now }
-        ensures { OnOk result (AreNames (record { text = text.now; file = file.now }) self.new) }
+        ensures { OnOk result (AreNamesOf (record { text = text.now; file = file.now }) self.new) }
     {
         self.sorts.declare_spans(text, &kinds.sorts)?;
         self.predicates.declare_preds(text, &kinds.preds)?;
@@ -100,7 +100,7 @@ impl<'a> Names<'a> {
         kinds: &Kinds,
     ) -> Result<Names<'a>, AllocError>
         requires { AreKinds file.now kinds.now }
-        ensures { IfOk result (AreNames (record { text = text.now; file = file.now })) }
+        ensures { IfOk result (AreNamesOf (record { text = text.now; file = file.now })) }
     {
         let mut names = Names::new(alloc);
         names.declare(alloc, text, file, kinds)?;
