@@ -52,6 +52,10 @@ impl Console for CalmConsole {
 
     ghost faults = { λ _. 0 };
 
+    fn is_read(&self) -> bool {
+        true
+    }
+
     fn put(&mut self, bytes: &[u8]) -> Result<(), ConsoleFault> {
         for &byte in bytes {
             self.events.push(Event::Out(byte))?;

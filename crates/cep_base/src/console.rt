@@ -1,5 +1,5 @@
 // The console: what the program writes to, and where its player's bytes come from.
-ghost use Rattle.std.specs.Prelude.{◌≡◌, ℕ, List, [], ◌∷◌, take, Option, IfOk, OnOk, OnErr, alloc_error};
+ghost use Rattle.std.specs.Prelude.{◌≡◌, ℕ, List, [], ◌∷◌, take, false, Option, None, IfOk, OnOk, OnErr, alloc_error};
 ghost use Rattle.cep_base.specs.declared.console.Event.{Event};
 ghost use Rattle.cep_base.specs.declared.console.ConsoleFault.TheVariants.{Memory};
 ghost use Rattle.cep_base.specs.Talk.{outs, heard, GoesOn, Takes, ConsoleCause};
@@ -33,6 +33,11 @@ pub trait Console {
 
     /// How often the console failed: from 0 to 2^64 - 1, and it never falls.
     ghost faults: { Self → ℕ };
+
+    /// Whether somebody reads what is written. Where nobody does, the talk is not told, and what
+    /// would be lost need not be made.
+    fn is_read(&self) -> bool
+        ensures { result ≡ false → talk self.now ≡ None };
 
     /// Writes all of the bytes. A refused call wrote a front of them.
     fn put(&mut self, bytes: &[u8]) -> Result<(), ConsoleFault>

@@ -54,6 +54,10 @@ impl Console for MemConsole {
 
     ghost faults = { λ console. console.calls.faults };
 
+    fn is_read(&self) -> bool {
+        true
+    }
+
     fn put(&mut self, bytes: &[u8]) -> Result<(), ConsoleFault>
         ensures written { OnOk result (GoesOn (Some self.old.talk) (outs bytes.now) (Some self.new.talk)) }
         ensures part { OnErr result

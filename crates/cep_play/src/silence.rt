@@ -14,6 +14,10 @@ impl Console for Silence {
 
     ghost faults = { λ _. 0 };
 
+    fn is_read(&self) -> bool {
+        false
+    }
+
     fn put(&mut self, _bytes: &[u8]) -> Result<(), ConsoleFault> {
         Ok(())
     }

@@ -45,6 +45,10 @@ impl<R: Input + Print + Drop> Console for StdConsole<R> {
 
     ghost faults = { λ console. console.faults };
 
+    fn is_read(&self) -> bool {
+        true
+    }
+
     fn put(&mut self, bytes: &[u8]) -> Result<(), ConsoleFault> {
         match self.runtime.write_all(bytes) {
             Ok(()) => Ok(()),
