@@ -6,6 +6,7 @@ use Rattle.cep_lines.specs.Lines.{offer_lines}
 use Rattle.cep_base.proofs.Did.{did_put}
 use Rattle.cep_base.proofs.Outcomes.{on_err}
 use Rattle.cep_run.proofs.Fronts.{did_part, did_nothing}
+use Rattle.cep_run.proofs.Unread.{untold_put}
 use Rattle.cep_run.proofs.deciding.tell.Goals as goal
 
 pub returns-clause-told : goal.returns-clause-told
@@ -20,6 +21,14 @@ returns-clause-told g c =
     on_ok_weaker c.put.result
     (λ written. subst (λ bytes. Did talk left old new (λ come events rest. (events ≡ outs bytes) × (rest ≡ come))) same (did_put talk left old new c.bytes.result.now written c.put.ensures.left))
     c.put.ensures.written
+
+pub returns-then-not-is_read-clause-told : goal.returns-then-not-is_read-clause-told
+returns-then-not-is_read-clause-told g c =
+    let talk = g.C.Console.talk in
+    let left = g.C.Console.left in
+    let console = c.args.console.now in
+    let lines = offer_lines c.args.program.now 1 (offers_of (g.M.Matcher.offers_held c.args.matcher.now) c.args.group) in
+    untold_put talk left console lines (c.is_read.ensures c.if-not-is_read.true)
 
 pub returns-in_err-put_offers-clause-begun : goal.returns-in_err-put_offers-clause-begun
 returns-in_err-put_offers-clause-begun g c =
