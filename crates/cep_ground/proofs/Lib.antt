@@ -7,7 +7,6 @@ pub mod FirstPlaces
 pub mod Limits
 pub mod Scopes
 pub mod RuleScopes
-pub mod NoFacts
 pub mod RuleParts
 pub mod BoundVariables
 pub mod VariableKinds

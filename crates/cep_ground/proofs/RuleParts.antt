@@ -23,7 +23,7 @@ use Rattle.cep_refusal.specs.declared.reason.Reason.TheVariants.{BwdInState, Lin
 use Rattle.cep_source.specs.declared.space.Role.TheVariants as role
 use Rattle.cep_source.specs.declared.space.Space.TheVariants as space
 use Rattle.cep_source.specs.Items.{Source, RuleItem, ClauseItem, PredItem, said, rules_of, clauses_of, preds_of}
-use Rattle.cep_source.specs.Spaces.{named, back_of}
+use Rattle.cep_source.specs.Spaces.{named, kind_of}
 use Rattle.cep_parse.specs.Raw.{atoms_of, raw_nodes}
 use Rattle.cep_source.specs.Uses.{placed, placed_of}
 use Rattle.cep_source.specs.Variables.{blanks_behind, variables_of, Occurrence}
@@ -167,7 +167,7 @@ module _ (source : Source) (clean : IsClean source) (atoms_made : AtomsMade sour
   linear_declared false = refl
 
   pub linear_count : (vars : List (List ℕ)) (blanks : ℕ) (elems : List RawElem) (list : List PremiseTree) → ((raw : RawAtom) → Contains (atoms_of elems) raw → IsHere source raw) → ArePremisesBy source vars blanks elems list
-      → length (filter (λ p. not (is_back source p.atom)) list) ≡ length (filter (λ atom. is_declared false (back_of source atom)) (atoms_of elems))
+      → length (filter (λ p. not (is_back source p.atom)) list) ≡ length (filter (λ atom. is_declared false (kind_of source atom)) (atoms_of elems))
   linear_count vars blanks [] [] here by = refl
   linear_count vars blanks [] (p ∷ list) here by = absurd by
   linear_count vars blanks (elem.Qui span ∷ elems) list here by = linear_count vars blanks elems list here by
@@ -178,11 +178,11 @@ module _ (source : Source) (clean : IsClean source) (atoms_made : AtomsMade sour
       let known = back_known source clean atoms_made raw is in
       let judged = (pred_at vars blanks raw p.atom is by.1).judged in
       let b = (pred_known source (placed is.role raw) clean.names is.there is.plain).pred.back in
-      count_step true p raw _ _ (not (is_back source p.atom)) (is_declared false (back_of source raw)) (ap not judged ∙ linear_declared b ∙ ap (is_declared false) (sym known))
+      count_step true p raw _ _ (not (is_back source p.atom)) (is_declared false (kind_of source raw)) (ap not judged ∙ linear_declared b ∙ ap (is_declared false) (sym known))
       (linear_count vars (blanks_after blanks raw.nodes) elems list (λ other there. here other (contains_behind raw (atoms_of elems) other there)) by.2)
 
   pub back_count : (vars : List (List ℕ)) (blanks : ℕ) (elems : List RawElem) (list : List PremiseTree) → ((raw : RawAtom) → Contains (atoms_of elems) raw → IsHere source raw) → ArePremisesBy source vars blanks elems list
-      → length (filter (λ p. is_back source p.atom) list) ≡ length (filter (λ atom. is_declared true (back_of source atom)) (atoms_of elems))
+      → length (filter (λ p. is_back source p.atom) list) ≡ length (filter (λ atom. is_declared true (kind_of source atom)) (atoms_of elems))
   back_count vars blanks [] [] here by = refl
   back_count vars blanks [] (p ∷ list) here by = absurd by
   back_count vars blanks (elem.Qui span ∷ elems) list here by = back_count vars blanks elems list here by
@@ -192,7 +192,7 @@ module _ (source : Source) (clean : IsClean source) (atoms_made : AtomsMade sour
       let is = here raw (contains_first raw (atoms_of elems)) in
       let known = back_known source clean atoms_made raw is in
       let judged = (pred_at vars blanks raw p.atom is by.1).judged in
-      count_step true p raw _ _ (is_back source p.atom) (is_declared true (back_of source raw)) (judged ∙ ap (is_declared true) (sym known))
+      count_step true p raw _ _ (is_back source p.atom) (is_declared true (kind_of source raw)) (judged ∙ ap (is_declared true) (sym known))
       (back_count vars (blanks_after blanks raw.nodes) elems list (λ other there. here other (contains_behind raw (atoms_of elems) other there)) by.2)
 
   -- as many atoms are made as are written

@@ -18,11 +18,11 @@ use Rattle.cep_refusal.specs.declared.reason.Reason.TheVariants.{OverLimit}
 use Rattle.cep_source.specs.declared.space.Role.{Role}
 use Rattle.cep_source.specs.declared.space.Role.TheVariants as role
 use Rattle.cep_source.specs.Items.{Source, RuleItem, ClauseItem, PredItem, said, rules_of, clauses_of}
-use Rattle.cep_source.specs.Spaces.{back_of}
+use Rattle.cep_source.specs.Spaces.{kind_of}
 use Rattle.cep_parse.specs.Raw.{atoms_of, raw_nodes}
 use Rattle.cep_source.specs.Uses.{Placed, placed, placed_of}
 use Rattle.cep_refusal.specs.First.{wrong}
-use Rattle.cep_source.specs.Misnamed.{is_declared, linear_of, backward_of}
+use Rattle.cep_source.specs.Misnamed.{is_declared, state_premises_of, backward_of}
 use Rattle.cep_source.specs.Misnamed.Misnamed.{over}
 use Rattle.cep_source.specs.Misnamed.IsOver.{premise, back, right, goal}
 use Rattle.cep_types.specs.Sites.{Site, sites_of, IsScope, rule_scope, clause_scope}
@@ -102,11 +102,11 @@ module _ (source : Source) (clean : IsClean source) (made : AtomsMade source) wh
   declared_either false = inl refl
 
   -- an atom's predicate is a linear one or a backward one
-  pub back_known : (raw : RawAtom) → (here : IsHere source raw) → back_of source raw ≡ Some (pred_known source (placed here.role raw) clean.names here.there here.plain).pred.back
+  pub back_known : (raw : RawAtom) → (here : IsHere source raw) → kind_of source raw ≡ Some (pred_known source (placed here.role raw) clean.names here.there here.plain).pred.back
   back_known raw here = ap (option_map (λ (pred : PredItem). pred.back)) (pred_known source (placed here.role raw) clean.names here.there here.plain).found
 
-  pub linear_few : (rule : RuleItem) → Contains (rules_of source) rule → length (linear_of source rule.raw) ≤ 16
-  linear_few rule there = at_most (linear_of source rule.raw) 16 (λ atom found. clean.names (wrong OverLimit atom.name.from) (over atom.name.from (premise rule atom there found refl) refl))
+  pub linear_few : (rule : RuleItem) → Contains (rules_of source) rule → length (state_premises_of source rule.raw) ≤ 16
+  linear_few rule there = at_most (state_premises_of source rule.raw) 16 (λ atom found. clean.names (wrong OverLimit atom.name.from) (over atom.name.from (premise rule atom there found refl) refl))
 
   pub back_few : (rule : RuleItem) → Contains (rules_of source) rule → length (backward_of source rule.raw) ≤ 8
   back_few rule there = at_most (backward_of source rule.raw) 8 (λ atom found. clean.names (wrong OverLimit atom.name.from) (over atom.name.from (back rule atom there found refl) refl))
@@ -119,7 +119,7 @@ module _ (source : Source) (clean : IsClean source) (made : AtomsMade source) wh
 
   left_few : (rule : RuleItem) → Contains (rules_of source) rule → length (atoms_of rule.raw.left) ≤ 24
   left_few rule there =
-      let cover = filters_cover (λ atom. is_declared false (back_of source atom)) (λ atom. is_declared true (back_of source atom)) (atoms_of rule.raw.left)
+      let cover = filters_cover (λ atom. is_declared false (kind_of source atom)) (λ atom. is_declared true (kind_of source atom)) (atoms_of rule.raw.left)
       (λ raw inside.
       let here = left_here rule there raw inside in
       let known = back_known raw here in

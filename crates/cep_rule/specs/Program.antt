@@ -91,7 +91,3 @@ pub record IsProgram (parts : Parts) : Type 0 where
   -- the start is a state that fits
   pub start : IsState parts.signature parts.start
   pub start_fits : Fits parts.start
-
--- No predicate is one of facts: so it is of each program that a text spells, since no text declares a fact yet.
-abbrev pub HasNoFacts : Signature → Type 0
-HasNoFacts signature = AllByRecursion (λ pred. is_of_facts pred.kind ≡ false) signature.preds

@@ -22,3 +22,4 @@ pub mod Transcribed
 pub mod Saying
 pub mod Fronts
 pub mod RunFronts
+pub mod Unread

@@ -1,6 +1,6 @@
 -- Private.
 -- What a part of a run does: words for the functions that do it.
-use Rattle.std.specs.Prelude.{◌≡◌, ℕ, ◌+◌, ◌-◌, ◌≤◌, List, [], ◌++◌, Option, Some, length, slice_get}
+use Rattle.std.specs.Prelude.{◌≡◌, ℕ, ◌+◌, ◌-◌, ◌≤◌, Bool, true, List, [], ◌++◌, Option, Some, length, slice_get}
 use Rattle.std.specs.List.{flat_map}
 use Rattle.cep_base.specs.declared.console.Event.{Event}
 use Rattle.cep_base.specs.declared.limits.TheConstants.{MOST_OFFERS, MOST_TYPED}
@@ -95,6 +95,12 @@ pub record TellsDeed (program : Parts) (height : ℕ) (offer : Offer) (number : 
   pub between : List ℕ
   pub step : TellsStep program height offer old between
   pub due : new ≡ between ++ due_lines program.signature number state
+
+-- These lines tell of a step with a number, and they were added where somebody reads them.
+pub record TellsReader (read : Bool) (program : Parts) (height : ℕ) (offer : Offer) (number : ℕ) (state : Multiset) (old new : List ℕ) : Type 0 where
+  pub whole : List ℕ
+  pub tells : TellsDeed program height offer number state old whole
+  pub added : read ≡ true → new ≡ whole
 
 -- The step by the offer at a place leads from one position to the other, its backward premises are proved within the height, and its lines are written, with the listing of the state where it leads, where one is due.
 pub record Acts (program : Parts) (height : ℕ) (offers : List Offer) (place : ℕ) (old new : Position) (come : List ℕ) (events : List Event) (rest : List ℕ) : Type 0 where

@@ -101,7 +101,7 @@ fn ask<C: Console, M: Matcher>(
     choose(console, matcher.count(group) as u32, taken)
 }
 
-/// Writes the offers of a group, and asks nobody.
+/// Writes the offers of a group, and asks nobody. Where nobody reads them, none are written.
 fn tell<C: Console, M: Matcher>(
     alloc: Global,
     program: &Program,
@@ -117,6 +117,9 @@ fn tell<C: Console, M: Matcher>(
     ensures begun { OnErr result (Did C.talk C.left console.old console.new (PutsFront (offer_lines program.now 1 (offers_of (M.offers_held matcher.now) group)))) }
     ensures cause { ConsoleCause (C.faults console.old) (C.faults console.new) result }
 {
+    if !console.is_read() {
+        return Ok(());
+    }
     let mut lines = Text::new(alloc);
     put_offers(program, matcher, group, &mut lines)?;
     console.put(lines.bytes())

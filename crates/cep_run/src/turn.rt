@@ -14,7 +14,7 @@ ghost use Rattle.cep_run.specs.Fronts.{FellShort, IsRunOf};
 ghost use Rattle.cep_run.specs.Begun.{BeginsAct};
 ghost use Rattle.cep_rule.specs.Matching.{RoseBy};
 ghost use Rattle.cep_run.specs.Costs.{IsDeedCost};
-ghost use Rattle.cep_run.specs.Turn.{position_of, supply_with, HasSpent, IsPlayed, TellsDeed, IsActed, RoseByAct, IsTurned, config_left, limit_word};
+ghost use Rattle.cep_run.specs.Turn.{position_of, supply_with, HasSpent, IsPlayed, TellsReader, IsActed, RoseByAct, IsTurned, config_left, limit_word};
 
 use crate::choice::Choice;
 use crate::copying::copy_offer;
@@ -84,8 +84,11 @@ fn act<C: Console, M: Matcher, L: Ledger>(
     let offer = copy_offer(alloc, chosen)?;
     match config.step(alloc, program, i, steps)? {
         Stepped::Done(config) => {
+            let read = console.is_read();
             let mut lines = Text::new(alloc);
-            put_deed(alloc, program, settings, &offer, &config, &mut lines, steps)?;
+            put_deed(
+                alloc, program, settings, &offer, &config, read, &mut lines, steps,
+            )?;
             console.put(lines.bytes())?;
             Ok(Turned::Done(config))
         }
@@ -94,24 +97,28 @@ fn act<C: Console, M: Matcher, L: Ledger>(
 }
 
 // What is written of a step that was done: its lines, and where one is due the listing of the state
-// where it led.
+// where it led, which is left out where nobody reads it.
 fn put_deed<M: Matcher, L: Ledger>(
     alloc: Global,
     program: &Program,
     settings: Settings,
     offer: &Offer,
     config: &Config<M>,
+    read: bool,
     out: &mut Text,
     steps: &mut Steps<L>,
 ) -> Result<(), AllocError>
     requires height { IsHeight settings.height }
     requires applies { (state : Multiset) × Applies program.now settings.height state offer.now }
     requires state { IsState program.now.signature config.now.state }
-    ensures ok { OnOk result (TellsDeed program.now settings.height offer.now config.now.turns config.now.state out.old out.new) }
+    ensures ok { OnOk result (TellsReader read program.now settings.height offer.now config.now.turns config.now.state out.old out.new) }
     ensures ticked { OnOk result ((rule : Rule) → slice_get program.now.rules offer.now.rule ≡ Some rule → steps.new ≡ steps.old + length rule.backs) }
     ensures counted { steps.old ≤ steps.new }
 {
     put_step_lines(alloc, program, offer, settings.height, out, steps)?;
+    if !read {
+        return Ok(());
+    }
     put_due(program, config.turns(), config.state(), out)
 }
 

@@ -1,14 +1,17 @@
 -- The start state of a trace, and the sizes of atoms as they are written.
-use Rattle.std.specs.Prelude.{ℕ, ◌+◌, ◌≤◌, Bool, true, false, List, [], ◌∷◌, ◌++◌, Option, Some, None, length, max}
-use Rattle.std.specs.List.{flat_map, repeat}
+use Rattle.std.specs.Prelude.{ℕ, ◌+◌, ◌≤◌, Bool, true, false, if◌then◌else◌, List, [], ◌∷◌, ◌++◌, Option, Some, None, unwrap_or, length, replicate, max}
+use Rattle.std.specs.Option.{option_map}
+use Rattle.std.specs.Str.{bytes_eq}
+use Rattle.std.specs.List.{flat_map, list_any, repeat}
 use Rattle.cep_parse.specs.declared.raw.RawNode.{RawNode}
 use Rattle.cep_parse.specs.declared.raw.RawAtom.{RawAtom}
 use Rattle.cep_parse.specs.declared.raw.RawStart.{RawStart}
 use Rattle.cep_parse.specs.declared.raw.RawStart.TheVariants as start
+use Rattle.cep_base.specs.Kinds.{is_of_facts}
 use Rattle.cep_base.specs.declared.limits.TheConstants.{MOST_DEPTH, MOST_NODES}
 use Rattle.cep_source.specs.declared.space.Role.TheVariants as role
 use Rattle.cep_source.specs.Items.{Source, ContextItem, said}
-use Rattle.cep_source.specs.Spaces.{context_named}
+use Rattle.cep_source.specs.Spaces.{context_named, kind_of}
 use Rattle.cep_source.specs.Uses.{placed, is_context}
 
 -- the atoms of a context, and none where there is no such context
@@ -25,6 +28,36 @@ listed_or false source atom = atom ∷ []
 abbrev pub start_atoms : Source → RawStart → List RawAtom
 start_atoms source (start.Named name) = listed_in (context_named source (said source name))
 start_atoms source (start.Listed atoms) = flat_map (λ atom. listed_or (is_context source (placed role.Start atom)) source atom) atoms
+
+-- whether an atom's predicate is declared as one of facts
+abbrev pub is_of_fact : Source → RawAtom → Bool
+is_of_fact source atom = unwrap_or (option_map is_of_facts (kind_of source atom)) false
+
+-- the bytes of a dot and of a space
+abbrev pub dot : ℕ
+dot = 46
+
+abbrev pub space : ℕ
+space = 32
+
+-- an atom as it is written, without blanks and parentheses: each name, variable or blank in order, with a dot for each of its arguments
+abbrev pub node_written : Source → RawNode → List ℕ
+node_written source node = said source node.at ++ (replicate node.args dot ++ space ∷ [])
+
+abbrev pub atom_written : Source → RawAtom → List ℕ
+atom_written source atom = said source atom.name ++ (space ∷ flat_map (node_written source) atom.nodes)
+
+-- the atoms that count, behind these facts: all but facts that are written again
+abbrev pub counting_behind : Source → List (List ℕ) → List RawAtom → List RawAtom
+counting_behind source before [] = []
+counting_behind source before (atom ∷ atoms) =
+    if is_of_fact source atom then
+        (if list_any (λ fact. bytes_eq fact (atom_written source atom)) before then counting_behind source before atoms
+        else atom ∷ counting_behind source (atom_written source atom ∷ before) atoms)
+    else atom ∷ counting_behind source before atoms
+
+abbrev pub counted : Source → List RawAtom → List RawAtom
+counting source atoms = counting_behind source [] atoms
 
 -- how many nodes an atom has: its own and those of its arguments
 abbrev pub nodes_written : RawAtom → ℕ

@@ -8,6 +8,7 @@ use std::test::Fail;
 #[test]
 fn the_console_writes_and_reads_the_standard_streams(rt: HostRuntime) -> Result<(), Fail> {
     let mut console = StdConsole::new(rt.alloc(), &rt)?;
+    assert!(rt; console.is_read());
     assert_eq!(rt; console.put(b"a line\n"), Ok(()));
     assert_eq!(rt; console.next(), Ok(None), "the input of a test is empty");
     Ok(())

@@ -1,20 +1,23 @@
-use Rattle.std.proofs.Common.{◌≡◌, subst, inl, refl, ◌∙◌}
+use Rattle.std.proofs.Common.{◌≡◌, subst, inl, refl, take, ◌∙◌}
 use Rattle.cep_rule.specs.Limits.{IsHeight}
 use Rattle.cep_machine.specs.Configuration.{IsConfigurationOf}
 use Rattle.cep_machine.specs.Stepping.{config_after}
 use Rattle.cep_base.proofs.Did.{did_same, did_map}
 use Rattle.cep_base.proofs.Outcomes.{on_err}
+use Rattle.cep_run.proofs.Unread.{unread}
 use Rattle.cep_run.proofs.Turns.{copy_applies, done_acts, done_rose, cut_acts, limit_acts, limit_rose, limit_played}
 use Rattle.cep_run.proofs.turn.act.Goals as goal
 
 pub returns-in-Done-clause-acted : goal.returns-in-Done-clause-acted
 returns-in-Done-clause-acted g c =
+    let told = c.in_ok-put_deed-in-Done.ensures.ok in
     done_acts g.M.Matcher.height_held g.M.Matcher.state_held g.M.Matcher.offers_held c.args.program.now c.args.group c.args.place c.args.config
     (g.met.M.Matcher.exact c.args.program.now c.args.config.matcher c.requires.played.of_program.matcher) c.requires.listed c.requires.asked
     c.matcher.result.now c.matcher.ensures.matcher c.offer-chosen.result.now c.in_ok-offer.offer c.offer-chosen.ensures c.in_ok-offer.ensures
     g.C.Console.talk g.C.Console.left c.args.console.now c.args.settings.height _ c.in_ok-config.ensures.stepped
-    c.in-Done.config c.in-Done.is c.put.new.self c.new-lines.result c.put_deed.new.out c.bytes.result.now c.new-lines.ensures c.in_ok-put_deed-in-Done.ensures.ok c.bytes.ensures
-    c.in_ok-put-in-Done.ensures.written c.in_ok-put-in-Done.ensures.left
+    c.in-Done.config c.in-Done.is c.put.new.self c.new-lines.result told.whole told.whole c.new-lines.ensures told.tells refl
+    (unread g.C.Console.talk c.args.console.now c.put.new.self c.read.result (λ bytes. bytes) c.bytes.result.now told.whole c.read.ensures (λ read. c.bytes.ensures ∙ told.added read) c.in_ok-put-in-Done.ensures.written)
+    c.in_ok-put-in-Done.ensures.left
 
 pub returns-clause-acted : goal.returns-clause-acted
 returns-clause-acted g c =
@@ -85,10 +88,13 @@ returns-in_err-put_deed-in-Done-clause-begun g c = on_err c.from_residual-in_err
 
 pub returns-in_err-put-in-Done-clause-begun : goal.returns-in_err-put-in-Done-clause-begun
 returns-in_err-put-in-Done-clause-begun g c =
+    let told = c.in_ok-put_deed-in-Done.ensures.ok in
+    let n = c.in_err-put-in-Done.ensures.part.0 in
     on_err c.from_residual-in_err-put-in-Done.result _
     (cut_acts g.M.Matcher.height_held g.M.Matcher.state_held g.M.Matcher.offers_held c.args.program.now c.args.group c.args.place c.args.config
     (g.met.M.Matcher.exact c.args.program.now c.args.config.matcher c.requires.played.of_program.matcher) c.requires.listed c.requires.asked
     c.matcher.result.now c.matcher.ensures.matcher c.offer-chosen.result.now c.in_ok-offer.offer c.offer-chosen.ensures c.in_ok-offer.ensures
     g.C.Console.talk g.C.Console.left c.args.console.now c.args.settings.height _ c.in_ok-config.ensures.stepped
-    c.in-Done.config c.in-Done.is c.put.new.self c.new-lines.result c.put_deed.new.out c.bytes.result.now c.in_err-put-in-Done.ensures.part.0 c.new-lines.ensures c.in_ok-put_deed-in-Done.ensures.ok c.bytes.ensures
-    c.in_err-put-in-Done.ensures.part.1 c.in_err-put-in-Done.ensures.left)
+    c.in-Done.config c.in-Done.is c.put.new.self c.new-lines.result told.whole told.whole n c.new-lines.ensures told.tells refl
+    (unread g.C.Console.talk c.args.console.now c.put.new.self c.read.result (take n) c.bytes.result.now told.whole c.read.ensures (λ read. c.bytes.ensures ∙ told.added read) c.in_err-put-in-Done.ensures.part.1)
+    c.in_err-put-in-Done.ensures.left)
