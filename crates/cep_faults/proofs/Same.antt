@@ -29,7 +29,7 @@ use Rattle.cep_parse.specs.Raw.{item_rules, atoms_of}
 use Rattle.cep_source.specs.Misnamed.{is_declared}
 use Rattle.cep_faults.specs.Seen.{met, new_at, blanked, new_in, new_kind, met_kind}
 use Rattle.cep_source.specs.Spaces.{Named, named, kind_named, names_in, rule_names_from, unlabelled_behind}
-use Rattle.cep_source.specs.Starts.{nodes_written, listed_or, start_atoms, is_of_fact, atom_written, counting_behind, counting}
+use Rattle.cep_source.specs.Starts.{nodes_written, listed_or, start_atoms, is_of_fact, is_written_alike, counting_behind, counting}
 use Rattle.cep_source.specs.Firsts.{has_name}
 use Rattle.cep_source.specs.Uses.{placed, is_context}
 use Rattle.cep_source.specs.Variables.{Occurrence, occurrence_at, blanks_behind, occurrences_from, firsts_beside}
@@ -199,30 +199,29 @@ module _ (source : Source) where
 
   -- a number of what counts is that of what is no fact, and of the facts that count
   module _ (size : RawAtom → ℕ) where
-    counted_step : (fact there : Bool) (atom : RawAtom) (same new_ other rest : List RawAtom) → is_of_fact source atom ≡ fact
+    counted_step : (fact there : Bool) (atom : RawAtom) (same new_ rest : List RawAtom) → is_of_fact source atom ≡ fact
         → sum_by size same ≡ sum_by size rest + sum_by size (filter (is_of_fact source) same)
         → sum_by size new_ ≡ sum_by size rest + sum_by size (filter (is_of_fact source) new_)
-        → sum_by size other ≡ sum_by size rest + sum_by size (filter (is_of_fact source) other)
-        → sum_by size (if fact then (if there then same else atom ∷ new_) else atom ∷ other)
-        ≡ sum_by size (if not fact then atom ∷ rest else rest) + sum_by size (filter (is_of_fact source) (if fact then (if there then same else atom ∷ new_) else atom ∷ other))
-    counted_step true true atom same new_ other rest is one two three = one
-    counted_step true false atom same new_ other rest is one two three =
+        → sum_by size (if fact && there then same else atom ∷ new_)
+        ≡ sum_by size (if not fact then atom ∷ rest else rest) + sum_by size (filter (is_of_fact source) (if fact && there then same else atom ∷ new_))
+    counted_step true true atom same new_ rest is one two = one
+    counted_step true false atom same new_ rest is one two =
         rw is
         (let here = sum_by-cons size atom new_ in
         let kept = sum_by-cons size atom (filter (is_of_fact source) new_) in
         omega (arith, here, kept, two))
-    counted_step false there atom same new_ other rest is one two three =
+    counted_step false there atom same new_ rest is one two =
         rw is
-        (let here = sum_by-cons size atom other in
+        (let here = sum_by-cons size atom new_ in
         let kept = sum_by-cons size atom rest in
-        omega (arith, here, kept, three))
+        omega (arith, here, kept, two))
 
-    sum_counted : (before : List (List ℕ)) (atoms : List RawAtom) → sum_by size (counting_behind source before atoms) ≡ sum_by size (others source atoms) + sum_by size (filter (is_of_fact source) (counting_behind source before atoms))
+    sum_counted : (before atoms : List RawAtom) → sum_by size (counting_behind source before atoms) ≡ sum_by size (others source atoms) + sum_by size (filter (is_of_fact source) (counting_behind source before atoms))
     sum_counted before [] = refl
     sum_counted before (atom ∷ atoms) =
-        counted_step (is_of_fact source atom) (list_any (λ fact. bytes_eq fact (atom_written source atom)) before) atom
-        (counting_behind source before atoms) (counting_behind source (atom_written source atom ∷ before) atoms) (counting_behind source before atoms) (others source atoms) refl
-        (sum_counted before atoms) (sum_counted (atom_written source atom ∷ before) atoms) (sum_counted before atoms)
+        counted_step (is_of_fact source atom) (list_any (is_written_alike source atom) before) atom
+        (counting_behind source before atoms) (counting_behind source (atom ∷ before) atoms) (others source atoms) refl
+        (sum_counted before atoms) (sum_counted (atom ∷ before) atoms)
 
   length_sum : (atoms : List RawAtom) → length atoms ≡ sum_by (λ (_ : RawAtom). 1) atoms
   length_sum [] = refl

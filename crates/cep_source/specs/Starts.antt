@@ -1,5 +1,5 @@
 -- The start state of a trace, and the sizes of atoms as they are written.
-use Rattle.std.specs.Prelude.{ℕ, ◌+◌, ◌≤◌, Bool, true, false, if◌then◌else◌, List, [], ◌∷◌, ◌++◌, Option, Some, None, unwrap_or, length, replicate, max}
+use Rattle.std.specs.Prelude.{ℕ, ◌+◌, ◌≤◌, Bool, true, false, ◌&&◌, ◌==◌, if◌then◌else◌, List, [], ◌∷◌, ◌++◌, Option, Some, None, unwrap_or, length, max}
 use Rattle.std.specs.Option.{option_map}
 use Rattle.std.specs.Str.{bytes_eq}
 use Rattle.std.specs.List.{flat_map, list_any, repeat}
@@ -33,30 +33,27 @@ start_atoms source (start.Listed atoms) = flat_map (λ atom. listed_or (is_conte
 abbrev pub is_of_fact : Source → RawAtom → Bool
 is_of_fact source atom = unwrap_or (option_map is_of_facts (kind_of source atom)) false
 
--- the bytes of a dot and of a space
-abbrev pub dot : ℕ
-dot = 46
+-- whether two nodes, and two atoms, are written alike: the same names in the same order, with as many arguments
+abbrev pub is_node_alike : Source → RawNode → RawNode → Bool
+is_node_alike source one other = bytes_eq (said source one.at) (said source other.at) && (one.args == other.args)
 
-abbrev pub space : ℕ
-space = 32
+abbrev pub are_nodes_alike : Source → List RawNode → List RawNode → Bool
+are_nodes_alike source [] [] = true
+are_nodes_alike source [] (node ∷ nodes) = false
+are_nodes_alike source (node ∷ nodes) [] = false
+are_nodes_alike source (one ∷ ones) (other ∷ others) = is_node_alike source one other && are_nodes_alike source ones others
 
--- an atom as it is written, without blanks and parentheses: each name, variable or blank in order, with a dot for each of its arguments
-abbrev pub node_written : Source → RawNode → List ℕ
-node_written source node = said source node.at ++ (replicate node.args dot ++ space ∷ [])
+abbrev pub is_written_alike : Source → RawAtom → RawAtom → Bool
+is_written_alike source one other = bytes_eq (said source one.name) (said source other.name) && are_nodes_alike source one.nodes other.nodes
 
-abbrev pub atom_written : Source → RawAtom → List ℕ
-atom_written source atom = said source atom.name ++ (space ∷ flat_map (node_written source) atom.nodes)
-
--- the atoms that count, behind these facts: all but facts that are written again
-abbrev pub counting_behind : Source → List (List ℕ) → List RawAtom → List RawAtom
+-- the atoms that count, behind others: all but a fact that is written like one before it
+abbrev pub counting_behind : Source → List RawAtom → List RawAtom → List RawAtom
 counting_behind source before [] = []
 counting_behind source before (atom ∷ atoms) =
-    if is_of_fact source atom then
-        (if list_any (λ fact. bytes_eq fact (atom_written source atom)) before then counting_behind source before atoms
-        else atom ∷ counting_behind source (atom_written source atom ∷ before) atoms)
-    else atom ∷ counting_behind source before atoms
+    if is_of_fact source atom && list_any (is_written_alike source atom) before then counting_behind source before atoms
+    else atom ∷ counting_behind source (atom ∷ before) atoms
 
-abbrev pub counted : Source → List RawAtom → List RawAtom
+abbrev pub counting : Source → List RawAtom → List RawAtom
 counting source atoms = counting_behind source [] atoms
 
 -- how many nodes an atom has: its own and those of its arguments
