@@ -1,1 +1,0 @@
-autocmd BufRead,BufNewFile *.cep setfiletype ceptre
