@@ -11,6 +11,7 @@ pub mod RuleParts
 pub mod BoundVariables
 pub mod VariableKinds
 pub mod StateAtoms
+pub mod Facts
 pub mod StartState
 pub mod NameLaws
 pub mod GroupLaws

@@ -1,7 +1,6 @@
 -- What the parts of every program keep.
 use Rattle.std.specs.Prelude.{◌≡◌, ◌↔◌, ℕ, ◌*◌, ◌%◌, ◌<◌, true, false, List, [], length, map, IsSome, IfSome}
 use Rattle.std.specs.List.{AllByRecursion}
-use Rattle.cep_base.specs.Kinds.{is_of_facts}
 use Rattle.cep_rule.specs.declared.signature.Signature.{Signature}
 use Rattle.cep_rule.specs.declared.rule.Rule.{Rule}
 use Rattle.cep_rule.specs.declared.parts.Parts.{Parts}

@@ -44,7 +44,8 @@ are_nodes_alike source (node ∷ nodes) [] = false
 are_nodes_alike source (one ∷ ones) (other ∷ others) = is_node_alike source one other && are_nodes_alike source ones others
 
 abbrev pub is_written_alike : Source → RawAtom → RawAtom → Bool
-is_written_alike source one other = bytes_eq (said source one.name) (said source other.name) && are_nodes_alike source one.nodes other.nodes
+is_written_alike source one other =
+    bytes_eq (said source one.name) (said source other.name) && (one.args == other.args) && are_nodes_alike source one.nodes other.nodes
 
 -- the atoms that count, behind others: all but a fact that is written like one before it
 abbrev pub counting_behind : Source → List RawAtom → List RawAtom → List RawAtom
