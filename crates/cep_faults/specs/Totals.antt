@@ -12,7 +12,6 @@ use Rattle.cep_refusal.specs.declared.reason.Reason.TheVariants.{NoTrace, TwoTra
 use Rattle.cep_source.specs.declared.space.Role.TheVariants as role
 use Rattle.cep_faults.specs.declared.counts.Counted.{Counted}
 use Rattle.cep_faults.specs.declared.counts.Counted.TheVariants as counted
-use Rattle.cep_faults.specs.declared.facts.Facts.{Facts}
 use Rattle.cep_faults.specs.declared.sizes.Size.{Size}
 use Rattle.cep_faults.specs.declared.sizes.Sizes.{Sizes}
 use Rattle.cep_source.specs.Items.{Source, TraceItem, said, preds_in, cons_in, clauses_in, contexts_of, traces_of}
@@ -20,7 +19,7 @@ use Rattle.cep_source.specs.Spaces.{context_named}
 use Rattle.cep_parse.specs.Raw.{item_rules, raw_nodes, atoms_of, listed_atoms}
 use Rattle.cep_refusal.specs.First.{wrong}
 use Rattle.cep_faults.specs.Seen.{unseen, new_in}
-use Rattle.cep_source.specs.Starts.{listed_in, start_atoms, nodes_written, depth_written, is_of_fact, atom_written, counting}
+use Rattle.cep_source.specs.Starts.{listed_in, start_atoms, nodes_written, depth_written, is_of_fact, counting}
 use Rattle.cep_source.specs.Uses.{names_context}
 use Rattle.cep_faults.specs.Faults.{past, item_faults}
 
@@ -101,14 +100,6 @@ listed_size source atom =
 abbrev pub start_size : Source → RawStart → Size
 start_size source (start.Named name) = context_size source (said source name)
 start_size source (start.Listed atoms) = cut (total_size (map (listed_size source) atoms))
-
--- no facts, and those of atoms with how they are written
-abbrev pub no_facts : Facts
-no_facts = record { written = []; size = record { copies = 0; nodes = 0 } }
-
-pub record AreFactsOf (source : Source) (atoms : List RawAtom) (facts : Facts) : Type 0 where
-  pub written : map (λ entry. entry.0) facts.written ≡ map (atom_written source) (facts_counting source atoms)
-  pub size : facts.size ≡ cut (written_size (facts_counting source atoms))
 
 -- the size of the facts of a start state
 abbrev pub facts_size : Source → RawStart → Size

@@ -1,11 +1,12 @@
 // The facts that a start state lists. One that is written again counts once.
-ghost use Rattle.std.specs.Prelude.{◌≡◌, ◌++◌, ◌∷◌, [], replicate, IfOk, OnOk};
+ghost use Rattle.std.specs.Prelude.{◌≡◌, ◌++◌, ◌∷◌, [], List, IfOk, OnOk};
+ghost use Rattle.cep_parse.specs.declared.raw.RawAtom.{RawAtom};
 ghost use Rattle.cep_parse.specs.declared.raw.RawStart.TheVariants as start;
-ghost use Rattle.cep_source.specs.Starts.{is_of_fact, node_written, atom_written, listed_or, start_atoms};
 ghost use Rattle.cep_source.specs.declared.space.Role.TheVariants as role;
+ghost use Rattle.cep_source.specs.Starts.{is_of_fact, listed_or, start_atoms};
 ghost use Rattle.cep_source.specs.Uses.{placed, is_context};
-ghost use Rattle.cep_source.specs.Items.{said};
-ghost use Rattle.cep_faults.specs.Totals.{AreFactsOf, no_facts, facts_size};
+ghost use Rattle.cep_faults.specs.FactKeys.{name_key, count_key, node_key, atom_key, AreFactsOf, ArePassed, no_facts};
+ghost use Rattle.cep_faults.specs.Totals.{facts_size};
 
 use crate::atoms::names_context;
 use crate::sizes::Size;
@@ -24,34 +25,51 @@ pub(crate) fn is_of_fact(source: &Source, atom: &RawAtom) -> bool
     }
 }
 
-// Adds a node as it is written, with a dot for each argument.
-fn put_node(source: &Source, node: &RawNode, text: &mut Text) -> Result<(), AllocError>
-    ensures { OnOk result (text.new ≡ text.old ++ node_written source.now node.now) }
+// Adds the key of a name: each byte behind a mark, and a stop.
+fn put_name(name: &[u8], key: &mut Text) -> Result<(), AllocError>
+    ensures { OnOk result (key.new ≡ key.old ++ name_key name.now) }
 {
-    text.append(source.said(node.at))?;
-    for _dot in 0..node.args {
-        text.append(b".")?;
+    for i in 0..name.len() {
+        key.append(b"+")?;
+        key.append(&name[i..i + 1])?;
     }
-    text.append(b" ")
+    key.append(b".")
 }
 
-// An atom as it is written, without blanks and parentheses.
-fn written(source: &Source, atom: &RawAtom) -> Result<Text, AllocError>
-    ensures { IfOk result (λ text. text ≡ atom_written source.now atom.now) }
+// Adds the key of a number of arguments: as many marks, and a stop.
+fn put_count(count: u32, key: &mut Text) -> Result<(), AllocError>
+    ensures { OnOk result (key.new ≡ key.old ++ count_key count) }
 {
-    let mut text = Text::new(source.alloc());
-    text.append(source.said(atom.name))?;
-    text.append(b" ")?;
+    for _mark in 0..count {
+        key.append(b"+")?;
+    }
+    key.append(b".")
+}
+
+fn put_node(source: &Source, node: &RawNode, key: &mut Text) -> Result<(), AllocError>
+    ensures { OnOk result (key.new ≡ key.old ++ node_key source.now node.now) }
+{
+    put_name(source.said(node.at), key)?;
+    put_count(node.args, key)
+}
+
+// The key of an atom, which it shares with those that are written alike, and with no others.
+fn key_of(source: &Source, atom: &RawAtom) -> Result<Text, AllocError>
+    ensures { IfOk result (λ key. key ≡ atom_key source.now atom.now) }
+{
+    let mut key = Text::new(source.alloc());
+    put_name(source.said(atom.name), &mut key)?;
+    put_count(atom.args, &mut key)?;
     for node in atom.nodes.as_slice() {
-        put_node(source, node, &mut text)?;
+        put_node(source, node, &mut key)?;
     }
-    Ok(text)
+    Ok(key)
 }
 
-// The facts so far, by how they are written, and their size.
+// The facts so far, by their keys, and their size.
 #[derive(Drop)]
 struct Facts {
-    written: FirstPlaces,
+    keys: FirstPlaces,
     size: Size,
 }
 
@@ -61,7 +79,7 @@ impl Facts {
         ensures { result ≡ no_facts }
     {
         Facts {
-            written: FirstPlaces::new(alloc),
+            keys: FirstPlaces::new(alloc),
             size: Size::NONE,
         }
     }
@@ -73,8 +91,8 @@ impl Facts {
         if !is_of_fact(source, atom) {
             return Ok(());
         }
-        let text = written(source, atom)?;
-        if self.written.add(text.bytes(), 0)? {
+        let key = key_of(source, atom)?;
+        if self.keys.add(key.bytes(), 0)? {
             self.size = self.size.and(Size::of_one(atom));
         }
         Ok(())
@@ -95,7 +113,13 @@ impl Facts {
         source: &Source,
         atom: &RawAtom,
         contexts: &mut FirstPlaces,
-    ) -> Result<(), AllocError> {
+    ) -> Result<(), AllocError>
+        ensures { OnOk result ((before : List RawAtom)
+            → AreFactsOf source.now before self.old
+            → ArePassed source.now before contexts.old
+            → AreFactsOf source.now (before ++ listed_or (is_context source.now (placed role.Start atom.now)) source.now atom.now) self.new
+            × ArePassed source.now (before ++ listed_or (is_context source.now (placed role.Start atom.now)) source.now atom.now) contexts.new) }
+    {
         if !names_context(source, Role::Start, atom.name, atom.args) {
             return self.note(source, atom);
         }
@@ -106,7 +130,10 @@ impl Facts {
     }
 
     // Counts the facts in braces.
-    fn note_braces(&mut self, source: &Source, atoms: &[RawAtom]) -> Result<(), AllocError> {
+    fn note_braces(&mut self, source: &Source, atoms: &[RawAtom]) -> Result<(), AllocError>
+        requires { self.old ≡ no_facts }
+        ensures { OnOk result (AreFactsOf source.now (start_atoms source.now (start.Listed atoms.now)) self.new) }
+    {
         let mut contexts = FirstPlaces::new(source.alloc());
         for atom in atoms {
             self.note_listed(source, atom, &mut contexts)?;
