@@ -1,5 +1,5 @@
 -- What is wrong is found.
-use Rattle.std.proofs.Common.{◌≡◌, ◌≢◌, ℕ, ◌⊎◌, inl, inr, ⊎_elim, ◌==◌, Bool, true, false, ◌||◌, ◌&&◌, nat_lt, nat_le, if◌then◌else◌, List, [], ◌∷◌, ◌++◌, length, map, Option, Some, is_some, refl, ap, sym, ◌∙◌, subst, count_by}
+use Rattle.std.proofs.Common.{◌≡◌, ◌≢◌, ℕ, ◌⊎◌, inl, inr, ⊎_elim, ◌==◌, Bool, true, false, ◌||◌, ◌&&◌, nat_lt, nat_le, if◌then◌else◌, List, [], ◌∷◌, ◌++◌, length, map, Option, Some, None, is_some, refl, ap, sym, ◌∙◌, subst, count_by}
 use Rattle.std.specs.List.{flat_map, slice_get, sum_by}
 use Rattle.std.proofs.lemmas.Bool.{leb-true, eqb-true, lt-ltb}
 use Rattle.cep_parse.specs.declared.raw.Span.{Span}
@@ -7,6 +7,8 @@ use Rattle.cep_parse.specs.declared.raw.RawNode.{RawNode}
 use Rattle.cep_parse.specs.declared.raw.RawAtom.{RawAtom}
 use Rattle.cep_parse.specs.declared.raw.RawRule.{RawRule}
 use Rattle.cep_parse.specs.declared.raw.RawItem.{RawItem}
+use Rattle.cep_base.specs.declared.kind.PredKind.{PredKind}
+use Rattle.cep_base.specs.declared.kind.PredKind.TheVariants.{Linear, Back, Fact}
 use Rattle.cep_base.specs.declared.limits.TheConstants.{MOST_ARGUMENTS, MOST_BACKS, MOST_CLAUSES, MOST_CONS, MOST_COPIES, MOST_DEPTH, MOST_GOALS, MOST_NODES, MOST_PREDS, MOST_PREMISES, MOST_RIGHT, MOST_RULES, MOST_STATE_NODES, MOST_VARIABLES}
 use Rattle.cep_refusal.specs.declared.fault.Fault.{Fault}
 use Rattle.cep_refusal.specs.declared.reason.Reason.TheVariants.{WrongArity, VarInContext, BwdInState, LinearInClause, BadQui, TwoTraces, OverLimit}
@@ -17,22 +19,22 @@ use Rattle.cep_source.specs.declared.space.Role.TheVariants as role
 use Rattle.cep_faults.specs.declared.counts.Counted.TheVariants as counted
 use Rattle.cep_source.specs.Items.{Source, PredItem, ConItem, ClauseItem, RuleItem, TraceItem, said, cons_in, cons_of, preds_in, preds_of, clauses_in, clauses_of, rules_of, traces_in, traces_of}
 use Rattle.cep_parse.specs.Raw.{item_rules, atoms_of, raw_nodes, listed_atoms}
-use Rattle.cep_source.specs.Misnamed.{Misnamed, IsTwice, IsOver, IsOfState, ComesToState, IsOpen, IsQuiRule, is_somewhere, arguments_of, linear_of, backward_of, is_qui, is_stage, turns_said}
+use Rattle.cep_source.specs.Misnamed.{Misnamed, IsTwice, IsOver, IsOfState, ComesToState, IsOpen, IsQuiRule, is_somewhere, arguments_of, state_premises_of, backward_of, is_qui, is_stage, turns_said, is_declared}
 use Rattle.cep_refusal.specs.First.{wrong}
 use Rattle.cep_source.specs.Misnamed.Misnamed.{twice, unknown, wrong_kind, wrong_arity, variable_in_state, backward_in_state, linear_in_clause, bad_qui, no_trace, two_traces, over}
 use Rattle.cep_source.specs.Misnamed.IsOpen.{variable, blank}
 use Rattle.cep_source.specs.Misnamed.IsOfState.{listed, start}
 use Rattle.cep_source.specs.Misnamed.ComesToState.{made}
-use Rattle.cep_source.specs.Spaces.{names_in, is_in, arity_of, back_of}
-use Rattle.cep_source.specs.Starts.{IsFitWritten, nodes_written, depth_written, start_atoms}
+use Rattle.cep_source.specs.Spaces.{names_in, is_in, arity_of, kind_of}
+use Rattle.cep_source.specs.Starts.{IsFitWritten, nodes_written, depth_written, start_atoms, counting}
 use Rattle.cep_source.specs.Uses.{Placed, Use, placed, is_context, own_uses, con_uses, pred_uses, node_uses, atom_uses, item_uses, uses_of, own_atoms, item_atoms, placed_of, rule_atoms, clause_atoms}
 use Rattle.cep_source.specs.Variables.{variables_of}
 use Rattle.cep_faults.specs.Seen.{unseen, new_in}
 use Rattle.cep_faults.specs.Faults.{lack_faults, arity_faults, use_faults, pred_faults, node_faults, open_faults, back_faults, linear_faults, state_faults, role_faults, placed_faults, past, places, argument_faults, con_faults, size_faults, rule_faults, clause_faults, premise_places, is_qui_rule, qui_faults, turns_faults, trace_faults, outers_in, state_role, state_atoms, item_faults}
-use Rattle.cep_faults.specs.Totals.{variable_faults, item_variable_faults, is_fit, unfit_faults, item_unfit_faults, count_faults, all_count_faults, written_size, is_large, start_size, start_faults, traces_faults, all_faults}
+use Rattle.cep_faults.specs.Totals.{variable_faults, item_variable_faults, is_fit, unfit_faults, item_unfit_faults, count_faults, all_count_faults, written_size, is_large, whole_size, start_faults, traces_faults, all_faults}
 use Rattle.cep_base.proofs.Members.{In, here, in_nil, in_one, in_same, in_left, in_right, in_parts, through, via, image, mapped, from_contains, give}
 use Rattle.cep_faults.proofs.Parts.{own_parts, housed}
-use Rattle.cep_faults.proofs.Same.{atom_at, entry_at, head_at, occurrence_from, premise_list, atom_list, preds_at, cons_at, clauses_at, rules_at, size_same, large_same}
+use Rattle.cep_faults.proofs.Same.{atom_at, entry_at, head_at, occurrence_from, premise_list, atom_list, preds_at, cons_at, clauses_at, rules_at, whole_same, large_same}
 use Rattle.cep_faults.proofs.SoundItems.{variable_list}
 
 is_one : (w fault : Fault) → fault ≡ w → In (w ∷ []) fault
@@ -199,11 +201,20 @@ open_in : (node : RawNode) (fault : Fault) → IsOpen node → fault ≡ wrong V
 open_in node fault (variable span args) is = is_one _ fault is
 open_in node fault (blank span args) is = is_one _ fault is
 
-back_in : (source : Source) (p : Placed) (fault : Fault) → back_of source p.atom ≡ Some true → fault ≡ wrong BwdInState p.atom.name.from → In (back_faults (back_of source p.atom) p.atom.name.from) fault
-back_in source p fault b is = in_same _ (wrong BwdInState p.atom.name.from ∷ []) fault (ap (λ (o : Option Bool). back_faults o p.atom.name.from) b) (is_one _ fault is)
+back_in : (source : Source) (p : Placed) (fault : Fault) → kind_of source p.atom ≡ Some Back → fault ≡ wrong BwdInState p.atom.name.from → In (back_faults (kind_of source p.atom) p.atom.name.from) fault
+back_in source p fault b is = in_same _ (wrong BwdInState p.atom.name.from ∷ []) fault (ap (λ (o : Option PredKind). back_faults o p.atom.name.from) b) (is_one _ fault is)
 
-linear_in : (source : Source) (p : Placed) (fault : Fault) → back_of source p.atom ≡ Some false → fault ≡ wrong LinearInClause p.atom.name.from → In (linear_faults (back_of source p.atom) p.atom.name.from) fault
-linear_in source p fault b is = in_same _ (wrong LinearInClause p.atom.name.from ∷ []) fault (ap (λ (o : Option Bool). linear_faults o p.atom.name.from) b) (is_one _ fault is)
+no_kind : {A : Type 0} → false ≡ true → A
+no_kind e = cc
+
+linear_by : (kind : Option PredKind) (at : ℕ) (fault : Fault) → is_declared false kind ≡ true → fault ≡ wrong LinearInClause at → In (linear_faults kind at) fault
+linear_by None at fault d is = no_kind d
+linear_by (Some Linear) at fault d is = is_one _ fault is
+linear_by (Some Fact) at fault d is = is_one _ fault is
+linear_by (Some Back) at fault d is = no_kind d
+
+linear_in : (source : Source) (p : Placed) (fault : Fault) → is_declared false (kind_of source p.atom) ≡ true → fault ≡ wrong LinearInClause p.atom.name.from → In (linear_faults (kind_of source p.atom) p.atom.name.from) fault
+linear_in source p fault d is = linear_by (kind_of source p.atom) p.atom.name.from fault d is
 
 -- rules at quiescence
 both_parts : (a b : Bool) → (a && b) ≡ true → (a ≡ true) × (b ≡ true)
@@ -294,10 +305,10 @@ module _ (source : Source) (fault : Fault) where
   traced : (traces : List TraceItem) → traces_of source ≡ traces → In (traces_faults source traces) fault → In (all_faults source source.file) fault
   traced traces e h = in_traces (in_same _ (traces_faults source traces) fault (ap (traces_faults source) e) h)
 
-  large_trace : (trace : TraceItem) (rest : List TraceItem) → traces_of source ≡ trace ∷ rest → is_large (written_size (start_atoms source trace.start)) ≡ true → fault ≡ wrong OverLimit trace.at → In (all_faults source source.file) fault
+  large_trace : (trace : TraceItem) (rest : List TraceItem) → traces_of source ≡ trace ∷ rest → is_large (written_size (counting source (start_atoms source trace.start))) ≡ true → fault ≡ wrong OverLimit trace.at → In (all_faults source source.file) fault
   large_trace trace rest e large is =
       traced (trace ∷ rest) e (in_left (start_faults source trace) _ fault
-      (when (is_large (start_size source trace.start)) (wrong OverLimit trace.at) fault (ap is_large (size_same source trace.start) ∙ large_same (written_size (start_atoms source trace.start)) ∙ large) is))
+      (when (is_large (whole_size source trace.start)) (wrong OverLimit trace.at) fault (ap is_large (whole_same source trace.start) ∙ large_same (written_size (counting source (start_atoms source trace.start))) ∙ large) is))
 
   argument_all : (args : List Span) (name : Span) → In (arguments_of source) args → slice_get args MOST_ARGUMENTS ≡ Some name → fault ≡ wrong OverLimit name.from → In (all_faults source source.file) fault
   argument_all args name m g is =
@@ -317,10 +328,10 @@ module _ (source : Source) (fault : Fault) where
       let t = housed 0 source.file rule m in
       in_item source t.item fault t.member (part_rule source t.item fault rule.raw t.raw (in_right (flat_map (placed_faults source) (rule_atoms rule.raw)) _ fault h))
 
-  premise_all : (rule : RuleItem) (atom : RawAtom) → In (rules_of source) rule → slice_get (linear_of source rule.raw) MOST_PREMISES ≡ Some atom → fault ≡ wrong OverLimit atom.name.from → In (all_faults source source.file) fault
+  premise_all : (rule : RuleItem) (atom : RawAtom) → In (rules_of source) rule → slice_get (state_premises_of source rule.raw) MOST_PREMISES ≡ Some atom → fault ≡ wrong OverLimit atom.name.from → In (all_faults source source.file) fault
   premise_all rule atom m g is =
       sized_all rule m (in_left (past (slice_get (flat_map (premise_places source false) rule.raw.left) MOST_PREMISES)) _ fault
-      (past_in _ atom.name.from fault (ap (λ (ys : List ℕ). slice_get ys MOST_PREMISES) (premise_list source false rule.raw.left) ∙ give atom_at (linear_of source rule.raw) MOST_PREMISES atom g) is))
+      (past_in _ atom.name.from fault (ap (λ (ys : List ℕ). slice_get ys MOST_PREMISES) (premise_list source false rule.raw.left) ∙ give atom_at (state_premises_of source rule.raw) MOST_PREMISES atom g) is))
 
   backs_all : (rule : RuleItem) (atom : RawAtom) → In (rules_of source) rule → slice_get (backward_of source rule.raw) MOST_BACKS ≡ Some atom → fault ≡ wrong OverLimit atom.name.from → In (all_faults source source.file) fault
   backs_all rule atom m g is =
@@ -374,9 +385,9 @@ module _ (source : Source) (fault : Fault) where
       in_unfit t.from t.member (unfit_in source p fault t.from t.given s
       (unless (is_fit p.atom) (wrong OverLimit p.atom.name.from) fault (refuted (is_fit p.atom) (is_fit p.atom) (is_fit_by p.atom) n refl) (is ∙ ap (wrong OverLimit) e)))
   over_all at (IsOver.copies trace rest traces more e) is =
-      large_trace trace rest traces (or_left (nat_lt MOST_COPIES (length (start_atoms source trace.start))) (nat_lt MOST_STATE_NODES (sum_by nodes_written (start_atoms source trace.start))) (lt-ltb MOST_COPIES (length (start_atoms source trace.start)) more)) (is ∙ ap (wrong OverLimit) e)
+      large_trace trace rest traces (or_left (nat_lt MOST_COPIES (length (counting source (start_atoms source trace.start)))) (nat_lt MOST_STATE_NODES (sum_by nodes_written (counting source (start_atoms source trace.start)))) (lt-ltb MOST_COPIES (length (counting source (start_atoms source trace.start))) more)) (is ∙ ap (wrong OverLimit) e)
   over_all at (IsOver.nodes trace rest traces more e) is =
-      large_trace trace rest traces (or_right (nat_lt MOST_COPIES (length (start_atoms source trace.start))) (nat_lt MOST_STATE_NODES (sum_by nodes_written (start_atoms source trace.start))) (lt-ltb MOST_STATE_NODES (sum_by nodes_written (start_atoms source trace.start)) more)) (is ∙ ap (wrong OverLimit) e)
+      large_trace trace rest traces (or_right (nat_lt MOST_COPIES (length (counting source (start_atoms source trace.start)))) (nat_lt MOST_STATE_NODES (sum_by nodes_written (counting source (start_atoms source trace.start)))) (lt-ltb MOST_STATE_NODES (sum_by nodes_written (counting source (start_atoms source trace.start))) more)) (is ∙ ap (wrong OverLimit) e)
   over_all at (IsOver.turns trace number m l n e) is =
       let t = through traces_in source.file trace (from_contains (traces_of source) trace m) in
       in_item source t.from fault t.member (part_trace source t.from fault trace t.given

@@ -1,10 +1,11 @@
 -- What the faults count is what the definitions count.
-use Rattle.std.proofs.Common.{◌≡◌, ℕ, ◌+◌, ◌<◌, min, nat_lt, Bool, true, false, ◌||◌, cond, if◌then◌else◌, List, [], ◌∷◌, ◌++◌, length, map, Some, refl, ap, sym, ◌∙◌, arith, codes, decimal, lit<, length-append}
+use Rattle.std.proofs.Common.{◌≡◌, ℕ, ◌+◌, ◌<◌, min, nat_lt, Bool, true, false, ◌||◌, cond, if◌then◌else◌, List, [], ◌∷◌, ◌++◌, length, map, Some, refl, ap, sym, ◌∙◌, arith, codes, decimal, lit<, length-append, suc, not}
 use Rattle.std.specs.List.{flat_map, list_any, filter, sum_by}
 use Rattle.std.specs.Str.{bytes_eq}
 use Rattle.std.proofs.lemmas.Bool.Decides.{nat_tests}
 use Rattle.std.proofs.lemmas.List.{map-append}
 use Rattle.std.proofs.lemmas.List.Folds.{list_any-append}
+use Rattle.std.proofs.lemmas.List.Elements.{filter-append}
 use Rattle.std.proofs.lemmas.List.Sums.{sum_by-cons, sum_by-append}
 use Rattle.cep_parse.specs.declared.raw.Span.{Span}
 use Rattle.cep_parse.specs.declared.raw.RawKind.{RawKind}
@@ -27,13 +28,13 @@ use Rattle.cep_source.specs.Items.{Source, ClauseItem, RuleItem, clauses_in, cla
 use Rattle.cep_parse.specs.Raw.{item_rules, atoms_of}
 use Rattle.cep_source.specs.Misnamed.{is_declared}
 use Rattle.cep_faults.specs.Seen.{met, new_at, blanked, new_in, new_kind, met_kind}
-use Rattle.cep_source.specs.Spaces.{Named, named, back_named, names_in, rule_names_from, unlabelled_behind}
-use Rattle.cep_source.specs.Starts.{nodes_written, listed_or, start_atoms}
+use Rattle.cep_source.specs.Spaces.{Named, named, kind_named, names_in, rule_names_from, unlabelled_behind}
+use Rattle.cep_source.specs.Starts.{nodes_written, listed_or, start_atoms, is_of_fact, is_written_alike, counting_behind, counting}
 use Rattle.cep_source.specs.Firsts.{has_name}
 use Rattle.cep_source.specs.Uses.{placed, is_context}
 use Rattle.cep_source.specs.Variables.{Occurrence, occurrence_at, blanks_behind, occurrences_from, firsts_beside}
 use Rattle.cep_faults.specs.Faults.{place_if, premise_places, atom_places}
-use Rattle.cep_faults.specs.Totals.{places_in, cut, most_counted, written_size, context_size, listed_size, start_size, is_large}
+use Rattle.cep_faults.specs.Totals.{places_in, cut, most_counted, written_size, total_size, others, facts_counting, context_size, listed_size, start_size, facts_size, whole_size, is_large}
 use Rattle.cep_base.proofs.Members.{map-flat_map}
 use Rattle.cep_base.proofs.Bytes.{bytes_eq_sym}
 
@@ -45,11 +46,11 @@ premise_step true atom rest = refl
 premise_step false atom rest = refl
 
 -- the places of premises
-pub premise_list : (source : Source) (back : Bool) (left : List RawElem) → flat_map (premise_places source back) left ≡ map atom_at (filter (λ atom. is_declared back (back_named source (said source atom.name))) (atoms_of left))
+pub premise_list : (source : Source) (back : Bool) (left : List RawElem) → flat_map (premise_places source back) left ≡ map atom_at (filter (λ atom. is_declared back (kind_named source (said source atom.name))) (atoms_of left))
 premise_list source back [] = refl
 premise_list source back (elem.Atom kept atom ∷ left) =
-    ap (λ rest. place_if (is_declared back (back_named source (said source atom.name))) atom.name.from ++ rest) (premise_list source back left)
-    ∙ premise_step (is_declared back (back_named source (said source atom.name))) atom (filter (λ other. is_declared back (back_named source (said source other.name))) (atoms_of left))
+    ap (λ rest. place_if (is_declared back (kind_named source (said source atom.name))) atom.name.from ++ rest) (premise_list source back left)
+    ∙ premise_step (is_declared back (kind_named source (said source atom.name))) atom (filter (λ other. is_declared back (kind_named source (said source other.name))) (atoms_of left))
 premise_list source back (elem.Qui span ∷ left) = premise_list source back left
 premise_list source back (elem.Stage span ∷ left) = premise_list source back left
 
@@ -161,7 +162,7 @@ module _ (source : Source) where
   variables_same seen names (node ∷ nodes) same = node_case node.kind seen names node.at nodes (λ s n. variables_same s n nodes) same
 
   -- sizes
-  listed_case : (b : Bool) (atom : RawAtom) → (if b then context_size source (said source atom.name) else cut (written_size (atom ∷ []))) ≡ cut (written_size (listed_or b source atom))
+  listed_case : (b : Bool) (atom : RawAtom) → (if b then context_size source (said source atom.name) else cut (written_size (others source (atom ∷ [])))) ≡ cut (written_size (others source (listed_or b source atom)))
   listed_case true atom = refl
   listed_case false atom = refl
 
@@ -171,27 +172,79 @@ module _ (source : Source) where
   cut_step : (a s t m : ℕ) → min s m ≡ min t m → min (min a m + s) m ≡ min (a + t) m
   cut_step a s t m e = omega arith
 
-  copies_all : (atoms : List RawAtom) → min (sum_by (λ (size : Size). size.copies) (map (listed_size source) atoms)) most_counted ≡ min (length (flat_map lists atoms)) most_counted
+  apart : (one more_ : List RawAtom) → others source (one ++ more_) ≡ others source one ++ others source more_
+  apart one more_ = filter-append (λ atom. not (is_of_fact source atom)) one more_
+
+  copies_all : (atoms : List RawAtom) → min (sum_by (λ (size : Size). size.copies) (map (listed_size source) atoms)) most_counted ≡ min (length (others source (flat_map lists atoms))) most_counted
   copies_all [] = refl
   copies_all (atom ∷ atoms) =
       ap (λ n. min n most_counted)
       (sum_by-cons (λ (size : Size). size.copies) (listed_size source atom) (map (listed_size source) atoms)
       ∙ ap (λ (size : Size). size.copies + sum_by (λ (other : Size). other.copies) (map (listed_size source) atoms)) (listed_case (is_context source (placed role.Start atom)) atom))
-      ∙ cut_step (length (lists atom)) (sum_by (λ (size : Size). size.copies) (map (listed_size source) atoms)) (length (flat_map lists atoms)) most_counted (copies_all atoms)
-      ∙ sym (ap (λ n. min n most_counted) (length-append (lists atom) (flat_map lists atoms)))
+      ∙ cut_step (length (others source (lists atom))) (sum_by (λ (size : Size). size.copies) (map (listed_size source) atoms)) (length (others source (flat_map lists atoms))) most_counted (copies_all atoms)
+      ∙ sym (ap (λ n. min n most_counted) (ap length (apart (lists atom) (flat_map lists atoms)) ∙ length-append (others source (lists atom)) (others source (flat_map lists atoms))))
 
-  nodes_all : (atoms : List RawAtom) → min (sum_by (λ (size : Size). size.nodes) (map (listed_size source) atoms)) most_counted ≡ min (sum_by nodes_written (flat_map lists atoms)) most_counted
+  nodes_all : (atoms : List RawAtom) → min (sum_by (λ (size : Size). size.nodes) (map (listed_size source) atoms)) most_counted ≡ min (sum_by nodes_written (others source (flat_map lists atoms))) most_counted
   nodes_all [] = refl
   nodes_all (atom ∷ atoms) =
       ap (λ n. min n most_counted)
       (sum_by-cons (λ (size : Size). size.nodes) (listed_size source atom) (map (listed_size source) atoms)
       ∙ ap (λ (size : Size). size.nodes + sum_by (λ (other : Size). other.nodes) (map (listed_size source) atoms)) (listed_case (is_context source (placed role.Start atom)) atom))
-      ∙ cut_step (sum_by nodes_written (lists atom)) (sum_by (λ (size : Size). size.nodes) (map (listed_size source) atoms)) (sum_by nodes_written (flat_map lists atoms)) most_counted (nodes_all atoms)
-      ∙ sym (ap (λ n. min n most_counted) (sum_by-append nodes_written (lists atom) (flat_map lists atoms)))
+      ∙ cut_step (sum_by nodes_written (others source (lists atom))) (sum_by (λ (size : Size). size.nodes) (map (listed_size source) atoms)) (sum_by nodes_written (others source (flat_map lists atoms))) most_counted (nodes_all atoms)
+      ∙ sym (ap (λ n. min n most_counted) (ap (sum_by nodes_written) (apart (lists atom) (flat_map lists atoms)) ∙ sum_by-append nodes_written (others source (lists atom)) (others source (flat_map lists atoms))))
 
-  pub size_same : (from : RawStart) → start_size source from ≡ cut (written_size (start_atoms source from))
+  size_same : (from : RawStart) → start_size source from ≡ cut (written_size (others source (start_atoms source from)))
   size_same (start.Named name) = refl
   size_same (start.Listed atoms) = λ i. record { copies = copies_all atoms i; nodes = nodes_all atoms i }
+
+  -- a number of what counts is that of what is no fact, and of the facts that count
+  module _ (size : RawAtom → ℕ) where
+    counted_step : (fact there : Bool) (atom : RawAtom) (same new_ rest : List RawAtom) → is_of_fact source atom ≡ fact
+        → sum_by size same ≡ sum_by size rest + sum_by size (filter (is_of_fact source) same)
+        → sum_by size new_ ≡ sum_by size rest + sum_by size (filter (is_of_fact source) new_)
+        → sum_by size (if fact && there then same else atom ∷ new_)
+        ≡ sum_by size (if not fact then atom ∷ rest else rest) + sum_by size (filter (is_of_fact source) (if fact && there then same else atom ∷ new_))
+    counted_step true true atom same new_ rest is one two = one
+    counted_step true false atom same new_ rest is one two =
+        rw is
+        (let here = sum_by-cons size atom new_ in
+        let kept = sum_by-cons size atom (filter (is_of_fact source) new_) in
+        omega (arith, here, kept, two))
+    counted_step false there atom same new_ rest is one two =
+        rw is
+        (let here = sum_by-cons size atom new_ in
+        let kept = sum_by-cons size atom rest in
+        omega (arith, here, kept, two))
+
+    sum_counted : (before atoms : List RawAtom) → sum_by size (counting_behind source before atoms) ≡ sum_by size (others source atoms) + sum_by size (filter (is_of_fact source) (counting_behind source before atoms))
+    sum_counted before [] = refl
+    sum_counted before (atom ∷ atoms) =
+        counted_step (is_of_fact source atom) (list_any (is_written_alike source atom) before) atom
+        (counting_behind source before atoms) (counting_behind source (atom ∷ before) atoms) (others source atoms) refl
+        (sum_counted before atoms) (sum_counted (atom ∷ before) atoms)
+
+  length_sum : (atoms : List RawAtom) → length atoms ≡ sum_by (λ (_ : RawAtom). 1) atoms
+  length_sum [] = refl
+  length_sum (atom ∷ atoms) = ap suc (length_sum atoms) ∙ sym (sum_by-cons (λ (_ : RawAtom). 1) atom atoms)
+
+  length_counted : (atoms : List RawAtom) → length (counting source atoms) ≡ length (others source atoms) + length (facts_counting source atoms)
+  length_counted atoms =
+      length_sum (counting source atoms) ∙ sum_counted (λ _. 1) [] atoms ∙ ap (λ n. n + sum_by (λ (_ : RawAtom). 1) (facts_counting source atoms)) (sym (length_sum (others source atoms)))
+      ∙ ap (λ n. length (others source atoms) + n) (sym (length_sum (facts_counting source atoms)))
+
+  cut_both : (a b c m : ℕ) → c ≡ a + b → min (min a m + (min b m + 0)) m ≡ min c m
+  cut_both a b c m is = omega (arith, is)
+
+  -- a start state is as large as what counts in it
+  pub whole_same : (from : RawStart) → whole_size source from ≡ cut (written_size (counting source (start_atoms source from)))
+  whole_same from =
+      let atoms = start_atoms source from in
+      let facts = facts_size source from in
+      ap (λ (size : Size). cut (total_size (size ∷ facts ∷ []))) (size_same from)
+      ∙ (λ i. record {
+        copies = cut_both (length (others source atoms)) (length (facts_counting source atoms)) (length (counting source atoms)) most_counted (length_counted atoms) i;
+        nodes = cut_both (sum_by nodes_written (others source atoms)) (sum_by nodes_written (facts_counting source atoms)) (sum_by nodes_written (counting source atoms)) most_counted (sum_counted nodes_written [] atoms) i;
+      })
 
 -- what is cut is as large as what is not
 large_cut : (a b m : ℕ) → a < m → nat_lt a (min b m) ≡ nat_lt a b

@@ -5,19 +5,21 @@ use Rattle.std.proofs.lemmas.Bool.{eqb-false}
 use Rattle.cep_parse.specs.declared.raw.Span.{Span}
 use Rattle.cep_parse.specs.declared.raw.RawKind.{RawKind}
 use Rattle.cep_parse.specs.declared.raw.RawKind.TheVariants as kind
+use Rattle.cep_base.specs.declared.kind.PredKind.{PredKind}
+use Rattle.cep_base.specs.declared.kind.PredKind.TheVariants.{Linear, Back, Fact}
 use Rattle.cep_refusal.specs.declared.fault.Fault.{Fault}
 use Rattle.cep_refusal.specs.declared.reason.Reason.TheVariants.{WrongArity, VarInContext}
 use Rattle.cep_source.specs.declared.space.Space.TheVariants as space
 use Rattle.cep_source.specs.declared.space.Role.{Role}
 use Rattle.cep_source.specs.declared.space.Role.TheVariants as role
 use Rattle.cep_source.specs.Items.{Source, said}
-use Rattle.cep_source.specs.Misnamed.{Misnamed, IsOfState, ComesToState, IsOpen, is_somewhere}
+use Rattle.cep_source.specs.Misnamed.{Misnamed, IsOfState, ComesToState, IsOpen, is_somewhere, is_declared}
 use Rattle.cep_refusal.specs.First.{wrong}
 use Rattle.cep_source.specs.Misnamed.Misnamed.{unknown, wrong_kind, wrong_arity, variable_in_state, backward_in_state, linear_in_clause}
 use Rattle.cep_source.specs.Misnamed.IsOfState.{listed, start}
 use Rattle.cep_source.specs.Misnamed.ComesToState.{made}
 use Rattle.cep_source.specs.Misnamed.IsOpen.{variable, blank}
-use Rattle.cep_source.specs.Spaces.{is_in, arity_of, back_of}
+use Rattle.cep_source.specs.Spaces.{is_in, arity_of, kind_of}
 use Rattle.cep_source.specs.Uses.{Placed, Use, is_context, placed_of, uses_of, pred_uses, node_uses}
 use Rattle.cep_faults.specs.Faults.{lack_faults, arity_faults, use_faults, pred_faults, node_faults, open_by, open_faults, back_faults, linear_faults, state_faults, role_faults, placed_faults}
 use Rattle.cep_base.proofs.Members.{In, here, in_nil, in_one, in_same, in_left, in_right, in_parts, through, via, to_contains}
@@ -76,26 +78,28 @@ open_sound source p fault at state_ found =
     let open_ = open_kind node.from.at node.from.kind node.from.args fault node.given in
     variable_in_state p node.from (to_contains (placed_of source) p at) state_ (to_contains p.atom.nodes node.from node.member) open_.0 open_.1
 
-back_sound : (source : Source) (p : Placed) (fault : Fault) (back : Option Bool) → In (placed_of source) p → ComesToState p.role → back_of source p.atom ≡ back → In (back_faults back p.atom.name.from) fault → Misnamed source fault
+back_sound : (source : Source) (p : Placed) (fault : Fault) (back : Option PredKind) → In (placed_of source) p → ComesToState p.role → kind_of source p.atom ≡ back → In (back_faults back p.atom.name.from) fault → Misnamed source fault
 back_sound source p fault None at comes b found = absurd (in_nil fault found)
-back_sound source p fault (Some false) at comes b found = absurd (in_nil fault found)
-back_sound source p fault (Some true) at comes b found = backward_in_state p (to_contains (placed_of source) p at) comes b (in_one _ fault found)
+back_sound source p fault (Some Linear) at comes b found = absurd (in_nil fault found)
+back_sound source p fault (Some Fact) at comes b found = absurd (in_nil fault found)
+back_sound source p fault (Some Back) at comes b found = backward_in_state p (to_contains (placed_of source) p at) comes b (in_one _ fault found)
 
-linear_sound : (source : Source) (p : Placed) (fault : Fault) (back : Option Bool) → In (placed_of source) p → p.role ≡ role.Clause → back_of source p.atom ≡ back → In (linear_faults back p.atom.name.from) fault → Misnamed source fault
+linear_sound : (source : Source) (p : Placed) (fault : Fault) (back : Option PredKind) → In (placed_of source) p → p.role ≡ role.Clause → kind_of source p.atom ≡ back → In (linear_faults back p.atom.name.from) fault → Misnamed source fault
 linear_sound source p fault None at is b found = absurd (in_nil fault found)
-linear_sound source p fault (Some true) at is b found = absurd (in_nil fault found)
-linear_sound source p fault (Some false) at is b found = linear_in_clause p (to_contains (placed_of source) p at) is b (in_one _ fault found)
+linear_sound source p fault (Some Back) at is b found = absurd (in_nil fault found)
+linear_sound source p fault (Some Linear) at is b found = linear_in_clause p (to_contains (placed_of source) p at) is (ap (is_declared false) b) (in_one _ fault found)
+linear_sound source p fault (Some Fact) at is b found = linear_in_clause p (to_contains (placed_of source) p at) is (ap (is_declared false) b) (in_one _ fault found)
 
 state_sound : (source : Source) (p : Placed) (fault : Fault) → In (placed_of source) p → IsOfState p.role → In (state_faults source p.atom.name p.atom.nodes) fault → Misnamed source fault
 state_sound source p fault at state_ found =
     ⊎_elim (open_sound source p fault at state_)
-    (back_sound source p fault (back_of source p.atom) at (ComesToState.state p.role state_) refl)
-    (in_parts (flat_map open_faults p.atom.nodes) (back_faults (back_of source p.atom) p.atom.name.from) fault found)
+    (back_sound source p fault (kind_of source p.atom) at (ComesToState.state p.role state_) refl)
+    (in_parts (flat_map open_faults p.atom.nodes) (back_faults (kind_of source p.atom) p.atom.name.from) fault found)
 
 role_sound : (source : Source) (p : Placed) (fault : Fault) (role_ : Role) → In (placed_of source) p → p.role ≡ role_ → In (role_faults source role_ p.atom.name p.atom.nodes) fault → Misnamed source fault
 role_sound source p fault role.Needed at is found = absurd (in_nil fault found)
-role_sound source p fault role.Made at is found = back_sound source p fault (back_of source p.atom) at (subst ComesToState (sym is) made) refl found
-role_sound source p fault role.Clause at is found = linear_sound source p fault (back_of source p.atom) at is refl found
+role_sound source p fault role.Made at is found = back_sound source p fault (kind_of source p.atom) at (subst ComesToState (sym is) made) refl found
+role_sound source p fault role.Clause at is found = linear_sound source p fault (kind_of source p.atom) at is refl found
 role_sound source p fault role.Listed at is found = state_sound source p fault at (subst IsOfState (sym is) listed) found
 role_sound source p fault role.Start at is found = state_sound source p fault at (subst IsOfState (sym is) start) found
 

@@ -14,20 +14,20 @@ use Rattle.cep_source.specs.declared.space.Space.TheVariants as space
 use Rattle.cep_faults.specs.declared.counts.Counted.TheVariants as counted
 use Rattle.cep_source.specs.Items.{Source, PredItem, ConItem, ClauseItem, RuleItem, TraceItem, cons_in, cons_of, preds_in, preds_of, clauses_in, clauses_of, rules_of, traces_in, traces_of}
 use Rattle.cep_parse.specs.Raw.{item_rules, atoms_of, raw_nodes, listed_atoms}
-use Rattle.cep_source.specs.Misnamed.{Misnamed, IsOver, IsOfState, IsQuiRule, arguments_of, linear_of, backward_of, is_qui, is_stage, turns_said}
+use Rattle.cep_source.specs.Misnamed.{Misnamed, IsOver, IsOfState, IsQuiRule, arguments_of, state_premises_of, backward_of, is_qui, is_stage, turns_said}
 use Rattle.cep_refusal.specs.First.{wrong}
 use Rattle.cep_source.specs.Misnamed.Misnamed.{bad_qui, no_trace, two_traces, over}
 use Rattle.cep_source.specs.Misnamed.IsOfState.{listed, start}
 use Rattle.cep_source.specs.Spaces.{names_in}
-use Rattle.cep_source.specs.Starts.{IsFitWritten, nodes_written, depth_written, start_atoms}
+use Rattle.cep_source.specs.Starts.{IsFitWritten, nodes_written, depth_written, start_atoms, counting}
 use Rattle.cep_source.specs.Uses.{Placed, placed, own_uses, con_uses, placed_of, rule_atoms, clause_atoms}
 use Rattle.cep_source.specs.Variables.{variables_of}
 use Rattle.cep_faults.specs.Seen.{unseen, new_in}
 use Rattle.cep_faults.specs.Faults.{use_faults, placed_faults, past, places, argument_faults, con_faults, size_faults, rule_faults, clause_faults, premise_places, atom_places, is_qui_rule, qui_faults, turns_faults, trace_faults, outers_in, state_role, state_atoms, item_faults}
-use Rattle.cep_faults.specs.Totals.{variable_faults, item_variable_faults, is_fit, unfit_faults, item_unfit_faults, count_faults, all_count_faults, places_in, written_size, is_large, start_size, start_faults, traces_faults, all_faults}
+use Rattle.cep_faults.specs.Totals.{variable_faults, item_variable_faults, is_fit, unfit_faults, item_unfit_faults, count_faults, all_count_faults, places_in, written_size, is_large, whole_size, start_faults, traces_faults, all_faults}
 use Rattle.cep_base.proofs.Members.{In, in_nil, in_one, in_left, in_right, in_parts, through, via, image, mapped, to_contains, got}
 use Rattle.cep_faults.proofs.Parts.{own_use, con_use, own_placed, clause_placed, state_own, rule_own, numbered, outer}
-use Rattle.cep_faults.proofs.Same.{atom_at, entry_at, occurrence_from, premise_list, atom_list, preds_at, cons_at, head_at, clauses_at, rules_at, variables_same, size_same, large_same}
+use Rattle.cep_faults.proofs.Same.{atom_at, entry_at, occurrence_from, premise_list, atom_list, preds_at, cons_at, head_at, clauses_at, rules_at, variables_same, whole_same, large_same}
 use Rattle.cep_faults.proofs.Sound.{use_sound, placed_sound}
 
 -- what is past a limit
@@ -78,7 +78,7 @@ size_sound source rule fault at found =
     ⊎_elim
     (λ k.
     let p = past_at (slice_get (flat_map (premise_places source false) rule.raw.left) MOST_PREMISES) fault k in
-    let g = got atom_at (linear_of source rule.raw) MOST_PREMISES p.at (ap (λ (ys : List ℕ). slice_get ys MOST_PREMISES) (sym (premise_list source false rule.raw.left)) ∙ p.is) in
+    let g = got atom_at (state_premises_of source rule.raw) MOST_PREMISES p.at (ap (λ (ys : List ℕ). slice_get ys MOST_PREMISES) (sym (premise_list source false rule.raw.left)) ∙ p.is) in
     over p.at (IsOver.premise rule g.from (to_contains (rules_of source) rule at) g.got g.is) p.fault_is)
     (λ rest. ⊎_elim
     (λ k.
@@ -204,21 +204,21 @@ counts_sound source fault found =
     (in_parts (count_faults source counted.Predicates MOST_PREDS source.file) _ fault found)
 
 -- traces
-start_by : (source : Source) (trace : TraceItem) (rest : List TraceItem) (fault : Fault) (b : Bool) → traces_of source ≡ trace ∷ rest → is_large (start_size source trace.start) ≡ b
+start_by : (source : Source) (trace : TraceItem) (rest : List TraceItem) (fault : Fault) (b : Bool) → traces_of source ≡ trace ∷ rest → is_large (whole_size source trace.start) ≡ b
     → In (let found : List Fault = if b then wrong OverLimit trace.at ∷ [] else [] in found) fault → Misnamed source fault
 start_by source trace rest fault false traces e found = absurd (in_nil fault found)
 start_by source trace rest fault true traces e found =
-    let large : is_large (written_size (start_atoms source trace.start)) ≡ true = sym (ap is_large (size_same source trace.start) ∙ large_same (written_size (start_atoms source trace.start))) ∙ e in
+    let large : is_large (written_size (counting source (start_atoms source trace.start))) ≡ true = sym (ap is_large (whole_same source trace.start) ∙ large_same (written_size (counting source (start_atoms source trace.start)))) ∙ e in
     over trace.at
-    (⊎_elim (λ k. IsOver.copies trace rest traces (ltb-true MOST_COPIES (length (start_atoms source trace.start)) k) refl)
-    (λ k. IsOver.nodes trace rest traces (ltb-true MOST_STATE_NODES (sum_by nodes_written (start_atoms source trace.start)) k) refl)
-    (or_cases (nat_lt MOST_COPIES (length (start_atoms source trace.start))) (nat_lt MOST_STATE_NODES (sum_by nodes_written (start_atoms source trace.start))) large))
+    (⊎_elim (λ k. IsOver.copies trace rest traces (ltb-true MOST_COPIES (length (counting source (start_atoms source trace.start))) k) refl)
+    (λ k. IsOver.nodes trace rest traces (ltb-true MOST_STATE_NODES (sum_by nodes_written (counting source (start_atoms source trace.start))) k) refl)
+    (or_cases (nat_lt MOST_COPIES (length (counting source (start_atoms source trace.start)))) (nat_lt MOST_STATE_NODES (sum_by nodes_written (counting source (start_atoms source trace.start)))) large))
     (in_one _ fault found)
 
 traces_sound : (source : Source) (traces : List TraceItem) (fault : Fault) → traces_of source ≡ traces → In (traces_faults source traces) fault → Misnamed source fault
 traces_sound source [] fault e found = no_trace e (in_one _ fault found)
 traces_sound source (trace ∷ rest) fault e found =
-    ⊎_elim (start_by source trace rest fault (is_large (start_size source trace.start)) e refl)
+    ⊎_elim (start_by source trace rest fault (is_large (whole_size source trace.start)) e refl)
     (λ k. let i = image (λ (other : TraceItem). wrong TwoTraces other.at) rest fault k in two_traces trace i.from rest e (to_contains rest i.from i.member) i.is)
     (in_parts (start_faults source trace) _ fault found)
 

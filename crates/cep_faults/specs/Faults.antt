@@ -12,6 +12,8 @@ use Rattle.cep_parse.specs.declared.raw.RawElem.TheVariants as elem
 use Rattle.cep_parse.specs.declared.raw.RawRule.{RawRule}
 use Rattle.cep_parse.specs.declared.raw.RawItem.{RawItem}
 use Rattle.cep_parse.specs.declared.raw.RawItem.TheVariants as item
+use Rattle.cep_base.specs.declared.kind.PredKind.{PredKind}
+use Rattle.cep_base.specs.declared.kind.PredKind.TheVariants.{Linear, Back, Fact}
 use Rattle.cep_base.specs.declared.limits.TheConstants.{MOST_ARGUMENTS, MOST_BACKS, MOST_GOALS, MOST_PREMISES, MOST_RIGHT}
 use Rattle.cep_refusal.specs.declared.fault.Fault.{Fault}
 use Rattle.cep_refusal.specs.declared.reason.Reason.TheVariants.{Unknown, WrongKind, WrongArity, VarInContext, BwdInState, LinearInClause, BadQui, OverLimit}
@@ -19,7 +21,7 @@ use Rattle.cep_source.specs.declared.space.Space.TheVariants as space
 use Rattle.cep_source.specs.declared.space.Role.{Role}
 use Rattle.cep_source.specs.declared.space.Role.TheVariants as role
 use Rattle.cep_source.specs.Items.{Source, ConItem, ClauseItem, TraceItem, said, preds_in, cons_in, clauses_in, traces_in}
-use Rattle.cep_source.specs.Spaces.{is_in, arity_of, back_named}
+use Rattle.cep_source.specs.Spaces.{is_in, arity_of, kind_named}
 use Rattle.cep_parse.specs.Raw.{item_rules, listed_atoms}
 use Rattle.cep_source.specs.Uses.{Placed, Use, placed, names_context, node_uses, con_uses, own_uses, rule_atoms, clause_atoms}
 use Rattle.cep_refusal.specs.First.{wrong}
@@ -59,25 +61,27 @@ open_by kind.Var at = wrong VarInContext at ∷ []
 abbrev pub open_faults : RawNode → List Fault
 open_faults node = open_by node.kind node.at.from
 
--- a backward predicate where an atom becomes part of a state, and a linear one in a clause
-abbrev pub back_faults : Option Bool → ℕ → List Fault
-back_faults (Some true) at = wrong BwdInState at ∷ []
-back_faults (Some false) at = []
+-- a backward predicate where an atom becomes part of a state, and one of states in a clause
+abbrev pub back_faults : Option PredKind → ℕ → List Fault
+back_faults (Some Back) at = wrong BwdInState at ∷ []
+back_faults (Some Linear) at = []
+back_faults (Some Fact) at = []
 back_faults None at = []
 
-abbrev pub linear_faults : Option Bool → ℕ → List Fault
-linear_faults (Some false) at = wrong LinearInClause at ∷ []
-linear_faults (Some true) at = []
+abbrev pub linear_faults : Option PredKind → ℕ → List Fault
+linear_faults (Some Linear) at = wrong LinearInClause at ∷ []
+linear_faults (Some Fact) at = wrong LinearInClause at ∷ []
+linear_faults (Some Back) at = []
 linear_faults None at = []
 
 -- an atom by its role
 abbrev pub state_faults : Source → Span → List RawNode → List Fault
-state_faults source name nodes = flat_map open_faults nodes ++ back_faults (back_named source (said source name)) name.from
+state_faults source name nodes = flat_map open_faults nodes ++ back_faults (kind_named source (said source name)) name.from
 
 abbrev pub role_faults : Source → Role → Span → List RawNode → List Fault
 role_faults source role.Needed name nodes = []
-role_faults source role.Made name nodes = back_faults (back_named source (said source name)) name.from
-role_faults source role.Clause name nodes = linear_faults (back_named source (said source name)) name.from
+role_faults source role.Made name nodes = back_faults (kind_named source (said source name)) name.from
+role_faults source role.Clause name nodes = linear_faults (kind_named source (said source name)) name.from
 role_faults source role.Listed name nodes = state_faults source name nodes
 role_faults source role.Start name nodes = state_faults source name nodes
 
@@ -103,13 +107,13 @@ places atoms = map (λ atom. atom.name.from) atoms
 abbrev pub con_faults : Source → ConItem → List Fault
 con_faults source con = flat_map (use_faults source) (con_uses con) ++ argument_faults con.args
 
--- the place of an element that is a premise declared as a linear one, or as a backward one
+-- the place of an element that is a premise whose predicate is declared, of states or a backward one
 abbrev pub place_if : Bool → ℕ → List ℕ
 place_if true at = at ∷ []
 place_if false at = []
 
 abbrev pub premise_places : Source → Bool → RawElem → List ℕ
-premise_places source back (elem.Atom kept atom) = place_if (is_declared back (back_named source (said source atom.name))) atom.name.from
+premise_places source back (elem.Atom kept atom) = place_if (is_declared back (kind_named source (said source atom.name))) atom.name.from
 premise_places source back (elem.Qui span) = []
 premise_places source back (elem.Stage name) = []
 
@@ -153,7 +157,7 @@ trace_faults source trace = turns_faults source.text trace.limit
 abbrev pub outers_in : RawItem → List RawRule
 outers_in (item.Outer rule) = rule ∷ []
 outers_in (item.Sort name) = []
-outers_in (item.Pred name args back) = []
+outers_in (item.Pred name args of_kind) = []
 outers_in (item.Colon left args right) = []
 outers_in (item.Clause label head goals) = []
 outers_in (item.Stage name rules) = []
@@ -164,7 +168,7 @@ outers_in (item.Trace at limit stage start) = []
 abbrev pub state_role : RawItem → Role
 state_role (item.Trace at limit stage start) = role.Start
 state_role (item.Sort name) = role.Listed
-state_role (item.Pred name args back) = role.Listed
+state_role (item.Pred name args of_kind) = role.Listed
 state_role (item.Colon left args right) = role.Listed
 state_role (item.Clause label head goals) = role.Listed
 state_role (item.Outer rule) = role.Listed

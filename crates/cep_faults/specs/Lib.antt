@@ -2,3 +2,4 @@ pub mod Faults
 pub mod Seen
 pub mod Levels
 pub mod Totals
+pub mod FactKeys

@@ -1,6 +1,6 @@
 -- Private.
 -- The faults of a whole file: of its numbers of declarations, of the variables of its rules and clauses, of the sizes of its atoms, and of its traces.
-use Rattle.std.specs.Prelude.{◌≡◌, ℕ, Bool, ◌||◌, ◌&&◌, if◌then◌else◌, List, [], ◌∷◌, ◌++◌, map, length, ◌^◌, ◌-◌, min, nat_lt, nat_le, sum_by, slice_get}
+use Rattle.std.specs.Prelude.{◌≡◌, ℕ, Bool, ◌||◌, ◌&&◌, if◌then◌else◌, List, [], ◌∷◌, ◌++◌, map, filter, not, length, ◌^◌, ◌-◌, min, nat_lt, nat_le, sum_by, slice_get}
 use Rattle.std.specs.List.{flat_map}
 use Rattle.cep_parse.specs.declared.raw.RawAtom.{RawAtom}
 use Rattle.cep_parse.specs.declared.raw.RawStart.{RawStart}
@@ -19,7 +19,7 @@ use Rattle.cep_source.specs.Spaces.{context_named}
 use Rattle.cep_parse.specs.Raw.{item_rules, raw_nodes, atoms_of, listed_atoms}
 use Rattle.cep_refusal.specs.First.{wrong}
 use Rattle.cep_faults.specs.Seen.{unseen, new_in}
-use Rattle.cep_source.specs.Starts.{listed_in, nodes_written, depth_written}
+use Rattle.cep_source.specs.Starts.{listed_in, start_atoms, nodes_written, depth_written, is_of_fact, counting}
 use Rattle.cep_source.specs.Uses.{names_context}
 use Rattle.cep_faults.specs.Faults.{past, item_faults}
 
@@ -75,31 +75,46 @@ cut size = record { copies = min size.copies most_counted; nodes = min size.node
 abbrev pub total_size : List Size → Size
 total_size sizes = record { copies = sum_by (λ size. size.copies) sizes; nodes = sum_by (λ size. size.nodes) sizes }
 
--- These are the sizes of the contexts of a text, in written order.
+-- those atoms that are no facts, and the facts, each as often as it counts
+abbrev pub others : Source → List RawAtom → List RawAtom
+others source atoms = filter (λ atom. not (is_of_fact source atom)) atoms
+
+abbrev pub facts_counting : Source → List RawAtom → List RawAtom
+facts_counting source atoms = filter (is_of_fact source) (counting source atoms)
+
+-- These are the sizes of the contexts of a text, in written order, without their facts.
 abbrev pub AreSizes : Source → Sizes → Type 0
-AreSizes source sizes = sizes.each.items ≡ map (λ context. cut (written_size context.atoms)) (contexts_of source)
+AreSizes source sizes = sizes.each.items ≡ map (λ context. cut (written_size (others source context.atoms))) (contexts_of source)
 
 -- the size of the context of a name, and of no atoms where there is no such context
 abbrev pub context_size : Source → List ℕ → Size
-context_size source name = cut (written_size (listed_in (context_named source name)))
+context_size source name = cut (written_size (others source (listed_in (context_named source name))))
 
 -- the size of what an atom in braces lists
 abbrev pub listed_size : Source → RawAtom → Size
 listed_size source atom =
     if names_context source role.Start atom.name atom.args then context_size source (said source atom.name)
-    else cut (written_size (atom ∷ []))
+    else cut (written_size (others source (atom ∷ [])))
 
--- the size of a start state
+-- the size of a start state, without its facts
 abbrev pub start_size : Source → RawStart → Size
 start_size source (start.Named name) = context_size source (said source name)
 start_size source (start.Listed atoms) = cut (total_size (map (listed_size source) atoms))
+
+-- the size of the facts of a start state
+abbrev pub facts_size : Source → RawStart → Size
+facts_size source from = cut (written_size (facts_counting source (start_atoms source from)))
+
+-- the size of a start state, in which each fact counts once
+abbrev pub whole_size : Source → RawStart → Size
+whole_size source from = cut (total_size (start_size source from ∷ facts_size source from ∷ []))
 
 -- a start state that is too large
 abbrev pub is_large : Size → Bool
 is_large size = nat_lt MOST_COPIES size.copies || nat_lt MOST_STATE_NODES size.nodes
 
 abbrev pub start_faults : Source → TraceItem → List Fault
-start_faults source trace = if is_large (start_size source trace.start) then wrong OverLimit trace.at ∷ [] else []
+start_faults source trace = if is_large (whole_size source trace.start) then wrong OverLimit trace.at ∷ [] else []
 
 -- the traces: the first one's start state, and each one after it, or that there is none
 abbrev pub two_faults : List TraceItem → List Fault

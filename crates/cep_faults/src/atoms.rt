@@ -7,6 +7,7 @@ ghost use Rattle.cep_source.specs.Uses.{names_context, placed};
 ghost use Rattle.cep_faults.specs.Faults.{pred_faults, open_faults, back_faults, linear_faults, state_faults, role_faults, placed_faults};
 
 use crate::uses::{nodes_fault, use_fault};
+use cep_base::PredKind;
 use cep_parse::{RawAtom, RawElem, RawKind, RawNode, Span};
 use cep_refusal::{Fault, FirstFault, Reason};
 use cep_source::{Role, Source, Space};
@@ -56,28 +57,28 @@ fn first_open(nodes: &[RawNode]) -> Option<Fault>
 }
 
 // A backward predicate where an atom becomes part of a state.
-fn back_fault(back: Option<bool>, at: u32) -> Option<Fault>
-    ensures { result ≡ first_in (back_faults back at) }
+fn back_fault(kind: Option<PredKind>, at: u32) -> Option<Fault>
+    ensures { result ≡ first_in (back_faults kind at) }
 {
-    match back {
-        Some(true) => Some(Fault {
+    match kind {
+        Some(PredKind::Back) => Some(Fault {
             reason: Reason::BwdInState,
             at,
         }),
-        _ => None,
+        Some(PredKind::Linear | PredKind::Fact) | None => None,
     }
 }
 
-// A linear predicate in a clause.
-fn linear_fault(back: Option<bool>, at: u32) -> Option<Fault>
-    ensures { result ≡ first_in (linear_faults back at) }
+// A predicate of states in a clause, a linear one or one of facts.
+fn linear_fault(kind: Option<PredKind>, at: u32) -> Option<Fault>
+    ensures { result ≡ first_in (linear_faults kind at) }
 {
-    match back {
-        Some(false) => Some(Fault {
+    match kind {
+        Some(PredKind::Linear | PredKind::Fact) => Some(Fault {
             reason: Reason::LinearInClause,
             at,
         }),
-        _ => None,
+        Some(PredKind::Back) | None => None,
     }
 }
 
@@ -86,7 +87,7 @@ fn linear_fault(back: Option<bool>, at: u32) -> Option<Fault>
 fn state_fault(source: &Source, name: Span, nodes: &[RawNode]) -> Option<Fault>
     ensures { result ≡ first_in (state_faults source.now name nodes.now) }
 {
-    Fault::first_of(first_open(nodes), back_fault(source.back(name), name.from))
+    Fault::first_of(first_open(nodes), back_fault(source.kind(name), name.from))
 }
 
 fn role_fault(source: &Source, role: Role, name: Span, nodes: &[RawNode]) -> Option<Fault>
@@ -94,8 +95,8 @@ fn role_fault(source: &Source, role: Role, name: Span, nodes: &[RawNode]) -> Opt
 {
     match role {
         Role::Needed => None,
-        Role::Made => back_fault(source.back(name), name.from),
-        Role::Clause => linear_fault(source.back(name), name.from),
+        Role::Made => back_fault(source.kind(name), name.from),
+        Role::Clause => linear_fault(source.kind(name), name.from),
         Role::Listed => state_fault(source, name, nodes),
         Role::Start => state_fault(source, name, nodes),
     }

@@ -22,7 +22,7 @@ fn other_fault(source: &Source) -> Result<Option<Fault>, AllocError>
 {
     let sizes = Sizes::of(source)?;
     let items = source.items();
-    let totals = Fault::first_of(counts_fault(source, items), traces_fault(source, &sizes));
+    let totals = Fault::first_of(counts_fault(source, items), traces_fault(source, &sizes)?);
     let variables = Fault::first_of(variables_fault(source, items)?, totals);
     let atoms = Fault::first_of(fitness_fault(source.alloc(), items)?, variables);
     Ok(Fault::first_of(items_fault(source, items), atoms))

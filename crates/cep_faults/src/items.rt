@@ -10,6 +10,7 @@ use crate::rules::{
     bare_fault, clause_fault, past, qui_fault, rule_fault, rules_fault, stages_fault,
 };
 use crate::uses::{sorts_fault, use_fault};
+use cep_base::PredKind;
 use cep_base::limits::MOST_ARGUMENTS;
 use cep_parse::{RawItem, RawRule, RawStart, Span, Spans};
 use cep_refusal::{Fault, FirstFault};
@@ -37,8 +38,8 @@ fn con_fault(source: &Source, left: Span, args: &[Span], right: Span) -> Option<
 
 // The first fault of a predicate's declaration.
 #[tactic(auto, using(crate::proofs::Firsts::first_in_append))]
-fn pred_fault(source: &Source, name: Span, args: &Spans, back: bool) -> Option<Fault>
-    ensures { result ≡ first_in (item_faults source.now (RawItem.Pred name args.now back)) }
+fn pred_fault(source: &Source, name: Span, args: &Spans, kind: PredKind) -> Option<Fault>
+    ensures { result ≡ first_in (item_faults source.now (RawItem.Pred name args.now kind)) }
 {
     let args = args.as_slice();
     Fault::first_of(sorts_fault(source, args), argument_past(args))
@@ -116,7 +117,7 @@ fn item_fault(source: &Source, item: &RawItem) -> Option<Fault>
 {
     match item {
         RawItem::Sort { .. } => None,
-        RawItem::Pred { name, args, back } => pred_fault(source, *name, args, *back),
+        RawItem::Pred { name, args, kind } => pred_fault(source, *name, args, *kind),
         RawItem::Colon { left, args, right } => colon_fault(source, *left, args, *right),
         RawItem::Clause { head, goals, .. } => clause_fault(source, head, goals.as_slice()),
         RawItem::Outer(rule) => outer_fault(source, rule),

@@ -4,6 +4,7 @@
 mod atoms;
 mod checking;
 mod counts;
+mod facts;
 mod fitness;
 mod items;
 mod rules;

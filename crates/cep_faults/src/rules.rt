@@ -9,6 +9,7 @@ ghost use Rattle.cep_faults.specs.Faults.{use_faults, placed_faults, past, place
 
 use crate::atoms::{atom_fault, atoms_fault, placed_fault, side_fault};
 use crate::uses::use_fault;
+use cep_base::PredKind;
 use cep_base::limits::{MOST_BACKS, MOST_GOALS, MOST_PREMISES, MOST_RIGHT};
 use cep_parse::{RawAtom, RawElem, RawRule, Span};
 use cep_refusal::{Fault, FirstFault, Reason};
@@ -25,13 +26,13 @@ pub(crate) fn past(at: Option<u32>) -> Option<Fault>
     })
 }
 
-// Whether a predicate is declared as a backward one, or as a linear one.
-fn is_declared(back: bool, declared: Option<bool>) -> bool
+// Whether a predicate is declared, and clauses define it or they do not.
+fn is_declared(back: bool, declared: Option<PredKind>) -> bool
     ensures { result ≡ is_declared back declared }
 {
     match declared {
         None => false,
-        Some(declared) => declared == back,
+        Some(kind) => kind.is_backward() == back,
     }
 }
 
@@ -40,7 +41,7 @@ fn premise_place(source: &Source, back: bool, elem: &RawElem) -> Option<u32>
     ensures { option_to_list result ≡ premise_places source.now back elem.now }
 {
     match elem {
-        RawElem::Atom { atom, .. } if is_declared(back, source.back(atom.name)) => {
+        RawElem::Atom { atom, .. } if is_declared(back, source.kind(atom.name)) => {
             Some(atom.name.from)
         }
         _ => None,

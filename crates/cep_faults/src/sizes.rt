@@ -1,9 +1,10 @@
-// The sizes of the contexts and of a start state.
+// The sizes of the contexts and of a start state, without their facts.
 ghost use Rattle.std.specs.Prelude.{◌≡◌, ◌∷◌, [], map, IfOk};
 ghost use Rattle.cep_source.specs.Items.{said};
-ghost use Rattle.cep_faults.specs.Totals.{AreSizes, cut, written_size, total_size, context_size, listed_size, start_size};
+ghost use Rattle.cep_faults.specs.Totals.{AreSizes, cut, others, written_size, total_size, context_size, listed_size, start_size};
 
 use crate::atoms::names_context;
+use crate::facts::is_of_fact;
 use cep_parse::{RawAtom, RawStart, Span};
 use cep_source::{Role, Source, Space, item_at};
 use std::alloc::AllocError;
@@ -16,13 +17,13 @@ pub(crate) struct Size {
 }
 
 impl Size {
-    const NONE: Size = Size {
+    pub(crate) const NONE: Size = Size {
         copies: 0,
         nodes: 0,
     };
 
     // The size of two parts.
-    fn and(self, other: Size) -> Size
+    pub(crate) fn and(self, other: Size) -> Size
         ensures { result ≡ cut (total_size (self ∷ other ∷ [])) }
     {
         Size {
@@ -31,8 +32,8 @@ impl Size {
         }
     }
 
-    // The size of an atom.
-    fn of_atom(atom: &RawAtom) -> Size
+    // The size of an atom, whatever its predicate.
+    pub(crate) fn of_one(atom: &RawAtom) -> Size
         ensures { result ≡ cut (written_size (atom.now ∷ [])) }
     {
         Size {
@@ -41,19 +42,30 @@ impl Size {
         }
     }
 
-    // The size of atoms.
-    fn of_atoms(atoms: &[RawAtom]) -> Size
-        ensures { result ≡ cut (written_size atoms.now) }
+    // The size of an atom that is no fact.
+    fn of_atom(source: &Source, atom: &RawAtom) -> Size
+        ensures { result ≡ cut (written_size (others source.now (atom.now ∷ []))) }
+    {
+        if is_of_fact(source, atom) {
+            Size::NONE
+        } else {
+            Size::of_one(atom)
+        }
+    }
+
+    // The size of those atoms that are no facts.
+    fn of_atoms(source: &Source, atoms: &[RawAtom]) -> Size
+        ensures { result ≡ cut (written_size (others source.now atoms.now)) }
     {
         let mut size = Size::NONE;
         for atom in atoms {
-            size = size.and(Size::of_atom(atom));
+            size = size.and(Size::of_atom(source, atom));
         }
         size
     }
 }
 
-/// The sizes of the contexts, in written order.
+/// The sizes of the contexts, in written order, without their facts.
 #[derive(Drop)]
 pub(crate) struct Sizes {
     pub each: Vec<Size>,
@@ -66,7 +78,7 @@ impl Sizes {
     {
         let mut each = Vec::new(source.alloc());
         for context in source.contexts() {
-            each.push(Size::of_atoms(context.atoms))?;
+            each.push(Size::of_atoms(source, context.atoms))?;
         }
         Ok(Sizes { each })
     }
@@ -93,7 +105,7 @@ impl Sizes {
         if names_context(source, Role::Start, atom.name, atom.args) {
             self.of_context(source, atom.name)
         } else {
-            Size::of_atom(atom)
+            Size::of_atom(source, atom)
         }
     }
 
@@ -108,7 +120,7 @@ impl Sizes {
         size
     }
 
-    /// The size of a start state.
+    /// The size of a start state, without its facts.
     pub(crate) fn of_start(&self, source: &Source, start: &RawStart) -> Size
         requires { AreSizes source.now self.now }
         ensures { result ≡ start_size source.now start.now }

@@ -1,29 +1,36 @@
 // The traces of a file.
-ghost use Rattle.std.specs.Prelude.{◌≡◌, ◌≤◌, ◌++◌, map, length};
+ghost use Rattle.std.specs.Prelude.{◌≡◌, ◌≤◌, ◌++◌, map, length, IfOk};
 ghost use Rattle.cep_base.specs.declared.limits.TheConstants.{MOST_TEXT};
 ghost use Rattle.cep_refusal.specs.First.{first_in, wrong};
 ghost use Rattle.cep_source.specs.Items.{traces_of};
 ghost use Rattle.cep_source.specs.Kept.{trace_item};
 ghost use Rattle.cep_faults.specs.Totals.{AreSizes, is_large, start_faults, two_faults, traces_faults};
 
+use crate::facts::facts_of_start;
 use crate::sizes::Sizes;
 use cep_base::limits::{MOST_COPIES, MOST_STATE_NODES};
 use cep_refusal::{Fault, FirstFault, Reason};
 use cep_source::{Source, TraceRef};
+use std::alloc::AllocError;
 
 // The fault of a start state that is too large.
-fn start_fault(source: &Source, sizes: &Sizes, trace: &TraceRef) -> Option<Fault>
+fn start_fault(
+    source: &Source,
+    sizes: &Sizes,
+    trace: &TraceRef,
+) -> Result<Option<Fault>, AllocError>
     requires { AreSizes source.now sizes.now }
-    ensures { result ≡ first_in (start_faults source.now (trace_item trace.now)) }
+    ensures { IfOk result (λ first. first ≡ first_in (start_faults source.now (trace_item trace.now))) }
 {
-    let size = sizes.of_start(source, trace.start);
+    let facts = facts_of_start(source, trace.start)?;
+    let size = sizes.of_start(source, trace.start).and(facts);
     if size.copies > MOST_COPIES || size.nodes > MOST_STATE_NODES {
-        return Some(Fault {
+        return Ok(Some(Fault {
             reason: Reason::OverLimit,
             at: trace.at,
-        });
+        }));
     }
-    None
+    Ok(None)
 }
 
 // The first fault of traces behind the first one.
@@ -53,15 +60,16 @@ fn no_trace(source: &Source) -> Fault
 
 // The first fault of the traces: the first one's start state, each one after it, or that there is
 // none.
-pub(crate) fn traces_fault(source: &Source, sizes: &Sizes) -> Option<Fault>
+pub(crate) fn traces_fault(source: &Source, sizes: &Sizes) -> Result<Option<Fault>, AllocError>
     requires short { length source.now.text ≤ MOST_TEXT }
     requires sizes { AreSizes source.now sizes.now }
-    ensures { result ≡ first_in (traces_faults source.now (traces_of source.now)) }
+    ensures { IfOk result (λ first. first ≡ first_in (traces_faults source.now (traces_of source.now))) }
 {
     match source.traces().split_first() {
         Some((trace, rest)) => {
-            Fault::first_of(start_fault(source, sizes, trace), two_fault(rest))
+            let first = start_fault(source, sizes, trace)?;
+            Ok(Fault::first_of(first, two_fault(rest)))
         }
-        None => Some(no_trace(source)),
+        None => Ok(Some(no_trace(source))),
     }
 }

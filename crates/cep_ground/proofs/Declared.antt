@@ -12,7 +12,7 @@ use Rattle.cep_parse.specs.declared.raw.RawElem.{RawElem}
 use Rattle.cep_parse.specs.declared.raw.RawElem.TheVariants as elem
 use Rattle.cep_parse.specs.Written.{Fill, IsCount}
 use Rattle.cep_term.specs.Tree.{Trees, AtomTree, variable, node, none, more}
-use Rattle.cep_term.specs.Multiset.{gathered}
+use Rattle.cep_term.specs.Multiset.{gathered, once}
 use Rattle.cep_rule.specs.declared.rule.Rule.{Rule}
 use Rattle.cep_rule.specs.declared.parts.Parts.{Parts}
 use Rattle.cep_rule.specs.Patterns.{PremiseTree, ClauseTree}
@@ -29,7 +29,7 @@ use Rattle.cep_source.specs.Misnamed.Misnamed.{no_trace}
 use Rattle.cep_types.specs.Sites.{rule_scope, clause_scope}
 use Rattle.cep_types.specs.Heads.{Head, var, con, number_of, variable_of, head_at, heads_from, blanks_after}
 use Rattle.cep_infer.specs.Heads.{argument_count, heads_of, heads_among, IsAtomBy, AreAtomsBy}
-use Rattle.cep_infer.specs.Meaning.{signature_of, stage_by, names_of, kinds_of, is_back, ArePremisesBy, group_of, next_of, IsRuleBy, AreRulesBy, IsClauseBy, AreClausesBy, AreParts}
+use Rattle.cep_infer.specs.Meaning.{signature_of, stage_by, names_of, kinds_of, is_back, is_fact_by, ArePremisesBy, group_of, next_of, IsRuleBy, AreRulesBy, IsClauseBy, AreClausesBy, AreParts}
 use Rattle.cep_ground.specs.Texts.{IsClean}
 use Rattle.cep_base.proofs.Elements.{contains_first, contains_behind}
 use Rattle.cep_ground.proofs.RuleScopes.{AtomsMade, left_here, right_here, clause_here, atom_of_tokens}
@@ -124,7 +124,7 @@ module _ (source : Source) (vars : List (List ℕ)) where
   has_premises blanks (elem.Atom kept raw ∷ elems) fill =
       let here = has_atom blanks raw (fill raw (contains_first raw (atoms_of elems))) in
       let rest = has_premises (blanks_after blanks raw.nodes) elems (λ other there. fill other (contains_behind raw (atoms_of elems) other there)) in
-      record { list = record { atom = here.atom; kept = kept } ∷ rest.list; by = (refl, here.by, rest.by) }
+      record { list = record { atom = here.atom; kept = kept || is_fact_by source here.atom } ∷ rest.list; by = (refl, here.by, rest.by) }
 
 -- as many names as rules
 names_from : (source : Source) (unlabelled : ℕ) (rules : List RuleItem) → length (rule_names_from source unlabelled rules) ≡ length rules
@@ -197,7 +197,7 @@ module _ (source : Source) (clean : IsClean source) (made : AtomsMade source) (s
           rules = rules.rules;
           clauses = clauses.clauses;
           start_stage = number_of source space.Stages (said source trace.stage);
-          start = gathered start.list;
+          start = once (is_fact_by source) (gathered start.list);
           turns = option_and_then (turns_said source.text) trace.limit;
         },
         record {

@@ -7,11 +7,11 @@ pub mod FirstPlaces
 pub mod Limits
 pub mod Scopes
 pub mod RuleScopes
-pub mod NoFacts
 pub mod RuleParts
 pub mod BoundVariables
 pub mod VariableKinds
 pub mod StateAtoms
+pub mod Facts
 pub mod StartState
 pub mod NameLaws
 pub mod GroupLaws

@@ -8,7 +8,7 @@ use Rattle.cep_parse.specs.declared.raw.RawAtom.{RawAtom}
 use Rattle.cep_parse.specs.declared.raw.RawElem.{RawElem}
 use Rattle.cep_parse.specs.declared.raw.RawElem.TheVariants as elem
 use Rattle.cep_term.specs.Tree.{AtomTree}
-use Rattle.cep_term.specs.Multiset.{Multiset, gathered}
+use Rattle.cep_term.specs.Multiset.{Multiset, gathered, once}
 use Rattle.cep_rule.specs.declared.rule.Rule.{Rule}
 use Rattle.cep_rule.specs.declared.parts.Parts.{Parts}
 use Rattle.cep_rule.specs.Patterns.{PremiseTree, ClauseTree}
@@ -17,13 +17,13 @@ use Rattle.cep_parse.specs.Raw.{atoms_of, raw_nodes}
 use Rattle.cep_types.specs.Sites.{clause_scope}
 use Rattle.cep_types.specs.Heads.{number_of, blanks_after}
 use Rattle.cep_infer.specs.Heads.{heads_among, IsAtomBy, AreAtomsBy}
-use Rattle.cep_infer.specs.Meaning.{is_back, ArePremisesBy, IsRuleBy, AreRulesBy, IsClauseBy, AreClausesBy, IsStartBy, AreParts}
+use Rattle.cep_infer.specs.Meaning.{is_back, is_fact_by, ArePremisesBy, IsRuleBy, AreRulesBy, IsClauseBy, AreClausesBy, IsStartBy, AreParts}
 use Rattle.cep_ground.proofs.HeadLaws.{terms_once}
 
 same_atom : (a b : AtomTree) → a.pred ≡ b.pred → a.args ≡ b.args → a ≡ b
 same_atom a b pred args = λ i. record { pred = pred i; args = args i }
 
-atom_once : (source : Source) (vars : List (List ℕ)) (blanks : ℕ) (raw : RawAtom) (a b : AtomTree) → IsAtomBy source vars blanks raw a → IsAtomBy source vars blanks raw b → a ≡ b
+pub atom_once : (source : Source) (vars : List (List ℕ)) (blanks : ℕ) (raw : RawAtom) (a b : AtomTree) → IsAtomBy source vars blanks raw a → IsAtomBy source vars blanks raw b → a ≡ b
 atom_once source vars blanks raw a b one other =
     let args = terms_once a.args b.args [] [] (one.count ∙ sym other.count) (append-nil (heads_among a.args) ∙ one.heads ∙ sym other.heads ∙ sym (append-nil (heads_among b.args))) in
     same_atom a b (one.pred ∙ sym other.pred) args.same
@@ -109,7 +109,7 @@ same_trace t u ts us e = cc
 start_once : (source : Source) (t u : TraceItem) (x y : Multiset) → t ≡ u → IsStartBy source t x → IsStartBy source u y → x ≡ y
 start_once source t u x y same one other =
     let one' : IsStartBy source u x = subst (λ v. IsStartBy source v x) same one in
-    one'.start_is ∙ ap gathered (atoms_once source [] 0 _ one'.atoms other.atoms one'.atoms_are other.atoms_are) ∙ sym other.start_is
+    one'.start_is ∙ ap (λ (atoms : List AtomTree). once (is_fact_by source) (gathered atoms)) (atoms_once source [] 0 _ one'.atoms other.atoms one'.atoms_are other.atoms_are) ∙ sym other.start_is
 
 same_parts : (p q : Parts) → p.signature ≡ q.signature → p.stages ≡ q.stages → p.rules ≡ q.rules → p.clauses ≡ q.clauses → p.start_stage ≡ q.start_stage → p.start ≡ q.start → p.turns ≡ q.turns → p ≡ q
 same_parts p q signature stages rules clauses start_stage start turns = λ i. record { signature = signature i; stages = stages i; rules = rules i; clauses = clauses i; start_stage = start_stage i; start = start i; turns = turns i }

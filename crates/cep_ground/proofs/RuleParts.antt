@@ -1,5 +1,5 @@
 -- What the rules of a text keep: types, predicates, limits.
-use Rattle.std.proofs.Common.{◌≡◌, ℕ, suc, ◌+◌, ◌≤◌, Bool, true, false, not, List, [], ◌∷◌, ◌++◌, length, map, filter, refl, sym, ap, subst, ◌∙◌, arith, Contains}
+use Rattle.std.proofs.Common.{◌≡◌, ℕ, suc, ◌+◌, ◌≤◌, Bool, true, false, not, ◌||◌, List, [], ◌∷◌, ◌++◌, length, map, filter, refl, sym, ap, subst, ◌∙◌, arith, Contains}
 use Rattle.std.proofs.lemmas.List.{length-map}
 use Rattle.std.proofs.lemmas.Grind.{flat_map-append}
 use Rattle.std.proofs.lemmas.Option.{slice_get-map}
@@ -11,7 +11,9 @@ use Rattle.cep_parse.specs.declared.raw.RawNode.{RawNode}
 use Rattle.cep_parse.specs.declared.raw.RawAtom.{RawAtom}
 use Rattle.cep_parse.specs.declared.raw.RawElem.{RawElem}
 use Rattle.cep_parse.specs.declared.raw.RawElem.TheVariants as elem
-use Rattle.cep_base.specs.Kinds.{is_backward}
+use Rattle.cep_base.specs.declared.kind.PredKind.{PredKind}
+use Rattle.cep_base.specs.declared.kind.PredKind.TheVariants.{Linear, Back, Fact}
+use Rattle.cep_base.specs.Kinds.{is_backward, is_of_facts}
 use Rattle.cep_term.specs.Tree.{AtomTree, atom_nodes}
 use Rattle.cep_rule.specs.declared.signature.PredDecl.{PredDecl}
 use Rattle.cep_rule.specs.declared.rule.Rule.{Rule}
@@ -23,7 +25,7 @@ use Rattle.cep_refusal.specs.declared.reason.Reason.TheVariants.{BwdInState, Lin
 use Rattle.cep_source.specs.declared.space.Role.TheVariants as role
 use Rattle.cep_source.specs.declared.space.Space.TheVariants as space
 use Rattle.cep_source.specs.Items.{Source, RuleItem, ClauseItem, PredItem, said, rules_of, clauses_of, preds_of}
-use Rattle.cep_source.specs.Spaces.{named, back_of}
+use Rattle.cep_source.specs.Spaces.{named, kind_of}
 use Rattle.cep_parse.specs.Raw.{atoms_of, raw_nodes}
 use Rattle.cep_source.specs.Uses.{placed, placed_of}
 use Rattle.cep_source.specs.Variables.{blanks_behind, variables_of, Occurrence}
@@ -34,17 +36,17 @@ use Rattle.cep_source.specs.Misnamed.Misnamed.{backward_in_state, linear_in_clau
 use Rattle.cep_types.specs.Sites.{sites_of, wanted_from, type_of, rule_scope, clause_scope}
 use Rattle.cep_types.specs.Heads.{number_of, heads_from, blanks_after}
 use Rattle.cep_infer.specs.Heads.{IsAtomBy, AreAtomsBy}
-use Rattle.cep_infer.specs.Meaning.{kind_by, pred_by, signature_of, names_of, kinds_of, is_back, ArePremisesBy, IsRuleBy, IsClauseBy}
+use Rattle.cep_infer.specs.Meaning.{pred_by, is_fact_by, signature_of, names_of, kinds_of, is_back, ArePremisesBy, IsRuleBy, IsClauseBy}
 use Rattle.cep_ground.specs.Texts.{IsClean}
 use Rattle.cep_base.proofs.Elements.{contains_first, contains_behind, contains_left, contains_right, all_of}
 use Rattle.cep_ground.proofs.Known.{pred_known}
-use Rattle.cep_ground.proofs.NoFacts.{backward_by, never_a_fact}
+use Rattle.cep_ground.proofs.Facts.{fact_by}
 use Rattle.cep_ground.proofs.Located.{located}
 use Rattle.cep_ground.proofs.Limits.{all_filter, all_map, all_pass}
 use Rattle.cep_ground.proofs.HeadLaws.{terms_nodes}
 use Rattle.cep_ground.proofs.Wanted.{nodes_at, wanted_both}
 use Rattle.cep_ground.proofs.Scopes.{IsHere, scope_nodes, typed_atoms, typed_premises}
-use Rattle.cep_ground.proofs.RuleScopes.{AtomsMade, words, short, nodes_short, left_here, right_at, right_here, clause_at, clause_here, rule_here, back_known}
+use Rattle.cep_ground.proofs.RuleScopes.{AtomsMade, words, short, nodes_short, left_here, right_at, right_here, clause_at, clause_here, rule_here, kind_known}
 
 -- the nodes of an atom are as many as are written
 heads_size : (source : Source) (vars : List (List ℕ)) (blanks : ℕ) (nodes : List RawNode) → length (heads_from source vars blanks nodes) ≡ length nodes
@@ -69,15 +71,16 @@ all_follow P Q (x ∷ xs) follows all = (follows x all.0, all_follow P Q xs foll
 pub record IsOfPred (source : Source) (atom : AtomTree) (back : Bool) : Type 0 where
   pub pred : PredItem
   pub found : slice_get (map (pred_by source) (preds_of source)) atom.pred ≡ Some (pred_by source pred)
-  pub back_is : pred.back ≡ back
+  pub back_is : is_backward pred.kind ≡ back
   pub judged : is_back source atom ≡ back
+  pub fact_is : is_fact_by source atom ≡ is_of_facts pred.kind
 
 not_true : (b : Bool) → not b ≡ true → b ≡ false
 not_true true e = absurd cc
 not_true false e = refl
 
 module _ (source : Source) (clean : IsClean source) (atoms_made : AtomsMade source) where
-  pub pred_at : (vars : List (List ℕ)) (blanks : ℕ) (raw : RawAtom) (atom : AtomTree) (here : IsHere source raw) → IsAtomBy source vars blanks raw atom → IsOfPred source atom (pred_known source (placed here.role raw) clean.names here.there here.plain).pred.back
+  pub pred_at : (vars : List (List ℕ)) (blanks : ℕ) (raw : RawAtom) (atom : AtomTree) (here : IsHere source raw) → IsAtomBy source vars blanks raw atom → IsOfPred source atom (is_backward (pred_known source (placed here.role raw) clean.names here.there here.plain).pred.kind)
   pred_at vars blanks raw atom here by =
       let known = pred_known source (placed here.role raw) clean.names here.there here.plain in
       let spot = located (λ (pred : PredItem). named source pred.name) (λ other. bytes_eq other.name (said source raw.name)) (preds_of source) known.pred known.found in
@@ -86,7 +89,8 @@ module _ (source : Source) (clean : IsClean source) (atoms_made : AtomsMade sour
         pred = known.pred;
         found = slice_get-map (pred_by source) (preds_of source) atom.pred ∙ ap (option_map (pred_by source)) at;
         back_is = refl;
-        judged = ap (λ f. unwrap_or (option_map (λ (pred : PredItem). pred.back) f) false) at;
+        judged = ap (λ f. unwrap_or (option_map (λ (pred : PredItem). is_backward pred.kind) f) false) at;
+        fact_is = ap (λ f. unwrap_or (option_map (λ (pred : PredItem). is_of_facts pred.kind) f) false) at;
       }
 
   -- A premise is judged as its predicate is declared, and it is small.
@@ -97,7 +101,7 @@ module _ (source : Source) (clean : IsClean source) (atoms_made : AtomsMade sour
 
   judged_at : (vars : List (List ℕ)) (blanks : ℕ) (raw : RawAtom) (atom : AtomTree) (here : IsHere source raw) → IsAtomBy source vars blanks raw atom → IsJudged atom
   judged_at vars blanks raw atom here by = record {
-    back = (pred_known source (placed here.role raw) clean.names here.there here.plain).pred.back;
+    back = is_backward (pred_known source (placed here.role raw) clean.names here.there here.plain).pred.kind;
     of_pred = pred_at vars blanks raw atom here by;
     small = let size = atom_size source vars blanks raw atom by in let s = nodes_short source clean atoms_made here.role raw here.there in omega (arith, size, s);
   }
@@ -125,13 +129,13 @@ module _ (source : Source) (clean : IsClean source) (atoms_made : AtomsMade sour
   of_state : (atom : AtomTree) (j : IsJudged atom) → is_back source atom ≡ false → HasStatePredicate (signature_of source) atom
   of_state atom j linear =
       let is = j.of_pred in
-      let e : is_backward (kind_by is.pred.back) ≡ false = backward_by is.pred.back ∙ is.back_is ∙ sym is.judged ∙ linear in
+      let e : is_backward is.pred.kind ≡ false = is.back_is ∙ sym is.judged ∙ linear in
       subst (λ f. IsSomeAnd f (λ (pred : PredDecl). is_backward pred.kind ≡ false)) (sym is.found) e
 
   backward_is : (atom : AtomTree) (j : IsJudged atom) → is_back source atom ≡ true → IsBackward (signature_of source) atom
   backward_is atom j yes_ =
       let is = j.of_pred in
-      let e : is_backward (kind_by is.pred.back) ≡ true = backward_by is.pred.back ∙ is.back_is ∙ sym is.judged ∙ yes_ in
+      let e : is_backward is.pred.kind ≡ true = is.back_is ∙ sym is.judged ∙ yes_ in
       subst (λ f. IsSomeAnd f (λ (pred : PredDecl). is_backward pred.kind ≡ true)) (sym is.found) e
 
   -- the linear premises of those that are judged
@@ -162,12 +166,8 @@ module _ (source : Source) (clean : IsClean source) (atoms_made : AtomsMade sour
   count_step b x y xs ys false true same size = absurd cc
   count_step b x y xs ys false false same size = size
 
-  linear_declared : (b : Bool) → not b ≡ is_declared false (Some b)
-  linear_declared true = refl
-  linear_declared false = refl
-
   pub linear_count : (vars : List (List ℕ)) (blanks : ℕ) (elems : List RawElem) (list : List PremiseTree) → ((raw : RawAtom) → Contains (atoms_of elems) raw → IsHere source raw) → ArePremisesBy source vars blanks elems list
-      → length (filter (λ p. not (is_back source p.atom)) list) ≡ length (filter (λ atom. is_declared false (back_of source atom)) (atoms_of elems))
+      → length (filter (λ p. not (is_back source p.atom)) list) ≡ length (filter (λ atom. is_declared false (kind_of source atom)) (atoms_of elems))
   linear_count vars blanks [] [] here by = refl
   linear_count vars blanks [] (p ∷ list) here by = absurd by
   linear_count vars blanks (elem.Qui span ∷ elems) list here by = linear_count vars blanks elems list here by
@@ -175,14 +175,13 @@ module _ (source : Source) (clean : IsClean source) (atoms_made : AtomsMade sour
   linear_count vars blanks (elem.Atom kept raw ∷ elems) [] here by = absurd by
   linear_count vars blanks (elem.Atom kept raw ∷ elems) (p ∷ list) here by =
       let is = here raw (contains_first raw (atoms_of elems)) in
-      let known = back_known source clean atoms_made raw is in
+      let known = kind_known source clean atoms_made raw is in
       let judged = (pred_at vars blanks raw p.atom is by.1).judged in
-      let b = (pred_known source (placed is.role raw) clean.names is.there is.plain).pred.back in
-      count_step true p raw _ _ (not (is_back source p.atom)) (is_declared false (back_of source raw)) (ap not judged ∙ linear_declared b ∙ ap (is_declared false) (sym known))
+      count_step true p raw _ _ (not (is_back source p.atom)) (is_declared false (kind_of source raw)) (ap not judged ∙ ap (is_declared false) (sym known))
       (linear_count vars (blanks_after blanks raw.nodes) elems list (λ other there. here other (contains_behind raw (atoms_of elems) other there)) by.2)
 
   pub back_count : (vars : List (List ℕ)) (blanks : ℕ) (elems : List RawElem) (list : List PremiseTree) → ((raw : RawAtom) → Contains (atoms_of elems) raw → IsHere source raw) → ArePremisesBy source vars blanks elems list
-      → length (filter (λ p. is_back source p.atom) list) ≡ length (filter (λ atom. is_declared true (back_of source atom)) (atoms_of elems))
+      → length (filter (λ p. is_back source p.atom) list) ≡ length (filter (λ atom. is_declared true (kind_of source atom)) (atoms_of elems))
   back_count vars blanks [] [] here by = refl
   back_count vars blanks [] (p ∷ list) here by = absurd by
   back_count vars blanks (elem.Qui span ∷ elems) list here by = back_count vars blanks elems list here by
@@ -190,9 +189,9 @@ module _ (source : Source) (clean : IsClean source) (atoms_made : AtomsMade sour
   back_count vars blanks (elem.Atom kept raw ∷ elems) [] here by = absurd by
   back_count vars blanks (elem.Atom kept raw ∷ elems) (p ∷ list) here by =
       let is = here raw (contains_first raw (atoms_of elems)) in
-      let known = back_known source clean atoms_made raw is in
+      let known = kind_known source clean atoms_made raw is in
       let judged = (pred_at vars blanks raw p.atom is by.1).judged in
-      count_step true p raw _ _ (is_back source p.atom) (is_declared true (back_of source raw)) (judged ∙ ap (is_declared true) (sym known))
+      count_step true p raw _ _ (is_back source p.atom) (is_declared true (kind_of source raw)) (judged ∙ ap (is_declared true) (sym known))
       (back_count vars (blanks_after blanks raw.nodes) elems list (λ other there. here other (contains_behind raw (atoms_of elems) other there)) by.2)
 
   -- as many atoms are made as are written
@@ -209,16 +208,17 @@ module _ (source : Source) (clean : IsClean source) (atoms_made : AtomsMade sour
   right_of_state vars blanks (raw ∷ raws) [] at here by = absurd by
   right_of_state vars blanks (raw ∷ raws) (atom ∷ list) at here by =
       let is = here raw (contains_first raw raws) in
-      let known = back_known source clean atoms_made raw is in
-      let b = (pred_known source (placed is.role raw) clean.names is.there is.plain).pred.back in
-      let linear = no_back b (λ (e : b ≡ true). clean.names (wrong BwdInState raw.name.from) (backward_in_state (placed role.Made raw) (at raw (contains_first raw raws)) made (known ∙ ap Some e) refl)) in (
+      let known = kind_known source clean atoms_made raw is in
+      let its = (pred_known source (placed is.role raw) clean.names is.there is.plain).pred.kind in
+      let linear = no_back its (λ (e : its ≡ Back). clean.names (wrong BwdInState raw.name.from) (backward_in_state (placed role.Made raw) (at raw (contains_first raw raws)) made (known ∙ ap Some e) refl)) in (
         of_state atom (judged_at vars blanks raw atom is by.0) ((pred_at vars blanks raw atom is by.0).judged ∙ linear),
         right_of_state vars (blanks_after blanks raw.nodes) raws list (λ other there. at other (contains_behind raw raws other there)) (λ other there. here other (contains_behind raw raws other there)) by.1,
       )
     where
-      no_back : (b : Bool) → (b ≡ true → ⊥) → b ≡ false
-      no_back true never = absurd (never refl)
-      no_back false never = refl
+      no_back : (its : PredKind) → (its ≡ Back → ⊥) → is_backward its ≡ false
+      no_back Linear never = refl
+      no_back Back never = absurd (never refl)
+      no_back Fact never = refl
 
   -- those of a clause are of backward ones
   pub clause_backward : (vars : List (List ℕ)) (blanks : ℕ) (raws : List RawAtom) (list : List AtomTree) → ((raw : RawAtom) → Contains raws raw → Contains (placed_of source) (placed role.Clause raw)) → ((raw : RawAtom) → Contains raws raw → IsHere source raw) → AreAtomsBy source vars blanks raws list → AllByRecursion (IsBackward (signature_of source)) list
@@ -227,16 +227,33 @@ module _ (source : Source) (clean : IsClean source) (atoms_made : AtomsMade sour
   clause_backward vars blanks (raw ∷ raws) [] at here by = absurd by
   clause_backward vars blanks (raw ∷ raws) (atom ∷ list) at here by =
       let is = here raw (contains_first raw raws) in
-      let known = back_known source clean atoms_made raw is in
-      let b = (pred_known source (placed is.role raw) clean.names is.there is.plain).pred.back in
-      let yes_ = all_back b (λ (e : b ≡ false). clean.names (wrong LinearInClause raw.name.from) (linear_in_clause (placed role.Clause raw) (at raw (contains_first raw raws)) refl (known ∙ ap Some e) refl)) in (
+      let known = kind_known source clean atoms_made raw is in
+      let its = (pred_known source (placed is.role raw) clean.names is.there is.plain).pred.kind in
+      let yes_ = all_back its (λ (e : is_declared false (Some its) ≡ true). clean.names (wrong LinearInClause raw.name.from) (linear_in_clause (placed role.Clause raw) (at raw (contains_first raw raws)) refl (ap (is_declared false) known ∙ e) refl)) in (
         backward_is atom (judged_at vars blanks raw atom is by.0) ((pred_at vars blanks raw atom is by.0).judged ∙ yes_),
         clause_backward vars (blanks_after blanks raw.nodes) raws list (λ other there. at other (contains_behind raw raws other there)) (λ other there. here other (contains_behind raw raws other there)) by.1,
       )
     where
-      all_back : (b : Bool) → (b ≡ false → ⊥) → b ≡ true
-      all_back true never = refl
-      all_back false never = absurd (never refl)
+      all_back : (its : PredKind) → (is_declared false (Some its) ≡ true → ⊥) → is_backward its ≡ true
+      all_back Linear never = absurd (never refl)
+      all_back Back never = refl
+      all_back Fact never = absurd (never refl)
+
+  -- a premise that is a fact is kept
+  kept_by : (marked fact : Bool) → fact ≡ true → (marked || fact) ≡ true
+  kept_by true fact is = refl
+  kept_by false fact is = is
+
+  kept_facts : (vars : List (List ℕ)) (blanks : ℕ) (elems : List RawElem) (list : List PremiseTree) → ArePremisesBy source vars blanks elems list → AllByRecursion (λ p. is_fact (signature_of source) p.atom ≡ true → p.kept ≡ true) list
+  kept_facts vars blanks [] [] by = tt
+  kept_facts vars blanks [] (p ∷ list) by = absurd by
+  kept_facts vars blanks (elem.Qui span ∷ elems) list by = kept_facts vars blanks elems list by
+  kept_facts vars blanks (elem.Stage span ∷ elems) list by = kept_facts vars blanks elems list by
+  kept_facts vars blanks (elem.Atom kept raw ∷ elems) [] by = absurd by
+  kept_facts vars blanks (elem.Atom kept raw ∷ elems) (p ∷ list) by = (
+    (λ fact. by.0 ∙ kept_by kept (is_fact_by source p.atom) (sym (fact_by source p.atom) ∙ fact)),
+    kept_facts vars (blanks_after blanks raw.nodes) elems list by.2,
+  )
 
   kinds_size : (scope : List RawAtom) → length (kinds_of source scope) ≡ length (names_of source scope)
   kinds_size scope = length-map (variables_of source scope) (λ (o : Occurrence). number_of source space.Sorts (unwrap_or (type_of source scope o.name) [])) ∙ sym (length-map (variables_of source scope) (λ (o : Occurrence). o.name))
@@ -278,7 +295,8 @@ module _ (source : Source) (clean : IsClean source) (atoms_made : AtomsMade sour
       let judged = judged_premises rule.vars 0 item.raw.left by.left (left_here source clean atoms_made item there) by.left_is in
       record {
         premises = subst (λ (ps : List PremiseTree). AllByRecursion (HasStatePredicate (signature_of source)) (map (λ p. p.atom) ps)) (sym by.premises_are) (divided_premises by.left judged);
-        facts = all_of (λ (premise : PremiseTree). is_fact (signature_of source) premise.atom ≡ true → premise.kept ≡ true) rule.premises (λ premise there fact. never_a_fact source premise.atom fact);
+        facts = subst (AllByRecursion (λ (p : PremiseTree). is_fact (signature_of source) p.atom ≡ true → p.kept ≡ true)) (sym by.premises_are)
+            (all_filter (λ (p : PremiseTree). is_fact (signature_of source) p.atom ≡ true → p.kept ≡ true) (λ p. not (is_back source p.atom)) by.left (kept_facts rule.vars 0 item.raw.left by.left by.left_is));
         backs = subst (AllByRecursion (IsBackward (signature_of source))) (sym by.backs_are) (divided_backs by.left judged);
         right = right_of_state rule.vars _ (atoms_of item.raw.right) rule.right (right_at source clean atoms_made item there) (right_here source clean atoms_made item there) by.right_is;
       }

@@ -4,6 +4,8 @@ use Rattle.std.proofs.lemmas.List.{length-map}
 use Rattle.std.specs.Prelude.{Some}
 use Rattle.std.specs.Option.{option_map}
 use Rattle.std.specs.Char.{is_ascii_uppercase}
+use Rattle.cep_base.specs.declared.kind.PredKind.{PredKind}
+use Rattle.cep_base.specs.declared.kind.PredKind.TheVariants.{Linear, Back, Fact}
 use Rattle.cep_parse.specs.declared.raw.RawKind.{RawKind}
 use Rattle.cep_parse.specs.declared.raw.RawKind.TheVariants as kind
 use Rattle.cep_parse.specs.declared.raw.Span.{Span}
@@ -18,11 +20,11 @@ use Rattle.cep_refusal.specs.declared.reason.Reason.TheVariants.{OverLimit}
 use Rattle.cep_source.specs.declared.space.Role.{Role}
 use Rattle.cep_source.specs.declared.space.Role.TheVariants as role
 use Rattle.cep_source.specs.Items.{Source, RuleItem, ClauseItem, PredItem, said, rules_of, clauses_of}
-use Rattle.cep_source.specs.Spaces.{back_of}
+use Rattle.cep_source.specs.Spaces.{kind_of}
 use Rattle.cep_parse.specs.Raw.{atoms_of, raw_nodes}
 use Rattle.cep_source.specs.Uses.{Placed, placed, placed_of}
 use Rattle.cep_refusal.specs.First.{wrong}
-use Rattle.cep_source.specs.Misnamed.{is_declared, linear_of, backward_of}
+use Rattle.cep_source.specs.Misnamed.{is_declared, state_premises_of, backward_of}
 use Rattle.cep_source.specs.Misnamed.Misnamed.{over}
 use Rattle.cep_source.specs.Misnamed.IsOver.{premise, back, right, goal}
 use Rattle.cep_types.specs.Sites.{Site, sites_of, IsScope, rule_scope, clause_scope}
@@ -97,16 +99,17 @@ module _ (source : Source) (clean : IsClean source) (made : AtomsMade source) wh
       let at = right_at rule there raw inside in
       record { role = role.Made; there = at; plain = refl; filled = (atom_of_tokens role.Made raw at).filled }
 
-  declared_either : (b : Bool) → (is_declared false (Some b) ≡ true) ⊎ (is_declared true (Some b) ≡ true)
-  declared_either true = inr refl
-  declared_either false = inl refl
+  declared_either : (its : PredKind) → (is_declared false (Some its) ≡ true) ⊎ (is_declared true (Some its) ≡ true)
+  declared_either Linear = inl refl
+  declared_either Back = inr refl
+  declared_either Fact = inl refl
 
-  -- an atom's predicate is a linear one or a backward one
-  pub back_known : (raw : RawAtom) → (here : IsHere source raw) → back_of source raw ≡ Some (pred_known source (placed here.role raw) clean.names here.there here.plain).pred.back
-  back_known raw here = ap (option_map (λ (pred : PredItem). pred.back)) (pred_known source (placed here.role raw) clean.names here.there here.plain).found
+  -- an atom's predicate is of some kind
+  pub kind_known : (raw : RawAtom) → (here : IsHere source raw) → kind_of source raw ≡ Some (pred_known source (placed here.role raw) clean.names here.there here.plain).pred.kind
+  kind_known raw here = ap (option_map (λ (pred : PredItem). pred.kind)) (pred_known source (placed here.role raw) clean.names here.there here.plain).found
 
-  pub linear_few : (rule : RuleItem) → Contains (rules_of source) rule → length (linear_of source rule.raw) ≤ 16
-  linear_few rule there = at_most (linear_of source rule.raw) 16 (λ atom found. clean.names (wrong OverLimit atom.name.from) (over atom.name.from (premise rule atom there found refl) refl))
+  pub linear_few : (rule : RuleItem) → Contains (rules_of source) rule → length (state_premises_of source rule.raw) ≤ 16
+  linear_few rule there = at_most (state_premises_of source rule.raw) 16 (λ atom found. clean.names (wrong OverLimit atom.name.from) (over atom.name.from (premise rule atom there found refl) refl))
 
   pub back_few : (rule : RuleItem) → Contains (rules_of source) rule → length (backward_of source rule.raw) ≤ 8
   back_few rule there = at_most (backward_of source rule.raw) 8 (λ atom found. clean.names (wrong OverLimit atom.name.from) (over atom.name.from (back rule atom there found refl) refl))
@@ -119,11 +122,11 @@ module _ (source : Source) (clean : IsClean source) (made : AtomsMade source) wh
 
   left_few : (rule : RuleItem) → Contains (rules_of source) rule → length (atoms_of rule.raw.left) ≤ 24
   left_few rule there =
-      let cover = filters_cover (λ atom. is_declared false (back_of source atom)) (λ atom. is_declared true (back_of source atom)) (atoms_of rule.raw.left)
+      let cover = filters_cover (λ atom. is_declared false (kind_of source atom)) (λ atom. is_declared true (kind_of source atom)) (atoms_of rule.raw.left)
       (λ raw inside.
       let here = left_here rule there raw inside in
-      let known = back_known raw here in
-      subst (λ b. (is_declared false b ≡ true) ⊎ (is_declared true b ≡ true)) (sym known) (declared_either (pred_known source (placed here.role raw) clean.names here.there here.plain).pred.back)) in
+      let known = kind_known raw here in
+      subst (λ b. (is_declared false b ≡ true) ⊎ (is_declared true b ≡ true)) (sym known) (declared_either (pred_known source (placed here.role raw) clean.names here.there here.plain).pred.kind)) in
       let one = linear_few rule there in
       let other = back_few rule there in
       omega (arith, cover, one, other)

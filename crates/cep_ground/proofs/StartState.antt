@@ -1,18 +1,27 @@
 -- The start state of a text is a state that fits.
-use Rattle.std.proofs.Common.{◌≡◌, ⊎_elim, ℕ, suc, ◌≤◌, Bool, true, false, List, [], ◌∷◌, length, map, refl, sym, ap, subst, ◌∙◌, arith, Contains}
+use Rattle.std.proofs.Common.{◌≡◌, ◌≢◌, ⊎_elim, ℕ, suc, ◌+◌, ◌<◌, ◌≤◌, Bool, true, false, ◌&&◌, ◌||◌, if◌then◌else◌, nat_lt, Option, List, [], ◌∷◌, length, map, refl, sym, ap, subst, ◌∙◌, arith, Contains}
 use Rattle.std.proofs.lemmas.List.Sums.{sum_by-cons}
 use Rattle.std.proofs.lemmas.List.{append-nil}
 use Rattle.std.specs.Prelude.{Some, sum_by, IsSomeAnd, unwrap_or}
-use Rattle.std.specs.List.{AllByRecursion}
+use Rattle.std.specs.declared.cmp.Ordering.{Ordering}
+use Rattle.std.specs.declared.cmp.Ordering.TheVariants.{Less, Equal, Greater}
+use Rattle.std.specs.Cmp.{tied_itself}
+use Rattle.std.specs.FinMap as finite
+use Rattle.std.specs.Option.{option_map}
+use Rattle.std.specs.List.{AllByRecursion, list_any}
+use Rattle.std.proofs.lemmas.Bool.{ltb-true, lt-ltb}
+use Rattle.cep_term.specs.Order.{atom_cmp}
 use Rattle.cep_parse.specs.declared.raw.Span.{Span}
 use Rattle.cep_parse.specs.declared.raw.RawKind.{RawKind}
 use Rattle.cep_parse.specs.declared.raw.RawKind.TheVariants as kind
 use Rattle.cep_parse.specs.declared.raw.RawNode.{RawNode}
 use Rattle.cep_parse.specs.declared.raw.RawAtom.{RawAtom}
-use Rattle.cep_base.specs.Kinds.{is_backward}
+use Rattle.cep_base.specs.declared.kind.PredKind.{PredKind}
+use Rattle.cep_base.specs.declared.kind.PredKind.TheVariants.{Linear, Back, Fact}
+use Rattle.cep_base.specs.Kinds.{is_backward, is_of_facts}
 use Rattle.cep_term.specs.Tree.{AtomTree, IsGroundAtom, atom_nodes, IsFit}
 use Rattle.cep_term.specs.BagLaws.{BagLaws}
-use Rattle.cep_term.specs.Multiset.{Multiset}
+use Rattle.cep_term.specs.Multiset.{Multiset, count_of, with_one, gathered, once, held, gained}
 use Rattle.cep_rule.specs.declared.signature.PredDecl.{PredDecl}
 use Rattle.cep_rule.specs.Typing.{IsTyped, HasStatePredicate}
 use Rattle.cep_rule.specs.State.{IsStateAtom, IsState, Fits}
@@ -22,7 +31,7 @@ use Rattle.cep_parse.specs.Raw.{raw_nodes}
 use Rattle.cep_source.specs.Uses.{placed}
 use Rattle.cep_source.specs.declared.space.Space.TheVariants as space
 use Rattle.cep_source.specs.Variables.{Occurrence, firsts, occurrences_from, blanks_behind}
-use Rattle.cep_source.specs.Starts.{start_atoms, nodes_written, IsFitWritten}
+use Rattle.cep_source.specs.Starts.{start_atoms, nodes_written, IsFitWritten, is_of_fact, is_written_alike, counting_behind, counting}
 use Rattle.cep_refusal.specs.First.{wrong}
 use Rattle.cep_source.specs.Misnamed.{ComesToState as comes}
 use Rattle.cep_source.specs.Misnamed.Misnamed.{over, backward_in_state}
@@ -31,15 +40,15 @@ use Rattle.cep_types.specs.Sites.{type_of}
 use Rattle.cep_types.specs.Sites.{IsScope as scopes}
 use Rattle.cep_types.specs.Heads.{number_of, blanks_after}
 use Rattle.cep_infer.specs.Heads.{IsAtomBy, AreAtomsBy}
-use Rattle.cep_infer.specs.Meaning.{signature_of, names_of, kinds_of, IsStartBy}
+use Rattle.cep_infer.specs.Meaning.{signature_of, names_of, kinds_of, is_fact_by, IsStartBy}
 use Rattle.cep_infer.specs.Resolved.{IsWellNamed}
 use Rattle.cep_infer.specs.States.{IsStateWritten, AreClosed}
 use Rattle.cep_ground.specs.Texts.{IsClean}
 use Rattle.cep_base.proofs.Elements.{contains_none, contains_first, contains_behind, contains_cases, all_at}
 use Rattle.cep_ground.proofs.Known.{pred_known}
-use Rattle.cep_ground.proofs.NoFacts.{backward_by, never_a_fact}
+use Rattle.cep_ground.proofs.Facts.{fact_by, alike_atoms}
 use Rattle.cep_ground.proofs.Scopes.{IsHere, typed_atoms}
-use Rattle.cep_ground.proofs.RuleScopes.{AtomsMade, AreHere, atom_of_tokens, words, short, back_known}
+use Rattle.cep_ground.proofs.RuleScopes.{AtomsMade, AreHere, atom_of_tokens, words, short, kind_known}
 use Rattle.cep_ground.proofs.RuleParts.{atom_size, pred_at}
 use Rattle.cep_ground.proofs.StateAtoms.{atom_alike, raw_depth, not_greater}
 
@@ -94,15 +103,16 @@ module _ (source : Source) (clean : IsClean source) (made : AtomsMade source) (s
   listed_of_state : (raw : RawAtom) (blanks : ℕ) (atom : AtomTree) (listed : IsStateWritten source raw) → IsAtomBy source [] blanks raw atom → HasStatePredicate (signature_of source) atom
   listed_of_state raw blanks atom listed by =
       let here = listed_here raw listed in
-      let known = back_known source clean made raw here in
+      let known = kind_known source clean made raw here in
       let is = pred_at source clean made [] blanks raw atom here by in
-      let b = (pred_known source (placed here.role raw) clean.names here.there here.plain).pred.back in
-      let linear = no_back b (λ (e : b ≡ true). clean.names (wrong BwdInState raw.name.from) (backward_in_state (placed listed.role raw) listed.there (comes.state listed.role listed.of_state) (known ∙ ap Some e) refl)) in
-      subst (λ f. IsSomeAnd f (λ (pred : PredDecl). is_backward pred.kind ≡ false)) (sym is.found) (backward_by is.pred.back ∙ is.back_is ∙ linear)
+      let its = (pred_known source (placed here.role raw) clean.names here.there here.plain).pred.kind in
+      let linear = no_back its (λ (e : its ≡ Back). clean.names (wrong BwdInState raw.name.from) (backward_in_state (placed listed.role raw) listed.there (comes.state listed.role listed.of_state) (known ∙ ap Some e) refl)) in
+      subst (λ f. IsSomeAnd f (λ (pred : PredDecl). is_backward pred.kind ≡ false)) (sym is.found) (is.back_is ∙ linear)
     where
-      no_back : (b : Bool) → (b ≡ true → ⊥) → b ≡ false
-      no_back true never = absurd (never refl)
-      no_back false never = refl
+      no_back : (its : PredKind) → (its ≡ Back → ⊥) → is_backward its ≡ false
+      no_back Linear never = refl
+      no_back Back never = absurd (never refl)
+      no_back Fact never = refl
 
   listed_fit : (raw : RawAtom) (blanks : ℕ) (atom : AtomTree) (listed : IsStateWritten source raw) → IsAtomBy source [] blanks raw atom → IsFit atom
   listed_fit raw blanks atom listed by =
@@ -129,17 +139,76 @@ module _ (source : Source) (clean : IsClean source) (made : AtomsMade source) (s
   listed_state_atoms (raw ∷ raws) blanks (atom ∷ list) all by =
       (listed_state_atom raw blanks atom (all raw (contains_first raw raws)) by.0, listed_state_atoms raws (blanks_after blanks raw.nodes) list (λ other there. all other (contains_behind raw raws other there)) by.1)
 
-  -- as many copies and nodes as are written
-  list_sizes : (raws : List RawAtom) (blanks : ℕ) (list : List AtomTree) → AreAtomsBy source [] blanks raws list → (length list ≡ length raws) × (sum_by atom_nodes list ≡ sum_by nodes_written raws)
-  list_sizes [] blanks [] by = (refl, refl)
-  list_sizes [] blanks (atom ∷ list) by = absurd by
-  list_sizes (raw ∷ raws) blanks [] by = absurd by
-  list_sizes (raw ∷ raws) blanks (atom ∷ list) by =
-      let rest = list_sizes raws (blanks_after blanks raw.nodes) list by.1 in
-      let size = atom_size source [] blanks raw atom by.0 in
-      let one = sum_by-cons atom_nodes atom list in
-      let other = sum_by-cons nodes_written raw raws in
-      (ap suc rest.0, let r = rest.1 in omega (arith, size, one, other, r))
+  -- an atom of a state is a fact where it is written as one
+  fact_written : (raw : RawAtom) (blanks : ℕ) (atom : AtomTree) (listed : IsStateWritten source raw) → IsAtomBy source [] blanks raw atom → is_fact_by source atom ≡ is_of_fact source raw
+  fact_written raw blanks atom listed by =
+      let here = listed_here raw listed in
+      let known = kind_known source clean made raw here in
+      let is = pred_at source clean made [] blanks raw atom here by in
+      is.fact_is ∙ sym (ap (λ (its : Option PredKind). unwrap_or (option_map is_of_facts its) false) known)
+
+  module _ (laws : BagLaws) where
+    -- what is there stays there
+    stays : (bag : Multiset) (a x : AtomTree) (o : Ordering) → atom_cmp x a ≡ o → 0 < count_of bag x → 0 < count_of (with_one bag a) x
+    stays bag a x Less is there = let more_ = laws.others bag a x (count_of bag a + 1) (unlike a x Less is (λ e. cc)) in omega (arith, more_, there)
+      where
+        unlike : (a x : AtomTree) (o : Ordering) → atom_cmp x a ≡ o → o ≢ Equal → x ≢ a
+        unlike a x o is unequal same = unequal (sym is ∙ subst (λ y. atom_cmp x y ≡ Equal) same (tied_itself laws.total x))
+    stays bag a x Equal is there = subst (λ y. 0 < count_of (with_one bag y) x) (laws.ties x a is) (let own = laws.own bag x (count_of bag x + 1) in omega (arith, own))
+    stays bag a x Greater is there = let more_ = laws.others bag a x (count_of bag a + 1) (unlike a x Greater is (λ e. cc)) in omega (arith, more_, there)
+      where
+        unlike : (a x : AtomTree) (o : Ordering) → atom_cmp x a ≡ o → o ≢ Equal → x ≢ a
+        unlike a x o is unequal same = unequal (sym is ∙ subst (λ y. atom_cmp x y ≡ Equal) same (tied_itself laws.total x))
+
+    -- Each atom that is written like one of these is there.
+    abbrev AreThere : List RawAtom → Multiset → Type 0
+    AreThere before bag = (raw : RawAtom) (blanks : ℕ) (atom : AtomTree) → IsStateWritten source raw → IsAtomBy source [] blanks raw atom → list_any (is_written_alike source raw) before ≡ true → 0 < count_of bag atom
+
+    one_more : (raw : RawAtom) (blanks : ℕ) (atom : AtomTree) (before : List RawAtom) (bag : Multiset) → IsStateWritten source raw → IsAtomBy source [] blanks raw atom → 0 < count_of bag atom → AreThere before bag → AreThere (raw ∷ before) bag
+    one_more raw blanks atom before bag listed by here there other more_ x listed' by' alike = by_case (is_written_alike source other raw) refl alike
+      where
+        by_case : (b : Bool) → is_written_alike source other raw ≡ b → (b || list_any (is_written_alike source other) before) ≡ true → 0 < count_of bag x
+        by_case true is e = subst (λ y. 0 < count_of bag y) (sym (alike_atoms source other raw more_ blanks x atom is (listed_closed other listed') (listed_closed raw listed) by' by)) here
+        by_case false is e = there other more_ x listed' by' e
+
+    -- A number of what is gained is no greater than that of what counts.
+    module _ (size : AtomTree → ℕ) (width : RawAtom → ℕ) where
+      gains_step : (fact was there_ : Bool) (raw : RawAtom) (atom : AtomTree) (same more_ : List AtomTree) (kept next : List RawAtom) → size atom ≤ width raw
+          → (was ≡ true → there_ ≡ true) → sum_by size same ≤ sum_by width kept → (there_ ≡ true → sum_by size same ≤ sum_by width next) → (sum_by size more_ ≤ sum_by width next)
+          → sum_by size (if fact && there_ then same else atom ∷ more_) ≤ sum_by width (if fact && was then kept else raw ∷ next)
+      gains_step true true true raw atom same more_ kept next fits seen one two three = one
+      gains_step true true false raw atom same more_ kept next fits seen one two three = let never : ◌≡◌ {A = Bool} false true = seen refl in absurd cc
+      gains_step true false true raw atom same more_ kept next fits seen one two three = let wide = sum_by-cons width raw next in let less = two refl in omega (arith, wide, less)
+      gains_step true false false raw atom same more_ kept next fits seen one two three = let wide = sum_by-cons width raw next in let high = sum_by-cons size atom more_ in omega (arith, wide, high, three, fits)
+      gains_step false was there_ raw atom same more_ kept next fits seen one two three = let wide = sum_by-cons width raw next in let high = sum_by-cons size atom more_ in omega (arith, wide, high, three, fits)
+
+      gains_less : (raws : List RawAtom) (blanks : ℕ) (list : List AtomTree) (before : List RawAtom) (bag : Multiset) → ((raw : RawAtom) → Contains raws raw → IsStateWritten source raw)
+          → ((raw : RawAtom) (more_ : ℕ) (atom : AtomTree) → IsStateWritten source raw → IsAtomBy source [] more_ raw atom → size atom ≤ width raw)
+          → AreAtomsBy source [] blanks raws list → AreThere before bag → sum_by size (gained (is_fact_by source) bag list) ≤ sum_by width (counting_behind source before raws)
+      gains_less [] blanks [] before bag all sized by there = omega arith
+      gains_less [] blanks (atom ∷ list) before bag all sized by there = absurd by
+      gains_less (raw ∷ raws) blanks [] before bag all sized by there = absurd by
+      gains_less (raw ∷ raws) blanks (atom ∷ list) before bag all sized by there =
+          let listed = all raw (contains_first raw raws) in
+          let further = λ (other : RawAtom) (inside : Contains raws other). all other (contains_behind raw raws other inside) in
+          let is = fact_written raw blanks atom listed by.0 in
+          let now = blanks_after blanks raw.nodes in
+          subst (λ (fact : Bool). sum_by size (if fact && nat_lt 0 (count_of bag atom) then gained (is_fact_by source) bag list else atom ∷ gained (is_fact_by source) (with_one bag atom) list)
+              ≤ sum_by width (counting_behind source before (raw ∷ raws))) (sym is)
+          (gains_step (is_of_fact source raw) (list_any (is_written_alike source raw) before) (nat_lt 0 (count_of bag atom)) raw atom
+              (gained (is_fact_by source) bag list) (gained (is_fact_by source) (with_one bag atom) list) (counting_behind source before raws) (counting_behind source (raw ∷ before) raws)
+              (sized raw blanks atom listed by.0)
+              (λ alike. lt-ltb 0 (count_of bag atom) (there raw blanks atom listed by.0 alike))
+              (gains_less raws now list before bag further sized by.1 there)
+              (λ inside. gains_less raws now list (raw ∷ before) bag further sized by.1 (one_more raw blanks atom before bag listed by.0 (ltb-true 0 (count_of bag atom) inside) there))
+              (gains_less raws now list (raw ∷ before) (with_one bag atom) further sized by.1
+                  (one_more raw blanks atom before (with_one bag atom) listed by.0 (let own = laws.own bag atom (count_of bag atom + 1) in omega (arith, own))
+                      (λ other more_ x listed' by' alike. stays bag atom x (atom_cmp x atom) refl (there other more_ x listed' by' alike)))))
+
+-- how many there are is a sum of ones
+ones_are : {X : Type 0} (xs : List X) → sum_by (λ (_ : X). 1) xs ≡ length xs
+ones_are [] = refl
+ones_are (x ∷ xs) = sum_by-cons (λ _. 1) x xs ∙ ap suc (ones_are xs)
 
 -- the start state of a text in order
 pub record IsGoodStart (source : Source) (start_ : Multiset) : Type 0 where
@@ -149,25 +218,39 @@ pub record IsGoodStart (source : Source) (start_ : Multiset) : Type 0 where
 pub start_good : (source : Source) (clean : IsClean source) (made : AtomsMade source) (starts : StartLaws) (laws : BagLaws) (trace : TraceItem) (rest : List TraceItem) (start_ : Multiset) → traces_of source ≡ trace ∷ rest → IsStartBy source trace start_ → IsGoodStart source start_
 start_good source clean made starts laws trace rest start_ first by =
     let there : Contains (traces_of source) trace = subst (λ ts. Contains ts trace) (sym first) (contains_first trace rest) in
-    let is_state = listed_state_atoms source clean made starts (start_atoms source trace.start) 0 by.atoms (λ raw listed. starts.written source trace raw there listed) by.atoms_are in
-    let sizes = list_sizes source clean made starts (start_atoms source trace.start) 0 by.atoms by.atoms_are in
-    let copies_are = laws.gathered_copies by.atoms in
-    let nodes_are = laws.gathered_nodes by.atoms in
-    let few_copies : length (start_atoms source trace.start) ≤ 100000 = not_greater _ _ (λ more_. clean.names (wrong OverLimit trace.at) (over trace.at (copies trace rest first more_ refl) refl)) in
-    let few_nodes : sum_by nodes_written (start_atoms source trace.start) ≤ 4194304 = not_greater _ _ (λ more_. clean.names (wrong OverLimit trace.at) (over trace.at (nodes trace rest first more_ refl) refl)) in
-    subst (IsGoodStart source) (sym by.start_is)
+    let raws = start_atoms source trace.start in
+    let written = λ (raw : RawAtom) (listed : Contains raws raw). starts.written source trace raw there listed in
+    let is_state = listed_state_atoms source clean made starts raws 0 by.atoms written by.atoms_are in
+    let test = is_fact_by source in
+    let kept = gained test finite.empty by.atoms in
+    let ground = ground_all by.atoms is_state in
+    let same = by.start_is ∙ laws.once_gathered test by.atoms ground in
+    let copies_are = laws.gathered_copies kept in
+    let nodes_are = laws.gathered_nodes kept in
+    let none = λ (raw : RawAtom) (blanks : ℕ) (atom : AtomTree) (listed : IsStateWritten source raw) (is : IsAtomBy source [] blanks raw atom) (never : ◌≡◌ {A = Bool} false true). absurd cc in
+    let ones = gains_less source clean made starts laws (λ _. 1) (λ _. 1) raws 0 by.atoms [] finite.empty written (λ raw more_ atom listed is. omega arith) by.atoms_are none in
+    let sizes = gains_less source clean made starts laws atom_nodes nodes_written raws 0 by.atoms [] finite.empty written (λ raw more_ atom listed is. let size = atom_size source [] more_ raw atom is in omega (arith, size)) by.atoms_are none in
+    let few_copies : length (counting source raws) ≤ 100000 = not_greater _ _ (λ more_. clean.names (wrong OverLimit trace.at) (over trace.at (copies trace rest first more_ refl) refl)) in
+    let few_nodes : sum_by nodes_written (counting source raws) ≤ 4194304 = not_greater _ _ (λ more_. clean.names (wrong OverLimit trace.at) (over trace.at (nodes trace rest first more_ refl) refl)) in
+    let many = ones_are kept in
+    let most = ones_are (counting source raws) in
+    subst (IsGoodStart source) (sym same)
     (record {
       state = record {
-        bag = laws.gathered_kept by.atoms (ground_all by.atoms is_state);
-        each = λ a some. all_at (IsStateAtom (signature_of source)) by.atoms a is_state ((laws.gathered_there by.atoms a).0 some);
-        once = λ a fact. never_a_fact source a fact;
+        bag = laws.gathered_kept kept (laws.gained_ground test finite.empty by.atoms ground);
+        each = λ a some. all_at (IsStateAtom (signature_of source)) by.atoms a is_state (laws.gained_among test finite.empty by.atoms a ((laws.gathered_there kept a).0 some));
+        once = λ a fact. let one = ap (λ bag. count_of bag a) (sym (laws.once_gathered test by.atoms ground)) ∙ laws.once_count test (gathered by.atoms) a in at_most_one (test a) (count_of (gathered by.atoms) a) (count_of (gathered kept) a) (sym (fact_by source a) ∙ fact) one;
       };
       fits = record {
-        copies = let s = sizes.0 in omega (arith, copies_are, s, few_copies);
-        nodes = let s = sizes.1 in omega (arith, nodes_are, s, few_nodes);
+        copies = omega (arith, copies_are, many, most, ones, few_copies);
+        nodes = omega (arith, nodes_are, sizes, few_nodes);
       };
     })
   where
     ground_all : (list : List AtomTree) → AllByRecursion (IsStateAtom (signature_of source)) list → AllByRecursion IsGroundAtom list
     ground_all [] all = tt
     ground_all (atom ∷ list) all = (all.0.ground, ground_all list all.1)
+
+    at_most_one : (b : Bool) (n count : ℕ) → b ≡ true → count ≡ held b n → count ≤ 1
+    at_most_one true n count is held_ = omega (arith, held_)
+    at_most_one false n count is held_ = absurd cc

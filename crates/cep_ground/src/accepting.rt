@@ -1,5 +1,4 @@
 ghost use Rattle.std.specs.Prelude.{IfOk};
-ghost use Rattle.cep_rule.specs.Program.{HasNoFacts};
 ghost use Rattle.cep_ground.specs.Refusals.{IsAccepted};
 
 use crate::laws::a_text_in_order_declares;
@@ -16,11 +15,10 @@ use std::alloc::{AllocError, Global};
 /// The program that a text spells, or why it is refused: of all that is wrong with it what is told
 /// first, by the phase in which it is judged, its place and its number. The syntax, the limits and
 /// the refusals are this profile's; that atoms are well typed, that linear and backward predicates
-/// do not mix, and that each variable of a right side occurs on the left, is Ceptre's. No predicate
-/// of the program is one of facts, since no text declares a fact yet.
+/// do not mix, and that each variable of a right side occurs on the left, is Ceptre's; facts are this
+/// profile's.
 pub fn accept(alloc: Global, text: &[u8]) -> Result<Result<Program, Refusal>, AllocError>
-    ensures answered { IfOk result (λ answer. IsAccepted text.now answer) }
-    ensures no_facts { IfOk result (λ answer. IfOk answer (λ program. HasNoFacts program.signature)) }
+    ensures { IfOk result (λ answer. IsAccepted text.now answer) }
 {
     lexed_once();
     one_raw_file();

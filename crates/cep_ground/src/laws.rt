@@ -4,7 +4,7 @@ ghost use Rattle.std.specs.List.{AllByRecursion};
 ghost use Rattle.cep_rule.specs.declared.rule.Rule.{Rule};
 ghost use Rattle.cep_rule.specs.declared.parts.Parts.{Parts};
 ghost use Rattle.cep_rule.specs.Groundness.{IsGrounded};
-ghost use Rattle.cep_rule.specs.Program.{IsProgram, HasNoFacts};
+ghost use Rattle.cep_rule.specs.Program.{IsProgram};
 ghost use Rattle.cep_refusal.specs.declared.fault.Fault.{Fault};
 ghost use Rattle.cep_modes.specs.Grounding.{AreInOrder};
 ghost use Rattle.cep_source.specs.Items.{Source, RuleItem, rules_of};
@@ -57,11 +57,6 @@ pub fn one_program()
     lexed_once();
     one_raw_file();
 }
-
-/// No text declares a fact yet, so of a program that a text spells no predicate is one of facts.
-pub fn spelled_programs_have_no_facts()
-    ensures { (text : List ℕ) (parts : Parts) → Spells text parts → HasNoFacts parts.signature }
-{}
 
 /// A text in order declares a program's parts, and no other ones: so a text has what it declares
 /// exactly where nothing is wrong with its names and types.

@@ -18,7 +18,7 @@ use Rattle.cep_infer.specs.Heads.{IsAtomBy, AreAtomsBy}
 use Rattle.cep_types.specs.Heads.{blanks_after}
 use Rattle.cep_types.specs.Met.{AreMet, none_met, names_seen, kinds_met}
 use Rattle.cep_infer.specs.declared.left.LeftSide.{LeftSide}
-use Rattle.cep_infer.specs.Meaning.{ArePremisesBy, is_back, IsClauseBy, AreClausesBy, IsRuleBy, AreRulesBy}
+use Rattle.cep_infer.specs.Meaning.{ArePremisesBy, is_back, is_fact_by, IsClauseBy, AreClausesBy, IsRuleBy, AreRulesBy}
 use Rattle.cep_infer.specs.Built.{AreBuilt, IsLeftBuilt}
 use Rattle.cep_infer.proofs.Meeting.{blanks_both}
 use Rattle.cep_infer.proofs.FirstOccurrences.{names_met, kinds_are_met}
@@ -104,12 +104,12 @@ module _ (source : Source) (vars : List (List ℕ)) where
       let side : take (i + 1) xs ≡ take i xs ++ x ∷ [] = take_more xs i x h ∙ ap (λ y. take i xs ++ y ∷ []) (sym at) in
       subst (λ (ys : List RawElem). IsLeftBuilt source vars ys before behind old new) (sym side) (left_both (take i xs) (x ∷ []) before middle behind old between new was is)
 
-  pub premise_built : (kept : Bool) (raw : RawAtom) (before behind : ℕ) (old new : LeftSide) (atom : AtomTree) (back : Bool) → IsAtomBy source vars before raw atom → behind ≡ blanks_after before raw.nodes → back ≡ is_back source atom
+  pub premise_built : (marked kept : Bool) (raw : RawAtom) (before behind : ℕ) (old new : LeftSide) (atom : AtomTree) (back : Bool) → kept ≡ (marked || is_fact_by source atom) → IsAtomBy source vars before raw atom → behind ≡ blanks_after before raw.nodes → back ≡ is_back source atom
       → new.premises ≡ (if back then old.premises else old.premises ++ record { atom = atom; kept = kept } ∷ []) → new.backs ≡ (if back then old.backs ++ atom ∷ [] else old.backs)
-      → IsLeftBuilt source vars (elem.Atom kept raw ∷ []) before behind old new
-  premise_built kept raw before behind old new atom back is blanks_are back_is premises_are backs_are = record {
+      → IsLeftBuilt source vars (elem.Atom marked raw ∷ []) before behind old new
+  premise_built marked kept raw before behind old new atom back kept_is is blanks_are back_is premises_are backs_are = record {
     more = record { atom = atom; kept = kept } ∷ [];
-    are = (refl, is, tt);
+    are = (kept_is, is, tt);
     premises_are = premises_are ∙ linear back back_is;
     backs_are = backs_are ∙ backward back back_is;
     behind_is = blanks_are ∙ ap (blanks_after before) (sym (append-nil raw.nodes));

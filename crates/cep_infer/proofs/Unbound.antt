@@ -22,9 +22,6 @@ use Rattle.cep_base.proofs.Bytes.{bytes_eq_sym}
 use Rattle.cep_infer.proofs.FirstOccurrences.{names_met}
 
 -- a predicate that is not declared is no backward one
-pub backward_is : (back : Option Bool) → unwrap_or back false ≡ is_declared true back
-backward_is None = refl
-backward_is (Some back) = refl
 
 -- what is made of those that pass, of two parts
 kept_both : {X Y : Type 0} (f : X → Y) (p : X → Bool) (xs ys : List X) → map f (filter p (xs ++ ys)) ≡ map f (filter p xs) ++ map f (filter p ys)

@@ -1,15 +1,14 @@
 -- What a text declares: the parts of a program, each from what is written.
-use Rattle.std.specs.Prelude.{◌≡◌, ℕ, ◌+◌, ◌*◌, Bool, true, false, not, List, [], ◌∷◌, Option, Some, None, map, filter, unwrap_or, slice_get}
+use Rattle.std.specs.Prelude.{◌≡◌, ℕ, ◌+◌, ◌*◌, Bool, true, false, not, ◌||◌, List, [], ◌∷◌, Option, Some, None, map, filter, unwrap_or, slice_get}
 use Rattle.std.specs.Option.{option_map, option_and_then}
 use Rattle.std.specs.List.{flat_map}
 use Rattle.cep_parse.specs.declared.raw.Span.{Span}
 use Rattle.cep_parse.specs.declared.raw.RawAtom.{RawAtom}
 use Rattle.cep_parse.specs.declared.raw.RawElem.{RawElem}
 use Rattle.cep_parse.specs.declared.raw.RawElem.TheVariants as elem
-use Rattle.cep_base.specs.declared.kind.PredKind.{PredKind}
-use Rattle.cep_base.specs.declared.kind.PredKind.TheVariants.{Linear, Back}
+use Rattle.cep_base.specs.Kinds.{is_backward, is_of_facts}
 use Rattle.cep_term.specs.Tree.{AtomTree}
-use Rattle.cep_term.specs.Multiset.{Multiset, gathered}
+use Rattle.cep_term.specs.Multiset.{Multiset, gathered, once}
 use Rattle.cep_rule.specs.declared.signature.Con.{Con}
 use Rattle.cep_rule.specs.declared.signature.PredDecl.{PredDecl}
 use Rattle.cep_rule.specs.declared.signature.Signature.{Signature}
@@ -28,17 +27,12 @@ use Rattle.cep_types.specs.Sites.{type_of, rule_scope, clause_scope}
 use Rattle.cep_types.specs.Heads.{number_of, sorts_said, blanks_after}
 use Rattle.cep_infer.specs.Heads.{IsAtomBy, AreAtomsBy}
 
--- the kind of a predicate, by whether it is declared to be backward; no text declares one of facts yet
-abbrev pub kind_by : Bool → PredKind
-kind_by true = Back
-kind_by false = Linear
-
 -- a constructor and a predicate
 abbrev pub con_by : Source → ConItem → Con
 con_by source con = record { name = said source con.name; sort = number_of source space.Sorts (said source con.sort); args = sorts_said source con.args }
 
 abbrev pub pred_by : Source → PredItem → PredDecl
-pred_by source pred = record { name = said source pred.name; kind = kind_by pred.back; args = sorts_said source pred.args }
+pred_by source pred = record { name = said source pred.name; kind = pred.kind; args = sorts_said source pred.args }
 
 -- what is declared of terms and atoms
 abbrev pub signature_of : Source → Signature
@@ -62,9 +56,13 @@ kinds_of source atoms = map (λ occurrence. number_of source space.Sorts (unwrap
 
 -- whether clauses define the predicate of the atom
 abbrev pub is_back : Source → AtomTree → Bool
-is_back source atom = unwrap_or (option_map (λ pred. pred.back) (slice_get (preds_of source) atom.pred)) false
+is_back source atom = unwrap_or (option_map (λ pred. is_backward pred.kind) (slice_get (preds_of source) atom.pred)) false
 
--- The premises are the atoms of a left side, in written order, those with `$` kept; so many blanks stand before them.
+-- whether the atom is a fact
+abbrev pub is_fact_by : Source → AtomTree → Bool
+is_fact_by source atom = unwrap_or (option_map (λ pred. is_of_facts pred.kind) (slice_get (preds_of source) atom.pred)) false
+
+-- The premises are the atoms of a left side, in written order, those with `$` and those of facts kept; so many blanks stand before them.
 abbrev pub ArePremisesBy : Source → List (List ℕ) → ℕ → List RawElem → List PremiseTree → Type 0
 ArePremisesBy source vars blanks [] [] = Unit {0}
 ArePremisesBy source vars blanks [] (p ∷ premises) = ⊥
@@ -72,7 +70,7 @@ ArePremisesBy source vars blanks (elem.Qui span ∷ elems) premises = ArePremise
 ArePremisesBy source vars blanks (elem.Stage span ∷ elems) premises = ArePremisesBy source vars blanks elems premises
 ArePremisesBy source vars blanks (elem.Atom kept raw ∷ elems) [] = ⊥
 ArePremisesBy source vars blanks (elem.Atom kept raw ∷ elems) (p ∷ premises) =
-    (p.kept ≡ kept) × IsAtomBy source vars blanks raw p.atom × ArePremisesBy source vars (blanks_after blanks raw.nodes) elems premises
+    (p.kept ≡ (kept || is_fact_by source p.atom)) × IsAtomBy source vars blanks raw p.atom × ArePremisesBy source vars (blanks_after blanks raw.nodes) elems premises
 
 -- the stages that a side names
 abbrev pub stages_in_elem : RawElem → List Span
@@ -105,7 +103,7 @@ pub record IsRuleBy (source : Source) (name : List ℕ) (item : RuleItem) (rule 
   pub next_is : rule.next ≡ next_of source item.home item.raw.right
   pub vars_are : rule.vars ≡ names_of source (rule_scope item)
   pub kinds_are : rule.kinds ≡ kinds_of source (rule_scope item)
-  -- all premises in written order, the linear ones and the backward ones
+  -- all premises in written order, those of states and the backward ones
   pub left : List PremiseTree
   pub left_is : ArePremisesBy source rule.vars 0 item.raw.left left
   pub premises_are : rule.premises ≡ filter (λ premise. not (is_back source premise.atom)) left
@@ -133,11 +131,11 @@ AreClausesBy source [] (clause ∷ clauses) = ⊥
 AreClausesBy source (item ∷ items) [] = ⊥
 AreClausesBy source (item ∷ items) (clause ∷ clauses) = IsClauseBy source item clause × AreClausesBy source items clauses
 
--- The state is that of a trace: a copy of each atom that it lists.
+-- The state is that of a trace: a copy of each atom that it lists, but a fact once.
 pub record IsStartBy (source : Source) (trace : TraceItem) (start : Multiset) : Type 0 where
   pub atoms : List AtomTree
   pub atoms_are : AreAtomsBy source [] 0 (start_atoms source trace.start) atoms
-  pub start_is : start ≡ gathered atoms
+  pub start_is : start ≡ once (is_fact_by source) (gathered atoms)
 
 -- The parts are what the text declares.
 pub record AreParts (source : Source) (parts : Parts) : Type 0 where

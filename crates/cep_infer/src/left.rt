@@ -1,8 +1,8 @@
 // The left sides of rules.
-ghost use Rattle.std.specs.Prelude.{◌≡◌, ◌∷◌, ◌++◌, [], if◌then◌else◌, IfOk, OnOk};
+ghost use Rattle.std.specs.Prelude.{◌≡◌, ◌∷◌, ◌++◌, [], ◌||◌, if◌then◌else◌, IfOk, OnOk};
 ghost use Rattle.cep_term.specs.Tree.{atom_of};
 ghost use Rattle.cep_types.specs.Met.{names_seen};
-ghost use Rattle.cep_infer.specs.Meaning.{is_back};
+ghost use Rattle.cep_infer.specs.Meaning.{is_back, is_fact_by};
 ghost use Rattle.cep_infer.specs.Built.{IsLeftBuilt};
 
 use crate::terms::read_atom;
@@ -13,7 +13,7 @@ use cep_term::Atom;
 use cep_types::Variables;
 use std::alloc::{AllocError, Global};
 
-/// The premises of a left side, the linear ones and the backward ones.
+/// The premises of a left side, those of states and the backward ones.
 #[derive(Drop)]
 pub(crate) struct LeftSide {
     pub premises: Premises,
@@ -50,9 +50,26 @@ fn is_back(source: &Source, atom: &Atom) -> bool
     ensures { result ≡ is_back source.now (atom_of atom.now) }
 {
     match item_at(source.preds(), atom.pred as usize) {
-        Some(pred) => pred.back,
+        Some(pred) => pred.kind.is_backward(),
         None => false,
     }
+}
+
+// Whether an atom is a fact.
+pub(crate) fn is_fact(source: &Source, atom: &Atom) -> bool
+    ensures { result ≡ is_fact_by source.now (atom_of atom.now) }
+{
+    match item_at(source.preds(), atom.pred as usize) {
+        Some(pred) => pred.kind.is_of_facts(),
+        None => false,
+    }
+}
+
+// Whether a premise is kept: it is marked, or a fact.
+fn is_kept(source: &Source, marked: bool, atom: &Atom) -> bool
+    ensures { result ≡ (marked || is_fact_by source.now (atom_of atom.now)) }
+{
+    marked || is_fact(source, atom)
 }
 
 fn push_premise(
@@ -68,7 +85,8 @@ fn push_premise(
         RawElem::Atom { kept, atom } => {
             let atom = read_atom(source, variables, blanks, atom)?;
             let back = is_back(source, &atom);
-            left.push(back, *kept, atom)
+            let kept = is_kept(source, *kept, &atom);
+            left.push(back, kept, atom)
         }
         RawElem::Qui(_) | RawElem::Stage(_) => Ok(()),
     }

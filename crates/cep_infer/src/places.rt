@@ -3,7 +3,7 @@ ghost use Rattle.std.specs.Prelude.{◌≡◌, ◌<◌, ◌≤◌, ◌+◌, ◌^
 ghost use Rattle.cep_base.specs.declared.limits.TheConstants.{MOST_TEXT};
 ghost use Rattle.cep_lex.specs.Places.{IsPlaceBehind};
 ghost use Rattle.cep_source.specs.Misnamed.{is_declared};
-ghost use Rattle.cep_source.specs.Spaces.{back_of};
+ghost use Rattle.cep_source.specs.Spaces.{kind_of};
 ghost use Rattle.cep_parse.specs.Raw.{atoms_in, atoms_of, raw_nodes};
 ghost use Rattle.cep_source.specs.Variables.{occurrence_at, occurrences_from};
 ghost use Rattle.cep_types.specs.Heads.{blanks_after};
@@ -108,14 +108,17 @@ fn place_all(
 
 // Whether the predicate of an atom is a backward one.
 fn is_backward(source: &Source, atom: &RawAtom) -> bool
-    ensures { result ≡ is_declared true (back_of source.now atom.now) }
+    ensures { result ≡ is_declared true (kind_of source.now atom.now) }
 {
-    source.back(atom.name).unwrap_or(false)
+    match source.kind(atom.name) {
+        Some(kind) => kind.is_backward(),
+        None => false,
+    }
 }
 
 // The place of an element that is a backward premise.
 fn back_at(source: &Source, elem: &RawElem) -> Option<u32>
-    ensures { option_to_list result ≡ map (λ atom. atom.name.from) (filter (λ atom. is_declared true (back_of source.now atom)) (atoms_in elem.now)) }
+    ensures { option_to_list result ≡ map (λ atom. atom.name.from) (filter (λ atom. is_declared true (kind_of source.now atom)) (atoms_in elem.now)) }
 {
     match elem.atom() {
         Some(atom) if is_backward(source, atom) => Some(atom.name.from),
@@ -125,7 +128,7 @@ fn back_at(source: &Source, elem: &RawElem) -> Option<u32>
 
 // The places of the backward premises of a left side.
 fn backs_at(source: &Source, side: &[RawElem]) -> Result<Vec<u32>, AllocError>
-    ensures { IfOk result (λ ats. ats.items ≡ map (λ atom. atom.name.from) (filter (λ atom. is_declared true (back_of source.now atom)) (atoms_of side.now))) }
+    ensures { IfOk result (λ ats. ats.items ≡ map (λ atom. atom.name.from) (filter (λ atom. is_declared true (kind_of source.now atom)) (atoms_of side.now))) }
 {
     let mut ats = Vec::new(source.alloc());
     for elem in side {

@@ -2,9 +2,9 @@
 ghost use Rattle.std.specs.Prelude.{◌≡◌, map, IfOk};
 ghost use Rattle.cep_source.specs.Items.{said, sorts_of, stages_of, cons_of, preds_of};
 ghost use Rattle.cep_source.specs.Kept.{con_item, pred_item};
-ghost use Rattle.cep_infer.specs.Meaning.{kind_by, con_by, pred_by, signature_of, stage_by};
+ghost use Rattle.cep_infer.specs.Meaning.{con_by, pred_by, signature_of, stage_by};
 
-use cep_base::{Name, PredKind};
+use cep_base::Name;
 use cep_parse::Span;
 use cep_rule::{Con, Cons, Names, PredDecl, Preds, Signature, Stage, Stages};
 use cep_source::{RawCon, RawPred, Source, Space};
@@ -48,23 +48,12 @@ fn con_decls(source: &Source) -> Result<Cons, AllocError>
     Ok(cons)
 }
 
-// The kind of a predicate: `bwd` declares backward ones, and `pred` linear ones.
-fn pred_kind(back: bool) -> PredKind
-    ensures { result ≡ kind_by back }
-{
-    if back {
-        PredKind::Back
-    } else {
-        PredKind::Linear
-    }
-}
-
 fn pred_decl(source: &Source, pred: &RawPred) -> Result<PredDecl, AllocError>
     ensures { IfOk result (λ decl. decl ≡ pred_by source.now (pred_item pred.now)) }
 {
     Ok(PredDecl {
         name: name(source, pred.name)?,
-        kind: pred_kind(pred.back),
+        kind: pred.kind,
         args: kinds(source, pred.args)?,
     })
 }

@@ -1,8 +1,8 @@
 // The start state of a text.
-ghost use Rattle.std.specs.Prelude.{◌≡◌, [], map, Contains, IfOk, OnOk};
+ghost use Rattle.std.specs.Prelude.{◌≡◌, ◌&&◌, nat_lt, [], map, Contains, IfOk, OnOk};
 ghost use Rattle.std.specs.List.Sorted.{IsPermutation};
 ghost use Rattle.cep_parse.specs.declared.raw.RawStart.TheVariants as start;
-ghost use Rattle.cep_term.specs.Multiset.{gathered};
+ghost use Rattle.cep_term.specs.Multiset.{gathered, count_of, once};
 ghost use Rattle.cep_term.specs.Tree.{IsGroundAtom, atom_of};
 ghost use Rattle.std.specs.List.{AllByRecursion};
 ghost use Rattle.cep_source.specs.declared.space.Role.TheVariants as role;
@@ -11,12 +11,13 @@ ghost use Rattle.cep_source.specs.Starts.{listed_or, start_atoms};
 ghost use Rattle.cep_source.specs.Uses.{placed, is_context};
 ghost use Rattle.cep_infer.specs.Heads.{AreAtomsBy};
 ghost use Rattle.cep_types.specs.Met.{names_seen};
-ghost use Rattle.cep_infer.specs.Meaning.{IsStartBy};
+ghost use Rattle.cep_infer.specs.Meaning.{IsStartBy, is_fact_by};
 ghost use Rattle.cep_infer.specs.Built.{AreBuilt};
 ghost use Rattle.cep_source.specs.Kept.{trace_item};
 ghost use Rattle.cep_infer.specs.Resolved.{IsWellNamed};
 
 use crate::atoms::{push_atom, push_atoms, read_atoms};
+use crate::left::is_fact;
 use cep_parse::{RawAtom, RawStart};
 use cep_rule::AtomList;
 use cep_source::{Source, Space, TraceRef};
@@ -80,18 +81,18 @@ pub(crate) fn read_start(source: &Source, trace: &TraceRef) -> Result<Bag, Alloc
     ensures { IfOk result (λ start. IsStartBy source.now (trace_item trace.now) start) }
 {
     let atoms = start_atoms(source, trace.start)?;
-    gather(source.alloc(), &atoms)
+    gather(source, &atoms)
 }
 
-// The multiset of ground atoms. The least is added first, so that each comes behind those that are
-// there.
-fn gather(alloc: Global, atoms: &AtomList) -> Result<Bag, AllocError>
+// The multiset of ground atoms, each fact once. The least is added first, so that each comes behind
+// those that are there.
+fn gather(source: &Source, atoms: &AtomList) -> Result<Bag, AllocError>
     requires { AllByRecursion IsGroundAtom atoms.now }
-    ensures { IfOk result (λ bag. bag ≡ gathered atoms.now) }
+    ensures { IfOk result (λ bag. bag ≡ once (is_fact_by source.now) (gathered atoms.now)) }
 {
     bags_are_lawful();
-    let falling = in_falling_order(alloc, atoms)?;
-    add_all(alloc, &falling)
+    let falling = in_falling_order(source.alloc(), atoms)?;
+    add_all(source, &falling)
 }
 
 // The atoms, the greatest first.
@@ -114,16 +115,27 @@ fn each_of<'a>(alloc: Global, atoms: &'a AtomList) -> Result<Vec<&'a Atom>, Allo
     Ok(each)
 }
 
-// The multiset of ground atoms, from the last to the first.
-fn add_all(alloc: Global, atoms: &[&Atom]) -> Result<Bag, AllocError>
-    requires { AllByRecursion IsGroundAtom (map (λ atom. atom_of atom.now) atoms.now) }
-    ensures { IfOk result (λ bag. bag ≡ gathered (map (λ atom. atom_of atom.now) atoms.now)) }
+// Whether the atom is a fact that is there.
+fn is_repeated(source: &Source, bag: &Bag, atom: &Atom) -> bool
+    ensures { result ≡ (is_fact_by source.now (atom_of atom.now) && nat_lt 0 (count_of bag.now (atom_of atom.now))) }
 {
-    let mut bag = Bag::new(alloc);
+    is_fact(source, atom) && bag.count(atom) > 0
+}
+
+// The multiset of ground atoms, from the last to the first, each fact once.
+fn add_all(source: &Source, atoms: &[&Atom]) -> Result<Bag, AllocError>
+    requires { AllByRecursion IsGroundAtom (map (λ atom. atom_of atom.now) atoms.now) }
+    ensures { IfOk result (λ bag. bag ≡ once (is_fact_by source.now) (gathered (map (λ atom. atom_of atom.now) atoms.now))) }
+{
+    bags_are_lawful();
+    let mut bag = Bag::new(source.alloc());
     let mut left = atoms.len();
     while left > 0 {
         left -= 1;
         let atom = atoms[left];
+        if is_repeated(source, &bag, atom) {
+            continue;
+        }
         if bag.count(atom) == u32::MAX || bag.copies() == u64::MAX {
             // No memory holds so many atoms.
             return Err(AllocError);

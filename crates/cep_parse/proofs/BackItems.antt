@@ -1,6 +1,7 @@
 -- The same for each state.
 use Rattle.std.proofs.Common.{◌≡◌, ℕ, suc, ◌+◌, true, false, List, [], ◌∷◌, ◌++◌, length, map, Option, None, Some, refl, sym, ap, subst, ◌∙◌, arith, append_assoc}
 use Rattle.std.proofs.lemmas.Bool.{ne_eqb}
+use Rattle.cep_base.specs.declared.kind.PredKind.TheVariants.{Linear, Back, Fact}
 use Rattle.cep_parse.specs.declared.raw.Span.{Span}
 use Rattle.cep_parse.specs.declared.raw.RawAtom.{RawAtom}
 use Rattle.cep_parse.specs.declared.raw.RawElem.{RawElem}
@@ -29,7 +30,7 @@ use Rattle.cep_parse.specs.Grammar.Elem.{atom as elem_atom, stage as elem_stage}
 use Rattle.cep_parse.specs.Grammar.Sides.{sides}
 use Rattle.cep_parse.specs.Grammar.Label.{none as no_label, named as a_label}
 use Rattle.cep_parse.specs.Grammar.Limit.{blank as blank_limit, number as number_limit}
-use Rattle.cep_parse.specs.Grammar.Item.{sort, pred, back as back_pred, colon, bare_clause, labelled as labelled_item, clause, outer, unnamed, stage as stage_item, context, interactive, trace_named, trace_listed}
+use Rattle.cep_parse.specs.Grammar.Item.{sort, pred, back as back_pred, fact as fact_pred, colon, bare_clause, labelled as labelled_item, clause, outer, unnamed, stage as stage_item, context, interactive, trace_named, trace_listed}
 use Rattle.cep_parse.specs.Machine.{atom_of_names, begin, behind_blank, context_equals, context_begun, context_word, head_alone, interactive_word, labelled, names_begun, stage_equals, stage_begun, stage_word, step, step_declared, step_names, step_plain, trace_limit, trace_stage, trace_word}
 use Rattle.cep_parse.proofs.Residual.{DotRest, LeftRest, HeadRest, InAtomRest, PlainRest, Rest, NextRest}
 use Rattle.cep_parse.proofs.Residual.HeadRest.{alone, goals, side}
@@ -82,8 +83,9 @@ labelled_alone a c front head (atom name symbols count nodes (more_args first ot
 -- behind a name and a colon
 labelled_back : (a : Span) (w : Word) (x : Span) (rest : List Symbol) (i : RawItem) → NextRest (labelled a w x) rest i → (c : Span) → Item (at word.Name a ∷ at word.Colon c ∷ at w x ∷ rest) i
 labelled_back a word.Type x rest i h c = given_item (λ r. at word.Name a ∷ at word.Colon c ∷ at word.Type x ∷ r) (item.Sort a) rest i h (sort a c x)
-labelled_back a word.Pred x rest i h c = given_item (λ r. at word.Name a ∷ at word.Colon c ∷ at word.Pred x ∷ r) (item.Pred a [] false) rest i h (λ dot. pred a c x dot [])
-labelled_back a word.Bwd x rest i h c = given_item (λ r. at word.Name a ∷ at word.Colon c ∷ at word.Bwd x ∷ r) (item.Pred a [] true) rest i h (λ dot. back_pred a c x dot [])
+labelled_back a word.Pred x rest i h c = given_item (λ r. at word.Name a ∷ at word.Colon c ∷ at word.Pred x ∷ r) (item.Pred a [] Linear) rest i h (λ dot. pred a c x dot [])
+labelled_back a word.Bwd x rest i h c = given_item (λ r. at word.Name a ∷ at word.Colon c ∷ at word.Bwd x ∷ r) (item.Pred a [] Back) rest i h (λ dot. back_pred a c x dot [])
+labelled_back a word.Fact x rest i h c = given_item (λ r. at word.Name a ∷ at word.Colon c ∷ at word.Fact x ∷ r) (item.Pred a [] Fact) rest i h (λ dot. fact_pred a c x dot [])
 labelled_back a word.Name x rest i up c =
     subst (λ r. Item (at word.Name a ∷ at word.Colon c ∷ at word.Name x ∷ r) i) (sym up.cut)
     (head_item (at word.Name a ∷ at word.Colon c ∷ []) (Some a) (a_label a c) a.from (at word.Name x ∷ up.front) up.atom (whole_atom_of x up.front up.atom up.read) up.behind i refl (labelled_alone a c (at word.Name x ∷ up.front) up.atom (whole_atom_of x up.front up.atom up.read)) up.after)
@@ -121,8 +123,9 @@ names_back name args w x rest i h = names_item name args (at w x) rest i (atom_b
 
 -- behind the colon of names
 declared_back : (name : Span) (args : List Span) (w : Word) (x : Span) (rest : List Symbol) (i : RawItem) → NextRest (step_declared name args w x) rest i → (c : Span) → Item (at word.Name name ∷ (names args ++ at word.Colon c ∷ at w x ∷ rest)) i
-declared_back name args word.Pred x rest i h c = given_item (λ r. at word.Name name ∷ (names args ++ at word.Colon c ∷ at word.Pred x ∷ r)) (item.Pred name args false) rest i h (λ dot. pred name c x dot args)
-declared_back name args word.Bwd x rest i h c = given_item (λ r. at word.Name name ∷ (names args ++ at word.Colon c ∷ at word.Bwd x ∷ r)) (item.Pred name args true) rest i h (λ dot. back_pred name c x dot args)
+declared_back name args word.Pred x rest i h c = given_item (λ r. at word.Name name ∷ (names args ++ at word.Colon c ∷ at word.Pred x ∷ r)) (item.Pred name args Linear) rest i h (λ dot. pred name c x dot args)
+declared_back name args word.Bwd x rest i h c = given_item (λ r. at word.Name name ∷ (names args ++ at word.Colon c ∷ at word.Bwd x ∷ r)) (item.Pred name args Back) rest i h (λ dot. back_pred name c x dot args)
+declared_back name args word.Fact x rest i h c = given_item (λ r. at word.Name name ∷ (names args ++ at word.Colon c ∷ at word.Fact x ∷ r)) (item.Pred name args Fact) rest i h (λ dot. fact_pred name c x dot args)
 declared_back name args word.Name x rest i h c = given_item (λ r. at word.Name name ∷ (names args ++ at word.Colon c ∷ at word.Name x ∷ r)) (item.Colon name args x) rest i h (λ dot. colon name c x dot args)
 declared_back name args _ x rest i h c = absurd h
 

@@ -1,5 +1,6 @@
 -- Each state within an item has some ending.
 use Rattle.std.proofs.Common.{ℕ, ◌+◌, Bool, true, false, List, [], ◌∷◌, ◌++◌, Option, None, Some, is_none, refl, subst}
+use Rattle.cep_base.specs.declared.kind.PredKind.TheVariants.{Linear}
 use Rattle.cep_parse.specs.declared.raw.Span.{Span}
 use Rattle.cep_parse.specs.declared.raw.RawAtom.{RawAtom}
 use Rattle.cep_parse.specs.declared.raw.RawElem.{RawElem}
@@ -234,8 +235,8 @@ plain_ends (plain.TraceStage place limit a) = record { rest = at word.Name z ∷
 -- each state has some ending
 pub state_ends : (s : State) → Ends (Rest s)
 state_ends (state.Plain p) = plain_ends p
-state_ends (state.Names name args) = record { rest = at word.Colon z ∷ at word.Pred z ∷ at word.Dot z ∷ []; i = item.Pred name args false; read = pred name z z z args }
-state_ends (state.Declared name args) = record { rest = at word.Pred z ∷ at word.Dot z ∷ []; i = item.Pred name args false; read = λ c. pred name c z z args }
+state_ends (state.Names name args) = record { rest = at word.Colon z ∷ at word.Pred z ∷ at word.Dot z ∷ []; i = item.Pred name args Linear; read = pred name z z z args }
+state_ends (state.Declared name args) = record { rest = at word.Pred z ∷ at word.Dot z ∷ []; i = item.Pred name args Linear; read = λ c. pred name c z z args }
 state_ends (state.Ending given) = record { rest = at word.Dot z ∷ []; i = given; read = record { dot = z; cut = refl; is = refl } }
 state_ends (state.Rules stage) = rules_ends stage
 state_ends (state.RuleNamed stage a) = rule_named_ends stage a

@@ -15,7 +15,7 @@ use Rattle.cep_parse.specs.Grammar.Elem.{unit as elem_unit, atom as elem_atom, k
 use Rattle.cep_parse.specs.Grammar.Elems.{elems}
 use Rattle.cep_parse.specs.Grammar.Sides.{sides}
 use Rattle.cep_parse.specs.Grammar.Label.{none as no_label, named as a_label}
-use Rattle.cep_parse.specs.Grammar.Item.{sort, pred, back as back_pred, colon, bare_clause, labelled, clause, outer, unnamed, stage as stage_item, context, interactive, trace_named, trace_listed}
+use Rattle.cep_parse.specs.Grammar.Item.{sort, pred, back as back_pred, fact as fact_pred, colon, bare_clause, labelled, clause, outer, unnamed, stage as stage_item, context, interactive, trace_named, trace_listed}
 use Rattle.cep_parse.specs.Grammar.File.{none as no_items, more as more_items}
 use Rattle.cep_parse.specs.Machine.{step}
 use Rattle.cep_parse.proofs.Runs.{Config, moved, run, run_from, state_behind}
@@ -45,6 +45,7 @@ item_starts : (symbols : List Symbol) (i : RawItem) → Item symbols i → Start
 item_starts symbols i (sort a colon_ type_ x) = starts_name a _
 item_starts symbols i (pred a colon_ p x args) = starts_name a _
 item_starts symbols i (back_pred a colon_ p x args) = starts_name a _
+item_starts symbols i (fact_pred a colon_ p x args) = starts_name a _
 item_starts symbols i (colon a colon_ b x args) = starts_name a _
 item_starts symbols i (bare_clause x inner head (atom name args count nodes h)) = starts_name name _
 item_starts symbols i (labelled a colon_ x inner head h some) = starts_name a _

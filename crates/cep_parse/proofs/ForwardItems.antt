@@ -2,6 +2,7 @@
 use Rattle.std.proofs.Common.{◌≡◌, ℕ, ◌+◌, ◌<◌, Bool, true, false, List, [], ◌∷◌, ◌++◌, Option, None, Some, refl, sym, ap, ◌∙◌, arith, append_assoc}
 use Rattle.std.proofs.lemmas.Bool.{ne_eqb}
 use Rattle.std.proofs.lemmas.List.{append-nil}
+use Rattle.cep_base.specs.declared.kind.PredKind.TheVariants.{Linear, Back, Fact}
 use Rattle.cep_parse.specs.declared.raw.Span.{Span}
 use Rattle.cep_parse.specs.declared.raw.RawAtom.{RawAtom}
 use Rattle.cep_parse.specs.declared.raw.RawElem.{RawElem}
@@ -35,7 +36,7 @@ use Rattle.cep_parse.specs.Grammar.Bag.{empty as empty_bag, some as some_bag}
 use Rattle.cep_parse.specs.Grammar.MayDot.{none as no_dot, dot as a_dot}
 use Rattle.cep_parse.specs.Grammar.Label.{none as no_label, named as a_label}
 use Rattle.cep_parse.specs.Grammar.Limit.{blank as blank_limit, number as number_limit}
-use Rattle.cep_parse.specs.Grammar.Item.{sort, pred, back as back_pred, colon, bare_clause, labelled, clause, outer, unnamed, stage as stage_item, context, interactive, trace_named, trace_listed}
+use Rattle.cep_parse.specs.Grammar.Item.{sort, pred, back as back_pred, fact as fact_pred, colon, bare_clause, labelled, clause, outer, unnamed, stage as stage_item, context, interactive, trace_named, trace_listed}
 use Rattle.cep_parse.specs.Machine.{atom_begun, bag_ended}
 use Rattle.cep_parse.proofs.Runs.{moved, run, run_from, atom_at, state_behind}
 use Rattle.cep_parse.proofs.ForwardAtoms.{names_run, StandsBehind}
@@ -231,14 +232,19 @@ dotted symbols i items rest is = record { may_dot = false; is = is }
 
 -- declarations with names
 pred_runs : (a colon_ p x : Span) (args : List Span) (items : List RawItem) (rest : List Symbol)
-    → run items (state.Names a args) (at word.Colon colon_ ∷ at word.Pred p ∷ at word.Dot x ∷ rest) ≡ run (items ++ item.Pred a args false ∷ []) (state.Plain plain.Top) rest
+    → run items (state.Names a args) (at word.Colon colon_ ∷ at word.Pred p ∷ at word.Dot x ∷ rest) ≡ run (items ++ item.Pred a args Linear ∷ []) (state.Plain plain.Top) rest
 pred_runs a colon_ p x [] items rest = refl
 pred_runs a colon_ p x (b ∷ args) items rest = refl
 
 bwd_runs : (a colon_ p x : Span) (args : List Span) (items : List RawItem) (rest : List Symbol)
-    → run items (state.Names a args) (at word.Colon colon_ ∷ at word.Bwd p ∷ at word.Dot x ∷ rest) ≡ run (items ++ item.Pred a args true ∷ []) (state.Plain plain.Top) rest
+    → run items (state.Names a args) (at word.Colon colon_ ∷ at word.Bwd p ∷ at word.Dot x ∷ rest) ≡ run (items ++ item.Pred a args Back ∷ []) (state.Plain plain.Top) rest
 bwd_runs a colon_ p x [] items rest = refl
 bwd_runs a colon_ p x (b ∷ args) items rest = refl
+
+fact_runs : (a colon_ p x : Span) (args : List Span) (items : List RawItem) (rest : List Symbol)
+    → run items (state.Names a args) (at word.Colon colon_ ∷ at word.Fact p ∷ at word.Dot x ∷ rest) ≡ run (items ++ item.Pred a args Fact ∷ []) (state.Plain plain.Top) rest
+fact_runs a colon_ p x [] items rest = refl
+fact_runs a colon_ p x (b ∷ args) items rest = refl
 
 colon_runs : (a colon_ b x : Span) (args : List Span) (items : List RawItem) (rest : List Symbol)
     → run items (state.Names a args) (at word.Colon colon_ ∷ at word.Name b ∷ at word.Dot x ∷ rest) ≡ run (items ++ item.Colon a args b ∷ []) (state.Plain plain.Top) rest
@@ -281,6 +287,7 @@ pub item_runs : (symbols : List Symbol) (i : RawItem) → Item symbols i → (it
 item_runs symbols i (sort a colon_ type_ x) items rest = dotted _ _ items rest refl
 item_runs symbols i (pred a colon_ p x args) items rest = dotted _ _ items rest (ap (run items (state.Names a [])) (append_assoc (names args) _ rest) ∙ decl_names_run args items a [] _ ∙ pred_runs a colon_ p x args items rest)
 item_runs symbols i (back_pred a colon_ p x args) items rest = dotted _ _ items rest (ap (run items (state.Names a [])) (append_assoc (names args) _ rest) ∙ decl_names_run args items a [] _ ∙ bwd_runs a colon_ p x args items rest)
+item_runs symbols i (fact_pred a colon_ p x args) items rest = dotted _ _ items rest (ap (run items (state.Names a [])) (append_assoc (names args) _ rest) ∙ decl_names_run args items a [] _ ∙ fact_runs a colon_ p x args items rest)
 item_runs symbols i (colon a colon_ b x args) items rest = dotted _ _ items rest (ap (run items (state.Names a [])) (append_assoc (names args) _ rest) ∙ decl_names_run args items a [] _ ∙ colon_runs a colon_ b x args items rest)
 item_runs symbols i (bare_clause x inner head (atom name args count nodes h)) items rest =
     dotted _ _ items rest (ap (run items (state.Names name [])) (append_assoc args (at word.Dot x ∷ []) rest) ∙ head_runs args count nodes h items name word.Dot x rest stands_dot)

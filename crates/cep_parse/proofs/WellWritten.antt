@@ -56,6 +56,7 @@ module _ (tokens : List Token) where
   IsSaid word.Type span = IsTokenAt tokens token.KwType span
   IsSaid word.Pred span = IsTokenAt tokens token.KwPred span
   IsSaid word.Bwd span = IsTokenAt tokens token.KwBwd span
+  IsSaid word.Fact span = IsTokenAt tokens token.KwFact span
   IsSaid word.Stage span = IsTokenAt tokens token.KwStage span
   IsSaid word.Context span = IsTokenAt tokens token.KwContext span
   IsSaid word.Qui span = IsTokenAt tokens token.KwQui span
@@ -258,6 +259,7 @@ module _ (tokens : List Token) where
   item_well _ _ (grammar.Item.sort a colon type_ dot) said = said.all.0
   item_well _ _ (grammar.Item.pred a colon pred_ dot args) said = (said.all.0, (names_well args _ (next _ _ said)).0)
   item_well _ _ (grammar.Item.back a colon bwd dot args) said = (said.all.0, (names_well args _ (next _ _ said)).0)
+  item_well _ _ (grammar.Item.fact a colon bwd dot args) said = (said.all.0, (names_well args _ (next _ _ said)).0)
   item_well _ _ (grammar.Item.colon a colon_ b dot args) said = let spans = names_well args _ (next _ _ said) in (said.all.0, spans.0, (next _ _ spans.1).all.0)
   item_well _ _ (grammar.Item.bare_clause dot symbols head is) said = (tt, (atom_well symbols head is (front symbols _ said), tt))
   item_well _ _ (grammar.Item.labelled a colon_ dot symbols head is some) said = (said.all.0, (atom_well symbols head is (front symbols _ (next _ _ (next _ _ said))), tt))
@@ -315,7 +317,6 @@ module _ (tokens : List Token) where
   -- a token as a symbol
   token_said : (bytes : List ℕ) (kind : TokenKind) (span : Span) → IsTokenAt tokens kind span → IsSaid (word_of kind bytes) span
   token_said bytes token.Directive span is = directive_said bytes span is
-  token_said bytes token.KwFact span is = tt
   token_said bytes token.Name span is = is
   token_said bytes token.Variable span is = is
   token_said bytes token.Blank span is = is
@@ -335,6 +336,7 @@ module _ (tokens : List Token) where
   token_said bytes token.KwType span is = is
   token_said bytes token.KwPred span is = is
   token_said bytes token.KwBwd span is = is
+  token_said bytes token.KwFact span is = is
   token_said bytes token.KwStage span is = is
   token_said bytes token.KwContext span is = is
   token_said bytes token.KwQui span is = is
@@ -356,6 +358,7 @@ item_some : (symbols : List Symbol) (item_ : RawItem) → grammar.Item symbols i
 item_some _ _ (grammar.Item.sort a colon type_ dot) = omega arith
 item_some _ _ (grammar.Item.pred a colon pred_ dot args) = omega arith
 item_some _ _ (grammar.Item.back a colon bwd dot args) = omega arith
+item_some _ _ (grammar.Item.fact a colon bwd dot args) = omega arith
 item_some _ _ (grammar.Item.colon a colon_ b dot args) = omega arith
 item_some _ _ (grammar.Item.bare_clause dot symbols head is) = let e = length-append symbols (at word.Dot dot ∷ []) in omega arith
 item_some _ _ (grammar.Item.labelled a colon_ dot symbols head is some) = omega arith

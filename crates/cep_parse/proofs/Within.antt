@@ -149,6 +149,7 @@ labelled_within : (a : Span) (w : Word) (x : Span) → is_between (labelled a w 
 labelled_within a word.Type x = refl
 labelled_within a word.Pred x = refl
 labelled_within a word.Bwd x = refl
+labelled_within a word.Fact x = refl
 labelled_within a word.Name x = refl
 labelled_within a w x = before_elem_within None None a.from (Some a) [] w x
 

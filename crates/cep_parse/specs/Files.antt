@@ -40,6 +40,7 @@ open_behind word.CloseBrace open_ = open_
 open_behind word.Type open_ = open_
 open_behind word.Pred open_ = open_
 open_behind word.Bwd open_ = open_
+open_behind word.Fact open_ = open_
 open_behind word.Stage open_ = open_
 open_behind word.Context open_ = open_
 open_behind word.Qui open_ = open_

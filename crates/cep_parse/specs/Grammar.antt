@@ -1,5 +1,6 @@
 -- The grammar: which symbols are which form, and the raw item that it gives.
 use Rattle.std.specs.Prelude.{ℕ, ◌+◌, ◌<◌, Bool, true, false, List, [], ◌∷◌, ◌++◌, Option, None, Some}
+use Rattle.cep_base.specs.declared.kind.PredKind.TheVariants.{Linear, Back, Fact}
 use Rattle.cep_parse.specs.declared.raw.Span.{Span}
 use Rattle.cep_parse.specs.declared.raw.RawKind.{RawKind}
 use Rattle.cep_parse.specs.declared.raw.RawKind.TheVariants.{Blank, Var, App}
@@ -138,8 +139,9 @@ pub data Limit : Symbol → Option Span → Type 0 where
 -- An item. `x : y.` is read as `colon` in every case.
 pub data Item : List Symbol → RawItem → Type 0 where
   sort : (a colon type_ dot : Span) → Item (at word.Name a ∷ at word.Colon colon ∷ at word.Type type_ ∷ at word.Dot dot ∷ []) (item.Sort a)
-  pred : (a colon pred_ dot : Span) (args : List Span) → Item (at word.Name a ∷ (names args ++ at word.Colon colon ∷ at word.Pred pred_ ∷ at word.Dot dot ∷ [])) (item.Pred a args false)
-  back : (a colon bwd dot : Span) (args : List Span) → Item (at word.Name a ∷ (names args ++ at word.Colon colon ∷ at word.Bwd bwd ∷ at word.Dot dot ∷ [])) (item.Pred a args true)
+  pred : (a colon pred_ dot : Span) (args : List Span) → Item (at word.Name a ∷ (names args ++ at word.Colon colon ∷ at word.Pred pred_ ∷ at word.Dot dot ∷ [])) (item.Pred a args Linear)
+  back : (a colon bwd dot : Span) (args : List Span) → Item (at word.Name a ∷ (names args ++ at word.Colon colon ∷ at word.Bwd bwd ∷ at word.Dot dot ∷ [])) (item.Pred a args Back)
+  fact : (a colon fact_ dot : Span) (args : List Span) → Item (at word.Name a ∷ (names args ++ at word.Colon colon ∷ at word.Fact fact_ ∷ at word.Dot dot ∷ [])) (item.Pred a args Fact)
   colon : (a colon_ b dot : Span) (args : List Span) → Item (at word.Name a ∷ (names args ++ at word.Colon colon_ ∷ at word.Name b ∷ at word.Dot dot ∷ [])) (item.Colon a args b)
   -- a clause without goals and without a label
   bare_clause : (dot : Span) (symbols : List Symbol) (head : RawAtom) → Atom symbols head → Item (symbols ++ at word.Dot dot ∷ []) (item.Clause None head [])

@@ -1,6 +1,7 @@
 -- Private.
 -- The states of a reading from left to right, and what a symbol does. The public clauses speak of none of this.
 use Rattle.std.specs.Prelude.{ℕ, ◌+◌, ◌==◌, Bool, true, false, if◌then◌else◌, List, [], ◌∷◌, ◌++◌, length, map, not, ◌&&◌, zero, suc, Option, None, Some, is_some, is_none}
+use Rattle.cep_base.specs.declared.kind.PredKind.TheVariants.{Linear, Back, Fact}
 use Rattle.cep_parse.specs.declared.raw.Span.{Span}
 use Rattle.cep_parse.specs.declared.raw.RawKind.{RawKind}
 use Rattle.cep_parse.specs.declared.raw.RawKind.TheVariants.{Var, App}
@@ -297,16 +298,18 @@ step_names name args word at = step_atom (atom_of_names name args) (use_.First n
 
 -- behind the colon of names
 abbrev pub step_declared : Span → List Span → Word → Span → Next
-step_declared name args word.Pred at = Go (state.Ending (item.Pred name args false))
-step_declared name args word.Bwd at = Go (state.Ending (item.Pred name args true))
+step_declared name args word.Pred at = Go (state.Ending (item.Pred name args Linear))
+step_declared name args word.Bwd at = Go (state.Ending (item.Pred name args Back))
+step_declared name args word.Fact at = Go (state.Ending (item.Pred name args Fact))
 step_declared name args word.Name at = Go (state.Ending (item.Colon name args at))
 step_declared name args _ at = Stop
 
 -- behind a name and a colon
 abbrev pub labelled : Span → Word → Span → Next
 labelled label word.Type at = Go (state.Ending (item.Sort label))
-labelled label word.Pred at = Go (state.Ending (item.Pred label [] false))
-labelled label word.Bwd at = Go (state.Ending (item.Pred label [] true))
+labelled label word.Pred at = Go (state.Ending (item.Pred label [] Linear))
+labelled label word.Bwd at = Go (state.Ending (item.Pred label [] Back))
+labelled label word.Fact at = Go (state.Ending (item.Pred label [] Fact))
 labelled label word.Name at = atom_for at (use_.First label.from (Some label))
 labelled label word at = before_elem (rule_from None label.from (Some label) []) word at
 

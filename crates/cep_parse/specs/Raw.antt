@@ -29,7 +29,7 @@ abbrev pub item_rules : RawItem → List RawRule
 item_rules (item.Outer rule) = rule ∷ []
 item_rules (item.Stage name rules) = rules
 item_rules (item.Sort name) = []
-item_rules (item.Pred name args back) = []
+item_rules (item.Pred name args kind) = []
 item_rules (item.Colon left args right) = []
 item_rules (item.Clause label head goals) = []
 item_rules (item.Context name atoms) = []
@@ -46,7 +46,7 @@ abbrev pub listed_atoms : RawItem → List RawAtom
 listed_atoms (item.Context name atoms) = atoms
 listed_atoms (item.Trace at limit stage start) = start_listed start
 listed_atoms (item.Sort name) = []
-listed_atoms (item.Pred name args back) = []
+listed_atoms (item.Pred name args kind) = []
 listed_atoms (item.Colon left args right) = []
 listed_atoms (item.Clause label head goals) = []
 listed_atoms (item.Outer rule) = []

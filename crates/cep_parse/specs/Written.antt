@@ -95,7 +95,7 @@ IsLimitOf tokens None = Unit {0}
 -- An item's names are names of the text, and its atoms and rules are as told. A trace begins at a directive.
 abbrev pub IsItemOf : List Token → RawItem → Type 0
 IsItemOf tokens (item.Sort name) = IsNameAt tokens name
-IsItemOf tokens (item.Pred name args back) = IsNameAt tokens name × AllByRecursion (IsNameAt tokens) args
+IsItemOf tokens (item.Pred name args of_kind) = IsNameAt tokens name × AllByRecursion (IsNameAt tokens) args
 IsItemOf tokens (item.Colon left args right) = IsNameAt tokens left × AllByRecursion (IsNameAt tokens) args × IsNameAt tokens right
 IsItemOf tokens (item.Clause label head goals) = IsLabelOf tokens label × AllByRecursion (IsAtomOf tokens) (head ∷ goals)
 IsItemOf tokens (item.Outer rule) = IsRuleOf tokens rule

@@ -6,6 +6,7 @@ use crate::raw::{RawAtoms, RawElem, RawItem, RawRules, RawSide, RawStart, Span, 
 use crate::rules::{atom_for, before_elem, behind_left, rule_from};
 use crate::state::{BagHome, BagPlace, BagSoFar, Next, Plain, RulePlace, StageSoFar, State, Use};
 use crate::symbol::{Symbol, Word};
+use cep_base::PredKind;
 use std::alloc::{AllocError, Global};
 
 fn plainly(plain: Plain) -> Next
@@ -63,12 +64,17 @@ fn labelled(alloc: Global, label: Span, symbol: Symbol) -> Result<Next, AllocErr
         Word::Pred => Ok(ending(RawItem::Pred {
             name: label,
             args: Spans::new(alloc),
-            back: false,
+            kind: PredKind::Linear,
         })),
         Word::Bwd => Ok(ending(RawItem::Pred {
             name: label,
             args: Spans::new(alloc),
-            back: true,
+            kind: PredKind::Back,
+        })),
+        Word::Fact => Ok(ending(RawItem::Pred {
+            name: label,
+            args: Spans::new(alloc),
+            kind: PredKind::Fact,
         })),
         Word::Name => {
             let label = Some(label);

@@ -1,7 +1,7 @@
 ghost use Rattle.std.specs.Prelude.{◌≡◌, [], ◌∷◌, MatchOption};
 ghost use Rattle.cep_parse.specs.Raw.{raw_nodes, atoms_in, item_rules, start_listed, listed_atoms};
 
-use cep_base::List;
+use cep_base::{List, PredKind};
 use std::slice;
 
 /// Bytes of the text, from a place up to another.
@@ -104,7 +104,7 @@ pub enum RawItem {
     Pred {
         name: Span,
         args: Spans,
-        back: bool,
+        kind: PredKind,
     },
     Colon {
         left: Span,

@@ -12,6 +12,7 @@ use crate::state::{
     AtomSoFar, BagPlace, ClauseSoFar, Grown, Next, Plain, RulePlace, StageSoFar, State, Use,
 };
 use crate::symbol::{Symbol, Word};
+use cep_base::PredKind;
 use std::alloc::{AllocError, Global};
 
 // The dot of a clause without goals. `a : b.` is a colon.
@@ -162,12 +163,17 @@ fn step_declared(name: Span, args: Spans, symbol: Symbol) -> Next
         Word::Pred => RawItem::Pred {
             name,
             args,
-            back: false,
+            kind: PredKind::Linear,
         },
         Word::Bwd => RawItem::Pred {
             name,
             args,
-            back: true,
+            kind: PredKind::Back,
+        },
+        Word::Fact => RawItem::Pred {
+            name,
+            args,
+            kind: PredKind::Fact,
         },
         Word::Name => RawItem::Colon {
             left: name,

@@ -1,7 +1,6 @@
 -- What the parts of every program keep.
 use Rattle.std.specs.Prelude.{◌≡◌, ◌↔◌, ℕ, ◌*◌, ◌%◌, ◌<◌, true, false, List, [], length, map, IsSome, IfSome}
 use Rattle.std.specs.List.{AllByRecursion}
-use Rattle.cep_base.specs.Kinds.{is_of_facts}
 use Rattle.cep_rule.specs.declared.signature.Signature.{Signature}
 use Rattle.cep_rule.specs.declared.rule.Rule.{Rule}
 use Rattle.cep_rule.specs.declared.parts.Parts.{Parts}
@@ -91,7 +90,3 @@ pub record IsProgram (parts : Parts) : Type 0 where
   -- the start is a state that fits
   pub start : IsState parts.signature parts.start
   pub start_fits : Fits parts.start
-
--- No predicate is one of facts: so it is of each program that a text spells, since no text declares a fact yet.
-abbrev pub HasNoFacts : Signature → Type 0
-HasNoFacts signature = AllByRecursion (λ pred. is_of_facts pred.kind ≡ false) signature.preds

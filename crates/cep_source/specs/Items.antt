@@ -2,6 +2,7 @@
 use Rattle.std.specs.Prelude.{ℕ, ◌+◌, Bool, true, false, ◌&&◌, not, List, [], ◌∷◌, Option, Some, None, ◌++◌, ◌==◌, length, map}
 use Rattle.std.specs.Str.{bytes_eq}
 use Rattle.std.specs.List.{flat_map, list_any}
+use Rattle.cep_base.specs.declared.kind.PredKind.{PredKind}
 use Rattle.cep_parse.specs.declared.raw.Span.{Span}
 use Rattle.cep_parse.specs.declared.raw.RawAtom.{RawAtom}
 use Rattle.cep_parse.specs.declared.raw.RawRule.{RawRule}
@@ -23,7 +24,7 @@ said source span = slice_of source.text span.from span.to
 pub record PredItem : Type 0 where
   pub name : Span
   pub args : List Span
-  pub back : Bool
+  pub kind : PredKind
 
 -- A constructor: its name, the names of its arguments' types, and that of its own type.
 pub record ConItem : Type 0 where
@@ -56,7 +57,7 @@ pub record TraceItem : Type 0 where
 -- the types
 abbrev pub sorts_in : RawItem → List Span
 sorts_in (item.Sort name) = name ∷ []
-sorts_in (item.Pred name args back) = []
+sorts_in (item.Pred name args of_kind) = []
 sorts_in (item.Colon left args right) = []
 sorts_in (item.Clause label head goals) = []
 sorts_in (item.Outer rule) = []
@@ -70,7 +71,7 @@ sorts_of source = flat_map sorts_in source.file
 
 -- the predicates
 abbrev pub preds_in : RawItem → List PredItem
-preds_in (item.Pred name args back) = record { name = name; args = args; back = back } ∷ []
+preds_in (item.Pred name args of_kind) = record { name = name; args = args; kind = of_kind } ∷ []
 preds_in (item.Sort name) = []
 preds_in (item.Colon left args right) = []
 preds_in (item.Clause label head goals) = []
@@ -104,7 +105,7 @@ con_or_none false con = con ∷ []
 abbrev pub cons_in : Source → RawItem → List ConItem
 cons_in source (item.Colon left args right) = con_or_none (is_labelled source args right) (record { name = left; args = args; sort = right })
 cons_in source (item.Sort name) = []
-cons_in source (item.Pred name args back) = []
+cons_in source (item.Pred name args of_kind) = []
 cons_in source (item.Clause label head goals) = []
 cons_in source (item.Outer rule) = []
 cons_in source (item.Stage name rules) = []
@@ -124,7 +125,7 @@ abbrev pub clauses_in : Source → RawItem → List ClauseItem
 clauses_in source (item.Clause label head goals) = record { head = head; goals = goals } ∷ []
 clauses_in source (item.Colon left args right) = clause_or_none (is_labelled source args right) (record { head = bare right; goals = [] })
 clauses_in source (item.Sort name) = []
-clauses_in source (item.Pred name args back) = []
+clauses_in source (item.Pred name args of_kind) = []
 clauses_in source (item.Outer rule) = []
 clauses_in source (item.Stage name rules) = []
 clauses_in source (item.Context name atoms) = []
@@ -138,7 +139,7 @@ clauses_of source = flat_map (clauses_in source) source.file
 abbrev pub stages_in : RawItem → List Span
 stages_in (item.Stage name rules) = name ∷ []
 stages_in (item.Sort name) = []
-stages_in (item.Pred name args back) = []
+stages_in (item.Pred name args of_kind) = []
 stages_in (item.Colon left args right) = []
 stages_in (item.Clause label head goals) = []
 stages_in (item.Outer rule) = []
@@ -153,7 +154,7 @@ stages_of source = flat_map stages_in source.file
 abbrev pub interactives_in : RawItem → List Span
 interactives_in (item.Interactive name) = name ∷ []
 interactives_in (item.Sort name) = []
-interactives_in (item.Pred name args back) = []
+interactives_in (item.Pred name args of_kind) = []
 interactives_in (item.Colon left args right) = []
 interactives_in (item.Clause label head goals) = []
 interactives_in (item.Outer rule) = []
@@ -169,7 +170,7 @@ abbrev pub rules_in : ℕ → RawItem → List RuleItem
 rules_in stages (item.Outer raw) = record { home = None; raw = raw } ∷ []
 rules_in stages (item.Stage name rules) = map (λ raw. record { home = Some stages; raw = raw }) rules
 rules_in stages (item.Sort name) = []
-rules_in stages (item.Pred name args back) = []
+rules_in stages (item.Pred name args of_kind) = []
 rules_in stages (item.Colon left args right) = []
 rules_in stages (item.Clause label head goals) = []
 rules_in stages (item.Context name atoms) = []
@@ -179,7 +180,7 @@ rules_in stages (item.Trace at limit stage start) = []
 abbrev pub stages_behind : ℕ → RawItem → ℕ
 stages_behind stages (item.Stage name rules) = stages + 1
 stages_behind stages (item.Sort name) = stages
-stages_behind stages (item.Pred name args back) = stages
+stages_behind stages (item.Pred name args of_kind) = stages
 stages_behind stages (item.Colon left args right) = stages
 stages_behind stages (item.Clause label head goals) = stages
 stages_behind stages (item.Outer rule) = stages
@@ -198,7 +199,7 @@ rules_of source = rules_from 0 source.file
 abbrev pub contexts_in : RawItem → List ContextItem
 contexts_in (item.Context name atoms) = record { name = name; atoms = atoms } ∷ []
 contexts_in (item.Sort name) = []
-contexts_in (item.Pred name args back) = []
+contexts_in (item.Pred name args of_kind) = []
 contexts_in (item.Colon left args right) = []
 contexts_in (item.Clause label head goals) = []
 contexts_in (item.Outer rule) = []
@@ -213,7 +214,7 @@ contexts_of source = flat_map contexts_in source.file
 abbrev pub traces_in : RawItem → List TraceItem
 traces_in (item.Trace at limit stage start) = record { at = at; limit = limit; stage = stage; start = start } ∷ []
 traces_in (item.Sort name) = []
-traces_in (item.Pred name args back) = []
+traces_in (item.Pred name args of_kind) = []
 traces_in (item.Colon left args right) = []
 traces_in (item.Clause label head goals) = []
 traces_in (item.Outer rule) = []

@@ -20,7 +20,7 @@ abbrev pub con_item : RawCon → ConItem
 con_item con = record { name = con.name; args = con.args.now; sort = con.sort }
 
 abbrev pub pred_item : RawPred → PredItem
-pred_item pred = record { name = pred.name; args = pred.args.now; back = pred.back }
+pred_item pred = record { name = pred.name; args = pred.args.now; kind = pred.kind }
 
 abbrev pub context_item : RawContext → ContextItem
 context_item context = record { name = context.name; atoms = context.atoms.now }

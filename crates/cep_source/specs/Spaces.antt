@@ -3,6 +3,7 @@ use Rattle.std.specs.Prelude.{ℕ, ◌+◌, Bool, List, [], ◌∷◌, ◌++◌,
 use Rattle.std.specs.Option.{option_map}
 use Rattle.std.specs.Str.{bytes_eq}
 use Rattle.std.specs.List.{list_any, find, position}
+use Rattle.cep_base.specs.declared.kind.PredKind.{PredKind}
 use Rattle.cep_parse.specs.declared.raw.Span.{Span}
 use Rattle.cep_parse.specs.declared.raw.RawAtom.{RawAtom}
 use Rattle.cep_source.specs.declared.space.Space.{Space}
@@ -75,10 +76,10 @@ arity_of source space.Stages name = None
 arity_of source space.Contexts name = None
 arity_of source space.Rules name = None
 
--- whether the predicate of this name is declared as a backward one, or as a linear one
-abbrev pub back_named : Source → List ℕ → Option Bool
-back_named source name = option_map (λ pred. pred.back) (pred_named source name)
+-- of which kind the predicate of this name is declared
+abbrev pub kind_named : Source → List ℕ → Option PredKind
+kind_named source name = option_map (λ pred. pred.kind) (pred_named source name)
 
 -- the same of an atom's predicate
-abbrev pub back_of : Source → RawAtom → Option Bool
-back_of source atom = back_named source (said source atom.name)
+abbrev pub kind_of : Source → RawAtom → Option PredKind
+kind_of source atom = kind_named source (said source atom.name)

@@ -1,14 +1,17 @@
 -- The start state of a trace, and the sizes of atoms as they are written.
-use Rattle.std.specs.Prelude.{ℕ, ◌+◌, ◌≤◌, Bool, true, false, List, [], ◌∷◌, ◌++◌, Option, Some, None, length, max}
-use Rattle.std.specs.List.{flat_map, repeat}
+use Rattle.std.specs.Prelude.{ℕ, ◌+◌, ◌≤◌, Bool, true, false, ◌&&◌, ◌==◌, if◌then◌else◌, List, [], ◌∷◌, ◌++◌, Option, Some, None, unwrap_or, length, max}
+use Rattle.std.specs.Option.{option_map}
+use Rattle.std.specs.Str.{bytes_eq}
+use Rattle.std.specs.List.{flat_map, list_any, repeat}
 use Rattle.cep_parse.specs.declared.raw.RawNode.{RawNode}
 use Rattle.cep_parse.specs.declared.raw.RawAtom.{RawAtom}
 use Rattle.cep_parse.specs.declared.raw.RawStart.{RawStart}
 use Rattle.cep_parse.specs.declared.raw.RawStart.TheVariants as start
+use Rattle.cep_base.specs.Kinds.{is_of_facts}
 use Rattle.cep_base.specs.declared.limits.TheConstants.{MOST_DEPTH, MOST_NODES}
 use Rattle.cep_source.specs.declared.space.Role.TheVariants as role
 use Rattle.cep_source.specs.Items.{Source, ContextItem, said}
-use Rattle.cep_source.specs.Spaces.{context_named}
+use Rattle.cep_source.specs.Spaces.{context_named, kind_of}
 use Rattle.cep_source.specs.Uses.{placed, is_context}
 
 -- the atoms of a context, and none where there is no such context
@@ -25,6 +28,34 @@ listed_or false source atom = atom ∷ []
 abbrev pub start_atoms : Source → RawStart → List RawAtom
 start_atoms source (start.Named name) = listed_in (context_named source (said source name))
 start_atoms source (start.Listed atoms) = flat_map (λ atom. listed_or (is_context source (placed role.Start atom)) source atom) atoms
+
+-- whether an atom's predicate is declared as one of facts
+abbrev pub is_of_fact : Source → RawAtom → Bool
+is_of_fact source atom = unwrap_or (option_map is_of_facts (kind_of source atom)) false
+
+-- whether two nodes, and two atoms, are written alike: the same names in the same order, with as many arguments
+abbrev pub is_node_alike : Source → RawNode → RawNode → Bool
+is_node_alike source one other = bytes_eq (said source one.at) (said source other.at) && (one.args == other.args)
+
+abbrev pub are_nodes_alike : Source → List RawNode → List RawNode → Bool
+are_nodes_alike source [] [] = true
+are_nodes_alike source [] (node ∷ nodes) = false
+are_nodes_alike source (node ∷ nodes) [] = false
+are_nodes_alike source (one ∷ ones) (other ∷ others) = is_node_alike source one other && are_nodes_alike source ones others
+
+abbrev pub is_written_alike : Source → RawAtom → RawAtom → Bool
+is_written_alike source one other =
+    bytes_eq (said source one.name) (said source other.name) && (one.args == other.args) && are_nodes_alike source one.nodes other.nodes
+
+-- the atoms that count, behind others: all but a fact that is written like one before it
+abbrev pub counting_behind : Source → List RawAtom → List RawAtom → List RawAtom
+counting_behind source before [] = []
+counting_behind source before (atom ∷ atoms) =
+    if is_of_fact source atom && list_any (is_written_alike source atom) before then counting_behind source before atoms
+    else atom ∷ counting_behind source (atom ∷ before) atoms
+
+abbrev pub counting : Source → List RawAtom → List RawAtom
+counting source atoms = counting_behind source [] atoms
 
 -- how many nodes an atom has: its own and those of its arguments
 abbrev pub nodes_written : RawAtom → ℕ

@@ -43,7 +43,7 @@ own_atoms (item.Stage name rules) = flat_map rule_atoms rules
 own_atoms (item.Context name atoms) = map (placed role.Listed) atoms
 own_atoms (item.Trace at limit stage start) = map (placed role.Start) (start_listed start)
 own_atoms (item.Sort name) = []
-own_atoms (item.Pred name args back) = []
+own_atoms (item.Pred name args of_kind) = []
 own_atoms (item.Colon left args right) = []
 own_atoms (item.Clause label head goals) = []
 own_atoms (item.Interactive name) = []
@@ -114,7 +114,7 @@ start_uses (start.Listed atoms) = []
 
 -- the names that an item uses apart from its atoms
 abbrev pub own_uses : RawItem → List Use
-own_uses (item.Pred name args back) = map (use_in space.Sorts) args
+own_uses (item.Pred name args of_kind) = map (use_in space.Sorts) args
 own_uses (item.Outer rule) = flat_map elem_uses (rule.left ++ rule.right)
 own_uses (item.Interactive name) = use_in space.Stages name ∷ []
 own_uses (item.Trace at limit stage start) = use_in space.Stages stage ∷ start_uses start

@@ -3,6 +3,7 @@ ghost use Rattle.std.specs.Prelude.{◌≡◌, map, option_to_list, slice_get};
 ghost use Rattle.cep_source.specs.Items.{sorts_in, preds_in, stages_in, interactives_in, contexts_in, traces_in};
 ghost use Rattle.cep_source.specs.Kept.{pred_item, context_item, trace_item};
 
+use cep_base::PredKind;
 use cep_parse::{RawAtom, RawItem, RawRule, RawStart, Span};
 
 /// A constructor by the spans of its name, of its arguments' types, and of its own type.
@@ -13,12 +14,12 @@ pub struct RawCon<'a> {
     pub sort: Span,
 }
 
-/// A predicate by the spans of its name and of its arguments' types, and whether clauses define it.
+/// A predicate by the spans of its name and of its arguments' types, and of which kind it is.
 #[derive(Clone, Copy, Debug, Drop)]
 pub struct RawPred<'a> {
     pub name: Span,
     pub args: &'a [Span],
-    pub back: bool,
+    pub kind: PredKind,
 }
 
 /// A context by the span of its name, and its atoms.
@@ -89,10 +90,10 @@ pub(crate) fn pred_in(item: &RawItem) -> Option<RawPred<'_>>
     ensures { map pred_item (option_to_list result) ≡ preds_in item.now }
 {
     match item {
-        RawItem::Pred { name, args, back } => Some(RawPred {
+        RawItem::Pred { name, args, kind } => Some(RawPred {
             name: *name,
             args: args.as_slice(),
-            back: *back,
+            kind: *kind,
         }),
         _ => None,
     }

@@ -2,7 +2,7 @@ ghost use Rattle.std.specs.Prelude.{◌≡◌, map, is_some, IfOk};
 ghost use Rattle.std.specs.Option.{option_map};
 ghost use Rattle.cep_refusal.specs.First.{IsFirstOrNone};
 ghost use Rattle.cep_source.specs.Items.{said, is_said, interactives_of, sorts_of, cons_of, preds_of, stages_of, rules_of, contexts_of, traces_of, is_labelled};
-ghost use Rattle.cep_source.specs.Spaces.{is_in, first_place, arity_of, back_named, con_named, pred_named, context_named};
+ghost use Rattle.cep_source.specs.Spaces.{is_in, first_place, arity_of, kind_named, con_named, pred_named, context_named};
 ghost use Rattle.cep_source.specs.Misnamed.{IsTwice};
 ghost use Rattle.cep_source.specs.Starts.{listed_in};
 ghost use Rattle.cep_source.specs.Kept.{con_item, pred_item, rule_item, context_item, trace_item};
@@ -12,6 +12,7 @@ use crate::items::{RawCon, RawContext, RawPred, RuleRef, TraceRef, item_at};
 use crate::kinds::{Kinds, Names};
 use crate::space::Space;
 use crate::text::said;
+use cep_base::PredKind;
 use cep_parse::{RawAtom, RawFile, RawItem, Span, Spans};
 use cep_refusal::Fault;
 use std::alloc::{AllocError, Global};
@@ -218,11 +219,11 @@ impl<'a> Source<'a> {
         }
     }
 
-    /// Whether clauses define the predicate of this name. None where there is no such predicate.
-    pub fn back(&self, name: Span) -> Option<bool>
-        ensures { result ≡ back_named self.now (said self.now name) }
+    /// Of which kind the predicate of this name is. None where there is no such predicate.
+    pub fn kind(&self, name: Span) -> Option<PredKind>
+        ensures { result ≡ kind_named self.now (said self.now name) }
     {
-        Some(self.pred(name)?.back)
+        Some(self.pred(name)?.kind)
     }
 
     /// Whether `x a : y.` is a clause with a label, and no constructor: it has no arguments, and y

@@ -1,17 +1,15 @@
 use Rattle.std.proofs.Common.{subst, arith}
-use Rattle.std.proofs.lemmas.Result.{IfOk-weaker}
 use Rattle.cep_lex.specs.Cuts.{IsLexed}
 use Rattle.cep_parse.specs.Symbols.{symbols_of}
 use Rattle.cep_parse.specs.Files.{IsParsed}
 use Rattle.cep_source.specs.Items.{Source}
 use Rattle.cep_infer.specs.Shapes.{IsSource}
 use Rattle.cep_infer.specs.Resolved.{IsResolved}
-use Rattle.cep_ground.proofs.NoFacts.{no_facts_answered}
 use Rattle.cep_ground.proofs.RefusedDrafts.{refused_draft}
 use Rattle.cep_ground.proofs.accepting.accept.Goals as goal
 
-pub returns-clause-answered : goal.returns-clause-answered
-returns-clause-answered c =
+pub returns : goal.returns
+returns c =
     let text = c.args.text.now in
     let source : Source = record { text = text; file = c.in-Ok-2.file } in
     let lexed = subst (IsLexed text) c.in-Ok.is c.in_ok-tokens.ensures in
@@ -19,6 +17,3 @@ returns-clause-answered c =
     let is_source : IsSource source = record { tokens = c.in-Ok.tokens; lexed = lexed; parsed = parsed.0; shallow = parsed.1 } in
     refused_draft c.lexed_once.ensures c.parsed_once.ensures (λ text tokens one other. c.one_raw_file.ensures (symbols_of text tokens) one other)
     source (omega arith) is_source c.in-Err-3.refusal (subst (IsResolved source) c.in-Err-3.is c.in_ok-draft.ensures)
-
-pub returns-in-Ok-3-clause-no_facts : goal.returns-in-Ok-3-clause-no_facts
-returns-in-Ok-3-clause-no_facts c = IfOk-weaker c.judged.result _ _ (no_facts_answered c.args.text.now) c.judged.ensures

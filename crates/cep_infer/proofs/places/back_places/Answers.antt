@@ -2,7 +2,7 @@ use Rattle.std.proofs.Common.{List, ℕ, true, map, filter, ap, subst, ◌∙◌
 use Rattle.cep_parse.specs.declared.raw.RawAtom.{RawAtom}
 use Rattle.cep_parse.specs.declared.raw.RawElem.{RawElem}
 use Rattle.cep_source.specs.Misnamed.{is_declared}
-use Rattle.cep_source.specs.Spaces.{back_of}
+use Rattle.cep_source.specs.Spaces.{kind_of}
 use Rattle.cep_parse.specs.Raw.{atoms_of}
 use Rattle.cep_source.specs.declared.items.RuleRef.{RuleRef}
 use Rattle.cep_source.specs.Kept.{rule_item}
@@ -19,6 +19,6 @@ loop-rule-preserved c =
           c.loop-rule-test.true c.rule-item.is c.loop-rule.invariant.lists
           (subst (λ (text : List ℕ). ArePlaces text c.deref.result.now c.in_ok-place_all.field-0) c.text.ensures c.in_ok-place_all.ensures.places)
           (c.deref.ensures.value ∙ c.in_ok-ats.ensures
-          ∙ ap (λ (side : List RawElem). map (λ (atom : RawAtom). atom.name.from) (filter (λ (atom : RawAtom). is_declared true (back_of source atom)) (atoms_of side))) c.as_slice.ensures)
+          ∙ ap (λ (side : List RawElem). map (λ (atom : RawAtom). atom.name.from) (filter (λ (atom : RawAtom). is_declared true (kind_of source atom)) (atoms_of side))) c.as_slice.ensures)
           c.in_ok-push.ensures.ok;
     }

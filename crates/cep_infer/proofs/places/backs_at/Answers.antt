@@ -1,7 +1,7 @@
 use Rattle.std.proofs.Common.{true, option_to_list, sym, append-nil}
 use Rattle.cep_parse.specs.declared.raw.RawAtom.{RawAtom}
 use Rattle.cep_source.specs.Misnamed.{is_declared}
-use Rattle.cep_source.specs.Spaces.{back_of}
+use Rattle.cep_source.specs.Spaces.{kind_of}
 use Rattle.cep_parse.specs.Raw.{atoms_in}
 use Rattle.cep_infer.proofs.Unbound.{kept_more}
 use Rattle.cep_infer.proofs.places.backs_at.Goals as goal
@@ -9,7 +9,7 @@ use Rattle.cep_infer.proofs.places.backs_at.Goals.{in-Some+in_ok-push, in_defaul
 
 pub loop-elem-preserved : goal.loop-elem-preserved
 loop-elem-preserved c =
-    kept_more (λ (atom : RawAtom). atom.name.from) (λ (atom : RawAtom). is_declared true (back_of c.args.source.now atom)) atoms_in c.args.side.now c.loop-elem.elem-index c.elem-item.result
+    kept_more (λ (atom : RawAtom). atom.name.from) (λ (atom : RawAtom). is_declared true (kind_of c.args.source.now atom)) atoms_in c.args.side.now c.loop-elem.elem-index c.elem-item.result
     c.loop-elem.ats.items c.match-back_at.ats.items (option_to_list c.back_at.result) c.loop-elem-test.true c.elem-item.is c.loop-elem.invariant c.back_at.ensures
     (elim c.match-back_at.branch [
       | in-Some+in_ok-push w ↦ rw (w.ats-is, w.in-Some.is) w.in_ok-push.ensures.items

@@ -1,0 +1,170 @@
+-- The facts that count, one atom after another, and the keys by which they are told apart.
+use Rattle.std.proofs.Common.{◌≡◌, ℕ, zero, suc, ◌+◌, ◌==◌, min, Bool, true, false, ◌&&◌, ◌||◌, not, if◌then◌else◌, List, [], ◌∷◌, ◌++◌, length, map, filter, refl, sym, ap, subst, ◌∙◌, append_assoc, arith, Contains, replicate}
+use Rattle.std.specs.Str.{bytes_eq}
+use Rattle.std.specs.List.{flat_map, list_any, sum_by}
+use Rattle.std.specs.Cmp.{both_ways}
+use Rattle.std.proofs.lemmas.Bool.{eqb-true}
+use Rattle.std.proofs.lemmas.List.{append-nil, map-append}
+use Rattle.std.proofs.lemmas.List.Elements.{filter-append}
+use Rattle.std.proofs.lemmas.List.Sums.{sum_by-cons, sum_by-append}
+use Rattle.std.proofs.lemmas.Slice.Eq.{bytes_eq-Decides}
+use Rattle.cep_parse.specs.declared.raw.RawNode.{RawNode}
+use Rattle.cep_parse.specs.declared.raw.RawAtom.{RawAtom}
+use Rattle.cep_source.specs.Items.{Source, said}
+use Rattle.cep_source.specs.Spaces.{kind_named}
+use Rattle.cep_source.specs.Firsts.{has_name}
+use Rattle.cep_source.specs.Starts.{is_of_fact, is_node_alike, are_nodes_alike, is_written_alike, counting_behind, counting}
+use Rattle.cep_faults.specs.Totals.{facts_counting}
+use Rattle.cep_faults.specs.FactKeys.{mark, stop, name_key, count_key, node_key, atom_key}
+
+both_true : (a b : Bool) → (a && b) ≡ true → (a ≡ true) × (b ≡ true)
+both_true true b e = (refl, e)
+both_true false b e = absurd cc
+
+-- Keys
+
+-- a name's key ends by itself
+name_again : (one other rest rest' : List ℕ) → name_key one ++ rest ≡ name_key other ++ rest' → (one ≡ other) × (rest ≡ rest')
+name_again [] [] rest rest' e = (refl, cc)
+name_again [] (y ∷ other) rest rest' e = absurd cc
+name_again (x ∷ one) [] rest rest' e = absurd cc
+name_again (x ∷ one) (y ∷ other) rest rest' e =
+    let more = name_again one other rest rest' cc in
+    let here : x ≡ y = cc in
+    (cc, more.1)
+
+-- and so does that of a number
+count_again : (n m : ℕ) (rest rest' : List ℕ) → count_key n ++ rest ≡ count_key m ++ rest' → (n ≡ m) × (rest ≡ rest')
+count_again zero zero rest rest' e = (refl, cc)
+count_again zero (suc m) rest rest' e = absurd cc
+count_again (suc n) zero rest rest' e = absurd cc
+count_again (suc n) (suc m) rest rest' e = let more = count_again n m rest rest' cc in (ap suc more.0, more.1)
+
+same_bytes : (one other : List ℕ) → one ≡ other → bytes_eq one other ≡ true
+same_bytes one other is = (bytes_eq-Decides one other).1 is
+
+eqb_same : (n m : ℕ) → n ≡ m → (n == m) ≡ true
+eqb_same zero zero is = refl
+eqb_same zero (suc m) is = absurd cc
+eqb_same (suc n) zero is = absurd cc
+eqb_same (suc n) (suc m) is = eqb_same n m cc
+
+both_hold : (a b : Bool) → a ≡ true → b ≡ true → (a && b) ≡ true
+both_hold a b one other = ap (λ x. x && b) one ∙ other
+
+module _ (source : Source) where
+  nodes_again : (ones others : List RawNode) → flat_map (node_key source) ones ≡ flat_map (node_key source) others → are_nodes_alike source ones others ≡ true
+  nodes_again [] [] e = refl
+  nodes_again [] (other ∷ others) e = absurd (no_key (said source other.at) (count_key other.args ++ flat_map (node_key source) others) (e ∙ append_assoc (name_key (said source other.at)) (count_key other.args) (flat_map (node_key source) others)))
+    where
+      no_key : (name rest : List ℕ) → [] ≡ name_key name ++ rest → ⊥
+      no_key [] rest e = cc
+      no_key (x ∷ name) rest e = cc
+  nodes_again (one ∷ ones) [] e = absurd (no_key (said source one.at) (count_key one.args ++ flat_map (node_key source) ones) (sym e ∙ append_assoc (name_key (said source one.at)) (count_key one.args) (flat_map (node_key source) ones)))
+    where
+      no_key : (name rest : List ℕ) → [] ≡ name_key name ++ rest → ⊥
+      no_key [] rest e = cc
+      no_key (x ∷ name) rest e = cc
+  nodes_again (one ∷ ones) (other ∷ others) e =
+      let first = name_again (said source one.at) (said source other.at) (count_key one.args ++ flat_map (node_key source) ones) (count_key other.args ++ flat_map (node_key source) others)
+          (sym (append_assoc (name_key (said source one.at)) (count_key one.args) (flat_map (node_key source) ones)) ∙ e ∙ append_assoc (name_key (said source other.at)) (count_key other.args) (flat_map (node_key source) others)) in
+      let second = count_again one.args other.args (flat_map (node_key source) ones) (flat_map (node_key source) others) first.1 in
+      both_hold (is_node_alike source one other) (are_nodes_alike source ones others)
+          (both_hold (bytes_eq (said source one.at) (said source other.at)) (one.args == other.args) (same_bytes (said source one.at) (said source other.at) first.0) (eqb_same one.args other.args second.0))
+          (nodes_again ones others second.1)
+
+  nodes_keyed : (ones others : List RawNode) → are_nodes_alike source ones others ≡ true → flat_map (node_key source) ones ≡ flat_map (node_key source) others
+  nodes_keyed [] [] alike = refl
+  nodes_keyed [] (other ∷ others) alike = absurd cc
+  nodes_keyed (one ∷ ones) [] alike = absurd cc
+  nodes_keyed (one ∷ ones) (other ∷ others) alike =
+      let parts = both_true (is_node_alike source one other) (are_nodes_alike source ones others) alike in
+      let node_ = both_true (bytes_eq (said source one.at) (said source other.at)) (one.args == other.args) parts.0 in
+      let name = (bytes_eq-Decides (said source one.at) (said source other.at)).0 node_.0 in
+      let count = eqb-true one.args other.args node_.1 in
+      let rest = nodes_keyed ones others parts.1 in
+      λ i. (name_key (name i) ++ count_key (count i)) ++ rest i
+
+  -- keys are equal exactly where two atoms are written alike
+  pub keys_tell : (one other : RawAtom) → bytes_eq (atom_key source one) (atom_key source other) ≡ is_written_alike source one other
+  keys_tell one other = both_ways (bytes_eq (atom_key source one) (atom_key source other)) (is_written_alike source one other)
+      (λ e.
+      let same = (bytes_eq-Decides (atom_key source one) (atom_key source other)).0 e in
+      let first = name_again (said source one.name) (said source other.name) (count_key one.args ++ flat_map (node_key source) one.nodes) (count_key other.args ++ flat_map (node_key source) other.nodes) same in
+      let second = count_again one.args other.args (flat_map (node_key source) one.nodes) (flat_map (node_key source) other.nodes) first.1 in
+      both_hold (bytes_eq (said source one.name) (said source other.name)) ((one.args == other.args) && are_nodes_alike source one.nodes other.nodes) (same_bytes (said source one.name) (said source other.name) first.0)
+      (both_hold (one.args == other.args) (are_nodes_alike source one.nodes other.nodes) (eqb_same one.args other.args second.0) (nodes_again one.nodes other.nodes second.1)))
+      (λ alike.
+      let parts = both_true (bytes_eq (said source one.name) (said source other.name)) ((one.args == other.args) && are_nodes_alike source one.nodes other.nodes) alike in
+      let rest = both_true (one.args == other.args) (are_nodes_alike source one.nodes other.nodes) parts.1 in
+      let name = (bytes_eq-Decides (said source one.name) (said source other.name)).0 parts.0 in
+      let count = eqb-true one.args other.args rest.0 in
+      let nodes = nodes_keyed one.nodes other.nodes rest.1 in
+      same_bytes (atom_key source one) (atom_key source other) (λ i. name_key (name i) ++ (count_key (count i) ++ nodes i)))
+
+  -- Facts that count
+
+  or_swap : (p q r : Bool) → (q || (p || r)) ≡ ((p || q) || r)
+  or_swap true true r = refl
+  or_swap true false r = refl
+  or_swap false true r = refl
+  or_swap false false r = refl
+
+  -- one atom more counts unless it is a fact that is written like one before it
+  one_counts : (before atoms : List RawAtom) (a : RawAtom)
+      → counting_behind source before (atoms ++ a ∷ []) ≡ counting_behind source before atoms ++ (if is_of_fact source a && (list_any (is_written_alike source a) (counting_behind source before atoms) || list_any (is_written_alike source a) before) then [] else a ∷ [])
+  one_counts before [] a = refl
+  one_counts before (x ∷ atoms) a = by (is_of_fact source x && list_any (is_written_alike source x) before)
+    where
+      alike = is_written_alike source a
+
+      by : (b : Bool) → (if b then counting_behind source before (atoms ++ a ∷ []) else x ∷ counting_behind source (x ∷ before) (atoms ++ a ∷ []))
+          ≡ (if b then counting_behind source before atoms else x ∷ counting_behind source (x ∷ before) atoms)
+          ++ (if is_of_fact source a && (list_any alike (if b then counting_behind source before atoms else x ∷ counting_behind source (x ∷ before) atoms) || list_any alike before) then [] else a ∷ [])
+      by true = one_counts before atoms a
+      by false =
+          ap (λ xs. x ∷ xs) (one_counts (x ∷ before) atoms a
+          ∙ ap (λ t. counting_behind source (x ∷ before) atoms ++ (if is_of_fact source a && t then [] else a ∷ [])) (or_swap (alike x) (list_any alike (counting_behind source (x ∷ before) atoms)) (list_any alike before)))
+
+  -- atoms that are written alike are facts alike
+  fact_alike : (a x : RawAtom) → is_written_alike source a x ≡ true → is_of_fact source a ≡ is_of_fact source x
+  fact_alike a x alike =
+      let parts = both_true (bytes_eq (said source a.name) (said source x.name)) ((a.args == x.args) && are_nodes_alike source a.nodes x.nodes) alike in
+      ap (λ (name : List ℕ). is_fact_named name) ((bytes_eq-Decides (said source a.name) (said source x.name)).0 parts.0)
+    where
+      is_fact_named : List ℕ → Bool
+      is_fact_named name = unwrap_or (option_map is_of_facts (kind_named source name)) false
+
+  among_facts : (a : RawAtom) (atoms : List RawAtom) → is_of_fact source a ≡ true → list_any (is_written_alike source a) atoms ≡ list_any (is_written_alike source a) (filter (is_of_fact source) atoms)
+  among_facts a [] fact = refl
+  among_facts a (x ∷ atoms) fact = by (is_written_alike source a x) (is_of_fact source x) refl (λ alike. sym (fact_alike a x alike) ∙ fact) (among_facts a atoms fact)
+    where
+      by : (b f : Bool) → is_written_alike source a x ≡ b → (b ≡ true → f ≡ true) → list_any (is_written_alike source a) atoms ≡ list_any (is_written_alike source a) (filter (is_of_fact source) atoms)
+          → (b || list_any (is_written_alike source a) atoms) ≡ list_any (is_written_alike source a) (if f then x ∷ filter (is_of_fact source) atoms else filter (is_of_fact source) atoms)
+      by b true is follows rest = ap (λ t. b || t) rest ∙ ap (λ t. t || list_any (is_written_alike source a) (filter (is_of_fact source) atoms)) (sym is)
+      by true false is follows rest = let never : ◌≡◌ {A = Bool} false true = follows refl in absurd cc
+      by false false is follows rest = rest
+
+  -- whether an atom is a fact that counts behind others
+  abbrev pub is_new : List RawAtom → RawAtom → Bool
+  is_new atoms a = is_of_fact source a && not (list_any (is_written_alike source a) (facts_counting source atoms))
+
+  pub one_fact : (atoms : List RawAtom) (a : RawAtom) → facts_counting source (atoms ++ a ∷ []) ≡ facts_counting source atoms ++ (if is_new atoms a then a ∷ [] else [])
+  one_fact atoms a =
+      ap (filter (is_of_fact source)) (one_counts [] atoms a) ∙ filter-append (is_of_fact source) (counting source atoms) _ ∙ ap (λ xs. facts_counting source atoms ++ xs) (by (is_of_fact source a) refl)
+    where
+      all = list_any (is_written_alike source a) (counting source atoms)
+
+      or_none : (t : Bool) → (t || false) ≡ t
+      or_none true = refl
+      or_none false = refl
+
+      last : (t u : Bool) → is_of_fact source a ≡ true → t ≡ u → filter (is_of_fact source) (if t then [] else a ∷ []) ≡ (if not u then a ∷ [] else [])
+      last true true fact same = refl
+      last false false fact same = rw fact refl
+      last true false fact same = absurd cc
+      last false true fact same = absurd cc
+
+      by : (f : Bool) → is_of_fact source a ≡ f → filter (is_of_fact source) (if f && (all || false) then [] else a ∷ []) ≡ (if f && not (list_any (is_written_alike source a) (facts_counting source atoms)) then a ∷ [] else [])
+      by true fact = last (all || false) (list_any (is_written_alike source a) (facts_counting source atoms)) fact (or_none all ∙ among_facts a (counting source atoms) fact)
+      by false fact = rw fact refl
