@@ -10,3 +10,5 @@ pub mod Sound
 pub mod SoundItems
 pub mod Complete
 pub mod Joined
+pub mod FactKeys
+pub mod FactsNoted

@@ -42,3 +42,8 @@ ArePassed source atoms contexts =
 pub record AreFactsOf (source : Source) (atoms : List RawAtom) (facts : Facts) : Type 0 where
   pub keys : map (λ entry. entry.0) facts.keys ≡ map (atom_key source) (facts_counting source atoms)
   pub size : facts.size ≡ cut (written_size (facts_counting source atoms))
+
+-- These are the facts of the atoms so far, and the contexts that were passed.
+pub record AreNoted (source : Source) (atoms : List RawAtom) (facts : Facts) (contexts : List (List ℕ × ℕ)) : Type 0 where
+  pub facts : AreFactsOf source atoms facts
+  pub passed : ArePassed source atoms contexts

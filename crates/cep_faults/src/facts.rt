@@ -3,10 +3,10 @@ ghost use Rattle.std.specs.Prelude.{◌≡◌, ◌++◌, ◌∷◌, [], List, If
 ghost use Rattle.cep_parse.specs.declared.raw.RawAtom.{RawAtom};
 ghost use Rattle.cep_parse.specs.declared.raw.RawStart.TheVariants as start;
 ghost use Rattle.cep_source.specs.declared.space.Role.TheVariants as role;
-ghost use Rattle.cep_source.specs.Starts.{is_of_fact, listed_or, start_atoms};
+ghost use Rattle.cep_source.specs.Starts.{is_of_fact, listed_or};
 ghost use Rattle.cep_source.specs.Uses.{placed, is_context};
-ghost use Rattle.cep_faults.specs.FactKeys.{name_key, count_key, node_key, atom_key, AreFactsOf, ArePassed, no_facts};
-ghost use Rattle.cep_faults.specs.Totals.{facts_size};
+ghost use Rattle.cep_faults.specs.FactKeys.{name_key, count_key, node_key, atom_key, AreFactsOf, AreNoted, no_facts};
+ghost use Rattle.cep_faults.specs.Totals.{cut, written_size, facts_counting, facts_size};
 
 use crate::atoms::names_context;
 use crate::sizes::Size;
@@ -29,9 +29,8 @@ pub(crate) fn is_of_fact(source: &Source, atom: &RawAtom) -> bool
 fn put_name(name: &[u8], key: &mut Text) -> Result<(), AllocError>
     ensures { OnOk result (key.new ≡ key.old ++ name_key name.now) }
 {
-    for i in 0..name.len() {
-        key.append(b"+")?;
-        key.append(&name[i..i + 1])?;
+    for byte in name {
+        key.append(&[b'+', *byte])?;
     }
     key.append(b".")
 }
@@ -92,9 +91,11 @@ impl Facts {
             return Ok(());
         }
         let key = key_of(source, atom)?;
-        if self.keys.add(key.bytes(), 0)? {
-            self.size = self.size.and(Size::of_one(atom));
+        let is_first = self.keys.add(key.bytes(), 0)?;
+        if !is_first {
+            return Ok(());
         }
+        self.size = self.size.and(Size::of_one(atom));
         Ok(())
     }
 
@@ -114,42 +115,47 @@ impl Facts {
         atom: &RawAtom,
         contexts: &mut FirstPlaces,
     ) -> Result<(), AllocError>
-        ensures { OnOk result ((before : List RawAtom)
-            → AreFactsOf source.now before self.old
-            → ArePassed source.now before contexts.old
-            → AreFactsOf source.now (before ++ listed_or (is_context source.now (placed role.Start atom.now)) source.now atom.now) self.new
-            × ArePassed source.now (before ++ listed_or (is_context source.now (placed role.Start atom.now)) source.now atom.now) contexts.new) }
+        ensures { OnOk result ((before : List RawAtom) → AreNoted source.now before self.old contexts.old
+            → AreNoted source.now (before ++ listed_or (is_context source.now (placed role.Start atom.now)) source.now atom.now) self.new contexts.new) }
     {
         if !names_context(source, Role::Start, atom.name, atom.args) {
             return self.note(source, atom);
         }
-        if contexts.add(source.said(atom.name), 0)? {
-            self.note_all(source, source.listed(atom.name))?;
+        let is_first = contexts.add(source.said(atom.name), 0)?;
+        if !is_first {
+            return Ok(());
         }
-        Ok(())
+        self.note_all(source, source.listed(atom.name))
     }
+}
 
-    // Counts the facts in braces.
-    fn note_braces(&mut self, source: &Source, atoms: &[RawAtom]) -> Result<(), AllocError>
-        requires { self.old ≡ no_facts }
-        ensures { OnOk result (AreFactsOf source.now (start_atoms source.now (start.Listed atoms.now)) self.new) }
-    {
-        let mut contexts = FirstPlaces::new(source.alloc());
-        for atom in atoms {
-            self.note_listed(source, atom, &mut contexts)?;
-        }
-        Ok(())
+// The size of the facts among atoms, each once.
+fn facts_among(source: &Source, atoms: &[RawAtom]) -> Result<Size, AllocError>
+    ensures { IfOk result (λ size. size ≡ cut (written_size (facts_counting source.now atoms.now))) }
+{
+    let mut facts = Facts::new(source.alloc());
+    facts.note_all(source, atoms)?;
+    Ok(facts.size)
+}
+
+// The size of the facts in braces, each once.
+fn facts_in_braces(source: &Source, atoms: &[RawAtom]) -> Result<Size, AllocError>
+    ensures { IfOk result (λ size. size ≡ facts_size source.now (start.Listed atoms.now)) }
+{
+    let mut facts = Facts::new(source.alloc());
+    let mut contexts = FirstPlaces::new(source.alloc());
+    for atom in atoms {
+        facts.note_listed(source, atom, &mut contexts)?;
     }
+    Ok(facts.size)
 }
 
 // The size of the facts of a start state, each once.
 pub(crate) fn facts_of_start(source: &Source, start: &RawStart) -> Result<Size, AllocError>
     ensures { IfOk result (λ size. size ≡ facts_size source.now start.now) }
 {
-    let mut facts = Facts::new(source.alloc());
     match start {
-        RawStart::Named(name) => facts.note_all(source, source.listed(*name))?,
-        RawStart::Listed(atoms) => facts.note_braces(source, atoms.as_slice())?,
+        RawStart::Named(name) => facts_among(source, source.listed(*name)),
+        RawStart::Listed(atoms) => facts_in_braces(source, atoms.as_slice()),
     }
-    Ok(facts.size)
 }

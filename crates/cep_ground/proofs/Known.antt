@@ -61,7 +61,7 @@ con_item_uses source con use_ there inside =
     (contains_flat con_uses (cons_in source is.from) con use_ is.inside inside)))
 
 pred_in_item : (item_ : RawItem) (pred : PredItem) (span : Span) → Contains (preds_in item_) pred → Contains pred.args span → Contains (own_uses item_) (use_in space.Sorts span)
-pred_in_item (item.Pred name args back) pred span there inside =
+pred_in_item (item.Pred name args kind) pred span there inside =
     ⊎_elim
     (λ (same : record { name = name; args = args; back = back } ≡ pred).
     contains_map (use_in space.Sorts) args span (subst (λ (one : PredItem). Contains one.args span) (sym same) inside))

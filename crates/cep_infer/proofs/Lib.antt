@@ -8,3 +8,4 @@ pub mod Unbound
 pub mod GroundStates
 pub mod Drafting
 pub mod Reordered
+pub mod HeldOnce

@@ -1,0 +1,95 @@
+-- Atoms that are gathered one after another, those that pass a test once.
+use Rattle.std.proofs.Common.{◌≡◌, ◌≢◌, ℕ, zero, suc, ◌+◌, ◌<◌, Bool, true, false, ◌&&◌, List, [], ◌∷◌, length, get_or, drop, nat_lt, refl, sym, ap, subst, ◌∙◌}
+use Rattle.std.specs.declared.cmp.Ordering.{Ordering}
+use Rattle.std.specs.declared.cmp.Ordering.TheVariants.{Less, Equal, Greater}
+use Rattle.std.specs.Cmp.{tied_itself}
+use Rattle.std.specs.List.{AllByRecursion}
+use Rattle.std.proofs.lemmas.List.{drop_more}
+use Rattle.cep_term.specs.Tree.{AtomTree, IsGroundAtom}
+use Rattle.cep_term.specs.BagLaws.{BagLaws}
+use Rattle.cep_term.specs.Order.{atom_cmp}
+use Rattle.cep_term.specs.Multiset.{Multiset, count_of, with_one, gathered, held, once, IsBag}
+use Rattle.cep_base.proofs.Elements.{all_at}
+
+held_again : (b : Bool) (n : ℕ) → (b && nat_lt 0 (held b n)) ≡ true → held b (n + 1) ≡ held b n
+held_again true zero there = absurd cc
+held_again true (suc n) there = refl
+held_again false n there = absurd cc
+
+held_first : (b : Bool) (n : ℕ) → (b && nat_lt 0 (held b n)) ≡ false → held b (n + 1) ≡ held b n + 1
+held_first true zero none = refl
+held_first true (suc n) none = absurd cc
+held_first false n none = refl
+
+all_behind : {X : Type 0} (P : X → Type 0) (xs : List X) (n : ℕ) → AllByRecursion P xs → AllByRecursion P (drop n xs)
+all_behind P [] zero all = all
+all_behind P [] (suc n) all = all
+all_behind P (x ∷ xs) zero all = all
+all_behind P (x ∷ xs) (suc n) all = all_behind P xs n all.1
+
+module _ (laws : BagLaws) (test : AtomTree → Bool) where
+  differs : (a x : AtomTree) (o : Ordering) → atom_cmp a x ≡ o → o ≢ Equal → a ≢ x
+  differs a x o is unequal same = unequal (sym is ∙ subst (λ y. atom_cmp a y ≡ Equal) same (tied_itself laws.total a))
+
+  module _ (bag : Multiset) (a : AtomTree) (ground : IsGroundAtom a) (kept : IsBag bag) where
+    more : Multiset
+    more = with_one bag a
+
+    more_kept : IsBag more
+    more_kept = laws.set_kept bag a (count_of bag a + 1) ground kept
+
+    other : (x : AtomTree) (o : Ordering) → atom_cmp x a ≡ o → o ≢ Equal → count_of more x ≡ count_of bag x
+    other x o is unequal = laws.others bag a x (count_of bag a + 1) (differs x a o is unequal)
+
+    -- one that is held once already changes nothing
+    again : (test a && nat_lt 0 (count_of (once test bag) a)) ≡ true → once test more ≡ once test bag
+    again there = laws.equal (once test more) (once test bag) (laws.once_kept test more more_kept) (laws.once_kept test bag kept)
+        (λ x. laws.once_count test more x ∙ by x (atom_cmp x a) refl ∙ sym (laws.once_count test bag x))
+      where
+        own : held (test a) (count_of more a) ≡ held (test a) (count_of bag a)
+        own = ap (held (test a)) (laws.own bag a (count_of bag a + 1))
+            ∙ held_again (test a) (count_of bag a) (ap (λ n. test a && nat_lt 0 n) (sym (laws.once_count test bag a)) ∙ there)
+
+        by : (x : AtomTree) (o : Ordering) → atom_cmp x a ≡ o → held (test x) (count_of more x) ≡ held (test x) (count_of bag x)
+        by x Less is = ap (held (test x)) (other x Less is (λ e. cc))
+        by x Equal is = subst (λ y. held (test y) (count_of more y) ≡ held (test y) (count_of bag y)) (sym (laws.ties x a is)) own
+        by x Greater is = ap (held (test x)) (other x Greater is (λ e. cc))
+
+    -- and any other is added
+    first : (test a && nat_lt 0 (count_of (once test bag) a)) ≡ false → once test more ≡ with_one (once test bag) a
+    first none = laws.equal (once test more) (with_one (once test bag) a) (laws.once_kept test more more_kept) (laws.set_kept (once test bag) a (count_of (once test bag) a + 1) ground (laws.once_kept test bag kept))
+        (λ x. laws.once_count test more x ∙ by x (atom_cmp x a) refl)
+      where
+        own : held (test a) (count_of more a) ≡ count_of (with_one (once test bag) a) a
+        own = ap (held (test a)) (laws.own bag a (count_of bag a + 1))
+            ∙ held_first (test a) (count_of bag a) (ap (λ n. test a && nat_lt 0 n) (sym (laws.once_count test bag a)) ∙ none)
+            ∙ ap (λ n. n + 1) (sym (laws.once_count test bag a)) ∙ sym (laws.own (once test bag) a (count_of (once test bag) a + 1))
+
+        aside : (x : AtomTree) (o : Ordering) → atom_cmp x a ≡ o → o ≢ Equal → held (test x) (count_of more x) ≡ count_of (with_one (once test bag) a) x
+        aside x o is unequal = ap (held (test x)) (other x o is unequal) ∙ sym (laws.once_count test bag x)
+            ∙ sym (laws.others (once test bag) a x (count_of (once test bag) a + 1) (differs x a o is unequal))
+
+        by : (x : AtomTree) (o : Ordering) → atom_cmp x a ≡ o → held (test x) (count_of more x) ≡ count_of (with_one (once test bag) a) x
+        by x Less is = aside x Less is (λ e. cc)
+        by x Equal is = subst (λ y. held (test y) (count_of more y) ≡ count_of (with_one (once test bag) a) y) (sym (laws.ties x a is)) own
+        by x Greater is = aside x Greater is (λ e. cc)
+
+  -- the atom before those that were gathered
+  module _ (atoms : List AtomTree) (k : ℕ) (a : AtomTree) (old : Multiset) (within : k < length atoms) (at : get_or atoms k a ≡ a) (all : AllByRecursion IsGroundAtom atoms) (was : old ≡ once test (gathered (drop (k + 1) atoms))) where
+    behind : Multiset
+    behind = gathered (drop (k + 1) atoms)
+
+    behind_kept : IsBag behind
+    behind_kept = laws.gathered_kept (drop (k + 1) atoms) (all_behind IsGroundAtom atoms (k + 1) all)
+
+    ground : IsGroundAtom a
+    ground = all_at IsGroundAtom atoms a all (k, within, at)
+
+    dropped : drop k atoms ≡ a ∷ drop (k + 1) atoms
+    dropped = drop_more atoms k a within ∙ ap (λ x. x ∷ drop (k + 1) atoms) at
+
+    pub passed_over : (test a && nat_lt 0 (count_of old a)) ≡ true → old ≡ once test (gathered (drop k atoms))
+    passed_over there = was ∙ sym (again behind a ground behind_kept (ap (λ bag. test a && nat_lt 0 (count_of bag a)) (sym was) ∙ there)) ∙ ap (λ xs. once test (gathered xs)) (sym dropped)
+
+    pub added : (new : Multiset) → (test a && nat_lt 0 (count_of old a)) ≡ false → new ≡ with_one old a → new ≡ once test (gathered (drop k atoms))
+    added new none is = is ∙ ap (λ bag. with_one bag a) was ∙ sym (first behind a ground behind_kept (ap (λ bag. test a && nat_lt 0 (count_of bag a)) (sym was) ∙ none)) ∙ ap (λ xs. once test (gathered xs)) (sym dropped)
