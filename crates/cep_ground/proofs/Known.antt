@@ -61,12 +61,12 @@ con_item_uses source con use_ there inside =
     (contains_flat con_uses (cons_in source is.from) con use_ is.inside inside)))
 
 pred_in_item : (item_ : RawItem) (pred : PredItem) (span : Span) → Contains (preds_in item_) pred → Contains pred.args span → Contains (own_uses item_) (use_in space.Sorts span)
-pred_in_item (item.Pred name args kind) pred span there inside =
+pred_in_item (item.Pred name args of_kind) pred span there inside =
     ⊎_elim
-    (λ (same : record { name = name; args = args; back = back } ≡ pred).
+    (λ (same : record { name = name; args = args; kind = of_kind } ≡ pred).
     contains_map (use_in space.Sorts) args span (subst (λ (one : PredItem). Contains one.args span) (sym same) inside))
     (λ later. absurd (contains_none pred later))
-    (contains_cases (record { name = name; args = args; back = back }) [] pred there)
+    (contains_cases (record { name = name; args = args; kind = of_kind }) [] pred there)
 pred_in_item _ pred span there inside = absurd (contains_none pred there)
 
 -- and those of a predicate's

@@ -92,7 +92,7 @@ module _ (source : Source) (clean : IsClean source) (items : AllByRecursion (IsI
   stage_at _ span is there = absurd (contains_none span there)
 
   pred_at : (item_ : RawItem) (pred : PredItem) → IsItemOf clean.is_source.tokens item_ → Contains (preds_in item_) pred → IsNameAt clean.is_source.tokens pred.name
-  pred_at (item.Pred name args kind) pred is there = ⊎_elim (λ (same : record { name = name; args = args; kind = kind } ≡ pred). subst (λ (p : PredItem). IsNameAt clean.is_source.tokens p.name) same is.0) (λ later. absurd (contains_none pred later)) (contains_cases (record { name = name; args = args; kind = kind }) [] pred there)
+  pred_at (item.Pred name args of_kind) pred is there = ⊎_elim (λ (same : record { name = name; args = args; kind = of_kind } ≡ pred). subst (λ (p : PredItem). IsNameAt clean.is_source.tokens p.name) same is.0) (λ later. absurd (contains_none pred later)) (contains_cases (record { name = name; args = args; kind = of_kind }) [] pred there)
   pred_at _ pred is there = absurd (contains_none pred there)
 
   con_by_label : (labelled : Bool) (one con : ConItem) → IsNameAt clean.is_source.tokens one.name → Contains (con_or_none labelled one) con → IsNameAt clean.is_source.tokens con.name

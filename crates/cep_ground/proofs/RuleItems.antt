@@ -40,7 +40,7 @@ behind_is : (item_ : RawItem) (stages : ℕ) → stages_behind stages item_ ≡ 
 behind_is (item.Outer raw) stages = omega arith
 behind_is (item.Stage name rules) stages = omega arith
 behind_is (item.Sort name) stages = omega arith
-behind_is (item.Pred name args kind) stages = omega arith
+behind_is (item.Pred name args of_kind) stages = omega arith
 behind_is (item.Colon left args right) stages = omega arith
 behind_is (item.Clause label head goals) stages = omega arith
 behind_is (item.Context name atoms) stages = omega arith

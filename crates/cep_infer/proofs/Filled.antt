@@ -57,7 +57,7 @@ module _ (tokens : List Token) where
 
   own_placed : (item_ : RawItem) → IsItemOf tokens item_ → AllByRecursion IsWell (own_atoms item_)
   own_placed (item.Sort name) is = tt
-  own_placed (item.Pred name args kind) is = tt
+  own_placed (item.Pred name args of_kind) is = tt
   own_placed (item.Colon left args right) is = tt
   own_placed (item.Clause label head goals) is = tt
   own_placed (item.Outer rule) is = rule_placed rule is
@@ -72,7 +72,7 @@ module _ (tokens : List Token) where
 
   clause_placed : (source : Source) (item_ : RawItem) → IsItemOf tokens item_ → AllByRecursion IsWell (flat_map clause_atoms (clauses_in source item_))
   clause_placed source (item.Sort name) is = tt
-  clause_placed source (item.Pred name args kind) is = tt
+  clause_placed source (item.Pred name args of_kind) is = tt
   clause_placed source (item.Colon left args right) is = labelled_placed (is_labelled source args right) right is.2
   clause_placed source (item.Clause label head goals) is = both_all IsWell (clause_atoms (record { head = head; goals = goals })) [] (placed_all role.Clause (head ∷ goals) is.1) tt
   clause_placed source (item.Outer rule) is = tt

@@ -46,6 +46,6 @@ item_scopes (item.Clause label head goals) = (head ∷ goals) ∷ []
 item_scopes (item.Context name atoms) = map (λ atom. atom ∷ []) atoms
 item_scopes (item.Trace at limit stage start) = map (λ atom. atom ∷ []) (start_listed start)
 item_scopes (item.Sort name) = []
-item_scopes (item.Pred name args declared) = []
+item_scopes (item.Pred name args of_kind) = []
 item_scopes (item.Colon left args right) = []
 item_scopes (item.Interactive name) = []
