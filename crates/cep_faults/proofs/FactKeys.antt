@@ -1,15 +1,17 @@
 -- The facts that count, one atom after another, and the keys by which they are told apart.
-use Rattle.std.proofs.Common.{◌≡◌, ℕ, zero, suc, ◌+◌, ◌==◌, min, Bool, true, false, ◌&&◌, ◌||◌, not, if◌then◌else◌, List, [], ◌∷◌, ◌++◌, length, map, filter, refl, sym, ap, subst, ◌∙◌, append_assoc, arith, Contains, replicate}
+use Rattle.std.proofs.Common.{◌≡◌, ℕ, zero, suc, ◌+◌, ◌==◌, min, Bool, true, false, ◌&&◌, ◌||◌, not, if◌then◌else◌, List, [], ◌∷◌, ◌++◌, length, map, filter, unwrap_or, refl, sym, ap, subst, ◌∙◌, append_assoc, arith, Contains, replicate}
 use Rattle.std.specs.Str.{bytes_eq}
 use Rattle.std.specs.List.{flat_map, list_any, sum_by}
 use Rattle.std.specs.Cmp.{both_ways}
-use Rattle.std.proofs.lemmas.Bool.{eqb-true}
+use Rattle.std.specs.Option.{option_map}
+use Rattle.std.proofs.lemmas.Bool.{eqb-true, eq-eqb}
 use Rattle.std.proofs.lemmas.List.{append-nil, map-append}
 use Rattle.std.proofs.lemmas.List.Elements.{filter-append}
 use Rattle.std.proofs.lemmas.List.Sums.{sum_by-cons, sum_by-append}
 use Rattle.std.proofs.lemmas.Slice.Eq.{bytes_eq-Decides}
 use Rattle.cep_parse.specs.declared.raw.RawNode.{RawNode}
 use Rattle.cep_parse.specs.declared.raw.RawAtom.{RawAtom}
+use Rattle.cep_base.specs.Kinds.{is_of_facts}
 use Rattle.cep_source.specs.Items.{Source, said}
 use Rattle.cep_source.specs.Spaces.{kind_named}
 use Rattle.cep_source.specs.Firsts.{has_name}
@@ -23,11 +25,20 @@ both_true false b e = absurd cc
 
 -- Keys
 
+first_byte : (a b : ℕ) (xs ys : List ℕ) → a ∷ xs ≡ b ∷ ys → a ≡ b
+first_byte a b xs ys e = cc
+
+stop_or_mark : (xs ys : List ℕ) → stop ∷ xs ≡ mark ∷ ys → ⊥
+stop_or_mark xs ys e = let here : ◌≡◌ {A = ℕ} 46 43 = first_byte 46 43 xs ys e in omega arith
+
+mark_or_stop : (xs ys : List ℕ) → mark ∷ xs ≡ stop ∷ ys → ⊥
+mark_or_stop xs ys e = let here : ◌≡◌ {A = ℕ} 43 46 = first_byte 43 46 xs ys e in omega arith
+
 -- a name's key ends by itself
 name_again : (one other rest rest' : List ℕ) → name_key one ++ rest ≡ name_key other ++ rest' → (one ≡ other) × (rest ≡ rest')
 name_again [] [] rest rest' e = (refl, cc)
-name_again [] (y ∷ other) rest rest' e = absurd cc
-name_again (x ∷ one) [] rest rest' e = absurd cc
+name_again [] (y ∷ other) rest rest' e = absurd (stop_or_mark rest (y ∷ name_key other ++ rest') e)
+name_again (x ∷ one) [] rest rest' e = absurd (mark_or_stop (x ∷ name_key one ++ rest) rest' e)
 name_again (x ∷ one) (y ∷ other) rest rest' e =
     let more = name_again one other rest rest' cc in
     let here : x ≡ y = cc in
@@ -36,18 +47,12 @@ name_again (x ∷ one) (y ∷ other) rest rest' e =
 -- and so does that of a number
 count_again : (n m : ℕ) (rest rest' : List ℕ) → count_key n ++ rest ≡ count_key m ++ rest' → (n ≡ m) × (rest ≡ rest')
 count_again zero zero rest rest' e = (refl, cc)
-count_again zero (suc m) rest rest' e = absurd cc
-count_again (suc n) zero rest rest' e = absurd cc
+count_again zero (suc m) rest rest' e = absurd (stop_or_mark rest (count_key m ++ rest') e)
+count_again (suc n) zero rest rest' e = absurd (mark_or_stop (count_key n ++ rest) rest' e)
 count_again (suc n) (suc m) rest rest' e = let more = count_again n m rest rest' cc in (ap suc more.0, more.1)
 
 same_bytes : (one other : List ℕ) → one ≡ other → bytes_eq one other ≡ true
 same_bytes one other is = (bytes_eq-Decides one other).1 is
-
-eqb_same : (n m : ℕ) → n ≡ m → (n == m) ≡ true
-eqb_same zero zero is = refl
-eqb_same zero (suc m) is = absurd cc
-eqb_same (suc n) zero is = absurd cc
-eqb_same (suc n) (suc m) is = eqb_same n m cc
 
 both_hold : (a b : Bool) → a ≡ true → b ≡ true → (a && b) ≡ true
 both_hold a b one other = ap (λ x. x && b) one ∙ other
@@ -70,7 +75,7 @@ module _ (source : Source) where
           (sym (append_assoc (name_key (said source one.at)) (count_key one.args) (flat_map (node_key source) ones)) ∙ e ∙ append_assoc (name_key (said source other.at)) (count_key other.args) (flat_map (node_key source) others)) in
       let second = count_again one.args other.args (flat_map (node_key source) ones) (flat_map (node_key source) others) first.1 in
       both_hold (is_node_alike source one other) (are_nodes_alike source ones others)
-          (both_hold (bytes_eq (said source one.at) (said source other.at)) (one.args == other.args) (same_bytes (said source one.at) (said source other.at) first.0) (eqb_same one.args other.args second.0))
+          (both_hold (bytes_eq (said source one.at) (said source other.at)) (one.args == other.args) (same_bytes (said source one.at) (said source other.at) first.0) (eq-eqb one.args other.args second.0))
           (nodes_again ones others second.1)
 
   nodes_keyed : (ones others : List RawNode) → are_nodes_alike source ones others ≡ true → flat_map (node_key source) ones ≡ flat_map (node_key source) others
@@ -92,14 +97,15 @@ module _ (source : Source) where
       let same = (bytes_eq-Decides (atom_key source one) (atom_key source other)).0 e in
       let first = name_again (said source one.name) (said source other.name) (count_key one.args ++ flat_map (node_key source) one.nodes) (count_key other.args ++ flat_map (node_key source) other.nodes) same in
       let second = count_again one.args other.args (flat_map (node_key source) one.nodes) (flat_map (node_key source) other.nodes) first.1 in
-      both_hold (bytes_eq (said source one.name) (said source other.name)) ((one.args == other.args) && are_nodes_alike source one.nodes other.nodes) (same_bytes (said source one.name) (said source other.name) first.0)
-      (both_hold (one.args == other.args) (are_nodes_alike source one.nodes other.nodes) (eqb_same one.args other.args second.0) (nodes_again one.nodes other.nodes second.1)))
+      both_hold (bytes_eq (said source one.name) (said source other.name) && (one.args == other.args)) (are_nodes_alike source one.nodes other.nodes)
+      (both_hold (bytes_eq (said source one.name) (said source other.name)) (one.args == other.args) (same_bytes (said source one.name) (said source other.name) first.0) (eq-eqb one.args other.args second.0))
+      (nodes_again one.nodes other.nodes second.1))
       (λ alike.
-      let parts = both_true (bytes_eq (said source one.name) (said source other.name)) ((one.args == other.args) && are_nodes_alike source one.nodes other.nodes) alike in
-      let rest = both_true (one.args == other.args) (are_nodes_alike source one.nodes other.nodes) parts.1 in
-      let name = (bytes_eq-Decides (said source one.name) (said source other.name)).0 parts.0 in
-      let count = eqb-true one.args other.args rest.0 in
-      let nodes = nodes_keyed one.nodes other.nodes rest.1 in
+      let parts = both_true (bytes_eq (said source one.name) (said source other.name) && (one.args == other.args)) (are_nodes_alike source one.nodes other.nodes) alike in
+      let heads = both_true (bytes_eq (said source one.name) (said source other.name)) (one.args == other.args) parts.0 in
+      let name = (bytes_eq-Decides (said source one.name) (said source other.name)).0 heads.0 in
+      let count = eqb-true one.args other.args heads.1 in
+      let nodes = nodes_keyed one.nodes other.nodes parts.1 in
       same_bytes (atom_key source one) (atom_key source other) (λ i. name_key (name i) ++ (count_key (count i) ++ nodes i)))
 
   -- Facts that count
@@ -114,28 +120,33 @@ module _ (source : Source) where
   one_counts : (before atoms : List RawAtom) (a : RawAtom)
       → counting_behind source before (atoms ++ a ∷ []) ≡ counting_behind source before atoms ++ (if is_of_fact source a && (list_any (is_written_alike source a) (counting_behind source before atoms) || list_any (is_written_alike source a) before) then [] else a ∷ [])
   one_counts before [] a = refl
-  one_counts before (x ∷ atoms) a = by (is_of_fact source x && list_any (is_written_alike source x) before)
+  one_counts before (x ∷ atoms) a = by (is_of_fact source x && list_any (is_written_alike source x) before) (one_counts before atoms a) (one_counts (x ∷ before) atoms a)
     where
-      alike = is_written_alike source a
+      alike : RawAtom → Bool
+      alike other = is_written_alike source a other
 
-      by : (b : Bool) → (if b then counting_behind source before (atoms ++ a ∷ []) else x ∷ counting_behind source (x ∷ before) (atoms ++ a ∷ []))
+      counts : List RawAtom → Type 0
+      counts before = counting_behind source before (atoms ++ a ∷ []) ≡ counting_behind source before atoms ++ (if is_of_fact source a && (list_any alike (counting_behind source before atoms) || list_any alike before) then [] else a ∷ [])
+
+      by : (b : Bool) → counts before → counts (x ∷ before) → (if b then counting_behind source before (atoms ++ a ∷ []) else x ∷ counting_behind source (x ∷ before) (atoms ++ a ∷ []))
           ≡ (if b then counting_behind source before atoms else x ∷ counting_behind source (x ∷ before) atoms)
           ++ (if is_of_fact source a && (list_any alike (if b then counting_behind source before atoms else x ∷ counting_behind source (x ∷ before) atoms) || list_any alike before) then [] else a ∷ [])
-      by true = one_counts before atoms a
-      by false =
-          ap (λ xs. x ∷ xs) (one_counts (x ∷ before) atoms a
+      by true one other = one
+      by false one other =
+          ap (λ xs. x ∷ xs) (other
           ∙ ap (λ t. counting_behind source (x ∷ before) atoms ++ (if is_of_fact source a && t then [] else a ∷ [])) (or_swap (alike x) (list_any alike (counting_behind source (x ∷ before) atoms)) (list_any alike before)))
 
   -- atoms that are written alike are facts alike
   fact_alike : (a x : RawAtom) → is_written_alike source a x ≡ true → is_of_fact source a ≡ is_of_fact source x
   fact_alike a x alike =
-      let parts = both_true (bytes_eq (said source a.name) (said source x.name)) ((a.args == x.args) && are_nodes_alike source a.nodes x.nodes) alike in
-      ap (λ (name : List ℕ). is_fact_named name) ((bytes_eq-Decides (said source a.name) (said source x.name)).0 parts.0)
+      let parts = both_true (bytes_eq (said source a.name) (said source x.name) && (a.args == x.args)) (are_nodes_alike source a.nodes x.nodes) alike in
+      let heads = both_true (bytes_eq (said source a.name) (said source x.name)) (a.args == x.args) parts.0 in
+      ap (λ (name : List ℕ). is_fact_named name) ((bytes_eq-Decides (said source a.name) (said source x.name)).0 heads.0)
     where
       is_fact_named : List ℕ → Bool
       is_fact_named name = unwrap_or (option_map is_of_facts (kind_named source name)) false
 
-  among_facts : (a : RawAtom) (atoms : List RawAtom) → is_of_fact source a ≡ true → list_any (is_written_alike source a) atoms ≡ list_any (is_written_alike source a) (filter (is_of_fact source) atoms)
+  pub among_facts : (a : RawAtom) (atoms : List RawAtom) → is_of_fact source a ≡ true → list_any (is_written_alike source a) atoms ≡ list_any (is_written_alike source a) (filter (is_of_fact source) atoms)
   among_facts a [] fact = refl
   among_facts a (x ∷ atoms) fact = by (is_written_alike source a x) (is_of_fact source x) refl (λ alike. sym (fact_alike a x alike) ∙ fact) (among_facts a atoms fact)
     where
@@ -153,6 +164,7 @@ module _ (source : Source) where
   one_fact atoms a =
       ap (filter (is_of_fact source)) (one_counts [] atoms a) ∙ filter-append (is_of_fact source) (counting source atoms) _ ∙ ap (λ xs. facts_counting source atoms ++ xs) (by (is_of_fact source a) refl)
     where
+      all : Bool
       all = list_any (is_written_alike source a) (counting source atoms)
 
       or_none : (t : Bool) → (t || false) ≡ t

@@ -1,7 +1,8 @@
 -- The facts that were noted, atom by atom.
-use Rattle.std.proofs.Common.{◌≡◌, ℕ, zero, suc, ◌==◌, ⊥, ◌⊎◌, inl, inr, ◌+◌, ◌<◌, min, Bool, true, false, ◌&&◌, ◌||◌, not, if◌then◌else◌, List, [], ◌∷◌, ◌++◌, length, get_or, take, map, refl, sym, ap, subst, ◌∙◌, append_assoc, append-nil, length-append, arith, Contains}
+use Rattle.std.proofs.Common.{◌≡◌, ℕ, zero, suc, ◌==◌, ◌⊎◌, ⊎_elim, ◌+◌, ◌<◌, min, Bool, true, false, ◌&&◌, ◌||◌, not, if◌then◌else◌, List, [], ◌∷◌, ◌++◌, length, get_or, take, map, refl, sym, ap, subst, ◌∙◌, append_assoc, append-nil, length-append, arith, Contains}
 use Rattle.std.specs.Str.{bytes_eq}
 use Rattle.std.specs.List.{flat_map, list_any, sum_by}
+use Rattle.std.proofs.lemmas.Bool.{eq-eqb}
 use Rattle.std.proofs.lemmas.Grind.{flat_map-append}
 use Rattle.std.proofs.lemmas.List.{take_more, map-append}
 use Rattle.std.proofs.lemmas.List.Folds.{list_any-append}
@@ -22,6 +23,7 @@ use Rattle.cep_faults.specs.declared.facts.Facts.{Facts}
 use Rattle.cep_faults.specs.declared.sizes.Size.{Size}
 use Rattle.cep_faults.specs.Totals.{cut, total_size, written_size, most_counted, facts_counting}
 use Rattle.cep_faults.specs.FactKeys.{atom_key, no_facts, AreFactsOf, ArePassed, AreNoted}
+use Rattle.cep_faults.proofs.AtomSizes.{joined_size}
 use Rattle.cep_faults.proofs.FactKeys.{keys_tell, is_new, one_fact, among_facts}
 
 or_true : (b : Bool) → (b || true) ≡ true
@@ -42,23 +44,19 @@ both_parts : (a b : Bool) → (a && b) ≡ true → (a ≡ true) × (b ≡ true)
 both_parts true b e = (refl, e)
 both_parts false b e = absurd cc
 
-cut_both : (a b m : ℕ) → min (min a m + min b m) m ≡ min (a + b) m
-cut_both a b m = omega arith
-
 same_bytes : (name : List ℕ) → bytes_eq name name ≡ true
 same_bytes name = (bytes_eq-Decides name name).1 refl
 
 same_number : (n : ℕ) → (n == n) ≡ true
-same_number zero = refl
-same_number (suc n) = same_number n
+same_number n = eq-eqb n n refl
 
 pub not_true : (a b : Bool) → a ≡ not b → a ≡ false → b ≡ true
-not_true a true is no = refl
-not_true a false is no = absurd cc
+not_true a true is was = refl
+not_true a false is was = absurd cc
 
 pub not_false : (a b : Bool) → a ≡ not b → a ≡ true → b ≡ false
-not_false a true is yes = absurd cc
-not_false a false is yes = refl
+not_false a true is was = absurd cc
+not_false a false is was = refl
 
 module _ (source : Source) where
   abbrev alike : RawAtom → RawAtom → Bool
@@ -72,20 +70,32 @@ module _ (source : Source) where
 
   itself : (atom : RawAtom) → alike atom atom ≡ true
   itself atom =
-      ap (λ b. b && ((atom.args == atom.args) && are_nodes_alike source atom.nodes atom.nodes)) (same_bytes (said source atom.name))
+      ap (λ b. b && (atom.args == atom.args) && are_nodes_alike source atom.nodes atom.nodes) (same_bytes (said source atom.name))
       ∙ ap (λ b. b && are_nodes_alike source atom.nodes atom.nodes) (same_number atom.args) ∙ nodes_alike atom.nodes
 
   -- an atom that was listed is written like one that counts
-  seen_alike : (before atoms : List RawAtom) (x : RawAtom) → Contains atoms x → (list_any (alike x) (counting_behind source before atoms) || list_any (alike x) before) ≡ true
+  abbrev is_seen : List RawAtom → List RawAtom → RawAtom → Bool
+  is_seen before atoms x = list_any (alike x) (counting_behind source before atoms) || list_any (alike x) before
+
+  seen_first : (b : Bool) (before atoms : List RawAtom) (y x : RawAtom) → (is_of_fact source y && list_any (alike y) before) ≡ b → y ≡ x
+      → (list_any (alike x) (if b then counting_behind source before atoms else y ∷ counting_behind source (y ∷ before) atoms) || list_any (alike x) before) ≡ true
+  seen_first true before atoms y x is same =
+      ap (λ t. list_any (alike x) (counting_behind source before atoms) || t) (subst (λ z. list_any (alike z) before ≡ true) same (both_parts (is_of_fact source y) (list_any (alike y) before) is).1)
+      ∙ or_true (list_any (alike x) (counting_behind source before atoms))
+  seen_first false before atoms y x is same =
+      ap (λ t. (t || list_any (alike x) (counting_behind source (y ∷ before) atoms)) || list_any (alike x) before) (subst (λ z. alike x z ≡ true) (sym same) (itself x))
+
+  seen_later : (b : Bool) (before atoms : List RawAtom) (y x : RawAtom) → is_seen before atoms x ≡ true → is_seen (y ∷ before) atoms x ≡ true
+      → (list_any (alike x) (if b then counting_behind source before atoms else y ∷ counting_behind source (y ∷ before) atoms) || list_any (alike x) before) ≡ true
+  seen_later true before atoms y x here there = here
+  seen_later false before atoms y x here there = sym (or_move (list_any (alike x) (counting_behind source (y ∷ before) atoms)) (alike x y) (list_any (alike x) before)) ∙ there
+
+  seen_alike : (before atoms : List RawAtom) (x : RawAtom) → Contains atoms x → is_seen before atoms x ≡ true
   seen_alike before [] x there = absurd (contains_none x there)
-  seen_alike before (y ∷ atoms) x there = by (is_of_fact source y && list_any (alike y) before) refl (contains_cases y atoms x there)
-    where
-      by : (b : Bool) → (is_of_fact source y && list_any (alike y) before) ≡ b → (y ≡ x) ⊎ Contains atoms x
-          → (list_any (alike x) (if b then counting_behind source before atoms else y ∷ counting_behind source (y ∷ before) atoms) || list_any (alike x) before) ≡ true
-      by true is (inl same) = ap (λ t. list_any (alike x) (counting_behind source before atoms) || t) (subst (λ z. list_any (alike z) before ≡ true) same (both_parts (is_of_fact source y) (list_any (alike y) before) is).1) ∙ or_true _
-      by true is (inr later) = seen_alike before atoms x later
-      by false is (inl same) = ap (λ t. (t || list_any (alike x) (counting_behind source (y ∷ before) atoms)) || list_any (alike x) before) (subst (λ z. alike x z ≡ true) (sym same) (itself x))
-      by false is (inr later) = sym (or_move (list_any (alike x) (counting_behind source (y ∷ before) atoms)) (alike x y) (list_any (alike x) before)) ∙ seen_alike (y ∷ before) atoms x later
+  seen_alike before (y ∷ atoms) x there =
+      ⊎_elim (λ (same : y ≡ x). seen_first (is_of_fact source y && list_any (alike y) before) before atoms y x refl same)
+      (λ later. seen_later (is_of_fact source y && list_any (alike y) before) before atoms y x (seen_alike before atoms x later) (seen_alike (y ∷ before) atoms x later))
+      (contains_cases y atoms x there)
 
   -- so a fact that was listed is not new
   not_new : (atoms : List RawAtom) (x : RawAtom) → Contains atoms x → is_new source atoms x ≡ false
@@ -121,7 +131,7 @@ module _ (source : Source) where
   -- one atom more
   module _ (a : RawAtom) (old new : Facts) (atoms : List RawAtom) (so_far : AreFactsOf source atoms old) where
     pub no_fact : is_of_fact source a ≡ false → AreFactsOf source (atoms ++ a ∷ []) old
-    no_fact no = told_as atoms (atoms ++ a ∷ []) old (same_facts atoms a (ap (λ (b : Bool). b && not (list_any (alike a) (facts_counting source atoms))) no)) so_far
+    no_fact is = told_as atoms (atoms ++ a ∷ []) old (same_facts atoms a (ap (λ (b : Bool). b && not (list_any (alike a) (facts_counting source atoms))) is)) so_far
 
     module _ (key : List ℕ) (fact : is_of_fact source a ≡ true) (key_is : key ≡ atom_key source a) where
       news : (b : Bool) → has_name old.keys key ≡ b → is_new source atoms a ≡ not b
@@ -129,42 +139,36 @@ module _ (source : Source) where
 
       pub again : has_name old.keys key ≡ true → new.keys ≡ old.keys → new.size ≡ old.size → AreFactsOf source (atoms ++ a ∷ []) new
       again has keys size = record {
-        keys = keys ∙ so_far.keys ∙ ap (map (atom_key source)) (sym (same_facts atoms a (news true has)));
+        keys = ap (map (λ entry. entry.0)) keys ∙ so_far.keys ∙ ap (map (atom_key source)) (sym (same_facts atoms a (news true has)));
         size = size ∙ so_far.size ∙ ap (λ (xs : List RawAtom). cut (written_size xs)) (sym (same_facts atoms a (news true has)));
       }
 
       more_facts : has_name old.keys key ≡ false → facts_counting source (atoms ++ a ∷ []) ≡ facts_counting source atoms ++ a ∷ []
       more_facts has = one_fact source atoms a ∙ ap (λ (b : Bool). facts_counting source atoms ++ (if b then a ∷ [] else [])) (news false has)
 
-      sizes : (facts : List RawAtom) → cut (total_size (cut (written_size facts) ∷ cut (written_size (a ∷ [])) ∷ [])) ≡ cut (written_size (facts ++ a ∷ []))
-      sizes facts = λ i. record {
-        copies = (cut_both (length facts) 1 most_counted ∙ ap (λ n. min n most_counted) (sym (length-append facts (a ∷ [])))) i;
-        nodes = (cut_both (sum_by nodes_written facts) (sum_by nodes_written (a ∷ [])) most_counted ∙ ap (λ n. min n most_counted) (sym (sum_by-append nodes_written facts (a ∷ [])))) i;
-      }
-
       pub first : (one : Size) → has_name old.keys key ≡ false → new.keys ≡ old.keys ++ (key, 0) ∷ [] → one ≡ cut (written_size (a ∷ [])) → new.size ≡ cut (total_size (old.size ∷ one ∷ [])) → AreFactsOf source (atoms ++ a ∷ []) new
       first one has keys one_is size = record {
         keys = ap (map (λ entry. entry.0)) keys ∙ map-append (λ entry. entry.0) old.keys ((key, 0) ∷ []) ∙ (λ i. so_far.keys i ++ key_is i ∷ [])
             ∙ sym (map-append (atom_key source) (facts_counting source atoms) (a ∷ [])) ∙ ap (map (atom_key source)) (sym (more_facts has));
-        size = size ∙ (λ i. cut (total_size (so_far.size i ∷ one_is i ∷ []))) ∙ sizes (facts_counting source atoms) ∙ ap (λ (xs : List RawAtom). cut (written_size xs)) (sym (more_facts has));
+        size = size ∙ (λ i. cut (total_size (so_far.size i ∷ one_is i ∷ []))) ∙ joined_size (facts_counting source atoms) (a ∷ []) ∙ ap (λ (xs : List RawAtom). cut (written_size xs)) (sym (more_facts has));
       }
 
   -- before any atom
-  pub none_noted : AreFactsOf source [] no_facts
-  none_noted = record { keys = refl; size = refl }
+  pub none_noted : (facts : Facts) → facts ≡ no_facts → AreFactsOf source [] facts
+  none_noted facts is = record { keys = ap (λ (other : Facts). map (λ entry. entry.0) other.keys) is; size = ap (λ (other : Facts). other.size) is }
 
   -- one atom in braces more, as it stands, or as a context for the first time, or again
   module _ (before : List RawAtom) (old : Facts) (contexts : List (List ℕ × ℕ)) (noted : AreNoted source before old contexts) (atom : RawAtom) (b : Bool) where
-    listed : List RawAtom
+    abbrev pub listed : List RawAtom
     listed = listed_or b source atom
 
     passed_still : ArePassed source (before ++ listed) contexts
-    passed_still name has raw there = contains_left before listed raw (noted.passed name has raw there)
+    passed_still name has raw there = contains_left before listed raw (noted.are_passed name has raw there)
 
     pub atom_noted : (new : Facts) → b ≡ false → (AreFactsOf source before old → AreFactsOf source (before ++ atom ∷ []) new) → AreNoted source (before ++ listed) new contexts
     atom_noted new is more = record {
-      facts = subst (λ c. AreFactsOf source (before ++ listed_or c source atom) new) (sym is) (more noted.facts);
-      passed = passed_still;
+      are_facts = subst (λ c. AreFactsOf source (before ++ listed_or c source atom) new) (sym is) (more noted.are_facts);
+      are_passed = passed_still;
     }
 
     module _ (is : b ≡ true) (name : List ℕ) (name_is : name ≡ said source atom.name) where
@@ -173,20 +177,20 @@ module _ (source : Source) where
 
       pub context_again : has_name contexts name ≡ true → AreNoted source (before ++ listed) old contexts
       context_again has = record {
-        facts = told_as before (before ++ listed) old (repeated before listed (λ raw there. noted.passed name has raw (subst (λ xs. Contains xs raw) are there))) noted.facts;
-        passed = passed_still;
+        are_facts = told_as before (before ++ listed) old (repeated before listed (λ raw there. noted.are_passed name has raw (subst (λ xs. Contains xs raw) are there))) noted.are_facts;
+        are_passed = passed_still;
       }
 
       pub context_first : (new : Facts) (later : List (List ℕ × ℕ)) (atoms : List RawAtom) → atoms ≡ listed_in (context_named source (said source atom.name)) → later ≡ contexts ++ (name, 0) ∷ []
           → (AreFactsOf source before old → AreFactsOf source (before ++ atoms) new) → AreNoted source (before ++ listed) new later
       context_first new later atoms same later_is more = record {
-        facts = subst (λ xs. AreFactsOf source (before ++ xs) new) (same ∙ sym (ap (λ c. listed_or c source atom) is)) (more noted.facts);
-        passed = λ other has raw there. by other raw there (has_name contexts other) (bytes_eq other name) refl refl
+        are_facts = subst (λ xs. AreFactsOf source (before ++ xs) new) (same ∙ sym (ap (λ c. listed_or c source atom) is)) (more noted.are_facts);
+        are_passed = λ other has raw there. by other raw there (has_name contexts other) (bytes_eq other name) refl refl
             (sym (list_any-append (λ entry. bytes_eq other entry.0) contexts ((name, 0) ∷ [])) ∙ ap (λ table. has_name table other) (sym later_is) ∙ has);
       }
         where
           by : (other : List ℕ) (raw : RawAtom) → Contains (listed_in (context_named source other)) raw → (p q : Bool) → has_name contexts other ≡ p → bytes_eq other name ≡ q → (p || (q || false)) ≡ true → Contains (before ++ listed) raw
-          by other raw there true q old same either = contains_left before listed raw (noted.passed other old raw there)
+          by other raw there true q old same either = contains_left before listed raw (noted.are_passed other old raw there)
           by other raw there false true old same either =
               contains_right before listed raw (subst (λ xs. Contains xs raw) (ap (λ n. listed_in (context_named source n)) ((bytes_eq-Decides other name).0 same) ∙ sym are) there)
           by other raw there false false old same either = absurd cc

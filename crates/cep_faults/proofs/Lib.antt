@@ -1,5 +1,6 @@
 pub mod Firsts
 pub mod Nths
+pub mod AtomSizes
 pub mod ContextSizes
 pub mod TraceFaults
 pub mod SeenLaws

@@ -1,5 +1,5 @@
 -- What the faults count is what the definitions count.
-use Rattle.std.proofs.Common.{◌≡◌, ℕ, ◌+◌, ◌<◌, min, nat_lt, Bool, true, false, ◌||◌, cond, if◌then◌else◌, List, [], ◌∷◌, ◌++◌, length, map, Some, refl, ap, sym, ◌∙◌, arith, codes, decimal, lit<, length-append, suc, not}
+use Rattle.std.proofs.Common.{◌≡◌, ℕ, ◌+◌, ◌<◌, min, nat_lt, Bool, true, false, ◌&&◌, ◌||◌, cond, if◌then◌else◌, List, [], ◌∷◌, ◌++◌, length, map, Some, refl, ap, sym, ◌∙◌, arith, codes, decimal, lit<, length-append, suc, not}
 use Rattle.std.specs.List.{flat_map, list_any, filter, sum_by}
 use Rattle.std.specs.Str.{bytes_eq}
 use Rattle.std.proofs.lemmas.Bool.Decides.{nat_tests}
@@ -35,6 +35,7 @@ use Rattle.cep_source.specs.Uses.{placed, is_context}
 use Rattle.cep_source.specs.Variables.{Occurrence, occurrence_at, blanks_behind, occurrences_from, firsts_beside}
 use Rattle.cep_faults.specs.Faults.{place_if, premise_places, atom_places}
 use Rattle.cep_faults.specs.Totals.{places_in, cut, most_counted, written_size, total_size, others, facts_counting, context_size, listed_size, start_size, facts_size, whole_size, is_large}
+use Rattle.cep_faults.proofs.AtomSizes.{cut_both}
 use Rattle.cep_base.proofs.Members.{map-flat_map}
 use Rattle.cep_base.proofs.Bytes.{bytes_eq_sym}
 
@@ -225,15 +226,12 @@ module _ (source : Source) where
 
   length_sum : (atoms : List RawAtom) → length atoms ≡ sum_by (λ (_ : RawAtom). 1) atoms
   length_sum [] = refl
-  length_sum (atom ∷ atoms) = ap suc (length_sum atoms) ∙ sym (sum_by-cons (λ (_ : RawAtom). 1) atom atoms)
+  length_sum (atom ∷ atoms) = let more = sum_by-cons (λ (_ : RawAtom). 1) atom atoms in let rest = length_sum atoms in omega (arith, more, rest)
 
   length_counted : (atoms : List RawAtom) → length (counting source atoms) ≡ length (others source atoms) + length (facts_counting source atoms)
   length_counted atoms =
       length_sum (counting source atoms) ∙ sum_counted (λ _. 1) [] atoms ∙ ap (λ n. n + sum_by (λ (_ : RawAtom). 1) (facts_counting source atoms)) (sym (length_sum (others source atoms)))
       ∙ ap (λ n. length (others source atoms) + n) (sym (length_sum (facts_counting source atoms)))
-
-  cut_both : (a b c m : ℕ) → c ≡ a + b → min (min a m + (min b m + 0)) m ≡ min c m
-  cut_both a b c m is = omega (arith, is)
 
   -- a start state is as large as what counts in it
   pub whole_same : (from : RawStart) → whole_size source from ≡ cut (written_size (counting source (start_atoms source from)))

@@ -45,5 +45,5 @@ pub record AreFactsOf (source : Source) (atoms : List RawAtom) (facts : Facts) :
 
 -- These are the facts of the atoms so far, and the contexts that were passed.
 pub record AreNoted (source : Source) (atoms : List RawAtom) (facts : Facts) (contexts : List (List ℕ × ℕ)) : Type 0 where
-  pub facts : AreFactsOf source atoms facts
-  pub passed : ArePassed source atoms contexts
+  pub are_facts : AreFactsOf source atoms facts
+  pub are_passed : ArePassed source atoms contexts

@@ -8,5 +8,5 @@ use Rattle.cep_faults.proofs.sizes.Sizes.of.Goals as goal
 
 pub returns : goal.returns
 returns c =
-    c.loop-context.invariant ∙ ap (map (λ (context : RawContext). size (context_item context))) (take_all c.loop-context.context-index c.contexts-context-items.result.now c.loop-context-test.false)
-    ∙ sym (map-map size context_item c.contexts-context-items.result.now) ∙ ap (map size) c.contexts-context-items.ensures
+    c.loop-context.invariant ∙ ap (map (λ (context : RawContext). size c.args.source.now (context_item context))) (take_all c.loop-context.context-index c.contexts-context-items.result.now c.loop-context-test.false)
+    ∙ sym (map-map (size c.args.source.now) context_item c.contexts-context-items.result.now) ∙ ap (map (size c.args.source.now)) c.contexts-context-items.ensures
