@@ -72,11 +72,11 @@ module _ (source : Source) where
       no_key (x ∷ name) rest e = cc
   nodes_again (one ∷ ones) (other ∷ others) e =
       let first = name_again (said source one.at) (said source other.at) (count_key one.args ++ flat_map (node_key source) ones) (count_key other.args ++ flat_map (node_key source) others)
-          (sym (append_assoc (name_key (said source one.at)) (count_key one.args) (flat_map (node_key source) ones)) ∙ e ∙ append_assoc (name_key (said source other.at)) (count_key other.args) (flat_map (node_key source) others)) in
+      (sym (append_assoc (name_key (said source one.at)) (count_key one.args) (flat_map (node_key source) ones)) ∙ e ∙ append_assoc (name_key (said source other.at)) (count_key other.args) (flat_map (node_key source) others)) in
       let second = count_again one.args other.args (flat_map (node_key source) ones) (flat_map (node_key source) others) first.1 in
       both_hold (is_node_alike source one other) (are_nodes_alike source ones others)
-          (both_hold (bytes_eq (said source one.at) (said source other.at)) (one.args == other.args) (same_bytes (said source one.at) (said source other.at) first.0) (eq-eqb one.args other.args second.0))
-          (nodes_again ones others second.1)
+      (both_hold (bytes_eq (said source one.at) (said source other.at)) (one.args == other.args) (same_bytes (said source one.at) (said source other.at) first.0) (eq-eqb one.args other.args second.0))
+      (nodes_again ones others second.1)
 
   nodes_keyed : (ones others : List RawNode) → are_nodes_alike source ones others ≡ true → flat_map (node_key source) ones ≡ flat_map (node_key source) others
   nodes_keyed [] [] alike = refl

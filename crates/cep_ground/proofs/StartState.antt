@@ -194,16 +194,16 @@ module _ (source : Source) (clean : IsClean source) (made : AtomsMade source) (s
           let is = fact_written raw blanks atom listed by.0 in
           let now = blanks_after blanks raw.nodes in
           subst (λ (fact : Bool). sum_by size (if fact && nat_lt 0 (count_of bag atom) then gained (is_fact_by source) bag list else atom ∷ gained (is_fact_by source) (with_one bag atom) list)
-              ≤ sum_by width (counting_behind source before (raw ∷ raws))) (sym is)
+          ≤ sum_by width (counting_behind source before (raw ∷ raws))) (sym is)
           (gains_step (is_of_fact source raw) (list_any (is_written_alike source raw) before) (nat_lt 0 (count_of bag atom)) raw atom
-              (gained (is_fact_by source) bag list) (gained (is_fact_by source) (with_one bag atom) list) (counting_behind source before raws) (counting_behind source (raw ∷ before) raws)
-              (sized raw blanks atom listed by.0)
-              (λ alike. lt-ltb 0 (count_of bag atom) (there raw blanks atom listed by.0 alike))
-              (gains_less raws now list before bag further sized by.1 there)
-              (λ inside. gains_less raws now list (raw ∷ before) bag further sized by.1 (one_more raw blanks atom before bag listed by.0 (ltb-true 0 (count_of bag atom) inside) there))
-              (gains_less raws now list (raw ∷ before) (with_one bag atom) further sized by.1
-                  (one_more raw blanks atom before (with_one bag atom) listed by.0 (let own = laws.own bag atom (count_of bag atom + 1) in omega (arith, own))
-                      (λ other more_ x listed' by' alike. stays bag atom x (atom_cmp x atom) refl (there other more_ x listed' by' alike)))))
+          (gained (is_fact_by source) bag list) (gained (is_fact_by source) (with_one bag atom) list) (counting_behind source before raws) (counting_behind source (raw ∷ before) raws)
+          (sized raw blanks atom listed by.0)
+          (λ alike. lt-ltb 0 (count_of bag atom) (there raw blanks atom listed by.0 alike))
+          (gains_less raws now list before bag further sized by.1 there)
+          (λ inside. gains_less raws now list (raw ∷ before) bag further sized by.1 (one_more raw blanks atom before bag listed by.0 (ltb-true 0 (count_of bag atom) inside) there))
+          (gains_less raws now list (raw ∷ before) (with_one bag atom) further sized by.1
+          (one_more raw blanks atom before (with_one bag atom) listed by.0 (let own = laws.own bag atom (count_of bag atom + 1) in omega (arith, own))
+          (λ other more_ x listed' by' alike. stays bag atom x (atom_cmp x atom) refl (there other more_ x listed' by' alike)))))
 
 -- how many there are is a sum of ones
 ones_are : {X : Type 0} (xs : List X) → sum_by (λ (_ : X). 1) xs ≡ length xs
