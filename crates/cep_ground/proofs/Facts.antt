@@ -61,12 +61,12 @@ heads_same source blanks more_ (one ∷ ones) (other ∷ others) alike closed cl
 -- so atoms of states that are written alike are one atom
 pub alike_atoms : (source : Source) (one other : RawAtom) (blanks more_ : ℕ) (a b : AtomTree) → is_written_alike source one other ≡ true → AreClosed one.nodes → AreClosed other.nodes → IsAtomBy source [] blanks one a → IsAtomBy source [] more_ other b → a ≡ b
 alike_atoms source one other blanks more_ a b alike closed closed' is is' =
-    let parts = both_true (bytes_eq (said source one.name) (said source other.name)) ((one.args == other.args) && are_nodes_alike source one.nodes other.nodes) alike in
-    let rest = both_true (one.args == other.args) (are_nodes_alike source one.nodes other.nodes) parts.1 in
+    let parts = both_true (bytes_eq (said source one.name) (said source other.name) && (one.args == other.args)) (are_nodes_alike source one.nodes other.nodes) alike in
+    let heads = both_true (bytes_eq (said source one.name) (said source other.name)) (one.args == other.args) parts.0 in
     atom_once source [] more_ other a b
     (record {
-      pred = is.pred ∙ ap (number_of source space.Predicates) ((bytes_eq-Decides (said source one.name) (said source other.name)).0 parts.0);
-      count = is.count ∙ eqb-true one.args other.args rest.0;
-      heads = is.heads ∙ heads_same source blanks more_ one.nodes other.nodes rest.1 closed closed';
+      pred = is.pred ∙ ap (number_of source space.Predicates) ((bytes_eq-Decides (said source one.name) (said source other.name)).0 heads.0);
+      count = is.count ∙ eqb-true one.args other.args heads.1;
+      heads = is.heads ∙ heads_same source blanks more_ one.nodes other.nodes parts.1 closed closed';
     })
     is'

@@ -1,9 +1,10 @@
 -- Atoms that are gathered one after another, those that pass a test once.
-use Rattle.std.proofs.Common.{◌≡◌, ◌≢◌, ℕ, zero, suc, ◌+◌, ◌<◌, Bool, true, false, ◌&&◌, List, [], ◌∷◌, length, get_or, drop, nat_lt, refl, sym, ap, subst, ◌∙◌}
+use Rattle.std.proofs.Common.{◌≡◌, ◌≢◌, ℕ, zero, suc, min, arith, ◌+◌, ◌<◌, Bool, true, false, ◌&&◌, List, [], ◌∷◌, length, get_or, drop, nat_lt, refl, sym, ap, subst, ◌∙◌}
 use Rattle.std.specs.declared.cmp.Ordering.{Ordering}
 use Rattle.std.specs.declared.cmp.Ordering.TheVariants.{Less, Equal, Greater}
 use Rattle.std.specs.Cmp.{tied_itself}
 use Rattle.std.specs.List.{AllByRecursion}
+use Rattle.std.proofs.lemmas.Bool.{ltb-true, ltb-false}
 use Rattle.std.proofs.lemmas.List.{drop_more}
 use Rattle.cep_term.specs.Tree.{AtomTree, IsGroundAtom}
 use Rattle.cep_term.specs.BagLaws.{BagLaws}
@@ -12,13 +13,11 @@ use Rattle.cep_term.specs.Multiset.{Multiset, count_of, with_one, gathered, held
 use Rattle.cep_base.proofs.Elements.{all_at}
 
 held_again : (b : Bool) (n : ℕ) → (b && nat_lt 0 (held b n)) ≡ true → held b (n + 1) ≡ held b n
-held_again true zero there = absurd cc
-held_again true (suc n) there = refl
+held_again true n there = let more = ltb-true 0 (min 1 n) there in omega (arith, more)
 held_again false n there = absurd cc
 
 held_first : (b : Bool) (n : ℕ) → (b && nat_lt 0 (held b n)) ≡ false → held b (n + 1) ≡ held b n + 1
-held_first true zero none = refl
-held_first true (suc n) none = absurd cc
+held_first true n none = let less = ltb-false 0 (min 1 n) none in omega (arith, less)
 held_first false n none = refl
 
 all_behind : {X : Type 0} (P : X → Type 0) (xs : List X) (n : ℕ) → AllByRecursion P xs → AllByRecursion P (drop n xs)
@@ -32,7 +31,7 @@ module _ (laws : BagLaws) (test : AtomTree → Bool) where
   differs a x o is unequal same = unequal (sym is ∙ subst (λ y. atom_cmp a y ≡ Equal) same (tied_itself laws.total a))
 
   module _ (bag : Multiset) (a : AtomTree) (ground : IsGroundAtom a) (kept : IsBag bag) where
-    more : Multiset
+    abbrev more : Multiset
     more = with_one bag a
 
     more_kept : IsBag more
@@ -76,7 +75,7 @@ module _ (laws : BagLaws) (test : AtomTree → Bool) where
 
   -- the atom before those that were gathered
   module _ (atoms : List AtomTree) (k : ℕ) (a : AtomTree) (old : Multiset) (within : k < length atoms) (at : get_or atoms k a ≡ a) (all : AllByRecursion IsGroundAtom atoms) (was : old ≡ once test (gathered (drop (k + 1) atoms))) where
-    behind : Multiset
+    abbrev behind : Multiset
     behind = gathered (drop (k + 1) atoms)
 
     behind_kept : IsBag behind
