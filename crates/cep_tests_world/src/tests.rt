@@ -2,6 +2,7 @@ mod backward;
 mod checked;
 mod checks;
 mod dialogues;
+mod facts;
 mod faults;
 mod outside;
 mod renewed;

@@ -1,5 +1,6 @@
 // What the items of texts say, or the first fault of their grammar.
 use crate::tests::source::{file_of, parsed};
+use cep_base::PredKind;
 use cep_base::limits::MOST_TEXT;
 use cep_lex::place;
 use cep_parse::{
@@ -17,9 +18,11 @@ fn parsed_texts() -> &'static str {
 t : type.
 t sort
 =
-p : pred. q t u : bwd.
+p : pred. q t u : bwd. lamp : fact. seen t : fact.
 p pred
 q bwd t u
+lamp fact
+seen fact t
 =
 x : y. s t t : t.
 x colon y
@@ -295,12 +298,20 @@ fn put_line(
     put_names(out, text, names)
 }
 
+// The word by which a predicate is declared.
+fn kind_word(kind: PredKind) -> &'static str {
+    match kind {
+        PredKind::Linear => " pred",
+        PredKind::Back => " bwd",
+        PredKind::Fact => " fact",
+    }
+}
+
 fn put_item(out: &mut String, text: &str, item: &RawItem) -> Result<(), AllocError> {
     match item {
         RawItem::Sort { name } => put_head(out, text, *name, " sort"),
-        RawItem::Pred { name, args, back } => {
-            let word = if *back { " bwd" } else { " pred" };
-            put_line(out, text, *name, word, args.as_slice())
+        RawItem::Pred { name, args, kind } => {
+            put_line(out, text, *name, kind_word(*kind), args.as_slice())
         }
         RawItem::Colon { left, args, right } => {
             put_line(out, text, *left, "", args.as_slice())?;

@@ -1,5 +1,6 @@
 // To which declaration the names of texts go, and what is wrong with those that go to none.
 use crate::tests::source::file_of;
+use cep_base::PredKind;
 use cep_base::limits::MOST_TEXT;
 use cep_faults::name_fault;
 use cep_source::{Fault, Source, Space, item_at};
@@ -11,12 +12,13 @@ use std::test::Fail;
 // it is in each space, and, of a constructor or a predicate, how many arguments it takes.
 fn declaring() -> &'static str {
     "\
-a : type. b : a. f a a : a. p a : pred. q : bwd. r : q. t : u. stage s = { m : p X -o p X. } context c = { p b }.
+a : type. b : a. f a a : a. p a : pred. q : bwd. k a : fact. r : q. t : u. stage s = { m : p X -o p X. } context c = { p b }.
 none
 a: sort 0
 f: constructor 1 takes 2
 p: predicate 0 takes 1
 q: predicate 1 takes 0 backward
+k: predicate 2 takes 1 fact
 r:
 t: constructor 2 takes 0
 s: stage 0
@@ -67,6 +69,12 @@ q : bwd. context d = { q }
 LinearInClause 24
 p : pred. q : bwd. q <- p.
 =
+LinearInClause 10
+k : fact. k <- k.
+=
+VarInContext 38
+t : type. k t : fact. context d = { k X }
+=
 BadQui 0
 r : qui * stage s -o ().
 =
@@ -75,6 +83,9 @@ t : type. p t t t t t t t t t : pred.
 =
 OverLimit 90
 p : pred. stage u = { r : p * p * p * p * p * p * p * p * p * p * p * p * p * p * p * p * p -o (). }
+=
+OverLimit 100
+p : pred. k : fact. stage u = { r : p * k * p * k * p * k * p * k * p * k * p * k * p * k * p * k * k -o (). }
 =
 OverLimit 54
 q : bwd. q <- q <- q <- q <- q <- q <- q <- q <- q <- q.
@@ -122,10 +133,19 @@ fn pred_takes(source: &Source, name: &[u8]) -> Option<usize> {
     Some(pred.args.len())
 }
 
-// Whether clauses define the predicate of a name.
-fn is_back(source: &Source, name: &[u8]) -> Option<bool> {
+// Of which kind the predicate of a name is.
+fn kind_of(source: &Source, name: &[u8]) -> Option<PredKind> {
     let pred = item_at(source.preds(), source.place(Space::Predicates, name)?)?;
-    Some(pred.back)
+    Some(pred.kind)
+}
+
+// A word for what is no linear predicate.
+fn kind_word(kind: Option<PredKind>) -> &'static str {
+    match kind {
+        Some(PredKind::Back) => " backward",
+        Some(PredKind::Fact) => " fact",
+        Some(PredKind::Linear) | None => "",
+    }
 }
 
 // A name, and what it is.
@@ -137,11 +157,7 @@ fn described(alloc: Global, source: &Source, name: &str) -> Result<String, Fail>
     }
     put_number(&mut out, " takes", con_takes(source, name))?;
     put_number(&mut out, " takes", pred_takes(source, name))?;
-    out.push_str(if is_back(source, name) == Some(true) {
-        " backward"
-    } else {
-        ""
-    })?;
+    out.push_str(kind_word(kind_of(source, name)))?;
     Ok(out)
 }
 

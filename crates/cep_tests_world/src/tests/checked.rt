@@ -1,6 +1,7 @@
 // What was played is a transcript that is accepted, with as many steps as it has.
 use crate::tests::backward::{low, paths, twice};
 use crate::tests::dialogues::{copied, played};
+use crate::tests::facts::lit;
 use crate::tests::outside::{check, expect, run_text};
 use crate::tests::renewed::expect_renewed;
 use crate::tests::stages::{drawn, endless, left, limited, lone};
@@ -67,6 +68,7 @@ fn what_was_played_is_accepted(rt: HostRuntime) -> Result<(), Fail> {
     let alloc = rt.alloc();
     expect_all_accepted(&rt, alloc, "play f", played())?;
     expect_all_accepted(&rt, alloc, "play f", copied())?;
+    expect_all_accepted(&rt, alloc, "play f", lit())?;
     expect_accepted(&rt, alloc, ("play f", "3/5/"), walk())?;
     expect_accepted(&rt, alloc, ("play f", ""), meetings())
 }

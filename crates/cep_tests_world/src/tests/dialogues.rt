@@ -148,7 +148,7 @@ stage main = { }
 }
 
 // The command with the words of this line does so, where the file `f` is this text.
-fn expect_run(
+pub fn expect_run(
     rt: &impl Abort,
     alloc: Global,
     line: &str,
