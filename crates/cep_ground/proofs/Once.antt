@@ -1,5 +1,5 @@
 -- A text declares one program at most.
-use Rattle.std.proofs.Common.{◌≡◌, ℕ, not, List, [], ◌∷◌, map, filter, refl, sym, ap, subst, ◌∙◌}
+use Rattle.std.proofs.Common.{◌≡◌, ℕ, ◌||◌, not, List, [], ◌∷◌, map, filter, refl, sym, ap, subst, ◌∙◌}
 use Rattle.std.proofs.lemmas.List.{append-nil}
 use Rattle.std.specs.Option.{option_and_then}
 use Rattle.cep_source.specs.declared.space.Space.TheVariants as space
@@ -51,7 +51,8 @@ premises_once source vars blanks (elem.Stage span ∷ elems) xs ys one other = p
 premises_once source vars blanks (elem.Atom kept raw ∷ elems) [] ys one other = absurd one
 premises_once source vars blanks (elem.Atom kept raw ∷ elems) (x ∷ xs) [] one other = absurd other
 premises_once source vars blanks (elem.Atom kept raw ∷ elems) (x ∷ xs) (y ∷ ys) one other =
-    let here = same_premise x y (one.0 ∙ sym other.0) (atom_once source vars blanks raw x.atom y.atom one.1 other.1) in
+    let atom = atom_once source vars blanks raw x.atom y.atom one.1 other.1 in
+    let here = same_premise x y (one.0 ∙ ap (λ (a : AtomTree). kept || is_fact_by source a) atom ∙ sym other.0) atom in
     let rest = premises_once source vars (blanks_after blanks raw.nodes) elems xs ys one.2 other.2 in
     cc
 

@@ -1,5 +1,5 @@
 -- What the rules of a text keep: types, predicates, limits.
-use Rattle.std.proofs.Common.{◌≡◌, ℕ, suc, ◌+◌, ◌≤◌, Bool, true, false, not, ◌||◌, List, [], ◌∷◌, ◌++◌, length, map, filter, refl, sym, ap, subst, ◌∙◌, arith, Contains}
+use Rattle.std.proofs.Common.{◌≡◌, Option, ℕ, suc, ◌+◌, ◌≤◌, Bool, true, false, not, ◌||◌, List, [], ◌∷◌, ◌++◌, length, map, filter, refl, sym, ap, subst, ◌∙◌, arith, Contains}
 use Rattle.std.proofs.lemmas.List.{length-map}
 use Rattle.std.proofs.lemmas.Grind.{flat_map-append}
 use Rattle.std.proofs.lemmas.Option.{slice_get-map}
@@ -24,6 +24,7 @@ use Rattle.cep_rule.specs.Program.{IsTypedRule, IsDividedRule, IsTypedClause, Is
 use Rattle.cep_refusal.specs.declared.reason.Reason.TheVariants.{BwdInState, LinearInClause}
 use Rattle.cep_source.specs.declared.space.Role.TheVariants as role
 use Rattle.cep_source.specs.declared.space.Space.TheVariants as space
+use Rattle.cep_source.specs.Starts.{is_of_fact}
 use Rattle.cep_source.specs.Items.{Source, RuleItem, ClauseItem, PredItem, said, rules_of, clauses_of, preds_of}
 use Rattle.cep_source.specs.Spaces.{named, kind_of}
 use Rattle.cep_parse.specs.Raw.{atoms_of, raw_nodes}
@@ -92,6 +93,14 @@ module _ (source : Source) (clean : IsClean source) (atoms_made : AtomsMade sour
         judged = ap (λ f. unwrap_or (option_map (λ (pred : PredItem). is_backward pred.kind) f) false) at;
         fact_is = ap (λ f. unwrap_or (option_map (λ (pred : PredItem). is_of_facts pred.kind) f) false) at;
       }
+
+  -- an atom is a fact where it is written as one
+  pub fact_at : (vars : List (List ℕ)) (blanks : ℕ) (raw : RawAtom) (atom : AtomTree) → IsHere source raw → IsAtomBy source vars blanks raw atom → is_fact_by source atom ≡ is_of_fact source raw
+  fact_at vars blanks raw atom here by =
+      let known = pred_known source (placed here.role raw) clean.names here.there here.plain in
+      let spot = located (λ (pred : PredItem). named source pred.name) (λ other. bytes_eq other.name (said source raw.name)) (preds_of source) known.pred known.found in
+      ap (λ f. unwrap_or (option_map (λ (pred : PredItem). is_of_facts pred.kind) f) false) (ap (slice_get (preds_of source)) by.pred ∙ spot.here)
+      ∙ sym (ap (λ (its : Option PredKind). unwrap_or (option_map is_of_facts its) false) (kind_known source clean atoms_made raw here))
 
   -- A premise is judged as its predicate is declared, and it is small.
   pub record IsJudged (atom : AtomTree) : Type 0 where

@@ -7,7 +7,6 @@ use Rattle.std.specs.declared.cmp.Ordering.{Ordering}
 use Rattle.std.specs.declared.cmp.Ordering.TheVariants.{Less, Equal, Greater}
 use Rattle.std.specs.Cmp.{tied_itself}
 use Rattle.std.specs.FinMap as finite
-use Rattle.std.specs.Option.{option_map}
 use Rattle.std.specs.List.{AllByRecursion, list_any}
 use Rattle.std.proofs.lemmas.Bool.{ltb-true, lt-ltb}
 use Rattle.cep_term.specs.Order.{atom_cmp}
@@ -18,7 +17,7 @@ use Rattle.cep_parse.specs.declared.raw.RawNode.{RawNode}
 use Rattle.cep_parse.specs.declared.raw.RawAtom.{RawAtom}
 use Rattle.cep_base.specs.declared.kind.PredKind.{PredKind}
 use Rattle.cep_base.specs.declared.kind.PredKind.TheVariants.{Linear, Back, Fact}
-use Rattle.cep_base.specs.Kinds.{is_backward, is_of_facts}
+use Rattle.cep_base.specs.Kinds.{is_backward}
 use Rattle.cep_term.specs.Tree.{AtomTree, IsGroundAtom, atom_nodes, IsFit}
 use Rattle.cep_term.specs.BagLaws.{BagLaws}
 use Rattle.cep_term.specs.Multiset.{Multiset, count_of, with_one, gathered, once, held, gained}
@@ -49,7 +48,7 @@ use Rattle.cep_ground.proofs.Known.{pred_known}
 use Rattle.cep_ground.proofs.Facts.{fact_by, alike_atoms}
 use Rattle.cep_ground.proofs.Scopes.{IsHere, typed_atoms}
 use Rattle.cep_ground.proofs.RuleScopes.{AtomsMade, AreHere, atom_of_tokens, words, short, kind_known}
-use Rattle.cep_ground.proofs.RuleParts.{atom_size, pred_at}
+use Rattle.cep_ground.proofs.RuleParts.{atom_size, pred_at, fact_at}
 use Rattle.cep_ground.proofs.StateAtoms.{atom_alike, raw_depth, not_greater}
 
 -- the laws of start states that are needed
@@ -141,11 +140,7 @@ module _ (source : Source) (clean : IsClean source) (made : AtomsMade source) (s
 
   -- an atom of a state is a fact where it is written as one
   fact_written : (raw : RawAtom) (blanks : ℕ) (atom : AtomTree) (listed : IsStateWritten source raw) → IsAtomBy source [] blanks raw atom → is_fact_by source atom ≡ is_of_fact source raw
-  fact_written raw blanks atom listed by =
-      let here = listed_here raw listed in
-      let known = kind_known source clean made raw here in
-      let is = pred_at source clean made [] blanks raw atom here by in
-      is.fact_is ∙ sym (ap (λ (its : Option PredKind). unwrap_or (option_map is_of_facts its) false) known)
+  fact_written raw blanks atom listed by = fact_at source clean made [] blanks raw atom (listed_here raw listed) by
 
   module _ (laws : BagLaws) where
     -- what is there stays there
@@ -208,7 +203,7 @@ module _ (source : Source) (clean : IsClean source) (made : AtomsMade source) (s
 -- how many there are is a sum of ones
 ones_are : {X : Type 0} (xs : List X) → sum_by (λ (_ : X). 1) xs ≡ length xs
 ones_are [] = refl
-ones_are (x ∷ xs) = sum_by-cons (λ _. 1) x xs ∙ ap suc (ones_are xs)
+ones_are (x ∷ xs) = let more = sum_by-cons (λ _. 1) x xs in let rest = ones_are xs in omega (arith, more, rest)
 
 -- the start state of a text in order
 pub record IsGoodStart (source : Source) (start_ : Multiset) : Type 0 where
