@@ -54,35 +54,68 @@ pub record TraceItem : Type 0 where
   pub stage : Span
   pub start : RawStart
 
--- the types
+-- What an item declares, of each kind: types, predicates, what `x a : y.` says, clauses, rules, stages, interactive stages, contexts, traces.
+pub record Declares : Type 0 where
+  pub sorts : List Span
+  pub preds : List PredItem
+  pub colon : Option ConItem
+  pub clauses : List ClauseItem
+  pub rules : List RawRule
+  pub stages : List Span
+  pub interactives : List Span
+  pub contexts : List ContextItem
+  pub traces : List TraceItem
+
+abbrev pub nothing : Declares
+nothing = record { sorts = []; preds = []; colon = None; clauses = []; rules = []; stages = []; interactives = []; contexts = []; traces = [] }
+
+abbrev pub declares : RawItem → Declares
+declares (item.Sort name) = record nothing { sorts = name ∷ [] }
+declares (item.Pred name args of_kind) = record nothing { preds = record { name = name; args = args; kind = of_kind } ∷ [] }
+declares (item.Colon left args right) = record nothing { colon = Some (record { name = left; args = args; sort = right }) }
+declares (item.Clause label head goals) = record nothing { clauses = record { head = head; goals = goals } ∷ [] }
+declares (item.Outer rule) = record nothing { rules = rule ∷ [] }
+declares (item.Stage name rules) = record nothing { stages = name ∷ []; rules = rules }
+declares (item.Context name atoms) = record nothing { contexts = record { name = name; atoms = atoms } ∷ [] }
+declares (item.Interactive name) = record nothing { interactives = name ∷ [] }
+declares (item.Trace at limit stage start) = record nothing { traces = record { at = at; limit = limit; stage = stage; start = start } ∷ [] }
+
+-- the types, the predicates, the stages, the names of the stages that are said to be interactive, the contexts, the traces
 abbrev pub sorts_in : RawItem → List Span
-sorts_in (item.Sort name) = name ∷ []
-sorts_in (item.Pred name args of_kind) = []
-sorts_in (item.Colon left args right) = []
-sorts_in (item.Clause label head goals) = []
-sorts_in (item.Outer rule) = []
-sorts_in (item.Stage name rules) = []
-sorts_in (item.Context name atoms) = []
-sorts_in (item.Interactive name) = []
-sorts_in (item.Trace at limit stage start) = []
+sorts_in item = (declares item).sorts
+
+abbrev pub preds_in : RawItem → List PredItem
+preds_in item = (declares item).preds
+
+abbrev pub stages_in : RawItem → List Span
+stages_in item = (declares item).stages
+
+abbrev pub interactives_in : RawItem → List Span
+interactives_in item = (declares item).interactives
+
+abbrev pub contexts_in : RawItem → List ContextItem
+contexts_in item = (declares item).contexts
+
+abbrev pub traces_in : RawItem → List TraceItem
+traces_in item = (declares item).traces
 
 abbrev pub sorts_of : Source → List Span
 sorts_of source = flat_map sorts_in source.file
 
--- the predicates
-abbrev pub preds_in : RawItem → List PredItem
-preds_in (item.Pred name args of_kind) = record { name = name; args = args; kind = of_kind } ∷ []
-preds_in (item.Sort name) = []
-preds_in (item.Colon left args right) = []
-preds_in (item.Clause label head goals) = []
-preds_in (item.Outer rule) = []
-preds_in (item.Stage name rules) = []
-preds_in (item.Context name atoms) = []
-preds_in (item.Interactive name) = []
-preds_in (item.Trace at limit stage start) = []
-
 abbrev pub preds_of : Source → List PredItem
 preds_of source = flat_map preds_in source.file
+
+abbrev pub stages_of : Source → List Span
+stages_of source = flat_map stages_in source.file
+
+abbrev pub interactives_of : Source → List Span
+interactives_of source = flat_map interactives_in source.file
+
+abbrev pub contexts_of : Source → List ContextItem
+contexts_of source = flat_map contexts_in source.file
+
+abbrev pub traces_of : Source → List TraceItem
+traces_of source = flat_map traces_in source.file
 
 -- whether one of these spans says the name
 abbrev pub is_said : Source → List Span → List ℕ → Bool
@@ -102,16 +135,12 @@ abbrev pub con_or_none : Bool → ConItem → List ConItem
 con_or_none true con = []
 con_or_none false con = con ∷ []
 
+abbrev pub con_said : Source → Option ConItem → List ConItem
+con_said source None = []
+con_said source (Some con) = con_or_none (is_labelled source con.args con.sort) con
+
 abbrev pub cons_in : Source → RawItem → List ConItem
-cons_in source (item.Colon left args right) = con_or_none (is_labelled source args right) (record { name = left; args = args; sort = right })
-cons_in source (item.Sort name) = []
-cons_in source (item.Pred name args of_kind) = []
-cons_in source (item.Clause label head goals) = []
-cons_in source (item.Outer rule) = []
-cons_in source (item.Stage name rules) = []
-cons_in source (item.Context name atoms) = []
-cons_in source (item.Interactive name) = []
-cons_in source (item.Trace at limit stage start) = []
+cons_in source item = con_said source (declares item).colon
 
 abbrev pub cons_of : Source → List ConItem
 cons_of source = flat_map (cons_in source) source.file
@@ -121,72 +150,26 @@ abbrev pub clause_or_none : Bool → ClauseItem → List ClauseItem
 clause_or_none true clause = clause ∷ []
 clause_or_none false clause = []
 
+abbrev pub clause_said : Source → Option ConItem → List ClauseItem
+clause_said source None = []
+clause_said source (Some con) = clause_or_none (is_labelled source con.args con.sort) (record { head = bare con.sort; goals = [] })
+
 abbrev pub clauses_in : Source → RawItem → List ClauseItem
-clauses_in source (item.Clause label head goals) = record { head = head; goals = goals } ∷ []
-clauses_in source (item.Colon left args right) = clause_or_none (is_labelled source args right) (record { head = bare right; goals = [] })
-clauses_in source (item.Sort name) = []
-clauses_in source (item.Pred name args of_kind) = []
-clauses_in source (item.Outer rule) = []
-clauses_in source (item.Stage name rules) = []
-clauses_in source (item.Context name atoms) = []
-clauses_in source (item.Interactive name) = []
-clauses_in source (item.Trace at limit stage start) = []
+clauses_in source item = (declares item).clauses ++ clause_said source (declares item).colon
 
 abbrev pub clauses_of : Source → List ClauseItem
 clauses_of source = flat_map (clauses_in source) source.file
 
--- the stages
-abbrev pub stages_in : RawItem → List Span
-stages_in (item.Stage name rules) = name ∷ []
-stages_in (item.Sort name) = []
-stages_in (item.Pred name args of_kind) = []
-stages_in (item.Colon left args right) = []
-stages_in (item.Clause label head goals) = []
-stages_in (item.Outer rule) = []
-stages_in (item.Context name atoms) = []
-stages_in (item.Interactive name) = []
-stages_in (item.Trace at limit stage start) = []
-
-abbrev pub stages_of : Source → List Span
-stages_of source = flat_map stages_in source.file
-
--- the names of the stages that are said to be interactive
-abbrev pub interactives_in : RawItem → List Span
-interactives_in (item.Interactive name) = name ∷ []
-interactives_in (item.Sort name) = []
-interactives_in (item.Pred name args of_kind) = []
-interactives_in (item.Colon left args right) = []
-interactives_in (item.Clause label head goals) = []
-interactives_in (item.Outer rule) = []
-interactives_in (item.Stage name rules) = []
-interactives_in (item.Context name atoms) = []
-interactives_in (item.Trace at limit stage start) = []
-
-abbrev pub interactives_of : Source → List Span
-interactives_of source = flat_map interactives_in source.file
-
 -- the rules in written order, those of stages and those outside; so many stages stand before
+abbrev pub home_in : ℕ → List Span → Option ℕ
+home_in stages [] = None
+home_in stages (name ∷ names) = Some stages
+
 abbrev pub rules_in : ℕ → RawItem → List RuleItem
-rules_in stages (item.Outer raw) = record { home = None; raw = raw } ∷ []
-rules_in stages (item.Stage name rules) = map (λ raw. record { home = Some stages; raw = raw }) rules
-rules_in stages (item.Sort name) = []
-rules_in stages (item.Pred name args of_kind) = []
-rules_in stages (item.Colon left args right) = []
-rules_in stages (item.Clause label head goals) = []
-rules_in stages (item.Context name atoms) = []
-rules_in stages (item.Interactive name) = []
-rules_in stages (item.Trace at limit stage start) = []
+rules_in stages item = map (λ raw. record { home = home_in stages (stages_in item); raw = raw }) (declares item).rules
 
 abbrev pub stages_behind : ℕ → RawItem → ℕ
-stages_behind stages (item.Stage name rules) = stages + 1
-stages_behind stages (item.Sort name) = stages
-stages_behind stages (item.Pred name args of_kind) = stages
-stages_behind stages (item.Colon left args right) = stages
-stages_behind stages (item.Clause label head goals) = stages
-stages_behind stages (item.Outer rule) = stages
-stages_behind stages (item.Context name atoms) = stages
-stages_behind stages (item.Interactive name) = stages
-stages_behind stages (item.Trace at limit stage start) = stages
+stages_behind stages item = stages + length (stages_in item)
 
 abbrev pub rules_from : ℕ → List RawItem → List RuleItem
 rules_from stages [] = []
@@ -194,33 +177,3 @@ rules_from stages (next ∷ items) = rules_in stages next ++ rules_from (stages_
 
 abbrev pub rules_of : Source → List RuleItem
 rules_of source = rules_from 0 source.file
-
--- the contexts
-abbrev pub contexts_in : RawItem → List ContextItem
-contexts_in (item.Context name atoms) = record { name = name; atoms = atoms } ∷ []
-contexts_in (item.Sort name) = []
-contexts_in (item.Pred name args of_kind) = []
-contexts_in (item.Colon left args right) = []
-contexts_in (item.Clause label head goals) = []
-contexts_in (item.Outer rule) = []
-contexts_in (item.Stage name rules) = []
-contexts_in (item.Interactive name) = []
-contexts_in (item.Trace at limit stage start) = []
-
-abbrev pub contexts_of : Source → List ContextItem
-contexts_of source = flat_map contexts_in source.file
-
--- the traces
-abbrev pub traces_in : RawItem → List TraceItem
-traces_in (item.Trace at limit stage start) = record { at = at; limit = limit; stage = stage; start = start } ∷ []
-traces_in (item.Sort name) = []
-traces_in (item.Pred name args of_kind) = []
-traces_in (item.Colon left args right) = []
-traces_in (item.Clause label head goals) = []
-traces_in (item.Outer rule) = []
-traces_in (item.Stage name rules) = []
-traces_in (item.Context name atoms) = []
-traces_in (item.Interactive name) = []
-
-abbrev pub traces_of : Source → List TraceItem
-traces_of source = flat_map traces_in source.file
