@@ -19,12 +19,17 @@ use Rattle.cep_source.specs.declared.space.Role.TheVariants as role
 use Rattle.cep_faults.specs.declared.counts.Counted.TheVariants as counted
 use Rattle.cep_source.specs.Items.{Source, PredItem, ConItem, ClauseItem, RuleItem, TraceItem, said, cons_in, cons_of, preds_in, preds_of, clauses_in, clauses_of, rules_of, traces_in, traces_of}
 use Rattle.cep_parse.specs.Raw.{item_rules, atoms_of, raw_nodes, listed_atoms}
-use Rattle.cep_source.specs.Misnamed.{Misnamed, IsTwice, IsOver, IsOfState, ComesToState, IsOpen, IsQuiRule, is_somewhere, arguments_of, state_premises_of, backward_of, is_qui, is_stage, turns_said, is_declared}
+use Rattle.cep_faults.specs.Premises.{state_premises_of, backward_of, is_declared}
+use Rattle.cep_faults.specs.Misnamed.{Misnamed, ComesToState, IsOpen, IsQuiRule, is_somewhere, is_qui, is_stage}
+use Rattle.cep_source.specs.Spaces.{IsTwice}
+use Rattle.cep_faults.specs.Limits.{IsOver, arguments_of}
+use Rattle.cep_source.specs.Uses.{IsOfState}
+use Rattle.cep_source.specs.Starts.{turns_said}
 use Rattle.cep_refusal.specs.First.{wrong}
-use Rattle.cep_source.specs.Misnamed.Misnamed.{twice, unknown, wrong_kind, wrong_arity, variable_in_state, backward_in_state, linear_in_clause, bad_qui, no_trace, two_traces, over}
-use Rattle.cep_source.specs.Misnamed.IsOpen.{variable, blank}
-use Rattle.cep_source.specs.Misnamed.IsOfState.{listed, start}
-use Rattle.cep_source.specs.Misnamed.ComesToState.{made}
+use Rattle.cep_faults.specs.Misnamed.Misnamed.{twice, unknown, wrong_kind, wrong_arity, variable_in_state, backward_in_state, linear_in_clause, bad_qui, no_trace, two_traces, over}
+use Rattle.cep_faults.specs.Misnamed.IsOpen.{variable, blank}
+use Rattle.cep_source.specs.Uses.IsOfState.{listed, start}
+use Rattle.cep_faults.specs.Misnamed.ComesToState.{made}
 use Rattle.cep_source.specs.Spaces.{names_in, is_in, arity_of, kind_of}
 use Rattle.cep_source.specs.Starts.{IsFitWritten, nodes_written, depth_written, start_atoms, counting}
 use Rattle.cep_source.specs.Uses.{Placed, Use, placed, is_context, own_uses, con_uses, pred_uses, node_uses, atom_uses, item_uses, uses_of, own_atoms, item_atoms, placed_of, rule_atoms, clause_atoms}

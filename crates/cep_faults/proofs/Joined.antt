@@ -5,8 +5,9 @@ use Rattle.cep_parse.specs.declared.raw.RawItem.{RawItem}
 use Rattle.cep_refusal.specs.declared.fault.Fault.{Fault}
 use Rattle.cep_refusal.specs.First.{standing, IsFirstOrNone, first_of, first_in}
 use Rattle.cep_source.specs.Items.{Source, traces_of}
-use Rattle.cep_source.specs.Misnamed.{Misnamed, IsTwice}
-use Rattle.cep_source.specs.Misnamed.Misnamed.{twice}
+use Rattle.cep_faults.specs.Misnamed.{Misnamed}
+use Rattle.cep_source.specs.Spaces.{IsTwice}
+use Rattle.cep_faults.specs.Misnamed.Misnamed.{twice}
 use Rattle.cep_faults.specs.Faults.{item_faults}
 use Rattle.cep_faults.specs.Totals.{item_unfit_faults, item_variable_faults, all_count_faults, traces_faults, all_faults}
 use Rattle.cep_base.proofs.Foremost.{foremost_union, foremost_same, foremost_among, foremost_append}

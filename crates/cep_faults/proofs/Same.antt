@@ -26,7 +26,7 @@ use Rattle.cep_faults.specs.declared.variables.Seen.{Seen}
 use Rattle.cep_faults.specs.declared.counts.Counted.TheVariants as counted
 use Rattle.cep_source.specs.Items.{Source, ClauseItem, RuleItem, clauses_in, clauses_of, said, preds_in, preds_of, cons_in, cons_of, rules_in, rules_from, rules_of, stages_behind}
 use Rattle.cep_parse.specs.Raw.{item_rules, atoms_of}
-use Rattle.cep_source.specs.Misnamed.{is_declared}
+use Rattle.cep_faults.specs.Premises.{is_declared}
 use Rattle.cep_faults.specs.Seen.{met, new_at, blanked, new_in, new_kind, met_kind}
 use Rattle.cep_source.specs.Spaces.{Named, named, kind_named, names_in, rule_names_from, unlabelled_behind}
 use Rattle.cep_source.specs.Starts.{nodes_written, listed_or, start_atoms, is_of_fact, is_written_alike, counting_behind, counting}

@@ -13,12 +13,14 @@ use Rattle.cep_source.specs.declared.space.Space.TheVariants as space
 use Rattle.cep_source.specs.declared.space.Role.{Role}
 use Rattle.cep_source.specs.declared.space.Role.TheVariants as role
 use Rattle.cep_source.specs.Items.{Source, said}
-use Rattle.cep_source.specs.Misnamed.{Misnamed, IsOfState, ComesToState, IsOpen, is_somewhere, is_declared}
+use Rattle.cep_faults.specs.Premises.{is_declared}
+use Rattle.cep_faults.specs.Misnamed.{Misnamed, ComesToState, IsOpen, is_somewhere}
+use Rattle.cep_source.specs.Uses.{IsOfState}
 use Rattle.cep_refusal.specs.First.{wrong}
-use Rattle.cep_source.specs.Misnamed.Misnamed.{unknown, wrong_kind, wrong_arity, variable_in_state, backward_in_state, linear_in_clause}
-use Rattle.cep_source.specs.Misnamed.IsOfState.{listed, start}
-use Rattle.cep_source.specs.Misnamed.ComesToState.{made}
-use Rattle.cep_source.specs.Misnamed.IsOpen.{variable, blank}
+use Rattle.cep_faults.specs.Misnamed.Misnamed.{unknown, wrong_kind, wrong_arity, variable_in_state, backward_in_state, linear_in_clause}
+use Rattle.cep_source.specs.Uses.IsOfState.{listed, start}
+use Rattle.cep_faults.specs.Misnamed.ComesToState.{made}
+use Rattle.cep_faults.specs.Misnamed.IsOpen.{variable, blank}
 use Rattle.cep_source.specs.Spaces.{is_in, arity_of, kind_of}
 use Rattle.cep_source.specs.Uses.{Placed, Use, is_context, placed_of, uses_of, pred_uses, node_uses}
 use Rattle.cep_faults.specs.Faults.{lack_faults, arity_faults, use_faults, pred_faults, node_faults, open_by, open_faults, back_faults, linear_faults, state_faults, role_faults, placed_faults}

@@ -14,10 +14,14 @@ use Rattle.cep_source.specs.declared.space.Space.TheVariants as space
 use Rattle.cep_faults.specs.declared.counts.Counted.TheVariants as counted
 use Rattle.cep_source.specs.Items.{Source, PredItem, ConItem, ClauseItem, RuleItem, TraceItem, cons_in, cons_of, preds_in, preds_of, clauses_in, clauses_of, rules_of, traces_in, traces_of}
 use Rattle.cep_parse.specs.Raw.{item_rules, atoms_of, raw_nodes, listed_atoms}
-use Rattle.cep_source.specs.Misnamed.{Misnamed, IsOver, IsOfState, IsQuiRule, arguments_of, state_premises_of, backward_of, is_qui, is_stage, turns_said}
+use Rattle.cep_faults.specs.Premises.{state_premises_of, backward_of}
+use Rattle.cep_faults.specs.Misnamed.{Misnamed, IsQuiRule, is_qui, is_stage}
+use Rattle.cep_faults.specs.Limits.{IsOver, arguments_of}
+use Rattle.cep_source.specs.Uses.{IsOfState}
+use Rattle.cep_source.specs.Starts.{turns_said}
 use Rattle.cep_refusal.specs.First.{wrong}
-use Rattle.cep_source.specs.Misnamed.Misnamed.{bad_qui, no_trace, two_traces, over}
-use Rattle.cep_source.specs.Misnamed.IsOfState.{listed, start}
+use Rattle.cep_faults.specs.Misnamed.Misnamed.{bad_qui, no_trace, two_traces, over}
+use Rattle.cep_source.specs.Uses.IsOfState.{listed, start}
 use Rattle.cep_source.specs.Spaces.{names_in}
 use Rattle.cep_source.specs.Starts.{IsFitWritten, nodes_written, depth_written, start_atoms, counting}
 use Rattle.cep_source.specs.Uses.{Placed, placed, own_uses, con_uses, placed_of, rule_atoms, clause_atoms}

@@ -25,7 +25,9 @@ use Rattle.cep_source.specs.Spaces.{is_in, arity_of, kind_named}
 use Rattle.cep_parse.specs.Raw.{item_rules, listed_atoms}
 use Rattle.cep_source.specs.Uses.{Placed, Use, placed, names_context, node_uses, con_uses, own_uses, rule_atoms, clause_atoms}
 use Rattle.cep_refusal.specs.First.{wrong}
-use Rattle.cep_source.specs.Misnamed.{is_somewhere, is_declared, is_qui, is_stage, turns_said}
+use Rattle.cep_faults.specs.Premises.{is_declared}
+use Rattle.cep_faults.specs.Misnamed.{is_somewhere, is_qui, is_stage}
+use Rattle.cep_source.specs.Starts.{turns_said}
 
 -- a name that its space has not, where some space has it or none
 abbrev pub lack_faults : Bool → Bool → ℕ → List Fault

@@ -1,3 +1,6 @@
+pub mod Premises
+pub mod Misnamed
+pub mod Limits
 pub mod Faults
 pub mod Seen
 pub mod Levels

@@ -3,7 +3,7 @@ ghost use Rattle.std.specs.Prelude.{◌≡◌, ◌≤◌, length, IfOk};
 ghost use Rattle.cep_base.specs.declared.limits.TheConstants.{MOST_TEXT};
 ghost use Rattle.cep_refusal.specs.First.{first_in, IsFirstOrNone};
 ghost use Rattle.cep_faults.specs.Totals.{all_faults};
-ghost use Rattle.cep_source.specs.Misnamed.{Misnamed};
+ghost use Rattle.cep_faults.specs.Misnamed.{Misnamed};
 
 use crate::counts::counts_fault;
 use crate::fitness::fitness_fault;

@@ -3,7 +3,8 @@ ghost use Rattle.std.specs.Prelude.{◌≡◌, [], ◌++◌, ◌≤◌, Some, ma
 ghost use Rattle.std.specs.List.{flat_map};
 ghost use Rattle.cep_refusal.specs.First.{first_in};
 ghost use Rattle.cep_source.specs.Items.{bare};
-ghost use Rattle.cep_source.specs.Misnamed.{is_declared, is_qui, is_stage};
+ghost use Rattle.cep_faults.specs.Premises.{is_declared};
+ghost use Rattle.cep_faults.specs.Misnamed.{is_qui, is_stage};
 ghost use Rattle.cep_source.specs.Uses.{rule_atoms, elem_uses, clause_atoms};
 ghost use Rattle.cep_faults.specs.Faults.{use_faults, placed_faults, past, places, premise_places, atom_places, size_faults, rule_faults, is_qui_rule, qui_faults, clause_faults};
 

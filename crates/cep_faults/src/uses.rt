@@ -4,7 +4,7 @@ ghost use Rattle.std.specs.List.{flat_map};
 ghost use Rattle.cep_refusal.specs.First.{first_in};
 ghost use Rattle.cep_source.specs.Items.{said};
 ghost use Rattle.cep_source.specs.Spaces.{is_in};
-ghost use Rattle.cep_source.specs.Misnamed.{is_somewhere};
+ghost use Rattle.cep_faults.specs.Misnamed.{is_somewhere};
 ghost use Rattle.cep_source.specs.Uses.{use_in};
 ghost use Rattle.cep_faults.specs.Faults.{lack_faults, arity_faults, use_faults, node_faults};
 

@@ -24,8 +24,8 @@ use Rattle.cep_parse.specs.Raw.{atoms_of, raw_nodes}
 use Rattle.cep_source.specs.Variables.{blanks_behind}
 use Rattle.cep_source.specs.Starts.{start_atoms}
 use Rattle.cep_refusal.specs.First.{wrong}
-use Rattle.cep_source.specs.Misnamed.{turns_said}
-use Rattle.cep_source.specs.Misnamed.Misnamed.{no_trace}
+use Rattle.cep_source.specs.Starts.{turns_said}
+use Rattle.cep_faults.specs.Misnamed.Misnamed.{no_trace}
 use Rattle.cep_types.specs.Sites.{rule_scope, clause_scope}
 use Rattle.cep_types.specs.Heads.{Head, var, con, number_of, variable_of, head_at, heads_from, blanks_after}
 use Rattle.cep_infer.specs.Heads.{argument_count, heads_of, heads_among, IsAtomBy, AreAtomsBy}

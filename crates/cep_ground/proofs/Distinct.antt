@@ -7,9 +7,9 @@ use Rattle.cep_refusal.specs.declared.reason.Reason.TheVariants.{Twice}
 use Rattle.cep_refusal.specs.declared.fault.Fault.{Fault}
 use Rattle.cep_source.specs.Items.{Source}
 use Rattle.cep_source.specs.Spaces.{Named, names_in}
-use Rattle.cep_source.specs.Misnamed.{Misnamed}
+use Rattle.cep_faults.specs.Misnamed.{Misnamed}
 use Rattle.cep_refusal.specs.First.{wrong}
-use Rattle.cep_source.specs.Misnamed.Misnamed.{twice}
+use Rattle.cep_faults.specs.Misnamed.Misnamed.{twice}
 use Rattle.cep_base.proofs.Elements.{contains_first, contains_behind}
 
 -- no name of a list stands before itself

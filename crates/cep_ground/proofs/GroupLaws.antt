@@ -16,8 +16,8 @@ use Rattle.cep_source.specs.Items.{Source, RuleItem, said, rules_of, stages_of}
 use Rattle.cep_source.specs.Spaces.{named, names_in, is_in}
 use Rattle.cep_source.specs.Uses.{Use, use_in, elem_uses, uses_of}
 use Rattle.cep_refusal.specs.First.{wrong}
-use Rattle.cep_source.specs.Misnamed.{is_stage, IsQuiRule}
-use Rattle.cep_source.specs.Misnamed.Misnamed.{bad_qui}
+use Rattle.cep_faults.specs.Misnamed.{is_stage, IsQuiRule}
+use Rattle.cep_faults.specs.Misnamed.Misnamed.{bad_qui}
 use Rattle.cep_types.specs.Heads.{number_of}
 use Rattle.cep_infer.specs.Meaning.{stages_in_elem, first_stage, stage_named, group_of, next_of}
 use Rattle.cep_rule.specs.declared.rule.Rule.{Rule}

@@ -15,9 +15,9 @@ use Rattle.cep_source.specs.declared.space.Space.TheVariants as space
 use Rattle.cep_source.specs.Items.{Source, PredItem, ConItem, ClauseItem, said, preds_in, preds_of, cons_in, cons_of, clauses_in, clauses_of}
 use Rattle.cep_source.specs.Spaces.{named, is_in, pred_named, con_named, arity_of}
 use Rattle.cep_source.specs.Uses.{Placed, Use, use_in, pred_uses, node_uses, atom_uses, con_uses, own_uses, item_uses, uses_of, item_atoms, own_atoms, clause_atoms, placed_of, is_context}
-use Rattle.cep_source.specs.Misnamed.{Misnamed, is_somewhere}
+use Rattle.cep_faults.specs.Misnamed.{Misnamed, is_somewhere}
 use Rattle.cep_refusal.specs.First.{wrong}
-use Rattle.cep_source.specs.Misnamed.Misnamed.{unknown, wrong_kind, wrong_arity}
+use Rattle.cep_faults.specs.Misnamed.Misnamed.{unknown, wrong_kind, wrong_arity}
 use Rattle.cep_base.proofs.Elements.{contains_first, contains_none, contains_cases, contains_left, contains_right, contains_map, contains_flat, flat_cases}
 use Rattle.cep_ground.proofs.Finds.{any_found}
 

@@ -19,8 +19,8 @@ use Rattle.cep_source.specs.declared.space.Space.TheVariants as space
 use Rattle.cep_source.specs.Items.{Source, PredItem, ConItem, RuleItem, said, sorts_in, sorts_of, preds_in, preds_of, con_or_none, cons_in, cons_of, stages_in, stages_of, rules_of, is_labelled}
 use Rattle.cep_source.specs.Spaces.{Named, named, names_in, rule_name, unlabelled_behind, rule_names_from}
 use Rattle.cep_refusal.specs.First.{wrong}
-use Rattle.cep_source.specs.Misnamed.Misnamed.{over}
-use Rattle.cep_source.specs.Misnamed.{IsOver as overs}
+use Rattle.cep_faults.specs.Misnamed.Misnamed.{over}
+use Rattle.cep_faults.specs.Limits.{IsOver as overs}
 use Rattle.cep_ground.specs.Texts.{IsClean}
 use Rattle.cep_base.proofs.Elements.{contains_none, contains_first, contains_behind, contains_cases, flat_cases, all_at, all_of}
 use Rattle.cep_ground.proofs.Distinct.{names_differ}

@@ -36,14 +36,14 @@ use Rattle.cep_parse.specs.Raw.{atoms_of, raw_nodes}
 use Rattle.cep_source.specs.Uses.{use_in, own_uses, start_uses}
 use Rattle.cep_source.specs.Variables.{Occurrence, variables_of}
 use Rattle.cep_refusal.specs.First.{wrong}
-use Rattle.cep_source.specs.Misnamed.{turns_said}
-use Rattle.cep_source.specs.Misnamed.Misnamed.{over}
-use Rattle.cep_source.specs.Misnamed.{IsOver as overs}
+use Rattle.cep_source.specs.Starts.{turns_said}
+use Rattle.cep_faults.specs.Misnamed.Misnamed.{over}
+use Rattle.cep_faults.specs.Limits.{IsOver as overs}
 use Rattle.cep_types.specs.Sites.{rule_scope, clause_scope}
 use Rattle.cep_types.specs.Heads.{number_of, sorts_said}
 use Rattle.cep_infer.specs.Meaning.{con_by, pred_by, signature_of, stage_by, names_of, is_back, IsRuleBy, AreRulesBy, IsClauseBy, AreClausesBy, AreParts}
 use Rattle.cep_infer.specs.Places.{backs_at, unbound_of}
-use Rattle.cep_source.specs.Misnamed.{backward_of}
+use Rattle.cep_faults.specs.Premises.{backward_of}
 use Rattle.cep_parse.specs.declared.raw.RawAtom.{RawAtom}
 use Rattle.cep_ground.specs.Texts.{IsClean, IsBound}
 use Rattle.cep_base.proofs.Elements.{contains_none, contains_first, contains_behind, contains_cases, contains_left, contains_right, contains_map, flat_cases, all_at, all_of}

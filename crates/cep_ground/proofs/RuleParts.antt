@@ -31,9 +31,9 @@ use Rattle.cep_parse.specs.Raw.{atoms_of, raw_nodes}
 use Rattle.cep_source.specs.Uses.{placed, placed_of}
 use Rattle.cep_source.specs.Variables.{blanks_behind, variables_of, Occurrence}
 use Rattle.cep_refusal.specs.First.{wrong}
-use Rattle.cep_source.specs.Misnamed.{is_declared}
-use Rattle.cep_source.specs.Misnamed.ComesToState.{made}
-use Rattle.cep_source.specs.Misnamed.Misnamed.{backward_in_state, linear_in_clause}
+use Rattle.cep_faults.specs.Premises.{is_declared}
+use Rattle.cep_faults.specs.Misnamed.ComesToState.{made}
+use Rattle.cep_faults.specs.Misnamed.Misnamed.{backward_in_state, linear_in_clause}
 use Rattle.cep_types.specs.Sites.{sites_of, wanted_from, type_of, rule_scope, clause_scope}
 use Rattle.cep_types.specs.Heads.{number_of, heads_from, blanks_after}
 use Rattle.cep_infer.specs.Heads.{IsAtomBy, AreAtomsBy}

@@ -24,9 +24,9 @@ use Rattle.cep_source.specs.Spaces.{kind_of}
 use Rattle.cep_parse.specs.Raw.{atoms_of, raw_nodes}
 use Rattle.cep_source.specs.Uses.{Placed, placed, placed_of}
 use Rattle.cep_refusal.specs.First.{wrong}
-use Rattle.cep_source.specs.Misnamed.{is_declared, state_premises_of, backward_of}
-use Rattle.cep_source.specs.Misnamed.Misnamed.{over}
-use Rattle.cep_source.specs.Misnamed.IsOver.{premise, back, right, goal}
+use Rattle.cep_faults.specs.Premises.{is_declared, state_premises_of, backward_of}
+use Rattle.cep_faults.specs.Misnamed.Misnamed.{over}
+use Rattle.cep_faults.specs.Limits.IsOver.{premise, back, right, goal}
 use Rattle.cep_types.specs.Sites.{Site, sites_of, IsScope, rule_scope, clause_scope}
 use Rattle.cep_types.specs.Sites.{IsScope as scopes}
 use Rattle.cep_infer.specs.Shapes.{IsSource}

@@ -32,9 +32,9 @@ use Rattle.cep_source.specs.declared.space.Space.TheVariants as space
 use Rattle.cep_source.specs.Variables.{Occurrence, firsts, occurrences_from, blanks_behind}
 use Rattle.cep_source.specs.Starts.{start_atoms, nodes_written, IsFitWritten, is_of_fact, is_written_alike, counting_behind, counting}
 use Rattle.cep_refusal.specs.First.{wrong}
-use Rattle.cep_source.specs.Misnamed.{ComesToState as comes}
-use Rattle.cep_source.specs.Misnamed.Misnamed.{over, backward_in_state}
-use Rattle.cep_source.specs.Misnamed.IsOver.{unfit, copies, nodes}
+use Rattle.cep_faults.specs.Misnamed.{ComesToState as comes}
+use Rattle.cep_faults.specs.Misnamed.Misnamed.{over, backward_in_state}
+use Rattle.cep_faults.specs.Limits.IsOver.{unfit, copies, nodes}
 use Rattle.cep_types.specs.Sites.{type_of}
 use Rattle.cep_types.specs.Sites.{IsScope as scopes}
 use Rattle.cep_types.specs.Heads.{number_of, blanks_after}

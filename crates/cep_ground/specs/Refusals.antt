@@ -15,7 +15,7 @@ use Rattle.cep_source.specs.Items.{Source, RuleItem, rules_of}
 use Rattle.cep_source.specs.Variables.{Occurrence}
 use Rattle.cep_refusal.specs.First.{wrong, IsToldFirst}
 use Rattle.cep_refusal.specs.Told.{Tells}
-use Rattle.cep_source.specs.Misnamed.{Misnamed}
+use Rattle.cep_faults.specs.Misnamed.{Misnamed}
 use Rattle.cep_types.specs.Sites.{Mistyped}
 use Rattle.cep_refusal.specs.declared.refusal.Refusal.{Refusal}
 use Rattle.cep_infer.specs.Shapes.{IsSource}

@@ -6,7 +6,7 @@ use Rattle.cep_rule.specs.declared.parts.Parts.{Parts}
 use Rattle.cep_rule.specs.Groundness.{IsGrounded}
 use Rattle.cep_refusal.specs.declared.fault.Fault.{Fault}
 use Rattle.cep_source.specs.Items.{Source, rules_of}
-use Rattle.cep_source.specs.Misnamed.{Misnamed}
+use Rattle.cep_faults.specs.Misnamed.{Misnamed}
 use Rattle.cep_types.specs.Sites.{Mistyped}
 use Rattle.cep_infer.specs.Shapes.{IsSource}
 use Rattle.cep_infer.specs.Meaning.{AreParts}

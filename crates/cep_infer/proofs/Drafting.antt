@@ -14,7 +14,7 @@ use Rattle.cep_source.specs.declared.space.Space.TheVariants as space
 use Rattle.cep_source.specs.Items.{Source, RuleItem, TraceItem, rules_of, traces_of}
 use Rattle.cep_source.specs.Spaces.{names_in, rule_names_from}
 use Rattle.cep_refusal.specs.First.{wrong}
-use Rattle.cep_source.specs.Misnamed.{Misnamed as misnamed}
+use Rattle.cep_faults.specs.Misnamed.{Misnamed as misnamed}
 use Rattle.cep_infer.specs.declared.draft.Draft.{Draft}
 use Rattle.cep_source.specs.declared.items.RuleRef.{RuleRef}
 use Rattle.cep_source.specs.declared.items.TraceRef.{TraceRef}

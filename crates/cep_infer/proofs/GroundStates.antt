@@ -23,9 +23,9 @@ use Rattle.cep_source.specs.Uses.{Placed, placed, placed_of, own_atoms, item_ato
 use Rattle.cep_source.specs.Variables.{blanks_behind}
 use Rattle.cep_source.specs.Starts.{listed_in, listed_or, start_atoms}
 use Rattle.cep_refusal.specs.First.{wrong}
-use Rattle.cep_source.specs.Misnamed.{IsOfState as of_state}
-use Rattle.cep_source.specs.Misnamed.{IsOpen as opens}
-use Rattle.cep_source.specs.Misnamed.Misnamed.{variable_in_state}
+use Rattle.cep_source.specs.Uses.{IsOfState as of_state}
+use Rattle.cep_faults.specs.Misnamed.{IsOpen as opens}
+use Rattle.cep_faults.specs.Misnamed.Misnamed.{variable_in_state}
 use Rattle.cep_types.specs.Heads.{Head, var, con, head_at, heads_from, blanks_after}
 use Rattle.cep_infer.specs.Heads.{heads_of, heads_among, IsAtomBy, AreAtomsBy}
 use Rattle.cep_infer.specs.Resolved.{IsWellNamed}

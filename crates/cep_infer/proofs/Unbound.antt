@@ -10,7 +10,7 @@ use Rattle.cep_parse.specs.declared.raw.RawNode.{RawNode}
 use Rattle.cep_parse.specs.declared.raw.RawAtom.{RawAtom}
 use Rattle.cep_parse.specs.declared.raw.RawElem.{RawElem}
 use Rattle.cep_source.specs.Items.{Source, RuleItem}
-use Rattle.cep_source.specs.Misnamed.{is_declared}
+use Rattle.cep_faults.specs.Premises.{is_declared}
 use Rattle.cep_parse.specs.Raw.{atoms_in, atoms_of, raw_nodes}
 use Rattle.cep_source.specs.Variables.{Occurrence, occurrence_at, occurrences_from, blanks_behind}
 use Rattle.cep_types.specs.declared.variables.Variables.{Variables}

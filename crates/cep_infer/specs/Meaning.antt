@@ -22,7 +22,7 @@ use Rattle.cep_source.specs.Spaces.{names_in}
 use Rattle.cep_parse.specs.Raw.{atoms_of, raw_nodes}
 use Rattle.cep_source.specs.Variables.{variables_of}
 use Rattle.cep_source.specs.Starts.{start_atoms}
-use Rattle.cep_source.specs.Misnamed.{turns_said}
+use Rattle.cep_source.specs.Starts.{turns_said}
 use Rattle.cep_types.specs.Sites.{type_of, rule_scope, clause_scope}
 use Rattle.cep_types.specs.Heads.{number_of, sorts_said, blanks_after}
 use Rattle.cep_infer.specs.Heads.{IsAtomBy, AreAtomsBy}

@@ -3,7 +3,7 @@ use Rattle.std.specs.Prelude.{◌⊎◌, Result, Ok, Err}
 use Rattle.cep_refusal.specs.declared.fault.Fault.{Fault}
 use Rattle.cep_source.specs.Items.{Source}
 use Rattle.cep_refusal.specs.First.{IsFirst}
-use Rattle.cep_source.specs.Misnamed.{Misnamed}
+use Rattle.cep_faults.specs.Misnamed.{Misnamed}
 use Rattle.cep_types.specs.Sites.{Mistyped}
 use Rattle.cep_infer.specs.declared.draft.Draft.{Draft}
 use Rattle.cep_refusal.specs.declared.refusal.Refusal.{Refusal}

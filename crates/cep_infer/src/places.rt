@@ -2,7 +2,7 @@
 ghost use Rattle.std.specs.Prelude.{◌≡◌, ◌<◌, ◌≤◌, ◌+◌, ◌^◌, ◌++◌, ◌∷◌, [], ℕ, List, length, take, true, not, if◌then◌else◌, map, filter, option_to_list, IfOk, OnOk};
 ghost use Rattle.cep_base.specs.declared.limits.TheConstants.{MOST_TEXT};
 ghost use Rattle.cep_lex.specs.Places.{IsPlaceBehind};
-ghost use Rattle.cep_source.specs.Misnamed.{is_declared};
+ghost use Rattle.cep_faults.specs.Premises.{is_declared};
 ghost use Rattle.cep_source.specs.Spaces.{kind_of};
 ghost use Rattle.cep_parse.specs.Raw.{atoms_in, atoms_of, raw_nodes};
 ghost use Rattle.cep_source.specs.Variables.{occurrence_at, occurrences_from};

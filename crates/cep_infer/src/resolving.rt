@@ -2,7 +2,7 @@ ghost use Rattle.std.specs.Prelude.{◌≡◌, ◌≤◌, Some, length, map, tak
 ghost use Rattle.cep_base.specs.declared.limits.TheConstants.{MOST_TEXT};
 ghost use Rattle.std.specs.Option.{option_and_then};
 ghost use Rattle.cep_source.specs.Items.{rules_of, traces_of};
-ghost use Rattle.cep_source.specs.Misnamed.{turns_said};
+ghost use Rattle.cep_source.specs.Starts.{turns_said};
 ghost use Rattle.cep_infer.specs.Shapes.{IsSource};
 ghost use Rattle.cep_infer.specs.Meaning.{AreParts};
 ghost use Rattle.cep_infer.specs.Places.{IsDraft};

@@ -15,7 +15,7 @@ use Rattle.cep_source.specs.declared.space.Space.{Space}
 use Rattle.cep_source.specs.declared.space.Space.TheVariants as space
 use Rattle.cep_source.specs.Items.{Source}
 use Rattle.cep_source.specs.Spaces.{Named, names_in}
-use Rattle.cep_source.specs.Misnamed.{IsTwice}
+use Rattle.cep_source.specs.Spaces.{IsTwice}
 use Rattle.cep_source.specs.Firsts.{again_among}
 
 there : (name : List ℕ) (names : List (List ℕ)) → list_any (λ other. bytes_eq other name) names ≡ true → Contains names name

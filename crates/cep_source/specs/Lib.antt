@@ -3,7 +3,6 @@ pub mod Spaces
 pub mod Uses
 pub mod Variables
 pub mod Starts
-pub mod Misnamed
 pub mod Codes
 pub mod Firsts
 pub mod Kept

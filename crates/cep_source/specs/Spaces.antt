@@ -1,11 +1,14 @@
 -- The spaces of names, and to which declaration a name goes: to the first that has it.
-use Rattle.std.specs.Prelude.{ℕ, ◌+◌, Bool, List, [], ◌∷◌, ◌++◌, Option, Some, None, map, length, codes, decimal}
+use Rattle.std.specs.Prelude.{◌≡◌, ℕ, ◌+◌, Bool, Contains, List, [], ◌∷◌, ◌++◌, Option, Some, None, map, length, codes, decimal}
 use Rattle.std.specs.Option.{option_map}
 use Rattle.std.specs.Str.{bytes_eq}
 use Rattle.std.specs.List.{list_any, find, position}
 use Rattle.cep_base.specs.declared.kind.PredKind.{PredKind}
 use Rattle.cep_parse.specs.declared.raw.Span.{Span}
 use Rattle.cep_parse.specs.declared.raw.RawAtom.{RawAtom}
+use Rattle.cep_refusal.specs.declared.fault.Fault.{Fault}
+use Rattle.cep_refusal.specs.declared.reason.Reason.TheVariants.{Twice}
+use Rattle.cep_refusal.specs.First.{wrong}
 use Rattle.cep_source.specs.declared.space.Space.{Space}
 use Rattle.cep_source.specs.declared.space.Space.TheVariants as space
 use Rattle.cep_source.specs.Items.{Source, PredItem, ConItem, RuleItem, ContextItem, said, sorts_of, preds_of, cons_of, stages_of, rules_of, contexts_of}
@@ -83,3 +86,13 @@ kind_named source name = option_map (λ pred. pred.kind) (pred_named source name
 -- the same of an atom's predicate
 abbrev pub kind_of : Source → RawAtom → Option PredKind
 kind_of source atom = kind_named source (said source atom.name)
+
+-- An earlier declaration of the space has the name.
+pub record IsTwice (source : Source) (fault : Fault) : Type 0 where
+  pub space : Space
+  pub before : List Named
+  pub entry : Named
+  pub after : List Named
+  pub names : names_in source space ≡ before ++ entry ∷ after
+  pub earlier : Contains (map (λ other. other.name) before) entry.name
+  pub is : fault ≡ wrong Twice entry.at

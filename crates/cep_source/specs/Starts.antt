@@ -1,14 +1,17 @@
--- The start state of a trace, and the sizes of atoms as they are written.
-use Rattle.std.specs.Prelude.{ℕ, ◌+◌, ◌≤◌, Bool, true, false, ◌&&◌, ◌==◌, if◌then◌else◌, List, [], ◌∷◌, ◌++◌, Option, Some, None, unwrap_or, length, max}
+-- The start state of a trace and its turns, and the sizes of atoms as they are written.
+use Rattle.std.specs.Prelude.{ℕ, ◌+◌, ◌≤◌, nat_le, Bool, true, false, ◌&&◌, ◌==◌, if◌then◌else◌, List, [], ◌∷◌, ◌++◌, Option, Some, None, unwrap_or, length, max}
 use Rattle.std.specs.Option.{option_map}
-use Rattle.std.specs.Str.{bytes_eq}
+use Rattle.std.specs.Str.{bytes_eq, all_ascii_digits}
+use Rattle.std.specs.Str.Parse.{digits_value, without_leading_plus}
 use Rattle.std.specs.List.{flat_map, list_any, repeat}
+use Rattle.cep_parse.specs.Symbols.{slice_of}
+use Rattle.cep_parse.specs.declared.raw.Span.{Span}
 use Rattle.cep_parse.specs.declared.raw.RawNode.{RawNode}
 use Rattle.cep_parse.specs.declared.raw.RawAtom.{RawAtom}
 use Rattle.cep_parse.specs.declared.raw.RawStart.{RawStart}
 use Rattle.cep_parse.specs.declared.raw.RawStart.TheVariants as start
 use Rattle.cep_base.specs.Kinds.{is_of_facts}
-use Rattle.cep_base.specs.declared.limits.TheConstants.{MOST_DEPTH, MOST_NODES}
+use Rattle.cep_base.specs.declared.limits.TheConstants.{MOST_DEPTH, MOST_NODES, MOST_TURNS}
 use Rattle.cep_source.specs.declared.space.Role.TheVariants as role
 use Rattle.cep_source.specs.Items.{Source, ContextItem, said}
 use Rattle.cep_source.specs.Spaces.{context_named, kind_of}
@@ -80,3 +83,10 @@ depth_written atom = max 1 (greatest (levels (repeat atom.args (2 ∷ [])) atom.
 pub record IsFitWritten (atom : RawAtom) : Type 0 where
   pub nodes : nodes_written atom ≤ MOST_NODES
   pub depth : depth_written atom ≤ MOST_DEPTH
+
+-- how many turns the digits at a span say, if a program may ask for as many; a plus may stand before them, as std reads numbers
+abbrev pub turns_said : List ℕ → Span → Option ℕ
+turns_said text span =
+    let digits = without_leading_plus (slice_of text span.from span.to) in
+    let turns = digits_value 10 digits in
+    if all_ascii_digits digits && (nat_le 1 turns && nat_le turns MOST_TURNS) then Some turns else None

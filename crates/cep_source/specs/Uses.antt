@@ -10,15 +10,13 @@ use Rattle.cep_parse.specs.declared.raw.RawElem.{RawElem}
 use Rattle.cep_parse.specs.declared.raw.RawElem.TheVariants as elem
 use Rattle.cep_parse.specs.declared.raw.RawRule.{RawRule}
 use Rattle.cep_parse.specs.declared.raw.RawStart.{RawStart}
-use Rattle.cep_parse.specs.declared.raw.RawStart.TheVariants as start
-use Rattle.cep_parse.specs.declared.raw.RawItem.{RawItem}
-use Rattle.cep_parse.specs.declared.raw.RawItem.TheVariants as item
+use Rattle.cep_parse.specs.declared.raw.RawStart.TheVariants as state
 use Rattle.cep_parse.specs.Raw.{atoms_of, start_listed}
 use Rattle.cep_source.specs.declared.space.Space.{Space}
 use Rattle.cep_source.specs.declared.space.Space.TheVariants as space
 use Rattle.cep_source.specs.declared.space.Role.{Role}
 use Rattle.cep_source.specs.declared.space.Role.TheVariants as role
-use Rattle.cep_source.specs.Items.{Source, ConItem, ClauseItem, said, cons_in, clauses_in}
+use Rattle.cep_source.specs.Items.{Source, PredItem, ConItem, ClauseItem, ContextItem, TraceItem, said, preds_of, cons_of, clauses_of, rules_of, interactives_of, contexts_of, traces_of}
 use Rattle.cep_source.specs.Spaces.{is_in}
 
 -- An atom, and where it stands.
@@ -29,6 +27,11 @@ pub record Placed : Type 0 where
 abbrev pub placed : Role → RawAtom → Placed
 placed role atom = record { role = role; atom = atom }
 
+-- An atom of a state: in a context or in the braces of a trace.
+pub data IsOfState : Role → Type 0 where
+  listed : IsOfState role.Listed
+  start : IsOfState role.Start
+
 -- the atoms of a rule, and of a clause
 abbrev pub rule_atoms : RawRule → List Placed
 rule_atoms rule = map (placed role.Needed) (atoms_of rule.left) ++ map (placed role.Made) (atoms_of rule.right)
@@ -36,24 +39,18 @@ rule_atoms rule = map (placed role.Needed) (atoms_of rule.left) ++ map (placed r
 abbrev pub clause_atoms : ClauseItem → List Placed
 clause_atoms clause = map (placed role.Clause) (clause.head ∷ clause.goals)
 
--- the atoms of an item, but for those of clauses
-abbrev pub own_atoms : RawItem → List Placed
-own_atoms (item.Outer rule) = rule_atoms rule
-own_atoms (item.Stage name rules) = flat_map rule_atoms rules
-own_atoms (item.Context name atoms) = map (placed role.Listed) atoms
-own_atoms (item.Trace at limit stage start) = map (placed role.Start) (start_listed start)
-own_atoms (item.Sort name) = []
-own_atoms (item.Pred name args of_kind) = []
-own_atoms (item.Colon left args right) = []
-own_atoms (item.Clause label head goals) = []
-own_atoms (item.Interactive name) = []
+-- the atoms of a context, and those in the braces of a trace
+abbrev pub context_atoms : ContextItem → List Placed
+context_atoms context = map (placed role.Listed) context.atoms
 
-abbrev pub item_atoms : Source → RawItem → List Placed
-item_atoms source item = own_atoms item ++ flat_map clause_atoms (clauses_in source item)
+abbrev pub trace_atoms : TraceItem → List Placed
+trace_atoms trace = map (placed role.Start) (start_listed trace.start)
 
 -- all atoms of the file
 abbrev pub placed_of : Source → List Placed
-placed_of source = flat_map (item_atoms source) source.file
+placed_of source =
+    flat_map (λ rule. rule_atoms rule.raw) (rules_of source)
+    ++ (flat_map clause_atoms (clauses_of source) ++ (flat_map context_atoms (contexts_of source) ++ flat_map trace_atoms (traces_of source)))
 
 -- A use of a name: where it is looked for, and with how many arguments it stands, if it may have any.
 pub record Use : Type 0 where
@@ -97,36 +94,37 @@ node_uses node = con_use node.kind node
 abbrev pub atom_uses : Source → Placed → List Use
 atom_uses source p = pred_uses source p ++ flat_map node_uses p.atom.nodes
 
--- the types that a constructor names
+-- the types that a predicate, and a constructor, names
+abbrev pub type_uses : PredItem → List Use
+type_uses pred = map (use_in space.Sorts) pred.args
+
 abbrev pub con_uses : ConItem → List Use
 con_uses con = map (use_in space.Sorts) (con.args ++ con.sort ∷ [])
 
--- the stages that a side names
+-- the stages that a rule names
 abbrev pub elem_uses : RawElem → List Use
 elem_uses (elem.Stage name) = use_in space.Stages name ∷ []
 elem_uses (elem.Atom kept atom) = []
 elem_uses (elem.Qui span) = []
 
--- the context that a start state names
+abbrev pub rule_uses : RawRule → List Use
+rule_uses rule = flat_map elem_uses (rule.left ++ rule.right)
+
+-- the stage that a trace names, and the context, where its start state is one
 abbrev pub start_uses : RawStart → List Use
-start_uses (start.Named name) = use_in space.Contexts name ∷ []
-start_uses (start.Listed atoms) = []
+start_uses (state.Named name) = use_in space.Contexts name ∷ []
+start_uses (state.Listed atoms) = []
 
--- the names that an item uses apart from its atoms
-abbrev pub own_uses : RawItem → List Use
-own_uses (item.Pred name args of_kind) = map (use_in space.Sorts) args
-own_uses (item.Outer rule) = flat_map elem_uses (rule.left ++ rule.right)
-own_uses (item.Interactive name) = use_in space.Stages name ∷ []
-own_uses (item.Trace at limit stage start) = use_in space.Stages stage ∷ start_uses start
-own_uses (item.Sort name) = []
-own_uses (item.Colon left args right) = []
-own_uses (item.Clause label head goals) = []
-own_uses (item.Stage name rules) = []
-own_uses (item.Context name atoms) = []
+abbrev pub trace_uses : TraceItem → List Use
+trace_uses trace = use_in space.Stages trace.stage ∷ start_uses trace.start
 
-abbrev pub item_uses : Source → RawItem → List Use
-item_uses source item = own_uses item ++ (flat_map con_uses (cons_in source item) ++ flat_map (atom_uses source) (item_atoms source item))
+-- the names that the file uses apart from its atoms
+abbrev pub other_uses : Source → List Use
+other_uses source =
+    flat_map type_uses (preds_of source)
+    ++ (flat_map con_uses (cons_of source)
+    ++ (flat_map (λ rule. rule_uses rule.raw) (rules_of source) ++ (map (use_in space.Stages) (interactives_of source) ++ flat_map trace_uses (traces_of source))))
 
 -- all names that the file uses
 abbrev pub uses_of : Source → List Use
-uses_of source = flat_map (item_uses source) source.file
+uses_of source = other_uses source ++ flat_map (atom_uses source) (placed_of source)

@@ -3,7 +3,7 @@ ghost use Rattle.std.specs.Option.{option_map};
 ghost use Rattle.cep_refusal.specs.First.{IsFirstOrNone};
 ghost use Rattle.cep_source.specs.Items.{said, is_said, interactives_of, sorts_of, cons_of, preds_of, stages_of, rules_of, contexts_of, traces_of, is_labelled};
 ghost use Rattle.cep_source.specs.Spaces.{is_in, first_place, arity_of, kind_named, con_named, pred_named, context_named};
-ghost use Rattle.cep_source.specs.Misnamed.{IsTwice};
+ghost use Rattle.cep_source.specs.Spaces.{IsTwice};
 ghost use Rattle.cep_source.specs.Starts.{listed_in};
 ghost use Rattle.cep_source.specs.Kept.{con_item, pred_item, rule_item, context_item, trace_item};
 

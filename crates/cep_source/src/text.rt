@@ -1,6 +1,6 @@
 ghost use Rattle.std.specs.Prelude.{◌≡◌};
 ghost use Rattle.cep_parse.specs.Symbols.{slice_of};
-ghost use Rattle.cep_source.specs.Misnamed.{turns_said};
+ghost use Rattle.cep_source.specs.Starts.{turns_said};
 
 use cep_base::limits::MOST_TURNS;
 use cep_parse::Span;

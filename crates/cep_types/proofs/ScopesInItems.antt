@@ -9,8 +9,8 @@ use Rattle.cep_source.specs.declared.space.Role.{Role}
 use Rattle.cep_source.specs.declared.space.Role.TheVariants as role
 use Rattle.cep_source.specs.Items.{Source, ClauseItem, RuleItem, bare, clause_or_none, clauses_in, clauses_of, is_labelled, rules_in, rules_from, rules_of, stages_behind}
 use Rattle.cep_parse.specs.Raw.{item_rules, atoms_of, start_listed}
-use Rattle.cep_source.specs.Misnamed.{IsOfState}
-use Rattle.cep_source.specs.Misnamed.IsOfState.{listed, start}
+use Rattle.cep_source.specs.Uses.{IsOfState}
+use Rattle.cep_source.specs.Uses.IsOfState.{listed, start}
 use Rattle.cep_source.specs.Uses.{Placed, placed, own_atoms, item_atoms, placed_of, rule_atoms, clause_atoms}
 use Rattle.cep_types.specs.Sites.{IsScope, clause_scope}
 use Rattle.cep_types.specs.Sites.IsScope.{rule, clause, state}

@@ -1,7 +1,7 @@
 use Rattle.std.proofs.Common.{List, ℕ, true, map, filter, ap, subst, ◌∙◌}
 use Rattle.cep_parse.specs.declared.raw.RawAtom.{RawAtom}
 use Rattle.cep_parse.specs.declared.raw.RawElem.{RawElem}
-use Rattle.cep_source.specs.Misnamed.{is_declared}
+use Rattle.cep_faults.specs.Premises.{is_declared}
 use Rattle.cep_source.specs.Spaces.{kind_of}
 use Rattle.cep_parse.specs.Raw.{atoms_of}
 use Rattle.cep_source.specs.declared.items.RuleRef.{RuleRef}

@@ -1,6 +1,6 @@
 use Rattle.std.proofs.Common.{true, option_to_list, sym, append-nil}
 use Rattle.cep_parse.specs.declared.raw.RawAtom.{RawAtom}
-use Rattle.cep_source.specs.Misnamed.{is_declared}
+use Rattle.cep_faults.specs.Premises.{is_declared}
 use Rattle.cep_source.specs.Spaces.{kind_of}
 use Rattle.cep_parse.specs.Raw.{atoms_in}
 use Rattle.cep_infer.proofs.Unbound.{kept_more}

@@ -1,5 +1,5 @@
 use Rattle.std.proofs.Common.{◌≡◌, true, map, filter, take}
-use Rattle.cep_source.specs.Misnamed.{is_declared}
+use Rattle.cep_faults.specs.Premises.{is_declared}
 use Rattle.cep_source.specs.Spaces.{kind_of}
 use Rattle.cep_parse.specs.Raw.{atoms_of}
 use Rattle.cep_infer.proofs.places.backs_at.Given as goal

@@ -1,6 +1,6 @@
 use Rattle.std.proofs.Common.{subst, inl}
 use Rattle.cep_refusal.specs.First.{IsFirstOrNone}
-use Rattle.cep_source.specs.Misnamed.{Misnamed}
+use Rattle.cep_faults.specs.Misnamed.{Misnamed}
 use Rattle.cep_infer.proofs.Drafting.{sound_or_first}
 use Rattle.cep_infer.proofs.resolving.drafted_from.Goals as goal
 

@@ -1,7 +1,7 @@
 use Rattle.std.proofs.Common.{subst}
 use Rattle.cep_refusal.specs.First.{IsFirstOrNone}
 use Rattle.cep_source.specs.Items.{Source}
-use Rattle.cep_source.specs.Misnamed.{IsTwice}
+use Rattle.cep_source.specs.Spaces.{IsTwice}
 use Rattle.cep_source.specs.Kept.{source_of}
 use Rattle.cep_source.proofs.Twice.{first_twice}
 use Rattle.cep_source.proofs.source.Source.twice.Goals as goal
