@@ -1,6 +1,6 @@
 -- Private.
--- The faults of each part of a file.
-use Rattle.std.specs.Prelude.{ℕ, ◌==◌, Bool, true, false, ◌&&◌, if◌then◌else◌, List, [], ◌∷◌, ◌++◌, Option, Some, None, is_some, map, count_by, slice_get}
+-- The faults of what a file declares, each taken alone.
+use Rattle.std.specs.Prelude.{ℕ, ◌==◌, Bool, true, false, ◌&&◌, if◌then◌else◌, List, [], ◌∷◌, ◌++◌, Option, Some, None, is_some, map, count_by, nat_le, slice_get}
 use Rattle.std.specs.List.{flat_map}
 use Rattle.cep_parse.specs.declared.raw.Span.{Span}
 use Rattle.cep_parse.specs.declared.raw.RawKind.{RawKind}
@@ -10,20 +10,20 @@ use Rattle.cep_parse.specs.declared.raw.RawAtom.{RawAtom}
 use Rattle.cep_parse.specs.declared.raw.RawElem.{RawElem}
 use Rattle.cep_parse.specs.declared.raw.RawElem.TheVariants as elem
 use Rattle.cep_parse.specs.declared.raw.RawRule.{RawRule}
-use Rattle.cep_parse.specs.declared.raw.RawItem.{RawItem}
-use Rattle.cep_parse.specs.declared.raw.RawItem.TheVariants as item
 use Rattle.cep_base.specs.declared.kind.PredKind.{PredKind}
 use Rattle.cep_base.specs.declared.kind.PredKind.TheVariants.{Linear, Back, Fact}
-use Rattle.cep_base.specs.declared.limits.TheConstants.{MOST_ARGUMENTS, MOST_BACKS, MOST_GOALS, MOST_PREMISES, MOST_RIGHT}
+use Rattle.cep_base.specs.declared.limits.TheConstants.{MOST_ARGUMENTS, MOST_BACKS, MOST_DEPTH, MOST_GOALS, MOST_NODES, MOST_PREMISES, MOST_RIGHT, MOST_VARIABLES}
 use Rattle.cep_refusal.specs.declared.fault.Fault.{Fault}
 use Rattle.cep_refusal.specs.declared.reason.Reason.TheVariants.{Unknown, WrongKind, WrongArity, VarInContext, BwdInState, LinearInClause, BadQui, OverLimit}
 use Rattle.cep_source.specs.declared.space.Space.TheVariants as space
 use Rattle.cep_source.specs.declared.space.Role.{Role}
 use Rattle.cep_source.specs.declared.space.Role.TheVariants as role
-use Rattle.cep_source.specs.Items.{Source, ConItem, ClauseItem, TraceItem, said, preds_in, cons_in, clauses_in, traces_in}
+use Rattle.cep_source.specs.Items.{Source, PredItem, ConItem, ClauseItem, RuleItem, ContextItem, TraceItem, said, preds_of, cons_of, clauses_of, rules_of, contexts_of, interactives_of, traces_of}
 use Rattle.cep_source.specs.Spaces.{is_in, arity_of, kind_named}
-use Rattle.cep_parse.specs.Raw.{item_rules, listed_atoms}
-use Rattle.cep_source.specs.Uses.{Placed, Use, placed, names_context, node_uses, con_uses, own_uses, rule_atoms, clause_atoms}
+use Rattle.cep_parse.specs.Raw.{atoms_of, raw_nodes, start_listed}
+use Rattle.cep_source.specs.Uses.{Placed, Use, use_in, names_context, node_uses, type_uses, con_uses, rule_uses, trace_uses, rule_atoms, clause_atoms, context_atoms, trace_atoms}
+use Rattle.cep_source.specs.Starts.{nodes_written, depth_written}
+use Rattle.cep_faults.specs.Seen.{unseen, new_in}
 use Rattle.cep_refusal.specs.First.{wrong}
 use Rattle.cep_faults.specs.Premises.{is_declared}
 use Rattle.cep_faults.specs.Misnamed.{is_somewhere, is_qui, is_stage}
@@ -105,7 +105,10 @@ argument_faults args = past (slice_get (map (λ span. span.from) args) MOST_ARGU
 abbrev pub places : List RawAtom → List ℕ
 places atoms = map (λ atom. atom.name.from) atoms
 
--- a constructor's types
+-- a predicate's declaration, and a constructor's
+abbrev pub predicate_faults : Source → PredItem → List Fault
+predicate_faults source pred = flat_map (use_faults source) (type_uses pred) ++ argument_faults pred.args
+
 abbrev pub con_faults : Source → ConItem → List Fault
 con_faults source con = flat_map (use_faults source) (con_uses con) ++ argument_faults con.args
 
@@ -132,14 +135,6 @@ size_faults source rule =
     ++ (past (slice_get (flat_map (premise_places source true) rule.left) MOST_BACKS)
     ++ past (slice_get (flat_map atom_places rule.right) MOST_RIGHT))
 
--- a rule, but for its variables
-abbrev pub rule_faults : Source → RawRule → List Fault
-rule_faults source rule = flat_map (placed_faults source) (rule_atoms rule) ++ size_faults source rule
-
--- a clause, but for its variables
-abbrev pub clause_faults : Source → ClauseItem → List Fault
-clause_faults source clause = flat_map (placed_faults source) (clause_atoms clause) ++ past (slice_get (places clause.goals) MOST_GOALS)
-
 -- whether a rule leads from one stage to one stage at quiescence
 abbrev pub is_qui_rule : RawRule → Bool
 is_qui_rule rule = (count_by is_qui rule.left == 1) && ((count_by is_stage rule.left == 1) && (count_by is_stage rule.right == 1))
@@ -147,48 +142,60 @@ is_qui_rule rule = (count_by is_qui rule.left == 1) && ((count_by is_stage rule.
 abbrev pub qui_faults : RawRule → List Fault
 qui_faults rule = if is_qui_rule rule then [] else wrong BadQui rule.at ∷ []
 
+-- a rule outside of stages
+abbrev pub home_faults : Option ℕ → RawRule → List Fault
+home_faults None rule = qui_faults rule
+home_faults (Some stage) rule = []
+
+-- the first variable that is one too many
+abbrev pub variable_faults : List ℕ → List RawAtom → List Fault
+variable_faults text atoms = past (slice_get (new_in text unseen (raw_nodes atoms)) MOST_VARIABLES)
+
+-- a rule, and a clause
+abbrev pub rule_faults : Source → RuleItem → List Fault
+rule_faults source rule =
+    flat_map (use_faults source) (rule_uses rule.raw)
+    ++ (flat_map (placed_faults source) (rule_atoms rule.raw)
+    ++ (size_faults source rule.raw ++ (home_faults rule.home rule.raw ++ variable_faults source.text (atoms_of rule.raw.left))))
+
+abbrev pub clause_faults : Source → ClauseItem → List Fault
+clause_faults source clause =
+    flat_map (placed_faults source) (clause_atoms clause)
+    ++ (past (slice_get (places clause.goals) MOST_GOALS) ++ variable_faults source.text (clause.head ∷ clause.goals))
+
+-- whether an atom may be kept in a state
+abbrev pub is_fit : RawAtom → Bool
+is_fit atom = nat_le (nodes_written atom) MOST_NODES && nat_le (depth_written atom) MOST_DEPTH
+
+abbrev pub unfit_faults : RawAtom → List Fault
+unfit_faults atom = if is_fit atom then [] else wrong OverLimit atom.name.from ∷ []
+
+-- a context
+abbrev pub context_faults : Source → ContextItem → List Fault
+context_faults source context = flat_map (placed_faults source) (context_atoms context) ++ flat_map unfit_faults context.atoms
+
+-- a stage that is said to be interactive
+abbrev pub interactive_faults : Source → Span → List Fault
+interactive_faults source name = use_faults source (use_in space.Stages name)
+
 -- a number of turns
 abbrev pub turns_faults : List ℕ → Option Span → List Fault
 turns_faults text None = []
 turns_faults text (Some number) = if is_some (turns_said text number) then [] else wrong OverLimit number.from ∷ []
 
+-- a trace, but for the size of its start state and its number among others
 abbrev pub trace_faults : Source → TraceItem → List Fault
-trace_faults source trace = turns_faults source.text trace.limit
+trace_faults source trace =
+    flat_map (use_faults source) (trace_uses trace)
+    ++ (flat_map (placed_faults source) (trace_atoms trace) ++ (flat_map unfit_faults (start_listed trace.start) ++ turns_faults source.text trace.limit))
 
--- the rules outside of stages
-abbrev pub outers_in : RawItem → List RawRule
-outers_in (item.Outer rule) = rule ∷ []
-outers_in (item.Sort name) = []
-outers_in (item.Pred name args of_kind) = []
-outers_in (item.Colon left args right) = []
-outers_in (item.Clause label head goals) = []
-outers_in (item.Stage name rules) = []
-outers_in (item.Context name atoms) = []
-outers_in (item.Interactive name) = []
-outers_in (item.Trace at limit stage start) = []
-
-abbrev pub state_role : RawItem → Role
-state_role (item.Trace at limit stage start) = role.Start
-state_role (item.Sort name) = role.Listed
-state_role (item.Pred name args of_kind) = role.Listed
-state_role (item.Colon left args right) = role.Listed
-state_role (item.Clause label head goals) = role.Listed
-state_role (item.Outer rule) = role.Listed
-state_role (item.Stage name rules) = role.Listed
-state_role (item.Context name atoms) = role.Listed
-state_role (item.Interactive name) = role.Listed
-
-abbrev pub state_atoms : RawItem → List Placed
-state_atoms item = map (placed (state_role item)) (listed_atoms item)
-
--- an item, but for its variables, the sizes of its atoms and its number among others
-abbrev pub item_faults : Source → RawItem → List Fault
-item_faults source item =
-    flat_map (use_faults source) (own_uses item)
-    ++ (flat_map (con_faults source) (cons_in source item)
-    ++ (flat_map (λ pred. argument_faults pred.args) (preds_in item)
-    ++ (flat_map (placed_faults source) (state_atoms item)
-    ++ (flat_map (clause_faults source) (clauses_in source item)
-    ++ (flat_map (rule_faults source) (item_rules item)
-    ++ (flat_map qui_faults (outers_in item)
-    ++ flat_map (trace_faults source) (traces_in item)))))))
+-- all that is declared, kind by kind
+abbrev pub kind_faults : Source → List Fault
+kind_faults source =
+    flat_map (predicate_faults source) (preds_of source)
+    ++ (flat_map (con_faults source) (cons_of source)
+    ++ (flat_map (rule_faults source) (rules_of source)
+    ++ (flat_map (clause_faults source) (clauses_of source)
+    ++ (flat_map (context_faults source) (contexts_of source)
+    ++ (flat_map (interactive_faults source) (interactives_of source)
+    ++ flat_map (trace_faults source) (traces_of source))))))

@@ -23,42 +23,13 @@ use Rattle.cep_source.specs.Starts.{listed_in, start_atoms, nodes_written, depth
 use Rattle.cep_source.specs.Uses.{names_context}
 use Rattle.cep_faults.specs.Faults.{past, item_faults}
 
--- the places of what an item declares
-abbrev pub places_in : Source → Counted → RawItem → List ℕ
-places_in source counted.Predicates item = map (λ pred. pred.name.from) (preds_in item)
-places_in source counted.Constructors item = map (λ con. con.name.from) (cons_in source item)
-places_in source counted.Rules item = map (λ rule. rule.at) (item_rules item)
-places_in source counted.Clauses item = map (λ clause. clause.head.name.from) (clauses_in source item)
-
 -- the first declaration of a kind that is one too many
-abbrev pub count_faults : Source → Counted → ℕ → List RawItem → List Fault
-count_faults source counted most file = past (slice_get (flat_map (places_in source counted) file) most)
-
-abbrev pub all_count_faults : Source → List RawItem → List Fault
-all_count_faults source file =
-    count_faults source counted.Predicates MOST_PREDS file
-    ++ (count_faults source counted.Constructors MOST_CONS file
-    ++ (count_faults source counted.Rules MOST_RULES file
-    ++ count_faults source counted.Clauses MOST_CLAUSES file))
-
--- the first variable that is one too many
-abbrev pub variable_faults : List ℕ → List RawAtom → List Fault
-variable_faults text atoms = past (slice_get (new_in text unseen (raw_nodes atoms)) MOST_VARIABLES)
-
-abbrev pub item_variable_faults : Source → RawItem → List Fault
-item_variable_faults source item =
-    flat_map (λ rule. variable_faults source.text (atoms_of rule.left)) (item_rules item)
-    ++ flat_map (λ clause. variable_faults source.text (clause.head ∷ clause.goals)) (clauses_in source item)
-
--- whether an atom may be kept in a state
-abbrev pub is_fit : RawAtom → Bool
-is_fit atom = nat_le (nodes_written atom) MOST_NODES && nat_le (depth_written atom) MOST_DEPTH
-
-abbrev pub unfit_faults : RawAtom → List Fault
-unfit_faults atom = if is_fit atom then [] else wrong OverLimit atom.name.from ∷ []
-
-abbrev pub item_unfit_faults : RawItem → List Fault
-item_unfit_faults item = flat_map unfit_faults (listed_atoms item)
+abbrev pub count_faults : Source → List Fault
+count_faults source =
+    past (slice_get (map (λ pred. pred.name.from) (preds_of source)) MOST_PREDS)
+    ++ (past (slice_get (map (λ con. con.name.from) (cons_of source)) MOST_CONS)
+    ++ (past (slice_get (map (λ rule. rule.raw.at) (rules_of source)) MOST_RULES)
+    ++ past (slice_get (map (λ clause. clause.head.name.from) (clauses_of source)) MOST_CLAUSES)))
 
 -- how many atoms there are, and how many nodes they have
 abbrev pub written_size : List RawAtom → Size
@@ -124,11 +95,6 @@ abbrev pub traces_faults : Source → List TraceItem → List Fault
 traces_faults source [] = wrong NoTrace (length source.text) ∷ []
 traces_faults source (trace ∷ rest) = start_faults source trace ++ two_faults rest
 
--- the faults of a file, but for names that are declared again
-abbrev pub all_faults : Source → List RawItem → List Fault
-all_faults source file =
-    flat_map (item_faults source) file
-    ++ (flat_map item_unfit_faults file
-    ++ (flat_map (item_variable_faults source) file
-    ++ (all_count_faults source file
-    ++ traces_faults source (traces_of source))))
+-- the faults of a text, but for names that are declared again
+abbrev pub all_faults : Source → List Fault
+all_faults source = kind_faults source ++ (count_faults source ++ traces_faults source (traces_of source))

@@ -108,6 +108,13 @@ impl<'a> Source<'a> {
         &self.kinds.stages
     }
 
+    /// The names of the stages that are said to be interactive.
+    pub fn interactives(&self) -> &[Span]
+        ensures { result.now ≡ interactives_of self.now }
+    {
+        &self.kinds.interactives
+    }
+
     /// The contexts.
     pub fn contexts(&self) -> &[RawContext<'a>]
         ensures { map context_item result.now ≡ contexts_of self.now }
