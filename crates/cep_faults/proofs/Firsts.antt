@@ -1,8 +1,8 @@
 -- The first fault of lists of faults.
-use Rattle.std.proofs.Common.{◌≡◌, List, [], ◌∷◌, ◌++◌, map, Option, sym, ◌∙◌, ap, append-nil}
+use Rattle.std.proofs.Common.{◌≡◌, ◌≤◌, ℕ, length, take, List, [], ◌∷◌, ◌++◌, map, Option, sym, ◌∙◌, ap, append-nil}
 use Rattle.std.specs.List.{flat_map}
 use Rattle.std.proofs.lemmas.Grind.{flat_map-append}
-use Rattle.std.proofs.lemmas.List.{map-append}
+use Rattle.std.proofs.lemmas.List.{map-append, take_all}
 use Rattle.cep_refusal.specs.declared.fault.Fault.{Fault}
 use Rattle.cep_refusal.specs.First.{standing, first_of, first_in}
 use Rattle.cep_base.proofs.Foremost.{foremost_append}
@@ -38,3 +38,7 @@ first_with_sides f g left right more others one two both last rest end_ all is_o
     simp append-nil (first_in_append more others) in
     let whole = first_in_append (flat_map f (flat_map g (left ++ right))) ((more ++ []) ++ ((others ++ []) ++ [])) in
     cc
+
+-- what a loop over all of a kind has found
+pub all_mapped : {X Y : Type 0} (f : Y → List Fault) (v : X → Y) (xs : List X) (ys : List Y) (i : ℕ) (first : Option Fault) → length xs ≤ i → map v xs ≡ ys → first ≡ first_in (flat_map f (map v (take i xs))) → first ≡ first_in (flat_map f ys)
+all_mapped f v xs ys i first done are is = is ∙ ap (λ zs. first_in (flat_map f (map v zs))) (take_all i xs done) ∙ ap (λ zs. first_in (flat_map f zs)) are

@@ -5,12 +5,10 @@ ghost use Rattle.cep_refusal.specs.First.{first_in, IsFirstOrNone};
 ghost use Rattle.cep_faults.specs.Totals.{all_faults};
 ghost use Rattle.cep_faults.specs.Misnamed.{Misnamed};
 
-use crate::counts::counts_fault;
-use crate::fitness::fitness_fault;
-use crate::items::items_fault;
+use crate::kinds::kinds_fault;
+use crate::limits::count_past;
 use crate::sizes::Sizes;
-use crate::traces::traces_fault;
-use crate::variables::variables_fault;
+use crate::traces::total_fault;
 use cep_refusal::Fault;
 use cep_source::Source;
 use std::alloc::AllocError;
@@ -18,14 +16,11 @@ use std::alloc::AllocError;
 // The first fault of a text, but for names that are declared again.
 fn other_fault(source: &Source) -> Result<Option<Fault>, AllocError>
     requires { length source.now.text ≤ MOST_TEXT }
-    ensures { IfOk result (λ first. first ≡ first_in (all_faults source.now source.now.file)) }
+    ensures { IfOk result (λ first. first ≡ first_in (all_faults source.now)) }
 {
     let sizes = Sizes::of(source)?;
-    let items = source.items();
-    let totals = Fault::first_of(counts_fault(source, items), traces_fault(source, &sizes)?);
-    let variables = Fault::first_of(variables_fault(source, items)?, totals);
-    let atoms = Fault::first_of(fitness_fault(source.alloc(), items)?, variables);
-    Ok(Fault::first_of(items_fault(source, items), atoms))
+    let totals = Fault::first_of(count_past(source), total_fault(source, &sizes)?);
+    Ok(Fault::first_of(kinds_fault(source)?, totals))
 }
 
 /// The first fault of a text's names, or none: a name that is declared again, a use of a name that

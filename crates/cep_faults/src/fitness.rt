@@ -5,11 +5,12 @@ ghost use Rattle.std.specs.List.{flat_map, repeat};
 ghost use Rattle.cep_refusal.specs.First.{first_in};
 ghost use Rattle.cep_faults.specs.Levels.{pending, is_shallow};
 ghost use Rattle.cep_source.specs.Starts.{levels, greatest};
-ghost use Rattle.cep_faults.specs.Totals.{is_fit, unfit_faults, item_unfit_faults};
+ghost use Rattle.cep_faults.specs.Faults.{is_fit, unfit_faults};
 
+use crate::limits::past;
 use cep_base::limits::{MOST_DEPTH, MOST_NODES};
-use cep_parse::{RawAtom, RawItem, RawNode};
-use cep_refusal::{Fault, FirstFault, Reason};
+use cep_parse::{RawAtom, RawNode};
+use cep_refusal::{Fault, FirstFault};
 use std::alloc::{AllocError, Global};
 
 /// Terms of one level that are still to come: one, and so many more.
@@ -79,36 +80,15 @@ fn is_fit(alloc: Global, atom: &RawAtom) -> Result<bool, AllocError>
     is_shallow(alloc, atom.args, nodes)
 }
 
-// The fault of an atom that may not be kept in a state.
-fn unfit_fault(alloc: Global, atom: &RawAtom) -> Result<Option<Fault>, AllocError>
-    ensures { IfOk result (λ first. first ≡ first_in (unfit_faults atom.now)) }
-{
-    if is_fit(alloc, atom)? {
-        return Ok(None);
-    }
-    Ok(Some(Fault {
-        reason: Reason::OverLimit,
-        at: atom.name.from,
-    }))
-}
-
-fn atoms_fault(alloc: Global, atoms: &[RawAtom]) -> Result<Option<Fault>, AllocError>
+// The first atom that may not be kept in a state.
+pub(crate) fn unfit_fault(alloc: Global, atoms: &[RawAtom]) -> Result<Option<Fault>, AllocError>
     ensures { IfOk result (λ first. first ≡ first_in (flat_map unfit_faults atoms.now)) }
 {
     let mut first = FirstFault::none();
     for atom in atoms {
-        first.note(unfit_fault(alloc, atom)?);
-    }
-    Ok(first.found())
-}
-
-// The first atom of a state that may not be kept there.
-pub(crate) fn fitness_fault(alloc: Global, items: &[RawItem]) -> Result<Option<Fault>, AllocError>
-    ensures { IfOk result (λ first. first ≡ first_in (flat_map item_unfit_faults items.now)) }
-{
-    let mut first = FirstFault::none();
-    for item in items {
-        first.note(atoms_fault(alloc, item.listed())?);
+        if !is_fit(alloc, atom)? {
+            first.note(past(Some(atom.name.from)));
+        }
     }
     Ok(first.found())
 }

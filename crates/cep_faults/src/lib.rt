@@ -3,10 +3,10 @@
 
 mod atoms;
 mod checking;
-mod counts;
 mod facts;
 mod fitness;
-mod items;
+mod kinds;
+mod limits;
 mod rules;
 mod sizes;
 mod traces;

@@ -7,6 +7,7 @@ ghost use Rattle.cep_source.specs.Kept.{trace_item};
 ghost use Rattle.cep_faults.specs.Totals.{AreSizes, is_large, start_faults, two_faults, traces_faults};
 
 use crate::facts::facts_of_start;
+use crate::limits::past;
 use crate::sizes::Sizes;
 use cep_base::limits::{MOST_COPIES, MOST_STATE_NODES};
 use cep_refusal::{Fault, FirstFault, Reason};
@@ -14,7 +15,7 @@ use cep_source::{Source, TraceRef};
 use std::alloc::AllocError;
 
 // The fault of a start state that is too large.
-fn start_fault(
+fn large_fault(
     source: &Source,
     sizes: &Sizes,
     trace: &TraceRef,
@@ -25,10 +26,7 @@ fn start_fault(
     let facts = facts_of_start(source, trace.start)?;
     let size = sizes.of_start(source, trace.start).and(facts);
     if size.copies > MOST_COPIES || size.nodes > MOST_STATE_NODES {
-        return Ok(Some(Fault {
-            reason: Reason::OverLimit,
-            at: trace.at,
-        }));
+        return Ok(past(Some(trace.at)));
     }
     Ok(None)
 }
@@ -60,14 +58,14 @@ fn no_trace(source: &Source) -> Fault
 
 // The first fault of the traces: the first one's start state, each one after it, or that there is
 // none.
-pub(crate) fn traces_fault(source: &Source, sizes: &Sizes) -> Result<Option<Fault>, AllocError>
+pub(crate) fn total_fault(source: &Source, sizes: &Sizes) -> Result<Option<Fault>, AllocError>
     requires short { length source.now.text ≤ MOST_TEXT }
     requires sizes { AreSizes source.now sizes.now }
     ensures { IfOk result (λ first. first ≡ first_in (traces_faults source.now (traces_of source.now))) }
 {
     match source.traces().split_first() {
         Some((trace, rest)) => {
-            let first = start_fault(source, sizes, trace)?;
+            let first = large_fault(source, sizes, trace)?;
             Ok(Fault::first_of(first, two_fault(rest)))
         }
         None => Ok(Some(no_trace(source))),

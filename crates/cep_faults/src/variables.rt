@@ -2,17 +2,16 @@
 ghost use Rattle.std.specs.Prelude.{◌≡◌, ◌≤◌, ◌+◌, [], ◌∷◌, ◌++◌, Some, None, not, ◌-◌, if◌then◌else◌, Ok, slice_get, codes, decimal, IfOk, OnOk};
 ghost use Rattle.std.specs.List.{flat_map};
 ghost use Rattle.cep_refusal.specs.First.{first_in};
-ghost use Rattle.cep_faults.specs.Faults.{past};
+ghost use Rattle.cep_faults.specs.Faults.{past, variable_faults};
 ghost use Rattle.cep_source.specs.Firsts.{has_name};
-ghost use Rattle.cep_faults.specs.Totals.{variable_faults, item_variable_faults};
 ghost use Rattle.cep_parse.specs.Raw.{atoms_in, atoms_of, raw_nodes};
 ghost use Rattle.cep_faults.specs.Seen.{unseen, met, new_at, blank_name, met_kind, new_kind, met_all, new_in};
 
-use crate::rules::past;
+use crate::limits::past;
 use cep_base::Text;
 use cep_base::limits::MOST_VARIABLES;
-use cep_parse::{RawAtom, RawElem, RawItem, RawKind, RawNode, RawRule};
-use cep_refusal::{Fault, FirstFault};
+use cep_parse::{RawAtom, RawElem, RawKind, RawNode};
+use cep_refusal::Fault;
 use cep_source::{FirstPlaces, Source, said};
 use std::alloc::{AllocError, Global};
 
@@ -135,63 +134,28 @@ fn side_past(alloc: Global, text: &[u8], side: &[RawElem]) -> Result<Option<u32>
     Ok(None)
 }
 
-// The first variable of a rule's left side that is one too many.
-fn rule_fault(alloc: Global, text: &[u8], rule: &RawRule) -> Result<Option<Fault>, AllocError>
-    ensures { IfOk result (λ first. first ≡ first_in (variable_faults text.now (atoms_of rule.now.left))) }
+// The first variable of a left side that is one too many.
+pub(crate) fn left_past(source: &Source, left: &[RawElem]) -> Result<Option<Fault>, AllocError>
+    ensures { IfOk result (λ first. first ≡ first_in (variable_faults source.now.text (atoms_of left.now))) }
 {
-    let at = side_past(alloc, text, rule.left.as_slice())?;
+    let at = side_past(source.alloc(), source.text(), left)?;
     Ok(past(at))
 }
 
-fn rules_fault(alloc: Global, text: &[u8], rules: &[RawRule]) -> Result<Option<Fault>, AllocError>
-    ensures { IfOk result (λ first. first ≡ first_in (flat_map (λ rule. variable_faults text.now (atoms_of rule.left)) rules.now)) }
-{
-    let mut first = FirstFault::none();
-    for rule in rules {
-        first.note(rule_fault(alloc, text, rule)?);
-    }
-    Ok(first.found())
-}
-
 // The first variable of a clause that is one too many.
-fn clause_fault(
-    alloc: Global,
-    text: &[u8],
+pub(crate) fn clause_variables_past(
+    source: &Source,
     head: &RawAtom,
     goals: &[RawAtom],
 ) -> Result<Option<Fault>, AllocError>
-    ensures { IfOk result (λ first. first ≡ first_in (variable_faults text.now (head.now ∷ goals.now))) }
+    ensures { IfOk result (λ first. first ≡ first_in (variable_faults source.now.text (head.now ∷ goals.now))) }
 {
+    let alloc = source.alloc();
+    let text = source.text();
     let mut seen = Seen::new(alloc);
     if let Some(at) = seen.meet_nodes(alloc, text, head.nodes.as_slice())? {
         return Ok(past(Some(at)));
     }
     let at = seen.meet_atoms(alloc, text, goals)?;
     Ok(past(at))
-}
-
-// The first variable of an item that is one too many.
-fn item_fault(source: &Source, item: &RawItem) -> Result<Option<Fault>, AllocError>
-    ensures { IfOk result (λ first. first ≡ first_in (item_variable_faults source.now item.now)) }
-{
-    let alloc = source.alloc();
-    let text = source.text();
-    match item {
-        RawItem::Clause { head, goals, .. } => clause_fault(alloc, text, head, goals.as_slice()),
-        _ => rules_fault(alloc, text, item.rules()),
-    }
-}
-
-// The first variable that is one too many in a rule's left side or a clause.
-pub(crate) fn variables_fault(
-    source: &Source,
-    items: &[RawItem],
-) -> Result<Option<Fault>, AllocError>
-    ensures { IfOk result (λ first. first ≡ first_in (flat_map (item_variable_faults source.now) items.now)) }
-{
-    let mut first = FirstFault::none();
-    for item in items {
-        first.note(item_fault(source, item)?);
-    }
-    Ok(first.found())
 }

@@ -1,8 +1,13 @@
+use Rattle.cep_source.specs.Kept.{rule_item}
 use Rattle.cep_faults.specs.Faults.{rule_faults}
 use Rattle.cep_refusal.specs.First.{standing}
-use Rattle.cep_base.proofs.ForemostLoops.{foremost_more}
+use Rattle.cep_base.proofs.ForemostLoops.{foremost_mapped}
+use Rattle.cep_faults.proofs.Firsts.{all_mapped}
 use Rattle.cep_faults.proofs.rules.rules_fault.Goals as goal
 
 pub loop-rule-preserved : goal.loop-rule-preserved
 loop-rule-preserved c =
-    foremost_more standing (rule_faults c.args.source.now) c.args.rules.now c.loop-rule.rule-index _ _ _ _ c.loop-rule-test.true c.rule-item.is c.loop-rule.invariant c.rule_fault.ensures c.note.ensures
+    foremost_mapped standing (rule_faults c.args.source.now) rule_item c.rules-rule-items.result.now c.loop-rule.rule-index c.rule-item.result _ _ _ c.loop-rule-test.true c.rule-item.is c.loop-rule.invariant c.in_ok-rule_fault.ensures c.note.ensures
+
+pub returns : goal.returns
+returns c = all_mapped (rule_faults c.args.source.now) rule_item c.rules-rule-items.result.now _ c.loop-rule.rule-index _ c.loop-rule-test.false c.rules-rule-items.ensures c.loop-rule.invariant

@@ -1,0 +1,13 @@
+use Rattle.cep_source.specs.Kept.{context_item}
+use Rattle.cep_faults.specs.Faults.{context_faults}
+use Rattle.cep_refusal.specs.First.{standing}
+use Rattle.cep_base.proofs.ForemostLoops.{foremost_mapped}
+use Rattle.cep_faults.proofs.Firsts.{all_mapped}
+use Rattle.cep_faults.proofs.kinds.contexts_fault.Goals as goal
+
+pub loop-context-preserved : goal.loop-context-preserved
+loop-context-preserved c =
+    foremost_mapped standing (context_faults c.args.source.now) context_item c.contexts-context-items.result.now c.loop-context.context-index c.context-item.result _ _ _ c.loop-context-test.true c.context-item.is c.loop-context.invariant c.in_ok-context_fault.ensures c.note.ensures
+
+pub returns : goal.returns
+returns c = all_mapped (context_faults c.args.source.now) context_item c.contexts-context-items.result.now _ c.loop-context.context-index _ c.loop-context-test.false c.contexts-context-items.ensures c.loop-context.invariant
