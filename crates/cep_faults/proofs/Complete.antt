@@ -6,7 +6,6 @@ use Rattle.cep_parse.specs.declared.raw.Span.{Span}
 use Rattle.cep_parse.specs.declared.raw.RawNode.{RawNode}
 use Rattle.cep_parse.specs.declared.raw.RawAtom.{RawAtom}
 use Rattle.cep_parse.specs.declared.raw.RawRule.{RawRule}
-use Rattle.cep_parse.specs.declared.raw.RawItem.{RawItem}
 use Rattle.cep_base.specs.declared.kind.PredKind.{PredKind}
 use Rattle.cep_base.specs.declared.kind.PredKind.TheVariants.{Linear, Back, Fact}
 use Rattle.cep_base.specs.declared.limits.TheConstants.{MOST_ARGUMENTS, MOST_BACKS, MOST_CLAUSES, MOST_CONS, MOST_COPIES, MOST_DEPTH, MOST_GOALS, MOST_NODES, MOST_PREDS, MOST_PREMISES, MOST_RIGHT, MOST_RULES, MOST_STATE_NODES, MOST_VARIABLES}
@@ -16,9 +15,8 @@ use Rattle.cep_source.specs.declared.space.Space.{Space}
 use Rattle.cep_source.specs.declared.space.Space.TheVariants as space
 use Rattle.cep_source.specs.declared.space.Role.{Role}
 use Rattle.cep_source.specs.declared.space.Role.TheVariants as role
-use Rattle.cep_faults.specs.declared.counts.Counted.TheVariants as counted
-use Rattle.cep_source.specs.Items.{Source, PredItem, ConItem, ClauseItem, RuleItem, TraceItem, said, cons_in, cons_of, preds_in, preds_of, clauses_in, clauses_of, rules_of, traces_in, traces_of}
-use Rattle.cep_parse.specs.Raw.{item_rules, atoms_of, raw_nodes, listed_atoms}
+use Rattle.cep_source.specs.Items.{Source, PredItem, ConItem, ClauseItem, RuleItem, ContextItem, TraceItem, said, preds_of, cons_of, clauses_of, rules_of, interactives_of, contexts_of, traces_of}
+use Rattle.cep_parse.specs.Raw.{atoms_of, raw_nodes, start_listed}
 use Rattle.cep_faults.specs.Premises.{state_premises_of, backward_of, is_declared}
 use Rattle.cep_faults.specs.Misnamed.{Misnamed, ComesToState, IsOpen, IsQuiRule, is_somewhere, is_qui, is_stage}
 use Rattle.cep_source.specs.Spaces.{IsTwice}
@@ -30,17 +28,16 @@ use Rattle.cep_faults.specs.Misnamed.Misnamed.{twice, unknown, wrong_kind, wrong
 use Rattle.cep_faults.specs.Misnamed.IsOpen.{variable, blank}
 use Rattle.cep_source.specs.Uses.IsOfState.{listed, start}
 use Rattle.cep_faults.specs.Misnamed.ComesToState.{made}
-use Rattle.cep_source.specs.Spaces.{names_in, is_in, arity_of, kind_of}
+use Rattle.cep_source.specs.Spaces.{is_in, arity_of, kind_of}
 use Rattle.cep_source.specs.Starts.{IsFitWritten, nodes_written, depth_written, start_atoms, counting}
-use Rattle.cep_source.specs.Uses.{Placed, Use, placed, is_context, own_uses, con_uses, pred_uses, node_uses, atom_uses, item_uses, uses_of, own_atoms, item_atoms, placed_of, rule_atoms, clause_atoms}
+use Rattle.cep_source.specs.Uses.{Placed, Use, use_in, placed, is_context, type_uses, con_uses, rule_uses, trace_uses, pred_uses, node_uses, atom_uses, other_uses, uses_of, placed_of, rule_atoms, clause_atoms, context_atoms, trace_atoms}
 use Rattle.cep_source.specs.Variables.{variables_of}
 use Rattle.cep_faults.specs.Seen.{unseen, new_in}
-use Rattle.cep_faults.specs.Faults.{lack_faults, arity_faults, use_faults, pred_faults, node_faults, open_faults, back_faults, linear_faults, state_faults, role_faults, placed_faults, past, places, argument_faults, con_faults, size_faults, rule_faults, clause_faults, premise_places, is_qui_rule, qui_faults, turns_faults, trace_faults, outers_in, state_role, state_atoms, item_faults}
-use Rattle.cep_faults.specs.Totals.{variable_faults, item_variable_faults, is_fit, unfit_faults, item_unfit_faults, count_faults, all_count_faults, written_size, is_large, whole_size, start_faults, traces_faults, all_faults}
+use Rattle.cep_faults.specs.Faults.{lack_faults, arity_faults, use_faults, pred_faults, node_faults, open_faults, back_faults, linear_faults, state_faults, role_faults, placed_faults, past, places, argument_faults, predicate_faults, con_faults, size_faults, rule_faults, clause_faults, context_faults, interactive_faults, trace_faults, kind_faults, premise_places, is_qui_rule, qui_faults, home_faults, variable_faults, turns_faults, is_fit, unfit_faults}
+use Rattle.cep_faults.specs.Totals.{count_faults, written_size, is_large, whole_size, start_faults, traces_faults, all_faults}
 use Rattle.cep_base.proofs.Members.{In, here, in_nil, in_one, in_same, in_left, in_right, in_parts, through, via, image, mapped, from_contains, give}
-use Rattle.cep_faults.proofs.Parts.{own_parts, housed}
-use Rattle.cep_faults.proofs.Same.{atom_at, entry_at, head_at, occurrence_from, premise_list, atom_list, preds_at, cons_at, clauses_at, rules_at, whole_same, large_same}
-use Rattle.cep_faults.proofs.SoundItems.{variable_list}
+use Rattle.cep_faults.proofs.Same.{atom_at, pred_place, con_place, rule_place, head_at, occurrence_from, premise_list, atom_list, whole_same, large_same}
+use Rattle.cep_faults.proofs.SoundKinds.{variable_list}
 
 is_one : (w fault : Fault) → fault ≡ w → In (w ∷ []) fault
 is_one w fault e = subst (In (w ∷ [])) (sym e) (here w [])
@@ -48,72 +45,73 @@ is_one w fault e = subst (In (w ∷ [])) (sym e) (here w [])
 in_same_fault : (faults : List Fault) (w fault : Fault) → fault ≡ w → In faults w → In faults fault
 in_same_fault faults w fault e h = subst (In faults) (sym e) h
 
--- the faults of an item are among all
-in_item : (source : Source) (item : RawItem) (fault : Fault) → In source.file item → In (item_faults source item) fault → In (all_faults source source.file) fault
-in_item source item fault member h = in_left (flat_map (item_faults source) source.file) _ fault (via (item_faults source) source.file item fault member h)
+-- the faults of each kind are among all
+module _ (source : Source) (fault : Fault) where
+  in_kinds : In (kind_faults source) fault → In (all_faults source) fault
+  in_kinds h = in_left (kind_faults source) _ fault h
 
-module _ (source : Source) (item : RawItem) (fault : Fault) where
-  part_uses : In (flat_map (use_faults source) (own_uses item)) fault → In (item_faults source item) fault
-  part_uses h = in_left (flat_map (use_faults source) (own_uses item)) _ fault h
+  past_preds : In (flat_map (con_faults source) (cons_of source) ++ (flat_map (rule_faults source) (rules_of source) ++ (flat_map (clause_faults source) (clauses_of source)
+      ++ (flat_map (context_faults source) (contexts_of source) ++ (flat_map (interactive_faults source) (interactives_of source) ++ flat_map (trace_faults source) (traces_of source)))))) fault → In (all_faults source) fault
+  past_preds h = in_kinds (in_right (flat_map (predicate_faults source) (preds_of source)) _ fault h)
 
-  past_cons : In (flat_map (λ (pred : PredItem). argument_faults pred.args) (preds_in item) ++ (flat_map (placed_faults source) (state_atoms item) ++ (flat_map (clause_faults source) (clauses_in source item)
-      ++ (flat_map (rule_faults source) (item_rules item) ++ (flat_map qui_faults (outers_in item) ++ flat_map (trace_faults source) (traces_in item)))))) fault
-      → In (item_faults source item) fault
-  past_cons h = in_right (flat_map (use_faults source) (own_uses item)) _ fault (in_right (flat_map (con_faults source) (cons_in source item)) _ fault h)
+  past_clauses : In (flat_map (context_faults source) (contexts_of source) ++ (flat_map (interactive_faults source) (interactives_of source) ++ flat_map (trace_faults source) (traces_of source))) fault → In (all_faults source) fault
+  past_clauses h = past_preds (in_right (flat_map (con_faults source) (cons_of source)) _ fault (in_right (flat_map (rule_faults source) (rules_of source)) _ fault (in_right (flat_map (clause_faults source) (clauses_of source)) _ fault h)))
 
-  part_con : (con : ConItem) → In (cons_in source item) con → In (con_faults source con) fault → In (item_faults source item) fault
-  part_con con m h =
-      in_right (flat_map (use_faults source) (own_uses item)) _ fault (in_left (flat_map (con_faults source) (cons_in source item)) _ fault
-      (via (con_faults source) (cons_in source item) con fault m h))
+  of_pred : (pred : PredItem) → In (preds_of source) pred → In (predicate_faults source pred) fault → In (all_faults source) fault
+  of_pred pred m h = in_kinds (in_left (flat_map (predicate_faults source) (preds_of source)) _ fault (via (predicate_faults source) (preds_of source) pred fault m h))
 
-  part_pred : (pred : PredItem) → In (preds_in item) pred → In (argument_faults pred.args) fault → In (item_faults source item) fault
-  part_pred pred m h = past_cons (in_left (flat_map (λ (pred : PredItem). argument_faults pred.args) (preds_in item)) _ fault (via (λ (pred : PredItem). argument_faults pred.args) (preds_in item) pred fault m h))
+  of_con : (con : ConItem) → In (cons_of source) con → In (con_faults source con) fault → In (all_faults source) fault
+  of_con con m h = past_preds (in_left (flat_map (con_faults source) (cons_of source)) _ fault (via (con_faults source) (cons_of source) con fault m h))
 
-  past_states : In (flat_map (clause_faults source) (clauses_in source item)
-      ++ (flat_map (rule_faults source) (item_rules item) ++ (flat_map qui_faults (outers_in item) ++ flat_map (trace_faults source) (traces_in item)))) fault
-      → In (item_faults source item) fault
-  past_states h = past_cons (in_right (flat_map (λ (pred : PredItem). argument_faults pred.args) (preds_in item)) _ fault (in_right (flat_map (placed_faults source) (state_atoms item)) _ fault h))
+  of_rule : (rule : RuleItem) → In (rules_of source) rule → In (rule_faults source rule) fault → In (all_faults source) fault
+  of_rule rule m h =
+      past_preds (in_right (flat_map (con_faults source) (cons_of source)) _ fault (in_left (flat_map (rule_faults source) (rules_of source)) _ fault (via (rule_faults source) (rules_of source) rule fault m h)))
 
-  part_state : (p : Placed) → In (state_atoms item) p → In (placed_faults source p) fault → In (item_faults source item) fault
-  part_state p m h =
-      past_cons (in_right (flat_map (λ (pred : PredItem). argument_faults pred.args) (preds_in item)) _ fault
-      (in_left (flat_map (placed_faults source) (state_atoms item)) _ fault (via (placed_faults source) (state_atoms item) p fault m h)))
+  of_clause : (clause : ClauseItem) → In (clauses_of source) clause → In (clause_faults source clause) fault → In (all_faults source) fault
+  of_clause clause m h =
+      past_preds (in_right (flat_map (con_faults source) (cons_of source)) _ fault (in_right (flat_map (rule_faults source) (rules_of source)) _ fault
+      (in_left (flat_map (clause_faults source) (clauses_of source)) _ fault (via (clause_faults source) (clauses_of source) clause fault m h))))
 
-  part_clause : (clause : ClauseItem) → In (clauses_in source item) clause → In (clause_faults source clause) fault → In (item_faults source item) fault
-  part_clause clause m h =
-      past_states (in_left (flat_map (clause_faults source) (clauses_in source item)) _ fault
-      (via (clause_faults source) (clauses_in source item) clause fault m h))
+  of_context : (context : ContextItem) → In (contexts_of source) context → In (context_faults source context) fault → In (all_faults source) fault
+  of_context context m h = past_clauses (in_left (flat_map (context_faults source) (contexts_of source)) _ fault (via (context_faults source) (contexts_of source) context fault m h))
 
-  part_rule : (rule : RawRule) → In (item_rules item) rule → In (rule_faults source rule) fault → In (item_faults source item) fault
-  part_rule rule m h =
-      past_states (in_right (flat_map (clause_faults source) (clauses_in source item)) _ fault
-      (in_left (flat_map (rule_faults source) (item_rules item)) _ fault (via (rule_faults source) (item_rules item) rule fault m h)))
+  of_interactive : (name : Span) → In (interactives_of source) name → In (interactive_faults source name) fault → In (all_faults source) fault
+  of_interactive name m h =
+      past_clauses (in_right (flat_map (context_faults source) (contexts_of source)) _ fault
+      (in_left (flat_map (interactive_faults source) (interactives_of source)) _ fault (via (interactive_faults source) (interactives_of source) name fault m h)))
 
-  past_rules : In (flat_map qui_faults (outers_in item) ++ flat_map (trace_faults source) (traces_in item)) fault → In (item_faults source item) fault
-  past_rules h =
-      past_states (in_right (flat_map (clause_faults source) (clauses_in source item)) _ fault (in_right (flat_map (rule_faults source) (item_rules item)) _ fault h))
+  of_trace : (trace : TraceItem) → In (traces_of source) trace → In (trace_faults source trace) fault → In (all_faults source) fault
+  of_trace trace m h =
+      past_clauses (in_right (flat_map (context_faults source) (contexts_of source)) _ fault
+      (in_right (flat_map (interactive_faults source) (interactives_of source)) _ fault (via (trace_faults source) (traces_of source) trace fault m h)))
 
-  part_qui : (rule : RawRule) → In (outers_in item) rule → In (qui_faults rule) fault → In (item_faults source item) fault
-  part_qui rule m h = past_rules (in_left (flat_map qui_faults (outers_in item)) _ fault (via qui_faults (outers_in item) rule fault m h))
+-- the atoms of a rule, and what is behind them
+module _ (source : Source) (rule : RuleItem) (fault : Fault) where
+  rule_atom : (p : Placed) → In (rule_atoms rule.raw) p → In (placed_faults source p) fault → In (rule_faults source rule) fault
+  rule_atom p m h =
+      in_right (flat_map (use_faults source) (rule_uses rule.raw)) _ fault
+      (in_left (flat_map (placed_faults source) (rule_atoms rule.raw)) _ fault (via (placed_faults source) (rule_atoms rule.raw) p fault m h))
 
-  part_trace : (trace : TraceItem) → In (traces_in item) trace → In (trace_faults source trace) fault → In (item_faults source item) fault
-  part_trace trace m h = past_rules (in_right (flat_map qui_faults (outers_in item)) _ fault (via (trace_faults source) (traces_in item) trace fault m h))
+  rule_rest : In (size_faults source rule.raw ++ (home_faults rule.home rule.raw ++ variable_faults source.text (atoms_of rule.raw.left))) fault → In (rule_faults source rule) fault
+  rule_rest h = in_right (flat_map (use_faults source) (rule_uses rule.raw)) _ fault (in_right (flat_map (placed_faults source) (rule_atoms rule.raw)) _ fault h)
 
 -- atoms
-placed_all : (source : Source) (p : Placed) (fault : Fault) → In (placed_of source) p → In (placed_faults source p) fault → In (all_faults source source.file) fault
+placed_all : (source : Source) (p : Placed) (fault : Fault) → In (placed_of source) p → In (placed_faults source p) fault → In (all_faults source) fault
 placed_all source p fault at h =
-    let t = through (item_atoms source) source.file p at in
-    in_item source t.from fault t.member
-    (⊎_elim
-    (λ own. ⊎_elim
-    (λ k. part_state source t.from fault p k h)
-    (λ r. part_rule source t.from fault r.rule r.member
-    (in_left (flat_map (placed_faults source) (rule_atoms r.rule)) _ fault (via (placed_faults source) (rule_atoms r.rule) p fault r.atom h)))
-    (own_parts t.from p own))
-    (λ k. let c = through clause_atoms (clauses_in source t.from) p k in
-    part_clause source t.from fault c.from c.member
-    (in_left (flat_map (placed_faults source) (clause_atoms c.from)) _ fault (via (placed_faults source) (clause_atoms c.from) p fault c.given h)))
-    (in_parts (own_atoms t.from) _ p t.given))
+    ⊎_elim
+    (λ k. let t = through (λ (rule : RuleItem). rule_atoms rule.raw) (rules_of source) p k in of_rule source fault t.from t.member (rule_atom source t.from fault p t.given h))
+    (λ r. ⊎_elim
+    (λ k. let t = through clause_atoms (clauses_of source) p k in
+    of_clause source fault t.from t.member (in_left (flat_map (placed_faults source) (clause_atoms t.from)) _ fault (via (placed_faults source) (clause_atoms t.from) p fault t.given h)))
+    (λ r. ⊎_elim
+    (λ k. let t = through context_atoms (contexts_of source) p k in
+    of_context source fault t.from t.member (in_left (flat_map (placed_faults source) (context_atoms t.from)) _ fault (via (placed_faults source) (context_atoms t.from) p fault t.given h)))
+    (λ k. let t = through trace_atoms (traces_of source) p k in
+    of_trace source fault t.from t.member (in_right (flat_map (use_faults source) (trace_uses t.from)) _ fault
+    (in_left (flat_map (placed_faults source) (trace_atoms t.from)) _ fault (via (placed_faults source) (trace_atoms t.from) p fault t.given h))))
+    (in_parts (flat_map context_atoms (contexts_of source)) _ p r))
+    (in_parts (flat_map clause_atoms (clauses_of source)) _ p r))
+    (in_parts (flat_map (λ (rule : RuleItem). rule_atoms rule.raw) (rules_of source)) _ p at)
 
 -- uses
 pred_complete : (source : Source) (p : Placed) (used : Use) (fault : Fault) (context : Bool) → is_context source p ≡ context
@@ -134,19 +132,32 @@ atom_use source p used fault m h =
     (via (node_faults source) p.atom.nodes t.from fault t.member (via (use_faults source) (node_uses t.from) used fault t.given h))))
     (in_parts (pred_uses source p) (flat_map node_uses p.atom.nodes) used m)
 
-use_all : (source : Source) (used : Use) (fault : Fault) → In (uses_of source) used → In (use_faults source used) fault → In (all_faults source source.file) fault
-use_all source used fault at h =
-    let t = through (item_uses source) source.file used at in
+other_all : (source : Source) (used : Use) (fault : Fault) → In (other_uses source) used → In (use_faults source used) fault → In (all_faults source) fault
+other_all source used fault at h =
     ⊎_elim
-    (λ k. in_item source t.from fault t.member (part_uses source t.from fault (via (use_faults source) (own_uses t.from) used fault k h)))
+    (λ k. let t = through type_uses (preds_of source) used k in
+    of_pred source fault t.from t.member (in_left (flat_map (use_faults source) (type_uses t.from)) _ fault (via (use_faults source) (type_uses t.from) used fault t.given h)))
     (λ r. ⊎_elim
-    (λ k. let c = through con_uses (cons_in source t.from) used k in
-    in_item source t.from fault t.member (part_con source t.from fault c.from c.member
-    (in_left (flat_map (use_faults source) (con_uses c.from)) _ fault (via (use_faults source) (con_uses c.from) used fault c.given h))))
-    (λ k. let a = through (atom_uses source) (item_atoms source t.from) used k in
-    placed_all source a.from fault (via (item_atoms source) source.file t.from a.from t.member a.member) (atom_use source a.from used fault a.given h))
-    (in_parts (flat_map con_uses (cons_in source t.from)) _ used r))
-    (in_parts (own_uses t.from) _ used t.given)
+    (λ k. let t = through con_uses (cons_of source) used k in
+    of_con source fault t.from t.member (in_left (flat_map (use_faults source) (con_uses t.from)) _ fault (via (use_faults source) (con_uses t.from) used fault t.given h)))
+    (λ r. ⊎_elim
+    (λ k. let t = through (λ (rule : RuleItem). rule_uses rule.raw) (rules_of source) used k in
+    of_rule source fault t.from t.member (in_left (flat_map (use_faults source) (rule_uses t.from.raw)) _ fault (via (use_faults source) (rule_uses t.from.raw) used fault t.given h)))
+    (λ r. ⊎_elim
+    (λ k. let i = image (use_in space.Stages) (interactives_of source) used k in
+    of_interactive source fault i.from i.member (in_same (interactive_faults source i.from) (use_faults source used) fault (ap (use_faults source) (sym i.is)) h))
+    (λ k. let t = through trace_uses (traces_of source) used k in
+    of_trace source fault t.from t.member (in_left (flat_map (use_faults source) (trace_uses t.from)) _ fault (via (use_faults source) (trace_uses t.from) used fault t.given h)))
+    (in_parts (map (use_in space.Stages) (interactives_of source)) _ used r))
+    (in_parts (flat_map (λ (rule : RuleItem). rule_uses rule.raw) (rules_of source)) _ used r))
+    (in_parts (flat_map con_uses (cons_of source)) _ used r))
+    (in_parts (flat_map type_uses (preds_of source)) _ used at)
+
+use_all : (source : Source) (used : Use) (fault : Fault) → In (uses_of source) used → In (use_faults source used) fault → In (all_faults source) fault
+use_all source used fault at h =
+    ⊎_elim (λ k. other_all source used fault k h)
+    (λ k. let a = through (atom_uses source) (placed_of source) used k in placed_all source a.from fault a.member (atom_use source a.from used fault a.given h))
+    (in_parts (other_uses source) _ used at)
 
 -- a name that no space has is not in its space
 none_of_six : (a b c d e g : Bool) → (a || b || c || d || e || g) ≡ false → (a ≡ false) × (b ≡ false) × (c ≡ false) × (d ≡ false) × (e ≡ false) × (g ≡ false)
@@ -268,16 +279,27 @@ rule_not rule p h s =
 clause_not : (clause : ClauseItem) (p : Placed) → In (clause_atoms clause) p → IsOfState p.role → ⊥
 clause_not clause p h s = let i = image (placed role.Clause) (clause.head ∷ clause.goals) p h in not_clause p.role (ap (λ (q : Placed). q.role) i.is) s
 
-unfit_in : (source : Source) (p : Placed) (fault : Fault) (item : RawItem) → In (item_atoms source item) p → IsOfState p.role → In (unfit_faults p.atom) fault → In (item_unfit_faults item) fault
-unfit_in source p fault item at s h =
+-- an atom of a state that is not fit
+unfit_all : (source : Source) (p : Placed) (fault : Fault) → In (placed_of source) p → IsOfState p.role → In (unfit_faults p.atom) fault → In (all_faults source) fault
+unfit_all source p fault at s h =
     ⊎_elim
-    (λ own. ⊎_elim
-    (λ k. let i = image (placed (state_role item)) (listed_atoms item) p k in
-    via unfit_faults (listed_atoms item) i.from fault i.member (in_same (unfit_faults i.from) (unfit_faults p.atom) fault (ap (λ (q : Placed). unfit_faults q.atom) (sym i.is)) h))
-    (λ r. absurd (rule_not r.rule p r.atom s))
-    (own_parts item p own))
-    (λ k. let c = through clause_atoms (clauses_in source item) p k in absurd (clause_not c.from p c.given s))
-    (in_parts (own_atoms item) _ p at)
+    (λ k. let t = through (λ (rule : RuleItem). rule_atoms rule.raw) (rules_of source) p k in absurd (rule_not t.from.raw p t.given s))
+    (λ r. ⊎_elim
+    (λ k. let t = through clause_atoms (clauses_of source) p k in absurd (clause_not t.from p t.given s))
+    (λ r. ⊎_elim
+    (λ k. let t = through context_atoms (contexts_of source) p k in
+    let i = image (placed role.Listed) t.from.atoms p t.given in
+    of_context source fault t.from t.member (in_right (flat_map (placed_faults source) (context_atoms t.from)) _ fault (unfit_among t.from.atoms i.from i.member (ap (λ (q : Placed). q.atom) i.is))))
+    (λ k. let t = through trace_atoms (traces_of source) p k in
+    let i = image (placed role.Start) (start_listed t.from.start) p t.given in
+    of_trace source fault t.from t.member (in_right (flat_map (use_faults source) (trace_uses t.from)) _ fault (in_right (flat_map (placed_faults source) (trace_atoms t.from)) _ fault
+    (in_left (flat_map unfit_faults (start_listed t.from.start)) _ fault (unfit_among (start_listed t.from.start) i.from i.member (ap (λ (q : Placed). q.atom) i.is))))))
+    (in_parts (flat_map context_atoms (contexts_of source)) _ p r))
+    (in_parts (flat_map clause_atoms (clauses_of source)) _ p r))
+    (in_parts (flat_map (λ (rule : RuleItem). rule_atoms rule.raw) (rules_of source)) _ p at)
+  where
+    unfit_among : (atoms : List RawAtom) (from : RawAtom) → In atoms from → p.atom ≡ from → In (flat_map unfit_faults atoms) fault
+    unfit_among atoms from member is = via unfit_faults atoms from fault member (in_same (unfit_faults from) (unfit_faults p.atom) fault (ap unfit_faults (sym is)) h)
 
 unless : (b : Bool) (w fault : Fault) → b ≡ false → fault ≡ w → In (let found : List Fault = if b then [] else w ∷ [] in found) fault
 unless b w fault e is = in_same (let found : List Fault = if b then [] else w ∷ [] in found) (w ∷ []) fault (ap (λ (c : Bool). let found : List Fault = if c then [] else w ∷ [] in found) e) (is_one w fault is)
@@ -289,117 +311,93 @@ past_in : (o : Option ℕ) (at : ℕ) (fault : Fault) → o ≡ Some at → faul
 past_in o at fault e is = in_same (past o) (wrong OverLimit at ∷ []) fault (ap past e) (is_one _ fault is)
 
 module _ (source : Source) (fault : Fault) where
-  in_unfit : (item : RawItem) → In source.file item → In (item_unfit_faults item) fault → In (all_faults source source.file) fault
-  in_unfit item m h = in_right (flat_map (item_faults source) source.file) _ fault (in_left (flat_map item_unfit_faults source.file) _ fault (via item_unfit_faults source.file item fault m h))
+  in_counts : In (count_faults source) fault → In (all_faults source) fault
+  in_counts h = in_right (kind_faults source) _ fault (in_left (count_faults source) _ fault h)
 
-  in_variables : (item : RawItem) → In source.file item → In (item_variable_faults source item) fault → In (all_faults source source.file) fault
-  in_variables item m h =
-      in_right (flat_map (item_faults source) source.file) _ fault (in_right (flat_map item_unfit_faults source.file) _ fault
-      (in_left (flat_map (item_variable_faults source) source.file) _ fault (via (item_variable_faults source) source.file item fault m h)))
+  in_traces : In (traces_faults source (traces_of source)) fault → In (all_faults source) fault
+  in_traces h = in_right (kind_faults source) _ fault (in_right (count_faults source) _ fault h)
 
-  past_variables : In (all_count_faults source source.file ++ traces_faults source (traces_of source)) fault → In (all_faults source source.file) fault
-  past_variables h =
-      in_right (flat_map (item_faults source) source.file) _ fault (in_right (flat_map item_unfit_faults source.file) _ fault (in_right (flat_map (item_variable_faults source) source.file) _ fault h))
-
-  in_counts : In (all_count_faults source source.file) fault → In (all_faults source source.file) fault
-  in_counts h = past_variables (in_left (all_count_faults source source.file) _ fault h)
-
-  in_traces : In (traces_faults source (traces_of source)) fault → In (all_faults source source.file) fault
-  in_traces h = past_variables (in_right (all_count_faults source source.file) _ fault h)
-
-  traced : (traces : List TraceItem) → traces_of source ≡ traces → In (traces_faults source traces) fault → In (all_faults source source.file) fault
+  traced : (traces : List TraceItem) → traces_of source ≡ traces → In (traces_faults source traces) fault → In (all_faults source) fault
   traced traces e h = in_traces (in_same _ (traces_faults source traces) fault (ap (traces_faults source) e) h)
 
-  large_trace : (trace : TraceItem) (rest : List TraceItem) → traces_of source ≡ trace ∷ rest → is_large (written_size (counting source (start_atoms source trace.start))) ≡ true → fault ≡ wrong OverLimit trace.at → In (all_faults source source.file) fault
+  large_trace : (trace : TraceItem) (rest : List TraceItem) → traces_of source ≡ trace ∷ rest → is_large (written_size (counting source (start_atoms source trace.start))) ≡ true → fault ≡ wrong OverLimit trace.at → In (all_faults source) fault
   large_trace trace rest e large is =
       traced (trace ∷ rest) e (in_left (start_faults source trace) _ fault
       (when (is_large (whole_size source trace.start)) (wrong OverLimit trace.at) fault (ap is_large (whole_same source trace.start) ∙ large_same (written_size (counting source (start_atoms source trace.start))) ∙ large) is))
 
-  argument_all : (args : List Span) (name : Span) → In (arguments_of source) args → slice_get args MOST_ARGUMENTS ≡ Some name → fault ≡ wrong OverLimit name.from → In (all_faults source source.file) fault
+  argument_all : (args : List Span) (name : Span) → In (arguments_of source) args → slice_get args MOST_ARGUMENTS ≡ Some name → fault ≡ wrong OverLimit name.from → In (all_faults source) fault
   argument_all args name m g is =
       let found : In (argument_faults args) fault = past_in (slice_get (map (λ (span : Span). span.from) args) MOST_ARGUMENTS) name.from fault (give (λ (span : Span). span.from) args MOST_ARGUMENTS name g) is in
       ⊎_elim
       (λ k. let i = image (λ (con : ConItem). con.args) (cons_of source) args k in
-      let t = through (cons_in source) source.file i.from i.member in
-      in_item source t.from fault t.member (part_con source t.from fault i.from t.given
-      (in_right (flat_map (use_faults source) (con_uses i.from)) _ fault (in_same (argument_faults i.from.args) (argument_faults args) fault (ap argument_faults (sym i.is)) found))))
+      of_con source fault i.from i.member (in_right (flat_map (use_faults source) (con_uses i.from)) _ fault (in_same (argument_faults i.from.args) (argument_faults args) fault (ap argument_faults (sym i.is)) found)))
       (λ k. let i = image (λ (pred : PredItem). pred.args) (preds_of source) args k in
-      let t = through preds_in source.file i.from i.member in
-      in_item source t.from fault t.member (part_pred source t.from fault i.from t.given (in_same (argument_faults i.from.args) (argument_faults args) fault (ap argument_faults (sym i.is)) found)))
+      of_pred source fault i.from i.member (in_right (flat_map (use_faults source) (type_uses i.from)) _ fault (in_same (argument_faults i.from.args) (argument_faults args) fault (ap argument_faults (sym i.is)) found)))
       (in_parts (map (λ (con : ConItem). con.args) (cons_of source)) _ args m)
 
-  sized_all : (rule : RuleItem) → In (rules_of source) rule → In (size_faults source rule.raw) fault → In (all_faults source source.file) fault
-  sized_all rule m h =
-      let t = housed 0 source.file rule m in
-      in_item source t.item fault t.member (part_rule source t.item fault rule.raw t.raw (in_right (flat_map (placed_faults source) (rule_atoms rule.raw)) _ fault h))
+  sized_all : (rule : RuleItem) → In (rules_of source) rule → In (size_faults source rule.raw) fault → In (all_faults source) fault
+  sized_all rule m h = of_rule source fault rule m (rule_rest source rule fault (in_left (size_faults source rule.raw) _ fault h))
 
-  premise_all : (rule : RuleItem) (atom : RawAtom) → In (rules_of source) rule → slice_get (state_premises_of source rule.raw) MOST_PREMISES ≡ Some atom → fault ≡ wrong OverLimit atom.name.from → In (all_faults source source.file) fault
+  premise_all : (rule : RuleItem) (atom : RawAtom) → In (rules_of source) rule → slice_get (state_premises_of source rule.raw) MOST_PREMISES ≡ Some atom → fault ≡ wrong OverLimit atom.name.from → In (all_faults source) fault
   premise_all rule atom m g is =
       sized_all rule m (in_left (past (slice_get (flat_map (premise_places source false) rule.raw.left) MOST_PREMISES)) _ fault
       (past_in _ atom.name.from fault (ap (λ (ys : List ℕ). slice_get ys MOST_PREMISES) (premise_list source false rule.raw.left) ∙ give atom_at (state_premises_of source rule.raw) MOST_PREMISES atom g) is))
 
-  backs_all : (rule : RuleItem) (atom : RawAtom) → In (rules_of source) rule → slice_get (backward_of source rule.raw) MOST_BACKS ≡ Some atom → fault ≡ wrong OverLimit atom.name.from → In (all_faults source source.file) fault
+  backs_all : (rule : RuleItem) (atom : RawAtom) → In (rules_of source) rule → slice_get (backward_of source rule.raw) MOST_BACKS ≡ Some atom → fault ≡ wrong OverLimit atom.name.from → In (all_faults source) fault
   backs_all rule atom m g is =
       sized_all rule m (in_right (past (slice_get (flat_map (premise_places source false) rule.raw.left) MOST_PREMISES)) _ fault
       (in_left (past (slice_get (flat_map (premise_places source true) rule.raw.left) MOST_BACKS)) _ fault
       (past_in _ atom.name.from fault (ap (λ (ys : List ℕ). slice_get ys MOST_BACKS) (premise_list source true rule.raw.left) ∙ give atom_at (backward_of source rule.raw) MOST_BACKS atom g) is)))
 
-  rights_all : (rule : RuleItem) (atom : RawAtom) → In (rules_of source) rule → slice_get (atoms_of rule.raw.right) MOST_RIGHT ≡ Some atom → fault ≡ wrong OverLimit atom.name.from → In (all_faults source source.file) fault
+  rights_all : (rule : RuleItem) (atom : RawAtom) → In (rules_of source) rule → slice_get (atoms_of rule.raw.right) MOST_RIGHT ≡ Some atom → fault ≡ wrong OverLimit atom.name.from → In (all_faults source) fault
   rights_all rule atom m g is =
       sized_all rule m (in_right (past (slice_get (flat_map (premise_places source false) rule.raw.left) MOST_PREMISES)) _ fault
       (in_right (past (slice_get (flat_map (premise_places source true) rule.raw.left) MOST_BACKS)) _ fault
       (past_in _ atom.name.from fault (ap (λ (ys : List ℕ). slice_get ys MOST_RIGHT) (atom_list rule.raw.right) ∙ give atom_at (atoms_of rule.raw.right) MOST_RIGHT atom g) is)))
 
-  over_all : (at : ℕ) → IsOver source at → fault ≡ wrong OverLimit at → In (all_faults source source.file) fault
+  over_all : (at : ℕ) → IsOver source at → fault ≡ wrong OverLimit at → In (all_faults source) fault
   over_all at (IsOver.argument args name m g e) is = argument_all args name (from_contains (arguments_of source) args m) g (is ∙ ap (wrong OverLimit) e)
   over_all at (IsOver.premise rule atom m g e) is = premise_all rule atom (from_contains (rules_of source) rule m) g (is ∙ ap (wrong OverLimit) e)
   over_all at (IsOver.back rule atom m g e) is = backs_all rule atom (from_contains (rules_of source) rule m) g (is ∙ ap (wrong OverLimit) e)
   over_all at (IsOver.right rule atom m g e) is = rights_all rule atom (from_contains (rules_of source) rule m) g (is ∙ ap (wrong OverLimit) e)
   over_all at (IsOver.goal clause atom m g e) is =
-      let t = through (clauses_in source) source.file clause (from_contains (clauses_of source) clause m) in
-      in_item source t.from fault t.member (part_clause source t.from fault clause t.given
-      (in_right (flat_map (placed_faults source) (clause_atoms clause)) _ fault (past_in (slice_get (places clause.goals) MOST_GOALS) atom.name.from fault (give atom_at clause.goals MOST_GOALS atom g) (is ∙ ap (wrong OverLimit) e))))
+      of_clause source fault clause (from_contains (clauses_of source) clause m) (in_right (flat_map (placed_faults source) (clause_atoms clause)) _ fault
+      (in_left (past (slice_get (places clause.goals) MOST_GOALS)) _ fault (past_in (slice_get (places clause.goals) MOST_GOALS) atom.name.from fault (give atom_at clause.goals MOST_GOALS atom g) (is ∙ ap (wrong OverLimit) e))))
   over_all at (IsOver.rule_variable rule occurrence m g e) is =
-      let t = housed 0 source.file rule (from_contains (rules_of source) rule m) in
-      in_variables t.item t.member (in_left (flat_map (λ (other : RawRule). variable_faults source.text (atoms_of other.left)) (item_rules t.item)) _ fault
-      (via (λ (other : RawRule). variable_faults source.text (atoms_of other.left)) (item_rules t.item) rule.raw fault t.raw
+      of_rule source fault rule (from_contains (rules_of source) rule m) (rule_rest source rule fault (in_right (size_faults source rule.raw) _ fault (in_right (home_faults rule.home rule.raw) _ fault
       (past_in (slice_get (new_in source.text unseen (raw_nodes (atoms_of rule.raw.left))) MOST_VARIABLES) occurrence.at.from fault
-      (variable_list source (atoms_of rule.raw.left) ∙ give occurrence_from (variables_of source (atoms_of rule.raw.left)) MOST_VARIABLES occurrence g) (is ∙ ap (wrong OverLimit) e))))
+      (variable_list source (atoms_of rule.raw.left) ∙ give occurrence_from (variables_of source (atoms_of rule.raw.left)) MOST_VARIABLES occurrence g) (is ∙ ap (wrong OverLimit) e)))))
   over_all at (IsOver.clause_variable clause occurrence m g e) is =
-      let t = through (clauses_in source) source.file clause (from_contains (clauses_of source) clause m) in
-      in_variables t.from t.member (in_right (flat_map (λ (other : RawRule). variable_faults source.text (atoms_of other.left)) (item_rules t.from)) _ fault
-      (via (λ (other : ClauseItem). variable_faults source.text (other.head ∷ other.goals)) (clauses_in source t.from) clause fault t.given
+      of_clause source fault clause (from_contains (clauses_of source) clause m) (in_right (flat_map (placed_faults source) (clause_atoms clause)) _ fault (in_right (past (slice_get (places clause.goals) MOST_GOALS)) _ fault
       (past_in (slice_get (new_in source.text unseen (raw_nodes (clause.head ∷ clause.goals))) MOST_VARIABLES) occurrence.at.from fault
       (variable_list source (clause.head ∷ clause.goals) ∙ give occurrence_from (variables_of source (clause.head ∷ clause.goals)) MOST_VARIABLES occurrence g) (is ∙ ap (wrong OverLimit) e))))
-  over_all at (IsOver.predicate entry g e) is =
-      in_counts (in_left (count_faults source counted.Predicates MOST_PREDS source.file) _ fault
-      (past_in _ entry.at fault (ap (λ (ys : List ℕ). slice_get ys MOST_PREDS) (preds_at source) ∙ give entry_at (names_in source space.Predicates) MOST_PREDS entry g) (is ∙ ap (wrong OverLimit) e)))
-  over_all at (IsOver.constructor entry g e) is =
-      in_counts (in_right (count_faults source counted.Predicates MOST_PREDS source.file) _ fault (in_left (count_faults source counted.Constructors MOST_CONS source.file) _ fault
-      (past_in _ entry.at fault (ap (λ (ys : List ℕ). slice_get ys MOST_CONS) (cons_at source) ∙ give entry_at (names_in source space.Constructors) MOST_CONS entry g) (is ∙ ap (wrong OverLimit) e))))
-  over_all at (IsOver.rule entry g e) is =
-      in_counts (in_right (count_faults source counted.Predicates MOST_PREDS source.file) _ fault (in_right (count_faults source counted.Constructors MOST_CONS source.file) _ fault
-      (in_left (count_faults source counted.Rules MOST_RULES source.file) _ fault
-      (past_in _ entry.at fault (ap (λ (ys : List ℕ). slice_get ys MOST_RULES) (rules_at source) ∙ give entry_at (names_in source space.Rules) MOST_RULES entry g) (is ∙ ap (wrong OverLimit) e)))))
+  over_all at (IsOver.predicate pred g e) is =
+      in_counts (in_left (past (slice_get (map pred_place (preds_of source)) MOST_PREDS)) _ fault
+      (past_in _ pred.name.from fault (give pred_place (preds_of source) MOST_PREDS pred g) (is ∙ ap (wrong OverLimit) e)))
+  over_all at (IsOver.constructor con g e) is =
+      in_counts (in_right (past (slice_get (map pred_place (preds_of source)) MOST_PREDS)) _ fault (in_left (past (slice_get (map con_place (cons_of source)) MOST_CONS)) _ fault
+      (past_in _ con.name.from fault (give con_place (cons_of source) MOST_CONS con g) (is ∙ ap (wrong OverLimit) e))))
+  over_all at (IsOver.rule rule g e) is =
+      in_counts (in_right (past (slice_get (map pred_place (preds_of source)) MOST_PREDS)) _ fault (in_right (past (slice_get (map con_place (cons_of source)) MOST_CONS)) _ fault
+      (in_left (past (slice_get (map rule_place (rules_of source)) MOST_RULES)) _ fault
+      (past_in _ rule.raw.at fault (give rule_place (rules_of source) MOST_RULES rule g) (is ∙ ap (wrong OverLimit) e)))))
   over_all at (IsOver.clause clause g e) is =
-      in_counts (in_right (count_faults source counted.Predicates MOST_PREDS source.file) _ fault (in_right (count_faults source counted.Constructors MOST_CONS source.file) _ fault
-      (in_right (count_faults source counted.Rules MOST_RULES source.file) _ fault
-      (past_in _ clause.head.name.from fault (ap (λ (ys : List ℕ). slice_get ys MOST_CLAUSES) (clauses_at source) ∙ give head_at (clauses_of source) MOST_CLAUSES clause g) (is ∙ ap (wrong OverLimit) e)))))
+      in_counts (in_right (past (slice_get (map pred_place (preds_of source)) MOST_PREDS)) _ fault (in_right (past (slice_get (map con_place (cons_of source)) MOST_CONS)) _ fault
+      (in_right (past (slice_get (map rule_place (rules_of source)) MOST_RULES)) _ fault
+      (past_in _ clause.head.name.from fault (give head_at (clauses_of source) MOST_CLAUSES clause g) (is ∙ ap (wrong OverLimit) e)))))
   over_all at (IsOver.unfit p m s n e) is =
-      let t = through (item_atoms source) source.file p (from_contains (placed_of source) p m) in
-      in_unfit t.from t.member (unfit_in source p fault t.from t.given s
-      (unless (is_fit p.atom) (wrong OverLimit p.atom.name.from) fault (refuted (is_fit p.atom) (is_fit p.atom) (is_fit_by p.atom) n refl) (is ∙ ap (wrong OverLimit) e)))
+      unfit_all source p fault (from_contains (placed_of source) p m) s
+      (unless (is_fit p.atom) (wrong OverLimit p.atom.name.from) fault (refuted (is_fit p.atom) (is_fit p.atom) (is_fit_by p.atom) n refl) (is ∙ ap (wrong OverLimit) e))
   over_all at (IsOver.copies trace rest traces more e) is =
       large_trace trace rest traces (or_left (nat_lt MOST_COPIES (length (counting source (start_atoms source trace.start)))) (nat_lt MOST_STATE_NODES (sum_by nodes_written (counting source (start_atoms source trace.start)))) (lt-ltb MOST_COPIES (length (counting source (start_atoms source trace.start))) more)) (is ∙ ap (wrong OverLimit) e)
   over_all at (IsOver.nodes trace rest traces more e) is =
       large_trace trace rest traces (or_right (nat_lt MOST_COPIES (length (counting source (start_atoms source trace.start)))) (nat_lt MOST_STATE_NODES (sum_by nodes_written (counting source (start_atoms source trace.start)))) (lt-ltb MOST_STATE_NODES (sum_by nodes_written (counting source (start_atoms source trace.start))) more)) (is ∙ ap (wrong OverLimit) e)
   over_all at (IsOver.turns trace number m l n e) is =
-      let t = through traces_in source.file trace (from_contains (traces_of source) trace m) in
-      in_item source t.from fault t.member (part_trace source t.from fault trace t.given
-      (in_same (turns_faults source.text trace.limit) (turns_faults source.text (Some number)) fault (ap (turns_faults source.text) l)
-      (unless (is_some (turns_said source.text number)) (wrong OverLimit number.from) fault (ap is_some n) (is ∙ ap (wrong OverLimit) e))))
+      of_trace source fault trace (from_contains (traces_of source) trace m) (in_right (flat_map (use_faults source) (trace_uses trace)) _ fault (in_right (flat_map (placed_faults source) (trace_atoms trace)) _ fault
+      (in_right (flat_map unfit_faults (start_listed trace.start)) _ fault (in_same (turns_faults source.text trace.limit) (turns_faults source.text (Some number)) fault (ap (turns_faults source.text) l)
+      (unless (is_some (turns_said source.text number)) (wrong OverLimit number.from) fault (ap is_some n) (is ∙ ap (wrong OverLimit) e))))))
 
-pub complete : (source : Source) (fault : Fault) → Misnamed source fault → IsTwice source fault ⊎ In (all_faults source source.file) fault
+pub complete : (source : Source) (fault : Fault) → Misnamed source fault → IsTwice source fault ⊎ In (all_faults source) fault
 complete source fault (twice h) = inl h
 complete source fault (unknown used c a is) =
     inr (use_all source used fault (from_contains (uses_of source) used c) (lack_in source used fault false false (nowhere source used.space (said source used.name) a) a (is_one _ fault is)))
@@ -415,9 +413,9 @@ complete source fault (backward_in_state p c comes b is) =
     (comes_cases p.role comes)))
 complete source fault (linear_in_clause p c r b is) = inr (placed_all source p fault (from_contains (placed_of source) p c) (role_is source p fault role.Clause r (linear_in source p fault b is)))
 complete source fault (bad_qui rule c home n is) =
-    let t = housed 0 source.file rule (from_contains (rules_of source) rule c) in
-    inr (in_item source t.item fault t.member (part_qui source t.item fault rule.raw (t.outer home)
-    (unless (is_qui_rule rule.raw) (wrong BadQui rule.raw.at) fault (refuted (is_qui_rule rule.raw) (is_qui_rule rule.raw) (is_qui_by rule.raw) n refl) is)))
+    inr (of_rule source fault rule (from_contains (rules_of source) rule c) (rule_rest source rule fault (in_right (size_faults source rule.raw) _ fault (in_left (home_faults rule.home rule.raw) _ fault
+    (in_same (home_faults rule.home rule.raw) (qui_faults rule.raw) fault (ap (λ (o : Option ℕ). home_faults o rule.raw) home)
+    (unless (is_qui_rule rule.raw) (wrong BadQui rule.raw.at) fault (refuted (is_qui_rule rule.raw) (is_qui_rule rule.raw) (is_qui_by rule.raw) n refl) is))))))
 complete source fault (no_trace e is) = inr (traced source fault [] e (is_one _ fault is))
 complete source fault (two_traces first trace rest e c is) =
     inr (traced source fault (first ∷ rest) e (in_right (start_faults source first) _ fault

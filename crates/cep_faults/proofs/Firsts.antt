@@ -26,18 +26,16 @@ first_with_end f v xs x more some end_ both last all is_some is_end is_both is_l
     ∙ ap (λ o. first_of o (first_in more)) (ap (λ ys. first_in (flat_map f ys)) (map-append v xs (x ∷ []))
     ∙ first_in_parts f (map v xs) (v x ∷ []) ∙ ap (λ ys. first_of (first_in (flat_map f (map v xs))) (first_in ys)) (append-nil (f (v x)))))
 
--- what two sides give, and two further parts
-pub first_with_sides : {X Y : Type 0} (f : Y → List Fault) (g : X → List Y) (left right : List X) (more others : List Fault) (one two both last rest end_ all : Option Fault)
-    → one ≡ first_in (flat_map f (flat_map g left)) → two ≡ first_in (flat_map f (flat_map g right)) → both ≡ first_of one two
-    → last ≡ first_in more → end_ ≡ first_in others → rest ≡ first_of last end_ → all ≡ first_of both rest
-    → all ≡ first_in (flat_map f (flat_map g (left ++ right)) ++ ((more ++ []) ++ ((others ++ []) ++ [])))
-first_with_sides f g left right more others one two both last rest end_ all is_one is_two is_both is_last is_end is_rest is_all =
-    let sides : first_in (flat_map f (flat_map g (left ++ right))) ≡ first_of (first_in (flat_map f (flat_map g left))) (first_in (flat_map f (flat_map g right))) =
-    ap (λ ys. first_in (flat_map f ys)) (flat_map-append g left right) ∙ first_in_parts f (flat_map g left) (flat_map g right) in
-    let parts : first_in ((more ++ []) ++ ((others ++ []) ++ [])) ≡ first_of (first_in more) (first_in others) =
-    simp append-nil (first_in_append more others) in
-    let whole = first_in_append (flat_map f (flat_map g (left ++ right))) ((more ++ []) ++ ((others ++ []) ++ [])) in
-    cc
+-- what is found first in two parts
+pub followed : (faults more : List Fault) (one rest both : Option Fault) → one ≡ first_in faults → rest ≡ first_in more → both ≡ first_of one rest → both ≡ first_in (faults ++ more)
+followed faults more one rest both a b is = is ∙ ap (λ (o : Option Fault). first_of o rest) a ∙ ap (first_of (first_in faults)) b ∙ sym (first_in_append faults more)
+
+-- what two sides give
+pub first_of_sides : {X Y : Type 0} (f : Y → List Fault) (g : X → List Y) (left right : List X) (one two both : Option Fault)
+    → one ≡ first_in (flat_map f (flat_map g left)) → two ≡ first_in (flat_map f (flat_map g right)) → both ≡ first_of one two → both ≡ first_in (flat_map f (flat_map g (left ++ right)))
+first_of_sides f g left right one two both is_one is_two is_both =
+    is_both ∙ ap (λ (o : Option Fault). first_of o two) is_one ∙ ap (first_of (first_in (flat_map f (flat_map g left)))) is_two
+    ∙ sym (ap (λ ys. first_in (flat_map f ys)) (flat_map-append g left right) ∙ first_in_parts f (flat_map g left) (flat_map g right))
 
 -- what a loop over all of a kind has found
 pub all_mapped : {X Y : Type 0} (f : Y → List Fault) (v : X → Y) (xs : List X) (ys : List Y) (i : ℕ) (first : Option Fault) → length xs ≤ i → map v xs ≡ ys → first ≡ first_in (flat_map f (map v (take i xs))) → first ≡ first_in (flat_map f ys)

@@ -8,7 +8,7 @@ pub mod Pending
 pub mod Parts
 pub mod Same
 pub mod Sound
-pub mod SoundItems
+pub mod SoundKinds
 pub mod Complete
 pub mod Joined
 pub mod FactKeys

@@ -1,9 +1,10 @@
 -- The n-th of what items give.
-use Rattle.std.proofs.Common.{◌≡◌, ℕ, zero, suc, ◌+◌, ◌-◌, ◌<◌, ◌≤◌, List, [], ◌∷◌, ◌++◌, length, get_or, take, drop, Option, Some, None, refl, sym, ◌∙◌, ap, arith, length-append, append-nil}
+use Rattle.std.proofs.Common.{◌≡◌, ℕ, zero, suc, ◌+◌, ◌-◌, ◌<◌, ◌≤◌, List, [], ◌∷◌, ◌++◌, length, get_or, take, drop, map, Option, Some, None, refl, sym, ◌∙◌, ap, arith, length-append, append-nil}
 use Rattle.std.specs.List.{flat_map, slice_get}
 use Rattle.std.proofs.lemmas.Grind.{common_steps, flat_map-append}
 use Rattle.std.proofs.lemmas.List.{take_more, take-append-drop}
 use Rattle.std.proofs.lemmas.Option.{slice_get_past}
+use Rattle.cep_base.proofs.Lists.{get_mapped}
 use Rattle.cep_refusal.specs.declared.fault.Fault.{Fault}
 use Rattle.cep_refusal.specs.First.{first_in}
 use Rattle.cep_faults.specs.Faults.{past}
@@ -53,25 +54,6 @@ slice_get_behind [] ys n k e = ap (slice_get ys) (omega (arith, e))
 slice_get_behind (x ∷ xs) ys zero k e = absurd (omega (arith, e))
 slice_get_behind (x ∷ xs) ys (suc n) k e = slice_get_behind xs ys n k (omega (arith, e))
 
--- the first one too many is among those of an item
-pub past_within : {X : Type 0} (f : X → List ℕ) (xs : List X) (i : ℕ) (x : X) (before most p : ℕ) (result : Option Fault) → i < length xs → x ≡ get_or xs i x
-    → before ≡ length (flat_map f (take i xs)) → before ≤ most → slice_get (f x) (most - before) ≡ Some p → result ≡ first_in (past (Some p)) → result ≡ first_in (past (slice_get (flat_map f xs) most))
-past_within f xs i x before most p result h at was few here is =
-    is ∙ sym (ap (λ o. first_in (past o))
-    (ap (λ ys. slice_get ys most) (given_rest f xs (i + 1))
-    ∙ slice_get_kept (flat_map f (take (i + 1) xs)) (flat_map f (drop (i + 1) xs)) most p
-    (ap (λ ys. slice_get ys most) (given_more f xs i x h at)
-    ∙ slice_get_behind (flat_map f (take i xs)) (f x) most (most - before) (omega (arith, was)) ∙ here)))
-
-pub slice_get_none : {X : Type 0} (xs : List X) (n : ℕ) → slice_get xs n ≡ None → length xs ≤ n
-slice_get_none [] n e = omega arith
-slice_get_none (x ∷ xs) zero e = absurd cc
-slice_get_none (x ∷ xs) (suc n) e = let h = slice_get_none xs n e in omega arith
-
-pub counted_more : {X : Type 0} (f : X → List ℕ) (xs : List X) (i : ℕ) (x : X) (before more : ℕ) → i < length xs → x ≡ get_or xs i x
-    → before ≡ length (flat_map f (take i xs)) → more ≡ length (f x) → before + more ≡ length (flat_map f (take (i + 1) xs))
-counted_more f xs i x before more h at was is =
-    sym (ap length (given_more f xs i x h at) ∙ length-append (flat_map f (take i xs)) (f x) ∙ ap (λ n. n + length (f x)) (sym was) ∙ ap (λ n. before + n) (sym is))
-
-pub counted_few : {X : Type 0} (ys : List X) (before most more : ℕ) → before ≤ most → slice_get ys (most - before) ≡ None → more ≡ length ys → before + more ≤ most
-counted_few ys before most more few none is = let h = slice_get_none ys (most - before) none in omega (arith, is)
+-- the place of the one at a place of a list
+pub place_at : {X Y : Type 0} (v : X → Y) (place : Y → ℕ) (xs : List X) (ys : List Y) (most : ℕ) (x : X) → map v xs ≡ ys → Some x ≡ slice_get xs most → Some (place (v x)) ≡ slice_get (map place ys) most
+place_at v place xs ys most x are at = sym (ap (λ zs. slice_get (map place zs) most) (sym are) ∙ get_mapped place (map v xs) most (v x) (get_mapped v xs most x (sym at)))

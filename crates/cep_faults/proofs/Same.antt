@@ -1,9 +1,8 @@
 -- What the faults count is what the definitions count.
 use Rattle.std.proofs.Common.{◌≡◌, ℕ, ◌+◌, ◌<◌, min, nat_lt, Bool, true, false, ◌&&◌, ◌||◌, cond, if◌then◌else◌, List, [], ◌∷◌, ◌++◌, length, map, Some, refl, ap, sym, ◌∙◌, arith, codes, decimal, lit<, length-append, suc, not}
-use Rattle.std.specs.List.{flat_map, list_any, filter, sum_by}
+use Rattle.std.specs.List.{flat_map, list_any, filter, slice_get, sum_by}
 use Rattle.std.specs.Str.{bytes_eq}
 use Rattle.std.proofs.lemmas.Bool.Decides.{nat_tests}
-use Rattle.std.proofs.lemmas.List.{map-append}
 use Rattle.std.proofs.lemmas.List.Folds.{list_any-append}
 use Rattle.std.proofs.lemmas.List.Elements.{filter-append}
 use Rattle.std.proofs.lemmas.List.Sums.{sum_by-cons, sum_by-append}
@@ -14,27 +13,25 @@ use Rattle.cep_parse.specs.declared.raw.RawNode.{RawNode}
 use Rattle.cep_parse.specs.declared.raw.RawAtom.{RawAtom}
 use Rattle.cep_parse.specs.declared.raw.RawElem.{RawElem}
 use Rattle.cep_parse.specs.declared.raw.RawElem.TheVariants as elem
-use Rattle.cep_parse.specs.declared.raw.RawRule.{RawRule}
 use Rattle.cep_parse.specs.declared.raw.RawStart.{RawStart}
 use Rattle.cep_parse.specs.declared.raw.RawStart.TheVariants as start
 use Rattle.cep_parse.specs.declared.raw.RawItem.{RawItem}
-use Rattle.cep_parse.specs.declared.raw.RawItem.TheVariants as item
-use Rattle.cep_source.specs.declared.space.Space.TheVariants as space
 use Rattle.cep_source.specs.declared.space.Role.TheVariants as role
+use Rattle.cep_base.specs.declared.limits.TheConstants.{MOST_CLAUSES}
+use Rattle.cep_refusal.specs.First.{first_in}
 use Rattle.cep_faults.specs.declared.sizes.Size.{Size}
 use Rattle.cep_faults.specs.declared.variables.Seen.{Seen}
-use Rattle.cep_faults.specs.declared.counts.Counted.TheVariants as counted
-use Rattle.cep_source.specs.Items.{Source, ClauseItem, RuleItem, clauses_in, clauses_of, said, preds_in, preds_of, cons_in, cons_of, rules_in, rules_from, rules_of, stages_behind}
-use Rattle.cep_parse.specs.Raw.{item_rules, atoms_of}
+use Rattle.cep_source.specs.Items.{Source, PredItem, ConItem, ClauseItem, RuleItem, clauses_in, clauses_of, said}
+use Rattle.cep_parse.specs.Raw.{atoms_of}
 use Rattle.cep_faults.specs.Premises.{is_declared}
 use Rattle.cep_faults.specs.Seen.{met, new_at, blanked, new_in, new_kind, met_kind}
-use Rattle.cep_source.specs.Spaces.{Named, named, kind_named, names_in, rule_names_from, unlabelled_behind}
+use Rattle.cep_source.specs.Spaces.{kind_named}
 use Rattle.cep_source.specs.Starts.{nodes_written, listed_or, start_atoms, is_of_fact, is_written_alike, counting_behind, counting}
 use Rattle.cep_source.specs.Firsts.{has_name}
 use Rattle.cep_source.specs.Uses.{placed, is_context}
 use Rattle.cep_source.specs.Variables.{Occurrence, occurrence_at, blanks_behind, occurrences_from, firsts_beside}
-use Rattle.cep_faults.specs.Faults.{place_if, premise_places, atom_places}
-use Rattle.cep_faults.specs.Totals.{places_in, cut, most_counted, written_size, total_size, others, facts_counting, context_size, listed_size, start_size, facts_size, whole_size, is_large}
+use Rattle.cep_faults.specs.Faults.{past, place_if, premise_places, atom_places}
+use Rattle.cep_faults.specs.Totals.{clause_places, cut, most_counted, written_size, total_size, others, facts_counting, context_size, listed_size, start_size, facts_size, whole_size, is_large}
 use Rattle.cep_faults.proofs.AtomSizes.{cut_both}
 use Rattle.cep_base.proofs.Members.{map-flat_map}
 use Rattle.cep_base.proofs.Bytes.{bytes_eq_sym}
@@ -62,46 +59,25 @@ atom_list (elem.Atom kept atom ∷ side) = ap (λ rest. atom.name.from ∷ rest)
 atom_list (elem.Qui span ∷ side) = atom_list side
 atom_list (elem.Stage span ∷ side) = atom_list side
 
-abbrev pub entry_at : Named → ℕ
-entry_at entry = entry.at
+-- the places of declarations
+abbrev pub pred_place : PredItem → ℕ
+pred_place pred = pred.name.from
 
-map_map : {X Y Z : Type 0} (g : Y → Z) (f : X → Y) (xs : List X) → map g (map f xs) ≡ map (λ x. g (f x)) xs
-map_map g f [] = refl
-map_map g f (x ∷ xs) = ap (λ ys. g (f x) ∷ ys) (map_map g f xs)
+abbrev pub con_place : ConItem → ℕ
+con_place con = con.name.from
 
--- the places of the names of a space
-pub preds_at : (source : Source) → flat_map (places_in source counted.Predicates) source.file ≡ map entry_at (names_in source space.Predicates)
-preds_at source = sym (map_map entry_at (λ pred. named source pred.name) (preds_of source) ∙ map-flat_map (λ pred. pred.name.from) preds_in source.file)
-
-pub cons_at : (source : Source) → flat_map (places_in source counted.Constructors) source.file ≡ map entry_at (names_in source space.Constructors)
-cons_at source =
-    sym (map_map entry_at (λ con. named source con.name) (cons_of source) ∙ map-flat_map (λ con. con.name.from) (cons_in source) source.file)
+abbrev pub rule_place : RuleItem → ℕ
+rule_place rule = rule.raw.at
 
 abbrev pub head_at : ClauseItem → ℕ
 head_at clause = clause.head.name.from
 
-pub clauses_at : (source : Source) → flat_map (places_in source counted.Clauses) source.file ≡ map head_at (clauses_of source)
-clauses_at source =
-    sym (map-flat_map head_at (clauses_in source) source.file)
-
-rule_places : (stages : ℕ) (item : RawItem) → map (λ (rule : RuleItem). rule.raw.at) (rules_in stages item) ≡ map (λ (rule : RawRule). rule.at) (item_rules item)
-rule_places stages (item.Outer rule) = refl
-rule_places stages (item.Stage name rules) = map_map (λ (rule : RuleItem). rule.raw.at) (λ raw. record { home = Some stages; raw = raw }) rules
-rule_places stages _ = refl
-
-rules_places : (stages : ℕ) (items : List RawItem) → map (λ (rule : RuleItem). rule.raw.at) (rules_from stages items) ≡ flat_map (λ item. map (λ (rule : RawRule). rule.at) (item_rules item)) items
-rules_places stages [] = refl
-rules_places stages (item ∷ items) =
-    map-append (λ (rule : RuleItem). rule.raw.at) (rules_in stages item) (rules_from (stages_behind stages item) items)
-    ∙ ap (λ ys. ys ++ map (λ (rule : RuleItem). rule.raw.at) (rules_from (stages_behind stages item) items)) (rule_places stages item)
-    ∙ ap (λ ys. map (λ (rule : RawRule). rule.at) (item_rules item) ++ ys) (rules_places (stages_behind stages item) items)
-
-names_places : (source : Source) (unlabelled : ℕ) (rules : List RuleItem) → map entry_at (rule_names_from source unlabelled rules) ≡ map (λ (rule : RuleItem). rule.raw.at) rules
-names_places source unlabelled [] = refl
-names_places source unlabelled (rule ∷ rules) = ap (λ ys. rule.raw.at ∷ ys) (names_places source (unlabelled_behind unlabelled rule.raw.label) rules)
-
-pub rules_at : (source : Source) → flat_map (places_in source counted.Rules) source.file ≡ map entry_at (names_in source space.Rules)
-rules_at source = sym (names_places source 0 (rules_of source) ∙ rules_places 0 source.file)
+-- the place of the clause that is one too many
+pub past_clauses : (source : Source) (file : List RawItem) → file ≡ source.file
+    → first_in (past (slice_get (flat_map (clause_places source) file) MOST_CLAUSES)) ≡ first_in (past (slice_get (map head_at (clauses_of source)) MOST_CLAUSES))
+past_clauses source file is =
+    ap (λ (items : List RawItem). first_in (past (slice_get (flat_map (clause_places source) items) MOST_CLAUSES))) is
+    ∙ ap (λ (ys : List ℕ). first_in (past (slice_get ys MOST_CLAUSES))) (sym (map-flat_map head_at (clauses_in source) source.file))
 
 -- variables
 abbrev pub occurrence_from : Occurrence → ℕ

@@ -1,27 +1,26 @@
 -- Private.
--- The faults of a whole file: of its numbers of declarations, of the variables of its rules and clauses, of the sizes of its atoms, and of its traces.
-use Rattle.std.specs.Prelude.{◌≡◌, ℕ, Bool, ◌||◌, ◌&&◌, if◌then◌else◌, List, [], ◌∷◌, ◌++◌, map, filter, not, length, ◌^◌, ◌-◌, min, nat_lt, nat_le, sum_by, slice_get}
-use Rattle.std.specs.List.{flat_map}
+-- The faults of a whole text: of its numbers of declarations, of the size of its start state, and of its number of traces.
+use Rattle.std.specs.Prelude.{◌≡◌, ℕ, Bool, ◌||◌, ◌&&◌, if◌then◌else◌, List, [], ◌∷◌, ◌++◌, map, filter, not, length, ◌^◌, ◌-◌, min, nat_lt, sum_by, slice_get}
 use Rattle.cep_parse.specs.declared.raw.RawAtom.{RawAtom}
+use Rattle.cep_parse.specs.declared.raw.RawItem.{RawItem}
 use Rattle.cep_parse.specs.declared.raw.RawStart.{RawStart}
 use Rattle.cep_parse.specs.declared.raw.RawStart.TheVariants as start
-use Rattle.cep_parse.specs.declared.raw.RawItem.{RawItem}
-use Rattle.cep_base.specs.declared.limits.TheConstants.{MOST_CLAUSES, MOST_CONS, MOST_COPIES, MOST_DEPTH, MOST_NODES, MOST_PREDS, MOST_RULES, MOST_STATE_NODES, MOST_VARIABLES}
+use Rattle.cep_base.specs.declared.limits.TheConstants.{MOST_CLAUSES, MOST_CONS, MOST_COPIES, MOST_PREDS, MOST_RULES, MOST_STATE_NODES}
 use Rattle.cep_refusal.specs.declared.fault.Fault.{Fault}
 use Rattle.cep_refusal.specs.declared.reason.Reason.TheVariants.{NoTrace, TwoTraces, OverLimit}
 use Rattle.cep_source.specs.declared.space.Role.TheVariants as role
-use Rattle.cep_faults.specs.declared.counts.Counted.{Counted}
-use Rattle.cep_faults.specs.declared.counts.Counted.TheVariants as counted
 use Rattle.cep_faults.specs.declared.sizes.Size.{Size}
 use Rattle.cep_faults.specs.declared.sizes.Sizes.{Sizes}
-use Rattle.cep_source.specs.Items.{Source, TraceItem, said, preds_in, cons_in, clauses_in, contexts_of, traces_of}
+use Rattle.cep_source.specs.Items.{Source, TraceItem, said, preds_of, cons_of, rules_of, clauses_in, clauses_of, contexts_of, traces_of}
 use Rattle.cep_source.specs.Spaces.{context_named}
-use Rattle.cep_parse.specs.Raw.{item_rules, raw_nodes, atoms_of, listed_atoms}
 use Rattle.cep_refusal.specs.First.{wrong}
-use Rattle.cep_faults.specs.Seen.{unseen, new_in}
-use Rattle.cep_source.specs.Starts.{listed_in, start_atoms, nodes_written, depth_written, is_of_fact, counting}
+use Rattle.cep_source.specs.Starts.{listed_in, start_atoms, nodes_written, is_of_fact, counting}
 use Rattle.cep_source.specs.Uses.{names_context}
-use Rattle.cep_faults.specs.Faults.{past, item_faults}
+use Rattle.cep_faults.specs.Faults.{past, kind_faults}
+
+-- the place of an item that is a clause
+abbrev pub clause_places : Source → RawItem → List ℕ
+clause_places source item = map (λ clause. clause.head.name.from) (clauses_in source item)
 
 -- the first declaration of a kind that is one too many
 abbrev pub count_faults : Source → List Fault

@@ -80,15 +80,23 @@ fn is_fit(alloc: Global, atom: &RawAtom) -> Result<bool, AllocError>
     is_shallow(alloc, atom.args, nodes)
 }
 
+// The fault of an atom that may not be kept in a state.
+fn atom_unfit(alloc: Global, atom: &RawAtom) -> Result<Option<Fault>, AllocError>
+    ensures { IfOk result (λ first. first ≡ first_in (unfit_faults atom.now)) }
+{
+    if is_fit(alloc, atom)? {
+        return Ok(None);
+    }
+    Ok(past(Some(atom.name.from)))
+}
+
 // The first atom that may not be kept in a state.
 pub(crate) fn unfit_fault(alloc: Global, atoms: &[RawAtom]) -> Result<Option<Fault>, AllocError>
     ensures { IfOk result (λ first. first ≡ first_in (flat_map unfit_faults atoms.now)) }
 {
     let mut first = FirstFault::none();
     for atom in atoms {
-        if !is_fit(alloc, atom)? {
-            first.note(past(Some(atom.name.from)));
-        }
+        first.note(atom_unfit(alloc, atom)?);
     }
     Ok(first.found())
 }

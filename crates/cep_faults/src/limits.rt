@@ -3,10 +3,10 @@
 ghost use Rattle.std.specs.Prelude.{◌≡◌, ◌++◌, Some, map, slice_get, option_to_list};
 ghost use Rattle.std.specs.List.{flat_map};
 ghost use Rattle.cep_refusal.specs.First.{first_in};
-ghost use Rattle.cep_source.specs.Items.{preds_of, cons_of, rules_of, clauses_in, clauses_of};
+ghost use Rattle.cep_source.specs.Items.{preds_of, cons_of, rules_of, clauses_of};
 ghost use Rattle.cep_faults.specs.Premises.{is_declared};
 ghost use Rattle.cep_faults.specs.Faults.{past, argument_faults, places, premise_places, atom_places, size_faults, turns_faults};
-ghost use Rattle.cep_faults.specs.Totals.{count_faults};
+ghost use Rattle.cep_faults.specs.Totals.{clause_places, count_faults};
 
 use cep_base::PredKind;
 use cep_base::limits::{
@@ -159,7 +159,7 @@ fn last_rule_past(source: &Source) -> Option<Fault>
 
 // The place of an item that is a clause.
 fn clause_place(source: &Source, item: &RawItem) -> Option<u32>
-    ensures { option_to_list result ≡ map (λ clause. clause.head.name.from) (clauses_in source.now item.now) }
+    ensures { option_to_list result ≡ clause_places source.now item.now }
 {
     match item {
         RawItem::Clause { head, .. } => Some(head.name.from),

@@ -1,3 +1,4 @@
+use Rattle.std.proofs.Common.{◌∙◌}
 use Rattle.cep_source.specs.Kept.{context_item}
 use Rattle.cep_faults.specs.Faults.{context_faults}
 use Rattle.cep_refusal.specs.First.{standing}
@@ -10,4 +11,4 @@ loop-context-preserved c =
     foremost_mapped standing (context_faults c.args.source.now) context_item c.contexts-context-items.result.now c.loop-context.context-index c.context-item.result _ _ _ c.loop-context-test.true c.context-item.is c.loop-context.invariant c.in_ok-context_fault.ensures c.note.ensures
 
 pub returns : goal.returns
-returns c = all_mapped (context_faults c.args.source.now) context_item c.contexts-context-items.result.now _ c.loop-context.context-index _ c.loop-context-test.false c.contexts-context-items.ensures c.loop-context.invariant
+returns c = c.found.ensures ∙ all_mapped (context_faults c.args.source.now) context_item c.contexts-context-items.result.now _ c.loop-context.context-index _ c.loop-context-test.false c.contexts-context-items.ensures c.loop-context.invariant

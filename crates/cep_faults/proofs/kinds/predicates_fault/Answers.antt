@@ -1,13 +1,14 @@
+use Rattle.std.proofs.Common.{◌∙◌}
 use Rattle.cep_source.specs.Kept.{pred_item}
 use Rattle.cep_faults.specs.Faults.{predicate_faults}
 use Rattle.cep_refusal.specs.First.{standing}
-use Rattle.cep_base.proofs.ForemostLoops.{foremost_mapped}
+use Rattle.cep_base.proofs.ForemostLoops.{foremost_more_map}
 use Rattle.cep_faults.proofs.Firsts.{all_mapped}
 use Rattle.cep_faults.proofs.kinds.predicates_fault.Goals as goal
 
 pub loop-pred-preserved : goal.loop-pred-preserved
 loop-pred-preserved c =
-    foremost_mapped standing (predicate_faults c.args.source.now) pred_item c.preds-pred-items.result.now c.loop-pred.pred-index c.pred-item.result _ _ _ c.loop-pred-test.true c.pred-item.is c.loop-pred.invariant c.predicate_fault.ensures c.note.ensures
+    foremost_more_map standing (predicate_faults c.args.source.now) pred_item c.preds-pred-items.result.now c.loop-pred.pred-index _ _ _ _ c.loop-pred-test.true c.loop-pred.invariant c.predicate_fault.ensures c.note.ensures
 
 pub returns : goal.returns
-returns c = all_mapped (predicate_faults c.args.source.now) pred_item c.preds-pred-items.result.now _ c.loop-pred.pred-index _ c.loop-pred-test.false c.preds-pred-items.ensures c.loop-pred.invariant
+returns c = c.found.ensures ∙ all_mapped (predicate_faults c.args.source.now) pred_item c.preds-pred-items.result.now _ c.loop-pred.pred-index _ c.loop-pred-test.false c.preds-pred-items.ensures c.loop-pred.invariant

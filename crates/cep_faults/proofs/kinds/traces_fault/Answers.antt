@@ -1,3 +1,4 @@
+use Rattle.std.proofs.Common.{◌∙◌}
 use Rattle.cep_source.specs.Kept.{trace_item}
 use Rattle.cep_faults.specs.Faults.{trace_faults}
 use Rattle.cep_refusal.specs.First.{standing}
@@ -10,4 +11,4 @@ loop-trace-preserved c =
     foremost_mapped standing (trace_faults c.args.source.now) trace_item c.traces-trace-items.result.now c.loop-trace.trace-index c.trace-item.result _ _ _ c.loop-trace-test.true c.trace-item.is c.loop-trace.invariant c.in_ok-trace_fault.ensures c.note.ensures
 
 pub returns : goal.returns
-returns c = all_mapped (trace_faults c.args.source.now) trace_item c.traces-trace-items.result.now _ c.loop-trace.trace-index _ c.loop-trace-test.false c.traces-trace-items.ensures c.loop-trace.invariant
+returns c = c.found.ensures ∙ all_mapped (trace_faults c.args.source.now) trace_item c.traces-trace-items.result.now _ c.loop-trace.trace-index _ c.loop-trace-test.false c.traces-trace-items.ensures c.loop-trace.invariant

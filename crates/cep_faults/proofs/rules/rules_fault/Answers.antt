@@ -1,3 +1,4 @@
+use Rattle.std.proofs.Common.{◌∙◌}
 use Rattle.cep_source.specs.Kept.{rule_item}
 use Rattle.cep_faults.specs.Faults.{rule_faults}
 use Rattle.cep_refusal.specs.First.{standing}
@@ -10,4 +11,4 @@ loop-rule-preserved c =
     foremost_mapped standing (rule_faults c.args.source.now) rule_item c.rules-rule-items.result.now c.loop-rule.rule-index c.rule-item.result _ _ _ c.loop-rule-test.true c.rule-item.is c.loop-rule.invariant c.in_ok-rule_fault.ensures c.note.ensures
 
 pub returns : goal.returns
-returns c = all_mapped (rule_faults c.args.source.now) rule_item c.rules-rule-items.result.now _ c.loop-rule.rule-index _ c.loop-rule-test.false c.rules-rule-items.ensures c.loop-rule.invariant
+returns c = c.found.ensures ∙ all_mapped (rule_faults c.args.source.now) rule_item c.rules-rule-items.result.now _ c.loop-rule.rule-index _ c.loop-rule-test.false c.rules-rule-items.ensures c.loop-rule.invariant
