@@ -5,8 +5,8 @@ ghost use Rattle.cep_parse.specs.declared.raw.RawStart.TheVariants as start;
 ghost use Rattle.cep_source.specs.declared.space.Role.TheVariants as role;
 ghost use Rattle.cep_source.specs.Starts.{is_of_fact, listed_or};
 ghost use Rattle.cep_source.specs.Uses.{placed, is_context};
-ghost use Rattle.cep_faults.specs.FactKeys.{name_key, count_key, node_key, atom_key, AreFactsOf, AreNoted, no_facts};
-ghost use Rattle.cep_faults.specs.Totals.{cut, written_size, facts_counting, facts_size};
+ghost use Rattle.cep_faults.specs.FactKeys.{name_key, count_key, atom_key, AreFactsOf, AreNoted, no_facts};
+ghost use Rattle.cep_faults.specs.Totals.{facts_size};
 
 use crate::atoms::names_context;
 use crate::sizes::Size;
@@ -45,13 +45,6 @@ fn put_count(count: u32, key: &mut Text) -> Result<(), AllocError>
     key.append(b".")
 }
 
-fn put_node(source: &Source, node: &RawNode, key: &mut Text) -> Result<(), AllocError>
-    ensures { OnOk result (key.new ≡ key.old ++ node_key source.now node.now) }
-{
-    put_name(source.said(node.at), key)?;
-    put_count(node.args, key)
-}
-
 // The key of an atom, which it shares with those that are written alike, and with no others.
 fn key_of(source: &Source, atom: &RawAtom) -> Result<Text, AllocError>
     ensures { IfOk result (λ key. key ≡ atom_key source.now atom.now) }
@@ -60,7 +53,8 @@ fn key_of(source: &Source, atom: &RawAtom) -> Result<Text, AllocError>
     put_name(source.said(atom.name), &mut key)?;
     put_count(atom.args, &mut key)?;
     for node in atom.nodes.as_slice() {
-        put_node(source, node, &mut key)?;
+        put_name(source.said(node.at), &mut key)?;
+        put_count(node.args, &mut key)?;
     }
     Ok(key)
 }
@@ -129,15 +123,6 @@ impl Facts {
     }
 }
 
-// The size of the facts among atoms, each once.
-fn facts_among(source: &Source, atoms: &[RawAtom]) -> Result<Size, AllocError>
-    ensures { IfOk result (λ size. size ≡ cut (written_size (facts_counting source.now atoms.now))) }
-{
-    let mut facts = Facts::new(source.alloc());
-    facts.note_all(source, atoms)?;
-    Ok(facts.size)
-}
-
 // The size of the facts in braces, each once.
 fn facts_in_braces(source: &Source, atoms: &[RawAtom]) -> Result<Size, AllocError>
     ensures { IfOk result (λ size. size ≡ facts_size source.now (start.Listed atoms.now)) }
@@ -155,7 +140,11 @@ pub(crate) fn facts_of_start(source: &Source, start: &RawStart) -> Result<Size, 
     ensures { IfOk result (λ size. size ≡ facts_size source.now start.now) }
 {
     match start {
-        RawStart::Named(name) => facts_among(source, source.listed(*name)),
+        RawStart::Named(name) => {
+            let mut facts = Facts::new(source.alloc());
+            facts.note_all(source, source.listed(*name))?;
+            Ok(facts.size)
+        }
         RawStart::Listed(atoms) => facts_in_braces(source, atoms.as_slice()),
     }
 }

@@ -28,28 +28,20 @@ fn rule_atoms_fault(source: &Source, rule: &RawRule) -> Option<Fault>
     )
 }
 
-fn is_qui(elem: &RawElem) -> bool
-    ensures { result ≡ is_qui elem.now }
-{
-    matches!(elem, RawElem::Qui(_))
-}
-
-fn is_stage(elem: &RawElem) -> bool
-    ensures { result ≡ is_stage elem.now }
-{
-    matches!(elem, RawElem::Stage(_))
-}
-
 fn quis(side: &[RawElem]) -> usize
     ensures { result ≡ count_by is_qui side.now }
 {
-    side.iter().filter(|elem| is_qui(elem)).count()
+    side.iter()
+        .filter(|elem| matches!(elem, RawElem::Qui(_)))
+        .count()
 }
 
 fn stages(side: &[RawElem]) -> usize
     ensures { result ≡ count_by is_stage side.now }
 {
-    side.iter().filter(|elem| is_stage(elem)).count()
+    side.iter()
+        .filter(|elem| matches!(elem, RawElem::Stage(_)))
+        .count()
 }
 
 // The fault of a rule that does not lead from one stage to one stage at quiescence.

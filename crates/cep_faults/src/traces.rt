@@ -45,17 +45,6 @@ fn two_fault(traces: &[TraceRef]) -> Option<Fault>
     first.found()
 }
 
-// The fault that there is none.
-fn no_trace(source: &Source) -> Fault
-    requires { length source.now.text ≤ MOST_TEXT }
-    ensures { result ≡ wrong Reason.NoTrace (length source.now.text) }
-{
-    Fault {
-        reason: Reason::NoTrace,
-        at: source.text().len() as u32,
-    }
-}
-
 // The first fault of the traces: the first one's start state, each one after it, or that there is
 // none.
 pub(crate) fn total_fault(source: &Source, sizes: &Sizes) -> Result<Option<Fault>, AllocError>
@@ -68,6 +57,9 @@ pub(crate) fn total_fault(source: &Source, sizes: &Sizes) -> Result<Option<Fault
             let first = large_fault(source, sizes, trace)?;
             Ok(Fault::first_of(first, two_fault(rest)))
         }
-        None => Ok(Some(no_trace(source))),
+        None => Ok(Some(Fault {
+            reason: Reason::NoTrace,
+            at: source.text().len() as u32,
+        })),
     }
 }
