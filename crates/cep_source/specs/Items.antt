@@ -66,19 +66,19 @@ pub record Declares : Type 0 where
   pub contexts : List ContextItem
   pub traces : List TraceItem
 
-abbrev pub nothing : Declares
-nothing = record { sorts = []; preds = []; colon = None; clauses = []; rules = []; stages = []; interactives = []; contexts = []; traces = [] }
+abbrev pub declared_nothing : Declares
+declared_nothing = record { sorts = []; preds = []; colon = None; clauses = []; rules = []; stages = []; interactives = []; contexts = []; traces = [] }
 
 abbrev pub declares : RawItem → Declares
-declares (item.Sort name) = record nothing { sorts = name ∷ [] }
-declares (item.Pred name args of_kind) = record nothing { preds = record { name = name; args = args; kind = of_kind } ∷ [] }
-declares (item.Colon left args right) = record nothing { colon = Some (record { name = left; args = args; sort = right }) }
-declares (item.Clause label head goals) = record nothing { clauses = record { head = head; goals = goals } ∷ [] }
-declares (item.Outer rule) = record nothing { rules = rule ∷ [] }
-declares (item.Stage name rules) = record nothing { stages = name ∷ []; rules = rules }
-declares (item.Context name atoms) = record nothing { contexts = record { name = name; atoms = atoms } ∷ [] }
-declares (item.Interactive name) = record nothing { interactives = name ∷ [] }
-declares (item.Trace at limit stage start) = record nothing { traces = record { at = at; limit = limit; stage = stage; start = start } ∷ [] }
+declares (item.Sort name) = record declared_nothing { sorts = name ∷ [] }
+declares (item.Pred name args of_kind) = record declared_nothing { preds = record { name = name; args = args; kind = of_kind } ∷ [] }
+declares (item.Colon left args right) = record declared_nothing { colon = Some (record { name = left; args = args; sort = right }) }
+declares (item.Clause label head goals) = record declared_nothing { clauses = record { head = head; goals = goals } ∷ [] }
+declares (item.Outer rule) = record declared_nothing { rules = rule ∷ [] }
+declares (item.Stage name rules) = record declared_nothing { stages = name ∷ []; rules = rules }
+declares (item.Context name atoms) = record declared_nothing { contexts = record { name = name; atoms = atoms } ∷ [] }
+declares (item.Interactive name) = record declared_nothing { interactives = name ∷ [] }
+declares (item.Trace at limit stage start) = record declared_nothing { traces = record { at = at; limit = limit; stage = stage; start = start } ∷ [] }
 
 -- the types, the predicates, the stages, the names of the stages that are said to be interactive, the contexts, the traces
 abbrev pub sorts_in : RawItem → List Span
