@@ -28,7 +28,7 @@ abbrev pub MadeOfTokens : Type 0
 MadeOfTokens = (text : List ℕ) (tokens : List Token) (file : List RawItem) → File (symbols_of text tokens) file → AllByRecursion (IsItemOf tokens) file
 
 -- what holds of all that each gives
-all_flat : {X Y : Type 0} (P : X → Type 0) (Q : Y → Type 0) (f : X → List Y) (xs : List X) → ((x : X) → P x → AllByRecursion Q (f x)) → AllByRecursion P xs → AllByRecursion Q (flat_map f xs)
+pub all_flat : {X Y : Type 0} (P : X → Type 0) (Q : Y → Type 0) (f : X → List Y) (xs : List X) → ((x : X) → P x → AllByRecursion Q (f x)) → AllByRecursion P xs → AllByRecursion Q (flat_map f xs)
 all_flat P Q f [] each all = tt
 all_flat P Q f (x ∷ xs) each all = both_all Q (f x) (flat_map f xs) (each x all.0) (all_flat P Q f xs each all.1)
 
@@ -75,7 +75,7 @@ module _ (tokens : List Token) where
   rules_declared (item.Stage name rules) is = is.1
   rules_declared _ is = tt
 
-  rules_made : (stages : ℕ) (items : List RawItem) → AllByRecursion (IsItemOf tokens) items → AllByRecursion IsRuleMade (rules_from stages items)
+  pub rules_made : (stages : ℕ) (items : List RawItem) → AllByRecursion (IsItemOf tokens) items → AllByRecursion (λ (rule : RuleItem). IsRuleOf tokens rule.raw) (rules_from stages items)
   rules_made stages [] all = tt
   rules_made stages (item_ ∷ items) all =
       both_all IsRuleMade (rules_in stages item_) _

@@ -16,11 +16,10 @@ use Rattle.cep_source.specs.declared.space.Role.TheVariants as role
 use Rattle.cep_source.specs.Items.{Source, RuleItem, TraceItem, ContextItem, said, clauses_of, rules_of, contexts_of, traces_of}
 use Rattle.cep_source.specs.Spaces.{context_named}
 use Rattle.cep_parse.specs.Raw.{start_listed}
-use Rattle.cep_source.specs.Uses.{Placed, placed, placed_of, rule_atoms, clause_atoms, context_atoms, trace_atoms, is_context}
+use Rattle.cep_source.specs.Uses.{Placed, placed, placed_of, rule_atoms, clause_atoms, context_atoms, trace_atoms, is_context, IsOfState as of_state}
 use Rattle.cep_source.specs.Variables.{blanks_behind}
 use Rattle.cep_source.specs.Starts.{listed_in, listed_or, start_atoms}
 use Rattle.cep_refusal.specs.First.{wrong}
-use Rattle.cep_source.specs.Uses.{IsOfState as of_state}
 use Rattle.cep_faults.specs.Misnamed.{IsOpen as opens}
 use Rattle.cep_faults.specs.Misnamed.Misnamed.{variable_in_state}
 use Rattle.cep_types.specs.Heads.{Head, var, con, head_at, heads_from, blanks_after}

@@ -1,5 +1,5 @@
 -- The atoms that share their variables, and the items in which they stand.
-use Rattle.std.proofs.Common.{◌≡◌, ℕ, ◌⊎◌, inl, inr, ⊎_elim, Bool, true, false, List, [], ◌∷◌, ◌++◌, map, Option, Some, None, refl, ap, sym, ◌∙◌, subst}
+use Rattle.std.proofs.Common.{◌≡◌, ℕ, ◌⊎◌, inl, inr, ⊎_elim, Bool, true, false, List, [], ◌∷◌, ◌++◌, map, Option, refl, ap, sym, ◌∙◌, subst}
 use Rattle.std.specs.List.{flat_map}
 use Rattle.cep_parse.specs.declared.raw.RawAtom.{RawAtom}
 use Rattle.cep_parse.specs.declared.raw.RawRule.{RawRule}
@@ -9,9 +9,8 @@ use Rattle.cep_source.specs.declared.space.Role.{Role}
 use Rattle.cep_source.specs.declared.space.Role.TheVariants as role
 use Rattle.cep_source.specs.Items.{Source, ClauseItem, RuleItem, ContextItem, TraceItem, declares, bare, clause_or_none, clauses_in, clauses_of, contexts_in, contexts_of, traces_in, traces_of, is_labelled, stages_in, home_in, rules_in, rules_from, rules_of, stages_behind}
 use Rattle.cep_parse.specs.Raw.{atoms_of, start_listed}
-use Rattle.cep_source.specs.Uses.{IsOfState}
+use Rattle.cep_source.specs.Uses.{IsOfState, Placed, placed, placed_of, rule_atoms, clause_atoms, context_atoms, trace_atoms}
 use Rattle.cep_source.specs.Uses.IsOfState.{listed, start}
-use Rattle.cep_source.specs.Uses.{Placed, placed, placed_of, rule_atoms, clause_atoms, context_atoms, trace_atoms}
 use Rattle.cep_types.specs.Sites.{IsScope, clause_scope}
 use Rattle.cep_types.specs.Sites.IsScope.{rule, clause, state}
 use Rattle.cep_types.specs.Clashes.{item_scopes}
