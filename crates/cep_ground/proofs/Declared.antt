@@ -22,9 +22,8 @@ use Rattle.cep_source.specs.Items.{Source, ClauseItem, RuleItem, TraceItem, said
 use Rattle.cep_source.specs.Spaces.{Named, names_in, rule_names_from, unlabelled_behind}
 use Rattle.cep_parse.specs.Raw.{atoms_of, raw_nodes}
 use Rattle.cep_source.specs.Variables.{blanks_behind}
-use Rattle.cep_source.specs.Starts.{start_atoms}
+use Rattle.cep_source.specs.Starts.{start_atoms, turns_said}
 use Rattle.cep_refusal.specs.First.{wrong}
-use Rattle.cep_source.specs.Starts.{turns_said}
 use Rattle.cep_faults.specs.Misnamed.Misnamed.{no_trace}
 use Rattle.cep_types.specs.Sites.{rule_scope, clause_scope}
 use Rattle.cep_types.specs.Heads.{Head, var, con, number_of, variable_of, head_at, heads_from, blanks_after}

@@ -1,5 +1,5 @@
 -- The groups of rules, and the stages that they name.
-use Rattle.std.proofs.Common.{◌≡◌, ⊎_elim, ℕ, ◌+◌, ◌*◌, ◌%◌, ◌<◌, Bool, true, false, List, [], ◌∷◌, ◌++◌, length, refl, sym, ap, subst, ◌∙◌, arith, Contains}
+use Rattle.std.proofs.Common.{◌≡◌, ⊎_elim, ℕ, ◌+◌, ◌*◌, ◌%◌, ◌<◌, Bool, true, false, List, [], ◌∷◌, ◌++◌, length, refl, sym, ap, subst, ◌∙◌, arith, Contains, length-append}
 use Rattle.std.proofs.Math.Nat.{mul-add-mod_self_left}
 use Rattle.std.proofs.lemmas.Bool.{eqb-true, eqb-false}
 use Rattle.std.proofs.lemmas.List.{length-map}
@@ -10,24 +10,43 @@ use Rattle.std.specs.Str.{bytes_eq}
 use Rattle.cep_parse.specs.declared.raw.Span.{Span}
 use Rattle.cep_parse.specs.declared.raw.RawElem.{RawElem}
 use Rattle.cep_parse.specs.declared.raw.RawElem.TheVariants as elem
+use Rattle.cep_parse.specs.declared.raw.RawItem.{RawItem}
 use Rattle.cep_refusal.specs.declared.reason.Reason.TheVariants.{BadQui}
 use Rattle.cep_source.specs.declared.space.Space.TheVariants as space
-use Rattle.cep_source.specs.Items.{Source, RuleItem, said, rules_of, stages_of}
+use Rattle.cep_source.specs.Items.{Source, RuleItem, declares, said, home_in, rules_in, stages_in, stages_behind, rules_from, rules_of, stages_of}
 use Rattle.cep_source.specs.Spaces.{named, names_in, is_in}
-use Rattle.cep_source.specs.Uses.{Use, use_in, elem_uses, uses_of}
+use Rattle.cep_source.specs.Uses.{Use, use_in, elem_uses, rule_uses, uses_of}
 use Rattle.cep_refusal.specs.First.{wrong}
 use Rattle.cep_faults.specs.Misnamed.{is_stage, IsQuiRule}
 use Rattle.cep_faults.specs.Misnamed.Misnamed.{bad_qui}
 use Rattle.cep_types.specs.Heads.{number_of}
-use Rattle.cep_infer.specs.Meaning.{stages_in_elem, first_stage, stage_named, group_of, next_of}
+use Rattle.cep_infer.specs.Meaning.{stages_in_elem, first_stage, stage_named, group_of, next_of, IsRuleBy}
 use Rattle.cep_rule.specs.declared.rule.Rule.{Rule}
 use Rattle.cep_rule.specs.Program.{IsGroupedRule}
-use Rattle.cep_infer.specs.Meaning.{IsRuleBy}
 use Rattle.cep_ground.specs.Texts.{IsClean}
-use Rattle.cep_base.proofs.Elements.{contains_none, contains_first, contains_cases, contains_left, contains_right, contains_flat, flat_cases}
-use Rattle.cep_ground.proofs.Known.{known}
+use Rattle.cep_base.proofs.Elements.{contains_none, contains_first, contains_cases, contains_either, contains_left, contains_right, contains_flat, flat_cases, map_cases}
+use Rattle.cep_ground.proofs.Known.{known, rule_item_uses}
 use Rattle.cep_ground.proofs.Located.{place_within, position_there}
-use Rattle.cep_ground.proofs.RuleItems.{rule_uses, home_within}
+
+-- a rule of a stage is in one of the stages
+home_among : (before : ℕ) (names : List Span) (stage : ℕ) → home_in before names ≡ Some stage → stage < before + length names
+home_among before [] stage is = absurd cc
+home_among before (name ∷ names) stage is = let same : before ≡ stage = cc in omega (arith, same)
+
+home_from : (before : ℕ) (items : List RawItem) (rule : RuleItem) (stage : ℕ) → Contains (rules_from before items) rule → rule.home ≡ Some stage → stage < before + length (flat_map stages_in items)
+home_from before [] rule stage there home = absurd (contains_none rule there)
+home_from before (next ∷ items) rule stage there home =
+    let size = length-append (stages_in next) (flat_map stages_in items) in
+    ⊎_elim
+    (λ here.
+    let is = map_cases (λ raw. record { home = home_in before (stages_in next); raw = raw }) (declares next).rules rule here in
+    let h = home_among before (stages_in next) stage (ap (λ (one : RuleItem). one.home) is.same ∙ home) in
+    omega (arith, h, size))
+    (λ later. let h = home_from (stages_behind before next) items rule stage later home in omega (arith, h, size))
+    (contains_either (rules_in before next) (rules_from (stages_behind before next) items) rule there)
+
+home_within : (source : Source) (rule : RuleItem) (stage : ℕ) → Contains (rules_of source) rule → rule.home ≡ Some stage → stage < length (stages_of source)
+home_within source rule stage there home = let h = home_from 0 source.file rule stage there home in omega (arith, h)
 
 -- a side that names one stage names it
 stage_step : (e : RawElem) (side : List RawElem) → count_by is_stage (e ∷ side) ≡ cond (is_stage e) 1 0 + count_by is_stage side
@@ -70,10 +89,10 @@ module _ (source : Source) (clean : IsClean source) where
   pub used_stage : (span : Span) → Contains (uses_of source) (use_in space.Stages span) → number_of source space.Stages (said source span) < length (stages_of source)
   used_stage span there = stage_in_range (said source span) (known source (use_in space.Stages span) clean.names there)
 
-  side_stage : (rule : RuleItem) (side : List RawElem) → Contains (rules_of source) rule → rule.home ≡ None → ((u : Use) → Contains (flat_map elem_uses side) u → Contains (flat_map elem_uses (rule.raw.left ++ rule.raw.right)) u) → count_by is_stage side ≡ 1 → stage_named source side < length (stages_of source)
-  side_stage rule side there none among one =
+  side_stage : (rule : RuleItem) (side : List RawElem) → Contains (rules_of source) rule → ((u : Use) → Contains (flat_map elem_uses side) u → Contains (rule_uses rule.raw) u) → count_by is_stage side ≡ 1 → stage_named source side < length (stages_of source)
+  side_stage rule side there among one =
       let is = names_one side one in
-      let used = rule_uses source rule (use_in space.Stages is.name) there none (among (use_in space.Stages is.name) (side_use side is.name (subst (λ ns. Contains ns is.name) (sym is.names) (contains_first is.name is.rest)))) in
+      let used = rule_item_uses source rule (use_in space.Stages is.name) there (among (use_in space.Stages is.name) (side_use side is.name (subst (λ ns. Contains ns is.name) (sym is.names) (contains_first is.name is.rest)))) in
       subst (λ ns. first_stage source ns < length (stages_of source)) (sym is.names) (used_stage is.name used)
 
   in_flat_left : (left right : List RawElem) (u : Use) → Contains (flat_map elem_uses left) u → Contains (flat_map elem_uses (left ++ right)) u
@@ -108,8 +127,8 @@ module _ (source : Source) (clean : IsClean source) where
       let even = even_group stage in
       ((omega (arith, within)), ((λ (some : IsSome {T = ℕ} None). absurd cc), (λ (odd : (2 * stage) % 2 ≡ 1). absurd (omega (arith, even, odd)))), tt)
   grouped_by None rule there home =
-      let from = side_stage rule rule.raw.left there home (in_flat_left rule.raw.left rule.raw.right) (qui_left rule there home) in
-      let to = side_stage rule rule.raw.right there home (in_flat_right rule.raw.left rule.raw.right) (qui_right rule there home) in
+      let from = side_stage rule rule.raw.left there (in_flat_left rule.raw.left rule.raw.right) (qui_left rule there home) in
+      let to = side_stage rule rule.raw.right there (in_flat_right rule.raw.left rule.raw.right) (qui_right rule there home) in
       let odd = odd_group (stage_named source rule.raw.left) in
       ((omega (arith, from)), ((λ some. odd), (λ is. refl)), to)
 

@@ -1,5 +1,5 @@
 -- In a text whose names are in order, each name that is used is declared, with the number of arguments with which it is used.
-use Rattle.std.proofs.Common.{◌≡◌, ⊎_elim, ℕ, Bool, true, false, [], ◌∷◌, length, refl, sym, ap, subst, Contains}
+use Rattle.std.proofs.Common.{◌≡◌, ℕ, Bool, true, false, [], ◌∷◌, length, map, refl, sym, ap, subst, Contains}
 use Rattle.std.specs.Prelude.{Some, ◌==◌}
 use Rattle.std.specs.Option.{option_map}
 use Rattle.std.specs.Str.{bytes_eq}
@@ -7,18 +7,16 @@ use Rattle.std.specs.List.{flat_map}
 use Rattle.std.proofs.lemmas.Bool.{eqb-true, eqb-false}
 use Rattle.cep_parse.specs.declared.raw.Span.{Span}
 use Rattle.cep_parse.specs.declared.raw.RawKind.TheVariants as kind
-use Rattle.cep_parse.specs.declared.raw.RawItem.{RawItem}
-use Rattle.cep_parse.specs.declared.raw.RawItem.TheVariants as item
 use Rattle.cep_refusal.specs.declared.fault.Fault.{Fault}
 use Rattle.cep_refusal.specs.declared.reason.Reason.TheVariants.{Unknown, WrongKind, WrongArity}
 use Rattle.cep_source.specs.declared.space.Space.TheVariants as space
-use Rattle.cep_source.specs.Items.{Source, PredItem, ConItem, ClauseItem, said, preds_in, preds_of, cons_in, cons_of, clauses_in, clauses_of}
+use Rattle.cep_source.specs.Items.{Source, PredItem, ConItem, ClauseItem, RuleItem, TraceItem, said, preds_of, cons_of, clauses_of, rules_of, interactives_of, traces_of}
 use Rattle.cep_source.specs.Spaces.{named, is_in, pred_named, con_named, arity_of}
-use Rattle.cep_source.specs.Uses.{Placed, Use, use_in, pred_uses, node_uses, atom_uses, con_uses, own_uses, item_uses, uses_of, item_atoms, own_atoms, clause_atoms, placed_of, is_context}
+use Rattle.cep_source.specs.Uses.{Placed, Use, use_in, pred_uses, node_uses, atom_uses, type_uses, con_uses, rule_uses, trace_uses, other_uses, uses_of, rule_atoms, clause_atoms, placed_of, is_context}
 use Rattle.cep_faults.specs.Misnamed.{Misnamed, is_somewhere}
 use Rattle.cep_refusal.specs.First.{wrong}
 use Rattle.cep_faults.specs.Misnamed.Misnamed.{unknown, wrong_kind, wrong_arity}
-use Rattle.cep_base.proofs.Elements.{contains_first, contains_none, contains_cases, contains_left, contains_right, contains_map, contains_flat, flat_cases}
+use Rattle.cep_base.proofs.Elements.{contains_first, contains_left, contains_right, contains_map, contains_flat}
 use Rattle.cep_ground.proofs.Finds.{any_found}
 
 -- the names of the source are in order
@@ -44,61 +42,56 @@ arity_known source use_ arity clean there is = arity_by source use_ arity clean 
 
 -- the uses of an atom of the file
 pub placed_uses : (source : Source) (p : Placed) (use_ : Use) → Contains (placed_of source) p → Contains (atom_uses source p) use_ → Contains (uses_of source) use_
-placed_uses source p use_ there inside =
-    let is = flat_cases (item_atoms source) source.file p there in
-    contains_flat (item_uses source) source.file is.from use_ is.there
-    (contains_right (own_uses is.from) _ use_
-    (contains_right (flat_map con_uses (cons_in source is.from)) _ use_
-    (contains_flat (atom_uses source) (item_atoms source is.from) p use_ is.inside inside)))
+placed_uses source p use_ there inside = contains_right (other_uses source) _ use_ (contains_flat (atom_uses source) (placed_of source) p use_ there inside)
 
--- those of a constructor's declaration
-pub con_item_uses : (source : Source) (con : ConItem) (use_ : Use) → Contains (cons_of source) con → Contains (con_uses con) use_ → Contains (uses_of source) use_
-con_item_uses source con use_ there inside =
-    let is = flat_cases (cons_in source) source.file con there in
-    contains_flat (item_uses source) source.file is.from use_ is.there
-    (contains_right (own_uses is.from) _ use_
-    (contains_left (flat_map con_uses (cons_in source is.from)) _ use_
-    (contains_flat con_uses (cons_in source is.from) con use_ is.inside inside)))
-
-pred_in_item : (item_ : RawItem) (pred : PredItem) (span : Span) → Contains (preds_in item_) pred → Contains pred.args span → Contains (own_uses item_) (use_in space.Sorts span)
-pred_in_item (item.Pred name args of_kind) pred span there inside =
-    ⊎_elim
-    (λ (same : record { name = name; args = args; kind = of_kind } ≡ pred).
-    contains_map (use_in space.Sorts) args span (subst (λ (one : PredItem). Contains one.args span) (sym same) inside))
-    (λ later. absurd (contains_none pred later))
-    (contains_cases (record { name = name; args = args; kind = of_kind }) [] pred there)
-pred_in_item _ pred span there inside = absurd (contains_none pred there)
-
--- and those of a predicate's
+-- those of a predicate's declaration, and of a constructor's
 pub pred_item_uses : (source : Source) (pred : PredItem) (span : Span) → Contains (preds_of source) pred → Contains pred.args span → Contains (uses_of source) (use_in space.Sorts span)
 pred_item_uses source pred span there inside =
-    let is = flat_cases preds_in source.file pred there in
-    contains_flat (item_uses source) source.file is.from (use_in space.Sorts span) is.there
-    (contains_left (own_uses is.from) _ (use_in space.Sorts span) (pred_in_item is.from pred span is.inside inside))
+    let use_ = use_in space.Sorts span in
+    contains_left (other_uses source) _ use_
+    (contains_left (flat_map type_uses (preds_of source)) _ use_
+    (contains_flat type_uses (preds_of source) pred use_ there (contains_map (use_in space.Sorts) pred.args span inside)))
 
--- those of an item apart from its atoms
-pub own_item_uses : (source : Source) (item_ : RawItem) (use_ : Use) → Contains source.file item_ → Contains (own_uses item_) use_ → Contains (uses_of source) use_
-own_item_uses source item_ use_ there inside = contains_flat (item_uses source) source.file item_ use_ there (contains_left (own_uses item_) _ use_ inside)
+pub con_item_uses : (source : Source) (con : ConItem) (use_ : Use) → Contains (cons_of source) con → Contains (con_uses con) use_ → Contains (uses_of source) use_
+con_item_uses source con use_ there inside =
+    contains_left (other_uses source) _ use_
+    (contains_right (flat_map type_uses (preds_of source)) _ use_
+    (contains_left (flat_map con_uses (cons_of source)) _ use_
+    (contains_flat con_uses (cons_of source) con use_ there inside)))
 
--- the atoms of a clause
+-- of a rule apart from its atoms, and of a trace
+pub rule_item_uses : (source : Source) (rule : RuleItem) (use_ : Use) → Contains (rules_of source) rule → Contains (rule_uses rule.raw) use_ → Contains (uses_of source) use_
+rule_item_uses source rule use_ there inside =
+    contains_left (other_uses source) _ use_
+    (contains_right (flat_map type_uses (preds_of source)) _ use_
+    (contains_right (flat_map con_uses (cons_of source)) _ use_
+    (contains_left (flat_map (λ (one : RuleItem). rule_uses one.raw) (rules_of source)) _ use_
+    (contains_flat (λ (one : RuleItem). rule_uses one.raw) (rules_of source) rule use_ there inside))))
+
+pub trace_item_uses : (source : Source) (trace : TraceItem) (use_ : Use) → Contains (traces_of source) trace → Contains (trace_uses trace) use_ → Contains (uses_of source) use_
+trace_item_uses source trace use_ there inside =
+    contains_left (other_uses source) _ use_
+    (contains_right (flat_map type_uses (preds_of source)) _ use_
+    (contains_right (flat_map con_uses (cons_of source)) _ use_
+    (contains_right (flat_map (λ (one : RuleItem). rule_uses one.raw) (rules_of source)) _ use_
+    (contains_right (map (use_in space.Stages) (interactives_of source)) _ use_
+    (contains_flat trace_uses (traces_of source) trace use_ there inside)))))
+
+-- the atoms of a rule, and of a clause, are atoms of the file
+pub rule_placed : (source : Source) (rule : RuleItem) (p : Placed) → Contains (rules_of source) rule → Contains (rule_atoms rule.raw) p → Contains (placed_of source) p
+rule_placed source rule p there inside =
+    contains_left (flat_map (λ (one : RuleItem). rule_atoms one.raw) (rules_of source)) _ p (contains_flat (λ (one : RuleItem). rule_atoms one.raw) (rules_of source) rule p there inside)
+
 pub clause_placed : (source : Source) (clause : ClauseItem) (p : Placed) → Contains (clauses_of source) clause → Contains (clause_atoms clause) p → Contains (placed_of source) p
 clause_placed source clause p there inside =
-    let is = flat_cases (clauses_in source) source.file clause there in
-    contains_flat (item_atoms source) source.file is.from p is.there
-    (contains_right (own_atoms is.from) _ p (contains_flat clause_atoms (clauses_in source is.from) clause p is.inside inside))
-
--- those of an item apart from clauses
-pub own_placed : (source : Source) (item_ : RawItem) (p : Placed) → Contains source.file item_ → Contains (own_atoms item_) p → Contains (placed_of source) p
-own_placed source item_ p there inside = contains_flat (item_atoms source) source.file item_ p there (contains_left (own_atoms item_) _ p inside)
+    contains_right (flat_map (λ (one : RuleItem). rule_atoms one.raw) (rules_of source)) _ p
+    (contains_left (flat_map clause_atoms (clauses_of source)) _ p (contains_flat clause_atoms (clauses_of source) clause p there inside))
 
 -- The predicate of an atom is declared, with as many arguments.
 pub record IsPredKnown (source : Source) (p : Placed) : Type 0 where
   pub pred : PredItem
   pub found : pred_named source (said source p.atom.name) ≡ Some pred
   pub count : p.atom.args ≡ length pred.args
-
-pred_use : (source : Source) (p : Placed) → Use
-pred_use source p = record { space = space.Predicates; name = p.atom.name; args = p.atom.args }
 
 own_use : (source : Source) (p : Placed) (context : Bool) → is_context source p ≡ context → context ≡ false → Contains (atom_uses source p) (record { space = space.Predicates; name = p.atom.name; args = p.atom.args })
 own_use source p true is none = absurd cc

@@ -1,7 +1,6 @@
 pub mod Distinct
 pub mod Finds
 pub mod Known
-pub mod RuleItems
 pub mod Wanted
 pub mod FirstPlaces
 pub mod Limits

@@ -1,5 +1,5 @@
 -- The names of a text are names of a program.
-use Rattle.std.proofs.Common.{get_or, ◌≡◌, ⊎_elim, ℕ, suc, ◌+◌, ◌<◌, ◌≤◌, ◌^◌, ◌&&◌, ◌||◌, Bool, true, false, IsTrue, List, [], ◌∷◌, ◌++◌, length, map, refl, sym, ap, subst, ◌∙◌, arith, Contains, leb}
+use Rattle.std.proofs.Common.{get_or, ◌≡◌, ℕ, suc, ◌+◌, ◌<◌, ◌≤◌, ◌^◌, ◌&&◌, ◌||◌, Bool, true, false, IsTrue, List, [], ◌∷◌, ◌++◌, length, map, refl, sym, ap, subst, ◌∙◌, arith, Contains, leb}
 use Rattle.std.proofs.lemmas.Fmt.{decimal_is_IsNumeral, length-decimal-le}
 use Rattle.std.proofs.lemmas.Str.Parse.{digit_from_value}
 use Rattle.std.proofs.lemmas.Bool.{le-leb}
@@ -22,11 +22,10 @@ use Rattle.cep_refusal.specs.First.{wrong}
 use Rattle.cep_faults.specs.Misnamed.Misnamed.{over}
 use Rattle.cep_faults.specs.Limits.{IsOver as overs}
 use Rattle.cep_ground.specs.Texts.{IsClean}
-use Rattle.cep_base.proofs.Elements.{contains_none, contains_first, contains_behind, contains_cases, flat_cases, all_at, all_of}
+use Rattle.cep_base.proofs.Elements.{contains_first, contains_behind, all_at}
+use Rattle.cep_infer.proofs.Filled.{all_flat, rules_made}
 use Rattle.cep_ground.proofs.Distinct.{names_differ}
 use Rattle.cep_ground.proofs.Limits.{at_most, all_map}
-use Rattle.cep_ground.proofs.RuleItems.{StandsIn, rule_stands}
-use Rattle.cep_ground.proofs.RuleItems.StandsIn.{out_of_stages, in_stage}
 use Rattle.cep_ground.proofs.Spelled.{name_is}
 
 -- a digit goes on with a name
@@ -83,37 +82,29 @@ module _ (source : Source) (clean : IsClean source) (items : AllByRecursion (IsI
   name_at : (span : Span) → IsNameAt clean.is_source.tokens span → IsName (said source span)
   name_at span at = name_is source clean.is_source span at
 
-  sort_at : (item_ : RawItem) (span : Span) → IsItemOf clean.is_source.tokens item_ → Contains (sorts_in item_) span → IsNameAt clean.is_source.tokens span
-  sort_at (item.Sort name) span is there = ⊎_elim (λ (same : name ≡ span). subst (IsNameAt clean.is_source.tokens) same is) (λ later. absurd (contains_none span later)) (contains_cases name [] span there)
-  sort_at _ span is there = absurd (contains_none span there)
+  -- what an item declares has names
+  named_sort : (item_ : RawItem) → IsItemOf clean.is_source.tokens item_ → AllByRecursion (λ span. IsName (said source span)) (sorts_in item_)
+  named_sort (item.Sort name) is = (name_at name is, tt)
+  named_sort _ is = tt
 
-  stage_at : (item_ : RawItem) (span : Span) → IsItemOf clean.is_source.tokens item_ → Contains (stages_in item_) span → IsNameAt clean.is_source.tokens span
-  stage_at (item.Stage name rules) span is there = ⊎_elim (λ (same : name ≡ span). subst (IsNameAt clean.is_source.tokens) same is.0) (λ later. absurd (contains_none span later)) (contains_cases name [] span there)
-  stage_at _ span is there = absurd (contains_none span there)
+  named_stage : (item_ : RawItem) → IsItemOf clean.is_source.tokens item_ → AllByRecursion (λ span. IsName (said source span)) (stages_in item_)
+  named_stage (item.Stage name rules) is = (name_at name is.0, tt)
+  named_stage _ is = tt
 
-  pred_at : (item_ : RawItem) (pred : PredItem) → IsItemOf clean.is_source.tokens item_ → Contains (preds_in item_) pred → IsNameAt clean.is_source.tokens pred.name
-  pred_at (item.Pred name args of_kind) pred is there = ⊎_elim (λ (same : record { name = name; args = args; kind = of_kind } ≡ pred). subst (λ (p : PredItem). IsNameAt clean.is_source.tokens p.name) same is.0) (λ later. absurd (contains_none pred later)) (contains_cases (record { name = name; args = args; kind = of_kind }) [] pred there)
-  pred_at _ pred is there = absurd (contains_none pred there)
+  named_pred : (item_ : RawItem) → IsItemOf clean.is_source.tokens item_ → AllByRecursion (λ (pred : PredItem). IsName (said source pred.name)) (preds_in item_)
+  named_pred (item.Pred name args of_kind) is = (name_at name is.0, tt)
+  named_pred _ is = tt
 
-  con_by_label : (labelled : Bool) (one con : ConItem) → IsNameAt clean.is_source.tokens one.name → Contains (con_or_none labelled one) con → IsNameAt clean.is_source.tokens con.name
-  con_by_label true one con is there = absurd (contains_none con there)
-  con_by_label false one con is there = ⊎_elim (λ (same : one ≡ con). subst (λ (c : ConItem). IsNameAt clean.is_source.tokens c.name) same is) (λ later. absurd (contains_none con later)) (contains_cases one [] con there)
+  con_by_label : (labelled : Bool) (con : ConItem) → IsName (said source con.name) → AllByRecursion (λ (con : ConItem). IsName (said source con.name)) (con_or_none labelled con)
+  con_by_label true con is = tt
+  con_by_label false con is = (is, tt)
 
-  con_at : (item_ : RawItem) (con : ConItem) → IsItemOf clean.is_source.tokens item_ → Contains (cons_in source item_) con → IsNameAt clean.is_source.tokens con.name
-  con_at (item.Colon left args right) con is there = con_by_label (is_labelled source args right) (record { name = left; args = args; sort = right }) con is.0 there
-  con_at _ con is there = absurd (contains_none con there)
-
-  item_made : (item_ : RawItem) → Contains source.file item_ → IsItemOf clean.is_source.tokens item_
-  item_made item_ there = all_at (IsItemOf clean.is_source.tokens) source.file item_ items there
-
-  stands_label : (item_ : RawItem) (stages : ℕ) (rule : RuleItem) → IsItemOf clean.is_source.tokens item_ → StandsIn stages rule item_ → IsLabelOf clean.is_source.tokens rule.raw.label
-  stands_label _ stages rule is (out_of_stages none) = is.label
-  stands_label _ stages rule is (in_stage name rules home there) = (all_at (IsRuleOf clean.is_source.tokens) rules rule.raw is.1 there).label
+  named_con : (item_ : RawItem) → IsItemOf clean.is_source.tokens item_ → AllByRecursion (λ (con : ConItem). IsName (said source con.name)) (cons_in source item_)
+  named_con (item.Colon left args right) is = con_by_label (is_labelled source args right) (record { name = left; args = args; sort = right }) (name_at left is.0)
+  named_con _ is = tt
 
   label_made : (rule : RuleItem) → Contains (rules_of source) rule → IsLabelOf clean.is_source.tokens rule.raw.label
-  label_made rule there =
-      let is = rule_stands source.file 0 rule there in
-      stands_label is.item is.stages rule (item_made is.item is.there) is.stands
+  label_made rule there = (all_at (λ (one : RuleItem). IsRuleOf clean.is_source.tokens one.raw) (rules_of source) rule (rules_made clean.is_source.tokens 0 source.file items) there).label
 
   rule_name_is : (unlabelled : ℕ) (label : Option Span) → unlabelled + 1 < 2 ^ 63 → IsLabelOf clean.is_source.tokens label → IsName (rule_name source unlabelled label)
   rule_name_is unlabelled (Some label) few is = name_at label is
@@ -136,10 +127,7 @@ module _ (source : Source) (clean : IsClean source) (items : AllByRecursion (IsI
   rule_names_size unlabelled (rule ∷ rules) = ap suc (rule_names_size (unlabelled_behind unlabelled rule.raw.label) rules)
 
   pub rules_few : length (rules_of source) ≤ 4096
-  rules_few =
-      let few = at_most (names_in source space.Rules) 4096 (λ entry found. clean.names (wrong OverLimit entry.at) (over entry.at (overs.rule entry found refl) refl)) in
-      let size = rule_names_size 0 (rules_of source) in
-      omega (arith, few, size)
+  rules_few = at_most (rules_of source) 4096 (λ rule found. clean.names (wrong OverLimit rule.raw.at) (over rule.raw.at (overs.rule rule found refl) refl))
 
   map_twice : {X Y Z : Type 0} (f : Y → Z) (g : X → Y) (xs : List X) → map f (map g xs) ≡ map (λ x. f (g x)) xs
   map_twice f g [] = refl
@@ -150,25 +138,25 @@ module _ (source : Source) (clean : IsClean source) (items : AllByRecursion (IsI
 
   pub sort_names : AreNames (map (said source) (sorts_of source))
   sort_names = record {
-    each = all_map IsName (said source) (sorts_of source) (all_of (λ span. IsName (said source span)) (sorts_of source) (λ span there. let from = flat_cases sorts_in source.file span there in name_at span (sort_at from.from span (item_made from.from from.there) from.inside)));
+    each = all_map IsName (said source) (sorts_of source) (all_flat (IsItemOf clean.is_source.tokens) (λ span. IsName (said source span)) sorts_in source.file named_sort items);
     differ = differ_as space.Sorts (map (said source) (sorts_of source)) (map_twice (λ (n : Named). n.name) (named source) (sorts_of source));
   }
 
   pub stage_names : AreNames (map (said source) (stages_of source))
   stage_names = record {
-    each = all_map IsName (said source) (stages_of source) (all_of (λ span. IsName (said source span)) (stages_of source) (λ span there. let from = flat_cases stages_in source.file span there in name_at span (stage_at from.from span (item_made from.from from.there) from.inside)));
+    each = all_map IsName (said source) (stages_of source) (all_flat (IsItemOf clean.is_source.tokens) (λ span. IsName (said source span)) stages_in source.file named_stage items);
     differ = differ_as space.Stages (map (said source) (stages_of source)) (map_twice (λ (n : Named). n.name) (named source) (stages_of source));
   }
 
   pub con_names : AreNames (map (λ (con : ConItem). said source con.name) (cons_of source))
   con_names = record {
-    each = all_map IsName (λ (con : ConItem). said source con.name) (cons_of source) (all_of (λ (con : ConItem). IsName (said source con.name)) (cons_of source) (λ con there. let from = flat_cases (cons_in source) source.file con there in name_at con.name (con_at from.from con (item_made from.from from.there) from.inside)));
+    each = all_map IsName (λ (con : ConItem). said source con.name) (cons_of source) (all_flat (IsItemOf clean.is_source.tokens) (λ (con : ConItem). IsName (said source con.name)) (cons_in source) source.file named_con items);
     differ = differ_as space.Constructors (map (λ (con : ConItem). said source con.name) (cons_of source)) (map_twice (λ (n : Named). n.name) (λ (con : ConItem). named source con.name) (cons_of source));
   }
 
   pub pred_names : AreNames (map (λ (pred : PredItem). said source pred.name) (preds_of source))
   pred_names = record {
-    each = all_map IsName (λ (pred : PredItem). said source pred.name) (preds_of source) (all_of (λ (pred : PredItem). IsName (said source pred.name)) (preds_of source) (λ pred there. let from = flat_cases preds_in source.file pred there in name_at pred.name (pred_at from.from pred (item_made from.from from.there) from.inside)));
+    each = all_map IsName (λ (pred : PredItem). said source pred.name) (preds_of source) (all_flat (IsItemOf clean.is_source.tokens) (λ (pred : PredItem). IsName (said source pred.name)) preds_in source.file named_pred items);
     differ = differ_as space.Predicates (map (λ (pred : PredItem). said source pred.name) (preds_of source)) (map_twice (λ (n : Named). n.name) (λ (pred : PredItem). named source pred.name) (preds_of source));
   }
 

@@ -1,5 +1,5 @@
 -- What a text in order declares is a program.
-use Rattle.std.proofs.Common.{◌≡◌, ⊎_elim, ℕ, suc, ◌<◌, ◌≤◌, ◌^◌, Bool, true, false, not, ◌&&◌, if◌then◌else◌, nat_le, List, [], ◌∷◌, length, map, filter, refl, sym, ap, subst, ◌∙◌, arith, Contains, length-append}
+use Rattle.std.proofs.Common.{◌≡◌, ℕ, suc, ◌<◌, ◌≤◌, ◌^◌, Bool, true, false, not, ◌&&◌, if◌then◌else◌, nat_le, List, [], ◌∷◌, length, map, filter, refl, sym, ap, subst, ◌∙◌, arith, Contains, length-append}
 use Rattle.std.proofs.lemmas.Bool.{leb-true}
 use Rattle.std.proofs.lemmas.List.{length-map}
 use Rattle.std.specs.Prelude.{Option, Some, None, IfSome}
@@ -30,10 +30,10 @@ use Rattle.cep_rule.specs.State.{IsState}
 use Rattle.cep_rule.specs.Program.{AreSorts, AreNumbersDeclared, IsTypedRule, IsTypedClause, IsDividedRule, IsDividedClause, IsGroupedRule, IsProgram}
 use Rattle.cep_refusal.specs.declared.reason.Reason.TheVariants.{OverLimit}
 use Rattle.cep_source.specs.declared.space.Space.TheVariants as space
-use Rattle.cep_source.specs.Items.{Source, PredItem, ConItem, ClauseItem, RuleItem, TraceItem, said, sorts_in, sorts_of, preds_of, cons_of, stages_in, stages_of, clauses_of, rules_of, traces_in, traces_of}
+use Rattle.cep_source.specs.Items.{Source, PredItem, ConItem, ClauseItem, RuleItem, said, sorts_in, sorts_of, preds_of, cons_of, stages_in, stages_of, clauses_of, rules_of, traces_of}
 use Rattle.cep_source.specs.Spaces.{Named, named, names_in}
 use Rattle.cep_parse.specs.Raw.{atoms_of, raw_nodes}
-use Rattle.cep_source.specs.Uses.{use_in, own_uses, start_uses}
+use Rattle.cep_source.specs.Uses.{use_in, start_uses}
 use Rattle.cep_source.specs.Variables.{Occurrence, variables_of}
 use Rattle.cep_refusal.specs.First.{wrong}
 use Rattle.cep_source.specs.Starts.{turns_said}
@@ -44,10 +44,9 @@ use Rattle.cep_types.specs.Heads.{number_of, sorts_said}
 use Rattle.cep_infer.specs.Meaning.{con_by, pred_by, signature_of, stage_by, names_of, is_back, IsRuleBy, AreRulesBy, IsClauseBy, AreClausesBy, AreParts}
 use Rattle.cep_infer.specs.Places.{backs_at, unbound_of}
 use Rattle.cep_faults.specs.Premises.{backward_of}
-use Rattle.cep_parse.specs.declared.raw.RawAtom.{RawAtom}
 use Rattle.cep_ground.specs.Texts.{IsClean, IsBound}
-use Rattle.cep_base.proofs.Elements.{contains_none, contains_first, contains_behind, contains_cases, contains_left, contains_right, contains_map, flat_cases, all_at, all_of}
-use Rattle.cep_ground.proofs.Known.{own_item_uses}
+use Rattle.cep_base.proofs.Elements.{contains_first, contains_behind, contains_left, contains_right, contains_map, all_at, all_of}
+use Rattle.cep_ground.proofs.Known.{trace_item_uses}
 use Rattle.cep_ground.proofs.Limits.{at_most, nodes_few, all_filter, all_map}
 use Rattle.cep_ground.proofs.Spelled.{tokens_few}
 use Rattle.cep_ground.proofs.RuleScopes.{AtomsMade, AreHere, rule_here, clause_here, left_here, right_here, linear_few, back_few, right_few, goals_few, nodes_short}
@@ -88,14 +87,6 @@ one_sort _ = omega arith
 one_stage : (item_ : RawItem) → length (stages_in item_) ≤ 1
 one_stage (item.Stage name rules) = omega arith
 one_stage _ = omega arith
-
-trace_use : (item_ : RawItem) (trace : TraceItem) → Contains (traces_in item_) trace → Contains (own_uses item_) (use_in space.Stages trace.stage)
-trace_use (item.Trace at limit stage start) trace there =
-    ⊎_elim
-    (λ (same : record { at = at; limit = limit; stage = stage; start = start } ≡ trace). subst (λ (t : TraceItem). Contains (use_in space.Stages stage ∷ start_uses start) (use_in space.Stages t.stage)) same (contains_first (use_in space.Stages stage) (start_uses start)))
-    (λ later. absurd (contains_none trace later))
-    (contains_cases (record { at = at; limit = limit; stage = stage; start = start }) [] trace there)
-trace_use _ trace there = absurd (contains_none trace there)
 
 -- the same of numbers that are sorts
 sorts_in_range : (source : Source) (spans : List Span) (most : ℕ) → AllByRecursion (λ name. number_of source space.Sorts name < most) (map (said source) spans) → AllByRecursion (λ sort. sort < most) (sorts_said source spans)
@@ -202,10 +193,10 @@ module _ (source : Source) (clean : IsClean source) (made : AtomsMade source) (i
   small_signature : IsSmallSignature (signature_of source)
   small_signature = record {
     sorts = let e = length-map (sorts_of source) (said source) in let f = flat_few sorts_in source.file one_sort in let g = file_few in omega (arith, e, f, g);
-    cons = let e = length-map (cons_of source) (con_by source) in let f = length-map (cons_of source) (λ (con : ConItem). named source con.name) in
-        let most = at_most (names_in source space.Constructors) 65536 (λ entry found. clean.names (wrong OverLimit entry.at) (over entry.at (overs.constructor entry found refl) refl)) in omega (arith, e, f, most);
-    preds = let e = length-map (preds_of source) (pred_by source) in let f = length-map (preds_of source) (λ (pred : PredItem). named source pred.name) in
-        let most = at_most (names_in source space.Predicates) 1024 (λ entry found. clean.names (wrong OverLimit entry.at) (over entry.at (overs.predicate entry found refl) refl)) in omega (arith, e, f, most);
+    cons = let e = length-map (cons_of source) (con_by source) in
+        let most = at_most (cons_of source) 65536 (λ con found. clean.names (wrong OverLimit con.name.from) (over con.name.from (overs.constructor con found refl) refl)) in omega (arith, e, most);
+    preds = let e = length-map (preds_of source) (pred_by source) in
+        let most = at_most (preds_of source) 1024 (λ pred found. clean.names (wrong OverLimit pred.name.from) (over pred.name.from (overs.predicate pred found refl) refl)) in omega (arith, e, most);
     con_args = all_map (λ (con : Con). length con.args ≤ 8) (con_by source) (cons_of source) (all_of (λ (con : ConItem). length (sorts_said source con.args) ≤ 8) (cons_of source)
         (λ con there. let e = length-map con.args (λ span. number_of source space.Sorts (said source span)) in
         let most = at_most con.args 8 (λ name found. clean.names (wrong OverLimit name.from) (over name.from (overs.argument con.args name (contains_left (map (λ (c : ConItem). c.args) (cons_of source)) _ con.args (contains_map (λ (c : ConItem). c.args) (cons_of source) con there)) found refl) refl)) in omega (arith, e, most)));
@@ -308,8 +299,8 @@ module _ (source : Source) (clean : IsClean source) (made : AtomsMade source) (i
             subst (AllByRecursion (λ sort. sort < length (sorts_of source))) (sym by.kinds_are) (kinds_in_range source clean made (clause_scope item_) (clause_here source clean made item_ there))));
         next_stages = subst (λ n. AllByRecursion (λ (rule : Rule). IfSome rule.next (λ stage. stage < n)) parts.rules) (sym stage_size) (each_rule (λ rule. IfSome rule.next (λ stage. stage < length (stages_of source))) (rule_next source clean));
         start_stage =
-            let from = flat_cases traces_in source.file are.trace trace_there in
-            let used = used_stage source clean are.trace.stage (own_item_uses source from.from (use_in space.Stages are.trace.stage) from.there (trace_use from.from are.trace from.inside)) in
+            let use_ = use_in space.Stages are.trace.stage in
+            let used = used_stage source clean are.trace.stage (trace_item_uses source are.trace use_ trace_there (contains_first use_ (start_uses are.trace.start))) in
             subst (λ n. n < length parts.stages) (sym are.start_stage_is) (subst (λ n. number_of source space.Stages (said source are.trace.stage) < n) (sym stage_size) used);
       }
         where

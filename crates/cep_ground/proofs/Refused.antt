@@ -22,10 +22,8 @@ use Rattle.cep_refusal.specs.declared.reason.Reason.TheVariants.{BadByte, NameLo
 use Rattle.cep_source.specs.Items.{Source, RuleItem, rules_of}
 use Rattle.cep_source.specs.Variables.{Occurrence}
 use Rattle.cep_refusal.specs.First.{IsFirst, IsNoLater, wrong, IsToldFirst}
-use Rattle.cep_faults.specs.Misnamed.{Misnamed}
-use Rattle.cep_faults.specs.Misnamed.{Misnamed as misnamed_}
-use Rattle.cep_types.specs.Sites.{Mistyped}
-use Rattle.cep_types.specs.Sites.{Mistyped as mistyped_}
+use Rattle.cep_faults.specs.Misnamed.{Misnamed, Misnamed as misnamed_}
+use Rattle.cep_types.specs.Sites.{Mistyped, Mistyped as mistyped_}
 use Rattle.cep_infer.specs.Shapes.{IsSource}
 use Rattle.cep_infer.specs.Meaning.{AreParts}
 use Rattle.cep_infer.specs.Places.{unbound_of}

@@ -39,7 +39,7 @@ use Rattle.cep_types.specs.Heads.{number_of, heads_from, blanks_after}
 use Rattle.cep_infer.specs.Heads.{IsAtomBy, AreAtomsBy}
 use Rattle.cep_infer.specs.Meaning.{pred_by, is_fact_by, signature_of, names_of, kinds_of, is_back, ArePremisesBy, IsRuleBy, IsClauseBy}
 use Rattle.cep_ground.specs.Texts.{IsClean}
-use Rattle.cep_base.proofs.Elements.{contains_first, contains_behind, contains_left, contains_right, all_of}
+use Rattle.cep_base.proofs.Elements.{contains_first, contains_behind, contains_left, contains_right}
 use Rattle.cep_ground.proofs.Known.{pred_known}
 use Rattle.cep_ground.proofs.Facts.{fact_by}
 use Rattle.cep_ground.proofs.Located.{located}

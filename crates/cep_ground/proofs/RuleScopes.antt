@@ -1,5 +1,5 @@
 -- The atoms of rules and clauses: they stand in the file, and there are not too many.
-use Rattle.std.proofs.Common.{◌≡◌, ◌⊎◌, inl, inr, ⊎_elim, ◌<◌, ◌≤◌, ◌^◌, Bool, true, false, List, ◌∷◌, length, map, refl, sym, ap, subst, ◌∙◌, arith, Contains, length-append}
+use Rattle.std.proofs.Common.{◌≡◌, ◌⊎◌, inl, inr, ⊎_elim, ◌<◌, ◌≤◌, ◌^◌, true, false, List, ◌∷◌, length, map, refl, sym, ap, subst, ◌∙◌, arith, Contains, length-append}
 use Rattle.std.proofs.lemmas.List.{length-map}
 use Rattle.std.specs.Prelude.{Some}
 use Rattle.std.specs.Option.{option_map}
@@ -11,10 +11,9 @@ use Rattle.cep_parse.specs.declared.raw.RawKind.TheVariants as kind
 use Rattle.cep_parse.specs.declared.raw.Span.{Span}
 use Rattle.cep_parse.specs.declared.raw.RawNode.{RawNode}
 use Rattle.cep_parse.specs.declared.raw.RawAtom.{RawAtom}
-use Rattle.cep_parse.specs.Written.{IsAtomOf, IsWrittenAt}
+use Rattle.cep_parse.specs.Written.{IsAtomOf, IsWrittenAt, IsTokenAt}
 use Rattle.cep_lex.specs.declared.token.Token.{Token}
 use Rattle.cep_lex.specs.declared.token.TokenKind.TheVariants as token
-use Rattle.cep_parse.specs.Written.{IsTokenAt}
 use Rattle.cep_rule.specs.Names.{IsWord}
 use Rattle.cep_refusal.specs.declared.reason.Reason.TheVariants.{OverLimit}
 use Rattle.cep_source.specs.declared.space.Role.{Role}
@@ -27,13 +26,11 @@ use Rattle.cep_refusal.specs.First.{wrong}
 use Rattle.cep_faults.specs.Premises.{is_declared, state_premises_of, backward_of}
 use Rattle.cep_faults.specs.Misnamed.Misnamed.{over}
 use Rattle.cep_faults.specs.Limits.IsOver.{premise, back, right, goal}
-use Rattle.cep_types.specs.Sites.{Site, sites_of, IsScope, rule_scope, clause_scope}
-use Rattle.cep_types.specs.Sites.{IsScope as scopes}
+use Rattle.cep_types.specs.Sites.{Site, sites_of, IsScope, rule_scope, clause_scope, IsScope as scopes}
 use Rattle.cep_infer.specs.Shapes.{IsSource}
 use Rattle.cep_ground.specs.Texts.{IsClean}
 use Rattle.cep_base.proofs.Elements.{contains_either, contains_left, contains_right, contains_map, flat_cases, all_at}
-use Rattle.cep_ground.proofs.Known.{pred_known, clause_placed}
-use Rattle.cep_ground.proofs.RuleItems.{rule_placed}
+use Rattle.cep_ground.proofs.Known.{pred_known, rule_placed, clause_placed}
 use Rattle.cep_ground.proofs.Limits.{at_most, filters_cover, nodes_few}
 use Rattle.cep_ground.proofs.Spelled.{variable_word, tokens_few}
 use Rattle.cep_ground.proofs.Wanted.{AreWords}

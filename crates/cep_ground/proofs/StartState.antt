@@ -1,5 +1,5 @@
 -- The start state of a text is a state that fits.
-use Rattle.std.proofs.Common.{◌≡◌, ◌≢◌, ⊎_elim, ℕ, suc, ◌+◌, ◌<◌, ◌≤◌, Bool, true, false, ◌&&◌, ◌||◌, if◌then◌else◌, nat_lt, Option, List, [], ◌∷◌, length, map, refl, sym, ap, subst, ◌∙◌, arith, Contains}
+use Rattle.std.proofs.Common.{◌≡◌, ◌≢◌, ⊎_elim, ℕ, ◌+◌, ◌<◌, ◌≤◌, Bool, true, false, ◌&&◌, ◌||◌, if◌then◌else◌, nat_lt, List, [], ◌∷◌, length, map, refl, sym, ap, subst, ◌∙◌, arith, Contains}
 use Rattle.std.proofs.lemmas.List.Sums.{sum_by-cons}
 use Rattle.std.proofs.lemmas.List.{append-nil}
 use Rattle.std.specs.Prelude.{Some, sum_by, IsSomeAnd, unwrap_or}
@@ -35,8 +35,7 @@ use Rattle.cep_refusal.specs.First.{wrong}
 use Rattle.cep_faults.specs.Misnamed.{ComesToState as comes}
 use Rattle.cep_faults.specs.Misnamed.Misnamed.{over, backward_in_state}
 use Rattle.cep_faults.specs.Limits.IsOver.{unfit, copies, nodes}
-use Rattle.cep_types.specs.Sites.{type_of}
-use Rattle.cep_types.specs.Sites.{IsScope as scopes}
+use Rattle.cep_types.specs.Sites.{type_of, IsScope as scopes}
 use Rattle.cep_types.specs.Heads.{number_of, blanks_after}
 use Rattle.cep_infer.specs.Heads.{IsAtomBy, AreAtomsBy}
 use Rattle.cep_infer.specs.Meaning.{signature_of, names_of, kinds_of, is_fact_by, IsStartBy}

@@ -16,15 +16,21 @@ use Rattle.cep_parse.specs.Grammar.{File}
 use Rattle.cep_parse.specs.Written.{IsNameAt, IsAtomOf, IsElemOf, IsRuleOf, IsStartOf, IsItemOf}
 use Rattle.cep_source.specs.declared.space.Role.{Role}
 use Rattle.cep_source.specs.declared.space.Role.TheVariants as role
-use Rattle.cep_source.specs.Items.{Source, clause_or_none, clauses_in, is_labelled, bare}
+use Rattle.cep_source.specs.Items.{Source, ClauseItem, RuleItem, ContextItem, TraceItem, declares, clause_or_none, clauses_in, clauses_of, contexts_in, contexts_of, traces_in, traces_of, is_labelled, bare, stages_in, stages_behind, home_in, rules_in, rules_from, rules_of}
 use Rattle.cep_parse.specs.Raw.{atoms_of, start_listed}
-use Rattle.cep_source.specs.Uses.{Placed, placed, placed_of, rule_atoms, clause_atoms, own_atoms, item_atoms}
+use Rattle.cep_source.specs.Uses.{Placed, placed, placed_of, rule_atoms, clause_atoms, context_atoms, trace_atoms}
 use Rattle.cep_infer.specs.Shapes.{IsSource, AreFilled}
 use Rattle.cep_base.proofs.Elements.{both_all, all_at}
+use Rattle.cep_base.proofs.Lists.{all_mapped}
 
 -- what the law of raw files says
 abbrev pub MadeOfTokens : Type 0
 MadeOfTokens = (text : List ℕ) (tokens : List Token) (file : List RawItem) → File (symbols_of text tokens) file → AllByRecursion (IsItemOf tokens) file
+
+-- what holds of all that each gives
+pub all_flat : {X Y : Type 0} (P : X → Type 0) (Q : Y → Type 0) (f : X → List Y) (xs : List X) → ((x : X) → P x → AllByRecursion Q (f x)) → AllByRecursion P xs → AllByRecursion Q (flat_map f xs)
+all_flat P Q f [] each all = tt
+all_flat P Q f (x ∷ xs) each all = both_all Q (f x) (flat_map f xs) (each x all.0) (all_flat P Q f xs each all.1)
 
 module _ (tokens : List Token) where
   -- the atom is made of tokens, wherever it stands
@@ -47,50 +53,65 @@ module _ (tokens : List Token) where
   rule_placed : (rule : RawRule) → IsRuleOf tokens rule → AllByRecursion IsWell (rule_atoms rule)
   rule_placed rule is = both_all IsWell _ _ (placed_all _ (atoms_of rule.left) (side_atoms rule.left is.left)) (placed_all _ (atoms_of rule.right) (side_atoms rule.right is.right))
 
-  rules_placed : (rules : List RawRule) → AllByRecursion (IsRuleOf tokens) rules → AllByRecursion IsWell (flat_map rule_atoms rules)
-  rules_placed [] all = tt
-  rules_placed (rule ∷ rules) all = both_all IsWell (rule_atoms rule) _ (rule_placed rule all.0) (rules_placed rules all.1)
-
   start_all : (start_ : RawStart) → IsStartOf tokens start_ → AreAtoms (start_listed start_)
   start_all (start.Named name) is = tt
   start_all (start.Listed atoms) is = is
 
-  own_placed : (item_ : RawItem) → IsItemOf tokens item_ → AllByRecursion IsWell (own_atoms item_)
-  own_placed (item.Sort name) is = tt
-  own_placed (item.Pred name args of_kind) is = tt
-  own_placed (item.Colon left args right) is = tt
-  own_placed (item.Clause label head goals) is = tt
-  own_placed (item.Outer rule) is = rule_placed rule is
-  own_placed (item.Stage name rules) is = rules_placed rules is.1
-  own_placed (item.Context name atoms) is = placed_all _ atoms is.1
-  own_placed (item.Interactive name) is = tt
-  own_placed (item.Trace at limit stage start_) is = placed_all _ (start_listed start_) (start_all start_ is.3)
+  -- what the items declare is made of tokens
+  abbrev IsRuleMade : RuleItem → Type 0
+  IsRuleMade rule = IsRuleOf tokens rule.raw
 
-  labelled_placed : (labelled : Bool) (right : Span) → IsNameAt tokens right → AllByRecursion IsWell (flat_map clause_atoms (clause_or_none labelled (record { head = bare right; goals = [] })))
-  labelled_placed true right is = (record { name = is; filled = tt; few = (let e = is.there.1 in omega arith); nodes = tt }, tt)
-  labelled_placed false right is = tt
+  abbrev IsClauseMade : ClauseItem → Type 0
+  IsClauseMade clause = AreAtoms (clause.head ∷ clause.goals)
 
-  clause_placed : (source : Source) (item_ : RawItem) → IsItemOf tokens item_ → AllByRecursion IsWell (flat_map clause_atoms (clauses_in source item_))
-  clause_placed source (item.Sort name) is = tt
-  clause_placed source (item.Pred name args of_kind) is = tt
-  clause_placed source (item.Colon left args right) is = labelled_placed (is_labelled source args right) right is.2
-  clause_placed source (item.Clause label head goals) is = both_all IsWell (clause_atoms (record { head = head; goals = goals })) [] (placed_all role.Clause (head ∷ goals) is.1) tt
-  clause_placed source (item.Outer rule) is = tt
-  clause_placed source (item.Stage name rules) is = tt
-  clause_placed source (item.Context name atoms) is = tt
-  clause_placed source (item.Interactive name) is = tt
-  clause_placed source (item.Trace at limit stage start_) is = tt
+  abbrev IsContextMade : ContextItem → Type 0
+  IsContextMade context = AreAtoms context.atoms
 
-  pub items_placed : (source : Source) (items : List RawItem) → AllByRecursion (IsItemOf tokens) items → AllByRecursion IsWell (flat_map (item_atoms source) items)
-  items_placed source [] all = tt
-  items_placed source (item_ ∷ items) all =
-      both_all IsWell (item_atoms source item_) _
-      (both_all IsWell (own_atoms item_) _ (own_placed item_ all.0) (clause_placed source item_ all.0))
-      (items_placed source items all.1)
+  abbrev IsTraceMade : TraceItem → Type 0
+  IsTraceMade trace = AreAtoms (start_listed trace.start)
+
+  rules_declared : (item_ : RawItem) → IsItemOf tokens item_ → AllByRecursion (IsRuleOf tokens) (declares item_).rules
+  rules_declared (item.Outer rule) is = (is, tt)
+  rules_declared (item.Stage name rules) is = is.1
+  rules_declared _ is = tt
+
+  pub rules_made : (stages : ℕ) (items : List RawItem) → AllByRecursion (IsItemOf tokens) items → AllByRecursion (λ (rule : RuleItem). IsRuleOf tokens rule.raw) (rules_from stages items)
+  rules_made stages [] all = tt
+  rules_made stages (item_ ∷ items) all =
+      both_all IsRuleMade (rules_in stages item_) _
+      (all_mapped (IsRuleOf tokens) IsRuleMade (λ raw. record { home = home_in stages (stages_in item_); raw = raw }) (declares item_).rules (λ raw is. is) (rules_declared item_ all.0))
+      (rules_made (stages_behind stages item_) items all.1)
+
+  labelled_made : (labelled : Bool) (right : Span) → IsNameAt tokens right → AllByRecursion IsClauseMade (clause_or_none labelled (record { head = bare right; goals = [] }))
+  labelled_made true right is = ((record { name = is; filled = tt; few = (let e = is.there.1 in omega arith); nodes = tt }, tt), tt)
+  labelled_made false right is = tt
+
+  clause_made : (source : Source) (item_ : RawItem) → IsItemOf tokens item_ → AllByRecursion IsClauseMade (clauses_in source item_)
+  clause_made source (item.Colon left args right) is = labelled_made (is_labelled source args right) right is.2
+  clause_made source (item.Clause label head goals) is = (is.1, tt)
+  clause_made source _ is = tt
+
+  context_made : (item_ : RawItem) → IsItemOf tokens item_ → AllByRecursion IsContextMade (contexts_in item_)
+  context_made (item.Context name atoms) is = (is.1, tt)
+  context_made _ is = tt
+
+  trace_made : (item_ : RawItem) → IsItemOf tokens item_ → AllByRecursion IsTraceMade (traces_in item_)
+  trace_made (item.Trace at limit stage start_) is = (start_all start_ is.3, tt)
+  trace_made _ is = tt
+
+  pub all_placed : (source : Source) → AllByRecursion (IsItemOf tokens) source.file → AllByRecursion IsWell (placed_of source)
+  all_placed source all =
+      both_all IsWell (flat_map (λ (rule : RuleItem). rule_atoms rule.raw) (rules_of source)) _
+      (all_flat IsRuleMade IsWell (λ (rule : RuleItem). rule_atoms rule.raw) (rules_of source) (λ rule is. rule_placed rule.raw is) (rules_made 0 source.file all))
+      (both_all IsWell (flat_map clause_atoms (clauses_of source)) _
+      (all_flat IsClauseMade IsWell clause_atoms (clauses_of source) (λ clause is. placed_all role.Clause (clause.head ∷ clause.goals) is) (all_flat (IsItemOf tokens) IsClauseMade (clauses_in source) source.file (clause_made source) all))
+      (both_all IsWell (flat_map context_atoms (contexts_of source)) _
+      (all_flat IsContextMade IsWell context_atoms (contexts_of source) (λ context is. placed_all role.Listed context.atoms is) (all_flat (IsItemOf tokens) IsContextMade contexts_in source.file context_made all))
+      (all_flat IsTraceMade IsWell trace_atoms (traces_of source) (λ trace is. placed_all role.Start (start_listed trace.start) is) (all_flat (IsItemOf tokens) IsTraceMade traces_in source.file trace_made all))))
 
 -- each atom of the file is made of tokens
 pub atom_made : MadeOfTokens → (source : Source) (is : IsSource source) (p : Placed) → Contains (placed_of source) p → IsAtomOf is.tokens p.atom
-atom_made law source is p there = all_at (IsWell is.tokens) (placed_of source) p (items_placed is.tokens source source.file (law source.text is.tokens source.file is.parsed)) there
+atom_made law source is p there = all_at (IsWell is.tokens) (placed_of source) p (all_placed is.tokens source (law source.text is.tokens source.file is.parsed)) there
 
 pub filled : MadeOfTokens → (source : Source) → IsSource source → AreFilled source
 filled law source is p there = (atom_made law source is p there).filled

@@ -2,8 +2,7 @@
 use Rattle.std.proofs.Common.{◌≡◌, ⊎_elim, ℕ, Bool, true, false, List, [], ◌∷◌, ◌++◌, refl, sym, subst, Contains}
 use Rattle.std.specs.Prelude.{Option, Some, None, cond}
 use Rattle.std.specs.Str.{bytes_eq}
-use Rattle.std.specs.List.{AllByRecursion, find}
-use Rattle.std.proofs.lemmas.List.Elements.{Contains-append_left}
+use Rattle.std.specs.List.{AllByRecursion, find, flat_map}
 use Rattle.cep_parse.specs.declared.raw.Span.{Span}
 use Rattle.cep_parse.specs.declared.raw.RawKind.{RawKind}
 use Rattle.cep_parse.specs.declared.raw.RawKind.TheVariants as kind
@@ -11,26 +10,23 @@ use Rattle.cep_parse.specs.declared.raw.RawNode.{RawNode}
 use Rattle.cep_parse.specs.declared.raw.RawAtom.{RawAtom}
 use Rattle.cep_parse.specs.declared.raw.RawStart.{RawStart}
 use Rattle.cep_parse.specs.declared.raw.RawStart.TheVariants as start
-use Rattle.cep_parse.specs.declared.raw.RawItem.{RawItem}
-use Rattle.cep_parse.specs.declared.raw.RawItem.TheVariants as item
 use Rattle.cep_term.specs.Tree.{Tree, Trees, AtomTree, variable, node, none, more, AreGround, IsGround, IsGroundAtom}
 use Rattle.cep_refusal.specs.declared.reason.Reason.TheVariants.{VarInContext}
 use Rattle.cep_source.specs.declared.space.Role.TheVariants as role
-use Rattle.cep_source.specs.Items.{Source, TraceItem, ContextItem, said, contexts_in, contexts_of, traces_in, traces_of}
+use Rattle.cep_source.specs.Items.{Source, RuleItem, TraceItem, ContextItem, said, clauses_of, rules_of, contexts_of, traces_of}
 use Rattle.cep_source.specs.Spaces.{context_named}
 use Rattle.cep_parse.specs.Raw.{start_listed}
-use Rattle.cep_source.specs.Uses.{Placed, placed, placed_of, own_atoms, item_atoms, is_context}
+use Rattle.cep_source.specs.Uses.{Placed, placed, placed_of, rule_atoms, clause_atoms, context_atoms, trace_atoms, is_context, IsOfState as of_state}
 use Rattle.cep_source.specs.Variables.{blanks_behind}
 use Rattle.cep_source.specs.Starts.{listed_in, listed_or, start_atoms}
 use Rattle.cep_refusal.specs.First.{wrong}
-use Rattle.cep_source.specs.Uses.{IsOfState as of_state}
 use Rattle.cep_faults.specs.Misnamed.{IsOpen as opens}
 use Rattle.cep_faults.specs.Misnamed.Misnamed.{variable_in_state}
 use Rattle.cep_types.specs.Heads.{Head, var, con, head_at, heads_from, blanks_after}
 use Rattle.cep_infer.specs.Heads.{heads_of, heads_among, IsAtomBy, AreAtomsBy}
 use Rattle.cep_infer.specs.Resolved.{IsWellNamed}
 use Rattle.cep_infer.specs.States.{IsStateWritten, AreClosed}
-use Rattle.cep_base.proofs.Elements.{contains_none, contains_first, contains_behind, contains_cases, contains_map, contains_flat, flat_cases, all_of}
+use Rattle.cep_base.proofs.Elements.{contains_none, contains_first, contains_behind, contains_cases, contains_left, contains_right, contains_map, contains_flat, flat_cases, all_of}
 
 -- a constructor is no variable
 abbrev IsClosed : Head → Type 0
@@ -88,41 +84,36 @@ found_there : {Y : Type 0} (p : Y → Bool) (ys : List Y) (y : Y) → find p ys 
 found_there p [] y found = absurd cc
 found_there p (z ∷ ys) y found = found_first p (p z) z y ys (find p ys) found (λ later. found_there p ys y later)
 
-own_placed : (source : Source) (item_ : RawItem) (p : Placed) → Contains source.file item_ → Contains (own_atoms item_) p → Contains (placed_of source) p
-own_placed source item_ p there inside = contains_flat (item_atoms source) source.file item_ p there (Contains-append_left (own_atoms item_) _ p inside)
+-- an atom of a context, and one in the braces of a trace, is an atom of the file
+state_placed : (source : Source) (p : Placed) → Contains (flat_map context_atoms (contexts_of source) ++ flat_map trace_atoms (traces_of source)) p → Contains (placed_of source) p
+state_placed source p there = contains_right (flat_map (λ (rule : RuleItem). rule_atoms rule.raw) (rules_of source)) _ p (contains_right (flat_map clause_atoms (clauses_of source)) _ p there)
 
-context_item : (item_ : RawItem) (context : ContextItem) (raw : RawAtom) → Contains (contexts_in item_) context → Contains context.atoms raw → Contains (own_atoms item_) (placed role.Listed raw)
-context_item (item.Context name atoms) context raw there inside =
-    ⊎_elim
-    (λ (same : record { name = name; atoms = atoms } ≡ context). contains_map (placed role.Listed) atoms raw (subst (λ (c : ContextItem). Contains c.atoms raw) (sym same) inside))
-    (λ later. absurd (contains_none context later))
-    (contains_cases (record { name = name; atoms = atoms }) [] context there)
-context_item _ context raw there inside = absurd (contains_none context there)
+context_placed : (source : Source) (context : ContextItem) (raw : RawAtom) → Contains (contexts_of source) context → Contains context.atoms raw → Contains (placed_of source) (placed role.Listed raw)
+context_placed source context raw there inside =
+    let p = placed role.Listed raw in
+    state_placed source p (contains_left (flat_map context_atoms (contexts_of source)) _ p
+    (contains_flat context_atoms (contexts_of source) context p there (contains_map (placed role.Listed) context.atoms raw inside)))
 
-trace_item : (item_ : RawItem) (trace : TraceItem) (raw : RawAtom) → Contains (traces_in item_) trace → Contains (start_listed trace.start) raw → Contains (own_atoms item_) (placed role.Start raw)
-trace_item (item.Trace at limit stage start_) trace raw there inside =
-    ⊎_elim
-    (λ (same : record { at = at; limit = limit; stage = stage; start = start_ } ≡ trace). contains_map (placed role.Start) (start_listed start_) raw (subst (λ (t : TraceItem). Contains (start_listed t.start) raw) (sym same) inside))
-    (λ later. absurd (contains_none trace later))
-    (contains_cases (record { at = at; limit = limit; stage = stage; start = start_ }) [] trace there)
-trace_item _ trace raw there inside = absurd (contains_none trace there)
+trace_placed : (source : Source) (trace : TraceItem) (raw : RawAtom) → Contains (traces_of source) trace → Contains (start_listed trace.start) raw → Contains (placed_of source) (placed role.Start raw)
+trace_placed source trace raw there inside =
+    let p = placed role.Start raw in
+    state_placed source p (contains_right (flat_map context_atoms (contexts_of source)) _ p
+    (contains_flat trace_atoms (traces_of source) trace p there (contains_map (placed role.Start) (start_listed trace.start) raw inside)))
 
 module _ (source : Source) where
   context_listed : (found : Option ContextItem) (name : List ℕ) (raw : RawAtom) → context_named source name ≡ found → Contains (listed_in found) raw → IsStateWritten source raw
   context_listed None name raw is there = absurd (contains_none raw there)
   context_listed (Some context) name raw is there =
       let found = found_there (λ (c : ContextItem). bytes_eq (said source c.name) name) (contexts_of source) context is in
-      let from = flat_cases contexts_in source.file context found in
-      record { role = role.Listed; there = own_placed source from.from (placed role.Listed raw) from.there (context_item from.from context raw from.inside there); of_state = of_state.listed; plain = refl }
+      record { role = role.Listed; there = context_placed source context raw found there; of_state = of_state.listed; plain = refl }
 
   atom_listed : (trace : TraceItem) (atoms : List RawAtom) (atom raw : RawAtom) (b : Bool) → Contains (traces_of source) trace → trace.start ≡ start.Listed atoms → Contains atoms atom → is_context source (placed role.Start atom) ≡ b → Contains (listed_or b source atom) raw → IsStateWritten source raw
   atom_listed trace atoms atom raw true there is inside context listed = context_listed (context_named source (said source atom.name)) (said source atom.name) raw refl listed
   atom_listed trace atoms atom raw false there is inside context listed =
       ⊎_elim
       (λ (same : atom ≡ raw).
-      let from = flat_cases traces_in source.file trace there in
       let in_ : Contains (start_listed trace.start) atom = subst (λ s. Contains (start_listed s) atom) (sym is) inside in
-      subst (IsStateWritten source) same (record { role = role.Start; there = own_placed source from.from (placed role.Start atom) from.there (trace_item from.from trace atom from.inside in_); of_state = of_state.start; plain = context }))
+      subst (IsStateWritten source) same (record { role = role.Start; there = trace_placed source trace atom there in_; of_state = of_state.start; plain = context }))
       (λ later. absurd (contains_none raw later))
       (contains_cases atom [] raw listed)
 

@@ -1,5 +1,5 @@
 -- The backward premises of a side, and what is unbound, one after another.
-use Rattle.std.proofs.Common.{◌≡◌, ℕ, ◌+◌, ◌<◌, Bool, true, false, ◌||◌, not, Option, Some, None, unwrap_or, map, filter, length, take, drop, get_or, List, [], ◌∷◌, ◌++◌, refl, sym, ap, subst, ◌∙◌, append_assoc, append-nil}
+use Rattle.std.proofs.Common.{◌≡◌, ℕ, ◌+◌, ◌<◌, Bool, ◌||◌, not, map, filter, length, take, drop, get_or, List, [], ◌∷◌, ◌++◌, refl, sym, ap, subst, ◌∙◌, append_assoc, append-nil}
 use Rattle.std.specs.Str.{bytes_eq}
 use Rattle.std.specs.List.{list_any, flat_map}
 use Rattle.std.proofs.lemmas.List.{take_more, drop_more, map-append}
@@ -10,7 +10,6 @@ use Rattle.cep_parse.specs.declared.raw.RawNode.{RawNode}
 use Rattle.cep_parse.specs.declared.raw.RawAtom.{RawAtom}
 use Rattle.cep_parse.specs.declared.raw.RawElem.{RawElem}
 use Rattle.cep_source.specs.Items.{Source, RuleItem}
-use Rattle.cep_faults.specs.Premises.{is_declared}
 use Rattle.cep_parse.specs.Raw.{atoms_in, atoms_of, raw_nodes}
 use Rattle.cep_source.specs.Variables.{Occurrence, occurrence_at, occurrences_from, blanks_behind}
 use Rattle.cep_types.specs.declared.variables.Variables.{Variables}

@@ -1,5 +1,5 @@
 -- What a text declares: the parts of a program, each from what is written.
-use Rattle.std.specs.Prelude.{◌≡◌, ℕ, ◌+◌, ◌*◌, Bool, true, false, not, ◌||◌, List, [], ◌∷◌, Option, Some, None, map, filter, unwrap_or, slice_get}
+use Rattle.std.specs.Prelude.{◌≡◌, ℕ, ◌+◌, ◌*◌, Bool, false, not, ◌||◌, List, [], ◌∷◌, Option, Some, None, map, filter, unwrap_or, slice_get}
 use Rattle.std.specs.Option.{option_map, option_and_then}
 use Rattle.std.specs.List.{flat_map}
 use Rattle.cep_parse.specs.declared.raw.Span.{Span}
@@ -21,8 +21,7 @@ use Rattle.cep_source.specs.Items.{Source, PredItem, ConItem, ClauseItem, RuleIt
 use Rattle.cep_source.specs.Spaces.{names_in}
 use Rattle.cep_parse.specs.Raw.{atoms_of, raw_nodes}
 use Rattle.cep_source.specs.Variables.{variables_of}
-use Rattle.cep_source.specs.Starts.{start_atoms}
-use Rattle.cep_source.specs.Starts.{turns_said}
+use Rattle.cep_source.specs.Starts.{start_atoms, turns_said}
 use Rattle.cep_types.specs.Sites.{type_of, rule_scope, clause_scope}
 use Rattle.cep_types.specs.Heads.{number_of, sorts_said, blanks_after}
 use Rattle.cep_infer.specs.Heads.{IsAtomBy, AreAtomsBy}

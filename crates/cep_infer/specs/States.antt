@@ -6,8 +6,7 @@ use Rattle.cep_parse.specs.declared.raw.RawNode.{RawNode}
 use Rattle.cep_parse.specs.declared.raw.RawAtom.{RawAtom}
 use Rattle.cep_source.specs.declared.space.Role.{Role}
 use Rattle.cep_source.specs.Items.{Source}
-use Rattle.cep_source.specs.Uses.{placed, placed_of, is_context}
-use Rattle.cep_source.specs.Uses.{IsOfState}
+use Rattle.cep_source.specs.Uses.{placed, placed_of, is_context, IsOfState}
 
 -- An atom of a start state: it stands in a context or in the braces of a trace, and stands for itself.
 pub record IsStateWritten (source : Source) (raw : RawAtom) : Type 0 where

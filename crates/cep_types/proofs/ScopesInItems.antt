@@ -1,5 +1,5 @@
 -- The atoms that share their variables, and the items in which they stand.
-use Rattle.std.proofs.Common.{◌≡◌, ℕ, ◌⊎◌, inl, inr, ⊎_elim, Bool, true, false, List, [], ◌∷◌, ◌++◌, map, Option, Some, None, refl, ap, sym, ◌∙◌, subst}
+use Rattle.std.proofs.Common.{◌≡◌, ℕ, ◌⊎◌, inl, inr, ⊎_elim, Bool, true, false, List, [], ◌∷◌, ◌++◌, map, Option, refl, ap, sym, ◌∙◌, subst}
 use Rattle.std.specs.List.{flat_map}
 use Rattle.cep_parse.specs.declared.raw.RawAtom.{RawAtom}
 use Rattle.cep_parse.specs.declared.raw.RawRule.{RawRule}
@@ -7,11 +7,10 @@ use Rattle.cep_parse.specs.declared.raw.RawItem.{RawItem}
 use Rattle.cep_parse.specs.declared.raw.RawItem.TheVariants as item
 use Rattle.cep_source.specs.declared.space.Role.{Role}
 use Rattle.cep_source.specs.declared.space.Role.TheVariants as role
-use Rattle.cep_source.specs.Items.{Source, ClauseItem, RuleItem, bare, clause_or_none, clauses_in, clauses_of, is_labelled, rules_in, rules_from, rules_of, stages_behind}
-use Rattle.cep_parse.specs.Raw.{item_rules, atoms_of, start_listed}
-use Rattle.cep_source.specs.Uses.{IsOfState}
+use Rattle.cep_source.specs.Items.{Source, ClauseItem, RuleItem, ContextItem, TraceItem, declares, bare, clause_or_none, clauses_in, clauses_of, contexts_in, contexts_of, traces_in, traces_of, is_labelled, stages_in, home_in, rules_in, rules_from, rules_of, stages_behind}
+use Rattle.cep_parse.specs.Raw.{atoms_of, start_listed}
+use Rattle.cep_source.specs.Uses.{IsOfState, Placed, placed, placed_of, rule_atoms, clause_atoms, context_atoms, trace_atoms}
 use Rattle.cep_source.specs.Uses.IsOfState.{listed, start}
-use Rattle.cep_source.specs.Uses.{Placed, placed, own_atoms, item_atoms, placed_of, rule_atoms, clause_atoms}
 use Rattle.cep_types.specs.Sites.{IsScope, clause_scope}
 use Rattle.cep_types.specs.Sites.IsScope.{rule, clause, state}
 use Rattle.cep_types.specs.Clashes.{item_scopes}
@@ -27,34 +26,52 @@ alone atom = atom ∷ []
 
 -- ---- what an item has is a scope
 
--- a rule, with the number of its stage
+-- a rule that an item declares, with the number of its stage
 record Numbered (stages : ℕ) (items : List RawItem) (raw : RawRule) : Type 0 where
   home : Option ℕ
   member : In (rules_from stages items) (record { home = home; raw = raw })
 
-first_numbered : (stages : ℕ) (next : RawItem) (items : List RawItem) (raw : RawRule) → In (item_rules next) raw → Numbered stages (next ∷ items) raw
-first_numbered stages (item.Outer other) items raw h =
-    record { home = None; member = in_left (record { home = None; raw = other } ∷ []) _ (record { home = None; raw = raw }) (subst (λ (r : RawRule). In {X = RuleItem} (record { home = None; raw = other } ∷ []) (record { home = None; raw = r })) (sym (in_one other raw h)) (here _ [])) }
-first_numbered stages (item.Stage name raws) items raw h =
-    record { home = Some stages; member = in_left (map (λ raw. record { home = Some stages; raw = raw }) raws) _ (record { home = Some stages; raw = raw }) (mapped (λ raw. record { home = Some stages; raw = raw }) raws raw h) }
-first_numbered stages _ items raw h = absurd (in_nil raw h)
-
-numbered : (stages : ℕ) (items : List RawItem) (next : RawItem) (raw : RawRule) → In items next → In (item_rules next) raw → Numbered stages items raw
+numbered : (stages : ℕ) (items : List RawItem) (next : RawItem) (raw : RawRule) → In items next → In (declares next).rules raw → Numbered stages items raw
 numbered stages [] next raw m h = absurd (in_nil next m)
-numbered stages (next ∷ items) other raw (here a b) h = first_numbered stages next items raw h
+numbered stages (next ∷ items) other raw (here a b) h =
+    let home = home_in stages (stages_in next) in
+    record { home = home; member = in_left (rules_in stages next) _ (record { home = home; raw = raw }) (mapped (λ raw. record { home = home; raw = raw }) (declares next).rules raw h) }
 numbered stages (next ∷ items) other raw (there a b c m) h =
     let rest = numbered (stages_behind stages next) items other raw m h in
     record { home = rest.home; member = in_right (rules_in stages next) _ (record { home = rest.home; raw = raw }) rest.member }
 
--- of a rule, a clause and an atom of a state
-rule_is : (source : Source) (next : RawItem) (raw : RawRule) (atoms : List RawAtom) → In source.file next → In (item_rules next) raw → atoms ≡ raw_scope raw → IsScope source atoms
+-- of a rule, and of an atom of a context and of a trace
+rule_is : (source : Source) (next : RawItem) (raw : RawRule) (atoms : List RawAtom) → In source.file next → In (declares next).rules raw → atoms ≡ raw_scope raw → IsScope source atoms
 rule_is source next raw atoms m h is =
     let n = numbered 0 source.file next raw m h in
     rule (record { home = n.home; raw = raw }) (to_contains (rules_of source) (record { home = n.home; raw = raw }) n.member) is
 
-state_is : (source : Source) (next : RawItem) (p : Placed) (atoms : List RawAtom) → In source.file next → In (own_atoms next) p → IsOfState p.role → atoms ≡ p.atom ∷ [] → IsScope source atoms
-state_is source next p atoms m h of_state is =
-    state p (to_contains (placed_of source) p (via (item_atoms source) source.file next p m (in_left (own_atoms next) _ p h))) of_state is
+-- the atoms of rules, those of clauses, those of contexts and those of traces
+abbrev ruled : Source → List Placed
+ruled source = flat_map (λ (one : RuleItem). rule_atoms one.raw) (rules_of source)
+
+abbrev claused : Source → List Placed
+claused source = flat_map clause_atoms (clauses_of source)
+
+abbrev contexted : Source → List Placed
+contexted source = flat_map context_atoms (contexts_of source)
+
+abbrev traced : Source → List Placed
+traced source = flat_map trace_atoms (traces_of source)
+
+context_is : (source : Source) (context : ContextItem) (atoms : List RawAtom) → In (contexts_of source) context → In (map alone context.atoms) atoms → IsScope source atoms
+context_is source context atoms m h =
+    let i = image alone context.atoms atoms h in
+    let p = placed role.Listed i.from in
+    let inside = via context_atoms (contexts_of source) context p m (mapped (placed role.Listed) context.atoms i.from i.member) in
+    state p (to_contains (placed_of source) p (in_right (ruled source) _ p (in_right (claused source) _ p (in_left (contexted source) _ p inside)))) listed i.is
+
+trace_is : (source : Source) (trace : TraceItem) (atoms : List RawAtom) → In (traces_of source) trace → In (map alone (start_listed trace.start)) atoms → IsScope source atoms
+trace_is source trace atoms m h =
+    let i = image alone (start_listed trace.start) atoms h in
+    let p = placed role.Start i.from in
+    let inside = via trace_atoms (traces_of source) trace p m (mapped (placed role.Start) (start_listed trace.start) i.from i.member) in
+    state p (to_contains (placed_of source) p (in_right (ruled source) _ p (in_right (claused source) _ p (in_right (contexted source) _ p inside)))) start i.is
 
 pub scope_is : (source : Source) (next : RawItem) (atoms : List RawAtom) → In source.file next → In (item_scopes next) atoms → IsScope source atoms
 scope_is source (item.Outer raw) atoms m h = rule_is source (item.Outer raw) raw atoms m (here raw []) (in_one (raw_scope raw) atoms h)
@@ -64,11 +81,10 @@ scope_is source (item.Clause label head goals) atoms m h =
     (to_contains (clauses_of source) (record { head = head; goals = goals }) (via (clauses_in source) source.file (item.Clause label head goals) (record { head = head; goals = goals }) m (here _ [])))
     (in_one (head ∷ goals) atoms h)
 scope_is source (item.Context name listed_) atoms m h =
-    let i = image alone listed_ atoms h in
-    state_is source (item.Context name listed_) (placed role.Listed i.from) atoms m (mapped (placed role.Listed) listed_ i.from i.member) listed i.is
+    context_is source (record { name = name; atoms = listed_ }) atoms (via contexts_in source.file (item.Context name listed_) (record { name = name; atoms = listed_ }) m (here _ [])) h
 scope_is source (item.Trace at limit stage start_) atoms m h =
-    let i = image alone (start_listed start_) atoms h in
-    state_is source (item.Trace at limit stage start_) (placed role.Start i.from) atoms m (mapped (placed role.Start) (start_listed start_) i.from i.member) start i.is
+    let trace : TraceItem = record { at = at; limit = limit; stage = stage; start = start_ } in
+    trace_is source trace atoms (via traces_in source.file (item.Trace at limit stage start_) trace m (here trace [])) h
 scope_is source _ atoms m h = absurd (in_nil atoms h)
 
 -- ---- and a scope is what an item has
@@ -84,15 +100,16 @@ record Housed (items : List RawItem) (raw : RawRule) : Type 0 where
   member : In items next
   inside : In (item_scopes next) (raw_scope raw)
 
+rule_housed : (next : RawItem) (raw : RawRule) → In (declares next).rules raw → In (item_scopes next) (raw_scope raw)
+rule_housed (item.Outer other) raw h = subst (λ (r : RawRule). In (raw_scope other ∷ []) (raw_scope r)) (sym (in_one other raw h)) (here (raw_scope other) [])
+rule_housed (item.Stage name raws) raw h = mapped raw_scope raws raw h
+rule_housed _ raw h = absurd (in_nil raw h)
+
 first_housed : (stages : ℕ) (next : RawItem) (items : List RawItem) (one : RuleItem) → In (rules_in stages next) one → Housed (next ∷ items) one.raw
-first_housed stages (item.Outer raw) items one h =
-    let same : raw ≡ one.raw = ap (λ (r : RuleItem). r.raw) (sym (in_one _ one h)) in
-    record { next = item.Outer raw; member = here _ items; inside = subst (λ r. In (raw_scope raw ∷ []) (raw_scope r)) same (here (raw_scope raw) []) }
-first_housed stages (item.Stage name raws) items one h =
-    let i = image (λ raw. record { home = Some stages; raw = raw }) raws one h in
+first_housed stages next items one h =
+    let i = image (λ raw. record { home = home_in stages (stages_in next); raw = raw }) (declares next).rules one h in
     let same : i.from ≡ one.raw = ap (λ (r : RuleItem). r.raw) (sym i.is) in
-    record { next = item.Stage name raws; member = here _ items; inside = subst (λ r. In (map raw_scope raws) (raw_scope r)) same (mapped raw_scope raws i.from i.member) }
-first_housed stages _ items one h = absurd (in_nil one h)
+    record { next = next; member = here next items; inside = subst (λ r. In (item_scopes next) (raw_scope r)) same (rule_housed next i.from i.member) }
 
 housed : (stages : ℕ) (items : List RawItem) (one : RuleItem) → In (rules_from stages items) one → Housed items one.raw
 housed stages [] one h = absurd (in_nil one h)
@@ -145,18 +162,43 @@ listed_there r raws p atoms h is =
     let i = image (placed r) raws p h in
     subst (In (map alone raws)) (sym (is ∙ ap (λ (q : Placed). alone q.atom) i.is)) (mapped alone raws i.from i.member)
 
-own_found : (source : Source) (next : RawItem) (p : Placed) (atoms : List RawAtom) → In source.file next → In (own_atoms next) p → IsOfState p.role → atoms ≡ p.atom ∷ [] → IsFound source atoms
-own_found source (item.Outer raw) p atoms m h of_state is = absurd (no_rule p raw of_state h)
-own_found source (item.Stage name raws) p atoms m h of_state is = let t = through rule_atoms raws p h in absurd (no_rule p t.from of_state t.given)
-own_found source (item.Context name listed_) p atoms m h of_state is = found (item.Context name listed_) m (listed_there role.Listed listed_ p atoms h is)
-own_found source (item.Trace at limit stage start_) p atoms m h of_state is = found (item.Trace at limit stage start_) m (listed_there role.Start (start_listed start_) p atoms h is)
-own_found source _ p atoms m h of_state is = absurd (in_nil p h)
+in_context : (source : Source) (next : RawItem) (context : ContextItem) (p : Placed) (atoms : List RawAtom) → In source.file next → In (contexts_in next) context → In (context_atoms context) p → atoms ≡ p.atom ∷ [] → IsFound source atoms
+in_context source (item.Context name listed_) context p atoms m k h is =
+    let inside = subst (λ (c : ContextItem). In (context_atoms c) p) (in_one _ context k) h in
+    found (item.Context name listed_) m (listed_there role.Listed listed_ p atoms inside is)
+in_context source _ context p atoms m k h is = absurd (in_nil context k)
 
-state_found : (source : Source) (next : RawItem) (p : Placed) (atoms : List RawAtom) → In source.file next → In (item_atoms source next) p → IsOfState p.role → atoms ≡ p.atom ∷ [] → IsFound source atoms
-state_found source next p atoms m h of_state is =
-    ⊎_elim (λ own. own_found source next p atoms m own of_state is)
-    (λ k. let t = through clause_atoms (clauses_in source next) p k in absurd (no_clause p (t.from.head ∷ t.from.goals) of_state t.given))
-    (in_parts (own_atoms next) (flat_map clause_atoms (clauses_in source next)) p h)
+in_trace : (source : Source) (next : RawItem) (trace : TraceItem) (p : Placed) (atoms : List RawAtom) → In source.file next → In (traces_in next) trace → In (trace_atoms trace) p → atoms ≡ p.atom ∷ [] → IsFound source atoms
+in_trace source (item.Trace at limit stage start_) trace p atoms m k h is =
+    let inside = subst (λ (t : TraceItem). In (trace_atoms t) p) (in_one _ trace k) h in
+    found (item.Trace at limit stage start_) m (listed_there role.Start (start_listed start_) p atoms inside is)
+in_trace source _ trace p atoms m k h is = absurd (in_nil trace k)
+
+in_rules : (source : Source) (p : Placed) → IsOfState p.role → In (ruled source) p → ⊥
+in_rules source p of_state h = let t = through (λ (one : RuleItem). rule_atoms one.raw) (rules_of source) p h in no_rule p t.from.raw of_state t.given
+
+in_clauses : (source : Source) (p : Placed) → IsOfState p.role → In (claused source) p → ⊥
+in_clauses source p of_state h = let t = through clause_atoms (clauses_of source) p h in no_clause p (t.from.head ∷ t.from.goals) of_state t.given
+
+in_contexts : (source : Source) (p : Placed) (atoms : List RawAtom) → atoms ≡ p.atom ∷ [] → In (contexted source) p → IsFound source atoms
+in_contexts source p atoms is h =
+    let t = through context_atoms (contexts_of source) p h in
+    let i = through contexts_in source.file t.from t.member in
+    in_context source i.from t.from p atoms i.member i.given t.given is
+
+in_traces : (source : Source) (p : Placed) (atoms : List RawAtom) → atoms ≡ p.atom ∷ [] → In (traced source) p → IsFound source atoms
+in_traces source p atoms is h =
+    let t = through trace_atoms (traces_of source) p h in
+    let i = through traces_in source.file t.from t.member in
+    in_trace source i.from t.from p atoms i.member i.given t.given is
+
+state_found : (source : Source) (p : Placed) (atoms : List RawAtom) → In (placed_of source) p → IsOfState p.role → atoms ≡ p.atom ∷ [] → IsFound source atoms
+state_found source p atoms h of_state is =
+    ⊎_elim (λ a. absurd (in_rules source p of_state a))
+    (λ rest. ⊎_elim (λ b. absurd (in_clauses source p of_state b))
+    (λ others. ⊎_elim (in_contexts source p atoms is) (in_traces source p atoms is) (in_parts (contexted source) (traced source) p others))
+    (in_parts (claused source) (contexted source ++ traced source) p rest))
+    (in_parts (ruled source) (claused source ++ (contexted source ++ traced source)) p h)
 
 pub scope_found_in : (source : Source) (atoms : List RawAtom) → IsScope source atoms → IsFound source atoms
 scope_found_in source atoms (rule one within is) =
@@ -165,6 +207,4 @@ scope_found_in source atoms (rule one within is) =
 scope_found_in source atoms (clause one within is) =
     let t = through (clauses_in source) source.file one (from_contains (clauses_of source) one within) in
     clause_found source t.from one atoms t.member t.given is
-scope_found_in source atoms (state p within of_state is) =
-    let t = through (item_atoms source) source.file p (from_contains (placed_of source) p within) in
-    state_found source t.from p atoms t.member t.given of_state is
+scope_found_in source atoms (state p within of_state is) = state_found source p atoms (from_contains (placed_of source) p within) of_state is

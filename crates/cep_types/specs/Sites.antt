@@ -14,9 +14,8 @@ use Rattle.cep_source.specs.Items.{Source, PredItem, ConItem, ClauseItem, RuleIt
 use Rattle.cep_source.specs.Spaces.{pred_named, con_named}
 use Rattle.cep_source.specs.Variables.{occurrence_at, blanks_behind}
 use Rattle.cep_parse.specs.Raw.{atoms_of}
-use Rattle.cep_source.specs.Uses.{Placed, placed_of}
+use Rattle.cep_source.specs.Uses.{Placed, placed_of, IsOfState}
 use Rattle.cep_refusal.specs.First.{wrong}
-use Rattle.cep_source.specs.Uses.{IsOfState}
 
 -- A term by its node, and the name of the type that is wanted of it.
 pub record Site : Type 0 where
