@@ -1,5 +1,5 @@
 -- The atoms that share their variables, and the items in which they stand.
-use Rattle.std.proofs.Common.{◌≡◌, ℕ, ◌⊎◌, inl, inr, ⊎_elim, Bool, true, false, List, [], ◌∷◌, ◌++◌, map, Option, refl, ap, sym, ◌∙◌, subst}
+use Rattle.std.proofs.Common.{◌≡◌, ℕ, ◌⊎◌, ⊎_elim, Bool, true, false, List, [], ◌∷◌, ◌++◌, map, Option, refl, ap, sym, ◌∙◌, subst}
 use Rattle.std.specs.List.{flat_map}
 use Rattle.cep_parse.specs.declared.raw.RawAtom.{RawAtom}
 use Rattle.cep_parse.specs.declared.raw.RawRule.{RawRule}
@@ -129,34 +129,29 @@ clause_found source (item.Clause label head goals) one atoms m h is =
 clause_found source (item.Colon left args right) one atoms m h is = labelled source (bare right) (is_labelled source args right) one atoms refl h is
 clause_found source _ one atoms m h is = absurd (in_nil one h)
 
--- atoms of states have one of two roles
-state_role : (r : Role) → IsOfState r → (r ≡ role.Listed) ⊎ (r ≡ role.Start)
-state_role r listed = inl refl
-state_role r start = inr refl
+-- the atoms of rules and of clauses are not of a state
+role_of : (r : Role) (raws : List RawAtom) (p : Placed) → IsOfState p.role → In (map (placed r) raws) p → IsOfState r
+role_of r raws p of_state h = let i = image (placed r) raws p h in subst IsOfState (ap (λ (q : Placed). q.role) i.is) of_state
 
-no_state : (r other : Role) → IsOfState r → r ≡ other → (other ≡ role.Listed → ⊥) → (other ≡ role.Start → ⊥) → ⊥
-no_state r other of_state is one two = ⊎_elim (λ e. one (sym is ∙ e)) (λ e. two (sym is ∙ e)) (state_role r of_state)
+no_needed : IsOfState role.Needed → ⊥
+no_needed h = elim h [ ]
 
-no_needed : (p : Placed) (raws : List RawAtom) → IsOfState p.role → In (map (placed role.Needed) raws) p → ⊥
-no_needed p raws of_state h =
-    let i = image (placed role.Needed) raws p h in
-    no_state p.role role.Needed of_state (ap (λ (q : Placed). q.role) i.is) (λ (e : role.Needed ≡ role.Listed). cc) (λ (e : role.Needed ≡ role.Start). cc)
+no_made : IsOfState role.Made → ⊥
+no_made h = elim h [ ]
 
-no_made : (p : Placed) (raws : List RawAtom) → IsOfState p.role → In (map (placed role.Made) raws) p → ⊥
-no_made p raws of_state h =
-    let i = image (placed role.Made) raws p h in
-    no_state p.role role.Made of_state (ap (λ (q : Placed). q.role) i.is) (λ (e : role.Made ≡ role.Listed). cc) (λ (e : role.Made ≡ role.Start). cc)
+no_clause : IsOfState role.Clause → ⊥
+no_clause h = elim h [ ]
 
-no_clause : (p : Placed) (raws : List RawAtom) → IsOfState p.role → In (map (placed role.Clause) raws) p → ⊥
-no_clause p raws of_state h =
-    let i = image (placed role.Clause) raws p h in
-    no_state p.role role.Clause of_state (ap (λ (q : Placed). q.role) i.is) (λ (e : role.Clause ≡ role.Listed). cc) (λ (e : role.Clause ≡ role.Start). cc)
+in_rules : (source : Source) (p : Placed) → IsOfState p.role → In (ruled source) p → ⊥
+in_rules source p of_state h =
+    let t = through (λ (one : RuleItem). rule_atoms one.raw) (rules_of source) p h in
+    ⊎_elim (λ k. no_needed (role_of role.Needed (atoms_of t.from.raw.left) p of_state k)) (λ k. no_made (role_of role.Made (atoms_of t.from.raw.right) p of_state k))
+    (in_parts (map (placed role.Needed) (atoms_of t.from.raw.left)) (map (placed role.Made) (atoms_of t.from.raw.right)) p t.given)
 
-no_rule : (p : Placed) (raw : RawRule) → IsOfState p.role → In (rule_atoms raw) p → ⊥
-no_rule p raw of_state h =
-    ⊎_elim (no_needed p (atoms_of raw.left) of_state) (no_made p (atoms_of raw.right) of_state)
-    (in_parts (map (placed role.Needed) (atoms_of raw.left)) (map (placed role.Made) (atoms_of raw.right)) p h)
+in_clauses : (source : Source) (p : Placed) → IsOfState p.role → In (claused source) p → ⊥
+in_clauses source p of_state h = let t = through clause_atoms (clauses_of source) p h in no_clause (role_of role.Clause (t.from.head ∷ t.from.goals) p of_state t.given)
 
+-- those of contexts and of traces are
 listed_there : (r : Role) (raws : List RawAtom) (p : Placed) (atoms : List RawAtom) → In (map (placed r) raws) p → atoms ≡ p.atom ∷ [] → In (map alone raws) atoms
 listed_there r raws p atoms h is =
     let i = image (placed r) raws p h in
@@ -173,12 +168,6 @@ in_trace source (item.Trace at limit stage start_) trace p atoms m k h is =
     let inside = subst (λ (t : TraceItem). In (trace_atoms t) p) (in_one _ trace k) h in
     found (item.Trace at limit stage start_) m (listed_there role.Start (start_listed start_) p atoms inside is)
 in_trace source _ trace p atoms m k h is = absurd (in_nil trace k)
-
-in_rules : (source : Source) (p : Placed) → IsOfState p.role → In (ruled source) p → ⊥
-in_rules source p of_state h = let t = through (λ (one : RuleItem). rule_atoms one.raw) (rules_of source) p h in no_rule p t.from.raw of_state t.given
-
-in_clauses : (source : Source) (p : Placed) → IsOfState p.role → In (claused source) p → ⊥
-in_clauses source p of_state h = let t = through clause_atoms (clauses_of source) p h in no_clause p (t.from.head ∷ t.from.goals) of_state t.given
 
 in_contexts : (source : Source) (p : Placed) (atoms : List RawAtom) → atoms ≡ p.atom ∷ [] → In (contexted source) p → IsFound source atoms
 in_contexts source p atoms is h =
