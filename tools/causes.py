@@ -8,7 +8,7 @@ from bisect import bisect_left
 from dataclasses import dataclass
 from difflib import get_close_matches
 
-from language import RESERVED, declarations, tokens
+from language import KINDS, RESERVED, declarations, tokens
 
 
 @dataclass
@@ -151,7 +151,7 @@ def prolog_clause(place):
 def mode(place):
     if place.source(1) not in ("+", "-"):
         return False
-    return any(token.text in ("bwd", "pred", "#mode") for token in place.item())
+    return any(token.text in (*KINDS, "#mode") for token in place.item())
 
 
 def bang(place):
@@ -256,7 +256,7 @@ def several_names(place):
         return place.at(0) == "," and all(
             token.kind == "name" or token.text == "," for token in item[:colon]
         )
-    return place.at(0) in words[1:colon] and words[colon + 1] not in ("pred", "bwd")
+    return place.at(0) in words[1:colon] and words[colon + 1] not in KINDS
 
 
 def capital_name(place):
@@ -333,7 +333,7 @@ def missing_brace(place):
     if not place.braces():
         return False
     opens = place.at(0) in ("stage", "context") or place.kind(0) == "directive"
-    declares = any(token.text in ("type", "pred", "bwd") for token in place.item())
+    declares = any(token.text in ("type", *KINDS) for token in place.item())
     return opens or declares or place.kind(0) == "end"
 
 
@@ -523,7 +523,7 @@ def near_names(place):
         return []
     known = {}
     if place.at(-1) == ":":
-        known = {word: "a word of the language" for word in ("type", "pred", "bwd")}
+        known = {word: "a word of the language" for word in ("type", *KINDS)}
     for declaration in place.declared:
         if declaration.kind != "rule":
             known.setdefault(declaration.name, str(declaration))

@@ -9,6 +9,9 @@ from dataclasses import dataclass, field
 
 RESERVED = ("type", "pred", "bwd", "fact", "stage", "context", "qui")
 
+# The words by which a predicate is declared.
+KINDS = ("pred", "bwd", "fact")
+
 # One alternative for each kind of token; what none of them takes is a byte that begins no token.
 TOKEN = re.compile(
     r"(?P<space>[ \t\r\n]+|%[^\n]*)"
@@ -120,7 +123,7 @@ def declared_before(found, colon, in_stage):
         return Declaration("rule", names[0])
     if after.text == "type":
         return Declaration("type", names[0])
-    if after.text in ("pred", "bwd"):
+    if after.text in KINDS:
         return Declaration("predicate", names[0], arguments)
     ended = colon + 2 < len(found) and found[colon + 2].text == "."
     if after.kind == "name" and (ended or arguments):
@@ -258,9 +261,10 @@ class Reader:
             return
         kept = self.skip("$")
         atom = self.atom()
-        if world.predicates.get(atom.name) == "bwd":
+        kind = world.predicates.get(atom.name)
+        if kind == "bwd":
             rule.asked.append(atom)
-        elif kept:
+        elif kept or kind == "fact":
             rule.kept.append(atom)
         else:
             rule.taken.append(atom)

@@ -111,9 +111,20 @@ class Transcript:
             rule, values = world.rules[step.rule], step.values
             state.subtract(atom.bare(values) for atom in rule.taken)
             state.update(atom.bare(values) for atom in rule.put)
-            state = +state
+            state = held(world, state)
             stage = step.stage or stage
             yield stage, Counter(state)
+
+
+def held(world, state):
+    """The atoms of a state with their copies, each fact once."""
+    return Counter(
+        {
+            text: 1 if world.predicates.get(text.split()[0]) == "fact" else copies
+            for text, copies in state.items()
+            if copies > 0
+        }
+    )
 
 
 def listing(world, state):
