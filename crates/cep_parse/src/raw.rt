@@ -1,8 +1,7 @@
 ghost use Rattle.std.specs.Prelude.{◌≡◌, [], ◌∷◌, MatchOption};
-ghost use Rattle.cep_parse.specs.Raw.{raw_nodes, atoms_in, item_rules, start_listed, listed_atoms};
+ghost use Rattle.cep_parse.specs.Raw.{raw_nodes, atoms_in, start_listed};
 
 use cep_base::{List, PredKind};
-use std::slice;
 
 /// Bytes of the text, from a place up to another.
 #[derive(Clone, Copy, Debug, PartialEq, Eq)]
@@ -134,30 +133,6 @@ pub enum RawItem {
         stage: Span,
         start: RawStart,
     },
-}
-
-impl RawItem {
-    /// Its rules: one outside of stages, or those of a stage.
-    pub fn rules(&self) -> &[RawRule]
-        ensures { result.now ≡ item_rules self.now }
-    {
-        match self {
-            RawItem::Outer(rule) => slice::from_ref(rule),
-            RawItem::Stage { rules, .. } => rules.as_slice(),
-            _ => &[],
-        }
-    }
-
-    /// The atoms that it lists, as a context or a trace does.
-    pub fn listed(&self) -> &[RawAtom]
-        ensures { result.now ≡ listed_atoms self.now }
-    {
-        match self {
-            RawItem::Context { atoms, .. } => atoms.as_slice(),
-            RawItem::Trace { start, .. } => start.listed(),
-            _ => &[],
-        }
-    }
 }
 
 pub type Spans = List<Span>;
