@@ -22,7 +22,7 @@ use Rattle.cep_source.specs.Starts.{listed_in, listed_or, start_atoms, nodes_wri
 use Rattle.cep_faults.specs.declared.facts.Facts.{Facts}
 use Rattle.cep_faults.specs.declared.sizes.Size.{Size}
 use Rattle.cep_faults.specs.Totals.{cut, total_size, written_size, most_counted, facts_counting}
-use Rattle.cep_faults.specs.FactKeys.{atom_key, no_facts, AreFactsOf, ArePassed, AreNoted}
+use Rattle.cep_faults.specs.FactKeys.{atom_key, no_facts, AreFactsOf, ArePassed, AreFactsNoted}
 use Rattle.cep_faults.proofs.AtomSizes.{joined_size}
 use Rattle.cep_faults.proofs.FactKeys.{keys_tell, is_new, one_fact, among_facts}
 
@@ -158,14 +158,14 @@ module _ (source : Source) where
   none_noted facts is = record { keys = ap (λ (other : Facts). map (λ entry. entry.0) other.keys) is; size = ap (λ (other : Facts). other.size) is }
 
   -- one atom in braces more, as it stands, or as a context for the first time, or again
-  module _ (before : List RawAtom) (old : Facts) (contexts : List (List ℕ × ℕ)) (noted : AreNoted source before old contexts) (atom : RawAtom) (b : Bool) where
+  module _ (before : List RawAtom) (old : Facts) (contexts : List (List ℕ × ℕ)) (noted : AreFactsNoted source before old contexts) (atom : RawAtom) (b : Bool) where
     abbrev pub listed : List RawAtom
     listed = listed_or b source atom
 
     passed_still : ArePassed source (before ++ listed) contexts
     passed_still name has raw there = contains_left before listed raw (noted.are_passed name has raw there)
 
-    pub atom_noted : (new : Facts) → b ≡ false → (AreFactsOf source before old → AreFactsOf source (before ++ atom ∷ []) new) → AreNoted source (before ++ listed) new contexts
+    pub atom_noted : (new : Facts) → b ≡ false → (AreFactsOf source before old → AreFactsOf source (before ++ atom ∷ []) new) → AreFactsNoted source (before ++ listed) new contexts
     atom_noted new is more = record {
       are_facts = subst (λ c. AreFactsOf source (before ++ listed_or c source atom) new) (sym is) (more noted.are_facts);
       are_passed = passed_still;
@@ -175,14 +175,14 @@ module _ (source : Source) where
       are : listed ≡ listed_in (context_named source name)
       are = ap (λ c. listed_or c source atom) is ∙ ap (λ n. listed_in (context_named source n)) (sym name_is)
 
-      pub context_again : has_name contexts name ≡ true → AreNoted source (before ++ listed) old contexts
+      pub context_again : has_name contexts name ≡ true → AreFactsNoted source (before ++ listed) old contexts
       context_again has = record {
         are_facts = told_as before (before ++ listed) old (repeated before listed (λ raw there. noted.are_passed name has raw (subst (λ xs. Contains xs raw) are there))) noted.are_facts;
         are_passed = passed_still;
       }
 
       pub context_first : (new : Facts) (later : List (List ℕ × ℕ)) (atoms : List RawAtom) → atoms ≡ listed_in (context_named source (said source atom.name)) → later ≡ contexts ++ (name, 0) ∷ []
-          → (AreFactsOf source before old → AreFactsOf source (before ++ atoms) new) → AreNoted source (before ++ listed) new later
+          → (AreFactsOf source before old → AreFactsOf source (before ++ atoms) new) → AreFactsNoted source (before ++ listed) new later
       context_first new later atoms same later_is more = record {
         are_facts = subst (λ xs. AreFactsOf source (before ++ xs) new) (same ∙ sym (ap (λ c. listed_or c source atom) is)) (more noted.are_facts);
         are_passed = λ other has raw there. by other raw there (has_name contexts other) (bytes_eq other name) refl refl
@@ -197,10 +197,10 @@ module _ (source : Source) where
 
   -- the first atoms in braces
   pub braces_noted : (atoms : List RawAtom) (i : ℕ) (atom : RawAtom) (old new : Facts) (contexts later : List (List ℕ × ℕ)) → i < length atoms → atom ≡ get_or atoms i atom
-      → ((before : List RawAtom) → AreNoted source before old contexts → AreNoted source (before ++ listed_or (is_context source (placed role.Start atom)) source atom) new later)
-      → AreNoted source (start_atoms source (start.Listed (take i atoms))) old contexts → AreNoted source (start_atoms source (start.Listed (take (i + 1) atoms))) new later
+      → ((before : List RawAtom) → AreFactsNoted source before old contexts → AreFactsNoted source (before ++ listed_or (is_context source (placed role.Start atom)) source atom) new later)
+      → AreFactsNoted source (start_atoms source (start.Listed (take i atoms))) old contexts → AreFactsNoted source (start_atoms source (start.Listed (take (i + 1) atoms))) new later
   braces_noted atoms i atom old new contexts later within at more noted =
-      subst (λ xs. AreNoted source xs new later) (sym (flat_map_more (λ (raw : RawAtom). listed_or (is_context source (placed role.Start raw)) source raw) atoms i atom within at)) (more (start_atoms source (start.Listed (take i atoms))) noted)
+      subst (λ xs. AreFactsNoted source xs new later) (sym (flat_map_more (λ (raw : RawAtom). listed_or (is_context source (placed role.Start raw)) source raw) atoms i atom within at)) (more (start_atoms source (start.Listed (take i atoms))) noted)
     where
       flat_map_more : {X Y : Type 0} (f : X → List Y) (xs : List X) (i : ℕ) (x : X) → i < length xs → x ≡ get_or xs i x → flat_map f (take (i + 1) xs) ≡ flat_map f (take i xs) ++ f x
       flat_map_more f xs i x within at = ap (flat_map f) (take_more xs i x within ∙ ap (λ y. take i xs ++ y ∷ []) (sym at)) ∙ flat_map-append f (take i xs) (x ∷ []) ∙ ap (λ ys. flat_map f (take i xs) ++ ys) (append-nil (f x))

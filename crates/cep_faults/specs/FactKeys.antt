@@ -44,6 +44,6 @@ pub record AreFactsOf (source : Source) (atoms : List RawAtom) (facts : Facts) :
   pub size : facts.size ≡ cut (written_size (facts_counting source atoms))
 
 -- These are the facts of the atoms so far, and the contexts that were passed.
-pub record AreNoted (source : Source) (atoms : List RawAtom) (facts : Facts) (contexts : List (List ℕ × ℕ)) : Type 0 where
+pub record AreFactsNoted (source : Source) (atoms : List RawAtom) (facts : Facts) (contexts : List (List ℕ × ℕ)) : Type 0 where
   pub are_facts : AreFactsOf source atoms facts
   pub are_passed : ArePassed source atoms contexts

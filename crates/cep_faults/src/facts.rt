@@ -5,7 +5,7 @@ ghost use Rattle.cep_parse.specs.declared.raw.RawStart.TheVariants as start;
 ghost use Rattle.cep_source.specs.declared.space.Role.TheVariants as role;
 ghost use Rattle.cep_source.specs.Starts.{is_of_fact, listed_or};
 ghost use Rattle.cep_source.specs.Uses.{placed, is_context};
-ghost use Rattle.cep_faults.specs.FactKeys.{name_key, count_key, node_key, atom_key, AreFactsOf, AreNoted, no_facts};
+ghost use Rattle.cep_faults.specs.FactKeys.{name_key, count_key, node_key, atom_key, AreFactsOf, AreFactsNoted, no_facts};
 ghost use Rattle.cep_faults.specs.Totals.{cut, written_size, facts_counting, facts_size};
 
 use crate::atoms::names_context;
@@ -115,8 +115,8 @@ impl Facts {
         atom: &RawAtom,
         contexts: &mut FirstPlaces,
     ) -> Result<(), AllocError>
-        ensures { OnOk result ((before : List RawAtom) → AreNoted source.now before self.old contexts.old
-            → AreNoted source.now (before ++ listed_or (is_context source.now (placed role.Start atom.now)) source.now atom.now) self.new contexts.new) }
+        ensures { OnOk result ((before : List RawAtom) → AreFactsNoted source.now before self.old contexts.old
+            → AreFactsNoted source.now (before ++ listed_or (is_context source.now (placed role.Start atom.now)) source.now atom.now) self.new contexts.new) }
     {
         if !names_context(source, Role::Start, atom.name, atom.args) {
             return self.note(source, atom);

@@ -4,7 +4,7 @@ use Rattle.cep_source.specs.declared.space.Role.TheVariants as role
 use Rattle.cep_source.specs.Uses.{placed, is_context}
 use Rattle.cep_source.specs.Firsts.{has_name}
 use Rattle.cep_source.specs.Starts.{listed_or}
-use Rattle.cep_faults.specs.FactKeys.{AreNoted}
+use Rattle.cep_faults.specs.FactKeys.{AreFactsNoted}
 use Rattle.cep_faults.proofs.FactsNoted.{atom_noted, context_again, context_first, not_true, not_false}
 use Rattle.cep_faults.proofs.facts.Facts.note_listed.Goals as goal
 
@@ -19,7 +19,7 @@ returns-then-not-is_first c =
     let has = not_true c.in_ok-is_first.is_first (has_name c.args.contexts.now c.said.result.now) c.in_ok-is_first.ensures.added c.if-not-is_first.true in
     let stands = is_context c.args.source.now (placed role.Start c.args.atom.now) in
     λ before noted.
-    subst (λ contexts. AreNoted c.args.source.now (before ++ listed_or stands c.args.source.now c.args.atom.now) c.args.self.now contexts)
+    subst (λ contexts. AreFactsNoted c.args.source.now (before ++ listed_or stands c.args.source.now c.args.atom.now) c.args.self.now contexts)
     (sym (c.in_ok-is_first.ensures.entries ∙ ap (λ b. if b then c.args.contexts.now else c.args.contexts.now ++ (c.said.result.now, 0) ∷ []) has))
     (context_again c.args.source.now before c.args.self.now c.args.contexts.now noted c.args.atom.now stands (sym c.names_context.ensures ∙ c.if-not-names_context.false) c.said.result.now c.said.ensures has)
 
