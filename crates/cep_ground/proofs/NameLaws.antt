@@ -16,7 +16,8 @@ use Rattle.cep_rule.specs.Names.{IsName, AreNames, AllDiffer}
 use Rattle.cep_refusal.specs.declared.reason.Reason.TheVariants.{OverLimit}
 use Rattle.cep_source.specs.declared.space.Space.{Space}
 use Rattle.cep_source.specs.declared.space.Space.TheVariants as space
-use Rattle.cep_source.specs.Items.{Source, PredItem, ConItem, RuleItem, said, sorts_in, sorts_of, preds_in, preds_of, con_or_none, cons_in, cons_of, stages_in, stages_of, rules_of, is_labelled}
+use Rattle.cep_source.specs.Items.{Source, PredItem, ConItem, RuleItem, said, sorts_of, preds_of, con_or_none, cons_in, cons_of, stages_of, rules_of, is_labelled}
+use Rattle.cep_source.specs.InItems.{sorts_in, preds_in, stages_in}
 use Rattle.cep_source.specs.Spaces.{Named, named, names_in, rule_name, unlabelled_behind, rule_names_from}
 use Rattle.cep_refusal.specs.First.{wrong}
 use Rattle.cep_faults.specs.Misnamed.Misnamed.{over}

@@ -16,7 +16,8 @@ use Rattle.cep_parse.specs.Grammar.{File}
 use Rattle.cep_parse.specs.Written.{IsNameAt, IsAtomOf, IsElemOf, IsRuleOf, IsStartOf, IsItemOf}
 use Rattle.cep_source.specs.declared.space.Role.{Role}
 use Rattle.cep_source.specs.declared.space.Role.TheVariants as role
-use Rattle.cep_source.specs.Items.{Source, ClauseItem, RuleItem, ContextItem, TraceItem, declares, clause_or_none, clauses_in, clauses_of, contexts_in, contexts_of, traces_in, traces_of, is_labelled, bare, stages_in, stages_behind, home_in, rules_in, rules_from, rules_of}
+use Rattle.cep_source.specs.Items.{Source, ClauseItem, RuleItem, ContextItem, TraceItem, declares, clause_or_none, clauses_in, clauses_of, contexts_of, traces_of, is_labelled, bare, stages_behind, home_in, rules_in, rules_from, rules_of}
+use Rattle.cep_source.specs.InItems.{contexts_in, traces_in, stages_in}
 use Rattle.cep_parse.specs.Raw.{atoms_of, start_listed}
 use Rattle.cep_source.specs.Uses.{Placed, placed, placed_of, rule_atoms, clause_atoms, context_atoms, trace_atoms}
 use Rattle.cep_infer.specs.Shapes.{IsSource, AreFilled}

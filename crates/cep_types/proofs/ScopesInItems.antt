@@ -7,7 +7,8 @@ use Rattle.cep_parse.specs.declared.raw.RawItem.{RawItem}
 use Rattle.cep_parse.specs.declared.raw.RawItem.TheVariants as item
 use Rattle.cep_source.specs.declared.space.Role.{Role}
 use Rattle.cep_source.specs.declared.space.Role.TheVariants as role
-use Rattle.cep_source.specs.Items.{Source, ClauseItem, RuleItem, ContextItem, TraceItem, declares, bare, clause_or_none, clauses_in, clauses_of, contexts_in, contexts_of, traces_in, traces_of, is_labelled, stages_in, home_in, rules_in, rules_from, rules_of, stages_behind}
+use Rattle.cep_source.specs.Items.{Source, ClauseItem, RuleItem, ContextItem, TraceItem, declares, bare, clause_or_none, clauses_in, clauses_of, contexts_of, traces_of, is_labelled, home_in, rules_in, rules_from, rules_of, stages_behind}
+use Rattle.cep_source.specs.InItems.{contexts_in, traces_in, stages_in}
 use Rattle.cep_parse.specs.Raw.{atoms_of, start_listed}
 use Rattle.cep_source.specs.Uses.{IsOfState, Placed, placed, placed_of, rule_atoms, clause_atoms, context_atoms, trace_atoms}
 use Rattle.cep_source.specs.Uses.IsOfState.{listed, start}
