@@ -13,7 +13,8 @@ use Rattle.cep_parse.specs.declared.raw.RawElem.TheVariants as elem
 use Rattle.cep_parse.specs.declared.raw.RawItem.{RawItem}
 use Rattle.cep_refusal.specs.declared.reason.Reason.TheVariants.{BadQui}
 use Rattle.cep_source.specs.declared.space.Space.TheVariants as space
-use Rattle.cep_source.specs.Items.{Source, RuleItem, declares, said, home_in, rules_in, stages_in, stages_behind, rules_from, rules_of, stages_of}
+use Rattle.cep_source.specs.Items.{Source, RuleItem, declares, said, home_in, rules_in, stages_behind, rules_from, rules_of, stages_of}
+use Rattle.cep_source.specs.InItems.{stages_in}
 use Rattle.cep_source.specs.Spaces.{named, names_in, is_in}
 use Rattle.cep_source.specs.Uses.{Use, use_in, elem_uses, rule_uses, uses_of}
 use Rattle.cep_refusal.specs.First.{wrong}

@@ -1,5 +1,5 @@
 -- The names of a text are names of a program.
-use Rattle.std.proofs.Common.{get_or, ◌≡◌, ℕ, suc, ◌+◌, ◌<◌, ◌≤◌, ◌^◌, ◌&&◌, ◌||◌, Bool, true, false, IsTrue, List, [], ◌∷◌, ◌++◌, length, map, refl, sym, ap, subst, ◌∙◌, arith, Contains, leb}
+use Rattle.std.proofs.Common.{get_or, ◌≡◌, ℕ, suc, ◌+◌, ◌<◌, ◌≤◌, ◌^◌, ◌&&◌, ◌||◌, Bool, true, false, IsTrue, List, [], ◌∷◌, ◌++◌, length, map, refl, sym, ap, subst, ◌∙◌, arith, Contains, leb, not, if◌then◌else◌}
 use Rattle.std.proofs.lemmas.Fmt.{decimal_is_IsNumeral, length-decimal-le}
 use Rattle.std.proofs.lemmas.Str.Parse.{digit_from_value}
 use Rattle.std.proofs.lemmas.Bool.{le-leb}
@@ -16,7 +16,8 @@ use Rattle.cep_rule.specs.Names.{IsName, AreNames, AllDiffer}
 use Rattle.cep_refusal.specs.declared.reason.Reason.TheVariants.{OverLimit}
 use Rattle.cep_source.specs.declared.space.Space.{Space}
 use Rattle.cep_source.specs.declared.space.Space.TheVariants as space
-use Rattle.cep_source.specs.Items.{Source, PredItem, ConItem, RuleItem, said, sorts_in, sorts_of, preds_in, preds_of, con_or_none, cons_in, cons_of, stages_in, stages_of, rules_of, is_labelled}
+use Rattle.cep_source.specs.Items.{Source, PredItem, ConItem, RuleItem, said, sorts_of, preds_of, cons_in, cons_of, stages_of, rules_of, is_labelled}
+use Rattle.cep_source.specs.InItems.{sorts_in, preds_in, stages_in}
 use Rattle.cep_source.specs.Spaces.{Named, named, names_in, rule_name, unlabelled_behind, rule_names_from}
 use Rattle.cep_refusal.specs.First.{wrong}
 use Rattle.cep_faults.specs.Misnamed.Misnamed.{over}
@@ -95,7 +96,7 @@ module _ (source : Source) (clean : IsClean source) (items : AllByRecursion (IsI
   named_pred (item.Pred name args of_kind) is = (name_at name is.0, tt)
   named_pred _ is = tt
 
-  con_by_label : (labelled : Bool) (con : ConItem) → IsName (said source con.name) → AllByRecursion (λ (con : ConItem). IsName (said source con.name)) (con_or_none labelled con)
+  con_by_label : (labelled : Bool) (con : ConItem) → IsName (said source con.name) → AllByRecursion (λ (con : ConItem). IsName (said source con.name)) (if not labelled then con ∷ [] else [])
   con_by_label true con is = tt
   con_by_label false con is = (is, tt)
 

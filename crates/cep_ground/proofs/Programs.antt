@@ -30,7 +30,8 @@ use Rattle.cep_rule.specs.State.{IsState}
 use Rattle.cep_rule.specs.Program.{AreSorts, AreNumbersDeclared, IsTypedRule, IsTypedClause, IsDividedRule, IsDividedClause, IsGroupedRule, IsProgram}
 use Rattle.cep_refusal.specs.declared.reason.Reason.TheVariants.{OverLimit}
 use Rattle.cep_source.specs.declared.space.Space.TheVariants as space
-use Rattle.cep_source.specs.Items.{Source, PredItem, ConItem, ClauseItem, RuleItem, said, sorts_in, sorts_of, preds_of, cons_of, stages_in, stages_of, clauses_of, rules_of, traces_of}
+use Rattle.cep_source.specs.Items.{Source, PredItem, ConItem, ClauseItem, RuleItem, said, sorts_of, preds_of, cons_of, stages_of, clauses_of, rules_of, traces_of}
+use Rattle.cep_source.specs.InItems.{sorts_in, stages_in}
 use Rattle.cep_source.specs.Spaces.{Named, named, names_in}
 use Rattle.cep_parse.specs.Raw.{atoms_of, raw_nodes}
 use Rattle.cep_source.specs.Uses.{use_in, start_uses}

@@ -1,5 +1,5 @@
 -- Which atoms and names of a raw file are tokens of the text, and that the nodes of an atom are its arguments.
-use Rattle.std.proofs.Common.{ℕ, Bool, true, false, List, [], ◌∷◌, map, arith, Contains}
+use Rattle.std.proofs.Common.{ℕ, Bool, true, false, List, [], ◌∷◌, map, arith, Contains, if◌then◌else◌}
 use Rattle.std.specs.List.{AllByRecursion, flat_map}
 use Rattle.cep_lex.specs.declared.token.Token.{Token}
 use Rattle.cep_parse.specs.declared.raw.Span.{Span}
@@ -16,7 +16,8 @@ use Rattle.cep_parse.specs.Grammar.{File}
 use Rattle.cep_parse.specs.Written.{IsNameAt, IsAtomOf, IsElemOf, IsRuleOf, IsStartOf, IsItemOf}
 use Rattle.cep_source.specs.declared.space.Role.{Role}
 use Rattle.cep_source.specs.declared.space.Role.TheVariants as role
-use Rattle.cep_source.specs.Items.{Source, ClauseItem, RuleItem, ContextItem, TraceItem, declares, clause_or_none, clauses_in, clauses_of, contexts_in, contexts_of, traces_in, traces_of, is_labelled, bare, stages_in, stages_behind, home_in, rules_in, rules_from, rules_of}
+use Rattle.cep_source.specs.Items.{Source, ConItem, ClauseItem, RuleItem, ContextItem, TraceItem, declares, clauses_in, clauses_of, contexts_of, traces_of, is_labelled, bare, stages_behind, home_in, rules_in, rules_from, rules_of}
+use Rattle.cep_source.specs.InItems.{contexts_in, traces_in, stages_in}
 use Rattle.cep_parse.specs.Raw.{atoms_of, start_listed}
 use Rattle.cep_source.specs.Uses.{Placed, placed, placed_of, rule_atoms, clause_atoms, context_atoms, trace_atoms}
 use Rattle.cep_infer.specs.Shapes.{IsSource, AreFilled}
@@ -82,12 +83,12 @@ module _ (tokens : List Token) where
       (all_mapped (IsRuleOf tokens) IsRuleMade (λ raw. record { home = home_in stages (stages_in item_); raw = raw }) (declares item_).rules (λ raw is. is) (rules_declared item_ all.0))
       (rules_made (stages_behind stages item_) items all.1)
 
-  labelled_made : (labelled : Bool) (right : Span) → IsNameAt tokens right → AllByRecursion IsClauseMade (clause_or_none labelled (record { head = bare right; goals = [] }))
-  labelled_made true right is = ((record { name = is; filled = tt; few = (let e = is.there.1 in omega arith); nodes = tt }, tt), tt)
-  labelled_made false right is = tt
+  labelled_made : (labelled : Bool) (con : ConItem) → IsNameAt tokens con.sort → AllByRecursion IsClauseMade (map (λ (c : ConItem). record { head = bare c.sort; goals = [] }) (if labelled then con ∷ [] else []))
+  labelled_made true con is = ((record { name = is; filled = tt; few = (let e = is.there.1 in omega arith); nodes = tt }, tt), tt)
+  labelled_made false con is = tt
 
   clause_made : (source : Source) (item_ : RawItem) → IsItemOf tokens item_ → AllByRecursion IsClauseMade (clauses_in source item_)
-  clause_made source (item.Colon left args right) is = labelled_made (is_labelled source args right) right is.2
+  clause_made source (item.Colon left args right) is = labelled_made (is_labelled source args right) (record { name = left; args = args; sort = right }) is.2
   clause_made source (item.Clause label head goals) is = (is.1, tt)
   clause_made source _ is = tt
 

@@ -1,5 +1,5 @@
 -- What the items of a file declare, as it is written.
-use Rattle.std.specs.Prelude.{ℕ, ◌+◌, Bool, true, false, ◌&&◌, not, List, [], ◌∷◌, Option, Some, None, ◌++◌, ◌==◌, length, map}
+use Rattle.std.specs.Prelude.{ℕ, ◌+◌, Bool, true, false, ◌&&◌, not, List, [], ◌∷◌, Option, Some, None, ◌++◌, ◌==◌, length, map, filter}
 use Rattle.std.specs.Str.{bytes_eq}
 use Rattle.std.specs.List.{flat_map, list_any}
 use Rattle.cep_base.specs.declared.kind.PredKind.{PredKind}
@@ -58,7 +58,7 @@ pub record TraceItem : Type 0 where
 pub record Declares : Type 0 where
   pub sorts : List Span
   pub preds : List PredItem
-  pub colon : Option ConItem
+  pub colons : List ConItem
   pub clauses : List ClauseItem
   pub rules : List RawRule
   pub stages : List Span
@@ -67,12 +67,12 @@ pub record Declares : Type 0 where
   pub traces : List TraceItem
 
 abbrev pub declared_nothing : Declares
-declared_nothing = record { sorts = []; preds = []; colon = None; clauses = []; rules = []; stages = []; interactives = []; contexts = []; traces = [] }
+declared_nothing = record { sorts = []; preds = []; colons = []; clauses = []; rules = []; stages = []; interactives = []; contexts = []; traces = [] }
 
 abbrev pub declares : RawItem → Declares
 declares (item.Sort name) = record declared_nothing { sorts = name ∷ [] }
 declares (item.Pred name args of_kind) = record declared_nothing { preds = record { name = name; args = args; kind = of_kind } ∷ [] }
-declares (item.Colon left args right) = record declared_nothing { colon = Some (record { name = left; args = args; sort = right }) }
+declares (item.Colon left args right) = record declared_nothing { colons = record { name = left; args = args; sort = right } ∷ [] }
 declares (item.Clause label head goals) = record declared_nothing { clauses = record { head = head; goals = goals } ∷ [] }
 declares (item.Outer rule) = record declared_nothing { rules = rule ∷ [] }
 declares (item.Stage name rules) = record declared_nothing { stages = name ∷ []; rules = rules }
@@ -81,41 +81,23 @@ declares (item.Interactive name) = record declared_nothing { interactives = name
 declares (item.Trace at limit stage start) = record declared_nothing { traces = record { at = at; limit = limit; stage = stage; start = start } ∷ [] }
 
 -- the types, the predicates, the stages, the names of the stages that are said to be interactive, the contexts, the traces
-abbrev pub sorts_in : RawItem → List Span
-sorts_in item = (declares item).sorts
-
-abbrev pub preds_in : RawItem → List PredItem
-preds_in item = (declares item).preds
-
-abbrev pub stages_in : RawItem → List Span
-stages_in item = (declares item).stages
-
-abbrev pub interactives_in : RawItem → List Span
-interactives_in item = (declares item).interactives
-
-abbrev pub contexts_in : RawItem → List ContextItem
-contexts_in item = (declares item).contexts
-
-abbrev pub traces_in : RawItem → List TraceItem
-traces_in item = (declares item).traces
-
 abbrev pub sorts_of : Source → List Span
-sorts_of source = flat_map sorts_in source.file
+sorts_of source = flat_map (λ item. (declares item).sorts) source.file
 
 abbrev pub preds_of : Source → List PredItem
-preds_of source = flat_map preds_in source.file
+preds_of source = flat_map (λ item. (declares item).preds) source.file
 
 abbrev pub stages_of : Source → List Span
-stages_of source = flat_map stages_in source.file
+stages_of source = flat_map (λ item. (declares item).stages) source.file
 
 abbrev pub interactives_of : Source → List Span
-interactives_of source = flat_map interactives_in source.file
+interactives_of source = flat_map (λ item. (declares item).interactives) source.file
 
 abbrev pub contexts_of : Source → List ContextItem
-contexts_of source = flat_map contexts_in source.file
+contexts_of source = flat_map (λ item. (declares item).contexts) source.file
 
 abbrev pub traces_of : Source → List TraceItem
-traces_of source = flat_map traces_in source.file
+traces_of source = flat_map (λ item. (declares item).traces) source.file
 
 -- whether one of these spans says the name
 abbrev pub is_said : Source → List Span → List ℕ → Bool
@@ -131,31 +113,15 @@ abbrev pub bare : Span → RawAtom
 bare name = record { name = name; args = 0; nodes = [] }
 
 -- the constructors
-abbrev pub con_or_none : Bool → ConItem → List ConItem
-con_or_none true con = []
-con_or_none false con = con ∷ []
-
-abbrev pub con_said : Source → Option ConItem → List ConItem
-con_said source None = []
-con_said source (Some con) = con_or_none (is_labelled source con.args con.sort) con
-
 abbrev pub cons_in : Source → RawItem → List ConItem
-cons_in source item = con_said source (declares item).colon
+cons_in source item = filter (λ con. not (is_labelled source con.args con.sort)) (declares item).colons
 
 abbrev pub cons_of : Source → List ConItem
 cons_of source = flat_map (cons_in source) source.file
 
 -- the clauses
-abbrev pub clause_or_none : Bool → ClauseItem → List ClauseItem
-clause_or_none true clause = clause ∷ []
-clause_or_none false clause = []
-
-abbrev pub clause_said : Source → Option ConItem → List ClauseItem
-clause_said source None = []
-clause_said source (Some con) = clause_or_none (is_labelled source con.args con.sort) (record { head = bare con.sort; goals = [] })
-
 abbrev pub clauses_in : Source → RawItem → List ClauseItem
-clauses_in source item = (declares item).clauses ++ clause_said source (declares item).colon
+clauses_in source item = (declares item).clauses ++ map (λ con. record { head = bare con.sort; goals = [] }) (filter (λ con. is_labelled source con.args con.sort) (declares item).colons)
 
 abbrev pub clauses_of : Source → List ClauseItem
 clauses_of source = flat_map (clauses_in source) source.file
@@ -166,10 +132,10 @@ home_in stages [] = None
 home_in stages (name ∷ names) = Some stages
 
 abbrev pub rules_in : ℕ → RawItem → List RuleItem
-rules_in stages item = map (λ raw. record { home = home_in stages (stages_in item); raw = raw }) (declares item).rules
+rules_in stages item = map (λ raw. record { home = home_in stages (declares item).stages; raw = raw }) (declares item).rules
 
 abbrev pub stages_behind : ℕ → RawItem → ℕ
-stages_behind stages item = stages + length (stages_in item)
+stages_behind stages item = stages + length (declares item).stages
 
 abbrev pub rules_from : ℕ → List RawItem → List RuleItem
 rules_from stages [] = []

@@ -4,7 +4,8 @@ use Rattle.std.specs.List.{flat_map}
 use Rattle.cep_parse.specs.declared.raw.RawItem.{RawItem}
 use Rattle.cep_parse.specs.declared.raw.RawRule.{RawRule}
 use Rattle.cep_source.specs.declared.space.Space.TheVariants as space
-use Rattle.cep_source.specs.Items.{Source, ConItem, PredItem, ContextItem, RuleItem, TraceItem, sorts_in, preds_in, stages_in, interactives_in, contexts_in, traces_in, rules_from, cons_of, interactives_of}
+use Rattle.cep_source.specs.Items.{Source, ConItem, PredItem, ContextItem, RuleItem, TraceItem, rules_from, cons_of, interactives_of}
+use Rattle.cep_source.specs.InItems.{sorts_in, preds_in, stages_in, interactives_in, contexts_in, traces_in}
 use Rattle.cep_source.specs.Spaces.{named, names_in}
 use Rattle.cep_source.specs.Firsts.{AreDeclared, no_names}
 use Rattle.cep_source.specs.declared.items.RawCon.{RawCon}

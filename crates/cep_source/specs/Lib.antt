@@ -1,4 +1,5 @@
 pub mod Items
+pub mod InItems
 pub mod Spaces
 pub mod Uses
 pub mod Variables

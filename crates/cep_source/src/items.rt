@@ -1,6 +1,6 @@
 // What one item of a file declares.
 ghost use Rattle.std.specs.Prelude.{◌≡◌, map, option_to_list, slice_get};
-ghost use Rattle.cep_source.specs.Items.{sorts_in, preds_in, stages_in, interactives_in, contexts_in, traces_in};
+ghost use Rattle.cep_source.specs.InItems.{sorts_in, preds_in, stages_in, interactives_in, contexts_in, traces_in};
 ghost use Rattle.cep_source.specs.Kept.{pred_item, context_item, trace_item};
 
 use cep_base::PredKind;

@@ -1,5 +1,5 @@
 -- The atoms that share their variables, and the items in which they stand.
-use Rattle.std.proofs.Common.{◌≡◌, ℕ, ◌⊎◌, ⊎_elim, Bool, true, false, List, [], ◌∷◌, ◌++◌, map, Option, refl, ap, sym, ◌∙◌, subst}
+use Rattle.std.proofs.Common.{◌≡◌, ℕ, ◌⊎◌, ⊎_elim, Bool, true, false, if◌then◌else◌, List, [], ◌∷◌, ◌++◌, map, Option, refl, ap, sym, ◌∙◌, subst}
 use Rattle.std.specs.List.{flat_map}
 use Rattle.cep_parse.specs.declared.raw.RawAtom.{RawAtom}
 use Rattle.cep_parse.specs.declared.raw.RawRule.{RawRule}
@@ -7,7 +7,8 @@ use Rattle.cep_parse.specs.declared.raw.RawItem.{RawItem}
 use Rattle.cep_parse.specs.declared.raw.RawItem.TheVariants as item
 use Rattle.cep_source.specs.declared.space.Role.{Role}
 use Rattle.cep_source.specs.declared.space.Role.TheVariants as role
-use Rattle.cep_source.specs.Items.{Source, ClauseItem, RuleItem, ContextItem, TraceItem, declares, bare, clause_or_none, clauses_in, clauses_of, contexts_in, contexts_of, traces_in, traces_of, is_labelled, stages_in, home_in, rules_in, rules_from, rules_of, stages_behind}
+use Rattle.cep_source.specs.Items.{Source, ConItem, ClauseItem, RuleItem, ContextItem, TraceItem, declares, bare, clauses_in, clauses_of, contexts_of, traces_of, is_labelled, home_in, rules_in, rules_from, rules_of, stages_behind}
+use Rattle.cep_source.specs.InItems.{contexts_in, traces_in, stages_in}
 use Rattle.cep_parse.specs.Raw.{atoms_of, start_listed}
 use Rattle.cep_source.specs.Uses.{IsOfState, Placed, placed, placed_of, rule_atoms, clause_atoms, context_atoms, trace_atoms}
 use Rattle.cep_source.specs.Uses.IsOfState.{listed, start}
@@ -119,14 +120,14 @@ housed stages (next ∷ items) one h =
     (in_parts (rules_in stages next) (rules_from (stages_behind stages next) items) one h)
 
 -- a clause stands as one, or is a label and a name
-labelled : (source : Source) (right : RawAtom) (is : Bool) (one : ClauseItem) (atoms : List RawAtom) → right.nodes ≡ [] → In (clause_or_none is (record { head = right; goals = [] })) one → atoms ≡ clause_scope one → IsFound source atoms
-labelled source right true one atoms none h is = empty right none (is ∙ ap clause_scope (in_one _ one h))
-labelled source right false one atoms none h is = absurd (in_nil one h)
+labelled : (source : Source) (con : ConItem) (is : Bool) (one : ClauseItem) (atoms : List RawAtom) → In (map (λ (c : ConItem). record { head = bare c.sort; goals = [] }) (if is then con ∷ [] else [])) one → atoms ≡ clause_scope one → IsFound source atoms
+labelled source con true one atoms h is = empty (bare con.sort) refl (is ∙ ap clause_scope (in_one _ one h))
+labelled source con false one atoms h is = absurd (in_nil one h)
 
 clause_found : (source : Source) (next : RawItem) (one : ClauseItem) (atoms : List RawAtom) → In source.file next → In (clauses_in source next) one → atoms ≡ clause_scope one → IsFound source atoms
 clause_found source (item.Clause label head goals) one atoms m h is =
     found (item.Clause label head goals) m (subst (In ((head ∷ goals) ∷ [])) (sym (is ∙ ap clause_scope (in_one _ one h))) (here (head ∷ goals) []))
-clause_found source (item.Colon left args right) one atoms m h is = labelled source (bare right) (is_labelled source args right) one atoms refl h is
+clause_found source (item.Colon left args right) one atoms m h is = labelled source (record { name = left; args = args; sort = right }) (is_labelled source args right) one atoms h is
 clause_found source _ one atoms m h is = absurd (in_nil one h)
 
 -- the atoms of rules and of clauses are not of a state

@@ -1,6 +1,6 @@
 use Rattle.std.proofs.Common.{◌≡◌, map, take}
 use Rattle.std.specs.List.{flat_map}
-use Rattle.cep_source.specs.Items.{contexts_in}
+use Rattle.cep_source.specs.InItems.{contexts_in}
 use Rattle.cep_source.specs.Kept.{context_item}
 use Rattle.cep_source.proofs.gathering.contexts_of.Given as goal
 

@@ -1,6 +1,6 @@
 use Rattle.std.proofs.Common.{◌≡◌, map, take}
 use Rattle.std.specs.List.{flat_map}
-use Rattle.cep_source.specs.Items.{preds_in}
+use Rattle.cep_source.specs.InItems.{preds_in}
 use Rattle.cep_source.specs.Kept.{pred_item}
 use Rattle.cep_source.proofs.gathering.preds_of.Given as goal
 

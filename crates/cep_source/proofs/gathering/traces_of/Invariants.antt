@@ -1,6 +1,6 @@
 use Rattle.std.proofs.Common.{◌≡◌, map, take}
 use Rattle.std.specs.List.{flat_map}
-use Rattle.cep_source.specs.Items.{traces_in}
+use Rattle.cep_source.specs.InItems.{traces_in}
 use Rattle.cep_source.specs.Kept.{trace_item}
 use Rattle.cep_source.proofs.gathering.traces_of.Given as goal
 
