@@ -1,251 +1,60 @@
 -- What is wrong is found.
-use Rattle.std.proofs.Common.{◌≡◌, ◌≢◌, ℕ, ◌⊎◌, inl, inr, ⊎_elim, ◌==◌, Bool, true, false, ◌||◌, ◌&&◌, nat_lt, nat_le, if◌then◌else◌, List, [], ◌∷◌, ◌++◌, length, map, Option, Some, None, is_some, refl, ap, sym, ◌∙◌, subst, count_by}
+use Rattle.std.proofs.Common.{◌≡◌, ◌≢◌, ℕ, ◌⊎◌, inl, inr, ⊎_elim, ◌==◌, Bool, true, false, ◌||◌, ◌&&◌, not, nat_lt, nat_le, if◌then◌else◌, List, [], ◌∷◌, ◌++◌, length, map, filter, Option, Some, None, is_some, refl, ap, sym, ◌∙◌, subst, count_by}
+use Rattle.std.specs.Option.{option_map}
 use Rattle.std.specs.List.{flat_map, slice_get, sum_by}
 use Rattle.std.proofs.lemmas.Bool.{leb-true, eqb-true, lt-ltb}
-use Rattle.cep_parse.specs.declared.raw.Span.{Span}
-use Rattle.cep_parse.specs.declared.raw.RawNode.{RawNode}
-use Rattle.cep_parse.specs.declared.raw.RawAtom.{RawAtom}
-use Rattle.cep_parse.specs.declared.raw.RawRule.{RawRule}
+use Rattle.cep_base.specs.Kinds.{is_backward}
 use Rattle.cep_base.specs.declared.kind.PredKind.{PredKind}
 use Rattle.cep_base.specs.declared.kind.PredKind.TheVariants.{Linear, Back, Fact}
 use Rattle.cep_base.specs.declared.limits.TheConstants.{MOST_ARGUMENTS, MOST_BACKS, MOST_CLAUSES, MOST_CONS, MOST_COPIES, MOST_DEPTH, MOST_GOALS, MOST_NODES, MOST_PREDS, MOST_PREMISES, MOST_RIGHT, MOST_RULES, MOST_STATE_NODES, MOST_VARIABLES}
+use Rattle.cep_parse.specs.declared.raw.Span.{Span}
+use Rattle.cep_parse.specs.declared.raw.RawKind.{RawKind}
+use Rattle.cep_parse.specs.declared.raw.RawKind.TheVariants as kind
+use Rattle.cep_parse.specs.declared.raw.RawNode.{RawNode}
+use Rattle.cep_parse.specs.declared.raw.RawAtom.{RawAtom}
+use Rattle.cep_parse.specs.declared.raw.RawElem.{RawElem}
+use Rattle.cep_parse.specs.declared.raw.RawElem.TheVariants as elem
+use Rattle.cep_parse.specs.declared.raw.RawRule.{RawRule}
+use Rattle.cep_parse.specs.declared.raw.RawStart.{RawStart}
+use Rattle.cep_parse.specs.declared.raw.RawStart.TheVariants as state
+use Rattle.cep_parse.specs.Raw.{atoms_in, atoms_of, raw_nodes, start_listed}
 use Rattle.cep_refusal.specs.declared.fault.Fault.{Fault}
 use Rattle.cep_refusal.specs.declared.reason.Reason.TheVariants.{WrongArity, VarInContext, BwdInState, LinearInClause, BadQui, TwoTraces, OverLimit}
+use Rattle.cep_refusal.specs.First.{wrong}
 use Rattle.cep_source.specs.declared.space.Space.{Space}
 use Rattle.cep_source.specs.declared.space.Space.TheVariants as space
-use Rattle.cep_source.specs.declared.space.Role.{Role}
-use Rattle.cep_source.specs.declared.space.Role.TheVariants as role
 use Rattle.cep_source.specs.Items.{Source, PredItem, ConItem, ClauseItem, RuleItem, ContextItem, TraceItem, said, preds_of, cons_of, clauses_of, rules_of, interactives_of, contexts_of, traces_of}
-use Rattle.cep_parse.specs.Raw.{atoms_of, raw_nodes, start_listed}
-use Rattle.cep_faults.specs.Premises.{state_premises_of, backward_of, is_declared}
-use Rattle.cep_faults.specs.Misnamed.{Misnamed, ComesToState, IsOpen, IsQuiRule, is_somewhere, is_qui, is_stage}
-use Rattle.cep_source.specs.Spaces.{IsTwice}
+use Rattle.cep_source.specs.Spaces.{is_in, kind_of, IsTwice}
+use Rattle.cep_source.specs.Uses.{uses_in, needed_atoms, made_atoms, clause_atoms, state_atoms, atoms_written, stands_for_context, stages_at, stages_named, contexts_at, applied_at}
+use Rattle.cep_source.specs.Variables.{Occurrence, variables_of}
+use Rattle.cep_source.specs.Starts.{IsFitWritten, nodes_written, depth_written, start_atoms, counting, turns_said}
+use Rattle.cep_faults.specs.Premises.{state_premises_of, backward_of}
+use Rattle.cep_faults.specs.Misnamed.{Misnamed, IsQuiRule, is_qui}
+use Rattle.cep_faults.specs.Misnamed.Misnamed.{twice, unknown, wrong_kind, wrong_arity, wrong_term_arity, variable_in_state, backward_in_state, linear_in_clause, bad_qui, no_trace, two_traces, over}
 use Rattle.cep_faults.specs.Limits.{IsOver, arguments_of}
-use Rattle.cep_source.specs.Uses.{IsOfState}
-use Rattle.cep_source.specs.Starts.{turns_said}
-use Rattle.cep_refusal.specs.First.{wrong}
-use Rattle.cep_faults.specs.Misnamed.Misnamed.{twice, unknown, wrong_kind, wrong_arity, variable_in_state, backward_in_state, linear_in_clause, bad_qui, no_trace, two_traces, over}
-use Rattle.cep_faults.specs.Misnamed.IsOpen.{variable, blank}
-use Rattle.cep_source.specs.Uses.IsOfState.{listed, start}
-use Rattle.cep_faults.specs.Misnamed.ComesToState.{made}
-use Rattle.cep_source.specs.Spaces.{is_in, arity_of, kind_of}
-use Rattle.cep_source.specs.Starts.{IsFitWritten, nodes_written, depth_written, start_atoms, counting}
-use Rattle.cep_source.specs.Uses.{Placed, Use, use_in, placed, is_context, type_uses, con_uses, rule_uses, trace_uses, pred_uses, node_uses, atom_uses, other_uses, uses_of, placed_of, rule_atoms, clause_atoms, context_atoms, trace_atoms}
-use Rattle.cep_source.specs.Variables.{variables_of}
-use Rattle.cep_faults.specs.Seen.{unseen, new_in}
-use Rattle.cep_faults.specs.Faults.{lack_faults, arity_faults, use_faults, pred_faults, node_faults, open_faults, back_faults, linear_faults, state_faults, role_faults, placed_faults, past, places, argument_faults, predicate_faults, con_faults, size_faults, rule_faults, clause_faults, context_faults, interactive_faults, trace_faults, kind_faults, premise_places, is_qui_rule, qui_faults, home_faults, variable_faults, turns_faults, is_fit, unfit_faults}
-use Rattle.cep_faults.specs.Totals.{count_faults, written_size, is_large, whole_size, start_faults, traces_faults, all_faults}
-use Rattle.cep_base.proofs.Members.{In, here, in_nil, in_one, in_same, in_left, in_right, in_parts, through, via, image, mapped, from_contains, give}
-use Rattle.cep_faults.proofs.Same.{atom_at, pred_place, con_place, rule_place, head_at, occurrence_from, premise_list, atom_list, whole_same, large_same}
-use Rattle.cep_faults.proofs.SoundKinds.{variable_list}
+use Rattle.cep_faults.specs.Faults.{is_somewhere, lack_faults, use_faults, arity_faults, pred_arity, pred_faults, con_arity, kind_faults, node_faults, names_faults, back_by, back_faults, linear_by, linear_faults, clause_atom_faults, side_atom_faults, elem_faults, is_fit, state_faults, listed_faults, past, past_most, argument_faults, predicate_faults, con_faults, premise_faults, right_faults, is_stage, is_qui_rule, home_faults, variable_faults, rule_faults, clause_faults, context_faults, begin_faults, turns_faults, trace_faults}
+use Rattle.cep_faults.specs.Totals.{count_faults, start_faults, two_faults, traces_faults, all_faults}
+use Rattle.cep_base.proofs.Members.{In, here, in_nil, in_one, in_same, in_left, in_right, in_parts, through, via, image, mapped, from_contains}
+use Rattle.cep_faults.proofs.Spread.{kept_from, somewhere_of, nowhere_of, stage_count}
 
 is_one : (w fault : Fault) → fault ≡ w → In (w ∷ []) fault
 is_one w fault e = subst (In (w ∷ [])) (sym e) (here w [])
 
-in_same_fault : (faults : List Fault) (w fault : Fault) → fault ≡ w → In faults w → In faults fault
-in_same_fault faults w fault e h = subst (In faults) (sym e) h
+unless : (b : Bool) (w fault : Fault) → b ≡ false → fault ≡ w → In (let found : List Fault = if b then [] else w ∷ [] in found) fault
+unless true w fault e is = absurd cc
+unless false w fault e is = is_one w fault is
 
--- the faults of each kind are among all
-module _ (source : Source) (fault : Fault) where
-  in_kinds : In (kind_faults source) fault → In (all_faults source) fault
-  in_kinds h = in_left (kind_faults source) _ fault h
-
-  past_preds : In (flat_map (con_faults source) (cons_of source) ++ (flat_map (rule_faults source) (rules_of source) ++ (flat_map (clause_faults source) (clauses_of source)
-      ++ (flat_map (context_faults source) (contexts_of source) ++ (flat_map (interactive_faults source) (interactives_of source) ++ flat_map (trace_faults source) (traces_of source)))))) fault → In (all_faults source) fault
-  past_preds h = in_kinds (in_right (flat_map (predicate_faults source) (preds_of source)) _ fault h)
-
-  past_clauses : In (flat_map (context_faults source) (contexts_of source) ++ (flat_map (interactive_faults source) (interactives_of source) ++ flat_map (trace_faults source) (traces_of source))) fault → In (all_faults source) fault
-  past_clauses h = past_preds (in_right (flat_map (con_faults source) (cons_of source)) _ fault (in_right (flat_map (rule_faults source) (rules_of source)) _ fault (in_right (flat_map (clause_faults source) (clauses_of source)) _ fault h)))
-
-  of_pred : (pred : PredItem) → In (preds_of source) pred → In (predicate_faults source pred) fault → In (all_faults source) fault
-  of_pred pred m h = in_kinds (in_left (flat_map (predicate_faults source) (preds_of source)) _ fault (via (predicate_faults source) (preds_of source) pred fault m h))
-
-  of_con : (con : ConItem) → In (cons_of source) con → In (con_faults source con) fault → In (all_faults source) fault
-  of_con con m h = past_preds (in_left (flat_map (con_faults source) (cons_of source)) _ fault (via (con_faults source) (cons_of source) con fault m h))
-
-  of_rule : (rule : RuleItem) → In (rules_of source) rule → In (rule_faults source rule) fault → In (all_faults source) fault
-  of_rule rule m h =
-      past_preds (in_right (flat_map (con_faults source) (cons_of source)) _ fault (in_left (flat_map (rule_faults source) (rules_of source)) _ fault (via (rule_faults source) (rules_of source) rule fault m h)))
-
-  of_clause : (clause : ClauseItem) → In (clauses_of source) clause → In (clause_faults source clause) fault → In (all_faults source) fault
-  of_clause clause m h =
-      past_preds (in_right (flat_map (con_faults source) (cons_of source)) _ fault (in_right (flat_map (rule_faults source) (rules_of source)) _ fault
-      (in_left (flat_map (clause_faults source) (clauses_of source)) _ fault (via (clause_faults source) (clauses_of source) clause fault m h))))
-
-  of_context : (context : ContextItem) → In (contexts_of source) context → In (context_faults source context) fault → In (all_faults source) fault
-  of_context context m h = past_clauses (in_left (flat_map (context_faults source) (contexts_of source)) _ fault (via (context_faults source) (contexts_of source) context fault m h))
-
-  of_interactive : (name : Span) → In (interactives_of source) name → In (interactive_faults source name) fault → In (all_faults source) fault
-  of_interactive name m h =
-      past_clauses (in_right (flat_map (context_faults source) (contexts_of source)) _ fault
-      (in_left (flat_map (interactive_faults source) (interactives_of source)) _ fault (via (interactive_faults source) (interactives_of source) name fault m h)))
-
-  of_trace : (trace : TraceItem) → In (traces_of source) trace → In (trace_faults source trace) fault → In (all_faults source) fault
-  of_trace trace m h =
-      past_clauses (in_right (flat_map (context_faults source) (contexts_of source)) _ fault
-      (in_right (flat_map (interactive_faults source) (interactives_of source)) _ fault (via (trace_faults source) (traces_of source) trace fault m h)))
-
--- the atoms of a rule, and what is behind them
-module _ (source : Source) (rule : RuleItem) (fault : Fault) where
-  rule_atom : (p : Placed) → In (rule_atoms rule.raw) p → In (placed_faults source p) fault → In (rule_faults source rule) fault
-  rule_atom p m h =
-      in_right (flat_map (use_faults source) (rule_uses rule.raw)) _ fault
-      (in_left (flat_map (placed_faults source) (rule_atoms rule.raw)) _ fault (via (placed_faults source) (rule_atoms rule.raw) p fault m h))
-
-  rule_rest : In (size_faults source rule.raw ++ (home_faults rule.home rule.raw ++ variable_faults source.text (atoms_of rule.raw.left))) fault → In (rule_faults source rule) fault
-  rule_rest h = in_right (flat_map (use_faults source) (rule_uses rule.raw)) _ fault (in_right (flat_map (placed_faults source) (rule_atoms rule.raw)) _ fault h)
-
--- atoms
-placed_all : (source : Source) (p : Placed) (fault : Fault) → In (placed_of source) p → In (placed_faults source p) fault → In (all_faults source) fault
-placed_all source p fault at h =
-    ⊎_elim
-    (λ k. let t = through (λ (rule : RuleItem). rule_atoms rule.raw) (rules_of source) p k in of_rule source fault t.from t.member (rule_atom source t.from fault p t.given h))
-    (λ r. ⊎_elim
-    (λ k. let t = through clause_atoms (clauses_of source) p k in
-    of_clause source fault t.from t.member (in_left (flat_map (placed_faults source) (clause_atoms t.from)) _ fault (via (placed_faults source) (clause_atoms t.from) p fault t.given h)))
-    (λ r. ⊎_elim
-    (λ k. let t = through context_atoms (contexts_of source) p k in
-    of_context source fault t.from t.member (in_left (flat_map (placed_faults source) (context_atoms t.from)) _ fault (via (placed_faults source) (context_atoms t.from) p fault t.given h)))
-    (λ k. let t = through trace_atoms (traces_of source) p k in
-    of_trace source fault t.from t.member (in_right (flat_map (use_faults source) (trace_uses t.from)) _ fault
-    (in_left (flat_map (placed_faults source) (trace_atoms t.from)) _ fault (via (placed_faults source) (trace_atoms t.from) p fault t.given h))))
-    (in_parts (flat_map context_atoms (contexts_of source)) _ p r))
-    (in_parts (flat_map clause_atoms (clauses_of source)) _ p r))
-    (in_parts (flat_map (λ (rule : RuleItem). rule_atoms rule.raw) (rules_of source)) _ p at)
-
--- uses
-pred_complete : (source : Source) (p : Placed) (used : Use) (fault : Fault) (context : Bool) → is_context source p ≡ context
-    → In (let uses : List Use = if context then [] else record { space = space.Predicates; name = p.atom.name; args = p.atom.args } ∷ [] in uses) used
-    → In (use_faults source used) fault → In (pred_faults source p.role p.atom.name p.atom.args) fault
-pred_complete source p used fault true c m h = absurd (in_nil used m)
-pred_complete source p used fault false c m h =
-    in_same (pred_faults source p.role p.atom.name p.atom.args) (use_faults source used) fault
-    (ap (λ (b : Bool). let found : List Fault = if b then [] else use_faults source (record { space = space.Predicates; name = p.atom.name; args = p.atom.args }) in found) c
-    ∙ ap (use_faults source) (sym (in_one _ used m))) h
-
-atom_use : (source : Source) (p : Placed) (used : Use) (fault : Fault) → In (atom_uses source p) used → In (use_faults source used) fault → In (placed_faults source p) fault
-atom_use source p used fault m h =
-    ⊎_elim
-    (λ k. in_left (pred_faults source p.role p.atom.name p.atom.args) _ fault (pred_complete source p used fault (is_context source p) refl k h))
-    (λ k. let t = through node_uses p.atom.nodes used k in
-    in_right (pred_faults source p.role p.atom.name p.atom.args) _ fault (in_left (flat_map (node_faults source) p.atom.nodes) _ fault
-    (via (node_faults source) p.atom.nodes t.from fault t.member (via (use_faults source) (node_uses t.from) used fault t.given h))))
-    (in_parts (pred_uses source p) (flat_map node_uses p.atom.nodes) used m)
-
-other_all : (source : Source) (used : Use) (fault : Fault) → In (other_uses source) used → In (use_faults source used) fault → In (all_faults source) fault
-other_all source used fault at h =
-    ⊎_elim
-    (λ k. let t = through type_uses (preds_of source) used k in
-    of_pred source fault t.from t.member (in_left (flat_map (use_faults source) (type_uses t.from)) _ fault (via (use_faults source) (type_uses t.from) used fault t.given h)))
-    (λ r. ⊎_elim
-    (λ k. let t = through con_uses (cons_of source) used k in
-    of_con source fault t.from t.member (in_left (flat_map (use_faults source) (con_uses t.from)) _ fault (via (use_faults source) (con_uses t.from) used fault t.given h)))
-    (λ r. ⊎_elim
-    (λ k. let t = through (λ (rule : RuleItem). rule_uses rule.raw) (rules_of source) used k in
-    of_rule source fault t.from t.member (in_left (flat_map (use_faults source) (rule_uses t.from.raw)) _ fault (via (use_faults source) (rule_uses t.from.raw) used fault t.given h)))
-    (λ r. ⊎_elim
-    (λ k. let i = image (use_in space.Stages) (interactives_of source) used k in
-    of_interactive source fault i.from i.member (in_same (interactive_faults source i.from) (use_faults source used) fault (ap (use_faults source) (sym i.is)) h))
-    (λ k. let t = through trace_uses (traces_of source) used k in
-    of_trace source fault t.from t.member (in_left (flat_map (use_faults source) (trace_uses t.from)) _ fault (via (use_faults source) (trace_uses t.from) used fault t.given h)))
-    (in_parts (map (use_in space.Stages) (interactives_of source)) _ used r))
-    (in_parts (flat_map (λ (rule : RuleItem). rule_uses rule.raw) (rules_of source)) _ used r))
-    (in_parts (flat_map con_uses (cons_of source)) _ used r))
-    (in_parts (flat_map type_uses (preds_of source)) _ used at)
-
-use_all : (source : Source) (used : Use) (fault : Fault) → In (uses_of source) used → In (use_faults source used) fault → In (all_faults source) fault
-use_all source used fault at h =
-    ⊎_elim (λ k. other_all source used fault k h)
-    (λ k. let a = through (atom_uses source) (placed_of source) used k in placed_all source a.from fault a.member (atom_use source a.from used fault a.given h))
-    (in_parts (other_uses source) _ used at)
-
--- a name that no space has is not in its space
-none_of_six : (a b c d e g : Bool) → (a || b || c || d || e || g) ≡ false → (a ≡ false) × (b ≡ false) × (c ≡ false) × (d ≡ false) × (e ≡ false) × (g ≡ false)
-none_of_six false false false false false g h = (refl, refl, refl, refl, refl, h)
-none_of_six true b c d e g h = absurd cc
-none_of_six false true c d e g h = absurd cc
-none_of_six false false true d e g h = absurd cc
-none_of_six false false false true e g h = absurd cc
-none_of_six false false false false true g h = absurd cc
-
-nowhere : (source : Source) (space_ : Space) (name : List ℕ) → is_somewhere source name ≡ false → is_in source space_ name ≡ false
-nowhere source space.Sorts name h = (none_of_six (is_in source space.Sorts name) (is_in source space.Constructors name) (is_in source space.Predicates name) (is_in source space.Stages name) (is_in source space.Contexts name) (is_in source space.Rules name) h).0
-nowhere source space.Constructors name h = (none_of_six (is_in source space.Sorts name) (is_in source space.Constructors name) (is_in source space.Predicates name) (is_in source space.Stages name) (is_in source space.Contexts name) (is_in source space.Rules name) h).1
-nowhere source space.Predicates name h = (none_of_six (is_in source space.Sorts name) (is_in source space.Constructors name) (is_in source space.Predicates name) (is_in source space.Stages name) (is_in source space.Contexts name) (is_in source space.Rules name) h).2
-nowhere source space.Stages name h = (none_of_six (is_in source space.Sorts name) (is_in source space.Constructors name) (is_in source space.Predicates name) (is_in source space.Stages name) (is_in source space.Contexts name) (is_in source space.Rules name) h).3
-nowhere source space.Contexts name h = (none_of_six (is_in source space.Sorts name) (is_in source space.Constructors name) (is_in source space.Predicates name) (is_in source space.Stages name) (is_in source space.Contexts name) (is_in source space.Rules name) h).4
-nowhere source space.Rules name h = (none_of_six (is_in source space.Sorts name) (is_in source space.Constructors name) (is_in source space.Predicates name) (is_in source space.Stages name) (is_in source space.Contexts name) (is_in source space.Rules name) h).5
-
-lack_in : (source : Source) (used : Use) (fault : Fault) (has anywhere : Bool) → is_in source used.space (said source used.name) ≡ has → is_somewhere source (said source used.name) ≡ anywhere
-    → In (lack_faults has anywhere used.name.from) fault → In (use_faults source used) fault
-lack_in source used fault has anywhere h a m =
-    in_left (lack_faults (is_in source used.space (said source used.name)) (is_somewhere source (said source used.name)) used.name.from) _ fault
-    (in_same _ (lack_faults has anywhere used.name.from) fault (ap (λ (b : Bool). lack_faults b (is_somewhere source (said source used.name)) used.name.from) h ∙ ap (λ (b : Bool). lack_faults has b used.name.from) a) m)
-
-unequal : (a b : ℕ) (v : Bool) → a ≢ b → (a == b) ≡ v → (a == b) ≡ false
-unequal a b true ne e = absurd (ne (eqb-true a b e))
-unequal a b false ne e = e
-
-arity_in : (source : Source) (used : Use) (fault : Fault) (n : ℕ) → arity_of source used.space (said source used.name) ≡ Some n → used.args ≢ n → fault ≡ wrong WrongArity used.name.from
-    → In (use_faults source used) fault
-arity_in source used fault n a ne is =
-    in_right (lack_faults (is_in source used.space (said source used.name)) (is_somewhere source (said source used.name)) used.name.from) _ fault
-    (in_same (arity_faults (arity_of source used.space (said source used.name)) used.args used.name.from) (wrong WrongArity used.name.from ∷ []) fault
-    (ap (λ (o : Option ℕ). arity_faults o used.args used.name.from) a
-    ∙ ap (λ (b : Bool). let found : List Fault = if b then [] else wrong WrongArity used.name.from ∷ [] in found) (unequal used.args n (used.args == n) ne refl))
-    (is_one _ fault is))
-
--- the role of an atom
-state_cases : (r : Role) → IsOfState r → (r ≡ role.Listed) ⊎ (r ≡ role.Start)
-state_cases r listed = inl refl
-state_cases r start = inr refl
-
-comes_cases : (r : Role) → ComesToState r → (r ≡ role.Made) ⊎ IsOfState r
-comes_cases r made = inl refl
-comes_cases r (ComesToState.state s h) = inr h
-
-role_part : (source : Source) (p : Placed) (fault : Fault) → In (role_faults source p.role p.atom.name p.atom.nodes) fault → In (placed_faults source p) fault
-role_part source p fault h = in_right (pred_faults source p.role p.atom.name p.atom.args) _ fault (in_right (flat_map (node_faults source) p.atom.nodes) _ fault h)
-
-role_is : (source : Source) (p : Placed) (fault : Fault) (r : Role) → p.role ≡ r → In (role_faults source r p.atom.name p.atom.nodes) fault → In (placed_faults source p) fault
-role_is source p fault r e h = role_part source p fault (in_same _ (role_faults source r p.atom.name p.atom.nodes) fault (ap (λ (q : Role). role_faults source q p.atom.name p.atom.nodes) e) h)
-
-state_part : (source : Source) (p : Placed) (fault : Fault) → IsOfState p.role → In (state_faults source p.atom.name p.atom.nodes) fault → In (placed_faults source p) fault
-state_part source p fault s h = ⊎_elim (λ e. role_is source p fault role.Listed e h) (λ e. role_is source p fault role.Start e h) (state_cases p.role s)
-
-open_in : (node : RawNode) (fault : Fault) → IsOpen node → fault ≡ wrong VarInContext node.at.from → In (open_faults node) fault
-open_in node fault (variable span args) is = is_one _ fault is
-open_in node fault (blank span args) is = is_one _ fault is
-
-back_in : (source : Source) (p : Placed) (fault : Fault) → kind_of source p.atom ≡ Some Back → fault ≡ wrong BwdInState p.atom.name.from → In (back_faults (kind_of source p.atom) p.atom.name.from) fault
-back_in source p fault b is = in_same _ (wrong BwdInState p.atom.name.from ∷ []) fault (ap (λ (o : Option PredKind). back_faults o p.atom.name.from) b) (is_one _ fault is)
-
-no_kind : {A : Type 0} → false ≡ true → A
-no_kind e = cc
-
-linear_by : (kind : Option PredKind) (at : ℕ) (fault : Fault) → is_declared false kind ≡ true → fault ≡ wrong LinearInClause at → In (linear_faults kind at) fault
-linear_by None at fault d is = no_kind d
-linear_by (Some Linear) at fault d is = is_one _ fault is
-linear_by (Some Fact) at fault d is = is_one _ fault is
-linear_by (Some Back) at fault d is = no_kind d
-
-linear_in : (source : Source) (p : Placed) (fault : Fault) → is_declared false (kind_of source p.atom) ≡ true → fault ≡ wrong LinearInClause p.atom.name.from → In (linear_faults (kind_of source p.atom) p.atom.name.from) fault
-linear_in source p fault d is = linear_by (kind_of source p.atom) p.atom.name.from fault d is
-
--- rules at quiescence
-both_parts : (a b : Bool) → (a && b) ≡ true → (a ≡ true) × (b ≡ true)
-both_parts true b e = (refl, e)
-both_parts false b e = absurd cc
-
-is_qui_by : (rule : RawRule) → is_qui_rule rule ≡ true → IsQuiRule rule
-is_qui_by rule e =
-    let one = both_parts (count_by is_qui rule.left == 1) ((count_by is_stage rule.left == 1) && (count_by is_stage rule.right == 1)) e in
-    let two = both_parts (count_by is_stage rule.left == 1) (count_by is_stage rule.right == 1) one.1 in
-    record { qui = eqb-true (count_by is_qui rule.left) 1 one.0; from = eqb-true (count_by is_stage rule.left) 1 two.0; to = eqb-true (count_by is_stage rule.right) 1 two.1 }
+when : (b : Bool) (w fault : Fault) → b ≡ true → fault ≡ w → In (let found : List Fault = if b then w ∷ [] else [] in found) fault
+when true w fault e is = is_one w fault is
+when false w fault e is = absurd cc
 
 refuted : {P : Type 0} (b v : Bool) → (b ≡ true → P) → ¬ P → b ≡ v → b ≡ false
 refuted b true h n e = absurd (n (h e))
 refuted b false h n e = e
+
+both_parts : (a b : Bool) → (a && b) ≡ true → (a ≡ true) × (b ≡ true)
+both_parts true b e = (refl, e)
+both_parts false b e = absurd cc
 
 or_left : (a b : Bool) → a ≡ true → (a || b) ≡ true
 or_left true b e = refl
@@ -255,169 +64,380 @@ or_right : (a b : Bool) → b ≡ true → (a || b) ≡ true
 or_right true b e = refl
 or_right false b e = e
 
+unequal : (a b : ℕ) → a ≢ b → (a == b) ≡ false
+unequal a b ne = refuted (a == b) (a == b) (eqb-true a b) ne refl
+
+is_qui_by : (rule : RawRule) → is_qui_rule rule ≡ true → IsQuiRule rule
+is_qui_by rule e =
+    let one = both_parts (count_by is_qui rule.left == 1) ((count_by is_stage rule.left == 1) && (count_by is_stage rule.right == 1)) e in
+    let two = both_parts (count_by is_stage rule.left == 1) (count_by is_stage rule.right == 1) one.1 in
+    record {
+      qui = eqb-true (count_by is_qui rule.left) 1 one.0;
+      from = sym (stage_count rule.left) ∙ eqb-true (count_by is_stage rule.left) 1 two.0;
+      to = sym (stage_count rule.right) ∙ eqb-true (count_by is_stage rule.right) 1 two.1;
+    }
+
 is_fit_by : (atom : RawAtom) → is_fit atom ≡ true → IsFitWritten atom
 is_fit_by atom e =
     let both = both_parts (nat_le (nodes_written atom) MOST_NODES) (nat_le (depth_written atom) MOST_DEPTH) e in
     record { nodes = leb-true (nodes_written atom) MOST_NODES both.0; depth = leb-true (depth_written atom) MOST_DEPTH both.1 }
 
--- atoms of rules and of clauses are none of states
-not_needed : (r : Role) → r ≡ role.Needed → IsOfState r → ⊥
-not_needed r e s = ⊎_elim (λ h. let both : role.Needed ≡ role.Listed = sym e ∙ h in cc) (λ h. let both : role.Needed ≡ role.Start = sym e ∙ h in cc) (state_cases r s)
-
-not_made : (r : Role) → r ≡ role.Made → IsOfState r → ⊥
-not_made r e s = ⊎_elim (λ h. let both : role.Made ≡ role.Listed = sym e ∙ h in cc) (λ h. let both : role.Made ≡ role.Start = sym e ∙ h in cc) (state_cases r s)
-
-not_clause : (r : Role) → r ≡ role.Clause → IsOfState r → ⊥
-not_clause r e s = ⊎_elim (λ h. let both : role.Clause ≡ role.Listed = sym e ∙ h in cc) (λ h. let both : role.Clause ≡ role.Start = sym e ∙ h in cc) (state_cases r s)
-
-rule_not : (rule : RawRule) (p : Placed) → In (rule_atoms rule) p → IsOfState p.role → ⊥
-rule_not rule p h s =
-    ⊎_elim (λ k. let i = image (placed role.Needed) (atoms_of rule.left) p k in not_needed p.role (ap (λ (q : Placed). q.role) i.is) s)
-    (λ k. let i = image (placed role.Made) (atoms_of rule.right) p k in not_made p.role (ap (λ (q : Placed). q.role) i.is) s)
-    (in_parts (map (placed role.Needed) (atoms_of rule.left)) _ p h)
-
-clause_not : (clause : ClauseItem) (p : Placed) → In (clause_atoms clause) p → IsOfState p.role → ⊥
-clause_not clause p h s = let i = image (placed role.Clause) (clause.head ∷ clause.goals) p h in not_clause p.role (ap (λ (q : Placed). q.role) i.is) s
-
--- an atom of a state that is not fit
-unfit_all : (source : Source) (p : Placed) (fault : Fault) → In (placed_of source) p → IsOfState p.role → In (unfit_faults p.atom) fault → In (all_faults source) fault
-unfit_all source p fault at s h =
-    ⊎_elim
-    (λ k. let t = through (λ (rule : RuleItem). rule_atoms rule.raw) (rules_of source) p k in absurd (rule_not t.from.raw p t.given s))
-    (λ r. ⊎_elim
-    (λ k. let t = through clause_atoms (clauses_of source) p k in absurd (clause_not t.from p t.given s))
-    (λ r. ⊎_elim
-    (λ k. let t = through context_atoms (contexts_of source) p k in
-    let i = image (placed role.Listed) t.from.atoms p t.given in
-    of_context source fault t.from t.member (in_right (flat_map (placed_faults source) (context_atoms t.from)) _ fault (unfit_among t.from.atoms i.from i.member (ap (λ (q : Placed). q.atom) i.is))))
-    (λ k. let t = through trace_atoms (traces_of source) p k in
-    let i = image (placed role.Start) (start_listed t.from.start) p t.given in
-    of_trace source fault t.from t.member (in_right (flat_map (use_faults source) (trace_uses t.from)) _ fault (in_right (flat_map (placed_faults source) (trace_atoms t.from)) _ fault
-    (in_left (flat_map unfit_faults (start_listed t.from.start)) _ fault (unfit_among (start_listed t.from.start) i.from i.member (ap (λ (q : Placed). q.atom) i.is))))))
-    (in_parts (flat_map context_atoms (contexts_of source)) _ p r))
-    (in_parts (flat_map clause_atoms (clauses_of source)) _ p r))
-    (in_parts (flat_map (λ (rule : RuleItem). rule_atoms rule.raw) (rules_of source)) _ p at)
-  where
-    unfit_among : (atoms : List RawAtom) (from : RawAtom) → In atoms from → p.atom ≡ from → In (flat_map unfit_faults atoms) fault
-    unfit_among atoms from member is = via unfit_faults atoms from fault member (in_same (unfit_faults from) (unfit_faults p.atom) fault (ap unfit_faults (sym is)) h)
-
-unless : (b : Bool) (w fault : Fault) → b ≡ false → fault ≡ w → In (let found : List Fault = if b then [] else w ∷ [] in found) fault
-unless b w fault e is = in_same (let found : List Fault = if b then [] else w ∷ [] in found) (w ∷ []) fault (ap (λ (c : Bool). let found : List Fault = if c then [] else w ∷ [] in found) e) (is_one w fault is)
-
-when : (b : Bool) (w fault : Fault) → b ≡ true → fault ≡ w → In (let found : List Fault = if b then w ∷ [] else [] in found) fault
-when b w fault e is = in_same (let found : List Fault = if b then w ∷ [] else [] in found) (w ∷ []) fault (ap (λ (c : Bool). let found : List Fault = if c then w ∷ [] else [] in found) e) (is_one w fault is)
-
-past_in : (o : Option ℕ) (at : ℕ) (fault : Fault) → o ≡ Some at → fault ≡ wrong OverLimit at → In (past o) fault
-past_in o at fault e is = in_same (past o) (wrong OverLimit at ∷ []) fault (ap past e) (is_one _ fault is)
-
 module _ (source : Source) (fault : Fault) where
-  in_counts : In (count_faults source) fault → In (all_faults source) fault
-  in_counts h = in_right (kind_faults source) _ fault (in_left (count_faults source) _ fault h)
+  abbrev Found : Type 0
+  Found = In (all_faults source) fault
 
-  in_traces : In (traces_faults source (traces_of source)) fault → In (all_faults source) fault
-  in_traces h = in_right (kind_faults source) _ fault (in_right (count_faults source) _ fault h)
+  -- the parts of all
+  abbrev a : List Fault
+  a = flat_map (predicate_faults source) (preds_of source)
 
-  traced : (traces : List TraceItem) → traces_of source ≡ traces → In (traces_faults source traces) fault → In (all_faults source) fault
-  traced traces e h = in_traces (in_same _ (traces_faults source traces) fault (ap (traces_faults source) e) h)
+  abbrev b : List Fault
+  b = a ++ flat_map (con_faults source) (cons_of source)
 
-  large_trace : (trace : TraceItem) (rest : List TraceItem) → traces_of source ≡ trace ∷ rest → is_large (written_size (counting source (start_atoms source trace.start))) ≡ true → fault ≡ wrong OverLimit trace.at → In (all_faults source) fault
-  large_trace trace rest e large is =
-      traced (trace ∷ rest) e (in_left (start_faults source trace) _ fault
-      (when (is_large (whole_size source trace.start)) (wrong OverLimit trace.at) fault (ap is_large (whole_same source trace.start) ∙ large_same (written_size (counting source (start_atoms source trace.start))) ∙ large) is))
+  abbrev d : List Fault
+  d = b ++ flat_map (rule_faults source) (rules_of source)
 
-  argument_all : (args : List Span) (name : Span) → In (arguments_of source) args → slice_get args MOST_ARGUMENTS ≡ Some name → fault ≡ wrong OverLimit name.from → In (all_faults source) fault
-  argument_all args name m g is =
-      let found : In (argument_faults args) fault = past_in (slice_get (map (λ (span : Span). span.from) args) MOST_ARGUMENTS) name.from fault (give (λ (span : Span). span.from) args MOST_ARGUMENTS name g) is in
+  abbrev e : List Fault
+  e = d ++ flat_map (clause_faults source) (clauses_of source)
+
+  abbrev f : List Fault
+  f = e ++ flat_map (context_faults source) (contexts_of source)
+
+  abbrev g : List Fault
+  g = f ++ flat_map (use_faults source space.Stages) (interactives_of source)
+
+  abbrev h : List Fault
+  h = g ++ flat_map (trace_faults source) (traces_of source)
+
+  from_h : In h fault → Found
+  from_h m = in_left (h ++ count_faults source) _ fault (in_left h _ fault m)
+
+  from_f : In f fault → Found
+  from_f m = from_h (in_left g _ fault (in_left f _ fault m))
+
+  from_d : In d fault → Found
+  from_d m = from_f (in_left e _ fault (in_left d _ fault m))
+
+  of_pred : (pred : PredItem) → In (preds_of source) pred → In (predicate_faults source pred) fault → Found
+  of_pred pred m k = from_d (in_left b _ fault (in_left a _ fault (via (predicate_faults source) (preds_of source) pred fault m k)))
+
+  of_con : (con : ConItem) → In (cons_of source) con → In (con_faults source con) fault → Found
+  of_con con m k = from_d (in_left b _ fault (in_right a _ fault (via (con_faults source) (cons_of source) con fault m k)))
+
+  of_rule : (rule : RuleItem) → In (rules_of source) rule → In (rule_faults source rule) fault → Found
+  of_rule rule m k = from_d (in_right b _ fault (via (rule_faults source) (rules_of source) rule fault m k))
+
+  of_clause : (clause : ClauseItem) → In (clauses_of source) clause → In (clause_faults source clause) fault → Found
+  of_clause clause m k = from_f (in_left e _ fault (in_right d _ fault (via (clause_faults source) (clauses_of source) clause fault m k)))
+
+  of_context : (context : ContextItem) → In (contexts_of source) context → In (context_faults source context) fault → Found
+  of_context context m k = from_f (in_right e _ fault (via (context_faults source) (contexts_of source) context fault m k))
+
+  of_interactive : (name : Span) → In (interactives_of source) name → In (use_faults source space.Stages name) fault → Found
+  of_interactive name m k = from_h (in_left g _ fault (in_right f _ fault (via (use_faults source space.Stages) (interactives_of source) name fault m k)))
+
+  of_trace : (trace : TraceItem) → In (traces_of source) trace → In (trace_faults source trace) fault → Found
+  of_trace trace m k = from_h (in_right g _ fault (via (trace_faults source) (traces_of source) trace fault m k))
+
+  of_counts : In (count_faults source) fault → Found
+  of_counts m = in_left (h ++ count_faults source) _ fault (in_right h _ fault m)
+
+  of_traces : (traces : List TraceItem) → traces_of source ≡ traces → In (traces_faults source traces) fault → Found
+  of_traces traces is m = in_right (h ++ count_faults source) _ fault (in_same _ (traces_faults source traces) fault (ap (traces_faults source) is) m)
+
+  -- the parts of a rule
+  module _ (rule : RuleItem) (m : In (rules_of source) rule) where
+    abbrev ra : List Fault
+    ra = flat_map (elem_faults source false) rule.raw.left
+
+    abbrev rb : List Fault
+    rb = ra ++ flat_map (elem_faults source true) rule.raw.right
+
+    abbrev rd : List Fault
+    rd = rb ++ premise_faults source false rule.raw.left MOST_PREMISES
+
+    abbrev re : List Fault
+    re = rd ++ premise_faults source true rule.raw.left MOST_BACKS
+
+    abbrev rf : List Fault
+    rf = re ++ right_faults rule.raw.right
+
+    abbrev rg : List Fault
+    rg = rf ++ variable_faults source (atoms_of rule.raw.left)
+
+    from_rd : In rd fault → Found
+    from_rd k = of_rule rule m (in_left rg _ fault (in_left rf _ fault (in_left re _ fault (in_left rd _ fault k))))
+
+    from_left : (elem_ : RawElem) → In rule.raw.left elem_ → In (elem_faults source false elem_) fault → Found
+    from_left elem_ at k = from_rd (in_left rb _ fault (in_left ra _ fault (via (elem_faults source false) rule.raw.left elem_ fault at k)))
+
+    from_right : (elem_ : RawElem) → In rule.raw.right elem_ → In (elem_faults source true elem_) fault → Found
+    from_right elem_ at k = from_rd (in_left rb _ fault (in_right ra _ fault (via (elem_faults source true) rule.raw.right elem_ fault at k)))
+
+    from_premises : In (premise_faults source false rule.raw.left MOST_PREMISES) fault → Found
+    from_premises k = from_rd (in_right rb _ fault k)
+
+    from_backs : In (premise_faults source true rule.raw.left MOST_BACKS) fault → Found
+    from_backs k = of_rule rule m (in_left rg _ fault (in_left rf _ fault (in_left re _ fault (in_right rd _ fault k))))
+
+    from_rights : In (right_faults rule.raw.right) fault → Found
+    from_rights k = of_rule rule m (in_left rg _ fault (in_left rf _ fault (in_right re _ fault k)))
+
+    from_variables : In (variable_faults source (atoms_of rule.raw.left)) fault → Found
+    from_variables k = of_rule rule m (in_left rg _ fault (in_right rf _ fault k))
+
+    from_home : In (home_faults rule) fault → Found
+    from_home k = of_rule rule m (in_right rg _ fault k)
+
+  -- an atom of a side
+  side_atom_in : (made : Bool) (elem_ : RawElem) (atom : RawAtom) → In (atoms_in elem_) atom → In (side_atom_faults source made atom) fault → In (elem_faults source made elem_) fault
+  side_atom_in made (elem.Atom kept other) atom at k = in_same (side_atom_faults source made other) (side_atom_faults source made atom) fault (ap (side_atom_faults source made) (sym (in_one other atom at))) k
+  side_atom_in made (elem.Stage name) atom at k = absurd (in_nil atom at)
+  side_atom_in made (elem.Qui span) atom at k = absurd (in_nil atom at)
+
+  of_needed : (atom : RawAtom) → In (needed_atoms source) atom → In (names_faults source false atom) fault → Found
+  of_needed atom at k =
+      let rule = through (λ (rule : RuleItem). atoms_of rule.raw.left) (rules_of source) atom at in
+      let elem_ = through atoms_in rule.from.raw.left atom rule.given in
+      from_left rule.from rule.member elem_.from elem_.member (side_atom_in false elem_.from atom elem_.given (in_left (names_faults source false atom) _ fault k))
+
+  of_made : (atom : RawAtom) → In (made_atoms source) atom → In (side_atom_faults source true atom) fault → Found
+  of_made atom at k =
+      let rule = through (λ (rule : RuleItem). atoms_of rule.raw.right) (rules_of source) atom at in
+      let elem_ = through atoms_in rule.from.raw.right atom rule.given in
+      from_right rule.from rule.member elem_.from elem_.member (side_atom_in true elem_.from atom elem_.given k)
+
+  -- an atom of a clause
+  abbrev atoms_part : ClauseItem → List Fault
+  atoms_part clause = clause_atom_faults source clause.head ++ flat_map (clause_atom_faults source) clause.goals
+
+  abbrev goals_part : ClauseItem → List Fault
+  goals_part clause = atoms_part clause ++ past_most (λ goal. goal.name.from) clause.goals MOST_GOALS
+
+  of_clause_atom : (atom : RawAtom) → In (clause_atoms source) atom → In (clause_atom_faults source atom) fault → Found
+  of_clause_atom atom at k =
+      let clause = through (λ (clause : ClauseItem). clause.head ∷ clause.goals) (clauses_of source) atom at in
+      of_clause clause.from clause.member (in_left (goals_part clause.from) _ fault (in_left (atoms_part clause.from) _ fault
+      (via (clause_atom_faults source) (clause.from.head ∷ clause.from.goals) atom fault clause.given k)))
+
+  -- an atom of a state
+  listed_by : (stands : Bool) (atom : RawAtom) → not stands ≡ true → In (state_faults source atom) fault → In (let found : List Fault = if stands then [] else state_faults source atom in found) fault
+  listed_by true atom e k = absurd cc
+  listed_by false atom e k = k
+
+  begun_in : (start : RawStart) (atom : RawAtom) → In (start_listed start) atom → not (stands_for_context source atom) ≡ true → In (state_faults source atom) fault → In (begin_faults source start) fault
+  begun_in (state.Named name) atom at itself k = absurd (in_nil atom at)
+  begun_in (state.Listed atoms) atom at itself k = via (listed_faults source true) atoms atom fault at (listed_by (stands_for_context source atom) atom itself k)
+
+  from_begin : (trace : TraceItem) → In (traces_of source) trace → In (begin_faults source trace.start) fault → Found
+  from_begin trace m k = of_trace trace m (in_left (use_faults source space.Stages trace.stage ++ begin_faults source trace.start) _ fault (in_right (use_faults source space.Stages trace.stage) _ fault k))
+
+  of_state : (atom : RawAtom) → In (state_atoms source) atom → In (state_faults source atom) fault → Found
+  of_state atom at k =
       ⊎_elim
-      (λ k. let i = image (λ (con : ConItem). con.args) (cons_of source) args k in
-      of_con source fault i.from i.member (in_right (flat_map (use_faults source) (con_uses i.from)) _ fault (in_same (argument_faults i.from.args) (argument_faults args) fault (ap argument_faults (sym i.is)) found)))
-      (λ k. let i = image (λ (pred : PredItem). pred.args) (preds_of source) args k in
-      of_pred source fault i.from i.member (in_right (flat_map (use_faults source) (type_uses i.from)) _ fault (in_same (argument_faults i.from.args) (argument_faults args) fault (ap argument_faults (sym i.is)) found)))
+      (λ c. let context = through (λ (context : ContextItem). context.atoms) (contexts_of source) atom c in
+      of_context context.from context.member (via (listed_faults source false) context.from.atoms atom fault context.given k))
+      (λ t. let trace = through (λ (trace : TraceItem). filter (λ raw. not (stands_for_context source raw)) (start_listed trace.start)) (traces_of source) atom t in
+      let kept = kept_from (λ raw. not (stands_for_context source raw)) (start_listed trace.from.start) atom trace.given in
+      from_begin trace.from trace.member (begun_in trace.from.start atom kept.0 kept.1 k))
+      (in_parts (flat_map (λ (context : ContextItem). context.atoms) (contexts_of source)) _ atom at)
+
+  names_state : (atom : RawAtom) → In (names_faults source true atom) fault → In (state_faults source atom) fault
+  names_state atom k = in_left (names_faults source true atom ++ back_faults source atom) _ fault (in_left (names_faults source true atom) _ fault k)
+
+  back_state : (atom : RawAtom) → In (back_faults source atom) fault → In (state_faults source atom) fault
+  back_state atom k = in_left (names_faults source true atom ++ back_faults source atom) _ fault (in_right (names_faults source true atom) _ fault k)
+
+  -- any atom, by the names that it uses
+  of_atom : (atom : RawAtom) → In (atoms_written source) atom → ((in_state : Bool) → In (names_faults source in_state atom) fault) → Found
+  of_atom atom at k =
+      ⊎_elim (λ n. of_needed atom n (k false))
+      (λ r. ⊎_elim (λ m. of_made atom m (in_left (names_faults source false atom) _ fault (k false)))
+      (λ s. ⊎_elim (λ c. of_clause_atom atom c (in_left (names_faults source false atom) _ fault (k false)))
+      (λ t. of_state atom t (names_state atom (k true)))
+      (in_parts (clause_atoms source) _ atom s))
+      (in_parts (made_atoms source) _ atom r))
+      (in_parts (needed_atoms source) _ atom at)
+
+  of_node : (node : RawNode) → In (raw_nodes (atoms_written source)) node → node.kind ≡ kind.App → ((in_state : Bool) → In (kind_faults source in_state kind.App node) fault) → Found
+  of_node node at app k =
+      let atom = through (λ (atom : RawAtom). atom.nodes) (atoms_written source) node at in
+      of_atom atom.from atom.member (λ in_state. in_right (pred_faults source atom.from) _ fault (via (node_faults source in_state) atom.from.nodes node fault atom.given
+      (in_same (node_faults source in_state node) (kind_faults source in_state kind.App node) fault (ap (λ (its : RawKind). kind_faults source in_state its node) app) (k in_state))))
+
+  -- uses of names
+  applied_is : (its : RawKind) (span name : Span) → In (applied_at its span) name → (its ≡ kind.App) × (name ≡ span)
+  applied_is kind.App span name at = (refl, in_one span name at)
+  applied_is kind.Blank span name at = absurd (in_nil name at)
+  applied_is kind.Var span name at = absurd (in_nil name at)
+
+  use_at : (in_space : Space) (other name : Span) → name ≡ other → In (use_faults source in_space name) fault → In (use_faults source in_space other) fault
+  use_at in_space other name is k = in_same (use_faults source in_space other) (use_faults source in_space name) fault (ap (use_faults source in_space) (sym is)) k
+
+  staged_in : (made : Bool) (elem_ : RawElem) (name : Span) → In (stages_at elem_) name → In (use_faults source space.Stages name) fault → In (elem_faults source made elem_) fault
+  staged_in made (elem.Atom kept atom) name at k = absurd (in_nil name at)
+  staged_in made (elem.Stage other) name at k = use_at space.Stages other name (in_one other name at) k
+  staged_in made (elem.Qui span) name at k = absurd (in_nil name at)
+
+  named_in : (start : RawStart) (name : Span) → In (contexts_at start) name → In (use_faults source space.Contexts name) fault → In (begin_faults source start) fault
+  named_in (state.Named other) name at k = use_at space.Contexts other name (in_one other name at) k
+  named_in (state.Listed atoms) name at k = absurd (in_nil name at)
+
+  of_argument : (args : List Span) (name : Span) → In args name → In (use_faults source space.Sorts name) fault → In (argument_faults source args) fault
+  of_argument args name at k = in_left (flat_map (use_faults source space.Sorts) args) _ fault (via (use_faults source space.Sorts) args name fault at k)
+
+  of_use : (in_space : Space) (name : Span) → In (uses_in source in_space) name → In (use_faults source in_space name) fault → Found
+  of_use space.Sorts name at k =
+      ⊎_elim
+      (λ p. let pred = through (λ (pred : PredItem). pred.args) (preds_of source) name p in of_pred pred.from pred.member (of_argument pred.from.args name pred.given k))
+      (λ c. let con = through (λ (con : ConItem). con.args ++ con.sort ∷ []) (cons_of source) name c in
+      of_con con.from con.member (⊎_elim
+      (λ r. in_left (argument_faults source con.from.args) _ fault (of_argument con.from.args name r k))
+      (λ s. in_right (argument_faults source con.from.args) _ fault (use_at space.Sorts con.from.sort name (in_one con.from.sort name s) k))
+      (in_parts con.from.args _ name con.given)))
+      (in_parts (flat_map (λ (pred : PredItem). pred.args) (preds_of source)) _ name at)
+  of_use space.Constructors name at k =
+      let node = through (λ (node : RawNode). applied_at node.kind node.at) (raw_nodes (atoms_written source)) name at in
+      let its = applied_is node.from.kind node.from.at name node.given in
+      of_node node.from node.member its.0 (λ in_state. in_left (use_faults source space.Constructors node.from.at) _ fault (use_at space.Constructors node.from.at name its.1 k))
+  of_use space.Predicates name at k =
+      let atom = image (λ (atom : RawAtom). atom.name) (atoms_written source) name at in
+      of_atom atom.from atom.member (λ in_state. in_left (pred_faults source atom.from) _ fault (in_left (use_faults source space.Predicates atom.from.name) _ fault (use_at space.Predicates atom.from.name name atom.is k)))
+  of_use space.Stages name at k =
+      ⊎_elim
+      (λ r. let rule = through (λ (rule : RuleItem). stages_named rule.raw.left ++ stages_named rule.raw.right) (rules_of source) name r in
+      ⊎_elim
+      (λ l. let elem_ = through stages_at rule.from.raw.left name l in from_left rule.from rule.member elem_.from elem_.member (staged_in false elem_.from name elem_.given k))
+      (λ t. let elem_ = through stages_at rule.from.raw.right name t in from_right rule.from rule.member elem_.from elem_.member (staged_in true elem_.from name elem_.given k))
+      (in_parts (stages_named rule.from.raw.left) _ name rule.given))
+      (λ r. ⊎_elim (λ i. of_interactive name i k)
+      (λ t. let trace = image (λ (trace : TraceItem). trace.stage) (traces_of source) name t in
+      of_trace trace.from trace.member (in_left (use_faults source space.Stages trace.from.stage ++ begin_faults source trace.from.start) _ fault
+      (in_left (use_faults source space.Stages trace.from.stage) _ fault (use_at space.Stages trace.from.stage name trace.is k))))
+      (in_parts (interactives_of source) _ name r))
+      (in_parts (flat_map (λ (rule : RuleItem). stages_named rule.raw.left ++ stages_named rule.raw.right) (rules_of source)) _ name at)
+  of_use space.Contexts name at k =
+      let trace = through (λ (trace : TraceItem). contexts_at trace.start) (traces_of source) name at in from_begin trace.from trace.member (named_in trace.from.start name trace.given k)
+  of_use space.Rules name at k = absurd (in_nil name at)
+
+  lack_in : (in_space : Space) (name : Span) (has anywhere : Bool) → is_in source in_space (said source name) ≡ has → is_somewhere source (said source name) ≡ anywhere
+      → In (lack_faults has anywhere name.from) fault → In (use_faults source in_space name) fault
+  lack_in in_space name has anywhere is there m =
+      in_same _ (lack_faults has anywhere name.from) fault (ap (λ (v : Bool). lack_faults v (is_somewhere source (said source name)) name.from) is ∙ ap (λ (v : Bool). lack_faults has v name.from) there) m
+
+  -- numbers of arguments
+  arity_in : (known : Option ℕ) (n args at : ℕ) → known ≡ Some n → args ≢ n → fault ≡ wrong WrongArity at → In (arity_faults known args at) fault
+  arity_in known n args at is ne e_ = in_same (arity_faults known args at) (arity_faults (Some n) args at) fault (ap (λ (o : Option ℕ). arity_faults o args at) is) (unless (args == n) (wrong WrongArity at) fault (unequal args n ne) e_)
+
+  -- variables and kinds
+  open_in : (node : RawNode) (its : RawKind) → its ≢ kind.App → fault ≡ wrong VarInContext node.at.from → In (kind_faults source true its node) fault
+  open_in node kind.App apart is = absurd (apart refl)
+  open_in node kind.Blank apart is = is_one _ fault is
+  open_in node kind.Var apart is = is_one _ fault is
+
+  back_in : (atom : RawAtom) → kind_of source atom ≡ Some Back → fault ≡ wrong BwdInState atom.name.from → In (back_faults source atom) fault
+  back_in atom is e_ = in_same (back_faults source atom) (back_by (Some Back) atom.name.from) fault (ap (λ (o : Option PredKind). back_by o atom.name.from) is) (is_one _ fault e_)
+
+  linear_one : (its : PredKind) (at : ℕ) → is_backward its ≡ false → fault ≡ wrong LinearInClause at → In (linear_by (Some its) at) fault
+  linear_one Linear at n is = is_one _ fault is
+  linear_one Fact at n is = is_one _ fault is
+  linear_one Back at n is = absurd cc
+
+  -- limits
+  past_in : {X : Type 0} (place : X → ℕ) (xs : List X) (most : ℕ) (x : X) (at : ℕ) → slice_get xs most ≡ Some x → at ≡ place x → fault ≡ wrong OverLimit at → In (past_most place xs most) fault
+  past_in place xs most x at got is e_ =
+      in_same (past_most place xs most) (wrong OverLimit (place x) ∷ []) fault (ap (λ o. past (option_map place o)) got) (is_one _ fault (e_ ∙ ap (wrong OverLimit) is))
+
+  many_arguments : (args : List Span) (name : Span) (at : ℕ) → slice_get args MOST_ARGUMENTS ≡ Some name → at ≡ name.from → fault ≡ wrong OverLimit at → In (argument_faults source args) fault
+  many_arguments args name at got is e_ = in_right (flat_map (use_faults source space.Sorts) args) _ fault (past_in (λ (arg : Span). arg.from) args MOST_ARGUMENTS name at got is e_)
+
+  of_arguments : (args : List Span) → In (arguments_of source) args → In (argument_faults source args) fault → Found
+  of_arguments args m k =
+      ⊎_elim
+      (λ c. let con = image (λ (con : ConItem). con.args) (cons_of source) args c in
+      of_con con.from con.member (in_left (argument_faults source con.from.args) _ fault (in_same (argument_faults source con.from.args) (argument_faults source args) fault (ap (argument_faults source) (sym con.is)) k)))
+      (λ p. let pred = image (λ (pred : PredItem). pred.args) (preds_of source) args p in
+      of_pred pred.from pred.member (in_same (argument_faults source pred.from.args) (argument_faults source args) fault (ap (argument_faults source) (sym pred.is)) k))
       (in_parts (map (λ (con : ConItem). con.args) (cons_of source)) _ args m)
 
-  sized_all : (rule : RuleItem) → In (rules_of source) rule → In (size_faults source rule.raw) fault → In (all_faults source) fault
-  sized_all rule m h = of_rule source fault rule m (rule_rest source rule fault (in_left (size_faults source rule.raw) _ fault h))
+  large : (trace : TraceItem) (rest : List TraceItem) (at : ℕ) → traces_of source ≡ trace ∷ rest
+      → (nat_lt MOST_COPIES (length (counting source (start_atoms source trace.start))) || nat_lt MOST_STATE_NODES (sum_by nodes_written (counting source (start_atoms source trace.start)))) ≡ true
+      → at ≡ trace.at → fault ≡ wrong OverLimit at → Found
+  large trace rest at is more_ here_ e_ =
+      of_traces (trace ∷ rest) is (in_left (start_faults source trace) _ fault
+      (when (nat_lt MOST_COPIES (length (counting source (start_atoms source trace.start))) || nat_lt MOST_STATE_NODES (sum_by nodes_written (counting source (start_atoms source trace.start)))) (wrong OverLimit trace.at) fault more_
+      (e_ ∙ ap (wrong OverLimit) here_)))
 
-  premise_all : (rule : RuleItem) (atom : RawAtom) → In (rules_of source) rule → slice_get (state_premises_of source rule.raw) MOST_PREMISES ≡ Some atom → fault ≡ wrong OverLimit atom.name.from → In (all_faults source) fault
-  premise_all rule atom m g is =
-      sized_all rule m (in_left (past (slice_get (flat_map (premise_places source false) rule.raw.left) MOST_PREMISES)) _ fault
-      (past_in _ atom.name.from fault (ap (λ (ys : List ℕ). slice_get ys MOST_PREMISES) (premise_list source false rule.raw.left) ∙ give atom_at (state_premises_of source rule.raw) MOST_PREMISES atom g) is))
+  -- the counts
+  abbrev cp : List Fault
+  cp = past_most (λ pred. pred.name.from) (preds_of source) MOST_PREDS
 
-  backs_all : (rule : RuleItem) (atom : RawAtom) → In (rules_of source) rule → slice_get (backward_of source rule.raw) MOST_BACKS ≡ Some atom → fault ≡ wrong OverLimit atom.name.from → In (all_faults source) fault
-  backs_all rule atom m g is =
-      sized_all rule m (in_right (past (slice_get (flat_map (premise_places source false) rule.raw.left) MOST_PREMISES)) _ fault
-      (in_left (past (slice_get (flat_map (premise_places source true) rule.raw.left) MOST_BACKS)) _ fault
-      (past_in _ atom.name.from fault (ap (λ (ys : List ℕ). slice_get ys MOST_BACKS) (premise_list source true rule.raw.left) ∙ give atom_at (backward_of source rule.raw) MOST_BACKS atom g) is)))
+  abbrev cc_ : List Fault
+  cc_ = cp ++ past_most (λ con. con.name.from) (cons_of source) MOST_CONS
 
-  rights_all : (rule : RuleItem) (atom : RawAtom) → In (rules_of source) rule → slice_get (atoms_of rule.raw.right) MOST_RIGHT ≡ Some atom → fault ≡ wrong OverLimit atom.name.from → In (all_faults source) fault
-  rights_all rule atom m g is =
-      sized_all rule m (in_right (past (slice_get (flat_map (premise_places source false) rule.raw.left) MOST_PREMISES)) _ fault
-      (in_right (past (slice_get (flat_map (premise_places source true) rule.raw.left) MOST_BACKS)) _ fault
-      (past_in _ atom.name.from fault (ap (λ (ys : List ℕ). slice_get ys MOST_RIGHT) (atom_list rule.raw.right) ∙ give atom_at (atoms_of rule.raw.right) MOST_RIGHT atom g) is)))
+  abbrev cr : List Fault
+  cr = cc_ ++ past_most (λ rule. rule.raw.at) (rules_of source) MOST_RULES
 
-  over_all : (at : ℕ) → IsOver source at → fault ≡ wrong OverLimit at → In (all_faults source) fault
-  over_all at (IsOver.argument args name m g e) is = argument_all args name (from_contains (arguments_of source) args m) g (is ∙ ap (wrong OverLimit) e)
-  over_all at (IsOver.premise rule atom m g e) is = premise_all rule atom (from_contains (rules_of source) rule m) g (is ∙ ap (wrong OverLimit) e)
-  over_all at (IsOver.back rule atom m g e) is = backs_all rule atom (from_contains (rules_of source) rule m) g (is ∙ ap (wrong OverLimit) e)
-  over_all at (IsOver.right rule atom m g e) is = rights_all rule atom (from_contains (rules_of source) rule m) g (is ∙ ap (wrong OverLimit) e)
-  over_all at (IsOver.goal clause atom m g e) is =
-      of_clause source fault clause (from_contains (clauses_of source) clause m) (in_right (flat_map (placed_faults source) (clause_atoms clause)) _ fault
-      (in_left (past (slice_get (places clause.goals) MOST_GOALS)) _ fault (past_in (slice_get (places clause.goals) MOST_GOALS) atom.name.from fault (give atom_at clause.goals MOST_GOALS atom g) (is ∙ ap (wrong OverLimit) e))))
-  over_all at (IsOver.rule_variable rule occurrence m g e) is =
-      of_rule source fault rule (from_contains (rules_of source) rule m) (rule_rest source rule fault (in_right (size_faults source rule.raw) _ fault (in_right (home_faults rule.home rule.raw) _ fault
-      (past_in (slice_get (new_in source.text unseen (raw_nodes (atoms_of rule.raw.left))) MOST_VARIABLES) occurrence.at.from fault
-      (variable_list source (atoms_of rule.raw.left) ∙ give occurrence_from (variables_of source (atoms_of rule.raw.left)) MOST_VARIABLES occurrence g) (is ∙ ap (wrong OverLimit) e)))))
-  over_all at (IsOver.clause_variable clause occurrence m g e) is =
-      of_clause source fault clause (from_contains (clauses_of source) clause m) (in_right (flat_map (placed_faults source) (clause_atoms clause)) _ fault (in_right (past (slice_get (places clause.goals) MOST_GOALS)) _ fault
-      (past_in (slice_get (new_in source.text unseen (raw_nodes (clause.head ∷ clause.goals))) MOST_VARIABLES) occurrence.at.from fault
-      (variable_list source (clause.head ∷ clause.goals) ∙ give occurrence_from (variables_of source (clause.head ∷ clause.goals)) MOST_VARIABLES occurrence g) (is ∙ ap (wrong OverLimit) e))))
-  over_all at (IsOver.predicate pred g e) is =
-      in_counts (in_left (past (slice_get (map pred_place (preds_of source)) MOST_PREDS)) _ fault
-      (past_in _ pred.name.from fault (give pred_place (preds_of source) MOST_PREDS pred g) (is ∙ ap (wrong OverLimit) e)))
-  over_all at (IsOver.constructor con g e) is =
-      in_counts (in_right (past (slice_get (map pred_place (preds_of source)) MOST_PREDS)) _ fault (in_left (past (slice_get (map con_place (cons_of source)) MOST_CONS)) _ fault
-      (past_in _ con.name.from fault (give con_place (cons_of source) MOST_CONS con g) (is ∙ ap (wrong OverLimit) e))))
-  over_all at (IsOver.rule rule g e) is =
-      in_counts (in_right (past (slice_get (map pred_place (preds_of source)) MOST_PREDS)) _ fault (in_right (past (slice_get (map con_place (cons_of source)) MOST_CONS)) _ fault
-      (in_left (past (slice_get (map rule_place (rules_of source)) MOST_RULES)) _ fault
-      (past_in _ rule.raw.at fault (give rule_place (rules_of source) MOST_RULES rule g) (is ∙ ap (wrong OverLimit) e)))))
-  over_all at (IsOver.clause clause g e) is =
-      in_counts (in_right (past (slice_get (map pred_place (preds_of source)) MOST_PREDS)) _ fault (in_right (past (slice_get (map con_place (cons_of source)) MOST_CONS)) _ fault
-      (in_right (past (slice_get (map rule_place (rules_of source)) MOST_RULES)) _ fault
-      (past_in _ clause.head.name.from fault (give head_at (clauses_of source) MOST_CLAUSES clause g) (is ∙ ap (wrong OverLimit) e)))))
-  over_all at (IsOver.unfit p m s n e) is =
-      unfit_all source p fault (from_contains (placed_of source) p m) s
-      (unless (is_fit p.atom) (wrong OverLimit p.atom.name.from) fault (refuted (is_fit p.atom) (is_fit p.atom) (is_fit_by p.atom) n refl) (is ∙ ap (wrong OverLimit) e))
-  over_all at (IsOver.copies trace rest traces more e) is =
-      large_trace trace rest traces (or_left (nat_lt MOST_COPIES (length (counting source (start_atoms source trace.start)))) (nat_lt MOST_STATE_NODES (sum_by nodes_written (counting source (start_atoms source trace.start)))) (lt-ltb MOST_COPIES (length (counting source (start_atoms source trace.start))) more)) (is ∙ ap (wrong OverLimit) e)
-  over_all at (IsOver.nodes trace rest traces more e) is =
-      large_trace trace rest traces (or_right (nat_lt MOST_COPIES (length (counting source (start_atoms source trace.start)))) (nat_lt MOST_STATE_NODES (sum_by nodes_written (counting source (start_atoms source trace.start)))) (lt-ltb MOST_STATE_NODES (sum_by nodes_written (counting source (start_atoms source trace.start))) more)) (is ∙ ap (wrong OverLimit) e)
-  over_all at (IsOver.turns trace number m l n e) is =
-      of_trace source fault trace (from_contains (traces_of source) trace m) (in_right (flat_map (use_faults source) (trace_uses trace)) _ fault (in_right (flat_map (placed_faults source) (trace_atoms trace)) _ fault
-      (in_right (flat_map unfit_faults (start_listed trace.start)) _ fault (in_same (turns_faults source.text trace.limit) (turns_faults source.text (Some number)) fault (ap (turns_faults source.text) l)
-      (unless (is_some (turns_said source.text number)) (wrong OverLimit number.from) fault (ap is_some n) (is ∙ ap (wrong OverLimit) e))))))
+  over_all : (at : ℕ) → IsOver source at → fault ≡ wrong OverLimit at → Found
+  over_all at (IsOver.argument args name m got is) e_ = of_arguments args (from_contains (arguments_of source) args m) (many_arguments args name at got is e_)
+  over_all at (IsOver.premise rule atom m got is) e_ =
+      from_premises rule (from_contains (rules_of source) rule m) (past_in (λ (other : RawAtom). other.name.from) (state_premises_of source rule.raw) MOST_PREMISES atom at got is e_)
+  over_all at (IsOver.back rule atom m got is) e_ =
+      from_backs rule (from_contains (rules_of source) rule m) (past_in (λ (other : RawAtom). other.name.from) (backward_of source rule.raw) MOST_BACKS atom at got is e_)
+  over_all at (IsOver.right rule atom m got is) e_ =
+      from_rights rule (from_contains (rules_of source) rule m) (past_in (λ (other : RawAtom). other.name.from) (atoms_of rule.raw.right) MOST_RIGHT atom at got is e_)
+  over_all at (IsOver.goal clause atom m got is) e_ =
+      of_clause clause (from_contains (clauses_of source) clause m) (in_left (goals_part clause) _ fault (in_right (atoms_part clause) _ fault
+      (past_in (λ (other : RawAtom). other.name.from) clause.goals MOST_GOALS atom at got is e_)))
+  over_all at (IsOver.rule_variable rule occurrence m got is) e_ =
+      from_variables rule (from_contains (rules_of source) rule m) (past_in (λ (other : Occurrence). other.at.from) (variables_of source (atoms_of rule.raw.left)) MOST_VARIABLES occurrence at got is e_)
+  over_all at (IsOver.clause_variable clause occurrence m got is) e_ =
+      of_clause clause (from_contains (clauses_of source) clause m) (in_right (goals_part clause) _ fault
+      (past_in (λ (other : Occurrence). other.at.from) (variables_of source (clause.head ∷ clause.goals)) MOST_VARIABLES occurrence at got is e_))
+  over_all at (IsOver.predicate pred got is) e_ = of_counts (in_left cr _ fault (in_left cc_ _ fault (in_left cp _ fault (past_in (λ (other : PredItem). other.name.from) (preds_of source) MOST_PREDS pred at got is e_))))
+  over_all at (IsOver.constructor con got is) e_ = of_counts (in_left cr _ fault (in_left cc_ _ fault (in_right cp _ fault (past_in (λ (other : ConItem). other.name.from) (cons_of source) MOST_CONS con at got is e_))))
+  over_all at (IsOver.rule rule got is) e_ = of_counts (in_left cr _ fault (in_right cc_ _ fault (past_in (λ (other : RuleItem). other.raw.at) (rules_of source) MOST_RULES rule at got is e_)))
+  over_all at (IsOver.clause clause got is) e_ = of_counts (in_right cr _ fault (past_in (λ (other : ClauseItem). other.head.name.from) (clauses_of source) MOST_CLAUSES clause at got is e_))
+  over_all at (IsOver.unfit atom m n is) e_ =
+      of_state atom (from_contains (state_atoms source) atom m) (in_right (names_faults source true atom ++ back_faults source atom) _ fault
+      (unless (is_fit atom) (wrong OverLimit atom.name.from) fault (refuted (is_fit atom) (is_fit atom) (is_fit_by atom) n refl) (e_ ∙ ap (wrong OverLimit) is)))
+  over_all at (IsOver.copies trace rest traces more_ is) e_ =
+      large trace rest at traces (or_left (nat_lt MOST_COPIES (length (counting source (start_atoms source trace.start)))) _ (lt-ltb MOST_COPIES (length (counting source (start_atoms source trace.start))) more_)) is e_
+  over_all at (IsOver.nodes trace rest traces more_ is) e_ =
+      large trace rest at traces (or_right (nat_lt MOST_COPIES (length (counting source (start_atoms source trace.start)))) _ (lt-ltb MOST_STATE_NODES (sum_by nodes_written (counting source (start_atoms source trace.start))) more_)) is e_
+  over_all at (IsOver.turns trace number m limit n is) e_ =
+      of_trace trace (from_contains (traces_of source) trace m) (in_right (use_faults source space.Stages trace.stage ++ begin_faults source trace.start) _ fault
+      (in_same (turns_faults source.text trace.limit) (turns_faults source.text (Some number)) fault (ap (turns_faults source.text) limit)
+      (unless (is_some (turns_said source.text number)) (wrong OverLimit number.from) fault (ap is_some n) (e_ ∙ ap (wrong OverLimit) is))))
 
-pub complete : (source : Source) (fault : Fault) → Misnamed source fault → IsTwice source fault ⊎ In (all_faults source) fault
-complete source fault (twice h) = inl h
-complete source fault (unknown used c a is) =
-    inr (use_all source used fault (from_contains (uses_of source) used c) (lack_in source used fault false false (nowhere source used.space (said source used.name) a) a (is_one _ fault is)))
-complete source fault (wrong_kind used c a h is) = inr (use_all source used fault (from_contains (uses_of source) used c) (lack_in source used fault false true h a (is_one _ fault is)))
-complete source fault (wrong_arity used n c a ne is) = inr (use_all source used fault (from_contains (uses_of source) used c) (arity_in source used fault n a ne is))
-complete source fault (variable_in_state p node c s m o is) =
-    inr (placed_all source p fault (from_contains (placed_of source) p c) (state_part source p fault s
-    (in_left (flat_map open_faults p.atom.nodes) _ fault (via open_faults p.atom.nodes node fault (from_contains p.atom.nodes node m) (open_in node fault o is)))))
-complete source fault (backward_in_state p c comes b is) =
-    inr (placed_all source p fault (from_contains (placed_of source) p c)
-    (⊎_elim (λ e. role_is source p fault role.Made e (back_in source p fault b is))
-    (λ s. state_part source p fault s (in_right (flat_map open_faults p.atom.nodes) _ fault (back_in source p fault b is)))
-    (comes_cases p.role comes)))
-complete source fault (linear_in_clause p c r b is) = inr (placed_all source p fault (from_contains (placed_of source) p c) (role_is source p fault role.Clause r (linear_in source p fault b is)))
-complete source fault (bad_qui rule c home n is) =
-    inr (of_rule source fault rule (from_contains (rules_of source) rule c) (rule_rest source rule fault (in_right (size_faults source rule.raw) _ fault (in_left (home_faults rule.home rule.raw) _ fault
-    (in_same (home_faults rule.home rule.raw) (qui_faults rule.raw) fault (ap (λ (o : Option ℕ). home_faults o rule.raw) home)
-    (unless (is_qui_rule rule.raw) (wrong BadQui rule.raw.at) fault (refuted (is_qui_rule rule.raw) (is_qui_rule rule.raw) (is_qui_by rule.raw) n refl) is))))))
-complete source fault (no_trace e is) = inr (traced source fault [] e (is_one _ fault is))
-complete source fault (two_traces first trace rest e c is) =
-    inr (traced source fault (first ∷ rest) e (in_right (start_faults source first) _ fault
-    (in_same_fault (map (λ (other : TraceItem). wrong TwoTraces other.at) rest) (wrong TwoTraces trace.at) fault is (mapped (λ (other : TraceItem). wrong TwoTraces other.at) rest trace (from_contains rest trace c)))))
-complete source fault (over at h is) = inr (over_all source fault at h is)
+  home_in : (rule : RuleItem) → rule.home ≡ None → ¬ IsQuiRule rule.raw → fault ≡ wrong BadQui rule.raw.at → In (home_faults rule) fault
+  home_in rule home n is =
+      unless (is_some rule.home || is_qui_rule rule.raw) (wrong BadQui rule.raw.at) fault
+      (ap (λ (o : Option Span). is_some o || is_qui_rule rule.raw) home ∙ refuted (is_qui_rule rule.raw) (is_qui_rule rule.raw) (is_qui_by rule.raw) n refl) is
+
+  pub complete : Misnamed source fault → IsTwice source fault ⊎ Found
+  complete (twice k) = inl k
+  complete (unknown in_space name c no_ is) =
+      inr (of_use in_space name (from_contains (uses_in source in_space) name c) (lack_in in_space name false false (no_ in_space) (nowhere_of source (said source name) no_) (is_one _ fault is)))
+  complete (wrong_kind in_space other name c no_ yes_ is) =
+      inr (of_use in_space name (from_contains (uses_in source in_space) name c) (lack_in in_space name false true no_ (somewhere_of source (said source name) other yes_) (is_one _ fault is)))
+  complete (wrong_arity atom pred c named ne is) =
+      inr (of_atom atom (from_contains (atoms_written source) atom c) (λ in_state. in_left (pred_faults source atom) _ fault (in_right (use_faults source space.Predicates atom.name) _ fault
+      (arity_in (pred_arity source atom) (length pred.args) atom.args atom.name.from (ap (option_map (λ (its : PredItem). length its.args)) named) ne is))))
+  complete (wrong_term_arity node con c app named ne is) =
+      inr (of_node node (from_contains (raw_nodes (atoms_written source)) node c) app (λ in_state. in_right (use_faults source space.Constructors node.at) _ fault
+      (arity_in (con_arity source node) (length con.args) node.args node.at.from (ap (option_map (λ (its : ConItem). length its.args)) named) ne is)))
+  complete (variable_in_state node c apart is) =
+      let atom = through (λ (atom : RawAtom). atom.nodes) (state_atoms source) node (from_contains (raw_nodes (state_atoms source)) node c) in
+      inr (of_state atom.from atom.member (names_state atom.from (in_right (pred_faults source atom.from) _ fault (via (node_faults source true) atom.from.nodes node fault atom.given (open_in node node.kind apart is)))))
+  complete (backward_in_state atom c back is) =
+      inr (⊎_elim (λ m. of_made atom m (in_right (names_faults source false atom) _ fault (back_in atom back is))) (λ s. of_state atom s (back_state atom (back_in atom back is)))
+      (in_parts (made_atoms source) _ atom (from_contains (made_atoms source ++ state_atoms source) atom c)))
+  complete (linear_in_clause atom its c named n is) =
+      inr (of_clause_atom atom (from_contains (clause_atoms source) atom c) (in_right (names_faults source false atom) _ fault
+      (in_same (linear_faults source atom) (linear_by (Some its) atom.name.from) fault (ap (λ (o : Option PredKind). linear_by o atom.name.from) named) (linear_one its atom.name.from n is))))
+  complete (bad_qui rule c home n is) = inr (from_home rule (from_contains (rules_of source) rule c) (home_in rule home n is))
+  complete (no_trace traces is) = inr (of_traces [] traces (is_one _ fault is))
+  complete (two_traces first trace rest traces c is) =
+      inr (of_traces (first ∷ rest) traces (in_right (start_faults source first) _ fault
+      (subst (In (two_faults rest)) (sym is) (mapped (λ (other : TraceItem). wrong TwoTraces other.at) rest trace (from_contains rest trace c)))))
+  complete (over at m is) = inr (over_all at m is)

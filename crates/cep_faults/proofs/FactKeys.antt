@@ -1,22 +1,19 @@
 -- The facts that count, one atom after another, and the keys by which they are told apart.
-use Rattle.std.proofs.Common.{◌≡◌, ℕ, zero, suc, ◌+◌, ◌==◌, min, Bool, true, false, ◌&&◌, ◌||◌, not, if◌then◌else◌, List, [], ◌∷◌, ◌++◌, length, map, filter, unwrap_or, refl, sym, ap, subst, ◌∙◌, append_assoc, arith, Contains, replicate}
+use Rattle.std.proofs.Common.{◌≡◌, ℕ, zero, suc, ◌==◌, Bool, true, false, ◌&&◌, ◌||◌, not, if◌then◌else◌, List, [], ◌∷◌, ◌++◌, filter, unwrap_or, refl, sym, ap, ◌∙◌, append_assoc, arith}
 use Rattle.std.specs.Str.{bytes_eq}
-use Rattle.std.specs.List.{flat_map, list_any, sum_by}
+use Rattle.std.specs.List.{flat_map, list_any}
 use Rattle.std.specs.Cmp.{both_ways}
 use Rattle.std.specs.Option.{option_map}
 use Rattle.std.proofs.lemmas.Bool.{eqb-true, eq-eqb}
-use Rattle.std.proofs.lemmas.List.{append-nil, map-append}
 use Rattle.std.proofs.lemmas.List.Elements.{filter-append}
-use Rattle.std.proofs.lemmas.List.Sums.{sum_by-cons, sum_by-append}
 use Rattle.std.proofs.lemmas.Slice.Eq.{bytes_eq-Decides}
 use Rattle.cep_parse.specs.declared.raw.RawNode.{RawNode}
 use Rattle.cep_parse.specs.declared.raw.RawAtom.{RawAtom}
 use Rattle.cep_base.specs.Kinds.{is_of_facts}
-use Rattle.cep_source.specs.Items.{Source, said}
-use Rattle.cep_source.specs.Spaces.{kind_named}
-use Rattle.cep_source.specs.Firsts.{has_name}
+use Rattle.cep_source.specs.Items.{Source, PredItem, said}
+use Rattle.cep_source.specs.Spaces.{pred_named}
 use Rattle.cep_source.specs.Starts.{is_of_fact, is_node_alike, are_nodes_alike, is_written_alike, counting_behind, counting}
-use Rattle.cep_faults.specs.Totals.{facts_counting}
+use Rattle.cep_faults.specs.Counted.{facts_counting}
 use Rattle.cep_faults.specs.FactKeys.{mark, stop, name_key, count_key, node_key, atom_key}
 
 both_true : (a b : Bool) → (a && b) ≡ true → (a ≡ true) × (b ≡ true)
@@ -117,7 +114,7 @@ module _ (source : Source) where
   or_swap false false r = refl
 
   -- one atom more counts unless it is a fact that is written like one before it
-  one_counts : (before atoms : List RawAtom) (a : RawAtom)
+  pub one_counts : (before atoms : List RawAtom) (a : RawAtom)
       → counting_behind source before (atoms ++ a ∷ []) ≡ counting_behind source before atoms ++ (if is_of_fact source a && (list_any (is_written_alike source a) (counting_behind source before atoms) || list_any (is_written_alike source a) before) then [] else a ∷ [])
   one_counts before [] a = refl
   one_counts before (x ∷ atoms) a = by (is_of_fact source x && list_any (is_written_alike source x) before) (one_counts before atoms a) (one_counts (x ∷ before) atoms a)
@@ -144,7 +141,7 @@ module _ (source : Source) where
       ap (λ (name : List ℕ). is_fact_named name) ((bytes_eq-Decides (said source a.name) (said source x.name)).0 heads.0)
     where
       is_fact_named : List ℕ → Bool
-      is_fact_named name = unwrap_or (option_map is_of_facts (kind_named source name)) false
+      is_fact_named name = unwrap_or (option_map is_of_facts (option_map (λ (pred : PredItem). pred.kind) (pred_named source name))) false
 
   pub among_facts : (a : RawAtom) (atoms : List RawAtom) → is_of_fact source a ≡ true → list_any (is_written_alike source a) atoms ≡ list_any (is_written_alike source a) (filter (is_of_fact source) atoms)
   among_facts a [] fact = refl

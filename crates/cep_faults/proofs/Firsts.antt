@@ -1,42 +1,57 @@
--- The first fault of lists of faults.
-use Rattle.std.proofs.Common.{◌≡◌, ◌≤◌, ℕ, length, take, List, [], ◌∷◌, ◌++◌, map, Option, sym, ◌∙◌, ap, append-nil}
+-- The first fault of lists of faults, as it is noted part by part.
+use Rattle.std.proofs.Common.{Some, None, refl, ◌≡◌, ◌<◌, ◌≤◌, ℕ, ◌+◌, length, take, get_or, List, [], ◌∷◌, ◌++◌, map, Option, sym, ◌∙◌, ap, append-nil, append_assoc}
+use Rattle.std.specs.Option.{MatchOption, IsSomeAnd, option_map}
 use Rattle.std.specs.List.{flat_map}
 use Rattle.std.proofs.lemmas.Grind.{flat_map-append}
-use Rattle.std.proofs.lemmas.List.{map-append, take_all}
+use Rattle.std.proofs.lemmas.List.{take_all, take_more}
+use Rattle.std.proofs.lemmas.List.Folds.{flat_map-map}
 use Rattle.cep_refusal.specs.declared.fault.Fault.{Fault}
 use Rattle.cep_refusal.specs.First.{standing, first_of, first_in}
-use Rattle.cep_base.proofs.Foremost.{foremost_append}
-use Rattle.cep_base.proofs.ForemostLoops.{foremost_parts}
+use Rattle.cep_base.proofs.Foremost.{foremost_append, foremost_of_three}
 
--- as an attribute can hold them
+-- as an attribute can hold it
 pub first_in_append : (xs ys : List Fault) → first_in (xs ++ ys) ≡ first_of (first_in xs) (first_in ys)
 first_in_append = foremost_append standing
 
-pub first_in_parts : {X : Type 0} (f : X → List Fault) (xs ys : List X) → first_in (flat_map f (xs ++ ys)) ≡ first_of (first_in (flat_map f xs)) (first_in (flat_map f ys))
-first_in_parts = foremost_parts standing
+-- one part more
+pub followed : (faults more_ : List Fault) (old item new : Option Fault) → old ≡ first_in faults → item ≡ first_in more_ → new ≡ first_of old item → new ≡ first_in (faults ++ more_)
+followed faults more_ old item new a b is = is ∙ ap (λ (o : Option Fault). first_of o item) a ∙ ap (first_of (first_in faults)) b ∙ sym (first_in_append faults more_)
 
--- a list of types with one at its end, and further faults
-pub first_with_end : {X Y : Type 0} (f : Y → List Fault) (v : X → Y) (xs : List X) (x : X) (more : List Fault) (some end_ both last all : Option Fault)
-    → some ≡ first_in (flat_map f (map v xs)) → end_ ≡ first_in (f (v x)) → both ≡ first_of some end_ → last ≡ first_in more → all ≡ first_of both last
-    → all ≡ first_in (flat_map f (map v (xs ++ x ∷ [])) ++ more)
-first_with_end f v xs x more some end_ both last all is_some is_end is_both is_last is_all =
-    is_all ∙ ap (λ o. first_of o last) (is_both ∙ ap (λ o. first_of o end_) is_some ∙ ap (first_of (first_in (flat_map f (map v xs)))) is_end)
-    ∙ ap (first_of (first_of (first_in (flat_map f (map v xs))) (first_in (f (v x))))) is_last
-    ∙ sym (first_in_append (flat_map f (map v (xs ++ x ∷ []))) more
-    ∙ ap (λ o. first_of o (first_in more)) (ap (λ ys. first_in (flat_map f ys)) (map-append v xs (x ∷ []))
-    ∙ first_in_parts f (map v xs) (v x ∷ []) ∙ ap (λ ys. first_of (first_in (flat_map f (map v xs))) (first_in ys)) (append-nil (f (v x)))))
+-- one item more of a loop, behind a front
+pub noted : {X : Type 0} (f : X → List Fault) (front : List Fault) (xs : List X) (i : ℕ) (d x : X) (old item new : Option Fault) → i < length xs → x ≡ get_or xs i d
+    → old ≡ first_in (front ++ flat_map f (take i xs)) → item ≡ first_in (f x) → new ≡ first_of old item → new ≡ first_in (front ++ flat_map f (take (i + 1) xs))
+noted f front xs i d x old item new h at was is_item is =
+    followed (front ++ flat_map f (take i xs)) (f x) old item new was is_item is
+    ∙ sym (ap (λ ys. first_in (front ++ flat_map f ys)) (take_more xs i d h ∙ ap (λ y. take i xs ++ y ∷ []) (sym at))
+    ∙ ap (λ ys. first_in (front ++ ys)) (flat_map-append f (take i xs) (x ∷ []) ∙ ap (λ ys. flat_map f (take i xs) ++ ys) (append-nil (f x)))
+    ∙ ap first_in (sym (append_assoc front (flat_map f (take i xs)) (f x))))
 
--- what is found first in two parts
-pub followed : (faults more : List Fault) (one rest both : Option Fault) → one ≡ first_in faults → rest ≡ first_in more → both ≡ first_of one rest → both ≡ first_in (faults ++ more)
-followed faults more one rest both a b is = is ∙ ap (λ (o : Option Fault). first_of o rest) a ∙ ap (first_of (first_in faults)) b ∙ sym (first_in_append faults more)
+-- the same, where items are copied
+pub noted_at : {X : Type 0} (f : X → List Fault) (front : List Fault) (xs : List X) (i : ℕ) (d : X) (old item new : Option Fault) → i < length xs
+    → old ≡ first_in (front ++ flat_map f (take i xs)) → item ≡ first_in (f (get_or xs i d)) → new ≡ first_of old item → new ≡ first_in (front ++ flat_map f (take (i + 1) xs))
+noted_at f front xs i d old item new h was is_item is = noted f front xs i d (get_or xs i d) old item new h refl was is_item is
 
--- what two sides give
-pub first_of_sides : {X Y : Type 0} (f : Y → List Fault) (g : X → List Y) (left right : List X) (one two both : Option Fault)
-    → one ≡ first_in (flat_map f (flat_map g left)) → two ≡ first_in (flat_map f (flat_map g right)) → both ≡ first_of one two → both ≡ first_in (flat_map f (flat_map g (left ++ right)))
-first_of_sides f g left right one two both is_one is_two is_both =
-    is_both ∙ ap (λ (o : Option Fault). first_of o two) is_one ∙ ap (first_of (first_in (flat_map f (flat_map g left)))) is_two
-    ∙ sym (ap (λ ys. first_in (flat_map f ys)) (flat_map-append g left right) ∙ first_in_parts f (flat_map g left) (flat_map g right))
+-- what is noted of one item in two parts
+pub noted_then : (one two : List Fault) (old first mid second new : Option Fault) → mid ≡ first_of old first → first ≡ first_in one → second ≡ first_in two → new ≡ first_of mid second → new ≡ first_of old (first_in (one ++ two))
+noted_then one two old first mid second new was a b is =
+    is ∙ ap (λ (o : Option Fault). first_of o second) (was ∙ ap (first_of old) a) ∙ ap (first_of (first_of old (first_in one))) b
+    ∙ sym (foremost_of_three standing old (first_in one) (first_in two)) ∙ ap (first_of old) (sym (first_in_append one two))
 
--- what a loop over all of a kind has found
-pub all_mapped : {X Y : Type 0} (f : Y → List Fault) (v : X → Y) (xs : List X) (ys : List Y) (i : ℕ) (first : Option Fault) → length xs ≤ i → map v xs ≡ ys → first ≡ first_in (flat_map f (map v (take i xs))) → first ≡ first_in (flat_map f ys)
-all_mapped f v xs ys i first done are is = is ∙ ap (λ zs. first_in (flat_map f (map v zs))) (take_all i xs done) ∙ ap (λ zs. first_in (flat_map f zs)) are
+-- all items of a loop
+pub all_noted : {X : Type 0} (f : X → List Fault) (front : List Fault) (xs : List X) (i : ℕ) (first : Option Fault) → length xs ≤ i → first ≡ first_in (front ++ flat_map f (take i xs)) → first ≡ first_in (front ++ flat_map f xs)
+all_noted f front xs i first done is = is ∙ ap (λ ys. first_in (front ++ flat_map f ys)) (take_all i xs done)
+
+-- all items of a loop over references
+pub all_mapped : {X Y : Type 0} (f : Y → List Fault) (v : X → Y) (xs : List X) (ys : List Y) (i : ℕ) (first : Option Fault) → length xs ≤ i → map v xs ≡ ys
+    → first ≡ first_in (flat_map (λ x. f (v x)) (take i xs)) → first ≡ first_in (flat_map f ys)
+all_mapped f v xs ys i first done are is = all_noted (λ x. f (v x)) [] xs i first done is ∙ ap first_in (sym (flat_map-map f v xs)) ∙ ap (λ zs. first_in (flat_map f zs)) are
+
+-- what `map` gives, where its closure computes f
+pub mapped_by : {X Y : Type 0} {P : X → Y → Type 0} (f : X → Y) (o : Option X) (r : Option Y) → ((x : X) (y : Y) → P x y → y ≡ f x) → MatchOption o (r ≡ None) (λ x. IsSomeAnd r (P x)) → r ≡ option_map f o
+mapped_by f None r gives is = is
+mapped_by f (Some x) None gives is = absurd is
+mapped_by f (Some x) (Some y) gives is = ap Some (gives x y is)
+
+pub mapped_twice : {X Y Z : Type 0} (g : Y → Z) (f : X → Y) (o : Option X) (named : Option Y) → option_map f o ≡ named → option_map (λ x. g (f x)) o ≡ option_map g named
+mapped_twice g f None named is = ap (option_map g) is
+mapped_twice g f (Some x) named is = ap (option_map g) is

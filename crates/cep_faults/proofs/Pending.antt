@@ -5,7 +5,7 @@ use Rattle.std.proofs.lemmas.Bool.Decides.{nat_tests}
 use Rattle.std.proofs.lemmas.List.{take_more, take_more_set}
 use Rattle.cep_parse.specs.declared.raw.RawNode.{RawNode}
 use Rattle.cep_base.specs.declared.limits.TheConstants.{MOST_DEPTH}
-use Rattle.cep_faults.specs.declared.fitness.Run.{Run}
+use Rattle.cep_faults.specs.declared.limits.Run.{Run}
 use Rattle.cep_faults.specs.Levels.{pending, is_shallow}
 use Rattle.cep_source.specs.Starts.{levels, greatest}
 use Rattle.cep_faults.proofs.Nths.{take_past}

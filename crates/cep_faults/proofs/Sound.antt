@@ -1,116 +1,335 @@
--- What is found is wrong: uses and atoms.
-use Rattle.std.proofs.Common.{◌≡◌, ℕ, ⊎_elim, ◌==◌, Bool, true, false, if◌then◌else◌, List, [], ◌∷◌, Option, Some, None, refl, ap, sym, subst}
-use Rattle.std.specs.List.{flat_map}
-use Rattle.std.proofs.lemmas.Bool.{eqb-false}
+-- What is found is wrong.
+use Rattle.std.proofs.Common.{◌≡◌, ◌≢◌, ℕ, ⊎_elim, ◌==◌, Bool, true, false, ◌&&◌, ◌||◌, not, nat_lt, nat_le, if◌then◌else◌, List, [], ◌∷◌, ◌++◌, length, map, filter, Option, Some, None, is_some, refl, ap, sym, ◌∙◌, count_by}
+use Rattle.std.specs.Option.{option_map}
+use Rattle.std.specs.List.{flat_map, slice_get, sum_by}
+use Rattle.std.proofs.lemmas.Bool.{false≢true, le-leb, eq-eqb, eqb-false, ltb-true, or_cases}
+use Rattle.cep_base.specs.declared.kind.PredKind.{PredKind}
+use Rattle.cep_base.specs.declared.kind.PredKind.TheVariants.{Linear, Back, Fact}
+use Rattle.cep_base.specs.declared.limits.TheConstants.{MOST_ARGUMENTS, MOST_BACKS, MOST_CLAUSES, MOST_CONS, MOST_COPIES, MOST_DEPTH, MOST_GOALS, MOST_NODES, MOST_PREDS, MOST_PREMISES, MOST_RIGHT, MOST_RULES, MOST_STATE_NODES, MOST_VARIABLES}
 use Rattle.cep_parse.specs.declared.raw.Span.{Span}
 use Rattle.cep_parse.specs.declared.raw.RawKind.{RawKind}
 use Rattle.cep_parse.specs.declared.raw.RawKind.TheVariants as kind
-use Rattle.cep_base.specs.declared.kind.PredKind.{PredKind}
-use Rattle.cep_base.specs.declared.kind.PredKind.TheVariants.{Linear, Back, Fact}
+use Rattle.cep_parse.specs.declared.raw.RawNode.{RawNode}
+use Rattle.cep_parse.specs.declared.raw.RawAtom.{RawAtom}
+use Rattle.cep_parse.specs.declared.raw.RawElem.{RawElem}
+use Rattle.cep_parse.specs.declared.raw.RawElem.TheVariants as elem
+use Rattle.cep_parse.specs.declared.raw.RawRule.{RawRule}
+use Rattle.cep_parse.specs.declared.raw.RawStart.{RawStart}
+use Rattle.cep_parse.specs.declared.raw.RawStart.TheVariants as state
+use Rattle.cep_parse.specs.Raw.{atoms_in, atoms_of, raw_nodes, start_listed}
 use Rattle.cep_refusal.specs.declared.fault.Fault.{Fault}
-use Rattle.cep_refusal.specs.declared.reason.Reason.TheVariants.{WrongArity, VarInContext}
-use Rattle.cep_source.specs.declared.space.Space.TheVariants as space
-use Rattle.cep_source.specs.declared.space.Role.{Role}
-use Rattle.cep_source.specs.declared.space.Role.TheVariants as role
-use Rattle.cep_source.specs.Items.{Source, said}
-use Rattle.cep_faults.specs.Premises.{is_declared}
-use Rattle.cep_faults.specs.Misnamed.{Misnamed, ComesToState, IsOpen, is_somewhere}
-use Rattle.cep_source.specs.Uses.{IsOfState}
+use Rattle.cep_refusal.specs.declared.reason.Reason.TheVariants.{WrongArity, VarInContext, BadQui, TwoTraces, OverLimit}
 use Rattle.cep_refusal.specs.First.{wrong}
-use Rattle.cep_faults.specs.Misnamed.Misnamed.{unknown, wrong_kind, wrong_arity, variable_in_state, backward_in_state, linear_in_clause}
-use Rattle.cep_source.specs.Uses.IsOfState.{listed, start}
-use Rattle.cep_faults.specs.Misnamed.ComesToState.{made}
-use Rattle.cep_faults.specs.Misnamed.IsOpen.{variable, blank}
-use Rattle.cep_source.specs.Spaces.{is_in, arity_of, kind_of}
-use Rattle.cep_source.specs.Uses.{Placed, Use, is_context, placed_of, uses_of, pred_uses, node_uses}
-use Rattle.cep_faults.specs.Faults.{lack_faults, arity_faults, use_faults, pred_faults, node_faults, open_by, open_faults, back_faults, linear_faults, state_faults, role_faults, placed_faults}
-use Rattle.cep_base.proofs.Members.{In, here, in_nil, in_one, in_same, in_left, in_right, in_parts, through, via, to_contains}
-use Rattle.cep_faults.proofs.Parts.{placed_use}
+use Rattle.cep_source.specs.declared.space.Space.{Space}
+use Rattle.cep_source.specs.declared.space.Space.TheVariants as space
+use Rattle.cep_source.specs.Items.{Source, PredItem, ConItem, ClauseItem, RuleItem, ContextItem, TraceItem, said, preds_of, cons_of, clauses_of, rules_of, interactives_of, contexts_of, traces_of}
+use Rattle.cep_source.specs.Spaces.{is_in, pred_named, con_named, kind_of}
+use Rattle.cep_source.specs.Uses.{uses_in, needed_atoms, made_atoms, clause_atoms, state_atoms, atoms_written, stands_for_context, stages_at, stages_named, contexts_at, applied_at}
+use Rattle.cep_source.specs.Variables.{Occurrence, variables_of}
+use Rattle.cep_source.specs.Starts.{IsFitWritten, nodes_written, depth_written, start_atoms, counting, turns_said}
+use Rattle.cep_faults.specs.Misnamed.{Misnamed, IsQuiRule, is_qui}
+use Rattle.cep_faults.specs.Misnamed.Misnamed.{unknown, wrong_kind, wrong_arity, wrong_term_arity, variable_in_state, backward_in_state, linear_in_clause, bad_qui, no_trace, two_traces, over}
+use Rattle.cep_faults.specs.Premises.{state_premises_of, backward_of}
+use Rattle.cep_faults.specs.Limits.{IsOver, arguments_of}
+use Rattle.cep_faults.specs.Faults.{is_somewhere, lack_faults, use_faults, arity_faults, pred_arity, pred_faults, con_arity, kind_faults, node_faults, names_faults, back_by, back_faults, linear_by, linear_faults, clause_atom_faults, elem_faults, is_fit, unfit_faults, state_faults, listed_faults, past, past_most, argument_faults, predicate_faults, con_faults, premise_faults, right_faults, is_stage, is_qui_rule, home_faults, variable_faults, rule_faults, clause_faults, context_faults, begin_faults, turns_faults, trace_faults}
+use Rattle.cep_faults.specs.Totals.{count_faults, start_faults, two_faults, traces_faults, all_faults}
+use Rattle.cep_base.proofs.Members.{In, here, in_nil, in_one, in_same, in_left, in_right, in_parts, through, via, image, mapped, to_contains}
+use Rattle.cep_faults.proofs.Spread.{differing, holding, kept_in, somewhere, nowhere, stage_count}
 
-lack : (source : Source) (used : Use) (fault : Fault) (has anywhere : Bool) → In (uses_of source) used → is_in source used.space (said source used.name) ≡ has → is_somewhere source (said source used.name) ≡ anywhere
-    → In (lack_faults has anywhere used.name.from) fault → Misnamed source fault
-lack source used fault true anywhere use_ h a found = absurd (in_nil fault found)
-lack source used fault false true use_ h a found = wrong_kind used (to_contains (uses_of source) used use_) a h (in_one _ fault found)
-lack source used fault false false use_ h a found = unknown used (to_contains (uses_of source) used use_) a (in_one _ fault found)
+both_true : (a b : Bool) → a ≡ true → b ≡ true → (a && b) ≡ true
+both_true a b x y = rw (x, y) refl
 
-miscounted : (source : Source) (used : Use) (fault : Fault) (arity : ℕ) (same : Bool) → In (uses_of source) used → arity_of source used.space (said source used.name) ≡ Some arity → (used.args == arity) ≡ same
-    → In (let found : List Fault = if same then [] else wrong WrongArity used.name.from ∷ [] in found) fault → Misnamed source fault
-miscounted source used fault arity true use_ a s found = absurd (in_nil fault found)
-miscounted source used fault arity false use_ a s found = wrong_arity used arity (to_contains (uses_of source) used use_) a (eqb-false used.args arity s) (in_one _ fault found)
+not_fit : (atom : RawAtom) → is_fit atom ≡ false → ¬ IsFitWritten atom
+not_fit atom e is = false≢true (sym e ∙ both_true (nat_le (nodes_written atom) MOST_NODES) (nat_le (depth_written atom) MOST_DEPTH) (le-leb (nodes_written atom) MOST_NODES is.nodes) (le-leb (depth_written atom) MOST_DEPTH is.depth))
 
-arity : (source : Source) (used : Use) (fault : Fault) (known : Option ℕ) → In (uses_of source) used → arity_of source used.space (said source used.name) ≡ known
-    → In (arity_faults known used.args used.name.from) fault → Misnamed source fault
-arity source used fault None use_ a found = absurd (in_nil fault found)
-arity source used fault (Some n) use_ a found = miscounted source used fault n (used.args == n) use_ a refl found
+not_qui : (rule : RawRule) → is_qui_rule rule ≡ false → ¬ IsQuiRule rule
+not_qui rule e is =
+    false≢true (sym e ∙ both_true (count_by is_qui rule.left == 1) _ (eq-eqb _ _ is.qui)
+    (both_true (count_by is_stage rule.left == 1) _ (eq-eqb _ _ (stage_count rule.left ∙ is.from)) (eq-eqb _ _ (stage_count rule.right ∙ is.to))))
 
-pub use_sound : (source : Source) (used : Use) (fault : Fault) → In (uses_of source) used → In (use_faults source used) fault → Misnamed source fault
-use_sound source used fault use_ found =
-    ⊎_elim
-    (lack source used fault (is_in source used.space (said source used.name)) (is_somewhere source (said source used.name)) use_ refl refl)
-    (arity source used fault (arity_of source used.space (said source used.name)) use_ refl)
-    (in_parts (lack_faults (is_in source used.space (said source used.name)) (is_somewhere source (said source used.name)) used.name.from) (arity_faults (arity_of source used.space (said source used.name)) used.args used.name.from) fault found)
+none_of : {X : Type 0} (o : Option X) → is_some o ≡ false → o ≡ None
+none_of None e = refl
+none_of (Some x) e = absurd cc
 
--- an atom
-pred_sound : (source : Source) (p : Placed) (fault : Fault) (context : Bool) → In (placed_of source) p → is_context source p ≡ context
-    → In (let found : List Fault = if context then [] else use_faults source (record { space = space.Predicates; name = p.atom.name; args = p.atom.args }) in found) fault → Misnamed source fault
-pred_sound source p fault true at c found = absurd (in_nil fault found)
-pred_sound source p fault false at c found =
-    use_sound source (record { space = space.Predicates; name = p.atom.name; args = p.atom.args }) fault
-    (placed_use source p (record { space = space.Predicates; name = p.atom.name; args = p.atom.args }) at
-    (in_left (pred_uses source p) (flat_map node_uses p.atom.nodes) _ (in_same (pred_uses source p) (record { space = space.Predicates; name = p.atom.name; args = p.atom.args } ∷ []) _
-    (ap (λ (b : Bool). let uses : List Use = if b then [] else record { space = space.Predicates; name = p.atom.name; args = p.atom.args } ∷ [] in uses) c) (here _ []))))
-    found
+module _ (source : Source) where
+  -- each of these is wrong
+  abbrev AreWrong : List Fault → Type 0
+  AreWrong faults = (fault : Fault) → In faults fault → Misnamed source fault
 
-node_sound : (source : Source) (p : Placed) (fault : Fault) → In (placed_of source) p → In (flat_map (node_faults source) p.atom.nodes) fault → Misnamed source fault
-node_sound source p fault at found =
-    let node = through (node_faults source) p.atom.nodes fault found in
-    let used = through (use_faults source) (node_uses node.from) fault node.given in
-    use_sound source used.from fault
-    (placed_use source p used.from at (in_right (pred_uses source p) (flat_map node_uses p.atom.nodes) used.from (via node_uses p.atom.nodes node.from used.from node.member used.member)))
-    used.given
+  nothing : AreWrong []
+  nothing fault found = absurd (in_nil fault found)
 
-open_kind : (at : Span) (kind_ : RawKind) (args : ℕ) (fault : Fault) → In (open_by kind_ at.from) fault → IsOpen (record { at = at; kind = kind_; args = args }) × (fault ≡ wrong VarInContext at.from)
-open_kind at kind.App args fault found = absurd (in_nil fault found)
-open_kind at kind.Var args fault found = (variable at args, in_one _ fault found)
-open_kind at kind.Blank args fault found = (blank at args, in_one _ fault found)
+  both : (xs ys : List Fault) → AreWrong xs → AreWrong ys → AreWrong (xs ++ ys)
+  both xs ys a b fault found = ⊎_elim (a fault) (b fault) (in_parts xs ys fault found)
 
-open_sound : (source : Source) (p : Placed) (fault : Fault) → In (placed_of source) p → IsOfState p.role → In (flat_map open_faults p.atom.nodes) fault → Misnamed source fault
-open_sound source p fault at state_ found =
-    let node = through open_faults p.atom.nodes fault found in
-    let open_ = open_kind node.from.at node.from.kind node.from.args fault node.given in
-    variable_in_state p node.from (to_contains (placed_of source) p at) state_ (to_contains p.atom.nodes node.from node.member) open_.0 open_.1
+  each : {X : Type 0} (f : X → List Fault) (xs : List X) → ((x : X) → In xs x → AreWrong (f x)) → AreWrong (flat_map f xs)
+  each f xs a fault found = let t = through f xs fault found in a t.from t.member fault t.given
 
-back_sound : (source : Source) (p : Placed) (fault : Fault) (back : Option PredKind) → In (placed_of source) p → ComesToState p.role → kind_of source p.atom ≡ back → In (back_faults back p.atom.name.from) fault → Misnamed source fault
-back_sound source p fault None at comes b found = absurd (in_nil fault found)
-back_sound source p fault (Some Linear) at comes b found = absurd (in_nil fault found)
-back_sound source p fault (Some Fact) at comes b found = absurd (in_nil fault found)
-back_sound source p fault (Some Back) at comes b found = backward_in_state p (to_contains (placed_of source) p at) comes b (in_one _ fault found)
+  -- uses
+  lack : (in_space : Space) (name : Span) (has anywhere : Bool) → In (uses_in source in_space) name → is_in source in_space (said source name) ≡ has → is_somewhere source (said source name) ≡ anywhere
+      → AreWrong (lack_faults has anywhere name.from)
+  lack in_space name true anywhere m h a = nothing
+  lack in_space name false true m h a = λ fault found. let there = somewhere source (said source name) a in wrong_kind in_space there.0 name (to_contains (uses_in source in_space) name m) h there.1 (in_one _ fault found)
+  lack in_space name false false m h a = λ fault found. unknown in_space name (to_contains (uses_in source in_space) name m) (nowhere source (said source name) a) (in_one _ fault found)
 
-linear_sound : (source : Source) (p : Placed) (fault : Fault) (back : Option PredKind) → In (placed_of source) p → p.role ≡ role.Clause → kind_of source p.atom ≡ back → In (linear_faults back p.atom.name.from) fault → Misnamed source fault
-linear_sound source p fault None at is b found = absurd (in_nil fault found)
-linear_sound source p fault (Some Back) at is b found = absurd (in_nil fault found)
-linear_sound source p fault (Some Linear) at is b found = linear_in_clause p (to_contains (placed_of source) p at) is (ap (is_declared false) b) (in_one _ fault found)
-linear_sound source p fault (Some Fact) at is b found = linear_in_clause p (to_contains (placed_of source) p at) is (ap (is_declared false) b) (in_one _ fault found)
+  use_sound : (in_space : Space) (name : Span) → In (uses_in source in_space) name → AreWrong (use_faults source in_space name)
+  use_sound in_space name m = lack in_space name (is_in source in_space (said source name)) (is_somewhere source (said source name)) m refl refl
 
-state_sound : (source : Source) (p : Placed) (fault : Fault) → In (placed_of source) p → IsOfState p.role → In (state_faults source p.atom.name p.atom.nodes) fault → Misnamed source fault
-state_sound source p fault at state_ found =
-    ⊎_elim (open_sound source p fault at state_)
-    (back_sound source p fault (kind_of source p.atom) at (ComesToState.state p.role state_) refl)
-    (in_parts (flat_map open_faults p.atom.nodes) (back_faults (kind_of source p.atom) p.atom.name.from) fault found)
+  -- atoms
+  pred_arity_sound : (atom : RawAtom) (pred : Option PredItem) → In (atoms_written source) atom → pred_named source (said source atom.name) ≡ pred
+      → AreWrong (arity_faults (option_map (λ (its : PredItem). length its.args) pred) atom.args atom.name.from)
+  pred_arity_sound atom None m is = nothing
+  pred_arity_sound atom (Some pred) m is = λ fault found.
+      let d = differing (atom.args == length pred.args) (wrong WrongArity atom.name.from) fault found in wrong_arity atom pred (to_contains (atoms_written source) atom m) is (eqb-false atom.args (length pred.args) d.0) d.1
 
-role_sound : (source : Source) (p : Placed) (fault : Fault) (role_ : Role) → In (placed_of source) p → p.role ≡ role_ → In (role_faults source role_ p.atom.name p.atom.nodes) fault → Misnamed source fault
-role_sound source p fault role.Needed at is found = absurd (in_nil fault found)
-role_sound source p fault role.Made at is found = back_sound source p fault (kind_of source p.atom) at (subst ComesToState (sym is) made) refl found
-role_sound source p fault role.Clause at is found = linear_sound source p fault (kind_of source p.atom) at is refl found
-role_sound source p fault role.Listed at is found = state_sound source p fault at (subst IsOfState (sym is) listed) found
-role_sound source p fault role.Start at is found = state_sound source p fault at (subst IsOfState (sym is) start) found
+  con_arity_sound : (node : RawNode) (con : Option ConItem) → In (raw_nodes (atoms_written source)) node → node.kind ≡ kind.App → con_named source (said source node.at) ≡ con
+      → AreWrong (arity_faults (option_map (λ (its : ConItem). length its.args) con) node.args node.at.from)
+  con_arity_sound node None m app is = nothing
+  con_arity_sound node (Some con) m app is = λ fault found.
+      let d = differing (node.args == length con.args) (wrong WrongArity node.at.from) fault found in
+      wrong_term_arity node con (to_contains (raw_nodes (atoms_written source)) node m) app is (eqb-false node.args (length con.args) d.0) d.1
 
-pub placed_sound : (source : Source) (p : Placed) (fault : Fault) → In (placed_of source) p → In (placed_faults source p) fault → Misnamed source fault
-placed_sound source p fault at found =
-    ⊎_elim (pred_sound source p fault (is_context source p) at refl)
-    (λ rest. ⊎_elim (node_sound source p fault at) (role_sound source p fault p.role at refl)
-    (in_parts (flat_map (node_faults source) p.atom.nodes) (role_faults source p.role p.atom.name p.atom.nodes) fault rest))
-    (in_parts (pred_faults source p.role p.atom.name p.atom.args) _ fault found)
+  open_sound : (of_state : Bool) (node : RawNode) → (of_state ≡ true → In (raw_nodes (state_atoms source)) node) → node.kind ≢ kind.App → AreWrong (let found : List Fault = if of_state then wrong VarInContext node.at.from ∷ [] else [] in found)
+  open_sound of_state node m apart fault found =
+      let h = holding of_state (wrong VarInContext node.at.from) fault found in variable_in_state node (to_contains (raw_nodes (state_atoms source)) node (m h.0)) apart h.1
 
-pub sound : (source : Source) (fault : Fault) → Misnamed source fault → Misnamed source fault
-sound source fault h = let a = placed_sound in h
+  node_sound : (of_state : Bool) (node : RawNode) (its : RawKind) → In (raw_nodes (atoms_written source)) node → (of_state ≡ true → In (raw_nodes (state_atoms source)) node) → node.kind ≡ its → AreWrong (kind_faults source of_state its node)
+  node_sound of_state node kind.App m s is =
+      both (use_faults source space.Constructors node.at) (arity_faults (con_arity source node) node.args node.at.from)
+      (use_sound space.Constructors node.at (via (λ (other : RawNode). applied_at other.kind other.at) (raw_nodes (atoms_written source)) node node.at m (in_same _ (node.at ∷ []) node.at (ap (λ (k : RawKind). applied_at k node.at) is) (here node.at []))))
+      (con_arity_sound node (con_named source (said source node.at)) m is refl)
+  node_sound of_state node kind.Blank m s is = open_sound of_state node s (λ e. let both_ : kind.Blank ≡ kind.App = sym is ∙ e in cc)
+  node_sound of_state node kind.Var m s is = open_sound of_state node s (λ e. let both_ : kind.Var ≡ kind.App = sym is ∙ e in cc)
+
+  names_sound : (of_state : Bool) (atom : RawAtom) → In (atoms_written source) atom → (of_state ≡ true → In (state_atoms source) atom) → AreWrong (names_faults source of_state atom)
+  names_sound of_state atom m s =
+      both (pred_faults source atom) (flat_map (node_faults source of_state) atom.nodes)
+      (both (use_faults source space.Predicates atom.name) (arity_faults (pred_arity source atom) atom.args atom.name.from)
+      (use_sound space.Predicates atom.name (mapped (λ (other : RawAtom). other.name) (atoms_written source) atom m))
+      (pred_arity_sound atom (pred_named source (said source atom.name)) m refl))
+      (each (node_faults source of_state) atom.nodes (λ node at. node_sound of_state node node.kind
+      (via (λ (other : RawAtom). other.nodes) (atoms_written source) atom node m at) (λ yes_. via (λ (other : RawAtom). other.nodes) (state_atoms source) atom node (s yes_) at) refl))
+
+  back_sound : (atom : RawAtom) (its : Option PredKind) → In (made_atoms source ++ state_atoms source) atom → kind_of source atom ≡ its → AreWrong (back_by its atom.name.from)
+  back_sound atom None m is = nothing
+  back_sound atom (Some Linear) m is = nothing
+  back_sound atom (Some Fact) m is = nothing
+  back_sound atom (Some Back) m is = λ fault found. backward_in_state atom (to_contains (made_atoms source ++ state_atoms source) atom m) is (in_one _ fault found)
+
+  linear_sound : (atom : RawAtom) (its : Option PredKind) → In (clause_atoms source) atom → kind_of source atom ≡ its → AreWrong (linear_by its atom.name.from)
+  linear_sound atom None m is = nothing
+  linear_sound atom (Some Back) m is = nothing
+  linear_sound atom (Some Linear) m is = λ fault found. linear_in_clause atom Linear (to_contains (clause_atoms source) atom m) is refl (in_one _ fault found)
+  linear_sound atom (Some Fact) m is = λ fault found. linear_in_clause atom Fact (to_contains (clause_atoms source) atom m) is refl (in_one _ fault found)
+
+  unfit_sound : (atom : RawAtom) → In (state_atoms source) atom → AreWrong (unfit_faults atom)
+  unfit_sound atom m fault found =
+      let d = differing (is_fit atom) (wrong OverLimit atom.name.from) fault found in over atom.name.from (IsOver.unfit atom (to_contains (state_atoms source) atom m) (not_fit atom d.0) refl) d.1
+
+  state_written : (atom : RawAtom) → In (state_atoms source) atom → In (atoms_written source) atom
+  state_written atom m = in_right (needed_atoms source) _ atom (in_right (made_atoms source) _ atom (in_right (clause_atoms source) _ atom m))
+
+  state_sound : (atom : RawAtom) → In (state_atoms source) atom → AreWrong (state_faults source atom)
+  state_sound atom m =
+      both (names_faults source true atom ++ back_faults source atom) (unfit_faults atom)
+      (both (names_faults source true atom) (back_faults source atom) (names_sound true atom (state_written atom m) (λ yes_. m))
+      (back_sound atom (kind_of source atom) (in_right (made_atoms source) (state_atoms source) atom m) refl))
+      (unfit_sound atom m)
+
+  clause_atom_sound : (atom : RawAtom) → In (clause_atoms source) atom → AreWrong (clause_atom_faults source atom)
+  clause_atom_sound atom m =
+      both (names_faults source false atom) (linear_faults source atom)
+      (names_sound false atom (in_right (needed_atoms source) _ atom (in_right (made_atoms source) _ atom (in_left (clause_atoms source) _ atom m))) (λ e. absurd (false≢true e)))
+      (linear_sound atom (kind_of source atom) m refl)
+
+  -- sides
+  made_sound : (made : Bool) (atom : RawAtom) → (made ≡ true → In (made_atoms source) atom) → AreWrong (let found : List Fault = if made then back_faults source atom else [] in found)
+  made_sound true atom m = back_sound atom (kind_of source atom) (in_left (made_atoms source) (state_atoms source) atom (m refl)) refl
+  made_sound false atom m = nothing
+
+  elem_sound : (made : Bool) (elem_ : RawElem) → ((atom : RawAtom) → In (atoms_in elem_) atom → In (atoms_written source) atom × (made ≡ true → In (made_atoms source) atom))
+      → ((name : Span) → In (stages_at elem_) name → In (uses_in source space.Stages) name) → AreWrong (elem_faults source made elem_)
+  elem_sound made (elem.Atom kept atom) atoms stages =
+      both (names_faults source false atom) (let found : List Fault = if made then back_faults source atom else [] in found)
+      (names_sound false atom (atoms atom (here atom [])).0 (λ e. absurd (false≢true e))) (made_sound made atom (atoms atom (here atom [])).1)
+  elem_sound made (elem.Stage name) atoms stages = use_sound space.Stages name (stages name (here name []))
+  elem_sound made (elem.Qui span) atoms stages = nothing
+
+  -- limits
+  past_by : {X : Type 0} (place : X → ℕ) (o : Option X) → ((x : X) → o ≡ Some x → IsOver source (place x)) → AreWrong (past (option_map place o))
+  past_by place None a = nothing
+  past_by place (Some x) a = λ fault found. over (place x) (a x refl) (in_one _ fault found)
+
+  past_sound : {X : Type 0} (place : X → ℕ) (xs : List X) (most : ℕ) → ((x : X) → slice_get xs most ≡ Some x → IsOver source (place x)) → AreWrong (past_most place xs most)
+  past_sound place xs most a = past_by place (slice_get xs most) a
+
+  -- declarations
+  argument_sound : (args : List Span) → ((name : Span) → In args name → In (uses_in source space.Sorts) name) → In (arguments_of source) args → AreWrong (argument_faults source args)
+  argument_sound args uses m =
+      both (flat_map (use_faults source space.Sorts) args) (past_most (λ (arg : Span). arg.from) args MOST_ARGUMENTS)
+      (each (use_faults source space.Sorts) args (λ name at. use_sound space.Sorts name (uses name at)))
+      (past_sound (λ (arg : Span). arg.from) args MOST_ARGUMENTS (λ name g. IsOver.argument args name (to_contains (arguments_of source) args m) g refl))
+
+  pred_sound : (pred : PredItem) → In (preds_of source) pred → AreWrong (predicate_faults source pred)
+  pred_sound pred m =
+      argument_sound pred.args (λ name at. in_left (flat_map (λ (other : PredItem). other.args) (preds_of source)) _ name (via (λ (other : PredItem). other.args) (preds_of source) pred name m at))
+      (in_right (map (λ (other : ConItem). other.args) (cons_of source)) _ pred.args (mapped (λ (other : PredItem). other.args) (preds_of source) pred m))
+
+  con_use : (con : ConItem) → In (cons_of source) con → (name : Span) → In (con.args ++ con.sort ∷ []) name → In (uses_in source space.Sorts) name
+  con_use con m name at =
+      in_right (flat_map (λ (other : PredItem). other.args) (preds_of source)) _ name (via (λ (other : ConItem). other.args ++ other.sort ∷ []) (cons_of source) con name m at)
+
+  con_sound : (con : ConItem) → In (cons_of source) con → AreWrong (con_faults source con)
+  con_sound con m =
+      both (argument_faults source con.args) (use_faults source space.Sorts con.sort)
+      (argument_sound con.args (λ name at. con_use con m name (in_left con.args _ name at)) (in_left (map (λ (other : ConItem). other.args) (cons_of source)) _ con.args (mapped (λ (other : ConItem). other.args) (cons_of source) con m)))
+      (use_sound space.Sorts con.sort (con_use con m con.sort (in_right con.args _ con.sort (here con.sort []))))
+
+  -- rules
+  stage_use : (rule : RuleItem) → In (rules_of source) rule → (name : Span) → In (stages_named rule.raw.left ++ stages_named rule.raw.right) name → In (uses_in source space.Stages) name
+  stage_use rule m name at =
+      in_left (flat_map (λ (other : RuleItem). stages_named other.raw.left ++ stages_named other.raw.right) (rules_of source)) _ name
+      (via (λ (other : RuleItem). stages_named other.raw.left ++ stages_named other.raw.right) (rules_of source) rule name m at)
+
+  left_sound : (rule : RuleItem) → In (rules_of source) rule → (elem_ : RawElem) → In rule.raw.left elem_ → AreWrong (elem_faults source false elem_)
+  left_sound rule m elem_ at =
+      elem_sound false elem_
+      (λ atom its. (in_left (needed_atoms source) _ atom (via (λ (other : RuleItem). atoms_of other.raw.left) (rules_of source) rule atom m (via atoms_in rule.raw.left elem_ atom at its)), λ e. absurd (false≢true e)))
+      (λ name its. stage_use rule m name (in_left (stages_named rule.raw.left) _ name (via stages_at rule.raw.left elem_ name at its)))
+
+  right_sound : (rule : RuleItem) → In (rules_of source) rule → (elem_ : RawElem) → In rule.raw.right elem_ → AreWrong (elem_faults source true elem_)
+  right_sound rule m elem_ at =
+      let made : (atom : RawAtom) → In (atoms_in elem_) atom → In (made_atoms source) atom =
+      λ atom its. via (λ (other : RuleItem). atoms_of other.raw.right) (rules_of source) rule atom m (via atoms_in rule.raw.right elem_ atom at its) in
+      elem_sound true elem_ (λ atom its. (in_right (needed_atoms source) _ atom (in_left (made_atoms source) _ atom (made atom its)), λ e. made atom its))
+      (λ name its. stage_use rule m name (in_right (stages_named rule.raw.left) _ name (via stages_at rule.raw.right elem_ name at its)))
+
+  home_by : (rule : RuleItem) (home : Option Span) → In (rules_of source) rule → rule.home ≡ home → AreWrong (let found : List Fault = if is_some home || is_qui_rule rule.raw then [] else wrong BadQui rule.raw.at ∷ [] in found)
+  home_by rule (Some stage) m is = nothing
+  home_by rule None m is = λ fault found.
+      let d = differing (is_qui_rule rule.raw) (wrong BadQui rule.raw.at) fault found in bad_qui rule (to_contains (rules_of source) rule m) is (not_qui rule.raw d.0) d.1
+
+  rule_sound : (rule : RuleItem) → In (rules_of source) rule → AreWrong (rule_faults source rule)
+  rule_sound rule m =
+      let left = rule.raw.left in
+      let a : List Fault = flat_map (elem_faults source false) left in
+      let b : List Fault = flat_map (elem_faults source true) rule.raw.right in
+      let d : List Fault = premise_faults source false left MOST_PREMISES in
+      let e : List Fault = premise_faults source true left MOST_BACKS in
+      let f : List Fault = right_faults rule.raw.right in
+      let g : List Fault = variable_faults source (atoms_of left) in
+      let known = to_contains (rules_of source) rule m in
+      both (a ++ b ++ d ++ e ++ f ++ g) (home_faults rule)
+      (both (a ++ b ++ d ++ e ++ f) g
+      (both (a ++ b ++ d ++ e) f
+      (both (a ++ b ++ d) e
+      (both (a ++ b) d
+      (both a b (each (elem_faults source false) left (left_sound rule m)) (each (elem_faults source true) rule.raw.right (right_sound rule m)))
+      (past_sound (λ (atom : RawAtom). atom.name.from) (state_premises_of source rule.raw) MOST_PREMISES (λ atom got. IsOver.premise rule atom known got refl)))
+      (past_sound (λ (atom : RawAtom). atom.name.from) (backward_of source rule.raw) MOST_BACKS (λ atom got. IsOver.back rule atom known got refl)))
+      (past_sound (λ (atom : RawAtom). atom.name.from) (atoms_of rule.raw.right) MOST_RIGHT (λ atom got. IsOver.right rule atom known got refl)))
+      (past_sound (λ (occurrence : Occurrence). occurrence.at.from) (variables_of source (atoms_of left)) MOST_VARIABLES (λ occurrence got. IsOver.rule_variable rule occurrence known got refl)))
+      (home_by rule rule.home m refl)
+
+  clause_sound : (clause : ClauseItem) → In (clauses_of source) clause → AreWrong (clause_faults source clause)
+  clause_sound clause m =
+      let a : List Fault = clause_atom_faults source clause.head in
+      let b : List Fault = flat_map (clause_atom_faults source) clause.goals in
+      let d : List Fault = past_most (λ (atom : RawAtom). atom.name.from) clause.goals MOST_GOALS in
+      let known = to_contains (clauses_of source) clause m in
+      let among : (atom : RawAtom) → In (clause.head ∷ clause.goals) atom → In (clause_atoms source) atom = λ atom at. via (λ (other : ClauseItem). other.head ∷ other.goals) (clauses_of source) clause atom m at in
+      both (a ++ b ++ d) (variable_faults source (clause.head ∷ clause.goals))
+      (both (a ++ b) d
+      (both a b (clause_atom_sound clause.head (among clause.head (here clause.head clause.goals))) (each (clause_atom_faults source) clause.goals (λ atom at. clause_atom_sound atom (among atom (in_right (clause.head ∷ []) clause.goals atom at)))))
+      (past_sound (λ (atom : RawAtom). atom.name.from) clause.goals MOST_GOALS (λ atom got. IsOver.goal clause atom known got refl)))
+      (past_sound (λ (occurrence : Occurrence). occurrence.at.from) (variables_of source (clause.head ∷ clause.goals)) MOST_VARIABLES (λ occurrence got. IsOver.clause_variable clause occurrence known got refl))
+
+  -- states
+  context_sound : (context : ContextItem) → In (contexts_of source) context → AreWrong (context_faults source context)
+  context_sound context m =
+      each (listed_faults source false) context.atoms (λ atom at. state_sound atom
+      (in_left (flat_map (λ (other : ContextItem). other.atoms) (contexts_of source)) _ atom (via (λ (other : ContextItem). other.atoms) (contexts_of source) context atom m at)))
+
+  listed_by : (atom : RawAtom) (stands : Bool) → (stands ≡ false → In (state_atoms source) atom) → AreWrong (let found : List Fault = if stands then [] else state_faults source atom in found)
+  listed_by atom true m = nothing
+  listed_by atom false m = state_sound atom (m refl)
+
+  begin_sound : (trace : TraceItem) (start : RawStart) → In (traces_of source) trace → trace.start ≡ start → AreWrong (begin_faults source start)
+  begin_sound trace (state.Named name) m is =
+      use_sound space.Contexts name (via (λ (other : TraceItem). contexts_at other.start) (traces_of source) trace name m (in_same _ (name ∷ []) name (ap contexts_at is) (here name [])))
+  begin_sound trace (state.Listed atoms) m is =
+      each (listed_faults source true) atoms (λ atom at. listed_by atom (stands_for_context source atom) (λ itself.
+      in_right (flat_map (λ (other : ContextItem). other.atoms) (contexts_of source)) _ atom
+      (via (λ (other : TraceItem). filter (λ raw. not (stands_for_context source raw)) (start_listed other.start)) (traces_of source) trace atom m
+      (kept_in (λ raw. not (stands_for_context source raw)) (start_listed trace.start) atom (in_same (start_listed trace.start) atoms atom (ap start_listed is) at) (ap not itself)))))
+
+  turns_sound : (trace : TraceItem) (limit : Option Span) → In (traces_of source) trace → trace.limit ≡ limit → AreWrong (turns_faults source.text limit)
+  turns_sound trace None m is = nothing
+  turns_sound trace (Some number) m is = λ fault found.
+      let d = differing (is_some (turns_said source.text number)) (wrong OverLimit number.from) fault found in
+      over number.from (IsOver.turns trace number (to_contains (traces_of source) trace m) is (none_of (turns_said source.text number) d.0) refl) d.1
+
+  trace_sound : (trace : TraceItem) → In (traces_of source) trace → AreWrong (trace_faults source trace)
+  trace_sound trace m =
+      both (use_faults source space.Stages trace.stage ++ begin_faults source trace.start) (turns_faults source.text trace.limit)
+      (both (use_faults source space.Stages trace.stage) (begin_faults source trace.start)
+      (use_sound space.Stages trace.stage (in_right (flat_map (λ (other : RuleItem). stages_named other.raw.left ++ stages_named other.raw.right) (rules_of source)) _ trace.stage
+      (in_right (interactives_of source) _ trace.stage (mapped (λ (other : TraceItem). other.stage) (traces_of source) trace m))))
+      (begin_sound trace trace.start m refl))
+      (turns_sound trace trace.limit m refl)
+
+  -- the whole
+  count_sound : AreWrong (count_faults source)
+  count_sound =
+      let preds : List Fault = past_most (λ (pred : PredItem). pred.name.from) (preds_of source) MOST_PREDS in
+      let cons : List Fault = past_most (λ (con : ConItem). con.name.from) (cons_of source) MOST_CONS in
+      let rules_ : List Fault = past_most (λ (rule : RuleItem). rule.raw.at) (rules_of source) MOST_RULES in
+      both (preds ++ cons ++ rules_) (past_most (λ (clause : ClauseItem). clause.head.name.from) (clauses_of source) MOST_CLAUSES)
+      (both (preds ++ cons) rules_
+      (both preds cons
+      (past_sound (λ (pred : PredItem). pred.name.from) (preds_of source) MOST_PREDS (λ pred got. IsOver.predicate pred got refl))
+      (past_sound (λ (con : ConItem). con.name.from) (cons_of source) MOST_CONS (λ con got. IsOver.constructor con got refl)))
+      (past_sound (λ (rule : RuleItem). rule.raw.at) (rules_of source) MOST_RULES (λ rule got. IsOver.rule rule got refl)))
+      (past_sound (λ (clause : ClauseItem). clause.head.name.from) (clauses_of source) MOST_CLAUSES (λ clause got. IsOver.clause clause got refl))
+
+  start_sound : (trace : TraceItem) (rest : List TraceItem) → traces_of source ≡ trace ∷ rest → AreWrong (start_faults source trace)
+  start_sound trace rest is fault found =
+      let atoms = counting source (start_atoms source trace.start) in
+      let h = holding (nat_lt MOST_COPIES (length atoms) || nat_lt MOST_STATE_NODES (sum_by nodes_written atoms)) (wrong OverLimit trace.at) fault found in
+      over trace.at
+      (⊎_elim (λ k. IsOver.copies trace rest is (ltb-true MOST_COPIES (length atoms) k) refl) (λ k. IsOver.nodes trace rest is (ltb-true MOST_STATE_NODES (sum_by nodes_written atoms) k) refl)
+      (or_cases (nat_lt MOST_COPIES (length atoms)) (nat_lt MOST_STATE_NODES (sum_by nodes_written atoms)) h.0))
+      h.1
+
+  traces_sound : (traces : List TraceItem) → traces_of source ≡ traces → AreWrong (traces_faults source traces)
+  traces_sound [] is = λ fault found. no_trace is (in_one _ fault found)
+  traces_sound (trace ∷ rest) is =
+      both (start_faults source trace) (two_faults rest) (start_sound trace rest is)
+      (λ fault found. let i = image (λ (other : TraceItem). wrong TwoTraces other.at) rest fault found in two_traces trace i.from rest is (to_contains rest i.from i.member) i.is)
+
+  pub sound : AreWrong (all_faults source)
+  sound =
+      let a : List Fault = flat_map (predicate_faults source) (preds_of source) in
+      let b : List Fault = flat_map (con_faults source) (cons_of source) in
+      let d : List Fault = flat_map (rule_faults source) (rules_of source) in
+      let e : List Fault = flat_map (clause_faults source) (clauses_of source) in
+      let f : List Fault = flat_map (context_faults source) (contexts_of source) in
+      let g : List Fault = flat_map (use_faults source space.Stages) (interactives_of source) in
+      let h : List Fault = flat_map (trace_faults source) (traces_of source) in
+      let i : List Fault = count_faults source in
+      both (a ++ b ++ d ++ e ++ f ++ g ++ h ++ i) (traces_faults source (traces_of source))
+      (both (a ++ b ++ d ++ e ++ f ++ g ++ h) i
+      (both (a ++ b ++ d ++ e ++ f ++ g) h
+      (both (a ++ b ++ d ++ e ++ f) g
+      (both (a ++ b ++ d ++ e) f
+      (both (a ++ b ++ d) e
+      (both (a ++ b) d
+      (both a b (each (predicate_faults source) (preds_of source) pred_sound) (each (con_faults source) (cons_of source) con_sound))
+      (each (rule_faults source) (rules_of source) rule_sound))
+      (each (clause_faults source) (clauses_of source) clause_sound))
+      (each (context_faults source) (contexts_of source) context_sound))
+      (each (use_faults source space.Stages) (interactives_of source) (λ name at. use_sound space.Stages name
+      (in_right (flat_map (λ (other : RuleItem). stages_named other.raw.left ++ stages_named other.raw.right) (rules_of source)) _ name (in_left (interactives_of source) _ name at)))))
+      (each (trace_faults source) (traces_of source) trace_sound))
+      count_sound)
+      (traces_sound (traces_of source) refl)

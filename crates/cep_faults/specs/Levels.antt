@@ -4,7 +4,7 @@ use Rattle.std.specs.Prelude.{ℕ, Bool, List, [], ◌∷◌, ◌++◌, nat_le}
 use Rattle.std.specs.List.{repeat}
 use Rattle.cep_parse.specs.declared.raw.RawNode.{RawNode}
 use Rattle.cep_base.specs.declared.limits.TheConstants.{MOST_DEPTH}
-use Rattle.cep_faults.specs.declared.fitness.Run.{Run}
+use Rattle.cep_faults.specs.declared.limits.Run.{Run}
 use Rattle.cep_source.specs.Starts.{levels, greatest}
 
 -- the levels of the terms that runs stand for, those of the last run first

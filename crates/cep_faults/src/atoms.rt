@@ -1,158 +1,131 @@
 // The atoms of a file, by where they stand.
-ghost use Rattle.std.specs.Prelude.{◌≡◌, ◌++◌, map};
+ghost use Rattle.std.specs.Prelude.{◌≡◌, IfOk};
 ghost use Rattle.std.specs.List.{flat_map};
 ghost use Rattle.cep_refusal.specs.First.{first_in};
-ghost use Rattle.cep_parse.specs.Raw.{atoms_in, atoms_of};
-ghost use Rattle.cep_source.specs.Uses.{names_context, placed};
-ghost use Rattle.cep_faults.specs.Faults.{pred_faults, open_faults, back_faults, linear_faults, state_faults, role_faults, placed_faults};
+ghost use Rattle.cep_source.specs.Kept.{atom_at};
+ghost use Rattle.cep_faults.specs.Faults.{pred_faults, node_faults, names_faults, back_faults, clause_atom_faults, side_atom_faults, elem_faults, state_faults, listed_faults};
 
-use crate::uses::{nodes_fault, use_fault};
+use crate::limits::unfit_fault;
+use crate::uses::{arity_fault, use_fault, wrong};
 use cep_base::PredKind;
-use cep_parse::{RawAtom, RawElem, RawKind, RawNode, Span};
+use cep_parse::{RawAtom, RawElem, RawKind, RawNode};
 use cep_refusal::{Fault, FirstFault, Reason};
-use cep_source::{Role, Source, Space};
+use cep_source::{AtomRef, Source, Space};
+use std::alloc::AllocError;
 
-// Whether an atom stands for the atoms of a context.
-pub(crate) fn names_context(source: &Source, role: Role, name: Span, args: u32) -> bool
-    ensures { result ≡ names_context source.now role name args }
+// The fault of the predicate of an atom.
+fn pred_fault(source: &Source, atom: AtomRef) -> Option<Fault>
+    ensures { result ≡ first_in (pred_faults source.now (atom_at atom.entry)) }
 {
-    matches!(role, Role::Start)
-        && args == 0
-        && !source.has(Space::Predicates, name)
-        && source.has(Space::Contexts, name)
+    let arity = source.pred(atom.name).map(|pred| pred.args.len());
+    Fault::first_of(
+        use_fault(source, Space::Predicates, atom.name),
+        arity_fault(arity, atom.args, atom.name.from),
+    )
 }
 
-// The first fault of the predicate of an atom.
-fn pred_fault(source: &Source, role: Role, name: Span, args: u32) -> Option<Fault>
-    ensures { result ≡ first_in (pred_faults source.now role name args) }
+// The fault of a node: of a constructor, or, in a state, of a variable or a blank.
+fn node_fault(source: &Source, of_state: bool, node: &RawNode) -> Option<Fault>
+    ensures { result ≡ first_in (node_faults source.now of_state node.now) }
 {
-    if names_context(source, role, name, args) {
-        None
-    } else {
-        use_fault(source, Space::Predicates, name, args)
+    if node.kind == RawKind::App {
+        let arity = source.con(node.at).map(|con| con.args.len());
+        return Fault::first_of(
+            use_fault(source, Space::Constructors, node.at),
+            arity_fault(arity, node.args, node.at.from),
+        );
     }
-}
-
-// A variable or a blank in a state.
-fn open_fault(node: &RawNode) -> Option<Fault>
-    ensures { result ≡ first_in (open_faults node.now) }
-{
-    match node.kind {
-        RawKind::App => None,
-        RawKind::Var | RawKind::Blank => Some(Fault {
-            reason: Reason::VarInContext,
-            at: node.at.from,
-        }),
+    if !of_state {
+        return None;
     }
+    wrong(Reason::VarInContext, node.at.from)
 }
 
-fn first_open(nodes: &[RawNode]) -> Option<Fault>
-    ensures { result ≡ first_in (flat_map open_faults nodes.now) }
+// The first fault of the names that an atom uses, and, in a state, of its variables.
+fn names_fault(source: &Source, of_state: bool, atom: AtomRef) -> Option<Fault>
+    ensures { result ≡ first_in (names_faults source.now of_state (atom_at atom.entry)) }
 {
     let mut first = FirstFault::none();
-    for node in nodes {
-        first.note(open_fault(node));
+    first.note(pred_fault(source, atom));
+    for node in atom.nodes {
+        first.note(node_fault(source, of_state, node));
     }
     first.found()
 }
 
 // A backward predicate where an atom becomes part of a state.
-fn back_fault(kind: Option<PredKind>, at: u32) -> Option<Fault>
-    ensures { result ≡ first_in (back_faults kind at) }
+fn back_fault(source: &Source, atom: AtomRef) -> Option<Fault>
+    ensures { result ≡ first_in (back_faults source.now (atom_at atom.entry)) }
 {
-    match kind {
-        Some(PredKind::Back) => Some(Fault {
-            reason: Reason::BwdInState,
-            at,
-        }),
+    match source.kind(atom.name) {
+        Some(PredKind::Back) => wrong(Reason::BwdInState, atom.name.from),
         Some(PredKind::Linear | PredKind::Fact) | None => None,
     }
 }
 
-// A predicate of states in a clause, a linear one or one of facts.
-fn linear_fault(kind: Option<PredKind>, at: u32) -> Option<Fault>
-    ensures { result ≡ first_in (linear_faults kind at) }
+// The first fault of an atom of a clause, where no predicate is of states.
+pub(crate) fn clause_atom_fault(source: &Source, atom: AtomRef) -> Option<Fault>
+    ensures { result ≡ first_in (clause_atom_faults source.now (atom_at atom.entry)) }
 {
-    match kind {
-        Some(PredKind::Linear | PredKind::Fact) => Some(Fault {
-            reason: Reason::LinearInClause,
-            at,
-        }),
-        Some(PredKind::Back) | None => None,
+    let names = names_fault(source, false, atom);
+    let linear = wrong(Reason::LinearInClause, atom.name.from);
+    match source.kind(atom.name) {
+        Some(PredKind::Linear) => Fault::first_of(names, linear),
+        Some(PredKind::Fact) => Fault::first_of(names, linear),
+        Some(PredKind::Back) | None => names,
     }
 }
 
-// The first fault of an atom of a state, apart from the names that it uses.
-#[tactic(auto, using(crate::proofs::Firsts::first_in_append))]
-fn state_fault(source: &Source, name: Span, nodes: &[RawNode]) -> Option<Fault>
-    ensures { result ≡ first_in (state_faults source.now name nodes.now) }
+// The first fault of an atom of a side, which a right side makes part of a state.
+fn side_atom_fault(source: &Source, made: bool, atom: AtomRef) -> Option<Fault>
+    ensures { result ≡ first_in (side_atom_faults source.now made (atom_at atom.entry)) }
 {
-    Fault::first_of(first_open(nodes), back_fault(source.kind(name), name.from))
-}
-
-fn role_fault(source: &Source, role: Role, name: Span, nodes: &[RawNode]) -> Option<Fault>
-    ensures { result ≡ first_in (role_faults source.now role name nodes.now) }
-{
-    match role {
-        Role::Needed => None,
-        Role::Made => back_fault(source.kind(name), name.from),
-        Role::Clause => linear_fault(source.kind(name), name.from),
-        Role::Listed => state_fault(source, name, nodes),
-        Role::Start => state_fault(source, name, nodes),
+    let names = names_fault(source, false, atom);
+    if made {
+        Fault::first_of(names, back_fault(source, atom))
+    } else {
+        names
     }
 }
 
-// The first fault of an atom: of the names that it uses, and of its role.
-#[tactic(auto, using(crate::proofs::Firsts::first_in_append))]
-pub(crate) fn placed_fault(
-    source: &Source,
-    role: Role,
-    name: Span,
-    args: u32,
-    nodes: &[RawNode],
-) -> Option<Fault>
-    ensures { result ≡ first_in (placed_faults source.now (placed role (record { name = name; args = args; nodes = nodes.now }))) }
-{
-    let rest = Fault::first_of(
-        nodes_fault(source, nodes),
-        role_fault(source, role, name, nodes),
-    );
-    Fault::first_of(pred_fault(source, role, name, args), rest)
-}
-
-pub(crate) fn atom_fault(source: &Source, role: Role, atom: &RawAtom) -> Option<Fault>
-    ensures { result ≡ first_in (placed_faults source.now (placed role atom.now)) }
-{
-    placed_fault(source, role, atom.name, atom.args, atom.nodes.as_slice())
-}
-
-// The first fault of atoms of one role.
-pub(crate) fn atoms_fault(source: &Source, role: Role, atoms: &[RawAtom]) -> Option<Fault>
-    ensures { result ≡ first_in (flat_map (placed_faults source.now) (map (placed role) atoms.now)) }
-{
-    let mut first = FirstFault::none();
-    for atom in atoms {
-        first.note(atom_fault(source, role, atom));
-    }
-    first.found()
-}
-
-fn elem_fault(source: &Source, role: Role, elem: &RawElem) -> Option<Fault>
-    ensures { result ≡ first_in (flat_map (placed_faults source.now) (map (placed role) (atoms_in elem.now))) }
-{
-    match elem.atom() {
-        Some(atom) => atom_fault(source, role, atom),
-        None => None,
-    }
-}
-
-// The first fault of the atoms of a rule's side.
-pub(crate) fn side_fault(source: &Source, role: Role, side: &[RawElem]) -> Option<Fault>
-    ensures { result ≡ first_in (flat_map (placed_faults source.now) (map (placed role) (atoms_of side.now))) }
+// The first fault of what stands on a side.
+pub(crate) fn side_fault(source: &Source, made: bool, side: &[RawElem]) -> Option<Fault>
+    ensures { result ≡ first_in (flat_map (elem_faults source.now made) side.now) }
 {
     let mut first = FirstFault::none();
     for elem in side {
-        first.note(elem_fault(source, role, elem));
+        first.note(match elem {
+            RawElem::Atom { atom, .. } => side_atom_fault(source, made, AtomRef::of_raw(atom)),
+            RawElem::Stage(name) => use_fault(source, Space::Stages, *name),
+            RawElem::Qui(_) => None,
+        });
     }
     first.found()
+}
+
+// The first fault of an atom of a state.
+fn state_fault(source: &Source, atom: AtomRef) -> Result<Option<Fault>, AllocError>
+    ensures { IfOk result (λ first. first ≡ first_in (state_faults source.now (atom_at atom.entry))) }
+{
+    let unfit = unfit_fault(source.alloc(), atom)?;
+    let names = names_fault(source, true, atom);
+    Ok(Fault::first_of(Fault::first_of(names, back_fault(source, atom)), unfit))
+}
+
+// The first fault of atoms that a context lists, or a trace in braces.
+pub(crate) fn listed_fault(
+    source: &Source,
+    in_braces: bool,
+    atoms: &[RawAtom],
+) -> Result<Option<Fault>, AllocError>
+    ensures { IfOk result (λ first. first ≡ first_in (flat_map (listed_faults source.now in_braces) atoms.now)) }
+{
+    let mut first = FirstFault::none();
+    for atom in atoms {
+        if in_braces && source.stands_for_context(atom) {
+            continue;
+        }
+        first.note(state_fault(source, AtomRef::of_raw(atom))?);
+    }
+    Ok(first.found())
 }

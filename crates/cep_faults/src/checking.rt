@@ -1,26 +1,103 @@
-// The public call that joins all faults.
+// What a file declares, kind by kind, and the public call that joins all faults.
 ghost use Rattle.std.specs.Prelude.{◌≡◌, ◌≤◌, length, IfOk};
+ghost use Rattle.std.specs.List.{flat_map};
 ghost use Rattle.cep_base.specs.declared.limits.TheConstants.{MOST_TEXT};
 ghost use Rattle.cep_refusal.specs.First.{first_in, IsFirstOrNone};
+ghost use Rattle.cep_source.specs.Items.{preds_of, cons_of, contexts_of, traces_of};
+ghost use Rattle.cep_faults.specs.Faults.{argument_faults, predicate_faults, con_faults, context_faults, begin_faults, trace_faults};
 ghost use Rattle.cep_faults.specs.Totals.{all_faults};
 ghost use Rattle.cep_faults.specs.Misnamed.{Misnamed};
 
-use crate::kinds::kinds_fault;
-use crate::limits::count_past;
-use crate::sizes::Sizes;
+use crate::atoms::listed_fault;
+use crate::limits::{argument_past, count_past, turns_past};
+use crate::rules::{clauses_fault, rules_fault};
 use crate::traces::total_fault;
-use cep_refusal::Fault;
-use cep_source::Source;
+use crate::uses::{use_fault, uses_fault};
+use cep_parse::{RawStart, Span};
+use cep_refusal::{Fault, FirstFault};
+use cep_source::{Source, Space};
 use std::alloc::AllocError;
+
+// The first fault of the types of the arguments of a declaration.
+fn argument_fault(source: &Source, args: &[Span]) -> Option<Fault>
+    ensures { result ≡ first_in (argument_faults source.now args.now) }
+{
+    Fault::first_of(uses_fault(source, Space::Sorts, args), argument_past(args))
+}
+
+// The first fault of the declarations of predicates.
+fn predicates_fault(source: &Source) -> Option<Fault>
+    ensures { result ≡ first_in (flat_map (predicate_faults source.now) (preds_of source.now)) }
+{
+    let mut first = FirstFault::none();
+    for pred in source.preds() {
+        first.note(argument_fault(source, pred.args));
+    }
+    first.found()
+}
+
+// The first fault of the declarations of constructors.
+fn cons_fault(source: &Source) -> Option<Fault>
+    ensures { result ≡ first_in (flat_map (con_faults source.now) (cons_of source.now)) }
+{
+    let mut first = FirstFault::none();
+    for con in source.cons() {
+        first.note(argument_fault(source, con.args));
+        first.note(use_fault(source, Space::Sorts, con.sort));
+    }
+    first.found()
+}
+
+// The first fault of the contexts.
+fn contexts_fault(source: &Source) -> Result<Option<Fault>, AllocError>
+    ensures { IfOk result (λ first. first ≡ first_in (flat_map (context_faults source.now) (contexts_of source.now))) }
+{
+    let mut first = FirstFault::none();
+    for context in source.contexts() {
+        first.note(listed_fault(source, false, context.atoms)?);
+    }
+    Ok(first.found())
+}
+
+// The first fault of what a trace starts with.
+fn begin_fault(source: &Source, start: &RawStart) -> Result<Option<Fault>, AllocError>
+    ensures { IfOk result (λ first. first ≡ first_in (begin_faults source.now start.now)) }
+{
+    match start {
+        RawStart::Named(name) => Ok(use_fault(source, Space::Contexts, *name)),
+        RawStart::Listed(atoms) => listed_fault(source, true, atoms.as_slice()),
+    }
+}
+
+// The first fault of the traces, but for their number and the size of a start state.
+fn traces_fault(source: &Source) -> Result<Option<Fault>, AllocError>
+    ensures { IfOk result (λ first. first ≡ first_in (flat_map (trace_faults source.now) (traces_of source.now))) }
+{
+    let mut first = FirstFault::none();
+    for trace in source.traces() {
+        first.note(use_fault(source, Space::Stages, trace.stage));
+        first.note(begin_fault(source, trace.start)?);
+        first.note(turns_past(source.text(), trace.limit));
+    }
+    Ok(first.found())
+}
 
 // The first fault of a text, but for names that are declared again.
 fn other_fault(source: &Source) -> Result<Option<Fault>, AllocError>
     requires { length source.now.text ≤ MOST_TEXT }
     ensures { IfOk result (λ first. first ≡ first_in (all_faults source.now)) }
 {
-    let sizes = Sizes::of(source)?;
-    let totals = Fault::first_of(count_past(source), total_fault(source, &sizes)?);
-    Ok(Fault::first_of(kinds_fault(source)?, totals))
+    let mut first = FirstFault::none();
+    first.note(predicates_fault(source));
+    first.note(cons_fault(source));
+    first.note(rules_fault(source)?);
+    first.note(clauses_fault(source)?);
+    first.note(contexts_fault(source)?);
+    first.note(uses_fault(source, Space::Stages, source.interactives()));
+    first.note(traces_fault(source)?);
+    first.note(count_past(source));
+    first.note(total_fault(source)?);
+    Ok(first.found())
 }
 
 /// The first fault of a text's names, or none: a name that is declared again, a use of a name that

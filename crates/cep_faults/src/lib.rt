@@ -4,13 +4,9 @@
 mod atoms;
 mod checking;
 mod facts;
-mod fitness;
-mod kinds;
 mod limits;
 mod rules;
-mod sizes;
 mod traces;
 mod uses;
-mod variables;
 
 pub use checking::name_fault;

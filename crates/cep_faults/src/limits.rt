@@ -1,125 +1,107 @@
-// All limits of numbers: what a file has too much of. The sizes of a start state, the variables and
-// the nodes of atoms are counted elsewhere.
-ghost use Rattle.std.specs.Prelude.{◌≡◌, ◌++◌, Some, map, slice_get, option_to_list};
-ghost use Rattle.std.specs.List.{flat_map};
+// All limits of numbers: what a file has too much of, and how much an atom of a state may be.
+ghost use Rattle.std.specs.Prelude.{◌≡◌, [], ◌∷◌, ◌++◌, true, false, map, slice_get, IfOk, OnOk, IfSome, IfNone};
+ghost use Rattle.std.specs.Option.{option_map};
+ghost use Rattle.std.specs.List.{repeat};
 ghost use Rattle.cep_refusal.specs.First.{first_in};
-ghost use Rattle.cep_source.specs.Items.{preds_of, cons_of, rules_of, clauses_of};
-ghost use Rattle.cep_faults.specs.Premises.{is_declared};
-ghost use Rattle.cep_faults.specs.Faults.{past, argument_faults, places, premise_places, atom_places, size_faults, turns_faults};
-ghost use Rattle.cep_faults.specs.Totals.{clause_places, count_faults};
+ghost use Rattle.cep_base.specs.declared.limits.TheConstants.{MOST_ARGUMENTS, MOST_BACKS, MOST_GOALS, MOST_PREMISES, MOST_VARIABLES};
+ghost use Rattle.cep_source.specs.Kept.{atom_at};
+ghost use Rattle.cep_faults.specs.Faults.{past, past_most, premise_faults, right_faults, turns_faults, unfit_faults};
+ghost use Rattle.cep_faults.specs.Levels.{pending, is_shallow};
+ghost use Rattle.cep_faults.specs.Totals.{count_faults, large_faults};
 
-use cep_base::PredKind;
+use crate::traces::Size;
+use crate::uses::wrong;
 use cep_base::limits::{
-    MOST_ARGUMENTS, MOST_BACKS, MOST_CLAUSES, MOST_CONS, MOST_GOALS, MOST_PREDS, MOST_PREMISES,
-    MOST_RIGHT, MOST_RULES,
+    MOST_ARGUMENTS, MOST_BACKS, MOST_CLAUSES, MOST_CONS, MOST_COPIES, MOST_DEPTH, MOST_GOALS,
+    MOST_NODES, MOST_PREDS, MOST_PREMISES, MOST_RIGHT, MOST_RULES, MOST_STATE_NODES,
+    MOST_VARIABLES,
 };
-use cep_parse::{RawAtom, RawElem, RawItem, RawRule, Span};
+use cep_parse::{RawAtom, RawElem, RawNode, Span};
 use cep_refusal::{Fault, Reason};
-use cep_source::{Source, item_at, turns_said};
+use cep_source::{AtomRef, Source, Variables, item_at, turns_said};
+use std::alloc::{AllocError, Global};
 
 // The fault of the first one too many.
 pub(crate) fn past(at: Option<u32>) -> Option<Fault>
     ensures { result ≡ first_in (past at) }
 {
     let at = at?;
-    Some(Fault {
-        reason: Reason::OverLimit,
-        at,
-    })
+    wrong(Reason::OverLimit, at)
 }
 
-// The first argument of a declaration that is one too many.
+// The fault of the first argument of a declaration that is one too many.
 pub(crate) fn argument_past(args: &[Span]) -> Option<Fault>
-    ensures { result ≡ first_in (argument_faults args.now) }
+    ensures { result ≡ first_in (past_most (λ arg. arg.from) args.now MOST_ARGUMENTS) }
 {
-    let arg = args.get(MOST_ARGUMENTS)?;
-    past(Some(arg.from))
+    past(item_at(args, MOST_ARGUMENTS).map(|arg| arg.from))
 }
 
-// Whether a predicate is declared, and clauses define it or they do not.
-fn is_declared(back: bool, declared: Option<PredKind>) -> bool
-    ensures { result ≡ is_declared back declared }
+// The fault of the first goal of a clause that is one too many.
+pub(crate) fn goal_past(goals: &[RawAtom]) -> Option<Fault>
+    ensures { result ≡ first_in (past_most (λ goal. goal.name.from) goals.now MOST_GOALS) }
 {
-    match declared {
-        None => false,
-        Some(kind) => kind.is_backward() == back,
-    }
+    past(goals.get(MOST_GOALS).map(|goal| goal.name.from))
 }
 
-// The place of an element that is such a premise.
-fn premise_place(source: &Source, back: bool, elem: &RawElem) -> Option<u32>
-    ensures { option_to_list result ≡ premise_places source.now back elem.now }
-{
-    match elem {
-        RawElem::Atom { atom, .. } if is_declared(back, source.kind(atom.name)) => {
-            Some(atom.name.from)
-        }
-        _ => None,
-    }
-}
-
-// The fault of the first such premise that is one too many.
-fn premise_past(source: &Source, back: bool, side: &[RawElem], most: usize) -> Option<Fault>
-    ensures { result ≡ first_in (past (slice_get (flat_map (premise_places source.now back) side.now) most)) }
+// The fault of the first premise that is one too many, of those of states or the backward ones.
+fn premise_past(source: &Source, back: bool, left: &[RawElem], most: usize) -> Option<Fault>
+    ensures { result ≡ first_in (premise_faults source.now back left.now most) }
 {
     let mut before = 0;
-    for elem in side {
-        let Some(at) = premise_place(source, back, elem) else {
+    for elem in left {
+        let Some(atom) = elem.atom() else {
             continue;
         };
+        let Some(kind) = source.kind(atom.name) else {
+            continue;
+        };
+        if kind.is_backward() != back {
+            continue;
+        }
         if before == most {
-            return past(Some(at));
+            return past(Some(atom.name.from));
         }
         before += 1;
     }
     None
 }
 
-// The place of an element that is an atom.
-fn atom_place(elem: &RawElem) -> Option<u32>
-    ensures { option_to_list result ≡ atom_places elem.now }
+// The fault of the first premise of states that is one too many.
+pub(crate) fn state_premise_past(source: &Source, left: &[RawElem]) -> Option<Fault>
+    ensures { result ≡ first_in (premise_faults source.now false left.now MOST_PREMISES) }
 {
-    match elem {
-        RawElem::Atom { atom, .. } => Some(atom.name.from),
-        RawElem::Qui(_) | RawElem::Stage(_) => None,
-    }
+    premise_past(source, false, left, MOST_PREMISES)
 }
 
-// The fault of the first atom of a side that is one too many.
-fn atom_past(side: &[RawElem], most: usize) -> Option<Fault>
-    ensures { result ≡ first_in (past (slice_get (flat_map atom_places side.now) most)) }
+// The fault of the first backward premise that is one too many.
+pub(crate) fn backward_past(source: &Source, left: &[RawElem]) -> Option<Fault>
+    ensures { result ≡ first_in (premise_faults source.now true left.now MOST_BACKS) }
+{
+    premise_past(source, true, left, MOST_BACKS)
+}
+
+// The fault of the first atom of a right side that is one too many.
+pub(crate) fn right_past(right: &[RawElem]) -> Option<Fault>
+    ensures { result ≡ first_in (right_faults right.now) }
 {
     let mut before = 0;
-    for elem in side {
-        if let Some(at) = atom_place(elem) {
-            if before == most {
-                return past(Some(at));
-            }
-            before += 1;
+    for elem in right {
+        let Some(atom) = elem.atom() else {
+            continue;
+        };
+        if before == MOST_RIGHT {
+            return past(Some(atom.name.from));
         }
+        before += 1;
     }
     None
 }
 
-// The first of what is too many in a rule.
-#[tactic(auto, using(crate::proofs::Firsts::first_in_append))]
-pub(crate) fn rule_past(source: &Source, rule: &RawRule) -> Option<Fault>
-    ensures { result ≡ first_in (size_faults source.now rule.now) }
+// The fault of the first variable that is one too many.
+pub(crate) fn variable_past(variables: &Variables) -> Option<Fault>
+    ensures { result ≡ first_in (past (option_map (λ at. at.from) (slice_get (map (λ entry. entry.1) variables.now.firsts) MOST_VARIABLES))) }
 {
-    let left = rule.left.as_slice();
-    let rest = Fault::first_of(
-        premise_past(source, true, left, MOST_BACKS),
-        atom_past(rule.right.as_slice(), MOST_RIGHT),
-    );
-    Fault::first_of(premise_past(source, false, left, MOST_PREMISES), rest)
-}
-
-// The first goal that is one too many.
-pub(crate) fn goal_past(goals: &[RawAtom]) -> Option<Fault>
-    ensures { result ≡ first_in (past (slice_get (places goals.now) MOST_GOALS)) }
-{
-    let goal = goals.get(MOST_GOALS)?;
-    past(Some(goal.name.from))
+    past(variables.firsts.at(MOST_VARIABLES).map(|at| at.from))
 }
 
 // The fault of a number of turns.
@@ -127,69 +109,96 @@ pub(crate) fn turns_past(text: &[u8], limit: Option<Span>) -> Option<Fault>
     ensures { result ≡ first_in (turns_faults text.now limit) }
 {
     let number = limit?;
-    match turns_said(text, number) {
-        Some(_) => None,
-        None => past(Some(number.from)),
+    if turns_said(text, number).is_some() {
+        return None;
     }
+    past(Some(number.from))
 }
 
-// The predicate that is one too many.
-fn pred_past(source: &Source) -> Option<Fault>
-    ensures { result ≡ first_in (past (slice_get (map (λ pred. pred.name.from) (preds_of source.now)) MOST_PREDS)) }
+// The fault of a start state of this size.
+pub(crate) fn start_past(size: Size, at: u32) -> Option<Fault>
+    ensures { result ≡ first_in (large_faults size at) }
 {
-    let pred = item_at(source.preds(), MOST_PREDS)?;
-    past(Some(pred.name.from))
-}
-
-// The constructor that is one too many.
-fn con_past(source: &Source) -> Option<Fault>
-    ensures { result ≡ first_in (past (slice_get (map (λ con. con.name.from) (cons_of source.now)) MOST_CONS)) }
-{
-    let con = item_at(source.cons(), MOST_CONS)?;
-    past(Some(con.name.from))
-}
-
-// The rule that is one too many.
-fn last_rule_past(source: &Source) -> Option<Fault>
-    ensures { result ≡ first_in (past (slice_get (map (λ rule. rule.raw.at) (rules_of source.now)) MOST_RULES)) }
-{
-    let rule = item_at(source.rules(), MOST_RULES)?;
-    past(Some(rule.raw.at))
-}
-
-// The place of an item that is a clause.
-fn clause_place(source: &Source, item: &RawItem) -> Option<u32>
-    ensures { option_to_list result ≡ clause_places source.now item.now }
-{
-    match item {
-        RawItem::Clause { head, .. } => Some(head.name.from),
-        RawItem::Colon { args, right, .. } if source.is_labelled(args, *right) => Some(right.from),
-        _ => None,
-    }
-}
-
-// The clause that is one too many.
-fn clause_past(source: &Source) -> Option<Fault>
-    ensures { result ≡ first_in (past (slice_get (map (λ clause. clause.head.name.from) (clauses_of source.now)) MOST_CLAUSES)) }
-{
-    let mut before = 0;
-    for item in source.items() {
-        let Some(at) = clause_place(source, item) else {
-            continue;
-        };
-        if before == MOST_CLAUSES {
-            return past(Some(at));
-        }
-        before += 1;
+    if size.copies > MOST_COPIES || size.nodes > MOST_STATE_NODES {
+        return past(Some(at));
     }
     None
 }
 
 // The first declaration that is one too many of its kind.
-#[tactic(auto, using(crate::proofs::Firsts::first_in_append))]
 pub(crate) fn count_past(source: &Source) -> Option<Fault>
     ensures { result ≡ first_in (count_faults source.now) }
 {
-    let last = Fault::first_of(last_rule_past(source), clause_past(source));
-    Fault::first_of(pred_past(source), Fault::first_of(con_past(source), last))
+    let pred = item_at(source.preds(), MOST_PREDS).map(|pred| pred.name.from);
+    let con = item_at(source.cons(), MOST_CONS).map(|con| con.name.from);
+    let rule = item_at(source.rules(), MOST_RULES).map(|rule| rule.raw.at);
+    let clause = item_at(source.clauses(), MOST_CLAUSES).map(|clause| clause.head.name.from);
+    let terms = Fault::first_of(past(pred), past(con));
+    Fault::first_of(Fault::first_of(terms, past(rule)), past(clause))
+}
+
+/// Terms of one level that are still to come: one, and so many more.
+#[derive(Clone, Copy)]
+pub(crate) struct Run {
+    pub level: u64,
+    pub more: u32,
+}
+
+// Adds so many terms of a level.
+fn open(runs: &mut Vec<Run>, level: u64, terms: u32) -> Result<(), AllocError>
+    ensures { OnOk result (pending runs.new.items ≡ repeat terms (level ∷ []) ++ pending runs.old.items) }
+{
+    if terms > 0 {
+        runs.push(Run {
+            level,
+            more: terms - 1,
+        })?;
+    }
+    Ok(())
+}
+
+// Takes the next term and answers its level. None where no term is to come.
+fn next_level(runs: &mut Vec<Run>) -> Option<u64>
+    ensures none { IfNone result (pending runs.old.items ≡ []) }
+    ensures some { IfSome result (λ level. pending runs.old.items ≡ level ∷ pending runs.new.items) }
+{
+    let last = runs.len().checked_sub(1)?;
+    let run = runs[last];
+    if run.more > 0 {
+        runs[last] = Run {
+            level: run.level,
+            more: run.more - 1,
+        };
+    } else {
+        runs.truncate(last);
+    }
+    Some(run.level)
+}
+
+// Whether no node of an atom stands too deep.
+fn is_shallow(alloc: Global, args: u32, nodes: &[RawNode]) -> Result<bool, AllocError>
+    ensures { IfOk result (λ shallow. shallow ≡ is_shallow (repeat args (2 ∷ [])) nodes.now) }
+{
+    let mut runs = Vec::new(alloc);
+    open(&mut runs, 2, args)?;
+    for node in nodes {
+        let Some(level) = next_level(&mut runs) else {
+            return Ok(true);
+        };
+        if level > MOST_DEPTH {
+            return Ok(false);
+        }
+        open(&mut runs, level + 1, node.args)?;
+    }
+    Ok(true)
+}
+
+// The fault of an atom that may not be kept in a state.
+pub(crate) fn unfit_fault(alloc: Global, atom: AtomRef) -> Result<Option<Fault>, AllocError>
+    ensures { IfOk result (λ first. first ≡ first_in (unfit_faults (atom_at atom.entry))) }
+{
+    if (atom.nodes.len() as u64) < MOST_NODES && is_shallow(alloc, atom.args, atom.nodes)? {
+        return Ok(None);
+    }
+    Ok(past(Some(atom.name.from)))
 }

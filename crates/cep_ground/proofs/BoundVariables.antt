@@ -18,9 +18,9 @@ use Rattle.cep_rule.specs.Patterns.{PremiseTree, ClauseTree}
 use Rattle.cep_rule.specs.Binding.{OccursInSome, IsBoundRule, IsBoundClause}
 use Rattle.cep_source.specs.Items.{Source, RuleItem, ClauseItem, said}
 use Rattle.cep_parse.specs.Raw.{atoms_of, raw_nodes}
-use Rattle.cep_source.specs.Variables.{Occurrence, occurrence_at, blanks_behind, occurrences_from, occurrences_of, firsts_beside, variables_of}
+use Rattle.cep_source.specs.Variables.{Occurrence, occurrence_at, blanks_behind, occurrences_from, occurrences_of, firsts_beside, variables_of, blanks_after}
 use Rattle.cep_types.specs.Sites.{rule_scope, clause_scope}
-use Rattle.cep_types.specs.Heads.{var, variable_of, head_at, heads_from, blanks_after}
+use Rattle.cep_types.specs.Heads.{var, variable_of, head_at, heads_from}
 use Rattle.cep_infer.specs.Heads.{IsAtomBy, AreAtomsBy}
 use Rattle.cep_infer.specs.Meaning.{names_of, is_back, ArePremisesBy, IsRuleBy, IsClauseBy}
 use Rattle.cep_infer.specs.Places.{unbound_of}
@@ -137,8 +137,8 @@ module _ (source : Source) where
       there (x ∷ xs) zero within = record { it = x; found_is = refl }
       there (x ∷ xs) (suc v) within = there xs v (omega (arith, within))
 
-  pub rule_bound : (name : List ℕ) (item : RuleItem) (rule : Rule) → unbound_of source item ≡ [] → IsRuleBy source name item rule → IsBoundRule rule
-  rule_bound name item rule bound by v within =
+  pub rule_bound : (item : RuleItem) (rule : Rule) → unbound_of source item ≡ [] → IsRuleBy source item rule → IsBoundRule rule
+  rule_bound item rule bound by v within =
       let left = atoms_of item.raw.left in
       let vars : rule.vars ≡ names_of source left = by.vars_are ∙ ap (map (λ (o : Occurrence). o.name)) (bound_vars item bound) in
       let found = variable_there left v (subst (λ ns. v < length ns) vars within) in

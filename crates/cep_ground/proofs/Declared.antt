@@ -3,6 +3,7 @@ use Rattle.std.proofs.Common.{◌≡◌, ℕ, suc, zero, ◌+◌, ◌||◌, not,
 use Rattle.std.proofs.lemmas.List.{length-map}
 use Rattle.std.specs.Prelude.{codes, decimal}
 use Rattle.std.specs.Option.{option_and_then}
+use Rattle.std.specs.List.{AllZip}
 use Rattle.cep_parse.specs.declared.raw.Span.{Span}
 use Rattle.cep_parse.specs.declared.raw.RawKind.{RawKind}
 use Rattle.cep_parse.specs.declared.raw.RawKind.TheVariants as kind
@@ -21,16 +22,17 @@ use Rattle.cep_source.specs.declared.space.Space.TheVariants as space
 use Rattle.cep_source.specs.Items.{Source, ClauseItem, RuleItem, TraceItem, said, stages_of, clauses_of, rules_of, traces_of}
 use Rattle.cep_source.specs.Spaces.{Named, names_in, rule_names_from, unlabelled_behind}
 use Rattle.cep_parse.specs.Raw.{atoms_of, raw_nodes}
-use Rattle.cep_source.specs.Variables.{blanks_behind}
+use Rattle.cep_source.specs.Variables.{blanks_behind, blanks_after}
 use Rattle.cep_source.specs.Starts.{start_atoms, turns_said}
 use Rattle.cep_refusal.specs.First.{wrong}
 use Rattle.cep_faults.specs.Misnamed.Misnamed.{no_trace}
 use Rattle.cep_types.specs.Sites.{rule_scope, clause_scope}
-use Rattle.cep_types.specs.Heads.{Head, var, con, number_of, variable_of, head_at, heads_from, blanks_after}
+use Rattle.cep_types.specs.Heads.{Head, var, con, number_of, variable_of, head_at, heads_from}
 use Rattle.cep_infer.specs.Heads.{argument_count, heads_of, heads_among, IsAtomBy, AreAtomsBy}
-use Rattle.cep_infer.specs.Meaning.{signature_of, stage_by, names_of, kinds_of, is_back, is_fact_by, ArePremisesBy, group_of, next_of, IsRuleBy, AreRulesBy, IsClauseBy, AreClausesBy, AreParts}
+use Rattle.cep_infer.specs.Meaning.{signature_of, stage_by, names_of, kinds_of, is_back, is_fact_by, ArePremisesBy, group_of, next_of, IsRuleBy, IsClauseBy, AreParts}
 use Rattle.cep_ground.specs.Texts.{IsClean}
 use Rattle.cep_base.proofs.Elements.{contains_first, contains_behind}
+use Rattle.cep_ground.proofs.Known.{state_atom_here}
 use Rattle.cep_ground.proofs.RuleScopes.{AtomsMade, left_here, right_here, clause_here, atom_of_tokens}
 use Rattle.cep_ground.proofs.StartState.{StartLaws}
 
@@ -133,7 +135,8 @@ names_from source unlabelled (rule ∷ rules) = ap suc (names_from source (unlab
 module _ (source : Source) (clean : IsClean source) (made : AtomsMade source) (starts : StartLaws) where
   record HasRule (name : List ℕ) (item : RuleItem) : Type 0 where
     rule : Rule
-    by : IsRuleBy source name item rule
+    name_is : rule.name ≡ name
+    by : IsRuleBy source item rule
 
   has_rule : (name : List ℕ) (item : RuleItem) → Contains (rules_of source) item → HasRule name item
   has_rule name item there =
@@ -151,24 +154,29 @@ module _ (source : Source) (clean : IsClean source) (made : AtomsMade source) (s
           right = right.list;
           next = next_of source item.home item.raw.right;
         };
-        by = record { name_is = refl; group_is = refl; next_is = refl; vars_are = refl; kinds_are = refl; left = left.list; left_is = left.by; premises_are = refl; backs_are = refl; right_is = right.by };
+        name_is = refl;
+        by = record { group_is = refl; next_is = refl; vars_are = refl; kinds_are = refl; left = left.list; left_is = left.by; premises_are = refl; backs_are = refl; right_is = right.by };
       }
 
   record HasRules (names : List (List ℕ)) (items : List RuleItem) : Type 0 where
     rules : List Rule
-    by : AreRulesBy source names items rules
+    names_are : map (λ (rule : Rule). rule.name) rules ≡ names
+    by : AllZip (IsRuleBy source) items rules
 
   has_rules : (names : List (List ℕ)) (items : List RuleItem) → length names ≡ length items → ((item : RuleItem) → Contains items item → Contains (rules_of source) item) → HasRules names items
-  has_rules names [] size among = record { rules = []; by = tt }
+  has_rules [] [] size among = record { rules = []; names_are = refl; by = tt }
+  has_rules (name ∷ names) [] size among = absurd (omega (arith, size))
   has_rules [] (item ∷ items) size among = absurd (omega (arith, size))
   has_rules (name ∷ names) (item ∷ items) size among =
       let here = has_rule name item (among item (contains_first item items)) in
       let rest = has_rules names items (omega (arith, size)) (λ other there. among other (contains_behind item items other there)) in
-      record { rules = here.rule ∷ rest.rules; by = (here.by, rest.by) }
+      let one = here.name_is in
+      let others = rest.names_are in
+      record { rules = here.rule ∷ rest.rules; names_are = cc; by = (here.by, rest.by) }
 
   record HasClauses (items : List ClauseItem) : Type 0 where
     clauses : List ClauseTree
-    by : AreClausesBy source items clauses
+    by : AllZip (IsClauseBy source) items clauses
 
   clause_from : (item : ClauseItem) (list : List AtomTree) → AreAtomsBy source (names_of source (clause_scope item)) 0 (clause_scope item) list → (clause : ClauseTree) × IsClauseBy source item clause
   clause_from item [] by = absurd by
@@ -186,7 +194,7 @@ module _ (source : Source) (clean : IsClean source) (made : AtomsMade source) (s
   parts_from [] is = absurd (clean.names (wrong NoTrace (length source.text)) (no_trace is refl))
   parts_from (trace ∷ rest) is =
       let there : Contains (traces_of source) trace = subst (λ ts. Contains ts trace) (sym is) (contains_first trace rest) in
-      let start = has_atoms source [] 0 (start_atoms source trace.start) (λ raw inside. let listed = starts.written source trace raw there inside in (atom_of_tokens source clean made listed.role raw listed.there).filled) in
+      let start = has_atoms source [] 0 (start_atoms source trace.start) (λ raw inside. (atom_of_tokens source clean made raw (state_atom_here source raw (starts.written source trace raw there inside))).filled) in
       let names = map (λ (n : Named). n.name) (names_in source space.Rules) in
       let rules = has_rules names (rules_of source) (length-map (names_in source space.Rules) (λ (n : Named). n.name) ∙ names_from source 0 (rules_of source)) (λ item inside. inside) in
       let clauses = has_clauses (clauses_of source) (λ item inside. inside) in (
@@ -203,6 +211,7 @@ module _ (source : Source) (clean : IsClean source) (made : AtomsMade source) (s
           signature_is = refl;
           stages_are = refl;
           rules_are = rules.by;
+          rule_names_are = rules.names_are;
           clauses_are = clauses.by;
           trace = trace;
           rest = rest;

@@ -7,6 +7,7 @@ use Rattle.cep_refusal.specs.declared.reason.Reason.TheVariants.{Twice}
 use Rattle.cep_refusal.specs.declared.fault.Fault.{Fault}
 use Rattle.cep_source.specs.Items.{Source}
 use Rattle.cep_source.specs.Spaces.{Named, names_in}
+use Rattle.cep_source.specs.Spaces.IsTwice.{again}
 use Rattle.cep_faults.specs.Misnamed.{Misnamed}
 use Rattle.cep_refusal.specs.First.{wrong}
 use Rattle.cep_faults.specs.Misnamed.Misnamed.{twice}
@@ -40,4 +41,4 @@ all_differ before (x ∷ items) once = (
 pub names_differ : (source : Source) → ((fault : Fault) → ¬ (Misnamed source fault)) → (space : Space) → AllDiffer (map (λ entry. entry.name) (names_in source space))
 names_differ source clean space =
     all_differ [] (names_in source space)
-    (λ before after entry cut again. clean (wrong Twice entry.at) (twice (record { space = space; before = before; after = after; entry = entry; names = cut; earlier = again; is = refl })))
+    (λ before after entry cut earlier. clean (wrong Twice entry.at) (twice (again space before after entry cut earlier refl)))

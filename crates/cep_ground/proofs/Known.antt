@@ -1,21 +1,23 @@
 -- In a text whose names are in order, each name that is used is declared, with the number of arguments with which it is used.
-use Rattle.std.proofs.Common.{◌≡◌, ℕ, Bool, true, false, [], ◌∷◌, length, map, refl, sym, ap, subst, Contains}
+use Rattle.std.proofs.Common.{◌≡◌, ℕ, Bool, true, false, [], ◌∷◌, length, refl, sym, subst, Contains}
 use Rattle.std.specs.Prelude.{Some, ◌==◌}
-use Rattle.std.specs.Option.{option_map}
 use Rattle.std.specs.Str.{bytes_eq}
-use Rattle.std.specs.List.{flat_map}
 use Rattle.std.proofs.lemmas.Bool.{eqb-true, eqb-false}
 use Rattle.cep_parse.specs.declared.raw.Span.{Span}
 use Rattle.cep_parse.specs.declared.raw.RawKind.TheVariants as kind
+use Rattle.cep_parse.specs.declared.raw.RawNode.{RawNode}
+use Rattle.cep_parse.specs.declared.raw.RawAtom.{RawAtom}
+use Rattle.cep_parse.specs.Raw.{atoms_of, raw_nodes}
 use Rattle.cep_refusal.specs.declared.fault.Fault.{Fault}
 use Rattle.cep_refusal.specs.declared.reason.Reason.TheVariants.{Unknown, WrongKind, WrongArity}
+use Rattle.cep_source.specs.declared.space.Space.{Space}
 use Rattle.cep_source.specs.declared.space.Space.TheVariants as space
-use Rattle.cep_source.specs.Items.{Source, PredItem, ConItem, ClauseItem, RuleItem, TraceItem, said, preds_of, cons_of, clauses_of, rules_of, interactives_of, traces_of}
-use Rattle.cep_source.specs.Spaces.{named, is_in, pred_named, con_named, arity_of}
-use Rattle.cep_source.specs.Uses.{Placed, Use, use_in, pred_uses, node_uses, atom_uses, type_uses, con_uses, rule_uses, trace_uses, other_uses, uses_of, rule_atoms, clause_atoms, placed_of, is_context}
-use Rattle.cep_faults.specs.Misnamed.{Misnamed, is_somewhere}
+use Rattle.cep_source.specs.Items.{Source, PredItem, ConItem, ClauseItem, RuleItem, said, preds_of, cons_of, clauses_of, rules_of}
+use Rattle.cep_source.specs.Spaces.{named, is_in, pred_named, con_named}
+use Rattle.cep_source.specs.Uses.{needed_atoms, made_atoms, clause_atoms, state_atoms, atoms_written, applied_at, uses_in}
+use Rattle.cep_faults.specs.Misnamed.{Misnamed}
 use Rattle.cep_refusal.specs.First.{wrong}
-use Rattle.cep_faults.specs.Misnamed.Misnamed.{unknown, wrong_kind, wrong_arity}
+use Rattle.cep_faults.specs.Misnamed.Misnamed.{unknown, wrong_kind, wrong_arity, wrong_term_arity}
 use Rattle.cep_base.proofs.Elements.{contains_first, contains_left, contains_right, contains_map, contains_flat}
 use Rattle.cep_ground.proofs.Finds.{any_found}
 
@@ -23,95 +25,53 @@ use Rattle.cep_ground.proofs.Finds.{any_found}
 abbrev pub AreNamesClean : Source → Type 0
 AreNamesClean source = (fault : Fault) → ¬ (Misnamed source fault)
 
-known_by : (source : Source) (use_ : Use) → AreNamesClean source → Contains (uses_of source) use_ → (somewhere inside : Bool) → is_somewhere source (said source use_.name) ≡ somewhere → is_in source use_.space (said source use_.name) ≡ inside → inside ≡ true
-known_by source use_ clean there false inside s i = absurd (clean (wrong Unknown use_.name.from) (unknown use_ there s refl))
-known_by source use_ clean there true false s i = absurd (clean (wrong WrongKind use_.name.from) (wrong_kind use_ there s i refl))
-known_by source use_ clean there true true s i = refl
+-- a name that is used is in its space, since else no space would have it
+nowhere : (source : Source) (space other : Space) (name : Span) → AreNamesClean source → Contains (uses_in source space) name → is_in source space (said source name) ≡ false → (there : Bool) → is_in source other (said source name) ≡ there → there ≡ false
+nowhere source space other name clean used outside true is = absurd (clean (wrong WrongKind name.from) (wrong_kind space other name used outside is refl))
+nowhere source space other name clean used outside false is = refl
 
--- a name that is used is in its space
-pub known : (source : Source) (use_ : Use) → AreNamesClean source → Contains (uses_of source) use_ → is_in source use_.space (said source use_.name) ≡ true
-known source use_ clean there = known_by source use_ clean there (is_somewhere source (said source use_.name)) (is_in source use_.space (said source use_.name)) refl refl
+known_by : (source : Source) (space : Space) (name : Span) → AreNamesClean source → Contains (uses_in source space) name → (there : Bool) → is_in source space (said source name) ≡ there → there ≡ true
+known_by source space name clean used true is = refl
+known_by source space name clean used false is =
+    absurd (clean (wrong Unknown name.from) (unknown space name used (λ other. nowhere source space other name clean used is (is_in source other (said source name)) refl) refl))
 
-arity_by : (source : Source) (use_ : Use) (arity : ℕ) → AreNamesClean source → Contains (uses_of source) use_ → arity_of source use_.space (said source use_.name) ≡ Some arity → (same : Bool) → (use_.args == arity) ≡ same → use_.args ≡ arity
-arity_by source use_ arity clean there is true same = eqb-true use_.args arity same
-arity_by source use_ arity clean there is false same = absurd (clean (wrong WrongArity use_.name.from) (wrong_arity use_ arity there is (eqb-false use_.args arity same) refl))
-
--- with as many arguments as are declared
-pub arity_known : (source : Source) (use_ : Use) (arity : ℕ) → AreNamesClean source → Contains (uses_of source) use_ → arity_of source use_.space (said source use_.name) ≡ Some arity → use_.args ≡ arity
-arity_known source use_ arity clean there is = arity_by source use_ arity clean there is (use_.args == arity) refl
-
--- the uses of an atom of the file
-pub placed_uses : (source : Source) (p : Placed) (use_ : Use) → Contains (placed_of source) p → Contains (atom_uses source p) use_ → Contains (uses_of source) use_
-placed_uses source p use_ there inside = contains_right (other_uses source) _ use_ (contains_flat (atom_uses source) (placed_of source) p use_ there inside)
-
--- those of a predicate's declaration, and of a constructor's
-pub pred_item_uses : (source : Source) (pred : PredItem) (span : Span) → Contains (preds_of source) pred → Contains pred.args span → Contains (uses_of source) (use_in space.Sorts span)
-pred_item_uses source pred span there inside =
-    let use_ = use_in space.Sorts span in
-    contains_left (other_uses source) _ use_
-    (contains_left (flat_map type_uses (preds_of source)) _ use_
-    (contains_flat type_uses (preds_of source) pred use_ there (contains_map (use_in space.Sorts) pred.args span inside)))
-
-pub con_item_uses : (source : Source) (con : ConItem) (use_ : Use) → Contains (cons_of source) con → Contains (con_uses con) use_ → Contains (uses_of source) use_
-con_item_uses source con use_ there inside =
-    contains_left (other_uses source) _ use_
-    (contains_right (flat_map type_uses (preds_of source)) _ use_
-    (contains_left (flat_map con_uses (cons_of source)) _ use_
-    (contains_flat con_uses (cons_of source) con use_ there inside)))
-
--- of a rule apart from its atoms, and of a trace
-pub rule_item_uses : (source : Source) (rule : RuleItem) (use_ : Use) → Contains (rules_of source) rule → Contains (rule_uses rule.raw) use_ → Contains (uses_of source) use_
-rule_item_uses source rule use_ there inside =
-    contains_left (other_uses source) _ use_
-    (contains_right (flat_map type_uses (preds_of source)) _ use_
-    (contains_right (flat_map con_uses (cons_of source)) _ use_
-    (contains_left (flat_map (λ (one : RuleItem). rule_uses one.raw) (rules_of source)) _ use_
-    (contains_flat (λ (one : RuleItem). rule_uses one.raw) (rules_of source) rule use_ there inside))))
-
-pub trace_item_uses : (source : Source) (trace : TraceItem) (use_ : Use) → Contains (traces_of source) trace → Contains (trace_uses trace) use_ → Contains (uses_of source) use_
-trace_item_uses source trace use_ there inside =
-    contains_left (other_uses source) _ use_
-    (contains_right (flat_map type_uses (preds_of source)) _ use_
-    (contains_right (flat_map con_uses (cons_of source)) _ use_
-    (contains_right (flat_map (λ (one : RuleItem). rule_uses one.raw) (rules_of source)) _ use_
-    (contains_right (map (use_in space.Stages) (interactives_of source)) _ use_
-    (contains_flat trace_uses (traces_of source) trace use_ there inside)))))
+pub known : (source : Source) (space : Space) (name : Span) → AreNamesClean source → Contains (uses_in source space) name → is_in source space (said source name) ≡ true
+known source space name clean used = known_by source space name clean used (is_in source space (said source name)) refl
 
 -- the atoms of a rule, and of a clause, are atoms of the file
-pub rule_placed : (source : Source) (rule : RuleItem) (p : Placed) → Contains (rules_of source) rule → Contains (rule_atoms rule.raw) p → Contains (placed_of source) p
-rule_placed source rule p there inside =
-    contains_left (flat_map (λ (one : RuleItem). rule_atoms one.raw) (rules_of source)) _ p (contains_flat (λ (one : RuleItem). rule_atoms one.raw) (rules_of source) rule p there inside)
+pub needed_here : (source : Source) (rule : RuleItem) (raw : RawAtom) → Contains (rules_of source) rule → Contains (atoms_of rule.raw.left) raw → Contains (atoms_written source) raw
+needed_here source rule raw there inside = contains_left (needed_atoms source) _ raw (contains_flat (λ (one : RuleItem). atoms_of one.raw.left) (rules_of source) rule raw there inside)
 
-pub clause_placed : (source : Source) (clause : ClauseItem) (p : Placed) → Contains (clauses_of source) clause → Contains (clause_atoms clause) p → Contains (placed_of source) p
-clause_placed source clause p there inside =
-    contains_right (flat_map (λ (one : RuleItem). rule_atoms one.raw) (rules_of source)) _ p
-    (contains_left (flat_map clause_atoms (clauses_of source)) _ p (contains_flat clause_atoms (clauses_of source) clause p there inside))
+pub made_there : (source : Source) (rule : RuleItem) (raw : RawAtom) → Contains (rules_of source) rule → Contains (atoms_of rule.raw.right) raw → Contains (made_atoms source) raw
+made_there source rule raw there inside = contains_flat (λ (one : RuleItem). atoms_of one.raw.right) (rules_of source) rule raw there inside
+
+pub made_here : (source : Source) (raw : RawAtom) → Contains (made_atoms source) raw → Contains (atoms_written source) raw
+made_here source raw there = contains_right (needed_atoms source) _ raw (contains_left (made_atoms source) _ raw there)
+
+pub clause_there : (source : Source) (clause : ClauseItem) (raw : RawAtom) → Contains (clauses_of source) clause → Contains (clause.head ∷ clause.goals) raw → Contains (clause_atoms source) raw
+clause_there source clause raw there inside = contains_flat (λ (one : ClauseItem). one.head ∷ one.goals) (clauses_of source) clause raw there inside
+
+pub clause_atom_here : (source : Source) (raw : RawAtom) → Contains (clause_atoms source) raw → Contains (atoms_written source) raw
+clause_atom_here source raw there = contains_right (needed_atoms source) _ raw (contains_right (made_atoms source) _ raw (contains_left (clause_atoms source) _ raw there))
+
+pub state_atom_here : (source : Source) (raw : RawAtom) → Contains (state_atoms source) raw → Contains (atoms_written source) raw
+state_atom_here source raw there = contains_right (needed_atoms source) _ raw (contains_right (made_atoms source) _ raw (contains_right (clause_atoms source) (state_atoms source) raw there))
 
 -- The predicate of an atom is declared, with as many arguments.
-pub record IsPredKnown (source : Source) (p : Placed) : Type 0 where
+pub record IsPredKnown (source : Source) (raw : RawAtom) : Type 0 where
   pub pred : PredItem
-  pub found : pred_named source (said source p.atom.name) ≡ Some pred
-  pub count : p.atom.args ≡ length pred.args
+  pub found : pred_named source (said source raw.name) ≡ Some pred
+  pub count : raw.args ≡ length pred.args
 
-own_use : (source : Source) (p : Placed) (context : Bool) → is_context source p ≡ context → context ≡ false → Contains (atom_uses source p) (record { space = space.Predicates; name = p.atom.name; args = p.atom.args })
-own_use source p true is none = absurd cc
-own_use source p false is none =
-    contains_left (pred_uses source p) _ (record { space = space.Predicates; name = p.atom.name; args = p.atom.args })
-    (subst (λ uses. Contains uses (record { space = space.Predicates; name = p.atom.name; args = p.atom.args })) (sym (uses_are is)) (contains_first _ []))
+pub pred_known : (source : Source) (raw : RawAtom) → AreNamesClean source → Contains (atoms_written source) raw → IsPredKnown source raw
+pred_known source raw clean there =
+    let used = contains_map (λ (atom : RawAtom). atom.name) (atoms_written source) raw there in
+    let found = any_found (λ (pred : PredItem). named source pred.name) (λ other. bytes_eq other.name (said source raw.name)) (preds_of source) (known source space.Predicates raw.name clean used) in
+    record { pred = found.it; found = found.found_is; count = counted found.it found.found_is (raw.args == length found.it.args) refl }
   where
-    uses_are : is_context source p ≡ false → pred_uses source p ≡ record { space = space.Predicates; name = p.atom.name; args = p.atom.args } ∷ []
-    uses_are e = rw e refl
-
-pub pred_known : (source : Source) (p : Placed) → AreNamesClean source → Contains (placed_of source) p → is_context source p ≡ false → IsPredKnown source p
-pred_known source p clean there plain =
-    let use_ : Use = record { space = space.Predicates; name = p.atom.name; args = p.atom.args } in
-    let used = placed_uses source p use_ there (own_use source p (is_context source p) refl plain) in
-    let found = any_found (λ (pred : PredItem). named source pred.name) (λ other. bytes_eq other.name (said source p.atom.name)) (preds_of source) (known source use_ clean used) in
-    record {
-      pred = found.it;
-      found = found.found_is;
-      count = arity_known source use_ (length found.it.args) clean used (ap (option_map (λ (pred : PredItem). length pred.args)) found.found_is);
-    }
+    counted : (pred : PredItem) → pred_named source (said source raw.name) ≡ Some pred → (same : Bool) → (raw.args == length pred.args) ≡ same → raw.args ≡ length pred.args
+    counted pred found true same = eqb-true raw.args (length pred.args) same
+    counted pred found false same = absurd (clean (wrong WrongArity raw.name.from) (wrong_arity raw pred there found (eqb-false raw.args (length pred.args) same) refl))
 
 -- The constructor of a node is declared, with as many arguments.
 pub record IsConKnown (source : Source) (at : Span) (args : ℕ) : Type 0 where
@@ -119,14 +79,13 @@ pub record IsConKnown (source : Source) (at : Span) (args : ℕ) : Type 0 where
   pub found : con_named source (said source at) ≡ Some con
   pub count : args ≡ length con.args
 
-pub con_known : (source : Source) (p : Placed) (at : Span) (args : ℕ) → AreNamesClean source → Contains (placed_of source) p → Contains p.atom.nodes (record { at = at; kind = kind.App; args = args }) → IsConKnown source at args
-con_known source p at args clean there inside =
-    let use_ : Use = record { space = space.Constructors; name = at; args = args } in
-    let used = placed_uses source p use_ there
-    (contains_right (pred_uses source p) _ use_ (contains_flat node_uses p.atom.nodes (record { at = at; kind = kind.App; args = args }) use_ inside (contains_first use_ []))) in
-    let found = any_found (λ (con : ConItem). named source con.name) (λ other. bytes_eq other.name (said source at)) (cons_of source) (known source use_ clean used) in
-    record {
-      con = found.it;
-      found = found.found_is;
-      count = arity_known source use_ (length found.it.args) clean used (ap (option_map (λ (con : ConItem). length con.args)) found.found_is);
-    }
+pub con_known : (source : Source) (raw : RawAtom) (node : RawNode) → AreNamesClean source → Contains (atoms_written source) raw → Contains raw.nodes node → node.kind ≡ kind.App → IsConKnown source node.at node.args
+con_known source raw node clean there inside app =
+    let written = contains_flat (λ (atom : RawAtom). atom.nodes) (atoms_written source) raw node there inside in
+    let used = contains_flat (λ (one : RawNode). applied_at one.kind one.at) (raw_nodes (atoms_written source)) node node.at written (subst (λ shape. Contains (applied_at shape node.at) node.at) (sym app) (contains_first node.at [])) in
+    let found = any_found (λ (con : ConItem). named source con.name) (λ other. bytes_eq other.name (said source node.at)) (cons_of source) (known source space.Constructors node.at clean used) in
+    record { con = found.it; found = found.found_is; count = counted written found.it found.found_is (node.args == length found.it.args) refl }
+  where
+    counted : Contains (raw_nodes (atoms_written source)) node → (con : ConItem) → con_named source (said source node.at) ≡ Some con → (same : Bool) → (node.args == length con.args) ≡ same → node.args ≡ length con.args
+    counted written con found true same = eqb-true node.args (length con.args) same
+    counted written con found false same = absurd (clean (wrong WrongArity node.at.from) (wrong_term_arity node con written app found (eqb-false node.args (length con.args) same) refl))

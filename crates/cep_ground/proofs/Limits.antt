@@ -1,10 +1,10 @@
 -- How many there are at most.
 use Rattle.std.proofs.Common.{◌≡◌, ◌⊎◌, inl, inr, ⊎_elim, ℕ, zero, suc, ◌+◌, ◌*◌, ◌≤◌, Bool, true, false, List, [], ◌∷◌, length, map, filter, refl, sym, subst, arith, Contains, length-append}
 use Rattle.std.specs.Prelude.{Some, slice_get, cond}
-use Rattle.std.specs.List.{AllByRecursion}
+use Rattle.std.specs.List.{AllByRecursion, AllZip, flat_map}
 use Rattle.cep_parse.specs.declared.raw.RawAtom.{RawAtom}
 use Rattle.cep_parse.specs.Raw.{raw_nodes}
-use Rattle.cep_base.proofs.Elements.{contains_first, contains_behind, contains_cases}
+use Rattle.cep_base.proofs.Elements.{contains_first, contains_behind, contains_cases, both_all}
 
 -- where nothing stands at a place, there are not more
 pub at_most : {X : Type 0} (xs : List X) (n : ℕ) → ((x : X) → slice_get xs n ≡ Some x → ⊥) → length xs ≤ n
@@ -57,6 +57,18 @@ all_filter P p (x ∷ xs) all = all_cond P (p x) x (filter p xs) all.0 (all_filt
 pub all_map : {X Y : Type 0} (P : Y → Type 0) (f : X → Y) (xs : List X) → AllByRecursion (λ x. P (f x)) xs → AllByRecursion P (map f xs)
 all_map P f [] all = tt
 all_map P f (x ∷ xs) all = (all.0, all_map P f xs all.1)
+
+-- and of all that each gives
+pub all_flat : {X Y : Type 0} (P : X → Type 0) (Q : Y → Type 0) (f : X → List Y) (xs : List X) → ((x : X) → P x → AllByRecursion Q (f x)) → AllByRecursion P xs → AllByRecursion Q (flat_map f xs)
+all_flat P Q f [] each all = tt
+all_flat P Q f (x ∷ xs) each all = both_all Q (f x) (flat_map f xs) (each x all.0) (all_flat P Q f xs each all.1)
+
+-- and of all to which one of a list is related
+pub all_zip : {X Y : Type 0} (R : X → Y → Type 0) (P : Y → Type 0) (xs : List X) (ys : List Y) → ((x : X) (y : Y) → Contains xs x → R x y → P y) → AllZip R xs ys → AllByRecursion P ys
+all_zip R P [] [] each are = tt
+all_zip R P [] (y ∷ ys) each are = absurd are
+all_zip R P (x ∷ xs) [] each are = absurd are
+all_zip R P (x ∷ xs) (y ∷ ys) each are = (each x y (contains_first x xs) are.0, all_zip R P xs ys (λ other z there is. each other z (contains_behind x xs other there) is) are.1)
 
 passes_cond : {X : Type 0} (p : X → Bool) (b : Bool) (x : X) (xs : List X) → p x ≡ b → AllByRecursion (λ y. p y ≡ true) xs → AllByRecursion (λ y. p y ≡ true) (cond b (x ∷ xs) xs)
 passes_cond p true x xs is all = (is, all)

@@ -5,6 +5,11 @@ use Rattle.std.specs.List.{find, position, position_or_len, list_any}
 use Rattle.std.proofs.lemmas.List.{length-map}
 use Rattle.std.proofs.lemmas.List.Recursion.{is_position_or_len}
 use Rattle.std.proofs.lemmas.Bool.{lt-ltb}
+use Rattle.std.specs.Str.{bytes_eq}
+use Rattle.cep_source.specs.declared.space.Space.{Space}
+use Rattle.cep_source.specs.Items.{Source}
+use Rattle.cep_source.specs.Spaces.{Named, names_in, is_in}
+use Rattle.cep_types.specs.Heads.{number_of}
 
 -- how many stand before the first that passes
 abbrev pub place : {X : Type 0} → (X → Bool) → List X → ℕ
@@ -33,6 +38,13 @@ within_by false n m later = let h = later refl in omega (arith, h)
 pub place_within : {X : Type 0} (p : X → Bool) (xs : List X) → list_any p xs ≡ true → place p xs < length xs
 place_within p [] any = absurd cc
 place_within p (x ∷ xs) any = within_by (p x) (place p xs) (length xs) (λ no. place_within p xs (or_rest (p x) (list_any p xs) no any))
+
+-- a name that is in a space has a number there
+pub number_within : (source : Source) (space : Space) (name : List ℕ) → is_in source space name ≡ true → number_of source space name < length (names_in source space)
+number_within source space name is =
+    let within = place_within (λ (other : Named). bytes_eq other.name name) (names_in source space) is in
+    let number = position_there (λ (other : Named). bytes_eq other.name name) (names_in source space) within in
+    omega (arith, within, number)
 
 -- what is found stands at the place of the first that passes
 pub record IsLocated {X Y : Type 0} (g : Y → X) (p : X → Bool) (ys : List Y) (y : Y) : Type 0 where

@@ -9,6 +9,7 @@ use Rattle.std.specs.Str.Parse.{AllDigits}
 use Rattle.std.specs.List.{AllByRecursion}
 use Rattle.cep_base.specs.Spelling.{is_name_byte}
 use Rattle.cep_parse.specs.declared.raw.Span.{Span}
+use Rattle.cep_parse.specs.declared.raw.RawRule.{RawRule}
 use Rattle.cep_parse.specs.declared.raw.RawItem.{RawItem}
 use Rattle.cep_parse.specs.declared.raw.RawItem.TheVariants as item
 use Rattle.cep_parse.specs.Written.{IsNameAt, IsLabelOf, IsRuleOf, IsItemOf}
@@ -16,17 +17,15 @@ use Rattle.cep_rule.specs.Names.{IsName, AreNames, AllDiffer}
 use Rattle.cep_refusal.specs.declared.reason.Reason.TheVariants.{OverLimit}
 use Rattle.cep_source.specs.declared.space.Space.{Space}
 use Rattle.cep_source.specs.declared.space.Space.TheVariants as space
-use Rattle.cep_source.specs.Items.{Source, PredItem, ConItem, RuleItem, said, sorts_of, preds_of, cons_in, cons_of, stages_of, rules_of, is_labelled}
-use Rattle.cep_source.specs.InItems.{sorts_in, preds_in, stages_in}
+use Rattle.cep_source.specs.Items.{Source, PredItem, ConItem, RuleItem, declares, said, sorts_of, preds_of, cons_in, cons_of, stages_of, rules_of, is_labelled}
 use Rattle.cep_source.specs.Spaces.{Named, named, names_in, rule_name, unlabelled_behind, rule_names_from}
 use Rattle.cep_refusal.specs.First.{wrong}
 use Rattle.cep_faults.specs.Misnamed.Misnamed.{over}
 use Rattle.cep_faults.specs.Limits.{IsOver as overs}
 use Rattle.cep_ground.specs.Texts.{IsClean}
 use Rattle.cep_base.proofs.Elements.{contains_first, contains_behind, all_at}
-use Rattle.cep_infer.proofs.Filled.{all_flat, rules_made}
 use Rattle.cep_ground.proofs.Distinct.{names_differ}
-use Rattle.cep_ground.proofs.Limits.{at_most, all_map}
+use Rattle.cep_ground.proofs.Limits.{at_most, all_map, all_flat}
 use Rattle.cep_ground.proofs.Spelled.{name_is}
 
 -- a digit goes on with a name
@@ -84,15 +83,15 @@ module _ (source : Source) (clean : IsClean source) (items : AllByRecursion (IsI
   name_at span at = name_is source clean.is_source span at
 
   -- what an item declares has names
-  named_sort : (item_ : RawItem) → IsItemOf clean.is_source.tokens item_ → AllByRecursion (λ span. IsName (said source span)) (sorts_in item_)
+  named_sort : (item_ : RawItem) → IsItemOf clean.is_source.tokens item_ → AllByRecursion (λ span. IsName (said source span)) (declares item_).sorts
   named_sort (item.Sort name) is = (name_at name is, tt)
   named_sort _ is = tt
 
-  named_stage : (item_ : RawItem) → IsItemOf clean.is_source.tokens item_ → AllByRecursion (λ span. IsName (said source span)) (stages_in item_)
+  named_stage : (item_ : RawItem) → IsItemOf clean.is_source.tokens item_ → AllByRecursion (λ span. IsName (said source span)) (declares item_).stages
   named_stage (item.Stage name rules) is = (name_at name is.0, tt)
   named_stage _ is = tt
 
-  named_pred : (item_ : RawItem) → IsItemOf clean.is_source.tokens item_ → AllByRecursion (λ (pred : PredItem). IsName (said source pred.name)) (preds_in item_)
+  named_pred : (item_ : RawItem) → IsItemOf clean.is_source.tokens item_ → AllByRecursion (λ (pred : PredItem). IsName (said source pred.name)) (declares item_).preds
   named_pred (item.Pred name args of_kind) is = (name_at name is.0, tt)
   named_pred _ is = tt
 
@@ -104,8 +103,13 @@ module _ (source : Source) (clean : IsClean source) (items : AllByRecursion (IsI
   named_con (item.Colon left args right) is = con_by_label (is_labelled source args right) (record { name = left; args = args; sort = right }) (name_at left is.0)
   named_con _ is = tt
 
+  rules_made : (item_ : RawItem) → IsItemOf clean.is_source.tokens item_ → AllByRecursion (λ (rule : RuleItem). IsRuleOf clean.is_source.tokens rule.raw) (declares item_).rules
+  rules_made (item.Outer raw) is = (is, tt)
+  rules_made (item.Stage name raws) is = all_map (λ (rule : RuleItem). IsRuleOf clean.is_source.tokens rule.raw) (λ (raw : RawRule). record { home = Some name; raw = raw }) raws is.1
+  rules_made _ is = tt
+
   label_made : (rule : RuleItem) → Contains (rules_of source) rule → IsLabelOf clean.is_source.tokens rule.raw.label
-  label_made rule there = (all_at (λ (one : RuleItem). IsRuleOf clean.is_source.tokens one.raw) (rules_of source) rule (rules_made clean.is_source.tokens 0 source.file items) there).label
+  label_made rule there = (all_at (λ (one : RuleItem). IsRuleOf clean.is_source.tokens one.raw) (rules_of source) rule (all_flat (IsItemOf clean.is_source.tokens) (λ (one : RuleItem). IsRuleOf clean.is_source.tokens one.raw) (λ item_. (declares item_).rules) source.file rules_made items) there).label
 
   rule_name_is : (unlabelled : ℕ) (label : Option Span) → unlabelled + 1 < 2 ^ 63 → IsLabelOf clean.is_source.tokens label → IsName (rule_name source unlabelled label)
   rule_name_is unlabelled (Some label) few is = name_at label is
@@ -122,11 +126,6 @@ module _ (source : Source) (clean : IsClean source) (items : AllByRecursion (IsI
     rule_names_are (unlabelled_behind unlabelled rule.raw.label) rules (more_rules unlabelled (length rules) rule.raw.label few) (λ other there. among other (contains_behind rule rules other there)),
   )
 
-  -- as many names as rules
-  pub rule_names_size : (unlabelled : ℕ) (rules : List RuleItem) → length (rule_names_from source unlabelled rules) ≡ length rules
-  rule_names_size unlabelled [] = refl
-  rule_names_size unlabelled (rule ∷ rules) = ap suc (rule_names_size (unlabelled_behind unlabelled rule.raw.label) rules)
-
   pub rules_few : length (rules_of source) ≤ 4096
   rules_few = at_most (rules_of source) 4096 (λ rule found. clean.names (wrong OverLimit rule.raw.at) (over rule.raw.at (overs.rule rule found refl) refl))
 
@@ -139,13 +138,13 @@ module _ (source : Source) (clean : IsClean source) (items : AllByRecursion (IsI
 
   pub sort_names : AreNames (map (said source) (sorts_of source))
   sort_names = record {
-    each = all_map IsName (said source) (sorts_of source) (all_flat (IsItemOf clean.is_source.tokens) (λ span. IsName (said source span)) sorts_in source.file named_sort items);
+    each = all_map IsName (said source) (sorts_of source) (all_flat (IsItemOf clean.is_source.tokens) (λ span. IsName (said source span)) (λ item_. (declares item_).sorts) source.file named_sort items);
     differ = differ_as space.Sorts (map (said source) (sorts_of source)) (map_twice (λ (n : Named). n.name) (named source) (sorts_of source));
   }
 
   pub stage_names : AreNames (map (said source) (stages_of source))
   stage_names = record {
-    each = all_map IsName (said source) (stages_of source) (all_flat (IsItemOf clean.is_source.tokens) (λ span. IsName (said source span)) stages_in source.file named_stage items);
+    each = all_map IsName (said source) (stages_of source) (all_flat (IsItemOf clean.is_source.tokens) (λ span. IsName (said source span)) (λ item_. (declares item_).stages) source.file named_stage items);
     differ = differ_as space.Stages (map (said source) (stages_of source)) (map_twice (λ (n : Named). n.name) (named source) (stages_of source));
   }
 
@@ -157,7 +156,7 @@ module _ (source : Source) (clean : IsClean source) (items : AllByRecursion (IsI
 
   pub pred_names : AreNames (map (λ (pred : PredItem). said source pred.name) (preds_of source))
   pred_names = record {
-    each = all_map IsName (λ (pred : PredItem). said source pred.name) (preds_of source) (all_flat (IsItemOf clean.is_source.tokens) (λ (pred : PredItem). IsName (said source pred.name)) preds_in source.file named_pred items);
+    each = all_map IsName (λ (pred : PredItem). said source pred.name) (preds_of source) (all_flat (IsItemOf clean.is_source.tokens) (λ (pred : PredItem). IsName (said source pred.name)) (λ item_. (declares item_).preds) source.file named_pred items);
     differ = differ_as space.Predicates (map (λ (pred : PredItem). said source pred.name) (preds_of source)) (map_twice (λ (n : Named). n.name) (λ (pred : PredItem). named source pred.name) (preds_of source));
   }
 

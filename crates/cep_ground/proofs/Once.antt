@@ -2,7 +2,9 @@
 use Rattle.std.proofs.Common.{◌≡◌, ℕ, ◌||◌, not, List, [], ◌∷◌, map, filter, refl, sym, ap, subst, ◌∙◌}
 use Rattle.std.proofs.lemmas.List.{append-nil}
 use Rattle.std.specs.Option.{option_and_then}
+use Rattle.std.specs.List.{AllZip}
 use Rattle.cep_source.specs.declared.space.Space.TheVariants as space
+use Rattle.cep_source.specs.Variables.{blanks_after}
 use Rattle.cep_source.specs.Starts.{turns_said}
 use Rattle.cep_parse.specs.declared.raw.RawAtom.{RawAtom}
 use Rattle.cep_parse.specs.declared.raw.RawElem.{RawElem}
@@ -15,9 +17,9 @@ use Rattle.cep_rule.specs.Patterns.{PremiseTree, ClauseTree}
 use Rattle.cep_source.specs.Items.{Source, ClauseItem, RuleItem, TraceItem, said}
 use Rattle.cep_parse.specs.Raw.{atoms_of, raw_nodes}
 use Rattle.cep_types.specs.Sites.{clause_scope}
-use Rattle.cep_types.specs.Heads.{number_of, blanks_after}
+use Rattle.cep_types.specs.Heads.{number_of}
 use Rattle.cep_infer.specs.Heads.{heads_among, IsAtomBy, AreAtomsBy}
-use Rattle.cep_infer.specs.Meaning.{is_back, is_fact_by, ArePremisesBy, IsRuleBy, AreRulesBy, IsClauseBy, AreClausesBy, IsStartBy, AreParts}
+use Rattle.cep_infer.specs.Meaning.{is_back, is_fact_by, ArePremisesBy, IsRuleBy, IsClauseBy, IsStartBy, AreParts}
 use Rattle.cep_ground.proofs.HeadLaws.{terms_once}
 
 same_atom : (a b : AtomTree) → a.pred ≡ b.pred → a.args ≡ b.args → a ≡ b
@@ -59,26 +61,27 @@ premises_once source vars blanks (elem.Atom kept raw ∷ elems) (x ∷ xs) (y �
 same_rule : (r s : Rule) → r.name ≡ s.name → r.group ≡ s.group → r.vars ≡ s.vars → r.kinds ≡ s.kinds → r.premises ≡ s.premises → r.backs ≡ s.backs → r.right ≡ s.right → r.next ≡ s.next → r ≡ s
 same_rule r s name group vars kinds premises backs right next = λ i. record { name = name i; group = group i; vars = vars i; kinds = kinds i; premises = premises i; backs = backs i; right = right i; next = next i }
 
-rule_once : (source : Source) (name : List ℕ) (item : RuleItem) (r s : Rule) → IsRuleBy source name item r → IsRuleBy source name item s → r ≡ s
-rule_once source name item r s one other =
+rule_once : (source : Source) (item : RuleItem) (r s : Rule) → r.name ≡ s.name → IsRuleBy source item r → IsRuleBy source item s → r ≡ s
+rule_once source item r s name one other =
     let vars : r.vars ≡ s.vars = one.vars_are ∙ sym other.vars_are in
     let left : one.left ≡ other.left = premises_once source s.vars 0 item.raw.left one.left other.left (subst (λ vs. ArePremisesBy source vs 0 item.raw.left one.left) vars one.left_is) other.left_is in
-    same_rule r s (one.name_is ∙ sym other.name_is) (one.group_is ∙ sym other.group_is) vars (one.kinds_are ∙ sym other.kinds_are)
+    same_rule r s name (one.group_is ∙ sym other.group_is) vars (one.kinds_are ∙ sym other.kinds_are)
     (one.premises_are ∙ ap (filter (λ (p : PremiseTree). not (is_back source p.atom))) left ∙ sym other.premises_are)
     (one.backs_are ∙ ap (λ ps. map (λ (p : PremiseTree). p.atom) (filter (λ (p : PremiseTree). is_back source p.atom) ps)) left ∙ sym other.backs_are)
     (atoms_once source s.vars (blanks_after 0 (raw_nodes (atoms_of item.raw.left))) (atoms_of item.raw.right) r.right s.right (subst (λ vs. AreAtomsBy source vs (blanks_after 0 (raw_nodes (atoms_of item.raw.left))) (atoms_of item.raw.right) r.right) vars one.right_is) other.right_is)
     (one.next_is ∙ sym other.next_is)
 
-rules_once : (source : Source) (names : List (List ℕ)) (items : List RuleItem) (xs ys : List Rule) → AreRulesBy source names items xs → AreRulesBy source names items ys → xs ≡ ys
-rules_once source names [] [] [] one other = refl
-rules_once source names [] [] (y ∷ ys) one other = absurd other
-rules_once source names [] (x ∷ xs) ys one other = absurd one
-rules_once source names (item ∷ items) [] ys one other = absurd one
-rules_once source names (item ∷ items) (x ∷ xs) [] one other = absurd other
-rules_once source [] (item ∷ items) (x ∷ xs) (y ∷ ys) one other = absurd one
-rules_once source (name ∷ names) (item ∷ items) (x ∷ xs) (y ∷ ys) one other =
-    let here = rule_once source name item x y one.0 other.0 in
-    let rest = rules_once source names items xs ys one.1 other.1 in
+rules_once : (source : Source) (items : List RuleItem) (xs ys : List Rule) → map (λ (rule : Rule). rule.name) xs ≡ map (λ (rule : Rule). rule.name) ys → AllZip (IsRuleBy source) items xs → AllZip (IsRuleBy source) items ys → xs ≡ ys
+rules_once source [] [] [] names one other = refl
+rules_once source [] [] (y ∷ ys) names one other = absurd other
+rules_once source [] (x ∷ xs) ys names one other = absurd one
+rules_once source (item ∷ items) [] ys names one other = absurd one
+rules_once source (item ∷ items) (x ∷ xs) [] names one other = absurd other
+rules_once source (item ∷ items) (x ∷ xs) (y ∷ ys) names one other =
+    let name : x.name ≡ y.name = cc in
+    let others : map (λ (rule : Rule). rule.name) xs ≡ map (λ (rule : Rule). rule.name) ys = cc in
+    let here = rule_once source item x y name one.0 other.0 in
+    let rest = rules_once source items xs ys others one.1 other.1 in
     cc
 
 same_clause : (c d : ClauseTree) → c.vars ≡ d.vars → c.kinds ≡ d.kinds → c.head ∷ c.goals ≡ d.head ∷ d.goals → c ≡ d
@@ -93,7 +96,7 @@ clause_once source item c d one other =
     same_clause c d vars (one.kinds_are ∙ sym other.kinds_are)
     (atoms_once source d.vars 0 (clause_scope item) (c.head ∷ c.goals) (d.head ∷ d.goals) (subst (λ vs. AreAtomsBy source vs 0 (clause_scope item) (c.head ∷ c.goals)) vars one.atoms_are) other.atoms_are)
 
-clauses_once : (source : Source) (items : List ClauseItem) (xs ys : List ClauseTree) → AreClausesBy source items xs → AreClausesBy source items ys → xs ≡ ys
+clauses_once : (source : Source) (items : List ClauseItem) (xs ys : List ClauseTree) → AllZip (IsClauseBy source) items xs → AllZip (IsClauseBy source) items ys → xs ≡ ys
 clauses_once source [] [] [] one other = refl
 clauses_once source [] [] (y ∷ ys) one other = absurd other
 clauses_once source [] (x ∷ xs) ys one other = absurd one
@@ -119,7 +122,7 @@ pub parts_once : (source : Source) (p q : Parts) → AreParts source p → ArePa
 parts_once source p q one other =
     let trace : one.trace ≡ other.trace = same_trace one.trace other.trace one.rest other.rest (sym one.first ∙ other.first) in
     same_parts p q (one.signature_is ∙ sym other.signature_is) (one.stages_are ∙ sym other.stages_are)
-    (rules_once source _ _ p.rules q.rules one.rules_are other.rules_are)
+    (rules_once source _ p.rules q.rules (one.rule_names_are ∙ sym other.rule_names_are) one.rules_are other.rules_are)
     (clauses_once source _ p.clauses q.clauses one.clauses_are other.clauses_are)
     (one.start_stage_is ∙ ap (λ (t : TraceItem). number_of source space.Stages (said source t.stage)) trace ∙ sym other.start_stage_is)
     (start_once source one.trace other.trace p.start q.start trace one.start_is other.start_is)

@@ -1,10 +1,11 @@
 -- What a text in order declares is a program.
-use Rattle.std.proofs.Common.{◌≡◌, ℕ, suc, ◌<◌, ◌≤◌, ◌^◌, Bool, true, false, not, ◌&&◌, if◌then◌else◌, nat_le, List, [], ◌∷◌, length, map, filter, refl, sym, ap, subst, ◌∙◌, arith, Contains, length-append}
+use Rattle.std.proofs.Common.{◌≡◌, ℕ, ◌<◌, ◌≤◌, ◌^◌, Bool, true, false, not, ◌&&◌, if◌then◌else◌, nat_le, List, [], ◌∷◌, ◌++◌, length, map, filter, refl, sym, ap, subst, ◌∙◌, arith, Contains, length-append}
 use Rattle.std.proofs.lemmas.Bool.{leb-true}
 use Rattle.std.proofs.lemmas.List.{length-map}
 use Rattle.std.specs.Prelude.{Option, Some, None, IfSome}
 use Rattle.std.specs.Option.{option_and_then}
 use Rattle.std.specs.List.{AllByRecursion, flat_map}
+use Rattle.std.proofs.lemmas.Slice.Zip.{AllZip-long}
 use Rattle.cep_parse.specs.declared.raw.Span.{Span}
 use Rattle.cep_parse.specs.declared.raw.RawAtom.{RawAtom}
 use Rattle.cep_parse.specs.declared.raw.RawItem.{RawItem}
@@ -30,11 +31,9 @@ use Rattle.cep_rule.specs.State.{IsState}
 use Rattle.cep_rule.specs.Program.{AreSorts, AreNumbersDeclared, IsTypedRule, IsTypedClause, IsDividedRule, IsDividedClause, IsGroupedRule, IsProgram}
 use Rattle.cep_refusal.specs.declared.reason.Reason.TheVariants.{OverLimit}
 use Rattle.cep_source.specs.declared.space.Space.TheVariants as space
-use Rattle.cep_source.specs.Items.{Source, PredItem, ConItem, ClauseItem, RuleItem, said, sorts_of, preds_of, cons_of, stages_of, clauses_of, rules_of, traces_of}
-use Rattle.cep_source.specs.InItems.{sorts_in, stages_in}
-use Rattle.cep_source.specs.Spaces.{Named, named, names_in}
+use Rattle.cep_source.specs.Items.{Source, PredItem, ConItem, ClauseItem, RuleItem, TraceItem, declares, said, sorts_of, preds_of, cons_of, stages_of, interactives_of, clauses_of, rules_of, traces_of}
 use Rattle.cep_parse.specs.Raw.{atoms_of, raw_nodes}
-use Rattle.cep_source.specs.Uses.{use_in, start_uses}
+use Rattle.cep_source.specs.Uses.{stages_named}
 use Rattle.cep_source.specs.Variables.{Occurrence, variables_of}
 use Rattle.cep_refusal.specs.First.{wrong}
 use Rattle.cep_source.specs.Starts.{turns_said}
@@ -42,20 +41,19 @@ use Rattle.cep_faults.specs.Misnamed.Misnamed.{over}
 use Rattle.cep_faults.specs.Limits.{IsOver as overs}
 use Rattle.cep_types.specs.Sites.{rule_scope, clause_scope}
 use Rattle.cep_types.specs.Heads.{number_of, sorts_said}
-use Rattle.cep_infer.specs.Meaning.{con_by, pred_by, signature_of, stage_by, names_of, is_back, IsRuleBy, AreRulesBy, IsClauseBy, AreClausesBy, AreParts}
+use Rattle.cep_infer.specs.Meaning.{con_by, pred_by, signature_of, stage_by, names_of, is_back, IsRuleBy, IsClauseBy, AreParts}
 use Rattle.cep_infer.specs.Places.{backs_at, unbound_of}
 use Rattle.cep_faults.specs.Premises.{backward_of}
 use Rattle.cep_ground.specs.Texts.{IsClean, IsBound}
-use Rattle.cep_base.proofs.Elements.{contains_first, contains_behind, contains_left, contains_right, contains_map, all_at, all_of}
-use Rattle.cep_ground.proofs.Known.{trace_item_uses}
-use Rattle.cep_ground.proofs.Limits.{at_most, nodes_few, all_filter, all_map}
+use Rattle.cep_base.proofs.Elements.{contains_first, contains_left, contains_right, contains_map, all_at, all_of}
+use Rattle.cep_ground.proofs.Limits.{at_most, nodes_few, all_filter, all_map, all_zip}
 use Rattle.cep_ground.proofs.Spelled.{tokens_few}
 use Rattle.cep_ground.proofs.RuleScopes.{AtomsMade, AreHere, rule_here, clause_here, left_here, right_here, linear_few, back_few, right_few, goals_few, nodes_short}
 use Rattle.cep_ground.proofs.RuleParts.{IsJudged, judged_premises, judged_atoms, back_part, linear_count, back_count, atoms_count, all_follow, rule_typed, rule_divided, clause_typed, clause_divided}
 use Rattle.cep_ground.proofs.BoundVariables.{bound_vars, rule_bound, clause_bound}
 use Rattle.cep_ground.proofs.VariableKinds.{in_range, con_sort_known, con_args_known, pred_args_known, kinds_in_range, variable_names}
 use Rattle.cep_ground.proofs.StartState.{StartLaws, start_good}
-use Rattle.cep_ground.proofs.NameLaws.{rule_names_size, rules_few, sort_names, stage_names, con_names, pred_names, rule_names}
+use Rattle.cep_ground.proofs.NameLaws.{rules_few, sort_names, stage_names, con_names, pred_names, rule_names}
 use Rattle.cep_ground.proofs.GroupLaws.{used_stage, rule_grouped, rule_next}
 
 map_same : {X Y Z : Type 0} (f : Y → Z) (g : X → Y) (h : X → Z) (xs : List X) → ((x : X) → f (g x) ≡ h x) → map h xs ≡ map f (map g xs)
@@ -81,11 +79,11 @@ flat_few f (x ∷ xs) one =
     let size = length-append (f x) (flat_map f xs) in
     omega (arith, here, rest, size)
 
-one_sort : (item_ : RawItem) → length (sorts_in item_) ≤ 1
+one_sort : (item_ : RawItem) → length (declares item_).sorts ≤ 1
 one_sort (item.Sort name) = omega arith
 one_sort _ = omega arith
 
-one_stage : (item_ : RawItem) → length (stages_in item_) ≤ 1
+one_stage : (item_ : RawItem) → length (declares item_).stages ≤ 1
 one_stage (item.Stage name rules) = omega arith
 one_stage _ = omega arith
 
@@ -98,51 +96,9 @@ module _ (source : Source) (clean : IsClean source) (made : AtomsMade source) (i
   file_few : length source.file ≤ 1048576
   file_few = let tokens = tokens_few source clean.is_source in let s = clean.short in omega (arith, few, tokens, s)
 
-  -- what holds of each rule that is written holds of all
-  all_rules : (P : Rule → Type 0) (names : List (List ℕ)) (written : List RuleItem) (rules : List Rule) → ((name : List ℕ) (item_ : RuleItem) (rule : Rule) → Contains written item_ → IsRuleBy source name item_ rule → P rule) → AreRulesBy source names written rules → AllByRecursion P rules
-  all_rules P names [] [] each by = tt
-  all_rules P names [] (rule ∷ rules) each by = absurd by
-  all_rules P names (item_ ∷ written) [] each by = absurd by
-  all_rules P [] (item_ ∷ written) (rule ∷ rules) each by = absurd by
-  all_rules P (name ∷ names) (item_ ∷ written) (rule ∷ rules) each by = (
-    each name item_ rule (contains_first item_ written) by.0,
-    all_rules P names written rules (λ n i r there is. each n i r (contains_behind item_ written i there) is) by.1,
-  )
-
-  rules_named : (names : List (List ℕ)) (written : List RuleItem) (rules : List Rule) → length names ≡ length written → AreRulesBy source names written rules → map (λ (rule : Rule). rule.name) rules ≡ names
-  rules_named [] [] [] size by = refl
-  rules_named (name ∷ names) [] [] size by = absurd (omega (arith, size))
-  rules_named names [] (rule ∷ rules) size by = absurd by
-  rules_named names (item_ ∷ written) [] size by = absurd by
-  rules_named [] (item_ ∷ written) (rule ∷ rules) size by = absurd by
-  rules_named (name ∷ names) (item_ ∷ written) (rule ∷ rules) size by =
-      let here = by.0.name_is in
-      let rest = rules_named names written rules (omega (arith, size)) by.1 in
-      cc
-
-  rules_size : (names : List (List ℕ)) (written : List RuleItem) (rules : List Rule) → AreRulesBy source names written rules → length rules ≡ length written
-  rules_size names [] [] by = refl
-  rules_size names [] (rule ∷ rules) by = absurd by
-  rules_size names (item_ ∷ written) [] by = absurd by
-  rules_size [] (item_ ∷ written) (rule ∷ rules) by = absurd by
-  rules_size (name ∷ names) (item_ ∷ written) (rule ∷ rules) by = ap suc (rules_size names written rules by.1)
-
-  all_clauses : (P : ClauseTree → Type 0) (written : List ClauseItem) (clauses : List ClauseTree) → ((item_ : ClauseItem) (clause : ClauseTree) → Contains written item_ → IsClauseBy source item_ clause → P clause) → AreClausesBy source written clauses → AllByRecursion P clauses
-  all_clauses P [] [] each by = tt
-  all_clauses P [] (clause ∷ clauses) each by = absurd by
-  all_clauses P (item_ ∷ written) [] each by = absurd by
-  all_clauses P (item_ ∷ written) (clause ∷ clauses) each by =
-      (each item_ clause (contains_first item_ written) by.0, all_clauses P written clauses (λ i c there is. each i c (contains_behind item_ written i there) is) by.1)
-
-  clauses_size : (written : List ClauseItem) (clauses : List ClauseTree) → AreClausesBy source written clauses → length clauses ≡ length written
-  clauses_size [] [] by = refl
-  clauses_size [] (clause ∷ clauses) by = absurd by
-  clauses_size (item_ ∷ written) [] by = absurd by
-  clauses_size (item_ ∷ written) (clause ∷ clauses) by = ap suc (clauses_size written clauses by.1)
-
   nodes_of_scope : (atoms : List RawAtom) → AreHere source clean made atoms → length (raw_nodes atoms) < 2 ^ 63
   nodes_of_scope atoms are =
-      let nodes = nodes_few atoms (λ raw there. let here = are.here raw there in let s = nodes_short source clean made here.role raw here.there in omega (arith, s)) in
+      let nodes = nodes_few atoms (λ raw there. let s = nodes_short source clean made raw (are.here raw there) in omega (arith, s)) in
       let count = are.few in
       omega (arith, nodes, count)
 
@@ -162,8 +118,8 @@ module _ (source : Source) (clean : IsClean source) (made : AtomsMade source) (i
   small_atom : (atom : AtomTree) → IsJudged source clean made atom → IsSmallPattern atom
   small_atom atom judged = judged.small
 
-  small_rule : (name : List ℕ) (item_ : RuleItem) (rule : Rule) → Contains (rules_of source) item_ → IsRuleBy source name item_ rule → IsSmallRule rule
-  small_rule name item_ rule there by =
+  small_rule : (item_ : RuleItem) (rule : Rule) → Contains (rules_of source) item_ → IsRuleBy source item_ rule → IsSmallRule rule
+  small_rule item_ rule there by =
       let judged = judged_premises source clean made rule.vars 0 item_.raw.left by.left (left_here source clean made item_ there) by.left_is in
       let small = all_follow (λ (p : PremiseTree). IsJudged source clean made p.atom) (λ p. IsSmallPattern p.atom) by.left (λ p j. small_atom p.atom j) judged in
       let linear = linear_count source clean made rule.vars 0 item_.raw.left by.left (left_here source clean made item_ there) by.left_is in
@@ -193,7 +149,7 @@ module _ (source : Source) (clean : IsClean source) (made : AtomsMade source) (i
 
   small_signature : IsSmallSignature (signature_of source)
   small_signature = record {
-    sorts = let e = length-map (sorts_of source) (said source) in let f = flat_few sorts_in source.file one_sort in let g = file_few in omega (arith, e, f, g);
+    sorts = let e = length-map (sorts_of source) (said source) in let f = flat_few (λ item_. (declares item_).sorts) source.file one_sort in let g = file_few in omega (arith, e, f, g);
     cons = let e = length-map (cons_of source) (con_by source) in
         let most = at_most (cons_of source) 65536 (λ con found. clean.names (wrong OverLimit con.name.from) (over con.name.from (overs.constructor con found refl) refl)) in omega (arith, e, most);
     preds = let e = length-map (preds_of source) (pred_by source) in
@@ -213,16 +169,15 @@ module _ (source : Source) (clean : IsClean source) (made : AtomsMade source) (i
   -- whose modes can be decided
   pub is_in_order : (parts : Parts) → AreParts source parts → AreInOrder parts
   is_in_order parts are =
-      let rule_names_ = map (λ (n : Named). n.name) (names_in source space.Rules) in
-      let each_rule : (P : Rule → Type 0) → ((name : List ℕ) (item_ : RuleItem) (rule : Rule) → Contains (rules_of source) item_ → IsRuleBy source name item_ rule → P rule) → AllByRecursion P parts.rules = λ P each. all_rules P rule_names_ (rules_of source) parts.rules each are.rules_are in
-      let each_clause : (P : ClauseTree → Type 0) → ((item_ : ClauseItem) (clause : ClauseTree) → Contains (clauses_of source) item_ → IsClauseBy source item_ clause → P clause) → AllByRecursion P parts.clauses = λ P each. all_clauses P (clauses_of source) parts.clauses each are.clauses_are in
+      let each_rule : (P : Rule → Type 0) → ((item_ : RuleItem) (rule : Rule) → Contains (rules_of source) item_ → IsRuleBy source item_ rule → P rule) → AllByRecursion P parts.rules = λ P each. all_zip (IsRuleBy source) P (rules_of source) parts.rules each are.rules_are in
+      let each_clause : (P : ClauseTree → Type 0) → ((item_ : ClauseItem) (clause : ClauseTree) → Contains (clauses_of source) item_ → IsClauseBy source item_ clause → P clause) → AllByRecursion P parts.clauses = λ P each. all_zip (IsClauseBy source) P (clauses_of source) parts.clauses each are.clauses_are in
       let stage_size : length parts.stages ≡ length (stages_of source) = ap length are.stages_are ∙ length-map (stages_of source) (stage_by source) in
       record {
         small = record {
           signature = subst IsSmallSignature (sym are.signature_is) small_signature;
-          stages = let f = flat_few stages_in source.file one_stage in let g = file_few in omega (arith, stage_size, f, g);
-          rules = let e = rules_size rule_names_ (rules_of source) parts.rules are.rules_are in let most = rules_few source clean items in omega (arith, e, most);
-          clauses = let e = clauses_size (clauses_of source) parts.clauses are.clauses_are in
+          stages = let f = flat_few (λ item_. (declares item_).stages) source.file one_stage in let g = file_few in omega (arith, stage_size, f, g);
+          rules = let e = AllZip-long (IsRuleBy source) (rules_of source) parts.rules are.rules_are in let most = rules_few source clean items in omega (arith, e, most);
+          clauses = let e = AllZip-long (IsClauseBy source) (clauses_of source) parts.clauses are.clauses_are in
               let most = at_most (clauses_of source) 4096 (λ clause found. clean.names (wrong OverLimit clause.head.name.from) (over clause.head.name.from (overs.clause clause found refl) refl)) in omega (arith, e, most);
           each_rule = each_rule IsSmallRule small_rule;
           each_clause = each_clause IsSmallClause small_clause;
@@ -233,8 +188,8 @@ module _ (source : Source) (clean : IsClean source) (made : AtomsMade source) (i
       }
 
   -- a rule has as many backward premises as are written
-  pub backs_counted : (name : List ℕ) (item_ : RuleItem) (rule : Rule) → Contains (rules_of source) item_ → IsRuleBy source name item_ rule → length rule.backs ≡ length (backs_at source item_)
-  backs_counted name item_ rule there by =
+  pub backs_counted : (item_ : RuleItem) (rule : Rule) → Contains (rules_of source) item_ → IsRuleBy source item_ rule → length rule.backs ≡ length (backs_at source item_)
+  backs_counted item_ rule there by =
       ap length by.backs_are
       ∙ length-map (filter (λ (p : PremiseTree). is_back source p.atom) by.left) (λ (p : PremiseTree). p.atom)
       ∙ back_count source clean made rule.vars 0 item_.raw.left by.left (left_here source clean made item_ there) by.left_is
@@ -243,9 +198,8 @@ module _ (source : Source) (clean : IsClean source) (made : AtomsMade source) (i
   pub is_program : (parts : Parts) → AreParts source parts → AllByRecursion (IsGrounded parts.clauses) parts.rules → IsProgram parts
   is_program parts are grounded =
       let ordered = is_in_order parts are in
-      let rule_names_ = map (λ (n : Named). n.name) (names_in source space.Rules) in
-      let each_rule : (P : Rule → Type 0) → ((name : List ℕ) (item_ : RuleItem) (rule : Rule) → Contains (rules_of source) item_ → IsRuleBy source name item_ rule → P rule) → AllByRecursion P parts.rules = λ P each. all_rules P rule_names_ (rules_of source) parts.rules each are.rules_are in
-      let each_clause : (P : ClauseTree → Type 0) → ((item_ : ClauseItem) (clause : ClauseTree) → Contains (clauses_of source) item_ → IsClauseBy source item_ clause → P clause) → AllByRecursion P parts.clauses = λ P each. all_clauses P (clauses_of source) parts.clauses each are.clauses_are in
+      let each_rule : (P : Rule → Type 0) → ((item_ : RuleItem) (rule : Rule) → Contains (rules_of source) item_ → IsRuleBy source item_ rule → P rule) → AllByRecursion P parts.rules = λ P each. all_zip (IsRuleBy source) P (rules_of source) parts.rules each are.rules_are in
+      let each_clause : (P : ClauseTree → Type 0) → ((item_ : ClauseItem) (clause : ClauseTree) → Contains (clauses_of source) item_ → IsClauseBy source item_ clause → P clause) → AllByRecursion P parts.clauses = λ P each. all_zip (IsClauseBy source) P (clauses_of source) parts.clauses each are.clauses_are in
       let trace_there : Contains (traces_of source) are.trace = subst (λ ts. Contains ts are.trace) (sym are.first) (contains_first are.trace are.rest) in
       let start = start_good source clean made starts laws are.trace are.rest parts.start are.first are.start_is in
       let stage_size : length parts.stages ≡ length (stages_of source) = ap length are.stages_are ∙ length-map (stages_of source) (stage_by source) in
@@ -257,8 +211,8 @@ module _ (source : Source) (clean : IsClean source) (made : AtomsMade source) (i
           cons = subst (λ (s : Signature). AreNames (map (λ con. con.name) s.cons)) (sym are.signature_is) (subst AreNames (map_same (λ (con : Con). con.name) (con_by source) (λ (con : ConItem). said source con.name) (cons_of source) (λ con. refl)) (con_names source clean items));
           preds = subst (λ (s : Signature). AreNames (map (λ pred. pred.name) s.preds)) (sym are.signature_is) (subst AreNames (map_same (λ (pred : PredDecl). pred.name) (pred_by source) (λ (pred : PredItem). said source pred.name) (preds_of source) (λ pred. refl)) (pred_names source clean items));
           stages = subst (λ (ss : List Stage). AreNames (map (λ stage. stage.name) ss)) (sym are.stages_are) (subst AreNames (map_same (λ (stage : Stage). stage.name) (stage_by source) (said source) (stages_of source) (λ stage. refl)) (stage_names source clean items));
-          rules = subst AreNames (sym (rules_named rule_names_ (rules_of source) parts.rules (length-map (names_in source space.Rules) (λ (n : Named). n.name) ∙ rule_names_size source clean items 0 (rules_of source)) are.rules_are)) (rule_names source clean items);
-          rule_vars = each_rule (λ rule. AllByRecursion IsVariableName rule.vars) (λ name item_ rule there by.
+          rules = subst AreNames (sym are.rule_names_are) (rule_names source clean items);
+          rule_vars = each_rule (λ rule. AllByRecursion IsVariableName rule.vars) (λ item_ rule there by.
               let here = rule_here source clean made item_ there in
               subst (AllByRecursion IsVariableName) (sym by.vars_are) (variable_names source clean made (rule_scope item_) here (nodes_of_scope (rule_scope item_) here)));
           clause_vars = each_clause (λ clause. AllByRecursion IsVariableName clause.vars) (λ item_ clause there by.
@@ -268,7 +222,7 @@ module _ (source : Source) (clean : IsClean source) (made : AtomsMade source) (i
         in_range = in_range_parts parts are each_rule each_clause sort_size stage_size trace_there;
         typed_rules = ordered.typed_rules;
         typed_clauses = ordered.typed_clauses;
-        bound_rules = each_rule IsBoundRule (λ name item_ rule there by. rule_bound source name item_ rule (all_at (λ (rule : RuleItem). unbound_of source rule ≡ []) (rules_of source) item_ bound there) by);
+        bound_rules = each_rule IsBoundRule (λ item_ rule there by. rule_bound source item_ rule (all_at (λ (rule : RuleItem). unbound_of source rule ≡ []) (rules_of source) item_ bound there) by);
         bound_clauses = each_clause IsBoundClause (λ item_ clause there by. clause_bound source item_ clause by);
         divided_rules = subst (λ s. AllByRecursion (IsDividedRule s) parts.rules) (sym are.signature_is) (each_rule (IsDividedRule (signature_of source)) (rule_divided source clean made));
         divided_clauses = subst (λ s. AllByRecursion (IsDividedClause s) parts.clauses) (sym are.signature_is) (each_clause (IsDividedClause (signature_of source)) (clause_divided source clean made));
@@ -279,7 +233,7 @@ module _ (source : Source) (clean : IsClean source) (made : AtomsMade source) (i
       }
     where
       in_range_parts : (parts : Parts) (are : AreParts source parts)
-          → ((P : Rule → Type 0) → ((name : List ℕ) (item_ : RuleItem) (rule : Rule) → Contains (rules_of source) item_ → IsRuleBy source name item_ rule → P rule) → AllByRecursion P parts.rules)
+          → ((P : Rule → Type 0) → ((item_ : RuleItem) (rule : Rule) → Contains (rules_of source) item_ → IsRuleBy source item_ rule → P rule) → AllByRecursion P parts.rules)
           → ((P : ClauseTree → Type 0) → ((item_ : ClauseItem) (clause : ClauseTree) → Contains (clauses_of source) item_ → IsClauseBy source item_ clause → P clause) → AllByRecursion P parts.clauses)
           → length parts.signature.sorts ≡ length (sorts_of source) → length parts.stages ≡ length (stages_of source) → Contains (traces_of source) are.trace → AreNumbersDeclared parts
       in_range_parts parts are each_rule each_clause sort_size stage_size trace_there = record {
@@ -293,15 +247,16 @@ module _ (source : Source) (clean : IsClean source) (made : AtomsMade source) (i
             (all_map (λ (pred : PredDecl). AreSorts (signature_of source) pred.args) (pred_by source) (preds_of source) (all_of (λ (pred : PredItem). AreSorts (signature_of source) (sorts_said source pred.args)) (preds_of source)
             (λ pred there. sorts_of_signature pred.args (all_follow _ _ (map (said source) pred.args) (λ name is. in_range source clean made name is) (pred_args_known source clean made pred there)))));
         rule_kinds = subst (λ n. AllByRecursion (λ (rule : Rule). AllByRecursion (λ sort. sort < n) rule.kinds) parts.rules) (sym sort_size)
-            (each_rule (λ rule. AllByRecursion (λ sort. sort < length (sorts_of source)) rule.kinds) (λ name item_ rule there by.
+            (each_rule (λ rule. AllByRecursion (λ sort. sort < length (sorts_of source)) rule.kinds) (λ item_ rule there by.
             subst (AllByRecursion (λ sort. sort < length (sorts_of source))) (sym by.kinds_are) (kinds_in_range source clean made (rule_scope item_) (rule_here source clean made item_ there))));
         clause_kinds = subst (λ n. AllByRecursion (λ (clause : ClauseTree). AllByRecursion (λ sort. sort < n) clause.kinds) parts.clauses) (sym sort_size)
             (each_clause (λ clause. AllByRecursion (λ sort. sort < length (sorts_of source)) clause.kinds) (λ item_ clause there by.
             subst (AllByRecursion (λ sort. sort < length (sorts_of source))) (sym by.kinds_are) (kinds_in_range source clean made (clause_scope item_) (clause_here source clean made item_ there))));
         next_stages = subst (λ n. AllByRecursion (λ (rule : Rule). IfSome rule.next (λ stage. stage < n)) parts.rules) (sym stage_size) (each_rule (λ rule. IfSome rule.next (λ stage. stage < length (stages_of source))) (rule_next source clean));
         start_stage =
-            let use_ = use_in space.Stages are.trace.stage in
-            let used = used_stage source clean are.trace.stage (trace_item_uses source are.trace use_ trace_there (contains_first use_ (start_uses are.trace.start))) in
+            let each = λ (one : RuleItem). stages_named one.raw.left ++ stages_named one.raw.right in
+            let used = used_stage source clean are.trace.stage (contains_right (flat_map each (rules_of source)) _ are.trace.stage
+            (contains_right (interactives_of source) _ are.trace.stage (contains_map (λ (trace : TraceItem). trace.stage) (traces_of source) are.trace trace_there))) in
             subst (λ n. n < length parts.stages) (sym are.start_stage_is) (subst (λ n. number_of source space.Stages (said source are.trace.stage) < n) (sym stage_size) used);
       }
         where

@@ -20,6 +20,7 @@ use Rattle.cep_refusal.specs.declared.fault.Fault.{Fault}
 use Rattle.cep_refusal.specs.declared.reason.Reason.{Reason}
 use Rattle.cep_refusal.specs.declared.reason.Reason.TheVariants.{BadByte, NameLong, Unexpected, Nested, Unbound, Ungrounded, TooLong}
 use Rattle.cep_source.specs.Items.{Source, RuleItem, rules_of}
+use Rattle.cep_source.specs.Spaces.IsTwice.{again}
 use Rattle.cep_source.specs.Variables.{Occurrence}
 use Rattle.cep_refusal.specs.First.{IsFirst, IsNoLater, wrong, IsToldFirst}
 use Rattle.cep_faults.specs.Misnamed.{Misnamed, Misnamed as misnamed_}
@@ -188,13 +189,14 @@ module _ (lexed : LexedOnce) (text : List ℕ) where
       mistyped_phase fault (mistyped_.variable atoms site first scope there var type_is differ is) = ap (λ (f : Fault). phase f.reason) is
 
       misnamed_phase : (fault : Fault) → Misnamed source fault → phase fault.reason ≡ 4
-      misnamed_phase fault (misnamed_.twice is) = ap (λ (f : Fault). phase f.reason) is.is
-      misnamed_phase fault (misnamed_.unknown use_ there nowhere is) = ap (λ (f : Fault). phase f.reason) is
-      misnamed_phase fault (misnamed_.wrong_kind use_ there somewhere other is) = ap (λ (f : Fault). phase f.reason) is
-      misnamed_phase fault (misnamed_.wrong_arity use_ arity there found differ is) = ap (λ (f : Fault). phase f.reason) is
-      misnamed_phase fault (misnamed_.variable_in_state p node there of_state inside open_ is) = ap (λ (f : Fault). phase f.reason) is
-      misnamed_phase fault (misnamed_.backward_in_state p there comes back is) = ap (λ (f : Fault). phase f.reason) is
-      misnamed_phase fault (misnamed_.linear_in_clause p there clause linear is) = ap (λ (f : Fault). phase f.reason) is
+      misnamed_phase fault (misnamed_.twice (again space before after entry cut earlier is)) = ap (λ (f : Fault). phase f.reason) is
+      misnamed_phase fault (misnamed_.unknown space name used nowhere is) = ap (λ (f : Fault). phase f.reason) is
+      misnamed_phase fault (misnamed_.wrong_kind space other name used outside inside is) = ap (λ (f : Fault). phase f.reason) is
+      misnamed_phase fault (misnamed_.wrong_arity atom pred there found differ is) = ap (λ (f : Fault). phase f.reason) is
+      misnamed_phase fault (misnamed_.wrong_term_arity node con there app found differ is) = ap (λ (f : Fault). phase f.reason) is
+      misnamed_phase fault (misnamed_.variable_in_state node there open_ is) = ap (λ (f : Fault). phase f.reason) is
+      misnamed_phase fault (misnamed_.backward_in_state atom there back is) = ap (λ (f : Fault). phase f.reason) is
+      misnamed_phase fault (misnamed_.linear_in_clause atom its there kind forward is) = ap (λ (f : Fault). phase f.reason) is
       misnamed_phase fault (misnamed_.bad_qui rule there home not_qui is) = ap (λ (f : Fault). phase f.reason) is
       misnamed_phase fault (misnamed_.no_trace none is) = ap (λ (f : Fault). phase f.reason) is
       misnamed_phase fault (misnamed_.two_traces first trace rest all there is) = ap (λ (f : Fault). phase f.reason) is

@@ -22,20 +22,17 @@ use Rattle.cep_rule.specs.Typing.{IsTyped, HasStatePredicate, IsBackward, is_fac
 use Rattle.cep_rule.specs.Binding.{needed_of}
 use Rattle.cep_rule.specs.Program.{IsTypedRule, IsDividedRule, IsTypedClause, IsDividedClause}
 use Rattle.cep_refusal.specs.declared.reason.Reason.TheVariants.{BwdInState, LinearInClause}
-use Rattle.cep_source.specs.declared.space.Role.TheVariants as role
 use Rattle.cep_source.specs.declared.space.Space.TheVariants as space
 use Rattle.cep_source.specs.Starts.{is_of_fact}
 use Rattle.cep_source.specs.Items.{Source, RuleItem, ClauseItem, PredItem, said, rules_of, clauses_of, preds_of}
 use Rattle.cep_source.specs.Spaces.{named, kind_of}
 use Rattle.cep_parse.specs.Raw.{atoms_of, raw_nodes}
-use Rattle.cep_source.specs.Uses.{placed, placed_of}
-use Rattle.cep_source.specs.Variables.{blanks_behind, variables_of, Occurrence}
+use Rattle.cep_source.specs.Uses.{made_atoms, clause_atoms, state_atoms}
+use Rattle.cep_source.specs.Variables.{blanks_behind, variables_of, Occurrence, blanks_after}
 use Rattle.cep_refusal.specs.First.{wrong}
-use Rattle.cep_faults.specs.Premises.{is_declared}
-use Rattle.cep_faults.specs.Misnamed.ComesToState.{made}
 use Rattle.cep_faults.specs.Misnamed.Misnamed.{backward_in_state, linear_in_clause}
 use Rattle.cep_types.specs.Sites.{sites_of, wanted_from, type_of, rule_scope, clause_scope}
-use Rattle.cep_types.specs.Heads.{number_of, heads_from, blanks_after}
+use Rattle.cep_types.specs.Heads.{number_of, heads_from}
 use Rattle.cep_infer.specs.Heads.{IsAtomBy, AreAtomsBy}
 use Rattle.cep_infer.specs.Meaning.{pred_by, is_fact_by, signature_of, names_of, kinds_of, is_back, ArePremisesBy, IsRuleBy, IsClauseBy}
 use Rattle.cep_ground.specs.Texts.{IsClean}
@@ -47,7 +44,7 @@ use Rattle.cep_ground.proofs.Limits.{all_filter, all_map, all_pass}
 use Rattle.cep_ground.proofs.HeadLaws.{terms_nodes}
 use Rattle.cep_ground.proofs.Wanted.{nodes_at, wanted_both}
 use Rattle.cep_ground.proofs.Scopes.{IsHere, scope_nodes, typed_atoms, typed_premises}
-use Rattle.cep_ground.proofs.RuleScopes.{AtomsMade, words, short, nodes_short, left_here, right_at, right_here, clause_at, clause_here, rule_here, kind_known}
+use Rattle.cep_ground.proofs.RuleScopes.{AtomsMade, may_be_state, may_be_backward, words, short, nodes_short, left_here, right_at, right_here, clause_at, clause_here, rule_here, kind_known}
 
 -- the nodes of an atom are as many as are written
 heads_size : (source : Source) (vars : List (List ℕ)) (blanks : ℕ) (nodes : List RawNode) → length (heads_from source vars blanks nodes) ≡ length nodes
@@ -81,9 +78,9 @@ not_true true e = absurd cc
 not_true false e = refl
 
 module _ (source : Source) (clean : IsClean source) (atoms_made : AtomsMade source) where
-  pub pred_at : (vars : List (List ℕ)) (blanks : ℕ) (raw : RawAtom) (atom : AtomTree) (here : IsHere source raw) → IsAtomBy source vars blanks raw atom → IsOfPred source atom (is_backward (pred_known source (placed here.role raw) clean.names here.there here.plain).pred.kind)
+  pub pred_at : (vars : List (List ℕ)) (blanks : ℕ) (raw : RawAtom) (atom : AtomTree) (here : IsHere source raw) → IsAtomBy source vars blanks raw atom → IsOfPred source atom (is_backward (pred_known source raw clean.names here.there).pred.kind)
   pred_at vars blanks raw atom here by =
-      let known = pred_known source (placed here.role raw) clean.names here.there here.plain in
+      let known = pred_known source raw clean.names here.there in
       let spot = located (λ (pred : PredItem). named source pred.name) (λ other. bytes_eq other.name (said source raw.name)) (preds_of source) known.pred known.found in
       let at : slice_get (preds_of source) atom.pred ≡ Some known.pred = ap (slice_get (preds_of source)) by.pred ∙ spot.here in
       record {
@@ -97,7 +94,7 @@ module _ (source : Source) (clean : IsClean source) (atoms_made : AtomsMade sour
   -- an atom is a fact where it is written as one
   pub fact_at : (vars : List (List ℕ)) (blanks : ℕ) (raw : RawAtom) (atom : AtomTree) → IsHere source raw → IsAtomBy source vars blanks raw atom → is_fact_by source atom ≡ is_of_fact source raw
   fact_at vars blanks raw atom here by =
-      let known = pred_known source (placed here.role raw) clean.names here.there here.plain in
+      let known = pred_known source raw clean.names here.there in
       let spot = located (λ (pred : PredItem). named source pred.name) (λ other. bytes_eq other.name (said source raw.name)) (preds_of source) known.pred known.found in
       ap (λ f. unwrap_or (option_map (λ (pred : PredItem). is_of_facts pred.kind) f) false) (ap (slice_get (preds_of source)) by.pred ∙ spot.here)
       ∙ sym (ap (λ (its : Option PredKind). unwrap_or (option_map is_of_facts its) false) (kind_known source clean atoms_made raw here))
@@ -110,9 +107,9 @@ module _ (source : Source) (clean : IsClean source) (atoms_made : AtomsMade sour
 
   judged_at : (vars : List (List ℕ)) (blanks : ℕ) (raw : RawAtom) (atom : AtomTree) (here : IsHere source raw) → IsAtomBy source vars blanks raw atom → IsJudged atom
   judged_at vars blanks raw atom here by = record {
-    back = is_backward (pred_known source (placed here.role raw) clean.names here.there here.plain).pred.kind;
+    back = is_backward (pred_known source raw clean.names here.there).pred.kind;
     of_pred = pred_at vars blanks raw atom here by;
-    small = let size = atom_size source vars blanks raw atom by in let s = nodes_short source clean atoms_made here.role raw here.there in omega (arith, size, s);
+    small = let size = atom_size source vars blanks raw atom by in let s = nodes_short source clean atoms_made raw here in omega (arith, size, s);
   }
 
   pub judged_premises : (vars : List (List ℕ)) (blanks : ℕ) (elems : List RawElem) (list : List PremiseTree) → ((raw : RawAtom) → Contains (atoms_of elems) raw → IsHere source raw) → ArePremisesBy source vars blanks elems list → AllByRecursion (λ p. IsJudged p.atom) list
@@ -176,7 +173,7 @@ module _ (source : Source) (clean : IsClean source) (atoms_made : AtomsMade sour
   count_step b x y xs ys false false same size = size
 
   pub linear_count : (vars : List (List ℕ)) (blanks : ℕ) (elems : List RawElem) (list : List PremiseTree) → ((raw : RawAtom) → Contains (atoms_of elems) raw → IsHere source raw) → ArePremisesBy source vars blanks elems list
-      → length (filter (λ p. not (is_back source p.atom)) list) ≡ length (filter (λ atom. is_declared false (kind_of source atom)) (atoms_of elems))
+      → length (filter (λ p. not (is_back source p.atom)) list) ≡ length (filter (λ atom. may_be_state (kind_of source atom)) (atoms_of elems))
   linear_count vars blanks [] [] here by = refl
   linear_count vars blanks [] (p ∷ list) here by = absurd by
   linear_count vars blanks (elem.Qui span ∷ elems) list here by = linear_count vars blanks elems list here by
@@ -186,11 +183,11 @@ module _ (source : Source) (clean : IsClean source) (atoms_made : AtomsMade sour
       let is = here raw (contains_first raw (atoms_of elems)) in
       let known = kind_known source clean atoms_made raw is in
       let judged = (pred_at vars blanks raw p.atom is by.1).judged in
-      count_step true p raw _ _ (not (is_back source p.atom)) (is_declared false (kind_of source raw)) (ap not judged ∙ ap (is_declared false) (sym known))
+      count_step true p raw _ _ (not (is_back source p.atom)) (may_be_state (kind_of source raw)) (ap not judged ∙ ap may_be_state (sym known))
       (linear_count vars (blanks_after blanks raw.nodes) elems list (λ other there. here other (contains_behind raw (atoms_of elems) other there)) by.2)
 
   pub back_count : (vars : List (List ℕ)) (blanks : ℕ) (elems : List RawElem) (list : List PremiseTree) → ((raw : RawAtom) → Contains (atoms_of elems) raw → IsHere source raw) → ArePremisesBy source vars blanks elems list
-      → length (filter (λ p. is_back source p.atom) list) ≡ length (filter (λ atom. is_declared true (kind_of source atom)) (atoms_of elems))
+      → length (filter (λ p. is_back source p.atom) list) ≡ length (filter (λ atom. may_be_backward (kind_of source atom)) (atoms_of elems))
   back_count vars blanks [] [] here by = refl
   back_count vars blanks [] (p ∷ list) here by = absurd by
   back_count vars blanks (elem.Qui span ∷ elems) list here by = back_count vars blanks elems list here by
@@ -200,7 +197,7 @@ module _ (source : Source) (clean : IsClean source) (atoms_made : AtomsMade sour
       let is = here raw (contains_first raw (atoms_of elems)) in
       let known = kind_known source clean atoms_made raw is in
       let judged = (pred_at vars blanks raw p.atom is by.1).judged in
-      count_step true p raw _ _ (is_back source p.atom) (is_declared true (kind_of source raw)) (judged ∙ ap (is_declared true) (sym known))
+      count_step true p raw _ _ (is_back source p.atom) (may_be_backward (kind_of source raw)) (judged ∙ ap may_be_backward (sym known))
       (back_count vars (blanks_after blanks raw.nodes) elems list (λ other there. here other (contains_behind raw (atoms_of elems) other there)) by.2)
 
   -- as many atoms are made as are written
@@ -210,43 +207,45 @@ module _ (source : Source) (clean : IsClean source) (atoms_made : AtomsMade sour
   atoms_count vars blanks (raw ∷ raws) [] by = absurd by
   atoms_count vars blanks (raw ∷ raws) (atom ∷ list) by = ap suc (atoms_count vars (blanks_after blanks raw.nodes) raws list by.1)
 
-  -- the atoms of a right side are of predicates that states may have
-  pub right_of_state : (vars : List (List ℕ)) (blanks : ℕ) (raws : List RawAtom) (list : List AtomTree) → ((raw : RawAtom) → Contains raws raw → Contains (placed_of source) (placed role.Made raw)) → ((raw : RawAtom) → Contains raws raw → IsHere source raw) → AreAtomsBy source vars blanks raws list → AllByRecursion (HasStatePredicate (signature_of source)) list
-  right_of_state vars blanks [] [] at here by = tt
-  right_of_state vars blanks [] (atom ∷ list) at here by = absurd by
-  right_of_state vars blanks (raw ∷ raws) [] at here by = absurd by
-  right_of_state vars blanks (raw ∷ raws) (atom ∷ list) at here by =
-      let is = here raw (contains_first raw raws) in
-      let known = kind_known source clean atoms_made raw is in
-      let its = (pred_known source (placed is.role raw) clean.names is.there is.plain).pred.kind in
-      let linear = no_back its (λ (e : its ≡ Back). clean.names (wrong BwdInState raw.name.from) (backward_in_state (placed role.Made raw) (at raw (contains_first raw raws)) made (known ∙ ap Some e) refl)) in (
-        of_state atom (judged_at vars blanks raw atom is by.0) ((pred_at vars blanks raw atom is by.0).judged ∙ linear),
-        right_of_state vars (blanks_after blanks raw.nodes) raws list (λ other there. at other (contains_behind raw raws other there)) (λ other there. here other (contains_behind raw raws other there)) by.1,
-      )
+  -- what becomes part of a state is of a predicate that states may have
+  pub is_of_state : (raw : RawAtom) (here : IsHere source raw) → Contains (made_atoms source ++ state_atoms source) raw → is_backward (pred_known source raw clean.names here.there).pred.kind ≡ false
+  is_of_state raw here there =
+      no_back (pred_known source raw clean.names here.there).pred.kind
+      (λ (e : (pred_known source raw clean.names here.there).pred.kind ≡ Back). clean.names (wrong BwdInState raw.name.from) (backward_in_state raw there (kind_known source clean atoms_made raw here ∙ ap Some e) refl))
     where
       no_back : (its : PredKind) → (its ≡ Back → ⊥) → is_backward its ≡ false
       no_back Linear never = refl
       no_back Back never = absurd (never refl)
       no_back Fact never = refl
 
+  -- so are the atoms of a right side
+  pub right_of_state : (vars : List (List ℕ)) (blanks : ℕ) (raws : List RawAtom) (list : List AtomTree) → ((raw : RawAtom) → Contains raws raw → Contains (made_atoms source) raw) → ((raw : RawAtom) → Contains raws raw → IsHere source raw) → AreAtomsBy source vars blanks raws list → AllByRecursion (HasStatePredicate (signature_of source)) list
+  right_of_state vars blanks [] [] at here by = tt
+  right_of_state vars blanks [] (atom ∷ list) at here by = absurd by
+  right_of_state vars blanks (raw ∷ raws) [] at here by = absurd by
+  right_of_state vars blanks (raw ∷ raws) (atom ∷ list) at here by =
+      let is = here raw (contains_first raw raws) in
+      let linear = is_of_state raw is (contains_left (made_atoms source) (state_atoms source) raw (at raw (contains_first raw raws))) in (
+        of_state atom (judged_at vars blanks raw atom is by.0) ((pred_at vars blanks raw atom is by.0).judged ∙ linear),
+        right_of_state vars (blanks_after blanks raw.nodes) raws list (λ other there. at other (contains_behind raw raws other there)) (λ other there. here other (contains_behind raw raws other there)) by.1,
+      )
+
   -- those of a clause are of backward ones
-  pub clause_backward : (vars : List (List ℕ)) (blanks : ℕ) (raws : List RawAtom) (list : List AtomTree) → ((raw : RawAtom) → Contains raws raw → Contains (placed_of source) (placed role.Clause raw)) → ((raw : RawAtom) → Contains raws raw → IsHere source raw) → AreAtomsBy source vars blanks raws list → AllByRecursion (IsBackward (signature_of source)) list
+  pub clause_backward : (vars : List (List ℕ)) (blanks : ℕ) (raws : List RawAtom) (list : List AtomTree) → ((raw : RawAtom) → Contains raws raw → Contains (clause_atoms source) raw) → ((raw : RawAtom) → Contains raws raw → IsHere source raw) → AreAtomsBy source vars blanks raws list → AllByRecursion (IsBackward (signature_of source)) list
   clause_backward vars blanks [] [] at here by = tt
   clause_backward vars blanks [] (atom ∷ list) at here by = absurd by
   clause_backward vars blanks (raw ∷ raws) [] at here by = absurd by
   clause_backward vars blanks (raw ∷ raws) (atom ∷ list) at here by =
       let is = here raw (contains_first raw raws) in
-      let known = kind_known source clean atoms_made raw is in
-      let its = (pred_known source (placed is.role raw) clean.names is.there is.plain).pred.kind in
-      let yes_ = all_back its (λ (e : is_declared false (Some its) ≡ true). clean.names (wrong LinearInClause raw.name.from) (linear_in_clause (placed role.Clause raw) (at raw (contains_first raw raws)) refl (ap (is_declared false) known ∙ e) refl)) in (
+      let its = (pred_known source raw clean.names is.there).pred.kind in
+      let yes_ = not_false (is_backward its) (λ (e : is_backward its ≡ false). clean.names (wrong LinearInClause raw.name.from) (linear_in_clause raw its (at raw (contains_first raw raws)) (kind_known source clean atoms_made raw is) e refl)) in (
         backward_is atom (judged_at vars blanks raw atom is by.0) ((pred_at vars blanks raw atom is by.0).judged ∙ yes_),
         clause_backward vars (blanks_after blanks raw.nodes) raws list (λ other there. at other (contains_behind raw raws other there)) (λ other there. here other (contains_behind raw raws other there)) by.1,
       )
     where
-      all_back : (its : PredKind) → (is_declared false (Some its) ≡ true → ⊥) → is_backward its ≡ true
-      all_back Linear never = absurd (never refl)
-      all_back Back never = refl
-      all_back Fact never = absurd (never refl)
+      not_false : (b : Bool) → (b ≡ false → ⊥) → b ≡ true
+      not_false true never = refl
+      not_false false never = absurd (never refl)
 
   -- a premise that is a fact is kept
   kept_by : (marked fact : Bool) → fact ≡ true → (marked || fact) ≡ true
@@ -268,8 +267,8 @@ module _ (source : Source) (clean : IsClean source) (atoms_made : AtomsMade sour
   kinds_size scope = length-map (variables_of source scope) (λ (o : Occurrence). number_of source space.Sorts (unwrap_or (type_of source scope o.name) [])) ∙ sym (length-map (variables_of source scope) (λ (o : Occurrence). o.name))
 
   -- a rule is well typed
-  pub rule_typed : (name : List ℕ) (item : RuleItem) (rule : Rule) → Contains (rules_of source) item → IsRuleBy source name item rule → IsTypedRule (signature_of source) rule
-  rule_typed name item rule there by =
+  pub rule_typed : (item : RuleItem) (rule : Rule) → Contains (rules_of source) item → IsRuleBy source item rule → IsTypedRule (signature_of source) rule
+  rule_typed item rule there by =
       let all = rule_here source clean atoms_made item there in
       let scope = rule_scope item in
       let left = atoms_of item.raw.left in
@@ -299,8 +298,8 @@ module _ (source : Source) (clean : IsClean source) (atoms_made : AtomsMade sour
       }
 
   -- its predicates stand where they may
-  pub rule_divided : (name : List ℕ) (item : RuleItem) (rule : Rule) → Contains (rules_of source) item → IsRuleBy source name item rule → IsDividedRule (signature_of source) rule
-  rule_divided name item rule there by =
+  pub rule_divided : (item : RuleItem) (rule : Rule) → Contains (rules_of source) item → IsRuleBy source item rule → IsDividedRule (signature_of source) rule
+  rule_divided item rule there by =
       let judged = judged_premises rule.vars 0 item.raw.left by.left (left_here source clean atoms_made item there) by.left_is in
       record {
         premises = subst (λ (ps : List PremiseTree). AllByRecursion (HasStatePredicate (signature_of source)) (map (λ p. p.atom) ps)) (sym by.premises_are) (divided_premises by.left judged);

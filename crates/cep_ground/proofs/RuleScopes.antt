@@ -1,11 +1,12 @@
 -- The atoms of rules and clauses: they stand in the file, and there are not too many.
-use Rattle.std.proofs.Common.{◌≡◌, ◌⊎◌, inl, inr, ⊎_elim, ◌<◌, ◌≤◌, ◌^◌, true, false, List, ◌∷◌, length, map, refl, sym, ap, subst, ◌∙◌, arith, Contains, length-append}
+use Rattle.std.proofs.Common.{◌≡◌, ◌⊎◌, inl, inr, ⊎_elim, ◌<◌, ◌≤◌, ◌^◌, Bool, true, false, not, List, length, refl, sym, ap, subst, ◌∙◌, arith, Contains, length-append}
 use Rattle.std.proofs.lemmas.List.{length-map}
-use Rattle.std.specs.Prelude.{Some}
+use Rattle.std.specs.Prelude.{Option, Some, unwrap_or}
 use Rattle.std.specs.Option.{option_map}
 use Rattle.std.specs.Char.{is_ascii_uppercase}
 use Rattle.cep_base.specs.declared.kind.PredKind.{PredKind}
 use Rattle.cep_base.specs.declared.kind.PredKind.TheVariants.{Linear, Back, Fact}
+use Rattle.cep_base.specs.Kinds.{is_backward}
 use Rattle.cep_parse.specs.declared.raw.RawKind.{RawKind}
 use Rattle.cep_parse.specs.declared.raw.RawKind.TheVariants as kind
 use Rattle.cep_parse.specs.declared.raw.Span.{Span}
@@ -16,21 +17,19 @@ use Rattle.cep_lex.specs.declared.token.Token.{Token}
 use Rattle.cep_lex.specs.declared.token.TokenKind.TheVariants as token
 use Rattle.cep_rule.specs.Names.{IsWord}
 use Rattle.cep_refusal.specs.declared.reason.Reason.TheVariants.{OverLimit}
-use Rattle.cep_source.specs.declared.space.Role.{Role}
-use Rattle.cep_source.specs.declared.space.Role.TheVariants as role
 use Rattle.cep_source.specs.Items.{Source, RuleItem, ClauseItem, PredItem, said, rules_of, clauses_of}
 use Rattle.cep_source.specs.Spaces.{kind_of}
 use Rattle.cep_parse.specs.Raw.{atoms_of, raw_nodes}
-use Rattle.cep_source.specs.Uses.{Placed, placed, placed_of}
+use Rattle.cep_source.specs.Uses.{made_atoms, clause_atoms, atoms_written}
 use Rattle.cep_refusal.specs.First.{wrong}
-use Rattle.cep_faults.specs.Premises.{is_declared, state_premises_of, backward_of}
+use Rattle.cep_faults.specs.Premises.{state_premises_of, backward_of}
 use Rattle.cep_faults.specs.Misnamed.Misnamed.{over}
 use Rattle.cep_faults.specs.Limits.IsOver.{premise, back, right, goal}
 use Rattle.cep_types.specs.Sites.{Site, sites_of, IsScope, rule_scope, clause_scope, IsScope as scopes}
 use Rattle.cep_infer.specs.Shapes.{IsSource}
 use Rattle.cep_ground.specs.Texts.{IsClean}
-use Rattle.cep_base.proofs.Elements.{contains_either, contains_left, contains_right, contains_map, flat_cases, all_at}
-use Rattle.cep_ground.proofs.Known.{pred_known, rule_placed, clause_placed}
+use Rattle.cep_base.proofs.Elements.{contains_either, contains_map, flat_cases, all_at}
+use Rattle.cep_ground.proofs.Known.{pred_known, needed_here, made_there, made_here, clause_there, clause_atom_here}
 use Rattle.cep_ground.proofs.Limits.{at_most, filters_cover, nodes_few}
 use Rattle.cep_ground.proofs.Spelled.{variable_word, tokens_few}
 use Rattle.cep_ground.proofs.Wanted.{AreWords}
@@ -38,16 +37,26 @@ use Rattle.cep_ground.proofs.Scopes.{IsHere, scope_nodes}
 
 -- what the law of atoms says of a source
 abbrev pub AtomsMade : Source → Type 0
-AtomsMade source = (is : IsSource source) (p : Placed) → Contains (placed_of source) p → IsAtomOf is.tokens p.atom
+AtomsMade source = (is : IsSource source) (raw : RawAtom) → Contains (atoms_written source) raw → IsAtomOf is.tokens raw
+
+-- whether a predicate of this kind, if it is declared, is of states, and whether clauses define it
+abbrev pub may_be_state : Option PredKind → Bool
+may_be_state found = unwrap_or (option_map (λ its. not (is_backward its)) found) false
+
+abbrev pub may_be_backward : Option PredKind → Bool
+may_be_backward found = unwrap_or (option_map is_backward found) false
 
 module _ (source : Source) (clean : IsClean source) (made : AtomsMade source) where
-  pub atom_of_tokens : (role : Role) (raw : RawAtom) → Contains (placed_of source) (placed role raw) → IsAtomOf clean.is_source.tokens raw
-  atom_of_tokens role raw there = made clean.is_source (placed role raw) there
+  pub atom_of_tokens : (raw : RawAtom) → Contains (atoms_written source) raw → IsAtomOf clean.is_source.tokens raw
+  atom_of_tokens raw there = made clean.is_source raw there
+
+  pub here_at : (raw : RawAtom) → Contains (atoms_written source) raw → IsHere source raw
+  here_at raw there = record { there = there; filled = (atom_of_tokens raw there).filled }
 
   -- the nodes of an atom are no more than the bytes of a text may be
-  pub nodes_short : (role : Role) (raw : RawAtom) → Contains (placed_of source) (placed role raw) → length raw.nodes < 1048576
-  nodes_short role raw there =
-      let few = (atom_of_tokens role raw there).few in
+  pub nodes_short : (raw : RawAtom) → IsHere source raw → length raw.nodes < 1048576
+  nodes_short raw here =
+      let few = (atom_of_tokens raw here.there).few in
       let tokens = tokens_few source clean.is_source in
       let short = clean.short in
       omega (arith, few, tokens, short)
@@ -68,7 +77,7 @@ module _ (source : Source) (clean : IsClean source) (made : AtomsMade source) wh
       let node : Contains (raw_nodes atoms) site.node = subst (λ ns. Contains ns site.node) whole (contains_map (λ (s : Site). s.node) (sites_of source atoms) site there) in
       let from = flat_cases (λ (atom : RawAtom). atom.nodes) atoms site.node node in
       let here = are.here from.from from.there in
-      let is = atom_of_tokens here.role from.from here.there in
+      let is = atom_of_tokens from.from here.there in
       node_word clean.is_source.tokens clean.is_source site.node.kind site.node.at refl (all_at (λ (n : RawNode). IsWrittenAt clean.is_source.tokens n.kind n.at) from.from.nodes site.node is.nodes from.inside) var
 
   -- the terms are not too many to be numbered
@@ -77,33 +86,28 @@ module _ (source : Source) (clean : IsClean source) (made : AtomsMade source) wh
       let whole = scope_nodes source clean.names clean.types atoms are.here in
       let size = length-map (sites_of source atoms) (λ (s : Site). s.node) in
       let same : length (sites_of source atoms) ≡ length (raw_nodes atoms) = sym size ∙ ap length whole in
-      let nodes = nodes_few atoms (λ raw there. let here = are.here raw there in let s = nodes_short here.role raw here.there in omega (arith, s)) in
+      let nodes = nodes_few atoms (λ raw there. let s = nodes_short raw (are.here raw there) in omega (arith, s)) in
       let few = are.few in
       omega (arith, same, nodes, few)
 
-  -- the atoms of a left side stand in the file
+  -- the atoms of a left side stand in the file, and those of a right side
   pub left_here : (rule : RuleItem) → Contains (rules_of source) rule → (raw : RawAtom) → Contains (atoms_of rule.raw.left) raw → IsHere source raw
-  left_here rule there raw inside =
-      let at = rule_placed source rule (placed role.Needed raw) there (contains_left (map (placed role.Needed) (atoms_of rule.raw.left)) _ (placed role.Needed raw) (contains_map (placed role.Needed) (atoms_of rule.raw.left) raw inside)) in
-      record { role = role.Needed; there = at; plain = refl; filled = (atom_of_tokens role.Needed raw at).filled }
+  left_here rule there raw inside = here_at raw (needed_here source rule raw there inside)
 
-  -- and those of a right side
-  pub right_at : (rule : RuleItem) → Contains (rules_of source) rule → (raw : RawAtom) → Contains (atoms_of rule.raw.right) raw → Contains (placed_of source) (placed role.Made raw)
-  right_at rule there raw inside = rule_placed source rule (placed role.Made raw) there (contains_right (map (placed role.Needed) (atoms_of rule.raw.left)) _ (placed role.Made raw) (contains_map (placed role.Made) (atoms_of rule.raw.right) raw inside))
+  pub right_at : (rule : RuleItem) → Contains (rules_of source) rule → (raw : RawAtom) → Contains (atoms_of rule.raw.right) raw → Contains (made_atoms source) raw
+  right_at rule there raw inside = made_there source rule raw there inside
 
   pub right_here : (rule : RuleItem) → Contains (rules_of source) rule → (raw : RawAtom) → Contains (atoms_of rule.raw.right) raw → IsHere source raw
-  right_here rule there raw inside =
-      let at = right_at rule there raw inside in
-      record { role = role.Made; there = at; plain = refl; filled = (atom_of_tokens role.Made raw at).filled }
+  right_here rule there raw inside = here_at raw (made_here source raw (right_at rule there raw inside))
 
-  declared_either : (its : PredKind) → (is_declared false (Some its) ≡ true) ⊎ (is_declared true (Some its) ≡ true)
-  declared_either Linear = inl refl
-  declared_either Back = inr refl
-  declared_either Fact = inl refl
+  either_kind : (its : PredKind) → (may_be_state (Some its) ≡ true) ⊎ (may_be_backward (Some its) ≡ true)
+  either_kind Linear = inl refl
+  either_kind Back = inr refl
+  either_kind Fact = inl refl
 
   -- an atom's predicate is of some kind
-  pub kind_known : (raw : RawAtom) → (here : IsHere source raw) → kind_of source raw ≡ Some (pred_known source (placed here.role raw) clean.names here.there here.plain).pred.kind
-  kind_known raw here = ap (option_map (λ (pred : PredItem). pred.kind)) (pred_known source (placed here.role raw) clean.names here.there here.plain).found
+  pub kind_known : (raw : RawAtom) (here : IsHere source raw) → kind_of source raw ≡ Some (pred_known source raw clean.names here.there).pred.kind
+  kind_known raw here = ap (option_map (λ (pred : PredItem). pred.kind)) (pred_known source raw clean.names here.there).found
 
   pub linear_few : (rule : RuleItem) → Contains (rules_of source) rule → length (state_premises_of source rule.raw) ≤ 16
   linear_few rule there = at_most (state_premises_of source rule.raw) 16 (λ atom found. clean.names (wrong OverLimit atom.name.from) (over atom.name.from (premise rule atom there found refl) refl))
@@ -119,11 +123,10 @@ module _ (source : Source) (clean : IsClean source) (made : AtomsMade source) wh
 
   left_few : (rule : RuleItem) → Contains (rules_of source) rule → length (atoms_of rule.raw.left) ≤ 24
   left_few rule there =
-      let cover = filters_cover (λ atom. is_declared false (kind_of source atom)) (λ atom. is_declared true (kind_of source atom)) (atoms_of rule.raw.left)
+      let cover = filters_cover (λ atom. may_be_state (kind_of source atom)) (λ atom. may_be_backward (kind_of source atom)) (atoms_of rule.raw.left)
       (λ raw inside.
       let here = left_here rule there raw inside in
-      let known = kind_known raw here in
-      subst (λ b. (is_declared false b ≡ true) ⊎ (is_declared true b ≡ true)) (sym known) (declared_either (pred_known source (placed here.role raw) clean.names here.there here.plain).pred.kind)) in
+      subst (λ found. (may_be_state found ≡ true) ⊎ (may_be_backward found ≡ true)) (sym (kind_known raw here)) (either_kind (pred_known source raw clean.names here.there).pred.kind)) in
       let one = linear_few rule there in
       let other = back_few rule there in
       omega (arith, cover, one, other)
@@ -136,12 +139,12 @@ module _ (source : Source) (clean : IsClean source) (made : AtomsMade source) wh
   }
 
   -- the atoms of a clause
-  pub clause_at : (clause : ClauseItem) → Contains (clauses_of source) clause → (raw : RawAtom) → Contains (clause_scope clause) raw → Contains (placed_of source) (placed role.Clause raw)
-  clause_at clause there raw inside = clause_placed source clause (placed role.Clause raw) there (contains_map (placed role.Clause) (clause.head ∷ clause.goals) raw inside)
+  pub clause_at : (clause : ClauseItem) → Contains (clauses_of source) clause → (raw : RawAtom) → Contains (clause_scope clause) raw → Contains (clause_atoms source) raw
+  clause_at clause there raw inside = clause_there source clause raw there inside
 
   pub clause_here : (clause : ClauseItem) → Contains (clauses_of source) clause → AreHere (clause_scope clause)
   clause_here clause there = record {
     scope = scopes.clause clause there refl;
-    here = λ raw inside. let at = clause_at clause there raw inside in record { role = role.Clause; there = at; plain = refl; filled = (atom_of_tokens role.Clause raw at).filled };
+    here = λ raw inside. here_at raw (clause_atom_here source raw (clause_at clause there raw inside));
     few = let g = goals_few clause there in omega (arith, g);
   }

@@ -1,8 +1,8 @@
 -- The variables of a scope have the types that are wanted of them, and its atoms are well typed.
-use Rattle.std.proofs.Common.{◌≡◌, ⊎_elim, ℕ, suc, ◌+◌, ◌<◌, ◌^◌, Bool, true, false, List, [], ◌∷◌, ◌++◌, length, map, refl, sym, ap, subst, ◌∙◌, arith, Contains}
-use Rattle.std.proofs.lemmas.List.{append-nil}
+use Rattle.std.proofs.Common.{◌≡◌, ⊎_elim, ℕ, ◌+◌, ◌<◌, ◌^◌, Bool, true, false, List, [], ◌∷◌, ◌++◌, length, map, refl, sym, ap, subst, ◌∙◌, arith, Contains}
+use Rattle.std.proofs.lemmas.List.{append-nil, length-map}
 use Rattle.std.proofs.lemmas.Option.{slice_get-map}
-use Rattle.std.specs.Prelude.{Option, Some, slice_get, unwrap_or, codes, decimal, IsSomeAnd}
+use Rattle.std.specs.Prelude.{Some, slice_get, unwrap_or, codes, decimal, IsSomeAnd}
 use Rattle.std.specs.Option.{option_map}
 use Rattle.std.specs.Str.{bytes_eq}
 use Rattle.std.specs.List.{AllByRecursion, find}
@@ -20,17 +20,16 @@ use Rattle.cep_rule.specs.Patterns.{PremiseTree}
 use Rattle.cep_rule.specs.Typing.{HaveSorts, IsTyped}
 use Rattle.cep_refusal.specs.declared.fault.Fault.{Fault}
 use Rattle.cep_refusal.specs.declared.reason.Reason.TheVariants.{TypeClash}
-use Rattle.cep_source.specs.declared.space.Role.{Role}
 use Rattle.cep_source.specs.declared.space.Space.TheVariants as space
 use Rattle.cep_source.specs.Items.{Source, ConItem, PredItem, said, cons_of, preds_of}
-use Rattle.cep_source.specs.Spaces.{named, pred_named, con_named}
+use Rattle.cep_source.specs.Spaces.{named, con_named}
 use Rattle.cep_parse.specs.Raw.{atoms_of, raw_nodes}
-use Rattle.cep_source.specs.Uses.{placed, placed_of, is_context}
-use Rattle.cep_source.specs.Variables.{Occurrence, occurrence_at, blanks_behind, occurrences_from, variables_of}
+use Rattle.cep_source.specs.Uses.{atoms_written}
+use Rattle.cep_source.specs.Variables.{Occurrence, occurrence_at, blanks_behind, occurrences_from, variables_of, blanks_after}
 use Rattle.cep_refusal.specs.First.{wrong}
-use Rattle.cep_types.specs.Sites.{Site, Wanted, con_types, pred_types, node_types, sites_from, sites_in, sites_of, wanted_from, type_of, IsScope, Mistyped}
+use Rattle.cep_types.specs.Sites.{Site, Wanted, pred_types, node_types, sites_from, sites_in, sites_of, wanted_from, type_of, IsScope, Mistyped}
 use Rattle.cep_types.specs.Sites.Mistyped.{constructor, variable}
-use Rattle.cep_types.specs.Heads.{number_of, variable_of, blanks_after, sorts_said}
+use Rattle.cep_types.specs.Heads.{number_of, variable_of, sorts_said}
 use Rattle.cep_infer.specs.Heads.{heads_among, IsAtomBy, AreAtomsBy}
 use Rattle.cep_infer.specs.Meaning.{ArePremisesBy, con_by, pred_by, signature_of, names_of, kinds_of}
 use Rattle.cep_base.proofs.Elements.{contains_none, contains_first, contains_behind, contains_left, contains_right, contains_map}
@@ -38,39 +37,32 @@ use Rattle.cep_ground.proofs.Finds.{IsFound, any_found, found_in}
 use Rattle.cep_ground.proofs.Known.{AreNamesClean, IsPredKnown, pred_known, IsConKnown, con_known}
 use Rattle.cep_ground.proofs.Located.{located}
 use Rattle.cep_ground.proofs.TypedTerms.{IsGoodCon, IsGood, AreGood, typed_args}
-use Rattle.cep_ground.proofs.Wanted.{nodes_at, sites_whole, wanted_both, wanted_names, same_bytes, bytes_same, is_any, first_there, IsFirstIn, AreWords, first_wanted}
+use Rattle.cep_ground.proofs.Wanted.{nodes_at, pred_types_are, con_types_are, sites_whole, wanted_both, wanted_names, same_bytes, bytes_same, is_any, first_there, IsFirstIn, AreWords, first_wanted}
 use Rattle.cep_ground.proofs.Wanted.IsFirstIn.{written, blank}
 
--- An atom stands in the file, and stands for itself.
+-- An atom stands in the file, and its nodes are its arguments.
 pub record IsHere (source : Source) (raw : RawAtom) : Type 0 where
-  pub role : Role
-  pub there : Contains (placed_of source) (placed role raw)
-  pub plain : is_context source (placed role raw) ≡ false
+  pub there : Contains (atoms_written source) raw
   pub filled : Fill raw.args raw.nodes
 
 module _ (source : Source) (names : AreNamesClean source) (types : (fault : Fault) → ¬ (Mistyped source fault)) where
   -- the predicate of an atom that is here
-  here_pred : (raw : RawAtom) (here : IsHere source raw) → IsPredKnown source (placed here.role raw)
-  here_pred raw here = pred_known source (placed here.role raw) names here.there here.plain
+  here_pred : (raw : RawAtom) → IsHere source raw → IsPredKnown source raw
+  here_pred raw here = pred_known source raw names here.there
 
   here_con : (raw : RawAtom) → IsHere source raw → (node : RawNode) → Contains raw.nodes node → node.kind ≡ kind.App → IsConKnown source node.at node.args
-  here_con raw here node inside is =
-      con_known source (placed here.role raw) node.at node.args names here.there (subst (λ k. Contains raw.nodes (record { at = node.at; kind = k; args = node.args })) is inside)
-
-  map_size : (spans : List Span) → length (map (said source) spans) ≡ length spans
-  map_size [] = refl
-  map_size (span ∷ spans) = ap suc (map_size spans)
+  here_con raw here node inside is = con_known source raw node names here.there inside is
 
   -- as many types are wanted as there are arguments
-  here_count : (raw : RawAtom) (here : IsHere source raw) → raw.args ≡ length (pred_types source (pred_named source (said source raw.name)))
+  here_count : (raw : RawAtom) → IsHere source raw → raw.args ≡ length (pred_types source (said source raw.name))
   here_count raw here =
       let is = here_pred raw here in
-      is.count ∙ sym (map_size is.pred.args) ∙ sym (ap (λ (found : Option PredItem). length (pred_types source found)) is.found)
+      is.count ∙ sym (length-map is.pred.args (said source)) ∙ sym (ap length (pred_types_are source (said source raw.name) is.pred is.found))
 
   -- each node of the atom is a term of it
   pub here_nodes : (raw : RawAtom) → IsHere source raw → nodes_at (sites_in source raw) ≡ raw.nodes
   here_nodes raw here =
-      sites_whole source (pred_types source (pred_named source (said source raw.name))) raw.nodes
+      sites_whole source (pred_types source (said source raw.name)) raw.nodes
       (subst (λ n. Fill n raw.nodes) (here_count raw here) here.filled)
       (here_con raw here)
 
@@ -148,17 +140,14 @@ module _ (source : Source) (names : AreNamesClean source) (types : (fault : Faul
     good_con site at args at_is is there known =
         let spot = located (λ (con : ConItem). named source con.name) (λ other. bytes_eq other.name (said source at)) (cons_of source) known.con known.found in
         let found : con_named source (said source site.node.at) ≡ Some known.con = subst (λ a. con_named source (said source a) ≡ Some known.con) (sym at_is) known.found in
-        let types_are : node_types source kind.App at ≡ map (said source) known.con.args = ap (λ (f : Option ConItem). con_types' f) known.found in
+        let types_are = con_types_are source at known.con known.found in
         record {
           con = con_by source known.con;
           found = slice_get-map (con_by source) (cons_of source) (number_of source space.Constructors (said source at)) ∙ ap (option_map (con_by source)) spot.here;
           sort = ap (number_of source space.Sorts) (sort_same site known.con there is found (bytes_eq (said source known.con.sort) site.wants) refl);
           types = sorts_map known.con.args ∙ ap (map (number_of source space.Sorts)) (sym types_are);
-          count = known.count ∙ sym (map_size known.con.args) ∙ ap length (sym types_are);
+          count = known.count ∙ sym (length-map known.con.args (said source)) ∙ ap length (sym types_are);
         }
-      where
-        con_types' : Option ConItem → List (List ℕ)
-        con_types' found = con_types source found
 
     -- what stands at a node is of the type that is wanted
     good_node : (site : Site) (shape : RawKind) (at : Span) (args blanks : ℕ) → site.node.at ≡ at → site.node.kind ≡ shape → Contains (sites_of source atoms) site
@@ -196,13 +185,13 @@ module _ (source : Source) (names : AreNamesClean source) (types : (fault : Faul
     typed_atom raw atom blanks is sites_there wanted_there by =
         let known = here_pred raw is in
         let spot = located (λ (pred : PredItem). named source pred.name) (λ other. bytes_eq other.name (said source raw.name)) (preds_of source) known.pred known.found in
-        let types_ = pred_types source (pred_named source (said source raw.name)) in
+        let types_ = pred_types source (said source raw.name) in
         let good = good_nodes types_ raw.nodes blanks (here_con raw is) sites_there wanted_there in
         let typed = typed_args source (names_of source atoms) (kinds_of source atoms) (map (con_by source) (cons_of source)) atom.args types_ [] [] blanks raw.nodes
         (by.count ∙ here_count raw is)
         (append-nil (heads_among atom.args) ∙ by.heads)
         (subst (λ ts. AreGood source (names_of source atoms) (kinds_of source atoms) (map (con_by source) (cons_of source)) blanks ts raw.nodes) (sym (append-nil types_)) good) in
-        let sorts : map (number_of source space.Sorts) types_ ≡ sorts_said source known.pred.args = ap (λ (f : Option PredItem). map (number_of source space.Sorts) (pred_types source f)) known.found ∙ sym (sorts_map known.pred.args) in
+        let sorts : map (number_of source space.Sorts) types_ ≡ sorts_said source known.pred.args = ap (map (number_of source space.Sorts)) (pred_types_are source (said source raw.name) known.pred known.found) ∙ sym (sorts_map known.pred.args) in
         let found : slice_get (map (pred_by source) (preds_of source)) atom.pred ≡ Some (pred_by source known.pred) =
         ap (slice_get (map (pred_by source) (preds_of source))) by.pred
         ∙ slice_get-map (pred_by source) (preds_of source) (number_of source space.Predicates (said source raw.name))

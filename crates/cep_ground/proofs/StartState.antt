@@ -2,7 +2,7 @@
 use Rattle.std.proofs.Common.{◌≡◌, ◌≢◌, ⊎_elim, ℕ, ◌+◌, ◌<◌, ◌≤◌, Bool, true, false, ◌&&◌, ◌||◌, if◌then◌else◌, nat_lt, List, [], ◌∷◌, length, map, refl, sym, ap, subst, ◌∙◌, arith, Contains}
 use Rattle.std.proofs.lemmas.List.Sums.{sum_by-cons}
 use Rattle.std.proofs.lemmas.List.{append-nil}
-use Rattle.std.specs.Prelude.{Some, sum_by, IsSomeAnd, unwrap_or}
+use Rattle.std.specs.Prelude.{sum_by, IsSomeAnd, unwrap_or}
 use Rattle.std.specs.declared.cmp.Ordering.{Ordering}
 use Rattle.std.specs.declared.cmp.Ordering.TheVariants.{Less, Equal, Greater}
 use Rattle.std.specs.Cmp.{tied_itself}
@@ -15,45 +15,42 @@ use Rattle.cep_parse.specs.declared.raw.RawKind.{RawKind}
 use Rattle.cep_parse.specs.declared.raw.RawKind.TheVariants as kind
 use Rattle.cep_parse.specs.declared.raw.RawNode.{RawNode}
 use Rattle.cep_parse.specs.declared.raw.RawAtom.{RawAtom}
-use Rattle.cep_base.specs.declared.kind.PredKind.{PredKind}
-use Rattle.cep_base.specs.declared.kind.PredKind.TheVariants.{Linear, Back, Fact}
 use Rattle.cep_base.specs.Kinds.{is_backward}
 use Rattle.cep_term.specs.Tree.{AtomTree, IsGroundAtom, atom_nodes, IsFit}
 use Rattle.cep_term.specs.BagLaws.{BagLaws}
-use Rattle.cep_term.specs.Multiset.{Multiset, count_of, with_one, gathered, once, held, gained}
+use Rattle.cep_term.specs.Multiset.{Multiset, count_of, with_one, gathered, held, gained}
 use Rattle.cep_rule.specs.declared.signature.PredDecl.{PredDecl}
 use Rattle.cep_rule.specs.Typing.{IsTyped, HasStatePredicate}
 use Rattle.cep_rule.specs.State.{IsStateAtom, IsState, Fits}
-use Rattle.cep_refusal.specs.declared.reason.Reason.TheVariants.{OverLimit, BwdInState}
+use Rattle.cep_refusal.specs.declared.reason.Reason.TheVariants.{OverLimit}
 use Rattle.cep_source.specs.Items.{Source, TraceItem, traces_of}
 use Rattle.cep_parse.specs.Raw.{raw_nodes}
-use Rattle.cep_source.specs.Uses.{placed}
+use Rattle.cep_source.specs.Uses.{made_atoms, state_atoms}
 use Rattle.cep_source.specs.declared.space.Space.TheVariants as space
-use Rattle.cep_source.specs.Variables.{Occurrence, firsts, occurrences_from, blanks_behind}
+use Rattle.cep_source.specs.Variables.{Occurrence, firsts, occurrences_from, blanks_behind, blanks_after}
 use Rattle.cep_source.specs.Starts.{start_atoms, nodes_written, IsFitWritten, is_of_fact, is_written_alike, counting_behind, counting}
 use Rattle.cep_refusal.specs.First.{wrong}
-use Rattle.cep_faults.specs.Misnamed.{ComesToState as comes}
-use Rattle.cep_faults.specs.Misnamed.Misnamed.{over, backward_in_state}
+use Rattle.cep_faults.specs.Misnamed.Misnamed.{over}
 use Rattle.cep_faults.specs.Limits.IsOver.{unfit, copies, nodes}
 use Rattle.cep_types.specs.Sites.{type_of, IsScope as scopes}
-use Rattle.cep_types.specs.Heads.{number_of, blanks_after}
+use Rattle.cep_types.specs.Heads.{number_of}
 use Rattle.cep_infer.specs.Heads.{IsAtomBy, AreAtomsBy}
 use Rattle.cep_infer.specs.Meaning.{signature_of, names_of, kinds_of, is_fact_by, IsStartBy}
 use Rattle.cep_infer.specs.Resolved.{IsWellNamed}
-use Rattle.cep_infer.specs.States.{IsStateWritten, AreClosed}
+use Rattle.cep_infer.specs.States.{AreClosed}
 use Rattle.cep_ground.specs.Texts.{IsClean}
-use Rattle.cep_base.proofs.Elements.{contains_none, contains_first, contains_behind, contains_cases, all_at}
-use Rattle.cep_ground.proofs.Known.{pred_known}
+use Rattle.cep_base.proofs.Elements.{contains_none, contains_first, contains_behind, contains_cases, contains_right, all_at}
+use Rattle.cep_ground.proofs.Known.{state_atom_here}
 use Rattle.cep_ground.proofs.Facts.{fact_by, alike_atoms}
 use Rattle.cep_ground.proofs.Scopes.{IsHere, typed_atoms}
-use Rattle.cep_ground.proofs.RuleScopes.{AtomsMade, AreHere, atom_of_tokens, words, short, kind_known}
-use Rattle.cep_ground.proofs.RuleParts.{atom_size, pred_at, fact_at}
+use Rattle.cep_ground.proofs.RuleScopes.{AtomsMade, AreHere, here_at, words, short}
+use Rattle.cep_ground.proofs.RuleParts.{atom_size, pred_at, is_of_state, fact_at}
 use Rattle.cep_ground.proofs.StateAtoms.{atom_alike, raw_depth, not_greater}
 
 -- the laws of start states that are needed
 pub record StartLaws : Type 0 where
-  pub written : (source : Source) (trace : TraceItem) (raw : RawAtom) → Contains (traces_of source) trace → Contains (start_atoms source trace.start) raw → IsStateWritten source raw
-  pub closed : (source : Source) (raw : RawAtom) → IsWellNamed source → IsStateWritten source raw → AreClosed raw.nodes
+  pub written : (source : Source) (trace : TraceItem) (raw : RawAtom) → Contains (traces_of source) trace → Contains (start_atoms source trace.start) raw → Contains (state_atoms source) raw
+  pub closed : (source : Source) (raw : RawAtom) → IsWellNamed source → Contains (state_atoms source) raw → AreClosed raw.nodes
   pub ground : (source : Source) (vars : List (List ℕ)) (blanks : ℕ) (raw : RawAtom) (atom : AtomTree) → IsAtomBy source vars blanks raw atom → AreClosed raw.nodes → IsGroundAtom atom
 
 -- without open nodes there are no variables
@@ -67,20 +64,20 @@ no_occurrences source blanks (node ∷ nodes_) all = by_kind node.kind node.at a
     by_kind kind.Blank at is rest = absurd cc
 
 module _ (source : Source) (clean : IsClean source) (made : AtomsMade source) (starts : StartLaws) where
-  listed_closed : (raw : RawAtom) → IsStateWritten source raw → AreClosed raw.nodes
+  listed_closed : (raw : RawAtom) → Contains (state_atoms source) raw → AreClosed raw.nodes
   listed_closed raw listed = starts.closed source raw clean.names listed
 
-  listed_here : (raw : RawAtom) → IsStateWritten source raw → IsHere source raw
-  listed_here raw listed = record { role = listed.role; there = listed.there; plain = listed.plain; filled = (atom_of_tokens source clean made listed.role raw listed.there).filled }
+  listed_here : (raw : RawAtom) → Contains (state_atoms source) raw → IsHere source raw
+  listed_here raw listed = here_at source clean made raw (state_atom_here source raw listed)
 
-  alone_here : (raw : RawAtom) → IsStateWritten source raw → AreHere source clean made (raw ∷ [])
+  alone_here : (raw : RawAtom) → Contains (state_atoms source) raw → AreHere source clean made (raw ∷ [])
   alone_here raw listed = record {
-    scope = scopes.state (placed listed.role raw) listed.there listed.of_state refl;
+    scope = scopes.state raw listed refl;
     here = λ other there. ⊎_elim (λ (same : raw ≡ other). subst (IsHere source) same (listed_here raw listed)) (λ later. absurd (contains_none other later)) (contains_cases raw [] other there);
     few = omega arith;
   }
 
-  no_kinds : (raw : RawAtom) → IsStateWritten source raw → kinds_of source (raw ∷ []) ≡ []
+  no_kinds : (raw : RawAtom) → Contains (state_atoms source) raw → kinds_of source (raw ∷ []) ≡ []
   no_kinds raw listed =
       let nodes_are : raw_nodes (raw ∷ []) ≡ raw.nodes = append-nil raw.nodes in
       let none : occurrences_from source 0 (raw_nodes (raw ∷ [])) ≡ [] = ap (occurrences_from source 0) nodes_are ∙ no_occurrences source 0 raw.nodes (listed_closed raw listed) in
@@ -89,7 +86,7 @@ module _ (source : Source) (clean : IsClean source) (made : AtomsMade source) (s
       none_by : (os : List Occurrence) → os ≡ [] → map (λ (o : Occurrence). number_of source space.Sorts (unwrap_or (type_of source (raw ∷ []) o.name) [])) (firsts os) ≡ []
       none_by os e = rw e refl
 
-  listed_typed : (raw : RawAtom) (blanks : ℕ) (atom : AtomTree) (listed : IsStateWritten source raw) → IsAtomBy source [] blanks raw atom → IsTyped (signature_of source) [] atom
+  listed_typed : (raw : RawAtom) (blanks : ℕ) (atom : AtomTree) (listed : Contains (state_atoms source) raw) → IsAtomBy source [] blanks raw atom → IsTyped (signature_of source) [] atom
   listed_typed raw blanks atom listed by =
       let all = alone_here raw listed in
       let scope = raw ∷ [] in
@@ -98,23 +95,16 @@ module _ (source : Source) (clean : IsClean source) (made : AtomsMade source) (s
       (λ site inside. inside) (λ wanted inside. inside) (same, tt) in
       subst (λ ks. IsTyped (signature_of source) ks atom) (no_kinds raw listed) typed.0
 
-  listed_of_state : (raw : RawAtom) (blanks : ℕ) (atom : AtomTree) (listed : IsStateWritten source raw) → IsAtomBy source [] blanks raw atom → HasStatePredicate (signature_of source) atom
+  listed_of_state : (raw : RawAtom) (blanks : ℕ) (atom : AtomTree) (listed : Contains (state_atoms source) raw) → IsAtomBy source [] blanks raw atom → HasStatePredicate (signature_of source) atom
   listed_of_state raw blanks atom listed by =
       let here = listed_here raw listed in
-      let known = kind_known source clean made raw here in
       let is = pred_at source clean made [] blanks raw atom here by in
-      let its = (pred_known source (placed here.role raw) clean.names here.there here.plain).pred.kind in
-      let linear = no_back its (λ (e : its ≡ Back). clean.names (wrong BwdInState raw.name.from) (backward_in_state (placed listed.role raw) listed.there (comes.state listed.role listed.of_state) (known ∙ ap Some e) refl)) in
-      subst (λ f. IsSomeAnd f (λ (pred : PredDecl). is_backward pred.kind ≡ false)) (sym is.found) (is.back_is ∙ linear)
-    where
-      no_back : (its : PredKind) → (its ≡ Back → ⊥) → is_backward its ≡ false
-      no_back Linear never = refl
-      no_back Back never = absurd (never refl)
-      no_back Fact never = refl
+      subst (λ f. IsSomeAnd f (λ (pred : PredDecl). is_backward pred.kind ≡ false)) (sym is.found)
+      (is.back_is ∙ is_of_state source clean made raw here (contains_right (made_atoms source) (state_atoms source) raw listed))
 
-  listed_fit : (raw : RawAtom) (blanks : ℕ) (atom : AtomTree) (listed : IsStateWritten source raw) → IsAtomBy source [] blanks raw atom → IsFit atom
+  listed_fit : (raw : RawAtom) (blanks : ℕ) (atom : AtomTree) (listed : Contains (state_atoms source) raw) → IsAtomBy source [] blanks raw atom → IsFit atom
   listed_fit raw blanks atom listed by =
-      let fits : (¬ IsFitWritten raw) → ⊥ = λ not_fit. clean.names (wrong OverLimit raw.name.from) (over raw.name.from (unfit (placed listed.role raw) listed.there listed.of_state not_fit refl) refl) in
+      let fits : (¬ IsFitWritten raw) → ⊥ = λ not_fit. clean.names (wrong OverLimit raw.name.from) (over raw.name.from (unfit raw listed not_fit refl) refl) in
       let size = atom_size source [] blanks raw atom by in
       let deep = raw_depth source [] blanks raw atom by (listed_closed raw listed) in
       record {
@@ -122,7 +112,7 @@ module _ (source : Source) (clean : IsClean source) (made : AtomsMade source) (s
         depth = not_greater _ _ (λ more_. fits (λ fit. let d = fit.depth in omega (arith, d, deep, more_)));
       }
 
-  pub listed_state_atom : (raw : RawAtom) (blanks : ℕ) (atom : AtomTree) → IsStateWritten source raw → IsAtomBy source [] blanks raw atom → IsStateAtom (signature_of source) atom
+  pub listed_state_atom : (raw : RawAtom) (blanks : ℕ) (atom : AtomTree) → Contains (state_atoms source) raw → IsAtomBy source [] blanks raw atom → IsStateAtom (signature_of source) atom
   listed_state_atom raw blanks atom listed by = record {
     ground = starts.ground source [] blanks raw atom by (listed_closed raw listed);
     typed = listed_typed raw blanks atom listed by;
@@ -130,7 +120,7 @@ module _ (source : Source) (clean : IsClean source) (made : AtomsMade source) (s
     fit = listed_fit raw blanks atom listed by;
   }
 
-  pub listed_state_atoms : (raws : List RawAtom) (blanks : ℕ) (list : List AtomTree) → ((raw : RawAtom) → Contains raws raw → IsStateWritten source raw) → AreAtomsBy source [] blanks raws list → AllByRecursion (IsStateAtom (signature_of source)) list
+  pub listed_state_atoms : (raws : List RawAtom) (blanks : ℕ) (list : List AtomTree) → ((raw : RawAtom) → Contains raws raw → Contains (state_atoms source) raw) → AreAtomsBy source [] blanks raws list → AllByRecursion (IsStateAtom (signature_of source)) list
   listed_state_atoms [] blanks [] all by = tt
   listed_state_atoms [] blanks (atom ∷ list) all by = absurd by
   listed_state_atoms (raw ∷ raws) blanks [] all by = absurd by
@@ -138,7 +128,7 @@ module _ (source : Source) (clean : IsClean source) (made : AtomsMade source) (s
       (listed_state_atom raw blanks atom (all raw (contains_first raw raws)) by.0, listed_state_atoms raws (blanks_after blanks raw.nodes) list (λ other there. all other (contains_behind raw raws other there)) by.1)
 
   -- an atom of a state is a fact where it is written as one
-  fact_written : (raw : RawAtom) (blanks : ℕ) (atom : AtomTree) (listed : IsStateWritten source raw) → IsAtomBy source [] blanks raw atom → is_fact_by source atom ≡ is_of_fact source raw
+  fact_written : (raw : RawAtom) (blanks : ℕ) (atom : AtomTree) (listed : Contains (state_atoms source) raw) → IsAtomBy source [] blanks raw atom → is_fact_by source atom ≡ is_of_fact source raw
   fact_written raw blanks atom listed by = fact_at source clean made [] blanks raw atom (listed_here raw listed) by
 
   module _ (laws : BagLaws) where
@@ -156,9 +146,9 @@ module _ (source : Source) (clean : IsClean source) (made : AtomsMade source) (s
 
     -- Each atom that is written like one of these is there.
     abbrev AreThere : List RawAtom → Multiset → Type 0
-    AreThere before bag = (raw : RawAtom) (blanks : ℕ) (atom : AtomTree) → IsStateWritten source raw → IsAtomBy source [] blanks raw atom → list_any (is_written_alike source raw) before ≡ true → 0 < count_of bag atom
+    AreThere before bag = (raw : RawAtom) (blanks : ℕ) (atom : AtomTree) → Contains (state_atoms source) raw → IsAtomBy source [] blanks raw atom → list_any (is_written_alike source raw) before ≡ true → 0 < count_of bag atom
 
-    one_more : (raw : RawAtom) (blanks : ℕ) (atom : AtomTree) (before : List RawAtom) (bag : Multiset) → IsStateWritten source raw → IsAtomBy source [] blanks raw atom → 0 < count_of bag atom → AreThere before bag → AreThere (raw ∷ before) bag
+    one_more : (raw : RawAtom) (blanks : ℕ) (atom : AtomTree) (before : List RawAtom) (bag : Multiset) → Contains (state_atoms source) raw → IsAtomBy source [] blanks raw atom → 0 < count_of bag atom → AreThere before bag → AreThere (raw ∷ before) bag
     one_more raw blanks atom before bag listed by here there other more_ x listed' by' alike = by_case (is_written_alike source other raw) refl alike
       where
         by_case : (b : Bool) → is_written_alike source other raw ≡ b → (b || list_any (is_written_alike source other) before) ≡ true → 0 < count_of bag x
@@ -176,8 +166,8 @@ module _ (source : Source) (clean : IsClean source) (made : AtomsMade source) (s
       gains_step true false false raw atom same more_ kept next fits seen one two three = let wide = sum_by-cons width raw next in let high = sum_by-cons size atom more_ in omega (arith, wide, high, three, fits)
       gains_step false was there_ raw atom same more_ kept next fits seen one two three = let wide = sum_by-cons width raw next in let high = sum_by-cons size atom more_ in omega (arith, wide, high, three, fits)
 
-      gains_less : (raws : List RawAtom) (blanks : ℕ) (list : List AtomTree) (before : List RawAtom) (bag : Multiset) → ((raw : RawAtom) → Contains raws raw → IsStateWritten source raw)
-          → ((raw : RawAtom) (more_ : ℕ) (atom : AtomTree) → IsStateWritten source raw → IsAtomBy source [] more_ raw atom → size atom ≤ width raw)
+      gains_less : (raws : List RawAtom) (blanks : ℕ) (list : List AtomTree) (before : List RawAtom) (bag : Multiset) → ((raw : RawAtom) → Contains raws raw → Contains (state_atoms source) raw)
+          → ((raw : RawAtom) (more_ : ℕ) (atom : AtomTree) → Contains (state_atoms source) raw → IsAtomBy source [] more_ raw atom → size atom ≤ width raw)
           → AreAtomsBy source [] blanks raws list → AreThere before bag → sum_by size (gained (is_fact_by source) bag list) ≤ sum_by width (counting_behind source before raws)
       gains_less [] blanks [] before bag all sized by there = omega arith
       gains_less [] blanks (atom ∷ list) before bag all sized by there = absurd by
@@ -221,7 +211,7 @@ start_good source clean made starts laws trace rest start_ first by =
     let same = by.start_is ∙ laws.once_gathered test by.atoms ground in
     let copies_are = laws.gathered_copies kept in
     let nodes_are = laws.gathered_nodes kept in
-    let none = λ (raw : RawAtom) (blanks : ℕ) (atom : AtomTree) (listed : IsStateWritten source raw) (is : IsAtomBy source [] blanks raw atom) (never : ◌≡◌ {A = Bool} false true). absurd cc in
+    let none = λ (raw : RawAtom) (blanks : ℕ) (atom : AtomTree) (listed : Contains (state_atoms source) raw) (is : IsAtomBy source [] blanks raw atom) (never : ◌≡◌ {A = Bool} false true). absurd cc in
     let ones = gains_less source clean made starts laws (λ _. 1) (λ _. 1) raws 0 by.atoms [] finite.empty written (λ raw more_ atom listed is. omega arith) by.atoms_are none in
     let sizes = gains_less source clean made starts laws atom_nodes nodes_written raws 0 by.atoms [] finite.empty written (λ raw more_ atom listed is. let size = atom_size source [] more_ raw atom is in omega (arith, size)) by.atoms_are none in
     let few_copies : length (counting source raws) ≤ 100000 = not_greater _ _ (λ more_. clean.names (wrong OverLimit trace.at) (over trace.at (copies trace rest first more_ refl) refl)) in

@@ -1,7 +1,7 @@
 -- The first backward premise that calls a bad pair, by the marks of the premises and the places that a draft keeps.
 use Rattle.std.proofs.Common.{◌≡◌, ℕ, zero, suc, ◌<◌, ◌≤◌, Bool, true, false, List, [], ◌∷◌, length, map, take, refl, ap, subst, ◌∙◌, arith, Contains}
 use Rattle.std.specs.Prelude.{Some, None, slice_get}
-use Rattle.std.specs.List.{AllByRecursion}
+use Rattle.std.specs.List.{AllByRecursion, AllZip}
 use Rattle.std.proofs.lemmas.Option.{slice_get_within}
 use Rattle.cep_base.specs.declared.place.Pos.{Pos}
 use Rattle.cep_base.proofs.Lists.{none_some, some_same, get_mapped, all_from_places}
@@ -15,10 +15,8 @@ use Rattle.cep_term.specs.Tree.{AtomTree}
 use Rattle.cep_rule.specs.Binding.{needed_of}
 use Rattle.cep_rule.specs.Groundness.{Known, nothing, known_after, known_after_all, CallsAt, IsBad, IsUngroundedAt, IsGrounded}
 use Rattle.cep_modes.specs.Grounding.{AreMarks, AreAllMarks}
-use Rattle.cep_source.specs.declared.space.Space.TheVariants as space
-use Rattle.cep_source.specs.Spaces.{names_in}
 use Rattle.cep_source.specs.Items.{Source, RuleItem, rules_of}
-use Rattle.cep_infer.specs.Meaning.{AreParts, IsRuleBy, AreRulesBy}
+use Rattle.cep_infer.specs.Meaning.{AreParts, IsRuleBy}
 use Rattle.cep_infer.specs.Places.{backs_at, ArePlaces, ArePlaceLists}
 use Rattle.cep_ground.specs.Earliest.{IsEarliest, marked_among, all_marked}
 use Rattle.cep_ground.specs.Refusals.{IsUngroundedIn}
@@ -62,13 +60,12 @@ marks_of clauses (r ∷ rules) [] n rule are is = absurd are
 marks_of clauses (r ∷ rules) (ms ∷ lists) zero rule are is = record { item = ms; there = refl; holds = subst (λ q. AreMarks clauses q ms) (some_same r rule is) are.0 }
 marks_of clauses (r ∷ rules) (ms ∷ lists) (suc n) rule are is = let rest = marks_of clauses rules lists n rule are.1 is in record { item = rest.item; there = rest.there; holds = rest.holds }
 
-item_of : (source : Source) (names : List (List ℕ)) (items : List RuleItem) (rules : List Rule) (n : ℕ) (rule : Rule) → AreRulesBy source names items rules → slice_get rules n ≡ Some rule → IsThere items n (λ item. (name : List ℕ) × IsRuleBy source name item rule)
-item_of source names [] [] n rule are is = none_some rule is
-item_of source names [] (r ∷ rules) n rule are is = absurd are
-item_of source names (item ∷ items) [] n rule are is = none_some rule is
-item_of source [] (item ∷ items) (r ∷ rules) n rule are is = absurd are
-item_of source (name ∷ names) (item ∷ items) (r ∷ rules) zero rule are is = record { item = item; there = refl; holds = (name, subst (IsRuleBy source name item) (some_same r rule is) are.0) }
-item_of source (name ∷ names) (item ∷ items) (r ∷ rules) (suc n) rule are is = let rest = item_of source names items rules n rule are.1 is in record { item = rest.item; there = rest.there; holds = rest.holds }
+item_of : (source : Source) (items : List RuleItem) (rules : List Rule) (n : ℕ) (rule : Rule) → AllZip (IsRuleBy source) items rules → slice_get rules n ≡ Some rule → IsThere items n (λ item. IsRuleBy source item rule)
+item_of source [] [] n rule are is = none_some rule is
+item_of source [] (r ∷ rules) n rule are is = absurd are
+item_of source (item ∷ items) [] n rule are is = none_some rule is
+item_of source (item ∷ items) (r ∷ rules) zero rule are is = record { item = item; there = refl; holds = subst (IsRuleBy source item) (some_same r rule is) are.0 }
+item_of source (item ∷ items) (r ∷ rules) (suc n) rule are is = let rest = item_of source items rules n rule are.1 is in record { item = rest.item; there = rest.there; holds = rest.holds }
 
 -- a premise that calls a pair is one of the rule's
 called_at : (pairs : ℕ → Known → Type 0) (known : Known) (goals : List AtomTree) (i : ℕ) → CallsAt pairs known goals i → i < length goals
@@ -138,12 +135,12 @@ module _ (source : Source) (parts : Parts) (are : AreParts source parts) (marks 
         record { at = least.at; is = ungrounded_at least.at least.there; least = λ other is. least.least other (marked_at other is); pos_is = least.pos_is }
 
     -- where no place is marked, all rules are grounded
-    pub all_grounded : ((name : List ℕ) (item : RuleItem) (rule : Rule) → Contains (rules_of source) item → IsRuleBy source name item rule → length rule.backs ≡ length (backs_at source item))
+    pub all_grounded : ((item : RuleItem) (rule : Rule) → Contains (rules_of source) item → IsRuleBy source item rule → length rule.backs ≡ length (backs_at source item))
         → IsEarliest (all_marked lists marks) None → AllByRecursion (IsGrounded parts.clauses) parts.rules
     all_grounded counted none =
         all_from_places (IsGrounded parts.clauses) parts.rules (λ n rule is i calls.
-        let item = item_of source (map (λ named. named.name) (names_in source space.Rules)) (rules_of source) parts.rules n rule are.rules_are is in
-        let size = counted item.holds.0 item.item rule (to_contains (rules_of source) item.item (in_got (rules_of source) n item.item item.there)) item.holds.1 in
+        let item = item_of source (rules_of source) parts.rules n rule are.rules_are is in
+        let size = counted item.item rule (to_contains (rules_of source) item.item (in_got (rules_of source) n item.item item.there)) item.holds in
         let within = called_within parts.clauses rule i calls in
         let at = item_within (backs_at source item.item) i (omega (arith, size, within)) in
         let there = marked_at at.item (record { parts = parts; declared = are; number = n; premise = i; item = item.item; rule = rule; written = item.there; numbered = is; calls = calls; here = at.there }) in

@@ -5,7 +5,7 @@ use Rattle.std.proofs.lemmas.Fmt.{length-decimal-le}
 use Rattle.std.specs.Prelude.{Option, Some, None, unwrap_or, codes, decimal}
 use Rattle.std.specs.Option.{option_map}
 use Rattle.std.specs.Str.{bytes_eq}
-use Rattle.std.specs.List.{AllByRecursion}
+use Rattle.std.specs.List.{AllByRecursion, flat_map}
 use Rattle.cep_parse.specs.declared.raw.Span.{Span}
 use Rattle.cep_parse.specs.declared.raw.RawKind.{RawKind}
 use Rattle.cep_parse.specs.declared.raw.RawKind.TheVariants as kind
@@ -15,18 +15,17 @@ use Rattle.cep_parse.specs.Written.{IsWrittenAt}
 use Rattle.cep_rule.specs.Names.{IsVariableName}
 use Rattle.cep_source.specs.declared.space.Space.TheVariants as space
 use Rattle.cep_source.specs.Items.{Source, ConItem, PredItem, said, sorts_of, cons_of, preds_of}
-use Rattle.cep_source.specs.Spaces.{named, names_in, is_in, con_named, pred_named}
-use Rattle.cep_source.specs.Uses.{use_in}
+use Rattle.cep_source.specs.Spaces.{named, is_in, con_named, pred_named}
 use Rattle.cep_parse.specs.Raw.{raw_nodes}
 use Rattle.cep_source.specs.Variables.{Occurrence, occurrence_at, blanks_behind, occurrences_from, occurrences_of, variables_of}
-use Rattle.cep_types.specs.Sites.{Site, Wanted, con_types, pred_types, node_types, sites_from, sites_in, sites_of, wanted_from, type_of}
+use Rattle.cep_types.specs.Sites.{Site, Wanted, pred_types, node_types, sites_from, sites_in, sites_of, wanted_from, type_of}
 use Rattle.cep_types.specs.Heads.{number_of}
 use Rattle.cep_infer.specs.Meaning.{names_of, kinds_of}
 use Rattle.cep_ground.specs.Texts.{IsClean}
-use Rattle.cep_base.proofs.Elements.{contains_none, contains_first, contains_behind, contains_cases, contains_either, contains_left, contains_right, contains_map, map_cases, flat_cases, all_at, all_of}
+use Rattle.cep_base.proofs.Elements.{contains_none, contains_first, contains_behind, contains_cases, contains_either, contains_left, contains_right, contains_map, contains_flat, map_cases, flat_cases, all_at, all_of}
 use Rattle.cep_ground.proofs.Finds.{any_found, found_in}
-use Rattle.cep_ground.proofs.Known.{known, con_item_uses, pred_item_uses}
-use Rattle.cep_ground.proofs.Located.{place_within, position_there}
+use Rattle.cep_ground.proofs.Known.{known}
+use Rattle.cep_ground.proofs.Located.{number_within}
 use Rattle.cep_ground.proofs.Limits.{all_map}
 use Rattle.cep_ground.proofs.Spelled.{variable_is}
 use Rattle.cep_ground.proofs.Wanted.{wanted_names, is_any, firsts_there}
@@ -37,23 +36,26 @@ module _ (source : Source) (clean : IsClean source) (made : AtomsMade source) wh
   -- a name that is in a space has a number there
   pub in_range : (name : List ℕ) → is_in source space.Sorts name ≡ true → number_of source space.Sorts name < length (sorts_of source)
   in_range name is =
-      let within = place_within (λ other. bytes_eq other.name name) (names_in source space.Sorts) is in
-      let number = position_there (λ other. bytes_eq other.name name) (names_in source space.Sorts) within in
+      let within = number_within source space.Sorts name is in
       let size = length-map (sorts_of source) (named source) in
-      omega (arith, within, number, size)
+      omega (arith, within, size)
+
+  -- the types that declarations name are declared
+  con_type_known : (con : ConItem) (span : Span) → Contains (cons_of source) con → Contains (con.args ++ con.sort ∷ []) span → is_in source space.Sorts (said source span) ≡ true
+  con_type_known con span there inside =
+      known source space.Sorts span clean.names
+      (contains_right (flat_map (λ (pred : PredItem). pred.args) (preds_of source)) _ span (contains_flat (λ (one : ConItem). one.args ++ one.sort ∷ []) (cons_of source) con span there inside))
 
   con_arg_known : (con : ConItem) (span : Span) → Contains (cons_of source) con → Contains con.args span → is_in source space.Sorts (said source span) ≡ true
-  con_arg_known con span there inside =
-      known source (use_in space.Sorts span) clean.names
-      (con_item_uses source con (use_in space.Sorts span) there (contains_map (use_in space.Sorts) (con.args ++ con.sort ∷ []) span (contains_left con.args _ span inside)))
+  con_arg_known con span there inside = con_type_known con span there (contains_left con.args _ span inside)
 
   pub con_sort_known : (con : ConItem) → Contains (cons_of source) con → is_in source space.Sorts (said source con.sort) ≡ true
-  con_sort_known con there =
-      known source (use_in space.Sorts con.sort) clean.names
-      (con_item_uses source con (use_in space.Sorts con.sort) there (contains_map (use_in space.Sorts) (con.args ++ con.sort ∷ []) con.sort (contains_right con.args _ con.sort (contains_first con.sort []))))
+  con_sort_known con there = con_type_known con con.sort there (contains_right con.args _ con.sort (contains_first con.sort []))
 
   pred_arg_known : (pred : PredItem) (span : Span) → Contains (preds_of source) pred → Contains pred.args span → is_in source space.Sorts (said source span) ≡ true
-  pred_arg_known pred span there inside = known source (use_in space.Sorts span) clean.names (pred_item_uses source pred span there inside)
+  pred_arg_known pred span there inside =
+      known source space.Sorts span clean.names
+      (contains_left (flat_map (λ (one : PredItem). one.args) (preds_of source)) _ span (contains_flat (λ (one : PredItem). one.args) (preds_of source) pred span there inside))
 
   pub con_args_known : (con : ConItem) → Contains (cons_of source) con → AllByRecursion (λ name. is_in source space.Sorts name ≡ true) (map (said source) con.args)
   con_args_known con there = all_map (λ name. is_in source space.Sorts name ≡ true) (said source) con.args (all_of (λ span. is_in source space.Sorts (said source span) ≡ true) con.args (λ span inside. con_arg_known con span there inside))
@@ -65,7 +67,7 @@ module _ (source : Source) (clean : IsClean source) (made : AtomsMade source) wh
   abbrev AreTypes : List (List ℕ) → Type 0
   AreTypes types = AllByRecursion (λ name. is_in source space.Sorts name ≡ true) types
 
-  con_types_known : (found : Option ConItem) (name : List ℕ) → con_named source name ≡ found → AreTypes (con_types source found)
+  con_types_known : (found : Option ConItem) (name : List ℕ) → con_named source name ≡ found → AreTypes (map (said source) (unwrap_or (option_map (λ (con : ConItem). con.args) found) []))
   con_types_known None name is = tt
   con_types_known (Some con) name is = con_args_known con (found_in (λ (con : ConItem). bytes_eq (said source con.name) name) (cons_of source) con is).there
 
@@ -74,9 +76,12 @@ module _ (source : Source) (clean : IsClean source) (made : AtomsMade source) wh
   node_types_known kind.Var at = tt
   node_types_known kind.Blank at = tt
 
-  pred_types_known : (found : Option PredItem) (name : List ℕ) → pred_named source name ≡ found → AreTypes (pred_types source found)
-  pred_types_known None name is = tt
-  pred_types_known (Some pred) name is = pred_args_known pred (found_in (λ (pred : PredItem). bytes_eq (said source pred.name) name) (preds_of source) pred is).there
+  pred_types_by : (found : Option PredItem) (name : List ℕ) → pred_named source name ≡ found → AreTypes (map (said source) (unwrap_or (option_map (λ (pred : PredItem). pred.args) found) []))
+  pred_types_by None name is = tt
+  pred_types_by (Some pred) name is = pred_args_known pred (found_in (λ (pred : PredItem). bytes_eq (said source pred.name) name) (preds_of source) pred is).there
+
+  pred_types_known : (name : List ℕ) → AreTypes (pred_types source name)
+  pred_types_known name = pred_types_by (pred_named source name) name refl
 
   both_types : (one other : List (List ℕ)) → AreTypes one → AreTypes other → AreTypes (one ++ other)
   both_types [] other here there = there
@@ -91,7 +96,7 @@ module _ (source : Source) (clean : IsClean source) (made : AtomsMade source) wh
   atom_sites_known atoms site there =
       let from = flat_cases (sites_in source) atoms site there in
       all_at (λ (s : Site). is_in source space.Sorts s.wants ≡ true) (sites_in source from.from) site
-      (sites_known (pred_types source (pred_named source (said source from.from.name))) from.from.nodes (pred_types_known (pred_named source (said source from.from.name)) (said source from.from.name) refl)) from.inside
+      (sites_known (pred_types source (said source from.from.name)) from.from.nodes (pred_types_known (said source from.from.name))) from.inside
 
   wanted_known : (blanks : ℕ) (sites : List Site) (w : Wanted) → ((site : Site) → Contains sites site → is_in source space.Sorts site.wants ≡ true) → Contains (wanted_from source blanks sites) w → is_in source space.Sorts w.wants ≡ true
   wanted_known blanks [] w all there = absurd (contains_none w there)
@@ -152,5 +157,5 @@ module _ (source : Source) (clean : IsClean source) (made : AtomsMade source) wh
       (λ node inside.
       let from = flat_cases (λ (atom : RawAtom). atom.nodes) atoms node inside in
       let here = are.here from.from from.there in
-      all_at (λ (n : RawNode). IsWrittenAt clean.is_source.tokens n.kind n.at) from.from.nodes node (atom_of_tokens source clean made here.role from.from here.there).nodes from.inside)
+      all_at (λ (n : RawNode). IsWrittenAt clean.is_source.tokens n.kind n.at) from.from.nodes node (atom_of_tokens source clean made from.from here.there).nodes from.inside)
       (firsts_there [] (occurrences_of source atoms) o there)))

@@ -1,9 +1,11 @@
 -- The variables of atoms and the types that are wanted of them.
 use Rattle.std.proofs.Common.{◌≡◌, ◌⊎◌, inl, inr, ⊎_elim, ℕ, suc, ◌+◌, ◌<◌, ◌≤◌, ◌^◌, Bool, true, false, ◌||◌, if◌then◌else◌, List, [], ◌∷◌, ◌++◌, length, map, refl, sym, ap, subst, ◌∙◌, arith, append_assoc, length-append, Contains}
-use Rattle.std.specs.Prelude.{Option, Some, codes, decimal, cond}
+use Rattle.std.specs.Prelude.{Option, Some, unwrap_or, codes, decimal, cond}
+use Rattle.std.specs.Option.{option_map}
 use Rattle.std.specs.Str.{bytes_eq}
 use Rattle.std.specs.List.{find, list_any}
 use Rattle.std.proofs.lemmas.Slice.Eq.{bytes_eq-Decides}
+use Rattle.std.proofs.lemmas.List.{length-map}
 use Rattle.std.proofs.lemmas.Fmt.{decimal_injective}
 use Rattle.std.specs.Char.{is_ascii_uppercase}
 use Rattle.cep_parse.specs.declared.raw.Span.{Span}
@@ -12,10 +14,10 @@ use Rattle.cep_parse.specs.declared.raw.RawKind.TheVariants as kind
 use Rattle.cep_parse.specs.declared.raw.RawNode.{RawNode}
 use Rattle.cep_parse.specs.Written.{Fill, IsCount}
 use Rattle.cep_rule.specs.Names.{IsWord}
-use Rattle.cep_source.specs.Items.{Source, ConItem, said}
-use Rattle.cep_source.specs.Variables.{Occurrence, occurrence_at, blanks_behind, occurrences_from, firsts_beside}
-use Rattle.cep_types.specs.Sites.{Site, Wanted, con_types, node_types, sites_from, wanted_from}
-use Rattle.cep_types.specs.Heads.{blanks_after}
+use Rattle.cep_source.specs.Items.{Source, ConItem, PredItem, said}
+use Rattle.cep_source.specs.Spaces.{pred_named, con_named}
+use Rattle.cep_source.specs.Variables.{Occurrence, occurrence_at, blanks_behind, occurrences_from, firsts_beside, blanks_after}
+use Rattle.cep_types.specs.Sites.{Site, Wanted, pred_types, node_types, sites_from, wanted_from}
 use Rattle.cep_base.proofs.Elements.{contains_none, contains_first, contains_behind, contains_cases}
 use Rattle.cep_ground.proofs.Known.{IsConKnown}
 
@@ -23,18 +25,18 @@ use Rattle.cep_ground.proofs.Known.{IsConKnown}
 abbrev pub nodes_at : List Site → List RawNode
 nodes_at sites = map (λ site. site.node) sites
 
+-- the types that a predicate, and a constructor, wants of its arguments
+pub pred_types_are : (source : Source) (name : List ℕ) (pred : PredItem) → pred_named source name ≡ Some pred → pred_types source name ≡ map (said source) pred.args
+pred_types_are source name pred found = ap (λ (is : Option PredItem). map (said source) (unwrap_or (option_map (λ (one : PredItem). one.args) is) [])) found
+
+pub con_types_are : (source : Source) (at : Span) (con : ConItem) → con_named source (said source at) ≡ Some con → node_types source kind.App at ≡ map (said source) con.args
+con_types_are source at con found = ap (λ (is : Option ConItem). map (said source) (unwrap_or (option_map (λ (one : ConItem). one.args) is) [])) found
+
 -- a constructor wants as many types as there are arguments, and a variable none
-pub types_count : (source : Source) (shape : RawKind) (at : Span) (args : ℕ) → IsCount shape args → (shape ≡ kind.App → IsConKnown source at args) → length (node_types source shape at) ≡ args
+types_count : (source : Source) (shape : RawKind) (at : Span) (args : ℕ) → IsCount shape args → (shape ≡ kind.App → IsConKnown source at args) → length (node_types source shape at) ≡ args
 types_count source kind.App at args count known =
     let is = known refl in
-    ap (λ (found : Option ConItem). length (con_types source found)) is.found ∙ size_of source is.con ∙ sym is.count
-  where
-    map_size : (source : Source) (spans : List Span) → length (map (said source) spans) ≡ length spans
-    map_size source [] = refl
-    map_size source (span ∷ spans) = ap suc (map_size source spans)
-
-    size_of : (source : Source) (con : ConItem) → length (map (said source) con.args) ≡ length con.args
-    size_of source con = map_size source con.args
+    ap length (con_types_are source at is.con is.found) ∙ length-map is.con.args (said source) ∙ sym is.count
 types_count source kind.Var at args count known = sym count
 types_count source kind.Blank at args count known = sym count
 

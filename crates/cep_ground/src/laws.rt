@@ -36,9 +36,9 @@ pub fn clean_parts_are_a_program()
     ensures counted { (source : Source)
         → IsClean source
         → IsBound source
-        → (name : List ℕ) (item : RuleItem) (rule : Rule)
+        → (item : RuleItem) (rule : Rule)
         → Contains (rules_of source) item
-        → IsRuleBy source name item rule
+        → IsRuleBy source item rule
         → length rule.backs ≡ length (backs_at source item) }
 {
     items_are_made_of_tokens();

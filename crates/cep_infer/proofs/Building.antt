@@ -1,27 +1,29 @@
 -- Atoms and premises are built one after another.
-use Rattle.std.proofs.Common.{◌≡◌, ◌||◌, ℕ, ◌+◌, ◌<◌, Bool, true, false, not, if◌then◌else◌, List, [], ◌∷◌, ◌++◌, map, filter, length, take, get_or, refl, ap, sym, subst, ◌∙◌, append_assoc, arith}
-use Rattle.std.specs.Prelude.{Result, Ok, Err, OnOk}
-use Rattle.std.specs.List.{flat_map}
+use Rattle.std.proofs.Common.{◌≡◌, ◌||◌, ℕ, ◌+◌, ◌<◌, Bool, true, false, not, if◌then◌else◌, List, [], ◌∷◌, ◌++◌, map, filter, length, take, get_or, refl, ap, sym, subst, ◌∙◌, append_assoc}
+use Rattle.std.specs.List.{flat_map, AllZip}
 use Rattle.std.proofs.lemmas.List.{map-append, append-nil, take_more}
 use Rattle.std.proofs.lemmas.Grind.{flat_map-append}
 use Rattle.cep_parse.specs.declared.raw.RawAtom.{RawAtom}
 use Rattle.cep_parse.specs.declared.raw.RawElem.{RawElem}
 use Rattle.cep_parse.specs.declared.raw.RawElem.TheVariants as elem
-use Rattle.cep_parse.specs.declared.raw.RawItem.{RawItem}
-use Rattle.cep_rule.specs.declared.rule.Rule.{Rule}
 use Rattle.cep_term.specs.Tree.{AtomTree}
-use Rattle.cep_rule.specs.Patterns.{PremiseTree, ClauseTree}
-use Rattle.cep_source.specs.Items.{Source, ClauseItem, RuleItem}
+use Rattle.cep_rule.specs.Patterns.{PremiseTree}
+use Rattle.cep_source.specs.Items.{Source, said}
+use Rattle.cep_parse.specs.declared.raw.RawStart.TheVariants as start
 use Rattle.cep_parse.specs.Raw.{atoms_in, atoms_of, raw_nodes}
-use Rattle.cep_types.specs.declared.variables.Variables.{Variables}
+use Rattle.cep_source.specs.Uses.{stands_for_context}
+use Rattle.cep_source.specs.Starts.{listed_in, start_atoms}
 use Rattle.cep_infer.specs.Heads.{IsAtomBy, AreAtomsBy}
-use Rattle.cep_types.specs.Heads.{blanks_after}
-use Rattle.cep_types.specs.Met.{AreMet, none_met, names_seen, kinds_met}
+use Rattle.cep_types.specs.Met.{AreMet, kinds_met}
 use Rattle.cep_infer.specs.declared.left.LeftSide.{LeftSide}
-use Rattle.cep_infer.specs.Meaning.{ArePremisesBy, is_back, is_fact_by, IsClauseBy, AreClausesBy, IsRuleBy, AreRulesBy}
+use Rattle.cep_infer.specs.Meaning.{ArePremisesBy, is_back, is_fact_by, IsClauseBy}
 use Rattle.cep_infer.specs.Built.{AreBuilt, IsLeftBuilt}
 use Rattle.cep_infer.proofs.Meeting.{blanks_both}
 use Rattle.cep_infer.proofs.FirstOccurrences.{names_met, kinds_are_met}
+use Rattle.cep_source.specs.declared.variables.Variables.{Variables}
+use Rattle.cep_source.specs.Variables.{blanks_after}
+use Rattle.cep_source.specs.Met.{none_met}
+use Rattle.cep_source.specs.Firsts.{names_among}
 
 module _ (source : Source) (vars : List (List ℕ)) where
   pub atoms_both : (blanks : ℕ) (one two : List RawAtom) (ts us : List AtomTree) → AreAtomsBy source vars blanks one ts → AreAtomsBy source vars (blanks_after blanks (raw_nodes one)) two us → AreAtomsBy source vars blanks (one ++ two) (ts ++ us)
@@ -60,6 +62,14 @@ module _ (source : Source) (vars : List (List ℕ)) where
   atom_built xs i x before middle behind old between new h at was is =
       let atoms : take (i + 1) xs ≡ take i xs ++ x ∷ [] = take_more xs i x h ∙ ap (λ y. take i xs ++ y ∷ []) (sym at) in
       subst (λ (ys : List RawAtom). AreBuilt source vars ys before behind old new) (sym atoms) (both_built (take i xs) (x ∷ []) before middle behind old between new was is)
+
+  -- an atom in braces, or what it stands for
+  pub braces_built : (xs : List RawAtom) (i : ℕ) (x : RawAtom) (stands : Bool) (raws : List RawAtom) (before middle behind : ℕ) (old between new : List AtomTree) → i < length xs → x ≡ get_or xs i x
+      → stands ≡ stands_for_context source x → raws ≡ (if stands then listed_in source (said source x.name) else x ∷ [])
+      → AreBuilt source vars (start_atoms source (start.Listed (take i xs))) before middle old between → AreBuilt source vars raws middle behind between new → AreBuilt source vars (start_atoms source (start.Listed (take (i + 1) xs))) before behind old new
+  braces_built xs i x stands raws before middle behind old between new h at stands_is raws_are was is =
+      part_built (λ (atom : RawAtom). if stands_for_context source atom then listed_in source (said source atom.name) else atom ∷ []) xs i x before middle behind old between new h at was
+      (subst (λ (them : List RawAtom). AreBuilt source vars them middle behind between new) (raws_are ∙ ap (λ (b : Bool). if b then listed_in source (said source x.name) else x ∷ []) stands_is) is)
 
   -- ---- premises
 
@@ -104,28 +114,33 @@ module _ (source : Source) (vars : List (List ℕ)) where
       let side : take (i + 1) xs ≡ take i xs ++ x ∷ [] = take_more xs i x h ∙ ap (λ y. take i xs ++ y ∷ []) (sym at) in
       subst (λ (ys : List RawElem). IsLeftBuilt source vars ys before behind old new) (sym side) (left_both (take i xs) (x ∷ []) before middle behind old between new was is)
 
-  pub premise_built : (marked kept : Bool) (raw : RawAtom) (before behind : ℕ) (old new : LeftSide) (atom : AtomTree) (back : Bool) → kept ≡ (marked || is_fact_by source atom) → IsAtomBy source vars before raw atom → behind ≡ blanks_after before raw.nodes → back ≡ is_back source atom
-      → new.premises ≡ (if back then old.premises else old.premises ++ record { atom = atom; kept = kept } ∷ []) → new.backs ≡ (if back then old.backs ++ atom ∷ [] else old.backs)
-      → IsLeftBuilt source vars (elem.Atom marked raw ∷ []) before behind old new
-  premise_built marked kept raw before behind old new atom back kept_is is blanks_are back_is premises_are backs_are = record {
-    more = record { atom = atom; kept = kept } ∷ [];
-    are = (kept_is, is, tt);
-    premises_are = premises_are ∙ linear back back_is;
-    backs_are = backs_are ∙ backward back back_is;
+  -- a backward premise more, and one of states
+  pub back_built : (marked : Bool) (raw : RawAtom) (before behind : ℕ) (old : LeftSide) (backs : List AtomTree) (atom : AtomTree) → IsAtomBy source vars before raw atom → behind ≡ blanks_after before raw.nodes
+      → is_back source atom ≡ true → backs ≡ old.backs ++ atom ∷ [] → IsLeftBuilt source vars (elem.Atom marked raw ∷ []) before behind old (record { premises = old.premises; backs = backs })
+  back_built marked raw before behind old backs atom is blanks_are back backs_are = record {
+    more = premise ∷ [];
+    are = (refl, is, tt);
+    premises_are = rw back (sym (append-nil old.premises));
+    backs_are = rw back backs_are;
     behind_is = blanks_are ∙ ap (blanks_after before) (sym (append-nil raw.nodes));
   } where
-    linear : (b : Bool) → b ≡ is_back source atom → (if b then old.premises else old.premises ++ record { atom = atom; kept = kept } ∷ []) ≡ old.premises ++ filter (λ (premise : PremiseTree). not (is_back source premise.atom)) (record { atom = atom; kept = kept } ∷ [])
-    linear true e = rw (← e) (sym (append-nil old.premises))
-    linear false e = rw (← e) refl
+    premise : PremiseTree
+    premise = record { atom = atom; kept = marked || is_fact_by source atom }
 
-    backward : (b : Bool) → b ≡ is_back source atom → (if b then old.backs ++ atom ∷ [] else old.backs) ≡ old.backs ++ map (λ (premise : PremiseTree). premise.atom) (filter (λ (premise : PremiseTree). is_back source premise.atom) (record { atom = atom; kept = kept } ∷ []))
-    backward true e = rw (← e) refl
-    backward false e = rw (← e) (sym (append-nil old.backs))
+  pub linear_built : (marked kept : Bool) (raw : RawAtom) (before behind : ℕ) (old : LeftSide) (premises : List PremiseTree) (atom : AtomTree) → kept ≡ (marked || is_fact_by source atom) → IsAtomBy source vars before raw atom → behind ≡ blanks_after before raw.nodes
+      → is_back source atom ≡ false → premises ≡ old.premises ++ record { atom = atom; kept = kept } ∷ [] → IsLeftBuilt source vars (elem.Atom marked raw ∷ []) before behind old (record { premises = premises; backs = old.backs })
+  linear_built marked kept raw before behind old premises atom kept_is is blanks_are linear premises_are = record {
+    more = record { atom = atom; kept = kept } ∷ [];
+    are = (kept_is, is, tt);
+    premises_are = rw linear premises_are;
+    backs_are = rw linear (sym (append-nil old.backs));
+    behind_is = blanks_are ∙ ap (blanks_after before) (sym (append-nil raw.nodes));
+  }
 
 -- a clause is built
 pub clause_built : (source : Source) (head : RawAtom) (goals : List RawAtom) (variables : Variables) (names : List (List ℕ)) (kinds : List ℕ) (behind : ℕ) (tree : AtomTree) (atoms : List AtomTree)
-    → AreMet source (head ∷ goals) none_met variables → names ≡ names_seen variables.firsts → kinds ≡ kinds_met source variables.firsts
-    → IsAtomBy source (names_seen variables.firsts) 0 head tree → behind ≡ blanks_after 0 head.nodes → AreAtomsBy source (names_seen variables.firsts) behind goals atoms
+    → AreMet source (head ∷ goals) none_met variables → names ≡ names_among variables.firsts → kinds ≡ kinds_met source variables.firsts
+    → IsAtomBy source (names_among variables.firsts) 0 head tree → behind ≡ blanks_after 0 head.nodes → AreAtomsBy source (names_among variables.firsts) behind goals atoms
     → IsClauseBy source (record { head = head; goals = goals }) (record { vars = names; kinds = kinds; head = tree; goals = atoms })
 clause_built source head goals variables names kinds behind tree atoms met names_are kinds_are first blanks_are others = record {
   vars_are = names_are ∙ names_met source (head ∷ goals) variables met;
@@ -133,36 +148,23 @@ clause_built source head goals variables names kinds behind tree atoms met names
   atoms_are = (
     subst (λ (vs : List (List ℕ)). IsAtomBy source vs 0 head tree) (sym names_are) first,
     subst (λ (vs : List (List ℕ)). AreAtomsBy source vs (blanks_after 0 head.nodes) goals atoms) (sym names_are)
-        (subst (λ n. AreAtomsBy source (names_seen variables.firsts) n goals atoms) blanks_are others),
+        (subst (λ n. AreAtomsBy source (names_among variables.firsts) n goals atoms) blanks_are others),
   );
 }
 
--- both of what a call leaves
-pub on_ok_both : {T E P Q R : Type 0} (r : Result T E) → (P → Q → R) → OnOk r P → OnOk r Q → OnOk r R
-on_ok_both (Ok x) f p q = f p q
-on_ok_both (Err e) f p q = tt
+-- ---- what stands for each of some things, one after another
 
--- ---- clauses and rules, one after another
+zip_push : {A B : Type 0} (R : A → B → Type 0) (xs : List A) (ys : List B) (x : A) (y : B) → AllZip R xs ys → R x y → AllZip R (xs ++ x ∷ []) (ys ++ y ∷ [])
+zip_push R [] [] x y are is = (is, tt)
+zip_push R [] (b ∷ ys) x y are is = absurd are
+zip_push R (a ∷ xs) [] x y are is = absurd are
+zip_push R (a ∷ xs) (b ∷ ys) x y are is = (are.0, zip_push R xs ys x y are.1 is)
 
-pub clauses_both : (source : Source) (one two : List ClauseItem) (cs ds : List ClauseTree) → AreClausesBy source one cs → AreClausesBy source two ds → AreClausesBy source (one ++ two) (cs ++ ds)
-clauses_both source [] two [] ds first second = second
-clauses_both source [] two (c ∷ cs) ds first second = absurd first
-clauses_both source (x ∷ one) two [] ds first second = absurd first
-clauses_both source (x ∷ one) two (c ∷ cs) ds first second = (first.0, clauses_both source one two cs ds first.1 second)
-
-pub clauses_more : (source : Source) (g : RawItem → List ClauseItem) (xs : List RawItem) (i : ℕ) (x : RawItem) (old more new : List ClauseTree) → i < length xs → x ≡ get_or xs i x
-    → AreClausesBy source (flat_map g (take i xs)) old → AreClausesBy source (g x) more → new ≡ old ++ more → AreClausesBy source (flat_map g (take (i + 1) xs)) new
-clauses_more source g xs i x old more new h at was is new_is =
-    let items : flat_map g (take (i + 1) xs) ≡ flat_map g (take i xs) ++ g x =
-    ap (flat_map g) (take_more xs i x h) ∙ flat_map-append g (take i xs) (get_or xs i x ∷ []) ∙ ap (λ ys. flat_map g (take i xs) ++ ys) (append-nil (g (get_or xs i x)) ∙ ap g (sym at)) in
-    subst (λ (ys : List ClauseItem). AreClausesBy source ys new) (sym items)
-    (subst (λ (cs : List ClauseTree). AreClausesBy source (flat_map g (take i xs) ++ g x) cs) (sym new_is) (clauses_both source (flat_map g (take i xs)) (g x) old more was is))
-
-pub rules_more : (source : Source) (names : List (List ℕ)) (items : List RuleItem) (rules : List Rule) (name : List ℕ) (item : RuleItem) (rule : Rule) → AreRulesBy source names items rules → length names ≡ length items → IsRuleBy source name item rule
-    → AreRulesBy source (names ++ name ∷ []) (items ++ item ∷ []) (rules ++ rule ∷ [])
-rules_more source [] [] [] name item rule are same is = (is, tt)
-rules_more source [] [] (r ∷ rules) name item rule are same is = absurd are
-rules_more source names (i ∷ items) [] name item rule are same is = absurd are
-rules_more source [] (i ∷ items) (r ∷ rules) name item rule are same is = absurd are
-rules_more source (n ∷ names) [] rules name item rule are same is = absurd (omega (arith, same))
-rules_more source (n ∷ names) (i ∷ items) (r ∷ rules) name item rule are same is = (are.0, rules_more source names items rules name item rule are.1 (omega (arith, same)) is)
+pub zip_more : {X A B : Type 0} (R : A → B → Type 0) (f : X → A) (xs : List X) (i : ℕ) (x : X) (old new : List B) (y : B) → i < length xs → x ≡ get_or xs i x
+    → AllZip R (map f (take i xs)) old → R (f x) y → new ≡ old ++ y ∷ [] → AllZip R (map f (take (i + 1) xs)) new
+zip_more {A = A} {B = B} R f xs i x old new y h at are is new_is =
+    subst (λ (ys : List B). AllZip R (map f (take (i + 1) xs)) ys) (sym new_is)
+    (subst (λ (as_ : List A). AllZip R as_ (old ++ y ∷ [])) (sym items) (zip_push R (map f (take i xs)) old (f x) y are is))
+  where
+    items : map f (take (i + 1) xs) ≡ map f (take i xs) ++ f x ∷ []
+    items = ap (map f) (take_more xs i x h) ∙ map-append f (take i xs) (get_or xs i x ∷ []) ∙ ap (λ z. map f (take i xs) ++ f z ∷ []) (sym at)

@@ -15,14 +15,16 @@ use Rattle.cep_source.specs.declared.space.Space.TheVariants as space
 use Rattle.cep_source.specs.Items.{Source, said}
 use Rattle.cep_parse.specs.Raw.{raw_nodes}
 use Rattle.cep_source.specs.Variables.{Occurrence, occurrence_at, blanks_behind, occurrences_from, firsts_beside, variables_of}
-use Rattle.cep_types.specs.declared.variables.Variables.{Variables}
 use Rattle.cep_types.specs.Sites.{Site, Wanted, sites_of, wanted_from, type_of}
 use Rattle.cep_types.specs.Heads.{number_of}
-use Rattle.cep_types.specs.Met.{names_seen, kinds_met, none_met, further, AreMet}
+use Rattle.cep_types.specs.Met.{kinds_met, further, AreMet}
 use Rattle.cep_infer.specs.Meaning.{names_of, kinds_of}
 use Rattle.cep_base.proofs.Bytes.{bytes_eq_sym}
 use Rattle.cep_base.proofs.FirstNamed.{found, or_found, found_both, found_kept}
 use Rattle.cep_infer.proofs.Meeting.{nodes_at}
+use Rattle.cep_source.specs.declared.variables.Variables.{Variables}
+use Rattle.cep_source.specs.Firsts.{names_among}
+use Rattle.cep_source.specs.Met.{none_met}
 
 -- whether a name is among names
 abbrev has : List (List ℕ) → List ℕ → Bool
@@ -134,7 +136,7 @@ module _ (source : Source) (atoms : List RawAtom) (variables : Variables) (met :
   abbrev firsts : List Wanted
   firsts = fold further [] all
 
-  pub names_met : names_seen variables.firsts ≡ names_of source atoms
+  pub names_met : names_among variables.firsts ≡ names_of source atoms
   names_met =
       sym (map-map (λ (w : Wanted). w.name) (λ (e : List ℕ × Span). record { name = e.0; wants = said source e.1 }) variables.firsts)
       ∙ ap wanted_names_of met.firsts ∙ met_names [] [] all (λ name. refl)

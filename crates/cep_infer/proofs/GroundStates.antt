@@ -1,6 +1,7 @@
 -- The atoms of a start state are ground, in a text without wrong names.
-use Rattle.std.proofs.Common.{◌≡◌, ⊎_elim, ℕ, Bool, true, false, List, [], ◌∷◌, ◌++◌, refl, sym, subst, Contains}
-use Rattle.std.specs.Prelude.{Option, Some, None, cond}
+use Rattle.std.proofs.Common.{◌≡◌, ◌⊎◌, inl, inr, ⊎_elim, ℕ, Bool, true, false, not, if◌then◌else◌, List, [], ◌∷◌, ◌++◌, filter, refl, ap, sym, subst, ◌∙◌, Contains}
+use Rattle.std.specs.Prelude.{Option, Some, None, cond, unwrap_or}
+use Rattle.std.specs.Option.{option_map}
 use Rattle.std.specs.Str.{bytes_eq}
 use Rattle.std.specs.List.{AllByRecursion, find, flat_map}
 use Rattle.cep_parse.specs.declared.raw.Span.{Span}
@@ -10,23 +11,21 @@ use Rattle.cep_parse.specs.declared.raw.RawNode.{RawNode}
 use Rattle.cep_parse.specs.declared.raw.RawAtom.{RawAtom}
 use Rattle.cep_parse.specs.declared.raw.RawStart.{RawStart}
 use Rattle.cep_parse.specs.declared.raw.RawStart.TheVariants as start
+use Rattle.cep_parse.specs.Raw.{raw_nodes, start_listed}
 use Rattle.cep_term.specs.Tree.{Tree, Trees, AtomTree, variable, node, none, more, AreGround, IsGround, IsGroundAtom}
 use Rattle.cep_refusal.specs.declared.reason.Reason.TheVariants.{VarInContext}
-use Rattle.cep_source.specs.declared.space.Role.TheVariants as role
-use Rattle.cep_source.specs.Items.{Source, RuleItem, TraceItem, ContextItem, said, clauses_of, rules_of, contexts_of, traces_of}
-use Rattle.cep_source.specs.Spaces.{context_named}
-use Rattle.cep_parse.specs.Raw.{start_listed}
-use Rattle.cep_source.specs.Uses.{Placed, placed, placed_of, rule_atoms, clause_atoms, context_atoms, trace_atoms, is_context, IsOfState as of_state}
-use Rattle.cep_source.specs.Variables.{blanks_behind}
-use Rattle.cep_source.specs.Starts.{listed_in, listed_or, start_atoms}
 use Rattle.cep_refusal.specs.First.{wrong}
-use Rattle.cep_faults.specs.Misnamed.{IsOpen as opens}
+use Rattle.cep_source.specs.Items.{Source, TraceItem, ContextItem, said, contexts_of, traces_of}
+use Rattle.cep_source.specs.Spaces.{context_named}
+use Rattle.cep_source.specs.Uses.{state_atoms, stands_for_context}
+use Rattle.cep_source.specs.Variables.{blanks_behind, blanks_after}
+use Rattle.cep_source.specs.Starts.{listed_in, start_atoms}
 use Rattle.cep_faults.specs.Misnamed.Misnamed.{variable_in_state}
-use Rattle.cep_types.specs.Heads.{Head, var, con, head_at, heads_from, blanks_after}
+use Rattle.cep_types.specs.Heads.{Head, var, con, head_at, heads_from}
 use Rattle.cep_infer.specs.Heads.{heads_of, heads_among, IsAtomBy, AreAtomsBy}
 use Rattle.cep_infer.specs.Resolved.{IsWellNamed}
-use Rattle.cep_infer.specs.States.{IsStateWritten, AreClosed}
-use Rattle.cep_base.proofs.Elements.{contains_none, contains_first, contains_behind, contains_cases, contains_left, contains_right, contains_map, contains_flat, flat_cases, all_of}
+use Rattle.cep_infer.specs.States.{AreClosed}
+use Rattle.cep_base.proofs.Elements.{contains_none, contains_first, contains_behind, contains_cases, contains_left, contains_right, contains_flat, flat_cases, all_of}
 
 -- a constructor is no variable
 abbrev IsClosed : Head → Type 0
@@ -84,57 +83,64 @@ found_there : {Y : Type 0} (p : Y → Bool) (ys : List Y) (y : Y) → find p ys 
 found_there p [] y found = absurd cc
 found_there p (z ∷ ys) y found = found_first p (p z) z y ys (find p ys) found (λ later. found_there p ys y later)
 
--- an atom of a context, and one in the braces of a trace, is an atom of the file
-state_placed : (source : Source) (p : Placed) → Contains (flat_map context_atoms (contexts_of source) ++ flat_map trace_atoms (traces_of source)) p → Contains (placed_of source) p
-state_placed source p there = contains_right (flat_map (λ (rule : RuleItem). rule_atoms rule.raw) (rules_of source)) _ p (contains_right (flat_map clause_atoms (clauses_of source)) _ p there)
+-- what passes is kept
+kept_by : {Y : Type 0} (b : Bool) (z y : Y) (ys : List Y) → (z ≡ y) ⊎ Contains ys y → (z ≡ y → b ≡ true) → Contains (cond b (z ∷ ys) ys) y
+kept_by true z y ys there passes = ⊎_elim (λ (same : z ≡ y). subst (Contains (z ∷ ys)) same (contains_first z ys)) (λ later. contains_behind z ys y later) there
+kept_by false z y ys there passes = ⊎_elim (λ (same : z ≡ y). let passed : false ≡ true = passes same in absurd cc) (λ later. later) there
 
-context_placed : (source : Source) (context : ContextItem) (raw : RawAtom) → Contains (contexts_of source) context → Contains context.atoms raw → Contains (placed_of source) (placed role.Listed raw)
-context_placed source context raw there inside =
-    let p = placed role.Listed raw in
-    state_placed source p (contains_left (flat_map context_atoms (contexts_of source)) _ p
-    (contains_flat context_atoms (contexts_of source) context p there (contains_map (placed role.Listed) context.atoms raw inside)))
-
-trace_placed : (source : Source) (trace : TraceItem) (raw : RawAtom) → Contains (traces_of source) trace → Contains (start_listed trace.start) raw → Contains (placed_of source) (placed role.Start raw)
-trace_placed source trace raw there inside =
-    let p = placed role.Start raw in
-    state_placed source p (contains_right (flat_map context_atoms (contexts_of source)) _ p
-    (contains_flat trace_atoms (traces_of source) trace p there (contains_map (placed role.Start) (start_listed trace.start) raw inside)))
+kept : {Y : Type 0} (p : Y → Bool) (ys : List Y) (y : Y) → Contains ys y → p y ≡ true → Contains (filter p ys) y
+kept p [] y there passes = there
+kept p (z ∷ ys) y there passes =
+    kept_by (p z) z y (filter p ys) (⊎_elim (λ same. inl same) (λ later. inr (kept p ys y later passes)) (contains_cases z ys y there)) (λ same. ap p same ∙ passes)
 
 module _ (source : Source) where
-  context_listed : (found : Option ContextItem) (name : List ℕ) (raw : RawAtom) → context_named source name ≡ found → Contains (listed_in found) raw → IsStateWritten source raw
-  context_listed None name raw is there = absurd (contains_none raw there)
-  context_listed (Some context) name raw is there =
-      let found = found_there (λ (c : ContextItem). bytes_eq (said source c.name) name) (contexts_of source) context is in
-      record { role = role.Listed; there = context_placed source context raw found there; of_state = of_state.listed; plain = refl }
+  abbrev listed_by : ContextItem → List RawAtom
+  listed_by context = context.atoms
 
-  atom_listed : (trace : TraceItem) (atoms : List RawAtom) (atom raw : RawAtom) (b : Bool) → Contains (traces_of source) trace → trace.start ≡ start.Listed atoms → Contains atoms atom → is_context source (placed role.Start atom) ≡ b → Contains (listed_or b source atom) raw → IsStateWritten source raw
-  atom_listed trace atoms atom raw true there is inside context listed = context_listed (context_named source (said source atom.name)) (said source atom.name) raw refl listed
-  atom_listed trace atoms atom raw false there is inside context listed =
+  abbrev alone : TraceItem → List RawAtom
+  alone trace = filter (λ atom. not (stands_for_context source atom)) (start_listed trace.start)
+
+  -- the atoms of contexts, and those in braces that stand for themselves, are atoms of states
+  of_context : (found : Option ContextItem) (name : List ℕ) (raw : RawAtom) → context_named source name ≡ found → Contains (unwrap_or (option_map (λ (context : ContextItem). context.atoms) found) []) raw → Contains (state_atoms source) raw
+  of_context None name raw is there = absurd (contains_none raw there)
+  of_context (Some context) name raw is there =
+      let found = found_there (λ (c : ContextItem). bytes_eq (said source c.name) name) (contexts_of source) context is in
+      contains_left (flat_map listed_by (contexts_of source)) _ raw (contains_flat listed_by (contexts_of source) context raw found there)
+
+  of_braces : (trace : TraceItem) (raw : RawAtom) → Contains (traces_of source) trace → Contains (start_listed trace.start) raw → stands_for_context source raw ≡ false → Contains (state_atoms source) raw
+  of_braces trace raw there inside alone_ =
+      contains_right (flat_map listed_by (contexts_of source)) (flat_map alone (traces_of source)) raw
+      (contains_flat alone (traces_of source) trace raw there (kept (λ atom. not (stands_for_context source atom)) (start_listed trace.start) raw inside (ap not alone_)))
+
+  in_braces : (trace : TraceItem) (atom raw : RawAtom) (b : Bool) → Contains (traces_of source) trace → Contains (start_listed trace.start) atom → stands_for_context source atom ≡ b
+      → Contains (if b then listed_in source (said source atom.name) else atom ∷ []) raw → Contains (state_atoms source) raw
+  in_braces trace atom raw true there inside is listed = of_context (context_named source (said source atom.name)) (said source atom.name) raw refl listed
+  in_braces trace atom raw false there inside is listed =
       ⊎_elim
-      (λ (same : atom ≡ raw).
-      let in_ : Contains (start_listed trace.start) atom = subst (λ s. Contains (start_listed s) atom) (sym is) inside in
-      subst (IsStateWritten source) same (record { role = role.Start; there = trace_placed source trace atom there in_; of_state = of_state.start; plain = context }))
+      (λ (same : atom ≡ raw). subst (Contains (state_atoms source)) same (of_braces trace atom there inside is))
       (λ later. absurd (contains_none raw later))
       (contains_cases atom [] raw listed)
 
-  start_by : (trace : TraceItem) (start_ : RawStart) (raw : RawAtom) → Contains (traces_of source) trace → trace.start ≡ start_ → Contains (start_atoms source start_) raw → IsStateWritten source raw
-  start_by trace (start.Named name) raw there is listed = context_listed (context_named source (said source name)) (said source name) raw refl listed
-  start_by trace (start.Listed atoms) raw there is listed =
-      let from = flat_cases (λ atom. listed_or (is_context source (placed role.Start atom)) source atom) atoms raw listed in
-      atom_listed trace atoms from.from raw (is_context source (placed role.Start from.from)) there is from.there refl from.inside
+  by_start : (trace : TraceItem) (start_ : RawStart) (raw : RawAtom) → Contains (traces_of source) trace → trace.start ≡ start_ → Contains (start_atoms source start_) raw → Contains (state_atoms source) raw
+  by_start trace (start.Named name) raw there is listed = of_context (context_named source (said source name)) (said source name) raw refl listed
+  by_start trace (start.Listed atoms) raw there is listed =
+      let from = flat_cases (λ atom. if stands_for_context source atom then listed_in source (said source atom.name) else atom ∷ []) atoms raw listed in
+      in_braces trace from.from raw (stands_for_context source from.from) there (subst (λ s. Contains (start_listed s) from.from) (sym is) from.there) refl from.inside
 
-  pub state_written : (trace : TraceItem) (raw : RawAtom) → Contains (traces_of source) trace → Contains (start_atoms source trace.start) raw → IsStateWritten source raw
-  state_written trace raw there listed = start_by trace trace.start raw there refl listed
+  pub state_written : (trace : TraceItem) (raw : RawAtom) → Contains (traces_of source) trace → Contains (start_atoms source trace.start) raw → Contains (state_atoms source) raw
+  state_written trace raw there listed = by_start trace trace.start raw there refl listed
 
-  -- so none of its nodes is a variable or a blank
-  closed_by : (named : IsWellNamed source) (raw : RawAtom) (listed : IsStateWritten source raw) (at : Span) (shape : RawKind) (args : ℕ) → Contains raw.nodes (record { at = at; kind = shape; args = args }) → shape ≡ kind.App
-  closed_by named raw listed at kind.App args there = refl
-  closed_by named raw listed at kind.Var args there = absurd (named (wrong VarInContext at.from) (variable_in_state (placed listed.role raw) (record { at = at; kind = kind.Var; args = args }) listed.there listed.of_state there (opens.variable at args) refl))
-  closed_by named raw listed at kind.Blank args there = absurd (named (wrong VarInContext at.from) (variable_in_state (placed listed.role raw) (record { at = at; kind = kind.Blank; args = args }) listed.there listed.of_state there (opens.blank at args) refl))
+  -- so none of their nodes is a variable or a blank
+  closed_by : IsWellNamed source → (node : RawNode) → Contains (raw_nodes (state_atoms source)) node → (shape : RawKind) → node.kind ≡ shape → shape ≡ kind.App
+  closed_by named n there kind.App is = refl
+  closed_by named n there kind.Var is = absurd (named (wrong VarInContext n.at.from) (variable_in_state n there (λ same. cc) refl))
+  closed_by named n there kind.Blank is = absurd (named (wrong VarInContext n.at.from) (variable_in_state n there (λ same. cc) refl))
 
-  pub listed_closed : IsWellNamed source → (raw : RawAtom) → IsStateWritten source raw → AreClosed raw.nodes
-  listed_closed named raw listed = all_of (λ (node : RawNode). node.kind ≡ kind.App) raw.nodes (λ node there. closed_by named raw listed node.at node.kind node.args there)
+  pub atom_closed : IsWellNamed source → (raw : RawAtom) → Contains (state_atoms source) raw → AreClosed raw.nodes
+  atom_closed named raw there =
+      all_of (λ (n : RawNode). n.kind ≡ kind.App) raw.nodes
+      (λ n inside. closed_by named n (contains_flat (λ (atom : RawAtom). atom.nodes) (state_atoms source) raw n there inside) n.kind refl)
 
   pub start_ground : (trace : TraceItem) (atoms : List AtomTree) → IsWellNamed source → Contains (traces_of source) trace → AreAtomsBy source [] 0 (start_atoms source trace.start) atoms → AllByRecursion IsGroundAtom atoms
   start_ground trace atoms named there by =
-      atoms_ground source [] 0 (start_atoms source trace.start) atoms (λ raw listed. listed_closed named raw (state_written trace raw there listed)) by
+      atoms_ground source [] 0 (start_atoms source trace.start) atoms (λ raw listed. atom_closed named raw (state_written trace raw there listed)) by

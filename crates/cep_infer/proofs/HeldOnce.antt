@@ -1,16 +1,19 @@
 -- Atoms that are gathered one after another, those that pass a test once.
-use Rattle.std.proofs.Common.{◌≡◌, ◌≢◌, ℕ, zero, suc, min, arith, ◌+◌, ◌<◌, Bool, true, false, ◌&&◌, List, [], ◌∷◌, length, get_or, drop, nat_lt, refl, sym, ap, subst, ◌∙◌}
+use Rattle.std.proofs.Common.{◌≡◌, ◌≢◌, ℕ, min, arith, ◌+◌, ◌<◌, Bool, true, false, ◌&&◌, List, [], ◌∷◌, length, get_or, take, nat_lt, ◌++◌, refl, sym, ap, subst, ◌∙◌}
 use Rattle.std.specs.declared.cmp.Ordering.{Ordering}
 use Rattle.std.specs.declared.cmp.Ordering.TheVariants.{Less, Equal, Greater}
 use Rattle.std.specs.Cmp.{tied_itself}
 use Rattle.std.specs.List.{AllByRecursion}
 use Rattle.std.proofs.lemmas.Bool.{ltb-true, ltb-false}
-use Rattle.std.proofs.lemmas.List.{drop_more}
+use Rattle.std.proofs.lemmas.List.{take_more}
+use Rattle.std.proofs.lemmas.List.Sorted.{IsPermutation-sym, IsPermutation-to_front}
 use Rattle.cep_term.specs.Tree.{AtomTree, IsGroundAtom}
 use Rattle.cep_term.specs.BagLaws.{BagLaws}
 use Rattle.cep_term.specs.Order.{atom_cmp}
 use Rattle.cep_term.specs.Multiset.{Multiset, count_of, with_one, gathered, held, once, IsBag}
 use Rattle.cep_base.proofs.Elements.{all_at}
+use Rattle.cep_base.proofs.Lists.{all_taken}
+use Rattle.cep_infer.proofs.Reordered.{same_gathered}
 
 held_again : (b : Bool) (n : ℕ) → (b && nat_lt 0 (held b n)) ≡ true → held b (n + 1) ≡ held b n
 held_again true n there = let more = ltb-true 0 (min 1 n) there in omega (arith, more)
@@ -19,12 +22,6 @@ held_again false n there = absurd cc
 held_first : (b : Bool) (n : ℕ) → (b && nat_lt 0 (held b n)) ≡ false → held b (n + 1) ≡ held b n + 1
 held_first true n none = let less = ltb-false 0 (min 1 n) none in omega (arith, less)
 held_first false n none = refl
-
-all_behind : {X : Type 0} (P : X → Type 0) (xs : List X) (n : ℕ) → AllByRecursion P xs → AllByRecursion P (drop n xs)
-all_behind P [] zero all = all
-all_behind P [] (suc n) all = all
-all_behind P (x ∷ xs) zero all = all
-all_behind P (x ∷ xs) (suc n) all = all_behind P xs n all.1
 
 module _ (laws : BagLaws) (test : AtomTree → Bool) where
   differs : (a x : AtomTree) (o : Ordering) → atom_cmp a x ≡ o → o ≢ Equal → a ≢ x
@@ -73,22 +70,24 @@ module _ (laws : BagLaws) (test : AtomTree → Bool) where
         by x Equal is = subst (λ y. held (test y) (count_of more y) ≡ count_of (with_one (once test bag) a) y) (sym (laws.ties x a is)) own
         by x Greater is = aside x Greater is (λ e. cc)
 
-  -- the atom before those that were gathered
-  module _ (atoms : List AtomTree) (k : ℕ) (a : AtomTree) (old : Multiset) (within : k < length atoms) (at : get_or atoms k a ≡ a) (all : AllByRecursion IsGroundAtom atoms) (was : old ≡ once test (gathered (drop (k + 1) atoms))) where
-    abbrev behind : Multiset
-    behind = gathered (drop (k + 1) atoms)
+  -- one more atom, behind those that were gathered
+  module _ (atoms : List AtomTree) (k : ℕ) (a : AtomTree) (old : Multiset) (within : k < length atoms) (at : get_or atoms k a ≡ a) (all : AllByRecursion IsGroundAtom atoms) (was : old ≡ once test (gathered (take k atoms))) where
+    abbrev front : Multiset
+    front = gathered (take k atoms)
 
-    behind_kept : IsBag behind
-    behind_kept = laws.gathered_kept (drop (k + 1) atoms) (all_behind IsGroundAtom atoms (k + 1) all)
+    front_kept : IsBag front
+    front_kept = laws.gathered_kept (take k atoms) (all_taken IsGroundAtom atoms k all)
 
     ground : IsGroundAtom a
     ground = all_at IsGroundAtom atoms a all (k, within, at)
 
-    dropped : drop k atoms ≡ a ∷ drop (k + 1) atoms
-    dropped = drop_more atoms k a within ∙ ap (λ x. x ∷ drop (k + 1) atoms) at
+    taken : gathered (take (k + 1) atoms) ≡ with_one front a
+    taken =
+        ap gathered (take_more atoms k a within ∙ ap (λ x. take k atoms ++ x ∷ []) at)
+        ∙ same_gathered laws (a ∷ take k atoms) (take k atoms ++ a ∷ []) (IsPermutation-sym _ _ (IsPermutation-to_front (take k atoms) a)) (ground, all_taken IsGroundAtom atoms k all)
 
-    pub passed_over : (test a && nat_lt 0 (count_of old a)) ≡ true → old ≡ once test (gathered (drop k atoms))
-    passed_over there = was ∙ sym (again behind a ground behind_kept (ap (λ bag. test a && nat_lt 0 (count_of bag a)) (sym was) ∙ there)) ∙ ap (λ xs. once test (gathered xs)) (sym dropped)
+    pub passed_over : (test a && nat_lt 0 (count_of old a)) ≡ true → old ≡ once test (gathered (take (k + 1) atoms))
+    passed_over there = was ∙ sym (again front a ground front_kept (ap (λ bag. test a && nat_lt 0 (count_of bag a)) (sym was) ∙ there)) ∙ ap (once test) (sym taken)
 
-    pub added : (new : Multiset) → (test a && nat_lt 0 (count_of old a)) ≡ false → new ≡ with_one old a → new ≡ once test (gathered (drop k atoms))
-    added new none is = is ∙ ap (λ bag. with_one bag a) was ∙ sym (first behind a ground behind_kept (ap (λ bag. test a && nat_lt 0 (count_of bag a)) (sym was) ∙ none)) ∙ ap (λ xs. once test (gathered xs)) (sym dropped)
+    pub added : (new : Multiset) → (test a && nat_lt 0 (count_of old a)) ≡ false → new ≡ with_one old a → new ≡ once test (gathered (take (k + 1) atoms))
+    added new none is = is ∙ ap (λ bag. with_one bag a) was ∙ sym (first front a ground front_kept (ap (λ bag. test a && nat_lt 0 (count_of bag a)) (sym was) ∙ none)) ∙ ap (once test) (sym taken)

@@ -1,9 +1,8 @@
 -- The nodes of terms, and the blanks among nodes.
 use Rattle.std.proofs.Common.{◌≡◌, ℕ, List, [], ◌∷◌, ◌++◌, map, refl}
 use Rattle.cep_parse.specs.declared.raw.RawNode.{RawNode}
-use Rattle.cep_source.specs.Variables.{blanks_behind}
+use Rattle.cep_source.specs.Variables.{blanks_behind, blanks_after}
 use Rattle.cep_types.specs.Sites.{Site}
-use Rattle.cep_types.specs.Heads.{blanks_after}
 
 -- the nodes of terms
 abbrev pub nodes_at : List Site → List RawNode

@@ -1,5 +1,5 @@
 -- The places of a text, from one to the next.
-use Rattle.std.proofs.Common.{◌≡◌, ◌≢◌, ℕ, ◌+◌, ◌<◌, ◌≤◌, ◌==◌, cond, min, map, length, take, drop, get_or, List, [], ◌∷◌, ◌++◌, refl, sym, ap, subst, ◌∙◌, inl, inr, arith, append_assoc, length-append, length-drop, append-nil}
+use Rattle.std.proofs.Common.{◌≡◌, ◌≢◌, ◌⊎◌, ℕ, ◌+◌, ◌<◌, ◌≤◌, ◌==◌, cond, min, map, length, take, drop, get_or, List, [], ◌∷◌, ◌++◌, refl, sym, ap, subst, ◌∙◌, inl, inr, arith, append_assoc, length-append, length-drop, append-nil}
 use Rattle.std.specs.List.{count_by, slice_range}
 use Rattle.std.proofs.Math.Nat.{min-le_right}
 use Rattle.std.proofs.lemmas.Bool.{eq-eqb, ne_eqb}
@@ -72,6 +72,18 @@ joined : (text : List ℕ) (i j : ℕ) → i ≤ j → take i text ++ slice_rang
 joined text i j h =
     ap (λ b. take i text ++ b) (between_is text i j) ∙ ap (λ b. b ++ drop i (take j text)) (sym (take-take i j text h)) ∙ take-append-drop i (take j text)
 
+-- From where a place is looked for: from one that was reached, or from the front where it lies before.
+pub record IsStart (text : List ℕ) (start : Reached) (to : ℕ) : Type 0 where
+  pub before : start.at ≤ to
+  pub reached : IsReached text start
+
+abbrev front : Reached
+front = record { at = 0; pos = record { line = 1; col = 1 } }
+
+pub start_is : (text : List ℕ) (from start : Reached) (to : ℕ) → IsReached text from → ((start ≡ from) × (from.at ≤ to)) ⊎ (start ≡ front) → IsStart text start to
+start_is text from start to reached (inl further) = subst (λ (r : Reached). IsStart text r to) (sym further.0) (record { before = further.1; reached = reached })
+start_is text from start to reached (inr again) = subst (λ (r : Reached). IsStart text r to) (sym again) (record { before = omega arith; reached = front_is_reached text })
+
 -- a place further on, which is said by a number that may lie behind the text
 pub reached_is : (text : List ℕ) (start : Reached) (at to : ℕ) (pos : Pos) → to ≡ min at (length text) → start.at ≤ to → IsReached text start
     → ((before : List ℕ) → IsPlaceBehind before start.pos → IsPlaceBehind (before ++ slice_range text start.at to) pos) → IsReached text (record { at = to; pos = pos })
@@ -124,12 +136,14 @@ lists_push text [] (p ∷ lists) some places are is = absurd are
 lists_push text (a ∷ ats) [] some places are is = absurd are
 lists_push text (a ∷ ats) (p ∷ lists) some places are is = (are.0, lists_push text ats lists some places are.1 is)
 
-pub lists_more : {X : Type 0} (text : List ℕ) (f : X → List ℕ) (xs : List X) (i : ℕ) (x : X) (old new : List (List Pos)) (some : List ℕ) (places : List Pos) → i < length xs → x ≡ get_or xs i x
-    → ArePlaceLists text (map f (take i xs)) old → ArePlaces text some places → some ≡ f x → new ≡ old ++ places ∷ [] → ArePlaceLists text (map f (take (i + 1) xs)) new
-lists_more text f xs i x old new some places h at are is some_is new_is =
-    subst (λ (ls : List (List Pos)). ArePlaceLists text (map f (take (i + 1) xs)) ls) (sym new_is)
+pub lists_more : {X Y : Type 0} (text : List ℕ) (f : Y → List ℕ) (g : X → Y) (xs : List X) (i : ℕ) (x : X) (old new : List (List Pos)) (some : List ℕ) (places : List Pos) → i < length xs → x ≡ get_or xs i x
+    → ArePlaceLists text (map f (map g (take i xs))) old → ArePlaces text some places → some ≡ f (g x) → new ≡ old ++ places ∷ [] → ArePlaceLists text (map f (map g (take (i + 1) xs))) new
+lists_more text f g xs i x old new some places h at are is some_is new_is =
+    subst (λ (ls : List (List Pos)). ArePlaceLists text (map f (map g (take (i + 1) xs))) ls) (sym new_is)
     (subst (λ (as_ : List (List ℕ)). ArePlaceLists text as_ (old ++ places ∷ [])) (sym items)
-    (lists_push text (map f (take i xs)) old some places are is))
+    (lists_push text (map f (map g (take i xs))) old some places are is))
   where
-    items : map f (take (i + 1) xs) ≡ map f (take i xs) ++ some ∷ []
-    items = ap (map f) (take_more xs i x h) ∙ map-append f (take i xs) (get_or xs i x ∷ []) ∙ ap (λ y. map f (take i xs) ++ y ∷ []) (sym (some_is ∙ ap f at))
+    items : map f (map g (take (i + 1) xs)) ≡ map f (map g (take i xs)) ++ some ∷ []
+    items =
+        ap (λ ys. map f (map g ys)) (take_more xs i x h) ∙ ap (map f) (map-append g (take i xs) (get_or xs i x ∷ [])) ∙ map-append f (map g (take i xs)) (g (get_or xs i x) ∷ [])
+        ∙ ap (λ y. map f (map g (take i xs)) ++ y ∷ []) (sym (some_is ∙ ap (λ z. f (g z)) at))

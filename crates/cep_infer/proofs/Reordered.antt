@@ -1,12 +1,11 @@
 -- A multiset does not depend on the order in which its atoms are gathered.
-use Rattle.std.proofs.Common.{◌≡◌, ◌≢◌, ℕ, ◌+◌, ◌<◌, List, [], ◌∷◌, ◌++◌, Some, length, get_or, take, map, sum_by, refl, sym, ap, subst, ◌∙◌, arith}
+use Rattle.std.proofs.Common.{◌≡◌, ◌≢◌, ℕ, ◌+◌, ◌<◌, List, [], ◌∷◌, length, get_or, map, sum_by, refl, sym, ap, subst, ◌∙◌, arith}
 use Rattle.std.specs.declared.cmp.Ordering.{Ordering}
 use Rattle.std.specs.declared.cmp.Ordering.TheVariants.{Less, Equal, Greater}
 use Rattle.std.specs.Cmp.{tied_itself}
-use Rattle.std.specs.List.{AllByRecursion, slice_get}
+use Rattle.std.specs.List.{AllByRecursion}
 use Rattle.std.specs.List.Sorted.{IsPermutation}
-use Rattle.std.proofs.lemmas.List.{get_or-map, take_more, map-append}
-use Rattle.std.proofs.lemmas.Option.{get_or_from_slice_get}
+use Rattle.std.proofs.lemmas.List.{get_or-map}
 use Rattle.std.proofs.lemmas.List.Sums.{sum_by-cons}
 use Rattle.std.proofs.lemmas.List.Sorted.{Contains-permutation, IsPermutation-sym, sum_by-IsPermutation}
 use Rattle.cep_term.specs.Tree.{AtomTree, IsGroundAtom}
@@ -51,8 +50,3 @@ module _ (laws : BagLaws) where
 -- the atom at a place of a list that is mapped
 pub atom_at : {X : Type 0} (f : X → AtomTree) (xs : List X) (k : ℕ) (x : X) → k < length xs → x ≡ get_or xs k x → get_or (map f xs) k (f x) ≡ f x
 atom_at f xs k x within is = get_or-map f xs k x (f x) within ∙ ap f (sym is)
-
--- one more atom is listed, the next one
-pub listed_more : {X : Type 0} (f : X → AtomTree) (atoms : List AtomTree) (k : ℕ) (x : X) (old new : List X) → k < length atoms → slice_get atoms k ≡ Some (f x) → map f old ≡ take k atoms → new ≡ old ++ x ∷ [] → map f new ≡ take (k + 1) atoms
-listed_more f atoms k x old new within at was is =
-    ap (map f) is ∙ map-append f old (x ∷ []) ∙ ap (λ front. front ++ f x ∷ []) was ∙ ap (λ a. take k atoms ++ a ∷ []) (sym (get_or_from_slice_get atoms k (f x) (f x) at)) ∙ sym (take_more atoms k (f x) within)

@@ -1,26 +1,27 @@
 -- The backward premises of a side, and what is unbound, one after another.
-use Rattle.std.proofs.Common.{◌≡◌, ℕ, ◌+◌, ◌<◌, Bool, ◌||◌, not, map, filter, length, take, drop, get_or, List, [], ◌∷◌, ◌++◌, refl, sym, ap, subst, ◌∙◌, append_assoc, append-nil}
+use Rattle.std.proofs.Common.{◌≡◌, ℕ, ◌+◌, ◌<◌, ◌≤◌, Bool, true, false, if◌then◌else◌, ◌||◌, not, map, filter, length, take, drop, get_or, List, [], ◌∷◌, ◌++◌, refl, sym, ap, subst, ◌∙◌, append_assoc, append-nil}
+use Rattle.std.specs.Prelude.{Option, Some, None, MatchOption, option_to_list, codes, decimal}
 use Rattle.std.specs.Str.{bytes_eq}
 use Rattle.std.specs.List.{list_any, flat_map}
-use Rattle.std.proofs.lemmas.List.{take_more, drop_more, map-append}
+use Rattle.std.proofs.lemmas.List.{take_more, drop_more, drop_all, map-append}
 use Rattle.std.proofs.lemmas.List.Elements.{filter-append, filter_agree}
 use Rattle.std.proofs.lemmas.Grind.{flat_map-append}
+use Rattle.std.proofs.lemmas.Simd.{map-map}
 use Rattle.cep_parse.specs.declared.raw.Span.{Span}
+use Rattle.cep_parse.specs.declared.raw.RawKind.{RawKind}
+use Rattle.cep_parse.specs.declared.raw.RawKind.TheVariants as kind
 use Rattle.cep_parse.specs.declared.raw.RawNode.{RawNode}
 use Rattle.cep_parse.specs.declared.raw.RawAtom.{RawAtom}
 use Rattle.cep_parse.specs.declared.raw.RawElem.{RawElem}
-use Rattle.cep_source.specs.Items.{Source, RuleItem}
+use Rattle.cep_source.specs.Items.{Source, RuleItem, said}
 use Rattle.cep_parse.specs.Raw.{atoms_in, atoms_of, raw_nodes}
-use Rattle.cep_source.specs.Variables.{Occurrence, occurrence_at, occurrences_from, blanks_behind}
-use Rattle.cep_types.specs.declared.variables.Variables.{Variables}
-use Rattle.cep_types.specs.Heads.{blanks_after}
-use Rattle.cep_types.specs.Met.{is_met, names_seen, none_met, AreMet}
+use Rattle.cep_source.specs.Variables.{Occurrence, occurrence_at, occurrences_from, blanks_behind, blanks_after, variables_of}
 use Rattle.cep_infer.specs.Meaning.{names_of}
 use Rattle.cep_infer.specs.Places.{unbound_at}
 use Rattle.cep_base.proofs.Bytes.{bytes_eq_sym}
-use Rattle.cep_infer.proofs.FirstOccurrences.{names_met}
-
--- a predicate that is not declared is no backward one
+use Rattle.cep_source.specs.declared.variables.Variables.{Variables}
+use Rattle.cep_source.specs.Firsts.{has_name, names_among}
+use Rattle.cep_source.specs.Met.{AreVariables}
 
 -- what is made of those that pass, of two parts
 kept_both : {X Y : Type 0} (f : X → Y) (p : X → Bool) (xs ys : List X) → map f (filter p (xs ++ ys)) ≡ map f (filter p xs) ++ map f (filter p ys)
@@ -35,6 +36,13 @@ kept_more f p g xs i x old new more h at was is new_is =
   where
     items : flat_map g (take (i + 1) xs) ≡ flat_map g (take i xs) ++ g x
     items = ap (flat_map g) (take_more xs i x h) ∙ flat_map-append g (take i xs) (get_or xs i x ∷ []) ∙ ap (λ ys. flat_map g (take i xs) ++ ys) (append-nil (g (get_or xs i x)) ∙ ap g (sym at))
+
+-- what one element gives, if it passes
+pub one_kept : {Y Z : Type 0} (f : Y → Z) (p : Y → Bool) (ys : List Y) (y : Y) (b : Bool) → ys ≡ y ∷ [] → b ≡ p y → (if b then f y ∷ [] else []) ≡ map f (filter p ys)
+one_kept f p ys y b are is = cases b is ∙ ap (λ (them : List _). map f (filter p them)) (sym are) where
+  cases : (c : Bool) → c ≡ p y → (if c then f y ∷ [] else []) ≡ map f (filter p (y ∷ []))
+  cases true e = rw (← e) refl
+  cases false e = rw (← e) refl
 
 -- what was pushed, and what is still to come
 pushed : {Z : Type 0} (old new front rest whole all : List Z) → new ≡ old ++ front → whole ≡ front ++ rest → old ++ whole ≡ all → new ++ rest ≡ all
@@ -52,17 +60,32 @@ module _ (source : Source) where
       ap (λ rest. first ++ rest) (occurrences_both (blanks_behind blanks node.kind) nodes others)
       ∙ sym (append_assoc first (occurrences_from source (blanks_behind blanks node.kind) nodes) (occurrences_from source (blanks_after (blanks_behind blanks node.kind) nodes) others))
 
+  -- whether a node has a variable that is not there
+  pub node_passes : (firsts : List (List ℕ × Span)) (blanks : ℕ) (at : Span) (shape : RawKind) (name : Option (List ℕ)) (b : Bool) → option_to_list name ≡ map (λ (occurrence : Occurrence). occurrence.name) (occurrence_at source blanks at shape)
+      → MatchOption name (b ≡ false) (λ n. b ≡ not (has_name firsts n)) → (if b then at.from ∷ [] else []) ≡ places_of (λ occurrence. not (has_name firsts occurrence.name)) (occurrence_at source blanks at shape)
+  node_passes firsts blanks at kind.App None b named passes = ap (λ c. if c then at.from ∷ [] else []) passes
+  node_passes firsts blanks at kind.App (Some n) b named passes = absurd cc
+  node_passes firsts blanks at kind.Var None b named passes = absurd cc
+  node_passes firsts blanks at kind.Var (Some n) b named passes =
+      let same : n ≡ said source at = cc in
+      one_kept (λ (o : Occurrence). o.at.from) (λ (o : Occurrence). not (has_name firsts o.name)) _ (record { name = said source at; at = at }) b refl (passes ∙ ap (λ m. not (has_name firsts m)) same)
+  node_passes firsts blanks at kind.Blank None b named passes = absurd cc
+  node_passes firsts blanks at kind.Blank (Some n) b named passes =
+      let same : n ≡ codes "_" ++ decimal (blanks + 1) = cc in
+      one_kept (λ (o : Occurrence). o.at.from) (λ (o : Occurrence). not (has_name firsts o.name)) _ (record { name = codes "_" ++ decimal (blanks + 1); at = at }) b refl (passes ∙ ap (λ m. not (has_name firsts m)) same)
+
   -- one node more
-  pub node_pushed : (p : Occurrence → Bool) (nodes : List RawNode) (i blanks behind : ℕ) (d : RawNode) (old new all : List ℕ) → i < length nodes
-      → new ≡ old ++ places_of p (occurrence_at source blanks (get_or nodes i d).at (get_or nodes i d).kind) → behind ≡ blanks_behind blanks (get_or nodes i d).kind
+  pub node_pushed : (p : Occurrence → Bool) (nodes : List RawNode) (i blanks behind : ℕ) (d : RawNode) (old more new all : List ℕ) → i < length nodes
+      → more ≡ places_of p (occurrence_at source blanks (get_or nodes i d).at (get_or nodes i d).kind) → new ≡ old ++ more → behind ≡ blanks_behind blanks (get_or nodes i d).kind
       → old ++ places_of p (occurrences_from source blanks (drop i nodes)) ≡ all → new ++ places_of p (occurrences_from source behind (drop (i + 1) nodes)) ≡ all
-  node_pushed p nodes i blanks behind d old new all h new_is behind_is was =
-      let node = get_or nodes i d in
+  node_pushed p nodes i blanks behind d old more new all h more_is new_is behind_is was =
+      let n = get_or nodes i d in
       let rest = drop (i + 1) nodes in
-      pushed old new (places_of p (occurrence_at source blanks node.at node.kind)) (places_of p (occurrences_from source behind rest)) (places_of p (occurrences_from source blanks (drop i nodes))) all new_is
+      pushed old new (places_of p (occurrence_at source blanks n.at n.kind)) (places_of p (occurrences_from source behind rest)) (places_of p (occurrences_from source blanks (drop i nodes))) all
+      (new_is ∙ ap (λ zs. old ++ zs) more_is)
       (ap (λ (ns : List RawNode). places_of p (occurrences_from source blanks ns)) (drop_more nodes i d h)
-      ∙ kept_both (λ (occurrence : Occurrence). occurrence.at.from) p (occurrence_at source blanks node.at node.kind) (occurrences_from source (blanks_behind blanks node.kind) rest)
-      ∙ ap (λ n. places_of p (occurrence_at source blanks node.at node.kind) ++ places_of p (occurrences_from source n rest)) (sym behind_is))
+      ∙ kept_both (λ (occurrence : Occurrence). occurrence.at.from) p (occurrence_at source blanks n.at n.kind) (occurrences_from source (blanks_behind blanks n.kind) rest)
+      ∙ ap (λ m. places_of p (occurrence_at source blanks n.at n.kind) ++ places_of p (occurrences_from source m rest)) (sym behind_is))
       was
 
   pub node_counted : (nodes : List RawNode) (i blanks behind : ℕ) (d : RawNode) (all : ℕ) → i < length nodes → behind ≡ blanks_behind blanks (get_or nodes i d).kind
@@ -88,29 +111,37 @@ module _ (source : Source) where
       ∙ ap (λ n. places_of p (occurrences_from source blanks nodes) ++ places_of p (occurrences_from source n rest)) (sym behind_is))
       was
 
-  -- ---- what was met on the left
+  -- none is left
+  pub all_pushed : (p : Occurrence → Bool) (side : List RawElem) (i blanks : ℕ) (ats all : List ℕ) → length side ≤ i → ats ++ places_of p (occurrences_from source blanks (raw_nodes (atoms_of (drop i side)))) ≡ all → ats ≡ all
+  all_pushed p side i blanks ats all done was = sym (append-nil ats) ∙ ap (λ (es : List RawElem). ats ++ places_of p (occurrences_from source blanks (raw_nodes (atoms_of es)))) (sym (drop_all i side done)) ∙ was
+
+  -- ---- what is on the left
 
   abbrev fresh : List (List ℕ × Span) → Occurrence → Bool
-  fresh firsts occurrence = not (is_met firsts occurrence.name)
+  fresh firsts occurrence = not (has_name firsts occurrence.name)
 
   abbrev unnamed : List RawAtom → Occurrence → Bool
   unnamed atoms occurrence = not (list_any (λ name. bytes_eq name occurrence.name) (names_of source atoms))
 
-  has_names : (firsts : List (List ℕ × Span)) (name : List ℕ) → is_met firsts name ≡ list_any (λ other. bytes_eq other name) (names_seen firsts)
+  has_names : (firsts : List (List ℕ × Span)) (name : List ℕ) → has_name firsts name ≡ list_any (λ other. bytes_eq other name) (names_among firsts)
   has_names [] name = refl
-  has_names (entry ∷ firsts) name = ap (λ b. b || is_met firsts name) (bytes_eq_sym name entry.0) ∙ ap (λ b. bytes_eq entry.0 name || b) (has_names firsts name)
+  has_names (entry ∷ firsts) name = ap (λ b. b || has_name firsts name) (bytes_eq_sym name entry.0) ∙ ap (λ b. bytes_eq entry.0 name || b) (has_names firsts name)
 
-  fresh_is : (atoms : List RawAtom) (left : Variables) → AreMet source atoms none_met left → (occurrence : Occurrence) → fresh left.firsts occurrence ≡ unnamed atoms occurrence
-  fresh_is atoms left met occurrence = ap not (has_names left.firsts occurrence.name ∙ ap (λ (names : List (List ℕ)). list_any (λ name. bytes_eq name occurrence.name) names) (names_met source atoms left met))
+  names_are : (atoms : List RawAtom) (left : Variables) → AreVariables source atoms left → names_among left.firsts ≡ names_of source atoms
+  names_are atoms left are =
+      ap (λ (firsts : List (List ℕ × Span)). names_among firsts) are.firsts
+      ∙ map-map (λ (entry : List ℕ × Span). entry.0) (λ (occurrence : Occurrence). (occurrence.name, occurrence.at)) (variables_of source atoms)
 
-  unbound_met : (atoms : List RawAtom) (right : List RawNode) (left : Variables) → AreMet source atoms none_met left → places_of (fresh left.firsts) (occurrences_from source left.blanks right) ≡ places_of (unnamed atoms) (occurrences_from source (blanks_after 0 (raw_nodes atoms)) right)
-  unbound_met atoms right left met =
-      ap (λ n. places_of (fresh left.firsts) (occurrences_from source n right)) met.blanks
-      ∙ ap (map (λ (occurrence : Occurrence). occurrence.at.from)) (filter_agree (fresh left.firsts) (unnamed atoms) (fresh_is atoms left met) (occurrences_from source (blanks_after 0 (raw_nodes atoms)) right))
+  fresh_is : (atoms : List RawAtom) (left : Variables) → AreVariables source atoms left → (occurrence : Occurrence) → fresh left.firsts occurrence ≡ unnamed atoms occurrence
+  fresh_is atoms left are occurrence = ap not (has_names left.firsts occurrence.name ∙ ap (λ (names : List (List ℕ)). list_any (λ name. bytes_eq name occurrence.name) names) (names_are atoms left are))
 
-  pub unbound_is : (item : RuleItem) (left_side right_side : List RawElem) (start left : Variables) → left_side ≡ item.raw.left → right_side ≡ item.raw.right → start ≡ none_met → AreMet source (atoms_of left_side) start left
-      → places_of (λ (occurrence : Occurrence). not (is_met left.firsts occurrence.name)) (occurrences_from source left.blanks (raw_nodes (atoms_of right_side))) ≡ unbound_at source item
-  unbound_is item left_side right_side start left left_is right_is none met =
+  unbound_met : (atoms : List RawAtom) (right : List RawNode) (left : Variables) → AreVariables source atoms left → places_of (fresh left.firsts) (occurrences_from source left.blanks right) ≡ places_of (unnamed atoms) (occurrences_from source (blanks_after 0 (raw_nodes atoms)) right)
+  unbound_met atoms right left are =
+      ap (λ n. places_of (fresh left.firsts) (occurrences_from source n right)) are.blanks
+      ∙ ap (map (λ (occurrence : Occurrence). occurrence.at.from)) (filter_agree (fresh left.firsts) (unnamed atoms) (fresh_is atoms left are) (occurrences_from source (blanks_after 0 (raw_nodes atoms)) right))
+
+  pub unbound_is : (item : RuleItem) (left_side right_side : List RawElem) (left : Variables) → left_side ≡ item.raw.left → right_side ≡ item.raw.right → AreVariables source (atoms_of left_side) left
+      → places_of (λ (occurrence : Occurrence). not (has_name left.firsts occurrence.name)) (occurrences_from source left.blanks (raw_nodes (atoms_of right_side))) ≡ unbound_at source item
+  unbound_is item left_side right_side left left_is right_is are =
       ap (λ (side : List RawElem). places_of (fresh left.firsts) (occurrences_from source left.blanks (raw_nodes (atoms_of side)))) right_is
-      ∙ unbound_met (atoms_of item.raw.left) (raw_nodes (atoms_of item.raw.right)) left
-      (subst (λ (v : Variables). AreMet source (atoms_of item.raw.left) v left) none (subst (λ (side : List RawElem). AreMet source (atoms_of side) start left) left_is met))
+      ∙ unbound_met (atoms_of item.raw.left) (raw_nodes (atoms_of item.raw.right)) left (subst (λ (side : List RawElem). AreVariables source (atoms_of side) left) left_is are)

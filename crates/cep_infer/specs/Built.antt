@@ -8,9 +8,9 @@ use Rattle.cep_rule.specs.Patterns.{PremiseTree}
 use Rattle.cep_source.specs.Items.{Source}
 use Rattle.cep_parse.specs.Raw.{atoms_of, raw_nodes}
 use Rattle.cep_infer.specs.Heads.{AreAtomsBy}
-use Rattle.cep_types.specs.Heads.{blanks_after}
 use Rattle.cep_infer.specs.declared.left.LeftSide.{LeftSide}
 use Rattle.cep_infer.specs.Meaning.{ArePremisesBy, is_back}
+use Rattle.cep_source.specs.Variables.{blanks_after}
 
 -- Behind the old atoms stand those that are written; so many blanks stand before these, and so many behind them.
 pub record AreBuilt (source : Source) (vars : List (List ℕ)) (raws : List RawAtom) (before behind : ℕ) (old new : List AtomTree) : Type 0 where

@@ -3,6 +3,5 @@ pub mod Heads
 pub mod Meaning
 pub mod Places
 pub mod States
-pub mod Listed
 pub mod Resolved
 pub mod Built

@@ -1,7 +1,7 @@
 -- What a text declares: the parts of a program, each from what is written.
 use Rattle.std.specs.Prelude.{◌≡◌, ℕ, ◌+◌, ◌*◌, Bool, false, not, ◌||◌, List, [], ◌∷◌, Option, Some, None, map, filter, unwrap_or, slice_get}
 use Rattle.std.specs.Option.{option_map, option_and_then}
-use Rattle.std.specs.List.{flat_map}
+use Rattle.std.specs.List.{AllZip}
 use Rattle.cep_parse.specs.declared.raw.Span.{Span}
 use Rattle.cep_parse.specs.declared.raw.RawAtom.{RawAtom}
 use Rattle.cep_parse.specs.declared.raw.RawElem.{RawElem}
@@ -20,10 +20,11 @@ use Rattle.cep_source.specs.declared.space.Space.TheVariants as space
 use Rattle.cep_source.specs.Items.{Source, PredItem, ConItem, ClauseItem, RuleItem, TraceItem, said, is_said, sorts_of, preds_of, cons_of, stages_of, interactives_of, clauses_of, rules_of, traces_of}
 use Rattle.cep_source.specs.Spaces.{names_in}
 use Rattle.cep_parse.specs.Raw.{atoms_of, raw_nodes}
-use Rattle.cep_source.specs.Variables.{variables_of}
+use Rattle.cep_source.specs.Variables.{variables_of, blanks_after}
+use Rattle.cep_source.specs.Uses.{stages_named}
 use Rattle.cep_source.specs.Starts.{start_atoms, turns_said}
 use Rattle.cep_types.specs.Sites.{type_of, rule_scope, clause_scope}
-use Rattle.cep_types.specs.Heads.{number_of, sorts_said, blanks_after}
+use Rattle.cep_types.specs.Heads.{number_of, sorts_said}
 use Rattle.cep_infer.specs.Heads.{IsAtomBy, AreAtomsBy}
 
 -- a constructor and a predicate
@@ -71,33 +72,22 @@ ArePremisesBy source vars blanks (elem.Atom kept raw ∷ elems) [] = ⊥
 ArePremisesBy source vars blanks (elem.Atom kept raw ∷ elems) (p ∷ premises) =
     (p.kept ≡ (kept || is_fact_by source p.atom)) × IsAtomBy source vars blanks raw p.atom × ArePremisesBy source vars (blanks_after blanks raw.nodes) elems premises
 
--- the stages that a side names
-abbrev pub stages_in_elem : RawElem → List Span
-stages_in_elem (elem.Stage name) = name ∷ []
-stages_in_elem (elem.Atom kept atom) = []
-stages_in_elem (elem.Qui span) = []
-
 -- the number of the first stage that a side names
-abbrev pub first_stage : Source → List Span → ℕ
-first_stage source [] = 0
-first_stage source (name ∷ names) = number_of source space.Stages (said source name)
-
 abbrev pub stage_named : Source → List RawElem → ℕ
-stage_named source side = first_stage source (flat_map stages_in_elem side)
+stage_named source side = unwrap_or (option_map (λ name. number_of source space.Stages (said source name)) (slice_get (stages_named side) 0)) 0
 
 -- the group of a rule: of those of its stage, or of those that leave the stage that it names
-abbrev pub group_of : Source → Option ℕ → List RawElem → ℕ
-group_of source (Some stage) left = 2 * stage
+abbrev pub group_of : Source → Option Span → List RawElem → ℕ
+group_of source (Some stage) left = 2 * number_of source space.Stages (said source stage)
 group_of source None left = 2 * stage_named source left + 1
 
 -- the next stage of a rule that leaves one
-abbrev pub next_of : Source → Option ℕ → List RawElem → Option ℕ
+abbrev pub next_of : Source → Option Span → List RawElem → Option ℕ
 next_of source (Some stage) right = None
 next_of source None right = Some (stage_named source right)
 
--- The rule is the one that is written.
-pub record IsRuleBy (source : Source) (name : List ℕ) (item : RuleItem) (rule : Rule) : Type 0 where
-  pub name_is : rule.name ≡ name
+-- The rule is the one that is written, whatever its name.
+pub record IsRuleBy (source : Source) (item : RuleItem) (rule : Rule) : Type 0 where
   pub group_is : rule.group ≡ group_of source item.home item.raw.left
   pub next_is : rule.next ≡ next_of source item.home item.raw.right
   pub vars_are : rule.vars ≡ names_of source (rule_scope item)
@@ -109,26 +99,11 @@ pub record IsRuleBy (source : Source) (name : List ℕ) (item : RuleItem) (rule 
   pub backs_are : rule.backs ≡ map (λ premise. premise.atom) (filter (λ premise. is_back source premise.atom) left)
   pub right_is : AreAtomsBy source rule.vars (blanks_after 0 (raw_nodes (atoms_of item.raw.left))) (atoms_of item.raw.right) rule.right
 
--- The rules are those that are written, one after another, by their names.
-abbrev pub AreRulesBy : Source → List (List ℕ) → List RuleItem → List Rule → Type 0
-AreRulesBy source names [] [] = Unit {0}
-AreRulesBy source names [] (rule ∷ rules) = ⊥
-AreRulesBy source names (item ∷ items) [] = ⊥
-AreRulesBy source [] (item ∷ items) (rule ∷ rules) = ⊥
-AreRulesBy source (name ∷ names) (item ∷ items) (rule ∷ rules) = IsRuleBy source name item rule × AreRulesBy source names items rules
-
 -- The clause is the one that is written.
 pub record IsClauseBy (source : Source) (item : ClauseItem) (clause : ClauseTree) : Type 0 where
   pub vars_are : clause.vars ≡ names_of source (clause_scope item)
   pub kinds_are : clause.kinds ≡ kinds_of source (clause_scope item)
   pub atoms_are : AreAtomsBy source clause.vars 0 (clause_scope item) (clause.head ∷ clause.goals)
-
--- The clauses are those that are written, one after another.
-abbrev pub AreClausesBy : Source → List ClauseItem → List ClauseTree → Type 0
-AreClausesBy source [] [] = Unit {0}
-AreClausesBy source [] (clause ∷ clauses) = ⊥
-AreClausesBy source (item ∷ items) [] = ⊥
-AreClausesBy source (item ∷ items) (clause ∷ clauses) = IsClauseBy source item clause × AreClausesBy source items clauses
 
 -- The state is that of a trace: a copy of each atom that it lists, but a fact once.
 pub record IsStartBy (source : Source) (trace : TraceItem) (start : Multiset) : Type 0 where
@@ -140,8 +115,9 @@ pub record IsStartBy (source : Source) (trace : TraceItem) (start : Multiset) : 
 pub record AreParts (source : Source) (parts : Parts) : Type 0 where
   pub signature_is : parts.signature ≡ signature_of source
   pub stages_are : parts.stages ≡ map (stage_by source) (stages_of source)
-  pub rules_are : AreRulesBy source (map (λ named. named.name) (names_in source space.Rules)) (rules_of source) parts.rules
-  pub clauses_are : AreClausesBy source (clauses_of source) parts.clauses
+  pub rules_are : AllZip (IsRuleBy source) (rules_of source) parts.rules
+  pub rule_names_are : map (λ rule. rule.name) parts.rules ≡ map (λ named. named.name) (names_in source space.Rules)
+  pub clauses_are : AllZip (IsClauseBy source) (clauses_of source) parts.clauses
   -- the first trace says with which stage and state the program starts, and how many turns it has
   pub trace : TraceItem
   pub rest : List TraceItem

@@ -6,9 +6,8 @@ use Rattle.cep_base.specs.declared.place.Pos.{Pos}
 use Rattle.cep_lex.specs.Places.{IsPlaceBehind}
 use Rattle.cep_source.specs.Items.{Source, RuleItem, rules_of}
 use Rattle.cep_parse.specs.Raw.{atoms_of, raw_nodes}
-use Rattle.cep_source.specs.Variables.{Occurrence, occurrences_from}
+use Rattle.cep_source.specs.Variables.{Occurrence, occurrences_from, blanks_after}
 use Rattle.cep_faults.specs.Premises.{backward_of}
-use Rattle.cep_types.specs.Heads.{blanks_after}
 use Rattle.cep_infer.specs.declared.draft.Draft.{Draft}
 use Rattle.cep_infer.specs.declared.places.Reached.{Reached}
 use Rattle.cep_infer.specs.Meaning.{AreParts, names_of}

@@ -24,11 +24,6 @@ pub record IsRefused (source : Source) (refusal : Refusal) : Type 0 where
   pub first : IsFirstFault source fault
   pub told : Tells source.text fault refusal
 
--- What a text without wrong names comes to: a draft, or the first fault of its types.
-abbrev pub IsTypedDraft : Source → Result Draft Fault → Type 0
-IsTypedDraft source (Ok draft) = ((fault : Fault) → ¬ Mistyped source fault) × IsDraft source draft
-IsTypedDraft source (Err fault) = IsFirst (Mistyped source) fault
-
 -- Nothing is wrong with the names and the types of a text, and the draft is what it declares.
 pub record IsSound (source : Source) (draft : Draft) : Type 0 where
   pub named : IsWellNamed source

@@ -2,12 +2,13 @@
 use Rattle.std.specs.Prelude.{List, Contains}
 use Rattle.cep_lex.specs.declared.token.Token.{Token}
 use Rattle.cep_lex.specs.Cuts.{AreTokens}
+use Rattle.cep_parse.specs.declared.raw.RawAtom.{RawAtom}
 use Rattle.cep_parse.specs.Symbols.{symbols_of}
 use Rattle.cep_parse.specs.Grammar.{File}
 use Rattle.cep_parse.specs.Files.{IsShallow}
 use Rattle.cep_parse.specs.Written.{Fill}
 use Rattle.cep_source.specs.Items.{Source}
-use Rattle.cep_source.specs.Uses.{Placed, placed_of}
+use Rattle.cep_source.specs.Uses.{atoms_written}
 
 -- The file is the raw file of the text's tokens, with never too many parentheses open.
 pub record IsSource (source : Source) : Type 0 where
@@ -18,4 +19,4 @@ pub record IsSource (source : Source) : Type 0 where
 
 -- The nodes of each atom are its arguments.
 abbrev pub AreFilled : Source → Type 0
-AreFilled source = (p : Placed) → Contains (placed_of source) p → Fill p.atom.args p.atom.nodes
+AreFilled source = (atom : RawAtom) → Contains (atoms_written source) atom → Fill atom.args atom.nodes

@@ -1,15 +1,14 @@
 // Atoms of one side, one clause or one state, one after another.
 ghost use Rattle.std.specs.Prelude.{◌≡◌, ◌∷◌, [], IfOk, OnOk};
-ghost use Rattle.cep_parse.specs.Raw.{atoms_in, atoms_of};
-ghost use Rattle.cep_types.specs.Met.{names_seen};
+ghost use Rattle.cep_parse.specs.Raw.{atoms_of};
+ghost use Rattle.cep_source.specs.Firsts.{names_among};
 ghost use Rattle.cep_infer.specs.Heads.{AreAtomsBy};
 ghost use Rattle.cep_infer.specs.Built.{AreBuilt};
 
 use crate::terms::read_atom;
 use cep_parse::{RawAtom, RawElem};
 use cep_rule::AtomList;
-use cep_source::Source;
-use cep_types::Variables;
+use cep_source::{AtomRef, Source, Variables};
 use std::alloc::AllocError;
 
 // Adds the atom that is written, before which so many blanks stand.
@@ -20,9 +19,9 @@ pub(crate) fn push_atom(
     blanks: &mut u64,
     atoms: &mut AtomList,
 ) -> Result<(), AllocError>
-    ensures { OnOk result (AreBuilt source.now (names_seen variables.now.firsts) (raw.now ∷ []) blanks.old blanks.new atoms.old atoms.new) }
+    ensures { OnOk result (AreBuilt source.now (names_among variables.now.firsts) (raw.now ∷ []) blanks.old blanks.new atoms.old atoms.new) }
 {
-    let atom = read_atom(source, variables, blanks, raw)?;
+    let atom = read_atom(source, variables, blanks, AtomRef::of_raw(raw))?;
     atoms.push(atom)
 }
 
@@ -34,7 +33,7 @@ pub(crate) fn push_atoms(
     blanks: &mut u64,
     atoms: &mut AtomList,
 ) -> Result<(), AllocError>
-    ensures { OnOk result (AreBuilt source.now (names_seen variables.now.firsts) raws.now blanks.old blanks.new atoms.old atoms.new) }
+    ensures { OnOk result (AreBuilt source.now (names_among variables.now.firsts) raws.now blanks.old blanks.new atoms.old atoms.new) }
 {
     for raw in raws {
         push_atom(source, variables, raw, blanks, atoms)?;
@@ -49,27 +48,12 @@ pub(crate) fn read_atoms(
     raws: &[RawAtom],
     blanks: u64,
 ) -> Result<AtomList, AllocError>
-    ensures { IfOk result (λ atoms. AreAtomsBy source.now (names_seen variables.now.firsts) blanks raws.now atoms) }
+    ensures { IfOk result (λ atoms. AreAtomsBy source.now (names_among variables.now.firsts) blanks raws.now atoms) }
 {
     let mut behind = blanks;
     let mut atoms = AtomList::new(source.alloc());
     push_atoms(source, variables, raws, &mut behind, &mut atoms)?;
     Ok(atoms)
-}
-
-fn push_elem(
-    source: &Source,
-    variables: &Variables,
-    elem: &RawElem,
-    blanks: &mut u64,
-    atoms: &mut AtomList,
-) -> Result<(), AllocError>
-    ensures { OnOk result (AreBuilt source.now (names_seen variables.now.firsts) (atoms_in elem.now) blanks.old blanks.new atoms.old atoms.new) }
-{
-    match elem.atom() {
-        Some(atom) => push_atom(source, variables, atom, blanks, atoms),
-        None => Ok(()),
-    }
 }
 
 // The atoms of a side, before which so many blanks stand.
@@ -79,12 +63,15 @@ pub(crate) fn read_side(
     side: &[RawElem],
     blanks: u64,
 ) -> Result<AtomList, AllocError>
-    ensures { IfOk result (λ atoms. AreAtomsBy source.now (names_seen variables.now.firsts) blanks (atoms_of side.now) atoms) }
+    ensures { IfOk result (λ atoms. AreAtomsBy source.now (names_among variables.now.firsts) blanks (atoms_of side.now) atoms) }
 {
     let mut behind = blanks;
     let mut atoms = AtomList::new(source.alloc());
     for elem in side {
-        push_elem(source, variables, elem, &mut behind, &mut atoms)?;
+        let Some(atom) = elem.atom() else {
+            continue;
+        };
+        push_atom(source, variables, atom, &mut behind, &mut atoms)?;
     }
     Ok(atoms)
 }

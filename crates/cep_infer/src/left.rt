@@ -1,17 +1,19 @@
 // The left sides of rules.
-ghost use Rattle.std.specs.Prelude.{◌≡◌, ◌∷◌, ◌++◌, [], ◌||◌, if◌then◌else◌, IfOk, OnOk};
+ghost use Rattle.std.specs.Prelude.{◌≡◌, ◌||◌, ◌∷◌, [], slice_get, IfOk, OnOk};
+ghost use Rattle.std.specs.Option.{option_map};
 ghost use Rattle.cep_term.specs.Tree.{atom_of};
-ghost use Rattle.cep_types.specs.Met.{names_seen};
+ghost use Rattle.cep_source.specs.Items.{preds_of};
+ghost use Rattle.cep_source.specs.Firsts.{names_among};
 ghost use Rattle.cep_infer.specs.Meaning.{is_back, is_fact_by};
 ghost use Rattle.cep_infer.specs.Built.{IsLeftBuilt};
 
 use crate::terms::read_atom;
+use cep_base::PredKind;
 use cep_parse::RawElem;
 use cep_rule::{AtomList, Premise, Premises};
-use cep_source::{Source, item_at};
+use cep_source::{AtomRef, Source, Variables, item_at};
 use cep_term::Atom;
-use cep_types::Variables;
-use std::alloc::{AllocError, Global};
+use std::alloc::AllocError;
 
 /// The premises of a left side, those of states and the backward ones.
 #[derive(Drop)]
@@ -20,49 +22,25 @@ pub(crate) struct LeftSide {
     pub backs: AtomList,
 }
 
-impl LeftSide {
-    // No premises. It takes no memory.
-    pub(crate) fn new(alloc: Global) -> LeftSide
-        ensures none { result.premises ≡ [] }
-        ensures none_back { result.backs ≡ [] }
-    {
-        LeftSide {
-            premises: Premises::new(alloc),
-            backs: AtomList::new(alloc),
-        }
-    }
-
-    // One premise more.
-    fn push(&mut self, back: bool, kept: bool, atom: Atom) -> Result<(), AllocError>
-        ensures premises { OnOk result (self.new.premises ≡ (if back then self.old.premises else self.old.premises ++ record { atom = atom_of atom; kept = kept } ∷ [])) }
-        ensures backs { OnOk result (self.new.backs ≡ (if back then self.old.backs ++ atom_of atom ∷ [] else self.old.backs)) }
-    {
-        if back {
-            self.backs.push(atom)
-        } else {
-            self.premises.push(Premise { atom, kept })
-        }
-    }
+// Of which kind the predicate of an atom is.
+fn pred_kind(source: &Source, atom: &Atom) -> Option<PredKind>
+    ensures { result ≡ option_map (λ pred. pred.kind) (slice_get (preds_of source.now) (atom_of atom.now).pred) }
+{
+    Some(item_at(source.preds(), atom.pred as usize)?.kind)
 }
 
 // Whether clauses define the predicate of an atom.
 fn is_back(source: &Source, atom: &Atom) -> bool
     ensures { result ≡ is_back source.now (atom_of atom.now) }
 {
-    match item_at(source.preds(), atom.pred as usize) {
-        Some(pred) => pred.kind.is_backward(),
-        None => false,
-    }
+    pred_kind(source, atom).is_some_and(PredKind::is_backward)
 }
 
 // Whether an atom is a fact.
 pub(crate) fn is_fact(source: &Source, atom: &Atom) -> bool
     ensures { result ≡ is_fact_by source.now (atom_of atom.now) }
 {
-    match item_at(source.preds(), atom.pred as usize) {
-        Some(pred) => pred.kind.is_of_facts(),
-        None => false,
-    }
+    pred_kind(source, atom).is_some_and(PredKind::is_of_facts)
 }
 
 // Whether a premise is kept: it is marked, or a fact.
@@ -72,6 +50,7 @@ fn is_kept(source: &Source, marked: bool, atom: &Atom) -> bool
     marked || is_fact(source, atom)
 }
 
+// Adds the premise that is written.
 fn push_premise(
     source: &Source,
     variables: &Variables,
@@ -79,17 +58,17 @@ fn push_premise(
     blanks: &mut u64,
     left: &mut LeftSide,
 ) -> Result<(), AllocError>
-    ensures { OnOk result (IsLeftBuilt source.now (names_seen variables.now.firsts) (elem.now ∷ []) blanks.old blanks.new left.old left.new) }
+    ensures { OnOk result (IsLeftBuilt source.now (names_among variables.now.firsts) (elem.now ∷ []) blanks.old blanks.new left.old left.new) }
 {
-    match elem {
-        RawElem::Atom { kept, atom } => {
-            let atom = read_atom(source, variables, blanks, atom)?;
-            let back = is_back(source, &atom);
-            let kept = is_kept(source, *kept, &atom);
-            left.push(back, kept, atom)
-        }
-        RawElem::Qui(_) | RawElem::Stage(_) => Ok(()),
+    let RawElem::Atom { kept, atom } = elem else {
+        return Ok(());
+    };
+    let atom = read_atom(source, variables, blanks, AtomRef::of_raw(atom))?;
+    if is_back(source, &atom) {
+        return left.backs.push(atom);
     }
+    let kept = is_kept(source, *kept, &atom);
+    left.premises.push(Premise { atom, kept })
 }
 
 // The premises of a left side, before which so many blanks stand.
@@ -99,9 +78,12 @@ pub(crate) fn read_left(
     side: &[RawElem],
     blanks: &mut u64,
 ) -> Result<LeftSide, AllocError>
-    ensures { IfOk result (IsLeftBuilt source.now (names_seen variables.now.firsts) side.now blanks.old blanks.new (record { premises = []; backs = [] })) }
+    ensures { IfOk result (IsLeftBuilt source.now (names_among variables.now.firsts) side.now blanks.old blanks.new (record { premises = []; backs = [] })) }
 {
-    let mut left = LeftSide::new(source.alloc());
+    let mut left = LeftSide {
+        premises: Premises::new(source.alloc()),
+        backs: AtomList::new(source.alloc()),
+    };
     for elem in side {
         push_premise(source, variables, elem, blanks, &mut left)?;
     }

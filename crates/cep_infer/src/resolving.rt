@@ -1,18 +1,16 @@
-ghost use Rattle.std.specs.Prelude.{◌≡◌, ◌≤◌, Some, length, map, take, IfOk, MatchResult};
+ghost use Rattle.std.specs.Prelude.{◌≡◌, ◌≤◌, Some, length, slice_get, IfOk, MatchResult};
 ghost use Rattle.cep_base.specs.declared.limits.TheConstants.{MOST_TEXT};
 ghost use Rattle.std.specs.Option.{option_and_then};
-ghost use Rattle.cep_source.specs.Items.{rules_of, traces_of};
+ghost use Rattle.cep_source.specs.Items.{traces_of};
+ghost use Rattle.cep_source.specs.Kept.{trace_item};
 ghost use Rattle.cep_source.specs.Starts.{turns_said};
 ghost use Rattle.cep_infer.specs.Shapes.{IsSource};
 ghost use Rattle.cep_infer.specs.Meaning.{AreParts};
-ghost use Rattle.cep_infer.specs.Places.{IsDraft};
-ghost use Rattle.cep_source.specs.Kept.{rule_item};
-ghost use Rattle.cep_infer.specs.Listed.{IsFirstTrace};
-ghost use Rattle.cep_infer.specs.Resolved.{IsWellNamed, IsFirstFault, IsResolved, IsSound, IsTypedDraft};
+ghost use Rattle.cep_infer.specs.Resolved.{IsWellNamed, IsFirstFault, IsResolved, IsSound};
 
 use crate::clauses::read_clauses;
 use crate::draft::Draft;
-use crate::places::{back_places, right_places};
+use crate::places::rule_places;
 use crate::rules::read_rules;
 use crate::signature::{read_signature, read_stages};
 use crate::start::read_start;
@@ -20,7 +18,7 @@ use cep_faults::name_fault;
 use cep_parse::{RawFile, Span};
 use cep_refusal::{Fault, Refusal};
 use cep_rule::Parts;
-use cep_source::{RuleRef, Source, Space, TraceRef, item_at, turns_said};
+use cep_source::{Source, Space, TraceRef, item_at, turns_said};
 use cep_types::{number, type_fault};
 use std::alloc::{AllocError, Global};
 
@@ -31,13 +29,12 @@ fn turns(source: &Source, limit: Option<Span>) -> Option<u32>
     turns_said(source.text(), limit?)
 }
 
-// The parts of a program, where these are its rules, and it starts as the first trace says. They
-// are made in an order that leaves little to give up where one fails.
-fn parts_from(source: &Source, rules: &[RuleRef], trace: &TraceRef) -> Result<Parts, AllocError>
+// The parts of a program that starts as the first trace says. They are made in an order that leaves
+// little to give up where one fails.
+fn parts_from(source: &Source, trace: &TraceRef) -> Result<Parts, AllocError>
     requires named { IsWellNamed source.now }
-    requires all { map rule_item rules.now ≡ rules_of source.now }
-    requires first { IsFirstTrace (traces_of source.now) (Some trace.now) }
-    ensures { IfOk result (λ parts. AreParts source.now parts) }
+    requires first { slice_get (traces_of source.now) 0 ≡ Some (trace_item trace.now) }
+    ensures { IfOk result (AreParts source.now) }
 {
     Ok(Parts {
         turns: turns(source, trace.limit),
@@ -45,57 +42,31 @@ fn parts_from(source: &Source, rules: &[RuleRef], trace: &TraceRef) -> Result<Pa
         stages: read_stages(source)?,
         start: read_start(source, trace)?,
         clauses: read_clauses(source)?,
-        rules: read_rules(source, rules)?,
+        rules: read_rules(source)?,
         signature: read_signature(source)?,
     })
 }
 
-// The draft of a text without wrong names that starts as the first trace says. The parts come last,
-// so that nothing fails while they are held.
-fn draft_from(source: &Source, trace: &TraceRef) -> Result<Draft, AllocError>
-    requires short { length source.now.text ≤ MOST_TEXT }
-    requires named { IsWellNamed source.now }
-    requires first { IsFirstTrace (traces_of source.now) (Some trace.now) }
-    ensures { IfOk result (λ draft. IsDraft source.now draft) }
-{
-    let rules = source.rules();
-    Ok(Draft {
-        back_places: back_places(source, rules)?,
-        right_places: right_places(source, rules)?,
-        parts: parts_from(source, rules, trace)?,
-    })
-}
-
-// The first trace, where there is one.
-fn first_trace<'a>(source: &Source<'a>) -> Option<TraceRef<'a>>
-    ensures { IsFirstTrace (traces_of source.now) result }
-{
-    item_at(source.traces(), 0)
-}
-
-// The draft of a text without wrong names, or the first fault of its types.
-fn typed(source: &Source) -> Result<Result<Draft, Fault>, AllocError>
-    requires short { length source.now.text ≤ MOST_TEXT }
-    requires named { IsWellNamed source.now }
-    ensures { IfOk result (λ answer. IsTypedDraft source.now answer) }
-{
-    if let Some(fault) = type_fault(source)? {
-        return Ok(Err(fault));
-    }
-    // In a text without wrong names there is a trace.
-    let trace = first_trace(source).unwrap();
-    Ok(Ok(draft_from(source, &trace)?))
-}
-
-// The draft of what a text declares, or its first fault.
+// The draft of what a text declares, or the first fault of its names or types.
 fn drafted_from(source: &Source) -> Result<Result<Draft, Fault>, AllocError>
     requires { length source.now.text ≤ MOST_TEXT }
     ensures { IfOk result (λ answer. MatchResult answer (IsSound source.now) (IsFirstFault source.now)) }
 {
-    match name_fault(source)? {
-        Some(fault) => Ok(Err(fault)),
-        None => typed(source),
+    if let Some(misnamed) = name_fault(source)? {
+        return Ok(Err(misnamed));
     }
+    if let Some(mistyped) = type_fault(source)? {
+        return Ok(Err(mistyped));
+    }
+    // In a text without wrong names there is a trace.
+    let trace = item_at(source.traces(), 0).unwrap();
+    let places = rule_places(source)?;
+    // The parts come last, so that nothing fails while they are held.
+    Ok(Ok(Draft {
+        parts: parts_from(source, &trace)?,
+        back_places: places.backs,
+        right_places: places.unbound,
+    }))
 }
 
 // The draft of a text, or its first fault.

@@ -1,18 +1,17 @@
 // What a text declares of terms, atoms and stages.
 ghost use Rattle.std.specs.Prelude.{◌≡◌, map, IfOk};
 ghost use Rattle.cep_source.specs.Items.{said, sorts_of, stages_of, cons_of, preds_of};
-ghost use Rattle.cep_source.specs.Kept.{con_item, pred_item};
 ghost use Rattle.cep_infer.specs.Meaning.{con_by, pred_by, signature_of, stage_by};
 
 use cep_base::Name;
 use cep_parse::Span;
 use cep_rule::{Con, Cons, Names, PredDecl, Preds, Signature, Stage, Stages};
-use cep_source::{RawCon, RawPred, Source, Space};
+use cep_source::{Source, Space};
 use cep_types::{kinds, number};
 use std::alloc::AllocError;
 
 // The name that the text says at a span.
-pub(crate) fn name(source: &Source, span: Span) -> Result<Name, AllocError>
+fn name(source: &Source, span: Span) -> Result<Name, AllocError>
     ensures { IfOk result (λ name. name ≡ said source.now span) }
 {
     Name::new(source.alloc(), source.said(span))
@@ -28,34 +27,18 @@ fn sorts(source: &Source) -> Result<Names, AllocError>
     Ok(names)
 }
 
-fn con_decl(source: &Source, con: &RawCon) -> Result<Con, AllocError>
-    ensures { IfOk result (λ decl. decl ≡ con_by source.now (con_item con.now)) }
-{
-    Ok(Con {
-        name: name(source, con.name)?,
-        sort: number(source, Space::Sorts, con.sort)?,
-        args: kinds(source, con.args)?,
-    })
-}
-
 fn con_decls(source: &Source) -> Result<Cons, AllocError>
     ensures { IfOk result (λ cons. cons ≡ map (con_by source.now) (cons_of source.now)) }
 {
     let mut cons = Cons::new(source.alloc());
     for con in source.cons() {
-        cons.push(con_decl(source, con)?)?;
+        cons.push(Con {
+            name: name(source, con.name)?,
+            sort: number(source, Space::Sorts, con.sort)?,
+            args: kinds(source, con.args)?,
+        })?;
     }
     Ok(cons)
-}
-
-fn pred_decl(source: &Source, pred: &RawPred) -> Result<PredDecl, AllocError>
-    ensures { IfOk result (λ decl. decl ≡ pred_by source.now (pred_item pred.now)) }
-{
-    Ok(PredDecl {
-        name: name(source, pred.name)?,
-        kind: pred.kind,
-        args: kinds(source, pred.args)?,
-    })
 }
 
 fn pred_decls(source: &Source) -> Result<Preds, AllocError>
@@ -63,7 +46,11 @@ fn pred_decls(source: &Source) -> Result<Preds, AllocError>
 {
     let mut preds = Preds::new(source.alloc());
     for pred in source.preds() {
-        preds.push(pred_decl(source, pred)?)?;
+        preds.push(PredDecl {
+            name: name(source, pred.name)?,
+            kind: pred.kind,
+            args: kinds(source, pred.args)?,
+        })?;
     }
     Ok(preds)
 }
@@ -79,23 +66,16 @@ pub(crate) fn read_signature(source: &Source) -> Result<Signature, AllocError>
     })
 }
 
-// A stage, interactive where the text says so.
-fn stage(source: &Source, span: Span) -> Result<Stage, AllocError>
-    ensures { IfOk result (λ stage. stage ≡ stage_by source.now span) }
-{
-    Ok(Stage {
-        name: name(source, span)?,
-        interactive: source.is_interactive(span),
-    })
-}
-
-// The stages.
+// The stages, interactive where the text says so.
 pub(crate) fn read_stages(source: &Source) -> Result<Stages, AllocError>
     ensures { IfOk result (λ stages. stages ≡ map (stage_by source.now) (stages_of source.now)) }
 {
     let mut stages = Stages::new(source.alloc());
     for span in source.stages() {
-        stages.push(stage(source, *span)?)?;
+        stages.push(Stage {
+            name: name(source, *span)?,
+            interactive: source.is_interactive(*span),
+        })?;
     }
     Ok(stages)
 }

@@ -1,15 +1,16 @@
 // From the nodes of an atom, which stand in prefix order, to its tree.
 ghost use Rattle.std.specs.Prelude.{◌≡◌, ◌++◌, ◌≤◌, ◌<◌, length, drop, IfOk, OnOk};
 ghost use Rattle.cep_term.specs.Tree.{atom_of, tree_of, trees_of};
-ghost use Rattle.cep_source.specs.Variables.{blanks_behind};
+ghost use Rattle.cep_source.specs.Kept.{atom_at};
+ghost use Rattle.cep_source.specs.Variables.{blanks_after};
+ghost use Rattle.cep_source.specs.Firsts.{names_among};
+ghost use Rattle.cep_types.specs.Heads.{heads_from};
 ghost use Rattle.cep_infer.specs.Heads.{IsAtomBy, heads_of, heads_among, argument_count};
-ghost use Rattle.cep_types.specs.Heads.{heads_from, blanks_after};
-ghost use Rattle.cep_types.specs.Met.{names_seen};
 
-use cep_parse::{RawAtom, RawKind, RawNode};
-use cep_source::{Source, Space};
+use cep_parse::{RawKind, RawNode};
+use cep_source::{AtomRef, Source, Space, Variables, blanks_behind};
 use cep_term::{Args, Atom, Term};
-use cep_types::{Variables, next_blank, number};
+use cep_types::{head, number};
 use std::alloc::AllocError;
 
 /// Where the nodes of an atom are read: the place of the next node, and how many blanks stand
@@ -20,16 +21,6 @@ pub(crate) struct Cursor {
     pub blanks: u64,
 }
 
-// How many blanks there are behind a node.
-pub(crate) fn blanks_behind(blanks: u64, kind: RawKind) -> Result<u64, AllocError>
-    ensures { IfOk result (λ behind. behind ≡ blanks_behind blanks kind) }
-{
-    match kind {
-        RawKind::Blank => next_blank(blanks),
-        RawKind::App | RawKind::Var => Ok(blanks),
-    }
-}
-
 // The next term.
 #[cycle(terms)]
 fn read_term(
@@ -38,14 +29,14 @@ fn read_term(
     nodes: &[RawNode],
     cursor: &mut Cursor,
 ) -> Result<Term, AllocError>
-    ensures heads { IfOk result (λ term. heads_from source.now (names_seen variables.now.firsts) cursor.old.blanks (drop cursor.old.at nodes.now) ≡ heads_of (tree_of term) ++ heads_from source.now (names_seen variables.now.firsts) cursor.new.blanks (drop cursor.new.at nodes.now)) }
+    ensures heads { IfOk result (λ term. heads_from source.now (names_among variables.now.firsts) cursor.old.blanks (drop cursor.old.at nodes.now) ≡ heads_of (tree_of term) ++ heads_from source.now (names_among variables.now.firsts) cursor.new.blanks (drop cursor.new.at nodes.now)) }
     ensures blanks { OnOk result (blanks_after cursor.old.blanks (drop cursor.old.at nodes.now) ≡ blanks_after cursor.new.blanks (drop cursor.new.at nodes.now)) }
     ensures further { OnOk result (cursor.old.at < cursor.new.at) }
     ensures within { OnOk result (cursor.new.at ≤ length nodes.now) }
 {
     // In a text without wrong names the nodes do not run out.
     let node = nodes.get(cursor.at).ok_or(AllocError)?;
-    let number = variables.head(source, cursor.blanks, node)?;
+    let number = head(source, variables, cursor.blanks, node)?;
     cursor.blanks = blanks_behind(cursor.blanks, node.kind)?;
     cursor.at += 1;
     match node.kind {
@@ -66,7 +57,7 @@ fn read_args(
     cursor: &mut Cursor,
     count: u32,
 ) -> Result<Args, AllocError>
-    ensures heads { IfOk result (λ args. heads_from source.now (names_seen variables.now.firsts) cursor.old.blanks (drop cursor.old.at nodes.now) ≡ heads_among (trees_of args) ++ heads_from source.now (names_seen variables.now.firsts) cursor.new.blanks (drop cursor.new.at nodes.now)) }
+    ensures heads { IfOk result (λ args. heads_from source.now (names_among variables.now.firsts) cursor.old.blanks (drop cursor.old.at nodes.now) ≡ heads_among (trees_of args) ++ heads_from source.now (names_among variables.now.firsts) cursor.new.blanks (drop cursor.new.at nodes.now)) }
     ensures count { IfOk result (λ args. argument_count (trees_of args) ≡ count) }
     ensures blanks { OnOk result (blanks_after cursor.old.blanks (drop cursor.old.at nodes.now) ≡ blanks_after cursor.new.blanks (drop cursor.new.at nodes.now)) }
     ensures further { OnOk result (cursor.old.at ≤ cursor.new.at) }
@@ -85,19 +76,18 @@ pub(crate) fn read_atom(
     source: &Source,
     variables: &Variables,
     blanks: &mut u64,
-    raw: &RawAtom,
+    raw: AtomRef,
 ) -> Result<Atom, AllocError>
-    ensures atom { IfOk result (λ atom. IsAtomBy source.now (names_seen variables.now.firsts) blanks.old raw.now (atom_of atom)) }
-    ensures blanks { OnOk result (blanks.new ≡ blanks_after blanks.old raw.now.nodes) }
+    ensures atom { IfOk result (λ atom. IsAtomBy source.now (names_among variables.now.firsts) blanks.old (atom_at raw.entry) (atom_of atom)) }
+    ensures blanks { OnOk result (blanks.new ≡ blanks_after blanks.old (atom_at raw.entry).nodes) }
 {
     let pred = number(source, Space::Predicates, raw.name)?;
-    let nodes = raw.nodes.as_slice();
     let mut cursor = Cursor {
         at: 0,
         blanks: *blanks,
     };
-    let args = read_args(source, variables, nodes, &mut cursor, raw.args)?;
-    if cursor.at < nodes.len() {
+    let args = read_args(source, variables, raw.nodes, &mut cursor, raw.args)?;
+    if cursor.at < raw.nodes.len() {
         // In a text without wrong names no node is left.
         return Err(AllocError);
     }

@@ -1,14 +1,18 @@
 -- A name that has a place is in its space.
-use Rattle.std.proofs.Common.{◌≡◌, ℕ, ◌+◌, Bool, true, false, ◌||◌, ◌==◌, ◌&&◌, not, cond, List, [], ◌∷◌, map, length, Option, Some, is_some, refl, ap, sym, ◌∙◌}
+use Rattle.std.proofs.Common.{◌≡◌, ℕ, ◌+◌, Bool, true, false, ◌||◌, ◌==◌, ◌&&◌, not, cond, if◌then◌else◌, List, [], ◌∷◌, map, length, Some, is_some, refl, ap, sym, ◌∙◌}
 use Rattle.std.specs.List.{list_any, position_from}
 use Rattle.std.specs.Str.{bytes_eq}
 use Rattle.std.proofs.lemmas.Iterator.Adapters.{position_from-zero}
 use Rattle.cep_parse.specs.declared.raw.Span.{Span}
+use Rattle.cep_parse.specs.declared.raw.RawItem.{RawItem}
 use Rattle.cep_base.proofs.Bytes.{any_map}
 use Rattle.cep_source.specs.declared.space.Space.{Space}
-use Rattle.cep_source.specs.declared.space.Space.TheVariants as space
+use Rattle.cep_source.specs.declared.items.RawPred.{RawPred}
+use Rattle.cep_source.specs.declared.gathering.Kinds.{Kinds}
+use Rattle.cep_source.specs.Kept.{AreKinds, HaveTheirNames, pred_item}
 use Rattle.cep_source.specs.Items.{Source, said, is_said, sorts_of, preds_of, is_labelled}
-use Rattle.cep_source.specs.Spaces.{Named, named, names_in, is_in, first_place, place_among}
+use Rattle.cep_source.specs.Firsts.{place_among, has_name, under_name}
+use Rattle.cep_source.specs.Spaces.{Named, named, names_in, is_in, first_place}
 
 has_from : {X : Type 0} (p : X → Bool) (i : ℕ) (xs : List X) → is_some (position_from p i xs) ≡ list_any p xs
 has_from p i [] = refl
@@ -20,18 +24,32 @@ has_from p i (x ∷ xs) = step (p x) (has_from p (i + 1) xs) where
 pub has_place : (names : List Named) (name : List ℕ) → is_some (place_among names name) ≡ list_any (λ other. bytes_eq other.name name) names
 has_place names name = ap is_some (position_from-zero (λ other. bytes_eq other.name name) names) ∙ has_from (λ other. bytes_eq other.name name) 0 names
 
+pub has_under : (table : List (List ℕ × ℕ)) (name : List ℕ) → has_name table name ≡ is_some (under_name table name)
+has_under [] name = refl
+has_under (entry ∷ table) name = step (bytes_eq name entry.0) (has_under table name) where
+  step : (b : Bool) → has_name table name ≡ is_some (under_name table name) → (b || has_name table name) ≡ is_some (if b then Some entry.1 else under_name table name)
+  step true h = refl
+  step false h = h
+
 pub placed_in : (source : Source) (space_ : Space) (name : List ℕ) → is_some (first_place source space_ name) ≡ is_in source space_ name
 placed_in source space_ name = has_place (names_in source space_) name
 
-sorts_said : (source : Source) (name : List ℕ) → is_some (first_place source space.Sorts name) ≡ is_said source (sorts_of source) name
-sorts_said source name = placed_in source space.Sorts name ∙ any_map (λ other. bytes_eq other.name name) (named source) (sorts_of source)
-
-preds_said : (source : Source) (name : List ℕ) → is_some (first_place source space.Predicates name) ≡ is_said source (map (λ pred. pred.name) (preds_of source)) name
-preds_said source name =
-    placed_in source space.Predicates name ∙ any_map (λ other. bytes_eq other.name name) (λ pred. named source pred.name) (preds_of source)
-    ∙ sym (any_map (λ span. bytes_eq (said source span) name) (λ pred. pred.name) (preds_of source))
-
 -- a clause has a label by the places of two names
-pub labelled_by : (source : Source) (args : List Span) (right : Span) (sort pred : Option ℕ) → sort ≡ first_place source space.Sorts (said source right) → pred ≡ first_place source space.Predicates (said source right)
-    → ((length args == 0) && (not (is_some sort) && is_some pred)) ≡ is_labelled source args right
-labelled_by source args right sort pred s p = rw (s, p, sorts_said source (said source right), preds_said source (said source right)) refl
+module _ (text : List ℕ) (file : List RawItem) (kinds : Kinds) (are : AreKinds file kinds) (named_by : HaveTheirNames text kinds) where
+  abbrev source : Source
+  source = record { text = text; file = file }
+
+  sorts_said : (name : List ℕ) → has_name kinds.sorts.places name ≡ is_said source (sorts_of source) name
+  sorts_said name =
+      has_under kinds.sorts.places name ∙ ap is_some (named_by.sorts.places name) ∙ has_place _ name ∙ any_map (λ other. bytes_eq other.name name) (named source) kinds.sorts.items.items
+      ∙ ap (λ (spans : List Span). is_said source spans name) are.sorts
+
+  preds_said : (name : List ℕ) → has_name kinds.preds.places name ≡ is_said source (map (λ pred. pred.name) (preds_of source)) name
+  preds_said name =
+      has_under kinds.preds.places name ∙ ap is_some (named_by.preds.places name) ∙ has_place _ name ∙ any_map (λ other. bytes_eq other.name name) (λ (pred : RawPred). named source pred.name) kinds.preds.items.items
+      ∙ sym (any_map (λ pred. bytes_eq (said source pred.name) name) pred_item kinds.preds.items.items) ∙ ap (list_any (λ pred. bytes_eq (said source pred.name) name)) are.preds
+      ∙ sym (any_map (λ span. bytes_eq (said source span) name) (λ pred. pred.name) (preds_of source))
+
+  pub labelled_by : (args : List Span) (right : Span) (name : List ℕ) → name ≡ said source right
+      → ((length args == 0) && (not (has_name kinds.sorts.places name) && has_name kinds.preds.places name)) ≡ is_labelled source args right
+  labelled_by args right name is = rw (is, sorts_said (said source right), preds_said (said source right)) refl

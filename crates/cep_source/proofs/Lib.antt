@@ -1,7 +1,9 @@
 pub mod Lookups
 pub mod Declaring
+pub mod Numbering
+pub mod Meeting
+pub mod Sorting
 pub mod Twice
 pub mod Labels
 pub mod Gathered
-pub mod Listing
 pub mod Turns

@@ -1,15 +1,18 @@
 -- At which place of a list a name stands, and what stands there.
-use Rattle.std.proofs.Common.{◌≡◌, ℕ, zero, suc, ◌+◌, ◌<◌, Bool, true, false, not, List, [], ◌∷◌, ◌++◌, map, Some, None, length, take, get_or, refl, ap, sym, ◌∙◌, cond, nat_lt}
-use Rattle.std.specs.Option.{option_map}
+use Rattle.std.proofs.Common.{◌≡◌, ℕ, zero, suc, ◌+◌, ◌<◌, Bool, true, false, not, List, [], ◌∷◌, ◌++◌, map, Some, None, Option, length, take, get_or, refl, ap, sym, subst, ◌∙◌, cond, nat_lt}
+use Rattle.std.specs.Option.{option_map, option_and_then}
 use Rattle.std.specs.List.{position, position_or_len, prefix_len, find, slice_get}
 use Rattle.std.specs.Str.{bytes_eq}
 use Rattle.std.proofs.lemmas.Bool.{ltb-false}
-use Rattle.std.proofs.lemmas.List.{length-map, take_more}
-use Rattle.std.proofs.lemmas.List.{map-append}
+use Rattle.std.proofs.lemmas.List.{length-map, map-append, take_more}
 use Rattle.std.proofs.lemmas.List.Folds.{find_at}
 use Rattle.std.proofs.lemmas.Option.{slice_get_past}
 use Rattle.cep_base.proofs.Bytes.{bytes_eq_sym}
-use Rattle.cep_source.specs.Spaces.{Named, place_among}
+use Rattle.cep_parse.specs.declared.raw.Span.{Span}
+use Rattle.cep_source.specs.declared.table.Table.{Table}
+use Rattle.cep_source.specs.Items.{Source, said}
+use Rattle.cep_source.specs.Firsts.{IsNamed, under_name}
+use Rattle.cep_source.specs.Spaces.{Named, named}
 
 before_map : {X Y : Type 0} (p : Y → Bool) (f : X → Y) (xs : List X) → prefix_len (λ x. not (p (f x))) xs ≡ prefix_len (λ y. not (p y)) (map f xs)
 before_map p f [] = refl
@@ -22,7 +25,7 @@ before_flip : (name : List ℕ) (names : List (List ℕ)) → prefix_len (λ n. 
 before_flip name [] = refl
 before_flip name (x ∷ names) = rw (bytes_eq_sym name x) (ap (λ (rest : ℕ). cond (not (bytes_eq x name)) (1 + rest) 0) (before_flip name names))
 
-pub position_flip : (name : List ℕ) (names : List (List ℕ)) → position (λ n. bytes_eq name n) names ≡ position (λ n. bytes_eq n name) names
+position_flip : (name : List ℕ) (names : List (List ℕ)) → position (λ n. bytes_eq name n) names ≡ position (λ n. bytes_eq n name) names
 position_flip name names = rw (before_flip name names) refl
 
 -- the place of a name among entries is that among names
@@ -51,23 +54,39 @@ module _ {X : Type 0} (p : X → Bool) (xs : List X) where
   pub found_nowhere : position p xs ≡ None → find p xs ≡ None
   found_nowhere is = past (nat_lt (position_or_len p xs) (length xs)) refl is
 
-pub get_map : {X Y : Type 0} (f : X → Y) (xs : List X) (n : ℕ) → option_map f (slice_get xs n) ≡ slice_get (map f xs) n
-get_map f [] n = refl
-get_map f (x ∷ xs) zero = refl
-get_map f (x ∷ xs) (suc n) = get_map f xs n
+-- what is found first stands at its place
+found_placed : {X : Type 0} (p : X → Bool) (xs : List X) → option_and_then (slice_get xs) (position p xs) ≡ find p xs
+found_placed p xs = cases (position p xs) refl where
+  cases : (place : Option ℕ) → position p xs ≡ place → option_and_then (slice_get xs) (position p xs) ≡ find p xs
+  cases None e = ap (option_and_then (slice_get xs)) e ∙ sym (found_nowhere p xs e)
+  cases (Some n) e = ap (option_and_then (slice_get xs)) e ∙ sym (found_at p xs n e)
 
--- what the first declaration of a name declares
-module _ {X Y : Type 0} (item : X → Y) (g : Y → Named) (refs : List X) (items : List Y) (name : List ℕ) (are : map item refs ≡ items) where
-  place_told : place_among (map g items) name ≡ position (λ y. bytes_eq (g y).name name) items
-  place_told = sym (position_map (λ (other : Named). bytes_eq other.name name) g items)
+found_map : {X Y : Type 0} (p : Y → Bool) (item : X → Y) (xs : List X) → option_map item (find (λ x. p (item x)) xs) ≡ find p (map item xs)
+found_map p item [] = refl
+found_map p item (x ∷ xs) = step (p (item x)) (found_map p item xs) where
+  step : (b : Bool) → option_map item (find (λ y. p (item y)) xs) ≡ find p (map item xs) → option_map item (cond b (Some x) (find (λ y. p (item y)) xs)) ≡ cond b (Some (item x)) (find p (map item xs))
+  step true h = refl
+  step false h = h
 
-  pub told_some : (number : ℕ) → place_among (map g items) name ≡ Some number → option_map item (slice_get refs number) ≡ find (λ y. bytes_eq (g y).name name) items
-  told_some number is =
-      get_map item refs number ∙ ap (λ (ys : List Y). slice_get ys number) are
-      ∙ sym (found_at (λ y. bytes_eq (g y).name name) items number (sym place_told ∙ is))
+-- the item that is declared first of a name
+pub told : {X Y : Type 0} (source : Source) (item : X → Y) (span : Y → Span) (table : Table X) (all : List Y) (name : List ℕ) → map item table.items.items ≡ all
+    → IsNamed source.text (λ x. span (item x)) table
+    → option_map item (option_and_then (slice_get table.items.items) (under_name table.places name)) ≡ find (λ y. bytes_eq (said source (span y)) name) all
+told source item span table all name are named_by =
+    let refs = table.items.items in
+    ap (λ place. option_map item (option_and_then (slice_get refs) place)) (named_by.places name ∙ sym (position_map (λ (other : Named). bytes_eq other.name name) (λ x. named source (span (item x))) refs))
+    ∙ ap (option_map item) (found_placed (λ x. bytes_eq (said source (span (item x))) name) refs)
+    ∙ found_map (λ y. bytes_eq (said source (span y)) name) item refs ∙ ap (find (λ y. bytes_eq (said source (span y)) name)) are
 
-  pub told_none : place_among (map g items) name ≡ None → find (λ y. bytes_eq (g y).name name) items ≡ None
-  told_none is = found_nowhere (λ y. bytes_eq (g y).name name) items (sym place_told ∙ is)
+-- what the entry at a number holds
+pub held_at : {K N X : Type 0} (key : K → N) (entries : List (K × X)) (n : ℕ) (entry : K × X) → Some entry ≡ slice_get entries n → Some entry.1 ≡ slice_get (map (λ (e : N × X). e.1) (map (λ (e : K × X). (key e.0, e.1)) entries)) n
+held_at key [] n entry is = absurd (let e : Some entry ≡ None = is in cc)
+held_at key (first ∷ entries) zero entry is = ap (option_map (λ (e : _ × _). e.1)) is
+held_at key (first ∷ entries) (suc n) entry is = held_at key entries n entry is
+
+-- one more item of a loop
+pub taken : {X : Type 0} (P : List X → Type 0) (xs : List X) (i : ℕ) (x : X) → i < length xs → x ≡ get_or xs i x → P (take i xs ++ x ∷ []) → P (take (i + 1) xs)
+taken P xs i x h at = subst P (sym (take_more xs i x h ∙ ap (λ y. take i xs ++ y ∷ []) (sym at)))
 
 -- one more item of a loop that adds its image
 pub push_map : {X Y : Type 0} (f : X → Y) (xs : List X) (i : ℕ) (d : X) (old new : List Y) (y : Y) → i < length xs

@@ -15,6 +15,7 @@ use Rattle.cep_source.specs.declared.space.Space.{Space}
 use Rattle.cep_source.specs.declared.space.Space.TheVariants as space
 use Rattle.cep_source.specs.Items.{Source}
 use Rattle.cep_source.specs.Spaces.{Named, names_in}
+use Rattle.cep_source.specs.Spaces.IsTwice.{again}
 use Rattle.cep_source.specs.Spaces.{IsTwice}
 use Rattle.cep_source.specs.Firsts.{again_among}
 
@@ -81,13 +82,7 @@ module _ (source : Source) where
   again_twice : (space_ : Space) (fault : Fault) → Again space_ fault → IsTwice source fault
   again_twice space_ fault h =
       let l = is_later [] (names_in source space_) fault (from_contains (again_among [] (names_in source space_)) fault h) in
-      record { space = space_; before = l.front; entry = l.entry; after = l.back; names = l.are; earlier = l.earlier; is = l.is }
-
-  twice_again : (fault : Fault) (h : IsTwice source fault) → Again h.space fault
-  twice_again fault h =
-      to_contains (again_among [] (names_in source h.space)) fault
-      (subst (In (again_among [] (names_in source h.space))) (sym h.is)
-      (in_same (again_among [] (names_in source h.space)) (again_among [] (h.before ++ h.entry ∷ h.after)) (wrong Twice h.entry.at) (ap (again_among []) h.names) (later_in [] h.before h.after h.entry h.earlier)))
+      again space_ l.front l.back l.entry l.are l.earlier l.is
 
   abbrev first_again : Space → Option Fault
   first_again space_ = first_in (again_among [] (names_in source space_))
@@ -103,20 +98,25 @@ module _ (source : Source) where
   in_space space.Constructors fault h = inr (inl h)
   in_space space.Rules fault h = inr (inr h)
 
+  twice_again : (fault : Fault) → IsTwice source fault → Any fault
+  twice_again fault (again space_ before after entry names earlier is) =
+      in_space space_ fault (to_contains (again_among [] (names_in source space_)) fault
+      (subst (In (again_among [] (names_in source space_))) (sym is)
+      (in_same (again_among [] (names_in source space_)) (again_among [] (before ++ entry ∷ after)) (wrong Twice entry.at) (ap (again_among []) names) (later_in [] before after entry earlier))))
+
   both : (P Q : Fault → Type 0) (one two : Option Fault) → IsFirstOrNone P one → IsFirstOrNone Q two → IsFirstOrNone (λ fault. P fault ⊎ Q fault) (first_of one two)
   both = foremost_union standing
 
   among : (space_ : Space) → IsFirstOrNone (Again space_) (first_again space_)
   among space_ = foremost_among standing (again_among [] (names_in source space_))
 
-  pub first_twice : (sorts preds stages contexts cons rules basics states some rest all : Option Fault)
-      → sorts ≡ first_again space.Sorts → preds ≡ first_again space.Predicates → basics ≡ first_of sorts preds
-      → stages ≡ first_again space.Stages → contexts ≡ first_again space.Contexts → states ≡ first_of stages contexts → some ≡ first_of basics states
-      → cons ≡ first_again space.Constructors → rules ≡ first_again space.Rules → rest ≡ first_of cons rules → all ≡ first_of some rest
+  pub first_twice : (sorts preds stages contexts cons rules all : Option Fault)
+      → sorts ≡ first_again space.Sorts → preds ≡ first_again space.Predicates → stages ≡ first_again space.Stages → contexts ≡ first_again space.Contexts
+      → cons ≡ first_again space.Constructors → rules ≡ first_again space.Rules → all ≡ first_of (first_of (first_of sorts preds) (first_of stages contexts)) (first_of cons rules)
       → IsFirstOrNone (IsTwice source) all
-  first_twice sorts preds stages contexts cons rules basics states some rest all a b ab c d cd abcd e f ef is =
-      rw (is, abcd, ef, ab, cd, a, b, c, d, e, f)
+  first_twice sorts preds stages contexts cons rules all a b c d e f is =
+      rw (is, a, b, c, d, e, f)
       (foremost_same standing Any (IsTwice source) _
       (λ fault. ⊎_elim (⊎_elim (⊎_elim (again_twice space.Sorts fault) (again_twice space.Predicates fault)) (⊎_elim (again_twice space.Stages fault) (again_twice space.Contexts fault))) (⊎_elim (again_twice space.Constructors fault) (again_twice space.Rules fault)))
-      (λ fault h. in_space h.space fault (twice_again fault h))
+      twice_again
       (both _ _ _ _ (both _ _ _ _ (both _ _ _ _ (among space.Sorts) (among space.Predicates)) (both _ _ _ _ (among space.Stages) (among space.Contexts))) (both _ _ _ _ (among space.Constructors) (among space.Rules))))

@@ -1,31 +1,33 @@
--- The places of first declarations, where names come one after another.
-use Rattle.std.specs.Prelude.{◌≡◌, ℕ, Bool, if◌then◌else◌, List, [], ◌∷◌, ◌++◌, Option, Some, None}
+-- Names that come one after another: the first of each, and the places of first declarations.
+use Rattle.std.specs.Prelude.{◌≡◌, ℕ, Bool, if◌then◌else◌, List, [], ◌∷◌, ◌++◌, Option, map, length, position}
 use Rattle.std.specs.Str.{bytes_eq}
 use Rattle.std.specs.List.{list_any}
 use Rattle.std.specs.Map.{lookup}
+use Rattle.cep_parse.specs.declared.raw.Span.{Span}
 use Rattle.cep_refusal.specs.declared.fault.Fault.{Fault}
 use Rattle.cep_refusal.specs.declared.reason.Reason.TheVariants.{Twice}
-use Rattle.cep_refusal.specs.First.{first_of, first_in, wrong}
-use Rattle.cep_source.specs.declared.declared.Declared.{Declared}
-use Rattle.cep_source.specs.Items.{Source}
-use Rattle.cep_source.specs.Spaces.{Named, place_among}
+use Rattle.cep_refusal.specs.First.{first_in, wrong}
+use Rattle.cep_source.specs.declared.table.Table.{Table}
+use Rattle.cep_source.specs.Items.{Source, RuleItem}
+use Rattle.cep_source.specs.Spaces.{Named, named, unlabelled_behind}
 
--- whether a table has the name, and the place that stands under it
-abbrev pub has_name : List (List ℕ × ℕ) → List ℕ → Bool
+-- whether the name is among these, and what it came with
+abbrev pub has_name : {A : Type 0} → List (List ℕ × A) → List ℕ → Bool
 has_name table name = list_any (λ entry. bytes_eq name entry.0) table
 
-abbrev pub place_under : List (List ℕ × ℕ) → List ℕ → Option ℕ
-place_under table name = lookup (λ other. bytes_eq name other) table
+abbrev pub under_name : {A : Type 0} → List (List ℕ × A) → List ℕ → Option A
+under_name table name = lookup (λ other. bytes_eq name other) table
 
--- no declaration
-abbrev pub no_names : Declared
-no_names = record { places = []; twice = None }
+-- one more name, if it is new
+abbrev pub added : {A : Type 0} → List (List ℕ × A) → List ℕ × A → List (List ℕ × A)
+added table entry = if has_name table entry.0 then table else table ++ entry ∷ []
 
--- one declaration later: of a name that is there the first declaration counts, and the later one is wrong
-abbrev pub declared_after : Declared → Named → ℕ → Declared
-declared_after old named place =
-    if has_name old.places named.name then record { places = old.places; twice = first_of old.twice (Some (wrong Twice named.at)) }
-    else record { places = old.places ++ (named.name, place) ∷ []; twice = old.twice }
+abbrev pub names_among : {A : Type 0} → List (List ℕ × A) → List (List ℕ)
+names_among table = map (λ entry. entry.0) table
+
+-- the place of the first of some names that is this one
+abbrev pub place_among : List Named → List ℕ → Option ℕ
+place_among names name = position (λ other. bytes_eq other.name name) names
 
 -- the names that were declared before, and the faults of those that are declared again
 abbrev pub again_among : List (List ℕ) → List Named → List Fault
@@ -33,11 +35,21 @@ again_among before [] = []
 again_among before (named ∷ names) =
     (if list_any (λ name. bytes_eq name named.name) before then wrong Twice named.at ∷ [] else []) ++ again_among (before ++ named.name ∷ []) names
 
--- Of each of the names the place of its first declaration is known, and the first fault of one that is declared again.
-pub record AreDeclared (names : List Named) (declared : Declared) : Type 0 where
-  pub places : (name : List ℕ) → place_under declared.places name ≡ place_among names name
-  pub twice : declared.twice ≡ first_in (again_among [] names)
+-- The items have these names: of each the place of the first declaration is known, and the first fault of one that is declared again.
+pub record IsTable {T : Type 0} (names : List Named) (table : Table T) : Type 0 where
+  pub count : length table.items.items ≡ length names
+  pub places : (name : List ℕ) → under_name table.places name ≡ place_among names name
+  pub twice : table.twice ≡ first_in (again_among [] names)
 
 -- a text alone
 abbrev pub text_alone : List ℕ → Source
 text_alone text = record { text = text; file = [] }
+
+-- The items have the names that the text says at these spans.
+abbrev pub IsNamed : {T : Type 0} → List ℕ → (T → Span) → Table T → Type 0
+IsNamed text span table = IsTable (map (λ item. named (text_alone text) (span item)) table.items.items) table
+
+-- how many rules without a label there are behind some
+abbrev pub unlabelled_over : ℕ → List RuleItem → ℕ
+unlabelled_over unlabelled [] = unlabelled
+unlabelled_over unlabelled (rule ∷ rules) = unlabelled_over (unlabelled_behind unlabelled rule.raw.label) rules

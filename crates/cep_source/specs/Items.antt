@@ -1,5 +1,5 @@
 -- What the items of a file declare, as it is written.
-use Rattle.std.specs.Prelude.{ℕ, ◌+◌, Bool, true, false, ◌&&◌, not, List, [], ◌∷◌, Option, Some, None, ◌++◌, ◌==◌, length, map, filter}
+use Rattle.std.specs.Prelude.{ℕ, Bool, ◌&&◌, not, List, [], ◌∷◌, Option, Some, None, ◌++◌, ◌==◌, length, map, filter}
 use Rattle.std.specs.Str.{bytes_eq}
 use Rattle.std.specs.List.{flat_map, list_any}
 use Rattle.cep_base.specs.declared.kind.PredKind.{PredKind}
@@ -37,9 +37,9 @@ pub record ClauseItem : Type 0 where
   pub head : RawAtom
   pub goals : List RawAtom
 
--- A rule, and the number of its stage where it stands in one.
+-- A rule, and the name of its stage where it stands in one.
 pub record RuleItem : Type 0 where
-  pub home : Option ℕ
+  pub home : Option Span
   pub raw : RawRule
 
 -- A context and its atoms.
@@ -60,7 +60,7 @@ pub record Declares : Type 0 where
   pub preds : List PredItem
   pub colons : List ConItem
   pub clauses : List ClauseItem
-  pub rules : List RawRule
+  pub rules : List RuleItem
   pub stages : List Span
   pub interactives : List Span
   pub contexts : List ContextItem
@@ -74,18 +74,21 @@ declares (item.Sort name) = record declared_nothing { sorts = name ∷ [] }
 declares (item.Pred name args of_kind) = record declared_nothing { preds = record { name = name; args = args; kind = of_kind } ∷ [] }
 declares (item.Colon left args right) = record declared_nothing { colons = record { name = left; args = args; sort = right } ∷ [] }
 declares (item.Clause label head goals) = record declared_nothing { clauses = record { head = head; goals = goals } ∷ [] }
-declares (item.Outer rule) = record declared_nothing { rules = rule ∷ [] }
-declares (item.Stage name rules) = record declared_nothing { stages = name ∷ []; rules = rules }
+declares (item.Outer raw) = record declared_nothing { rules = record { home = None; raw = raw } ∷ [] }
+declares (item.Stage name raws) = record declared_nothing { stages = name ∷ []; rules = map (λ raw. record { home = Some name; raw = raw }) raws }
 declares (item.Context name atoms) = record declared_nothing { contexts = record { name = name; atoms = atoms } ∷ [] }
 declares (item.Interactive name) = record declared_nothing { interactives = name ∷ [] }
 declares (item.Trace at limit stage start) = record declared_nothing { traces = record { at = at; limit = limit; stage = stage; start = start } ∷ [] }
 
--- the types, the predicates, the stages, the names of the stages that are said to be interactive, the contexts, the traces
+-- the types, the predicates, the rules, the stages, the names of the stages that are said to be interactive, the contexts, the traces
 abbrev pub sorts_of : Source → List Span
 sorts_of source = flat_map (λ item. (declares item).sorts) source.file
 
 abbrev pub preds_of : Source → List PredItem
 preds_of source = flat_map (λ item. (declares item).preds) source.file
+
+abbrev pub rules_of : Source → List RuleItem
+rules_of source = flat_map (λ item. (declares item).rules) source.file
 
 abbrev pub stages_of : Source → List Span
 stages_of source = flat_map (λ item. (declares item).stages) source.file
@@ -125,21 +128,3 @@ clauses_in source item = (declares item).clauses ++ map (λ con. record { head =
 
 abbrev pub clauses_of : Source → List ClauseItem
 clauses_of source = flat_map (clauses_in source) source.file
-
--- the rules in written order, those of stages and those outside; so many stages stand before
-abbrev pub home_in : ℕ → List Span → Option ℕ
-home_in stages [] = None
-home_in stages (name ∷ names) = Some stages
-
-abbrev pub rules_in : ℕ → RawItem → List RuleItem
-rules_in stages item = map (λ raw. record { home = home_in stages (declares item).stages; raw = raw }) (declares item).rules
-
-abbrev pub stages_behind : ℕ → RawItem → ℕ
-stages_behind stages item = stages + length (declares item).stages
-
-abbrev pub rules_from : ℕ → List RawItem → List RuleItem
-rules_from stages [] = []
-rules_from stages (next ∷ items) = rules_in stages next ++ rules_from (stages_behind stages next) items
-
-abbrev pub rules_of : Source → List RuleItem
-rules_of source = rules_from 0 source.file

@@ -1,8 +1,8 @@
 pub mod Items
-pub mod InItems
 pub mod Spaces
 pub mod Uses
 pub mod Variables
+pub mod Met
 pub mod Starts
 pub mod Codes
 pub mod Firsts

@@ -1,5 +1,5 @@
 -- The spaces of names, and to which declaration a name goes: to the first that has it.
-use Rattle.std.specs.Prelude.{◌≡◌, ℕ, ◌+◌, Bool, Contains, List, [], ◌∷◌, ◌++◌, Option, Some, None, map, length, codes, decimal}
+use Rattle.std.specs.Prelude.{◌≡◌, ℕ, ◌+◌, Bool, Contains, List, [], ◌∷◌, ◌++◌, Option, Some, None, map, codes, decimal}
 use Rattle.std.specs.Option.{option_map}
 use Rattle.std.specs.Str.{bytes_eq}
 use Rattle.std.specs.List.{list_any, find, position}
@@ -52,13 +52,9 @@ names_in source space.Rules = rule_names_from source 0 (rules_of source)
 abbrev pub is_in : Source → Space → List ℕ → Bool
 is_in source space name = list_any (λ other. bytes_eq other.name name) (names_in source space)
 
--- the place of the first of some names that is this one, from 0
-abbrev pub place_among : List Named → List ℕ → Option ℕ
-place_among names name = position (λ other. bytes_eq other.name name) names
-
--- the place of the first declaration of a name among those of its space
+-- the place of the first declaration of a name among those of its space, from 0
 abbrev pub first_place : Source → Space → List ℕ → Option ℕ
-first_place source space name = place_among (names_in source space) name
+first_place source space name = position (λ other. bytes_eq other.name name) (names_in source space)
 
 -- the predicate, the constructor, the context that has the name
 abbrev pub pred_named : Source → List ℕ → Option PredItem
@@ -70,29 +66,10 @@ con_named source name = find (λ con. bytes_eq (said source con.name) name) (con
 abbrev pub context_named : Source → List ℕ → Option ContextItem
 context_named source name = find (λ context. bytes_eq (said source context.name) name) (contexts_of source)
 
--- how many arguments the predicate or the constructor of this name takes
-abbrev pub arity_of : Source → Space → List ℕ → Option ℕ
-arity_of source space.Constructors name = option_map (λ con. length con.args) (con_named source name)
-arity_of source space.Predicates name = option_map (λ pred. length pred.args) (pred_named source name)
-arity_of source space.Sorts name = None
-arity_of source space.Stages name = None
-arity_of source space.Contexts name = None
-arity_of source space.Rules name = None
-
--- of which kind the predicate of this name is declared
-abbrev pub kind_named : Source → List ℕ → Option PredKind
-kind_named source name = option_map (λ pred. pred.kind) (pred_named source name)
-
--- the same of an atom's predicate
+-- of which kind the predicate of an atom is declared
 abbrev pub kind_of : Source → RawAtom → Option PredKind
-kind_of source atom = kind_named source (said source atom.name)
+kind_of source atom = option_map (λ pred. pred.kind) (pred_named source (said source atom.name))
 
 -- An earlier declaration of the space has the name.
-pub record IsTwice (source : Source) (fault : Fault) : Type 0 where
-  pub space : Space
-  pub before : List Named
-  pub entry : Named
-  pub after : List Named
-  pub names : names_in source space ≡ before ++ entry ∷ after
-  pub earlier : Contains (map (λ other. other.name) before) entry.name
-  pub is : fault ≡ wrong Twice entry.at
+pub data IsTwice (source : Source) (fault : Fault) : Type 0 where
+  again : (space : Space) (before after : List Named) (entry : Named) → names_in source space ≡ before ++ entry ∷ after → Contains (map (λ other. other.name) before) entry.name → fault ≡ wrong Twice entry.at → IsTwice source fault

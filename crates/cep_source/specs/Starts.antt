@@ -12,25 +12,18 @@ use Rattle.cep_parse.specs.declared.raw.RawStart.{RawStart}
 use Rattle.cep_parse.specs.declared.raw.RawStart.TheVariants as start
 use Rattle.cep_base.specs.Kinds.{is_of_facts}
 use Rattle.cep_base.specs.declared.limits.TheConstants.{MOST_DEPTH, MOST_NODES, MOST_TURNS}
-use Rattle.cep_source.specs.declared.space.Role.TheVariants as role
-use Rattle.cep_source.specs.Items.{Source, ContextItem, said}
+use Rattle.cep_source.specs.Items.{Source, said}
 use Rattle.cep_source.specs.Spaces.{context_named, kind_of}
-use Rattle.cep_source.specs.Uses.{placed, is_context}
+use Rattle.cep_source.specs.Uses.{stands_for_context}
 
--- the atoms of a context, and none where there is no such context
-abbrev pub listed_in : Option ContextItem → List RawAtom
-listed_in (Some context) = context.atoms
-listed_in None = []
+-- the atoms of the context of this name, and none where there is no such context
+abbrev pub listed_in : Source → List ℕ → List RawAtom
+listed_in source name = unwrap_or (option_map (λ context. context.atoms) (context_named source name)) []
 
--- what an atom in braces lists: itself, or the atoms of the context for which it stands
-abbrev pub listed_or : Bool → Source → RawAtom → List RawAtom
-listed_or true source atom = listed_in (context_named source (said source atom.name))
-listed_or false source atom = atom ∷ []
-
--- the atoms of a start state, each a copy
+-- the atoms of a start state, each a copy: an atom in braces lists itself, or the atoms of the context for which it stands
 abbrev pub start_atoms : Source → RawStart → List RawAtom
-start_atoms source (start.Named name) = listed_in (context_named source (said source name))
-start_atoms source (start.Listed atoms) = flat_map (λ atom. listed_or (is_context source (placed role.Start atom)) source atom) atoms
+start_atoms source (start.Named name) = listed_in source (said source name)
+start_atoms source (start.Listed atoms) = flat_map (λ atom. if stands_for_context source atom then listed_in source (said source atom.name) else atom ∷ []) atoms
 
 -- whether an atom's predicate is declared as one of facts
 abbrev pub is_of_fact : Source → RawAtom → Bool

@@ -33,6 +33,11 @@ occurrences_from source blanks [] = []
 occurrences_from source blanks (node ∷ nodes) =
     occurrence_at source blanks node.at node.kind ++ occurrences_from source (blanks_behind blanks node.kind) nodes
 
+-- how many blanks there are behind nodes
+abbrev pub blanks_after : ℕ → List RawNode → ℕ
+blanks_after blanks [] = blanks
+blanks_after blanks (first ∷ nodes) = blanks_after (blanks_behind blanks first.kind) nodes
+
 -- the occurrences of the variables of atoms in written order
 abbrev pub occurrences_of : Source → List RawAtom → List Occurrence
 occurrences_of source atoms = occurrences_from source 0 (raw_nodes atoms)

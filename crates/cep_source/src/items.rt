@@ -1,10 +1,30 @@
-// What one item of a file declares.
-ghost use Rattle.std.specs.Prelude.{◌≡◌, map, option_to_list, slice_get};
-ghost use Rattle.cep_source.specs.InItems.{sorts_in, preds_in, stages_in, interactives_in, contexts_in, traces_in};
-ghost use Rattle.cep_source.specs.Kept.{pred_item, context_item, trace_item};
+// What a file declares, item by item, and its atoms.
+ghost use Rattle.std.specs.Prelude.{◌≡◌, slice_get};
+ghost use Rattle.cep_source.specs.Kept.{atom_at};
 
 use cep_base::PredKind;
-use cep_parse::{RawAtom, RawItem, RawRule, RawStart, Span};
+use cep_parse::{RawAtom, RawNode, RawRule, RawStart, Span};
+
+/// An atom by the span of its name, the number of its arguments, and its nodes.
+#[derive(Clone, Copy, Debug, Drop)]
+pub struct AtomRef<'a> {
+    pub name: Span,
+    pub args: u32,
+    pub nodes: &'a [RawNode],
+}
+
+impl<'a> AtomRef<'a> {
+    /// An atom of a raw file.
+    pub fn of_raw(atom: &'a RawAtom) -> AtomRef<'a>
+        ensures { atom_at result ≡ atom.now }
+    {
+        AtomRef {
+            name: atom.name,
+            args: atom.args,
+            nodes: atom.nodes.as_slice(),
+        }
+    }
+}
 
 /// A constructor by the spans of its name, of its arguments' types, and of its own type.
 #[derive(Clone, Copy, Debug, Drop)]
@@ -22,6 +42,13 @@ pub struct RawPred<'a> {
     pub kind: PredKind,
 }
 
+/// A clause: its head and its goals.
+#[derive(Clone, Copy, Debug, Drop)]
+pub struct ClauseRef<'a> {
+    pub head: AtomRef<'a>,
+    pub goals: &'a [RawAtom],
+}
+
 /// A context by the span of its name, and its atoms.
 #[derive(Clone, Copy, Debug, Drop)]
 pub struct RawContext<'a> {
@@ -29,10 +56,10 @@ pub struct RawContext<'a> {
     pub atoms: &'a [RawAtom],
 }
 
-/// A rule, and the number of its stage where it stands in one.
+/// A rule, and the name of its stage where it stands in one.
 #[derive(Clone, Copy, Debug, Drop)]
 pub struct RuleRef<'a> {
-    pub home: Option<u32>,
+    pub home: Option<Span>,
     pub raw: &'a RawRule,
 }
 
@@ -49,85 +76,5 @@ pub struct TraceRef<'a> {
 pub fn item_at<T: Copy>(items: &[T], i: usize) -> Option<T>
     ensures { result ≡ slice_get items.now i }
 {
-    if i < items.len() {
-        return Some(items[i]);
-    }
-    None
-}
-
-// The type that an item declares.
-pub(crate) fn sort_in(item: &RawItem) -> Option<Span>
-    ensures { option_to_list result ≡ sorts_in item.now }
-{
-    match item {
-        RawItem::Sort { name } => Some(*name),
-        _ => None,
-    }
-}
-
-// The stage that an item declares.
-pub(crate) fn stage_in(item: &RawItem) -> Option<Span>
-    ensures { option_to_list result ≡ stages_in item.now }
-{
-    match item {
-        RawItem::Stage { name, .. } => Some(*name),
-        _ => None,
-    }
-}
-
-// The name of a stage that an item says to be interactive.
-pub(crate) fn interactive_in(item: &RawItem) -> Option<Span>
-    ensures { option_to_list result ≡ interactives_in item.now }
-{
-    match item {
-        RawItem::Interactive { name } => Some(*name),
-        _ => None,
-    }
-}
-
-// The predicate of an item.
-pub(crate) fn pred_in(item: &RawItem) -> Option<RawPred<'_>>
-    ensures { map pred_item (option_to_list result) ≡ preds_in item.now }
-{
-    match item {
-        RawItem::Pred { name, args, kind } => Some(RawPred {
-            name: *name,
-            args: args.as_slice(),
-            kind: *kind,
-        }),
-        _ => None,
-    }
-}
-
-// The context of an item.
-pub(crate) fn context_in(item: &RawItem) -> Option<RawContext<'_>>
-    ensures { map context_item (option_to_list result) ≡ contexts_in item.now }
-{
-    match item {
-        RawItem::Context { name, atoms } => Some(RawContext {
-            name: *name,
-            atoms: atoms.as_slice(),
-        }),
-        _ => None,
-    }
-}
-
-// The trace of an item.
-pub(crate) fn trace_in(item: &RawItem) -> Option<TraceRef<'_>>
-    ensures { map trace_item (option_to_list result) ≡ traces_in item.now }
-{
-    match item {
-        RawItem::Trace {
-            at,
-            limit,
-            stage,
-            start,
-        } => Some(TraceRef {
-            at: *at,
-            limit: *limit,
-            stage: *stage,
-            start,
-        }),
-        _ => None,
-    }
+    items.get(i).copied()
 }

@@ -1,67 +1,57 @@
-// The rules of a file, as they are written.
-ghost use Rattle.std.specs.Prelude.{◌≡◌, ◌++◌, map, IfOk, OnOk};
-ghost use Rattle.cep_source.specs.Items.{rules_from, rules_in, stages_behind};
-ghost use Rattle.cep_source.specs.Kept.{rule_item, in_stage};
+// The rules of a file and their names.
+ghost use Rattle.std.specs.Prelude.{◌≡◌, ◌++◌, ◌∷◌, [], map, OnOk};
+ghost use Rattle.cep_source.specs.Kept.{AreRules, rule_item, in_stage};
 
 use crate::items::RuleRef;
-use cep_parse::{RawFile, RawItem, RawRule};
-use std::alloc::{AllocError, Global};
+use crate::table::Table;
+use crate::text::slice_at;
+use cep_base::Text;
+use cep_parse::{RawRule, Span};
+use std::alloc::AllocError;
 
-// Adds rules of a stage.
-fn push_rules<'a>(
-    stage: u32,
-    raws: &'a [RawRule],
-    rules: &mut Vec<RuleRef<'a>>,
-) -> Result<(), AllocError>
-    ensures { OnOk result (map rule_item rules.new.items ≡ map rule_item rules.old.items ++ map (in_stage stage) raws.now) }
-{
-    for raw in raws {
-        rules.push(RuleRef {
-            home: Some(stage),
-            raw,
-        })?;
-    }
-    Ok(())
+/// The rules, their names, and how many of them have no label.
+#[derive(Drop)]
+pub(crate) struct Rules<'a> {
+    pub table: Table<RuleRef<'a>>,
+    pub names: Vec<Text>,
+    pub unlabelled: u64,
 }
 
-// Adds the rules of an item, before which so many stages stand.
-fn push_item<'a>(
-    stages: u32,
-    item: &'a RawItem,
-    rules: &mut Vec<RuleRef<'a>>,
-) -> Result<(), AllocError>
-    ensures { OnOk result (map rule_item rules.new.items ≡ map rule_item rules.old.items ++ rules_in stages item.now) }
-{
-    match item {
-        RawItem::Outer(raw) => {
-            rules.push(RuleRef { home: None, raw })?;
-            Ok(())
+impl<'a> Rules<'a> {
+    // One rule more. Its name is its label, or `qui/` with its number among those without, from 1.
+    pub(crate) fn add_rule(&mut self, text: &[u8], rule: RuleRef<'a>) -> Result<(), AllocError>
+        ensures rules { OnOk result (self.new.table.items.items ≡ self.old.table.items.items ++ rule.entry ∷ []) }
+        ensures named { OnOk result (AreRules text.now self.old → AreRules text.now self.new) }
+    {
+        let mut name = Text::new(*self.names.allocator());
+        match rule.raw.label {
+            Some(label) => name.append(slice_at(text, label))?,
+            None => {
+                // No memory holds so many rules that the count ends.
+                self.unlabelled = self.unlabelled.checked_add(1).ok_or(AllocError)?;
+                name.append(b"qui/")?;
+                name.number(self.unlabelled)?;
+            }
         }
-        RawItem::Stage { rules: raws, .. } => push_rules(stages, raws.as_slice(), rules),
-        _ => Ok(()),
+        self.table.declare_as(rule, name.bytes(), rule.raw.at)?;
+        self.names.push(name)?;
+        Ok(())
     }
-}
 
-// How many stages there are behind an item.
-fn stages_behind(stages: u32, item: &RawItem) -> Result<u32, AllocError>
-    ensures { IfOk result (λ behind. behind ≡ stages_behind stages item.now) }
-{
-    match item {
-        // No memory holds so many stages that the count ends.
-        RawItem::Stage { .. } => stages.checked_add(1).ok_or(AllocError),
-        _ => Ok(stages),
+    // The rules of a stage more.
+    pub(crate) fn add_stage(
+        &mut self,
+        text: &[u8],
+        stage: Span,
+        raws: &'a [RawRule],
+    ) -> Result<(), AllocError>
+        ensures rules { OnOk result (map rule_item self.new.table.items.items ≡ map rule_item self.old.table.items.items ++ map (in_stage stage) raws.now) }
+        ensures named { OnOk result (AreRules text.now self.old → AreRules text.now self.new) }
+    {
+        for raw in raws {
+            let home = Some(stage);
+            self.add_rule(text, RuleRef { home, raw })?;
+        }
+        Ok(())
     }
-}
-
-// The rules in written order, those of stages and those outside.
-pub(crate) fn rules_of(alloc: Global, file: &RawFile) -> Result<Vec<RuleRef<'_>>, AllocError>
-    ensures { IfOk result (λ rules. map rule_item rules.items ≡ rules_from 0 file.now) }
-{
-    let mut rules = Vec::new(alloc);
-    let mut stages = 0;
-    for item in file.as_slice() {
-        push_item(stages, item, &mut rules)?;
-        stages = stages_behind(stages, item)?;
-    }
-    Ok(rules)
 }

@@ -6,7 +6,7 @@ use cep_base::limits::MOST_TURNS;
 use cep_parse::Span;
 
 /// What a text says at a span. Of a span that passes the end, what there is of it.
-pub fn said(text: &[u8], span: Span) -> &[u8]
+pub(crate) fn slice_at(text: &[u8], span: Span) -> &[u8]
     ensures { result.now ≡ slice_of text.now span.from span.to }
 {
     let behind = &text[text.len().min(span.from as usize)..];
@@ -19,11 +19,7 @@ pub fn said(text: &[u8], span: Span) -> &[u8]
 pub fn turns_said(text: &[u8], span: Span) -> Option<u32>
     ensures { result ≡ turns_said text.now span }
 {
-    let number = str::from_utf8(said(text, span)).ok()?;
-    let turns = number.parse().ok()?;
-    if 1 <= turns && turns <= MOST_TURNS {
-        Some(turns)
-    } else {
-        None
-    }
+    let number = str::from_utf8(slice_at(text, span)).ok()?;
+    let turns: u32 = number.parse().ok()?;
+    (1 <= turns && turns <= MOST_TURNS).then_some(turns)
 }

@@ -1,3 +1,4 @@
+mod declared;
 mod drafts;
 mod files;
 mod names;

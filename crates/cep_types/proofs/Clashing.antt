@@ -10,18 +10,23 @@ use Rattle.cep_parse.specs.declared.raw.RawAtom.{RawAtom}
 use Rattle.cep_refusal.specs.declared.fault.Fault.{Fault}
 use Rattle.cep_source.specs.Items.{Source, said}
 use Rattle.cep_refusal.specs.First.{standing, first_of, first_in}
-use Rattle.cep_types.specs.declared.variables.Variables.{Variables}
 use Rattle.cep_types.specs.Sites.{Site, sites_from, sites_in, type_of}
 use Rattle.cep_types.specs.Clashes.{type_at, clash_if, clash_of, atom_clashes, scope_clashes}
-use Rattle.cep_types.specs.Met.{type_met, none_met, AreMet}
+use Rattle.cep_types.specs.Met.{type_met, AreMet}
 use Rattle.cep_base.proofs.Foremost.{foremost_append, foremost_of_three}
 use Rattle.cep_base.proofs.ForemostLoops.{foremost_parts}
 use Rattle.cep_types.proofs.Meeting.{no_sites}
 use Rattle.cep_types.proofs.FirstOccurrences.{types_met}
+use Rattle.cep_source.specs.declared.variables.Variables.{Variables}
+use Rattle.cep_source.specs.Met.{none_met}
 
 pub first_none : (first : Option Fault) → first_of first None ≡ first
 first_none None = refl
 first_none (Some fault) = refl
+
+-- of two lists
+pub both_found : (xs ys : List Fault) (one two both : Option Fault) → one ≡ first_in xs → two ≡ first_in ys → both ≡ first_of one two → both ≡ first_in (xs ++ ys)
+both_found xs ys one two both is_one is_two is_both = is_both ∙ ap (λ o. first_of o two) is_one ∙ ap (first_of (first_in xs)) is_two ∙ sym (foremost_append standing xs ys)
 
 -- one node more
 pub clash_more : (source : Source) (f : Site → List Fault) (all : Option Fault) (nodes : List RawNode) (i : ℕ) (d : RawNode) (next later : List (List ℕ)) (wants : List ℕ) (old item new : Option Fault) → i < length nodes

@@ -5,11 +5,13 @@ use Rattle.std.specs.Str.{bytes_eq}
 use Rattle.cep_parse.specs.declared.raw.Span.{Span}
 use Rattle.cep_parse.specs.declared.raw.RawAtom.{RawAtom}
 use Rattle.cep_source.specs.Items.{Source, said}
-use Rattle.cep_types.specs.declared.variables.Variables.{Variables}
 use Rattle.cep_types.specs.Sites.{Wanted, sites_of, wanted_from, type_of}
-use Rattle.cep_types.specs.Met.{met_under, type_met, none_met, wanted_in, AreMet}
+use Rattle.cep_types.specs.Met.{type_met, wanted_in, AreMet}
 use Rattle.cep_base.proofs.Bytes.{bytes_eq_sym}
 use Rattle.cep_base.proofs.FirstNamed.{found, found_kept}
+use Rattle.cep_source.specs.declared.variables.Variables.{Variables}
+use Rattle.cep_source.specs.Firsts.{under_name}
+use Rattle.cep_source.specs.Met.{none_met}
 
 abbrev name_of : Wanted → List ℕ
 name_of w = w.name
@@ -20,11 +22,11 @@ module _ (source : Source) (atoms : List RawAtom) (variables : Variables) (met :
   abbrev all : List Wanted
   all = wanted_from source 0 (sites_of source atoms)
 
-  under_found : (firsts_ : List (List ℕ × Span)) (name : List ℕ) → option_map (said source) (met_under firsts_ name) ≡ option_map (λ (w : Wanted). w.wants) (found name_of (wanted_in source firsts_) name)
+  under_found : (firsts_ : List (List ℕ × Span)) (name : List ℕ) → option_map (said source) (under_name firsts_ name) ≡ option_map (λ (w : Wanted). w.wants) (found name_of (wanted_in source firsts_) name)
   under_found [] name = refl
   under_found (e ∷ firsts_) name = rw (bytes_eq_sym name e.0) (cases (bytes_eq e.0 name) (under_found firsts_ name)) where
-    cases : (b : Bool) → option_map (said source) (met_under firsts_ name) ≡ option_map (λ (w : Wanted). w.wants) (found name_of (wanted_in source firsts_) name)
-        → option_map (said source) (if b then Some e.1 else met_under firsts_ name) ≡ option_map (λ (w : Wanted). w.wants) (cond b (Some (record { name = e.0; wants = said source e.1 })) (found name_of (wanted_in source firsts_) name))
+    cases : (b : Bool) → option_map (said source) (under_name firsts_ name) ≡ option_map (λ (w : Wanted). w.wants) (found name_of (wanted_in source firsts_) name)
+        → option_map (said source) (if b then Some e.1 else under_name firsts_ name) ≡ option_map (λ (w : Wanted). w.wants) (cond b (Some (record { name = e.0; wants = said source e.1 })) (found name_of (wanted_in source firsts_) name))
     cases true rest = refl
     cases false rest = rest
 

@@ -1,5 +1,4 @@
 pub mod Meeting
 pub mod FirstOccurrences
 pub mod Clashing
-pub mod ScopesInItems
 pub mod Mistaken

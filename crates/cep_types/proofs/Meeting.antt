@@ -13,11 +13,12 @@ use Rattle.cep_parse.specs.declared.raw.RawNode.{RawNode}
 use Rattle.cep_parse.specs.declared.raw.RawAtom.{RawAtom}
 use Rattle.cep_source.specs.Items.{Source, said}
 use Rattle.cep_parse.specs.Raw.{raw_nodes}
-use Rattle.cep_source.specs.Variables.{occurrence_at, blanks_behind}
-use Rattle.cep_types.specs.declared.variables.Variables.{Variables}
+use Rattle.cep_source.specs.Variables.{occurrence_at, blanks_behind, blanks_after}
 use Rattle.cep_types.specs.Sites.{Site, Wanted, sites_from, sites_in, sites_of, wanted_from}
-use Rattle.cep_types.specs.Heads.{blanks_after}
-use Rattle.cep_types.specs.Met.{is_met, added, met_site, wanted_in, further, AreMet}
+use Rattle.cep_types.specs.Met.{wanted_in, further, AreMet}
+use Rattle.cep_source.specs.declared.variables.Variables.{Variables}
+use Rattle.cep_source.specs.Firsts.{has_name, added}
+use Rattle.cep_source.specs.Met.{met_site}
 
 -- the nodes of terms
 abbrev pub nodes_at : List Site → List RawNode
@@ -28,12 +29,12 @@ abbrev wanted_at : Source → ℕ → RawKind → Span → List ℕ → List Wan
 wanted_at source blanks kind at wants = map (λ occurrence. record { name = occurrence.name; wants = wants }) (occurrence_at source blanks at kind)
 
 module _ (source : Source) where
-  any_wanted : (name : List ℕ) (firsts : List (List ℕ × Span)) → is_met firsts name ≡ list_any (λ (other : Wanted). bytes_eq name other.name) (wanted_in source firsts)
+  any_wanted : (name : List ℕ) (firsts : List (List ℕ × Span)) → has_name firsts name ≡ list_any (λ (other : Wanted). bytes_eq name other.name) (wanted_in source firsts)
   any_wanted name [] = refl
   any_wanted name (entry ∷ firsts) = ap (λ (rest : Bool). bytes_eq name entry.0 || rest) (any_wanted name firsts)
 
   added_wanted : (firsts : List (List ℕ × Span)) (name : List ℕ) (wants : Span) → wanted_in source (added firsts (name, wants)) ≡ further (wanted_in source firsts) (record { name = name; wants = said source wants })
-  added_wanted firsts name wants = rw (← any_wanted name firsts) (cases (is_met firsts name)) where
+  added_wanted firsts name wants = rw (← any_wanted name firsts) (cases (has_name firsts name)) where
     entry : List (List ℕ × Span)
     entry = (name, wants) ∷ []
 

@@ -1,29 +1,28 @@
 -- The first term that is found of another type than is wanted is the first one that is mistyped.
-use Rattle.std.proofs.Common.{◌≡◌, ◌≢◌, ℕ, Bool, true, false, if◌then◌else◌, List, [], ◌∷◌, Option, Some, None, refl, ap, sym, ◌∙◌, subst}
-use Rattle.std.specs.List.{flat_map}
+use Rattle.std.proofs.Common.{◌≡◌, ◌≢◌, ℕ, ⊎_elim, Bool, true, false, ◌&&◌, ◌==◌, not, if◌then◌else◌, List, [], ◌∷◌, ◌++◌, map, filter, Option, Some, None, unwrap_or, refl, ap, sym, ◌∙◌, subst}
+use Rattle.std.specs.List.{flat_map, find, list_any}
 use Rattle.std.specs.Option.{option_map}
 use Rattle.std.specs.Str.{bytes_eq}
+use Rattle.std.proofs.lemmas.Bool.{or_parts}
 use Rattle.std.proofs.lemmas.Slice.Eq.{bytes_eq-Decides}
 use Rattle.cep_parse.specs.declared.raw.RawKind.{RawKind}
 use Rattle.cep_parse.specs.declared.raw.RawKind.TheVariants as kind
 use Rattle.cep_parse.specs.declared.raw.RawAtom.{RawAtom}
+use Rattle.cep_parse.specs.Raw.{start_listed}
 use Rattle.cep_refusal.specs.declared.fault.Fault.{Fault}
 use Rattle.cep_refusal.specs.declared.reason.Reason.TheVariants.{TypeClash}
 use Rattle.cep_refusal.specs.First.{standing, IsFirstOrNone, first_in, wrong}
-use Rattle.cep_source.specs.Items.{Source, ConItem, said}
-use Rattle.cep_source.specs.Spaces.{con_named, pred_named}
-use Rattle.cep_types.specs.Sites.{Site, pred_types, sites_from, sites_in, sites_of, type_of, IsScope, Mistyped}
+use Rattle.cep_source.specs.declared.space.Space.TheVariants as space
+use Rattle.cep_source.specs.Items.{Source, ConItem, PredItem, ContextItem, TraceItem, said, preds_of, rules_of, clauses_of, contexts_of, traces_of}
+use Rattle.cep_source.specs.Spaces.{named, is_in, con_named, pred_named}
+use Rattle.cep_source.specs.Uses.{stands_for_context, state_atoms}
+use Rattle.cep_types.specs.Sites.{Site, sites_from, sites_in, sites_of, type_of, rule_scope, clause_scope, IsScope, Mistyped}
+use Rattle.cep_types.specs.Sites.IsScope.{rule, clause, state}
 use Rattle.cep_types.specs.Sites.Mistyped.{constructor, variable}
-use Rattle.cep_types.specs.Clashes.{type_at, clash_if, clash_of, atom_clashes, scope_clashes, item_scopes}
+use Rattle.cep_types.specs.Clashes.{type_at, clash_if, clash_of, atom_clashes, scope_clashes, state_clashes, rule_clashes, clause_clashes, context_clashes, trace_clashes, clashes_of}
+use Rattle.cep_base.proofs.Bytes.{any_map}
 use Rattle.cep_base.proofs.Foremost.{foremost_among, foremost_same}
-use Rattle.cep_types.proofs.Meeting.{no_sites}
-use Rattle.cep_base.proofs.Members.{In, here, in_nil, in_one, in_same, through, via, to_contains, from_contains}
-use Rattle.cep_types.proofs.ScopesInItems.{IsFound, scope_is, scope_found_in}
-use Rattle.cep_types.proofs.ScopesInItems.IsFound.{found, empty}
-
--- all that is found
-abbrev pub clashes_of : Source → List Fault
-clashes_of source = flat_map (λ item. flat_map (scope_clashes source) (item_scopes item)) source.file
+use Rattle.cep_base.proofs.Members.{In, here, there, in_nil, in_one, in_same, in_left, in_right, in_parts, through, via, to_contains, from_contains}
 
 -- A type that is there is not the one that is wanted.
 record Clash (is : Option (List ℕ)) (wants : List ℕ) (at : ℕ) (fault : Fault) : Type 0 where
@@ -47,7 +46,62 @@ clash_there is first wants at fault is_first apart fault_is =
     by_test true e = absurd (apart ((bytes_eq-Decides first wants).0 e))
     by_test false e = subst (In (wrong TypeClash at ∷ [])) (sym fault_is) (here (wrong TypeClash at) [])
 
+-- ---- atoms of states
+
+abbrev plain : Source → TraceItem → List RawAtom
+plain source trace = filter (λ atom. not (stands_for_context source atom)) (start_listed trace.start)
+
+abbrev context_atoms : Source → List RawAtom
+context_atoms source = flat_map (λ (context : ContextItem). context.atoms) (contexts_of source)
+
+abbrev trace_atoms : Source → List RawAtom
+trace_atoms source = flat_map (plain source) (traces_of source)
+
+in_filter : {X : Type 0} (p : X → Bool) (xs : List X) (x : X) → In xs x → p x ≡ true → In (filter p xs) x
+in_filter p [] x h is = absurd (in_nil x h)
+in_filter p (x ∷ xs) x' (here a b) is = rw is (here x (filter p xs))
+in_filter p (x ∷ xs) y (there a b c m) is = cases (p x) (in_filter p xs y m is) where
+  cases : (passes : Bool) → In (filter p xs) y → In (if passes then x ∷ filter p xs else filter p xs) y
+  cases true rest = there x y (filter p xs) rest
+  cases false rest = rest
+
+from_filter : {X : Type 0} (p : X → Bool) (xs : List X) (x : X) → In (filter p xs) x → In xs x
+from_filter p [] x h = absurd (in_nil x h)
+from_filter p (x ∷ xs) y h = cases (p x) h (from_filter p xs y) where
+  cases : (passes : Bool) → In (if passes then x ∷ filter p xs else filter p xs) y → (In (filter p xs) y → In xs y) → In (x ∷ xs) y
+  cases true k rest = ⊎_elim (λ a. subst (In (x ∷ xs)) (sym (in_one x y a)) (here x xs)) (λ a. there x y xs (rest a)) (in_parts (x ∷ []) (filter p xs) y k)
+  cases false k rest = there x y xs (rest k)
+
+found_none : {X : Type 0} (p : X → Bool) (xs : List X) → list_any p xs ≡ false → find p xs ≡ None
+found_none p [] e = refl
+found_none p (x ∷ xs) e = let both = or_parts (p x) (list_any p xs) e in rw both.0 (found_none p xs both.1)
+
+-- what stands for a context has no predicate, so no types are wanted of its terms
+no_terms : (source : Source) (atom : RawAtom) → stands_for_context source atom ≡ true → sites_in source atom ≡ []
+no_terms source atom stands =
+    ap (λ (pred : Option PredItem). sites_from source (map (said source) (unwrap_or (option_map (λ (p : PredItem). p.args) pred) [])) atom.nodes) unknown
+  where
+    name : List ℕ
+    name = said source atom.name
+
+    absent : is_in source space.Predicates name ≡ false
+    absent = not_in (atom.args == 0) (is_in source space.Predicates name) (is_in source space.Contexts name) stands where
+      not_in : (a b c : Bool) → (a && (not b && c)) ≡ true → b ≡ false
+      not_in true true c e = absurd cc
+      not_in true false c e = refl
+      not_in false b c e = absurd cc
+
+    unknown : pred_named source name ≡ None
+    unknown = found_none (λ pred. bytes_eq (said source pred.name) name) (preds_of source) (sym (any_map (λ other. bytes_eq other.name name) (λ pred. named source pred.name) (preds_of source)) ∙ absent)
+
 module _ (source : Source) (fault : Fault) where
+  no_clash : (atom : RawAtom) → stands_for_context source atom ≡ true → In (scope_clashes source (atom ∷ [])) fault → ⊥
+  no_clash atom stands h =
+      let clash = clash_of source (type_of source (atom ∷ [])) in
+      let one = through (atom_clashes source (type_of source (atom ∷ []))) (atom ∷ []) fault h in
+      let terms : sites_in source one.from ≡ [] = ap (sites_in source) (in_one atom one.from one.member) ∙ no_terms source atom stands in
+      in_nil fault (in_same [] (atom_clashes source (type_of source (atom ∷ [])) one.from) fault (sym (ap (flat_map clash) terms)) one.given)
+
   -- ---- what is found is mistyped
 
   con_sound : (atoms : List RawAtom) (site : Site) (con : Option ConItem) → IsScope source atoms → In (sites_of source atoms) site → site.node.kind ≡ kind.App → con_named source (said source site.node.at) ≡ con
@@ -72,11 +126,36 @@ module _ (source : Source) (fault : Fault) where
       let site = through (clash_of source (type_of source atoms)) (sites_in source atom.from) fault atom.given in
       site_sound atoms site.from site.from.node.kind scope (via (sites_in source) atoms atom.from site.from atom.member site.member) refl site.given
 
+  states_sound : (atoms : List RawAtom) → ((atom : RawAtom) → In atoms atom → In (scope_clashes source (atom ∷ [])) fault → IsScope source (atom ∷ [])) → In (state_clashes source atoms) fault → Mistyped source fault
+  states_sound atoms are h =
+      let atom = through (λ atom. scope_clashes source (atom ∷ [])) atoms fault h in
+      scope_sound (atom.from ∷ []) (are atom.from atom.member atom.given) atom.given
+
+  context_scope : (context : ContextItem) (atom : RawAtom) → In (contexts_of source) context → In context.atoms atom → IsScope source (atom ∷ [])
+  context_scope context atom member h = state atom (to_contains (state_atoms source) atom (in_left (context_atoms source) (trace_atoms source) atom (via (λ context. context.atoms) (contexts_of source) context atom member h))) refl
+
+  -- an atom in braces stands for itself, or has no terms
+  trace_scope : (trace : TraceItem) (atom : RawAtom) → In (traces_of source) trace → In (start_listed trace.start) atom → In (scope_clashes source (atom ∷ [])) fault → IsScope source (atom ∷ [])
+  trace_scope trace atom member h clash = cases (stands_for_context source atom) refl where
+    cases : (stands : Bool) → stands_for_context source atom ≡ stands → IsScope source (atom ∷ [])
+    cases true is = absurd (no_clash atom is clash)
+    cases false is =
+        state atom
+        (to_contains (state_atoms source) atom
+        (in_right (context_atoms source) (trace_atoms source) atom (via (plain source) (traces_of source) trace atom member (in_filter (λ a. not (stands_for_context source a)) (start_listed trace.start) atom h (ap not is)))))
+        refl
+
   sound : In (clashes_of source) fault → Mistyped source fault
-  sound h =
-      let item = through (λ item. flat_map (scope_clashes source) (item_scopes item)) source.file fault h in
-      let atoms = through (scope_clashes source) (item_scopes item.from) fault item.given in
-      scope_sound atoms.from (scope_is source item.from atoms.from item.member atoms.member) atoms.given
+  sound h = ⊎_elim
+      (λ a. ⊎_elim
+      (λ b. let rule_ = through (λ item. scope_clashes source (rule_scope item)) (rules_of source) fault b in scope_sound (rule_scope rule_.from) (rule rule_.from (to_contains (rules_of source) rule_.from rule_.member) refl) rule_.given)
+      (λ b. let clause_ = through (λ item. scope_clashes source (clause_scope item)) (clauses_of source) fault b in scope_sound (clause_scope clause_.from) (clause clause_.from (to_contains (clauses_of source) clause_.from clause_.member) refl) clause_.given)
+      (in_parts (rule_clashes source) (clause_clashes source) fault a))
+      (λ a. ⊎_elim
+      (λ b. let context = through (λ item. state_clashes source item.atoms) (contexts_of source) fault b in states_sound context.from.atoms (λ atom m _. context_scope context.from atom context.member m) context.given)
+      (λ b. let trace = through (λ item. state_clashes source (start_listed item.start)) (traces_of source) fault b in states_sound (start_listed trace.from.start) (λ atom m clash. trace_scope trace.from atom trace.member m clash) trace.given)
+      (in_parts (context_clashes source) (trace_clashes source) fault a))
+      (in_parts (rule_clashes source ++ clause_clashes source) (context_clashes source ++ trace_clashes source) fault h)
 
   -- ---- and what is mistyped is found
 
@@ -85,29 +164,34 @@ module _ (source : Source) (fault : Fault) where
       let atom = through (sites_in source) atoms site within in
       via (atom_clashes source (type_of source atoms)) atoms atom.from fault atom.member (via (clash_of source (type_of source atoms)) (sites_in source atom.from) site fault atom.given h)
 
-  -- an atom without nodes has no terms
-  bare_sound : (head : RawAtom) → head.nodes ≡ [] → In (scope_clashes source (head ∷ [])) fault → ⊥
-  bare_sound head none h =
-      let types = pred_types source (pred_named source (said source head.name)) in
-      let clash = clash_of source (type_of source (head ∷ [])) in
-      let no_terms : sites_in source head ≡ [] = ap (sites_from source types) none ∙ no_sites source types in
-      let atom = through (atom_clashes source (type_of source (head ∷ []))) (head ∷ []) fault h in
-      let terms : sites_in source atom.from ≡ [] = ap (sites_in source) (in_one head atom.from atom.member) ∙ no_terms in
-      in_nil fault (in_same [] (atom_clashes source (type_of source (head ∷ [])) atom.from) fault (sym (ap (flat_map clash) terms)) atom.given)
+  state_among : (atom : RawAtom) → In (state_atoms source) atom → In (scope_clashes source (atom ∷ [])) fault → In (context_clashes source ++ trace_clashes source) fault
+  state_among atom member h = ⊎_elim
+      (λ a. let context = through (λ item. item.atoms) (contexts_of source) atom a in
+      in_left (context_clashes source) (trace_clashes source) fault (via (λ item. state_clashes source item.atoms) (contexts_of source) context.from fault context.member (via (λ one. scope_clashes source (one ∷ [])) context.from.atoms atom fault context.given h)))
+      (λ a. let trace = through (plain source) (traces_of source) atom a in
+      in_right (context_clashes source) (trace_clashes source) fault (via (λ item. state_clashes source (start_listed item.start)) (traces_of source) trace.from fault trace.member
+      (via (λ one. scope_clashes source (one ∷ [])) (start_listed trace.from.start) atom fault (from_filter (λ a. not (stands_for_context source a)) (start_listed trace.from.start) atom trace.given) h)))
+      (in_parts (context_atoms source) (trace_atoms source) atom member)
 
-  scope_among : (atoms : List RawAtom) → IsFound source atoms → In (scope_clashes source atoms) fault → In (clashes_of source) fault
-  scope_among atoms (found item member within) h =
-      via (λ item. flat_map (scope_clashes source) (item_scopes item)) source.file item fault member (via (scope_clashes source) (item_scopes item) atoms fault within h)
-  scope_among atoms (empty head none is) h = absurd (bare_sound head none (subst (λ (list : List RawAtom). In (scope_clashes source list) fault) is h))
+  scope_among : (atoms : List RawAtom) → IsScope source atoms → In (scope_clashes source atoms) fault → In (clashes_of source) fault
+  scope_among atoms (rule item within is) h =
+      in_left (rule_clashes source ++ clause_clashes source) _ fault (in_left (rule_clashes source) _ fault
+      (via (λ one. scope_clashes source (rule_scope one)) (rules_of source) item fault (from_contains (rules_of source) item within) (subst (λ (them : List RawAtom). In (scope_clashes source them) fault) is h)))
+  scope_among atoms (clause item within is) h =
+      in_left (rule_clashes source ++ clause_clashes source) _ fault (in_right (rule_clashes source) _ fault
+      (via (λ one. scope_clashes source (clause_scope one)) (clauses_of source) item fault (from_contains (clauses_of source) item within) (subst (λ (them : List RawAtom). In (scope_clashes source them) fault) is h)))
+  scope_among atoms (state atom within is) h =
+      in_right (rule_clashes source ++ clause_clashes source) _ fault
+      (state_among atom (from_contains (state_atoms source) atom within) (subst (λ (them : List RawAtom). In (scope_clashes source them) fault) is h))
 
   complete : Mistyped source fault → In (clashes_of source) fault
   complete (constructor atoms site con scope within shape is apart fault_is) =
-      scope_among atoms (scope_found_in source atoms scope)
+      scope_among atoms scope
       (site_found atoms site (from_contains (sites_of source atoms) site within)
       (clash_there (type_at source (type_of source atoms) site.node.kind site.node.at) (said source con.sort) site.wants site.node.at.from fault
       (ap (λ k. type_at source (type_of source atoms) k site.node.at) shape ∙ ap (option_map (λ (con : ConItem). said source con.sort)) is) apart fault_is))
   complete (variable atoms site first scope within shape is apart fault_is) =
-      scope_among atoms (scope_found_in source atoms scope)
+      scope_among atoms scope
       (site_found atoms site (from_contains (sites_of source atoms) site within)
       (clash_there (type_at source (type_of source atoms) site.node.kind site.node.at) first site.wants site.node.at.from fault
       (ap (λ k. type_at source (type_of source atoms) k site.node.at) shape ∙ is) apart fault_is))

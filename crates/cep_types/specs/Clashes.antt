@@ -1,3 +1,4 @@
+-- Private.
 -- The terms of atoms that share their variables, which are of another type than is wanted, one after another.
 use Rattle.std.specs.Prelude.{ℕ, List, [], ◌∷◌, ◌++◌, Option, Some, None, map, if◌then◌else◌}
 use Rattle.std.specs.Option.{option_map}
@@ -7,15 +8,13 @@ use Rattle.cep_parse.specs.declared.raw.Span.{Span}
 use Rattle.cep_parse.specs.declared.raw.RawKind.{RawKind}
 use Rattle.cep_parse.specs.declared.raw.RawKind.TheVariants as kind
 use Rattle.cep_parse.specs.declared.raw.RawAtom.{RawAtom}
-use Rattle.cep_parse.specs.declared.raw.RawItem.{RawItem}
-use Rattle.cep_parse.specs.declared.raw.RawItem.TheVariants as item
 use Rattle.cep_refusal.specs.declared.fault.Fault.{Fault}
 use Rattle.cep_refusal.specs.declared.reason.Reason.TheVariants.{TypeClash}
-use Rattle.cep_source.specs.Items.{Source, said}
+use Rattle.cep_source.specs.Items.{Source, said, rules_of, clauses_of, contexts_of, traces_of}
 use Rattle.cep_source.specs.Spaces.{con_named}
-use Rattle.cep_parse.specs.Raw.{atoms_of, start_listed}
+use Rattle.cep_parse.specs.Raw.{start_listed}
 use Rattle.cep_refusal.specs.First.{wrong}
-use Rattle.cep_types.specs.Sites.{Site, sites_in, type_of}
+use Rattle.cep_types.specs.Sites.{Site, sites_in, type_of, rule_scope, clause_scope}
 
 -- the type of the term at a node, as variables have types
 abbrev pub type_at : Source → (List ℕ → Option (List ℕ)) → RawKind → Span → Option (List ℕ)
@@ -38,14 +37,23 @@ atom_clashes source type_under atom = flat_map (clash_of source type_under) (sit
 abbrev pub scope_clashes : Source → List RawAtom → List Fault
 scope_clashes source atoms = flat_map (atom_clashes source (type_of source atoms)) atoms
 
--- the atoms of an item, those that share their variables together
-abbrev pub item_scopes : RawItem → List (List RawAtom)
-item_scopes (item.Outer rule) = (atoms_of rule.left ++ atoms_of rule.right) ∷ []
-item_scopes (item.Stage name rules) = map (λ rule. atoms_of rule.left ++ atoms_of rule.right) rules
-item_scopes (item.Clause label head goals) = (head ∷ goals) ∷ []
-item_scopes (item.Context name atoms) = map (λ atom. atom ∷ []) atoms
-item_scopes (item.Trace at limit stage start) = map (λ atom. atom ∷ []) (start_listed start)
-item_scopes (item.Sort name) = []
-item_scopes (item.Pred name args of_kind) = []
-item_scopes (item.Colon left args right) = []
-item_scopes (item.Interactive name) = []
+-- the faults of atoms of states, each of which has variables of its own
+abbrev pub state_clashes : Source → List RawAtom → List Fault
+state_clashes source atoms = flat_map (λ atom. scope_clashes source (atom ∷ [])) atoms
+
+-- those of all rules and clauses, and of all contexts and traces
+abbrev pub rule_clashes : Source → List Fault
+rule_clashes source = flat_map (λ rule. scope_clashes source (rule_scope rule)) (rules_of source)
+
+abbrev pub clause_clashes : Source → List Fault
+clause_clashes source = flat_map (λ clause. scope_clashes source (clause_scope clause)) (clauses_of source)
+
+abbrev pub context_clashes : Source → List Fault
+context_clashes source = flat_map (λ context. state_clashes source context.atoms) (contexts_of source)
+
+abbrev pub trace_clashes : Source → List Fault
+trace_clashes source = flat_map (λ trace. state_clashes source (start_listed trace.start)) (traces_of source)
+
+-- all of them
+abbrev pub clashes_of : Source → List Fault
+clashes_of source = (rule_clashes source ++ clause_clashes source) ++ (context_clashes source ++ trace_clashes source)

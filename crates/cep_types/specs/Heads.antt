@@ -39,8 +39,3 @@ abbrev pub heads_from : Source → List (List ℕ) → ℕ → List RawNode → 
 heads_from source vars blanks [] = []
 heads_from source vars blanks (first ∷ nodes) =
     head_at source vars blanks first.kind first.at first.args ∷ heads_from source vars (blanks_behind blanks first.kind) nodes
-
--- how many blanks there are behind nodes
-abbrev pub blanks_after : ℕ → List RawNode → ℕ
-blanks_after blanks [] = blanks
-blanks_after blanks (first ∷ nodes) = blanks_after (blanks_behind blanks first.kind) nodes

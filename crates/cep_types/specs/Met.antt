@@ -1,9 +1,8 @@
 -- The variables that were met so far, site by site: each once, with the type that is wanted where it occurs first.
-use Rattle.std.specs.Prelude.{◌≡◌, ℕ, ◌+◌, Bool, if◌then◌else◌, List, [], ◌∷◌, ◌++◌, Option, map, fold, position, codes, decimal}
+use Rattle.std.specs.Prelude.{◌≡◌, ℕ, if◌then◌else◌, List, [], ◌∷◌, ◌++◌, Option, map, fold}
 use Rattle.std.specs.Option.{option_map}
 use Rattle.std.specs.Str.{bytes_eq}
 use Rattle.std.specs.List.{list_any}
-use Rattle.std.specs.Map.{lookup}
 use Rattle.cep_parse.specs.declared.raw.Span.{Span}
 use Rattle.cep_parse.specs.declared.raw.RawKind.{RawKind}
 use Rattle.cep_parse.specs.declared.raw.RawKind.TheVariants as kind
@@ -11,45 +10,20 @@ use Rattle.cep_parse.specs.declared.raw.RawAtom.{RawAtom}
 use Rattle.cep_source.specs.declared.space.Space.TheVariants as space
 use Rattle.cep_source.specs.Items.{Source, said}
 use Rattle.cep_parse.specs.Raw.{raw_nodes}
-use Rattle.cep_types.specs.declared.variables.Variables.{Variables}
 use Rattle.cep_types.specs.Sites.{Wanted, sites_of, wanted_from}
-use Rattle.cep_types.specs.Heads.{Head, con, var, blanks_after}
+use Rattle.cep_types.specs.Heads.{Head, con, var}
 use Rattle.cep_types.specs.Heads as heads
-
--- whether the name is there, its number, and its type
-abbrev pub is_met : List (List ℕ × Span) → List ℕ → Bool
-is_met firsts name = list_any (λ entry. bytes_eq name entry.0) firsts
-
-abbrev pub met_number : List (List ℕ × Span) → List ℕ → Option ℕ
-met_number firsts name = position (λ entry. bytes_eq name entry.0) firsts
-
-abbrev pub met_under : List (List ℕ × Span) → List ℕ → Option Span
-met_under firsts name = lookup (λ other. bytes_eq name other) firsts
-
--- one more name, if it is new
-abbrev pub added : List (List ℕ × Span) → List ℕ × Span → List (List ℕ × Span)
-added firsts entry = if is_met firsts entry.0 then firsts else firsts ++ entry ∷ []
+use Rattle.cep_source.specs.declared.variables.Variables.{Variables}
+use Rattle.cep_source.specs.Variables.{blanks_after}
+use Rattle.cep_source.specs.Firsts.{under_name}
 
 -- the name of a name's type
 abbrev pub type_met : Source → List (List ℕ × Span) → List ℕ → Option (List ℕ)
-type_met source firsts name = option_map (said source) (met_under firsts name)
-
-abbrev pub names_seen : List (List ℕ × Span) → List (List ℕ)
-names_seen firsts = map (λ entry. entry.0) firsts
+type_met source firsts name = option_map (said source) (under_name firsts name)
 
 -- the numbers of the types of all names
 abbrev pub kinds_met : Source → List (List ℕ × Span) → List ℕ
 kinds_met source firsts = map (λ entry. heads.number_of source space.Sorts (said source entry.1)) firsts
-
--- nothing was met
-abbrev pub none_met : Variables
-none_met = record { firsts = []; blanks = 0 }
-
--- one node more, of which this type is wanted
-abbrev pub met_site : Source → Variables → RawKind → Span → Span → Variables
-met_site source old kind.App at wants = old
-met_site source old kind.Var at wants = record { firsts = added old.firsts (said source at, wants); blanks = old.blanks }
-met_site source old kind.Blank at wants = record { firsts = added old.firsts (codes "_" ++ decimal (old.blanks + 1), wants); blanks = old.blanks + 1 }
 
 -- each name with the name of its type
 abbrev pub wanted_in : Source → List (List ℕ × Span) → List Wanted

@@ -1,5 +1,5 @@
 -- Which type is wanted of each term of a rule, a clause or a state, and which term is of another.
-use Rattle.std.specs.Prelude.{◌≡◌, ◌≢◌, ℕ, List, [], ◌∷◌, ◌++◌, Option, Some, None, map, Contains}
+use Rattle.std.specs.Prelude.{◌≡◌, ◌≢◌, ℕ, List, [], ◌∷◌, ◌++◌, Option, Some, None, map, unwrap_or, Contains}
 use Rattle.std.specs.Option.{option_map}
 use Rattle.std.specs.Str.{bytes_eq}
 use Rattle.std.specs.List.{flat_map, find}
@@ -10,11 +10,11 @@ use Rattle.cep_parse.specs.declared.raw.RawNode.{RawNode}
 use Rattle.cep_parse.specs.declared.raw.RawAtom.{RawAtom}
 use Rattle.cep_refusal.specs.declared.fault.Fault.{Fault}
 use Rattle.cep_refusal.specs.declared.reason.Reason.TheVariants.{TypeClash}
-use Rattle.cep_source.specs.Items.{Source, PredItem, ConItem, ClauseItem, RuleItem, said, clauses_of, rules_of}
+use Rattle.cep_source.specs.Items.{Source, ConItem, ClauseItem, RuleItem, said, clauses_of, rules_of}
 use Rattle.cep_source.specs.Spaces.{pred_named, con_named}
 use Rattle.cep_source.specs.Variables.{occurrence_at, blanks_behind}
 use Rattle.cep_parse.specs.Raw.{atoms_of}
-use Rattle.cep_source.specs.Uses.{Placed, placed_of, IsOfState}
+use Rattle.cep_source.specs.Uses.{state_atoms}
 use Rattle.cep_refusal.specs.First.{wrong}
 
 -- A term by its node, and the name of the type that is wanted of it.
@@ -22,18 +22,12 @@ pub record Site : Type 0 where
   pub node : RawNode
   pub wants : List ℕ
 
--- the types of the arguments of a constructor, and of a predicate
-abbrev pub con_types : Source → Option ConItem → List (List ℕ)
-con_types source (Some con) = map (said source) con.args
-con_types source None = []
+-- the types that a predicate of this name, and a node, wants of its arguments
+abbrev pub pred_types : Source → List ℕ → List (List ℕ)
+pred_types source name = map (said source) (unwrap_or (option_map (λ pred. pred.args) (pred_named source name)) [])
 
-abbrev pub pred_types : Source → Option PredItem → List (List ℕ)
-pred_types source (Some pred) = map (said source) pred.args
-pred_types source None = []
-
--- the types that a node wants of its arguments
 abbrev pub node_types : Source → RawKind → Span → List (List ℕ)
-node_types source kind.App span = con_types source (con_named source (said source span))
+node_types source kind.App span = map (said source) (unwrap_or (option_map (λ con. con.args) (con_named source (said source span))) [])
 node_types source kind.Blank span = []
 node_types source kind.Var span = []
 
@@ -46,7 +40,7 @@ sites_from source (wants ∷ next) (node ∷ nodes) =
 
 -- the terms of an atom, and of atoms in written order
 abbrev pub sites_in : Source → RawAtom → List Site
-sites_in source atom = sites_from source (pred_types source (pred_named source (said source atom.name))) atom.nodes
+sites_in source atom = sites_from source (pred_types source (said source atom.name)) atom.nodes
 
 abbrev pub sites_of : Source → List RawAtom → List Site
 sites_of source atoms = flat_map (sites_in source) atoms
@@ -78,7 +72,7 @@ clause_scope clause = clause.head ∷ clause.goals
 pub data IsScope (source : Source) (atoms : List RawAtom) : Type 0 where
   rule : (item : RuleItem) → Contains (rules_of source) item → atoms ≡ rule_scope item → IsScope source atoms
   clause : (item : ClauseItem) → Contains (clauses_of source) item → atoms ≡ clause_scope item → IsScope source atoms
-  state : (p : Placed) → Contains (placed_of source) p → IsOfState p.role → atoms ≡ p.atom ∷ [] → IsScope source atoms
+  state : (atom : RawAtom) → Contains (state_atoms source) atom → atoms ≡ atom ∷ [] → IsScope source atoms
 
 -- A term at a place that wants another type, case by case.
 pub data Mistyped (source : Source) (fault : Fault) : Type 0 where

@@ -1,19 +1,20 @@
 // The terms of a text that are of other types than are wanted.
-ghost use Rattle.std.specs.Prelude.{◌≡◌, ◌++◌, ◌∷◌, [], IfOk};
+ghost use Rattle.std.specs.Prelude.{◌≡◌, ◌++◌, IfOk};
 ghost use Rattle.std.specs.List.{flat_map};
 ghost use Rattle.std.specs.Option.{option_map};
 ghost use Rattle.cep_refusal.specs.First.{first_in, IsFirstOrNone};
+ghost use Rattle.cep_parse.specs.Raw.{atoms_of};
 ghost use Rattle.cep_source.specs.Items.{said};
-ghost use Rattle.cep_parse.specs.Raw.{atoms_in, atoms_of};
-ghost use Rattle.cep_types.specs.Clashes.{type_at, clash_of, atom_clashes, scope_clashes, item_scopes};
+ghost use Rattle.cep_source.specs.Kept.{atom_at, clause_item};
+ghost use Rattle.cep_types.specs.Clashes.{type_at, clash_of, atom_clashes, scope_clashes, state_clashes, rule_clashes, clause_clashes, context_clashes, trace_clashes};
 ghost use Rattle.cep_types.specs.Met.{type_met};
-ghost use Rattle.cep_types.specs.Sites.{Mistyped};
+ghost use Rattle.cep_types.specs.Sites.{Mistyped, clause_scope};
 
 use crate::sites::{pending, site};
-use crate::variables::Variables;
-use cep_parse::{RawAtom, RawElem, RawItem, RawKind, RawNode, RawRule, Span};
+use crate::variables::{clause_variables, meet_atom, rule_variables};
+use cep_parse::{RawAtom, RawElem, RawKind, RawNode, RawRule, Span};
 use cep_refusal::{Fault, FirstFault, Reason};
-use cep_source::Source;
+use cep_source::{AtomRef, ClauseRef, Source, Variables};
 use std::alloc::AllocError;
 
 // The type of the term at a node.
@@ -21,11 +22,8 @@ fn node_type(source: &Source, variables: &Variables, node: &RawNode) -> Option<S
     ensures { option_map (said source.now) result ≡ type_at source.now (type_met source.now variables.now.firsts) node.now.kind node.now.at }
 {
     match node.kind {
-        RawKind::App => match source.con(node.at) {
-            Some(con) => Some(con.sort),
-            None => None,
-        },
-        RawKind::Var => variables.firsts.wants(source.said(node.at)),
+        RawKind::App => Some(source.con(node.at)?.sort),
+        RawKind::Var => variables.firsts.under(source.said(node.at)),
         RawKind::Blank => None,
     }
 }
@@ -48,45 +46,17 @@ fn clash(source: &Source, variables: &Variables, node: &RawNode, wants: Span) ->
 fn atom_clash(
     source: &Source,
     variables: &Variables,
-    atom: &RawAtom,
+    atom: AtomRef,
 ) -> Result<Option<Fault>, AllocError>
-    ensures { IfOk result (λ first. first ≡ first_in (atom_clashes source.now (type_met source.now variables.now.firsts) atom.now)) }
+    ensures { IfOk result (λ first. first ≡ first_in (atom_clashes source.now (type_met source.now variables.now.firsts) (atom_at atom.entry))) }
 {
     let mut first = FirstFault::none();
     let mut pending = pending(source, atom.name)?;
-    for node in atom.nodes.as_slice() {
+    for node in atom.nodes {
         let wants = site(source, &mut pending, node)?;
         first.note(clash(source, variables, node, wants));
     }
     Ok(first.found())
-}
-
-// The first one of atoms that share these variables.
-fn clash_among(
-    source: &Source,
-    variables: &Variables,
-    atoms: &[RawAtom],
-) -> Result<Option<Fault>, AllocError>
-    ensures { IfOk result (λ first. first ≡ first_in (flat_map (atom_clashes source.now (type_met source.now variables.now.firsts)) atoms.now)) }
-{
-    let mut first = FirstFault::none();
-    for atom in atoms {
-        first.note(atom_clash(source, variables, atom)?);
-    }
-    Ok(first.found())
-}
-
-fn elem_clash(
-    source: &Source,
-    variables: &Variables,
-    elem: &RawElem,
-) -> Result<Option<Fault>, AllocError>
-    ensures { IfOk result (λ first. first ≡ first_in (flat_map (atom_clashes source.now (type_met source.now variables.now.firsts)) (atoms_in elem.now))) }
-{
-    match elem.atom() {
-        Some(atom) => atom_clash(source, variables, atom),
-        None => Ok(None),
-    }
 }
 
 // The first one of a side.
@@ -99,7 +69,10 @@ fn side_clash(
 {
     let mut first = FirstFault::none();
     for elem in side {
-        first.note(elem_clash(source, variables, elem)?);
+        let Some(atom) = elem.atom() else {
+            continue;
+        };
+        first.note(atom_clash(source, variables, AtomRef::of_raw(atom))?);
     }
     Ok(first.found())
 }
@@ -108,77 +81,86 @@ fn side_clash(
 fn rule_clash(source: &Source, rule: &RawRule) -> Result<Option<Fault>, AllocError>
     ensures { IfOk result (λ first. first ≡ first_in (scope_clashes source.now (atoms_of rule.now.left ++ atoms_of rule.now.right))) }
 {
-    let variables = Variables::of_rule(source, rule)?;
+    let variables = rule_variables(source, rule)?;
     let first = side_clash(source, &variables, rule.left.as_slice())?;
     let other = side_clash(source, &variables, rule.right.as_slice())?;
     Ok(Fault::first_of(first, other))
 }
 
-fn rules_clash(source: &Source, rules: &[RawRule]) -> Result<Option<Fault>, AllocError>
-    ensures { IfOk result (λ first. first ≡ first_in (flat_map (λ rule. scope_clashes source.now (atoms_of rule.left ++ atoms_of rule.right)) rules.now)) }
+// The first one of atoms that share these variables.
+fn clash_among(
+    source: &Source,
+    variables: &Variables,
+    atoms: &[RawAtom],
+) -> Result<Option<Fault>, AllocError>
+    ensures { IfOk result (λ first. first ≡ first_in (flat_map (atom_clashes source.now (type_met source.now variables.now.firsts)) atoms.now)) }
 {
     let mut first = FirstFault::none();
-    for rule in rules {
-        first.note(rule_clash(source, rule)?);
+    for atom in atoms {
+        first.note(atom_clash(source, variables, AtomRef::of_raw(atom))?);
     }
     Ok(first.found())
 }
 
 // The first one of a clause.
-fn clause_clash(
-    source: &Source,
-    head: &RawAtom,
-    goals: &[RawAtom],
-) -> Result<Option<Fault>, AllocError>
-    ensures { IfOk result (λ first. first ≡ first_in (scope_clashes source.now (head.now ∷ goals.now))) }
+fn clause_clash(source: &Source, clause: &ClauseRef) -> Result<Option<Fault>, AllocError>
+    ensures { IfOk result (λ first. first ≡ first_in (scope_clashes source.now (clause_scope (clause_item clause.now)))) }
 {
-    let variables = Variables::of_clause(source, head, goals)?;
-    let first = atom_clash(source, &variables, head)?;
-    let other = clash_among(source, &variables, goals)?;
+    let variables = clause_variables(source, clause)?;
+    let first = atom_clash(source, &variables, clause.head)?;
+    let other = clash_among(source, &variables, clause.goals)?;
     Ok(Fault::first_of(first, other))
 }
 
-// The first one of an atom of a state.
-fn state_clash(source: &Source, atom: &RawAtom) -> Result<Option<Fault>, AllocError>
-    ensures { IfOk result (λ first. first ≡ first_in (scope_clashes source.now (atom.now ∷ []))) }
-{
-    let mut variables = Variables::new(source.alloc());
-    variables.meet_atom(source, atom)?;
-    atom_clash(source, &variables, atom)
-}
-
-// The first one of atoms of states.
+// The first one of atoms of states, each of which has variables of its own.
 fn states_clash(source: &Source, atoms: &[RawAtom]) -> Result<Option<Fault>, AllocError>
-    ensures { IfOk result (λ first. first ≡ first_in (flat_map (λ atom. scope_clashes source.now (atom ∷ [])) atoms.now)) }
+    ensures { IfOk result (λ first. first ≡ first_in (state_clashes source.now atoms.now)) }
 {
     let mut first = FirstFault::none();
     for atom in atoms {
-        first.note(state_clash(source, atom)?);
+        let mut variables = Variables::unmet(source.alloc());
+        meet_atom(source, &mut variables, AtomRef::of_raw(atom))?;
+        first.note(atom_clash(source, &variables, AtomRef::of_raw(atom))?);
     }
     Ok(first.found())
 }
 
-// The first one of an item. A clause with a label and no goals has a head without terms.
-fn item_clash(source: &Source, item: &RawItem) -> Result<Option<Fault>, AllocError>
-    ensures { IfOk result (λ first. first ≡ first_in (flat_map (scope_clashes source.now) (item_scopes item.now))) }
-{
-    match item {
-        RawItem::Outer(rule) => rule_clash(source, rule),
-        RawItem::Stage { rules, .. } => rules_clash(source, rules.as_slice()),
-        RawItem::Clause { head, goals, .. } => clause_clash(source, head, goals.as_slice()),
-        RawItem::Context { atoms, .. } => states_clash(source, atoms.as_slice()),
-        RawItem::Trace { start, .. } => states_clash(source, start.listed()),
-        _ => Ok(None),
-    }
-}
-
-// The first one of all items.
-fn items_clash(source: &Source) -> Result<Option<Fault>, AllocError>
-    ensures { IfOk result (λ first. first ≡ first_in (flat_map (λ item. flat_map (scope_clashes source.now) (item_scopes item)) source.now.file)) }
+fn rules_clash(source: &Source) -> Result<Option<Fault>, AllocError>
+    ensures { IfOk result (λ first. first ≡ first_in (rule_clashes source.now)) }
 {
     let mut first = FirstFault::none();
-    for item in source.items() {
-        first.note(item_clash(source, item)?);
+    for rule in source.rules() {
+        first.note(rule_clash(source, rule.raw)?);
+    }
+    Ok(first.found())
+}
+
+fn clauses_clash(source: &Source) -> Result<Option<Fault>, AllocError>
+    ensures { IfOk result (λ first. first ≡ first_in (clause_clashes source.now)) }
+{
+    let mut first = FirstFault::none();
+    for clause in source.clauses() {
+        first.note(clause_clash(source, clause)?);
+    }
+    Ok(first.found())
+}
+
+fn contexts_clash(source: &Source) -> Result<Option<Fault>, AllocError>
+    ensures { IfOk result (λ first. first ≡ first_in (context_clashes source.now)) }
+{
+    let mut first = FirstFault::none();
+    for context in source.contexts() {
+        first.note(states_clash(source, context.atoms)?);
+    }
+    Ok(first.found())
+}
+
+fn traces_clash(source: &Source) -> Result<Option<Fault>, AllocError>
+    ensures { IfOk result (λ first. first ≡ first_in (trace_clashes source.now)) }
+{
+    let mut first = FirstFault::none();
+    for trace in source.traces() {
+        first.note(states_clash(source, trace.start.listed())?);
     }
     Ok(first.found())
 }
@@ -187,5 +169,7 @@ fn items_clash(source: &Source) -> Result<Option<Fault>, AllocError>
 pub fn type_fault(source: &Source) -> Result<Option<Fault>, AllocError>
     ensures { IfOk result (λ first. IsFirstOrNone (Mistyped source.now) first) }
 {
-    items_clash(source)
+    let rules = Fault::first_of(rules_clash(source)?, clauses_clash(source)?);
+    let states = Fault::first_of(contexts_clash(source)?, traces_clash(source)?);
+    Ok(Fault::first_of(rules, states))
 }

@@ -2,12 +2,10 @@
 #![tactic(auto)]
 
 mod clashes;
-mod firsts;
 mod numbers;
 mod sites;
 mod variables;
 
 pub use clashes::type_fault;
-pub use firsts::Firsts;
 pub use numbers::{kinds, number};
-pub use variables::{Variables, blank_name, next_blank};
+pub use variables::{clause_variables, head, rule_variables, variable_kinds};

@@ -8,16 +8,21 @@ use cep_parse::Span;
 use cep_source::{Source, Space};
 use std::alloc::AllocError;
 
-/// The number of a name in its space, from 0.
-pub fn number(source: &Source, space: Space, name: Span) -> Result<u32, AllocError>
-    ensures { IfOk result (λ number. number ≡ number_of source.now space (said source.now name)) }
+// A place as a number. No memory holds so many names that one does not fit.
+pub(crate) fn number_at(place: usize) -> Result<u32, AllocError>
+    ensures { IfOk result (λ number. number ≡ place) }
 {
-    let place = source.place(space, source.said(name)).unwrap_or(0);
-    // No memory holds so many names that a number does not fit.
     match u32::try_from(place) {
         Ok(number) => Ok(number),
         Err(_) => Err(AllocError),
     }
+}
+
+/// The number of a name in its space, from 0.
+pub fn number(source: &Source, space: Space, name: Span) -> Result<u32, AllocError>
+    ensures { IfOk result (λ number. number ≡ number_of source.now space (said source.now name)) }
+{
+    number_at(source.place(space, source.said(name)).unwrap_or(0))
 }
 
 /// The numbers of types by their names.

@@ -1,8 +1,7 @@
 // Which type is wanted of each term of an atom.
-ghost use Rattle.std.specs.Prelude.{◌≡◌, ◌∷◌, List, map, OnOk, IfOk};
+ghost use Rattle.std.specs.Prelude.{◌≡◌, ◌∷◌, List, map, IfOk};
 ghost use Rattle.cep_parse.specs.declared.raw.RawNode.{RawNode};
 ghost use Rattle.cep_source.specs.Items.{said};
-ghost use Rattle.cep_source.specs.Spaces.{pred_named};
 ghost use Rattle.cep_types.specs.Sites.{node_types, pred_types, sites_from};
 
 use cep_base::Stack;
@@ -25,7 +24,7 @@ fn node_types<'a>(source: &Source<'a>, node: &RawNode) -> &'a [Span]
 
 // The types that a predicate wants of its arguments.
 fn pred_types<'a>(source: &Source<'a>, name: Span) -> &'a [Span]
-    ensures { map (said source.now) result.now ≡ pred_types source.now (pred_named source.now (said source.now name)) }
+    ensures { map (said source.now) result.now ≡ pred_types source.now (said source.now name) }
 {
     match source.pred(name) {
         Some(pred) => pred.args,
@@ -35,7 +34,7 @@ fn pred_types<'a>(source: &Source<'a>, name: Span) -> &'a [Span]
 
 // The types that are wanted of the terms of an atom of this predicate.
 pub(crate) fn pending(source: &Source, name: Span) -> Result<Stack<Span>, AllocError>
-    ensures { IfOk result (λ pending. map (said source.now) pending ≡ pred_types source.now (pred_named source.now (said source.now name))) }
+    ensures { IfOk result (λ pending. map (said source.now) pending ≡ pred_types source.now (said source.now name)) }
 {
     let mut pending = Stack::new(source.alloc());
     pending.push_all(pred_types(source, name))?;

@@ -1,10 +1,14 @@
 // To which declaration the names of texts go, and what is wrong with those that go to none.
+ghost use Rattle.std.specs.Prelude.{◌≤◌, length};
+ghost use Rattle.cep_base.specs.declared.limits.TheConstants.{MOST_TEXT};
+
 use crate::tests::source::file_of;
 use cep_base::PredKind;
 use cep_base::limits::MOST_TEXT;
 use cep_faults::name_fault;
+use cep_parse::RawFile;
 use cep_source::{Fault, Source, Space, item_at};
-use std::alloc::Global;
+use std::alloc::{AllocError, Global};
 use std::process::Abort;
 use std::test::Fail;
 
@@ -197,17 +201,39 @@ fn expect_fault(
     Ok(())
 }
 
-// The text has this first fault of names that are declared twice, and these names.
+// This is the first fault of names that are declared twice, and these are the names.
+fn expect_source(
+    rt: &impl Abort,
+    alloc: Global,
+    source: &Source,
+    (fault, lines): (&str, &str),
+) -> Result<(), Fail> {
+    expect_fault(rt, alloc, source.twice(), fault)?;
+    expect_names(rt, alloc, source, lines)
+}
+
+// The text with this raw file has this first fault of names that are declared twice, and these names.
+fn expect_file(
+    rt: &impl Abort,
+    alloc: Global,
+    (text, file): (&str, &RawFile),
+    told: (&str, &str),
+) -> Result<(), Fail> {
+    let source = Source::of(alloc, text.as_bytes(), file)?;
+    let expected = expect_source(rt, alloc, &source, told);
+    drop(source);
+    expected
+}
+
+// The text has them.
 fn expect_declared(
     rt: &impl Abort,
     alloc: Global,
     text: &str,
-    (fault, lines): (&str, &str),
+    told: (&str, &str),
 ) -> Result<(), Fail> {
     let file = file_of(alloc, text)?;
-    let source = Source::of(alloc, text.as_bytes(), &file)?;
-    expect_fault(rt, alloc, source.twice(), fault)?;
-    expect_names(rt, alloc, &source, lines)
+    expect_file(rt, alloc, (text, &file), told)
 }
 
 #[test]
@@ -220,14 +246,23 @@ fn names_go_to_their_first_declarations(rt: HostRuntime) -> Result<(), Fail> {
     Ok(())
 }
 
+// The first fault of the names of a text with this raw file.
+fn fault_in(alloc: Global, text: &str, file: &RawFile) -> Result<Option<Fault>, AllocError>
+    requires { length text.now ≤ MOST_TEXT }
+{
+    let source = Source::of(alloc, text.as_bytes(), file)?;
+    let fault = name_fault(&source);
+    drop(source);
+    fault
+}
+
 // The first fault of the names of a text.
 fn first_fault(alloc: Global, text: &str) -> Result<Option<Fault>, Fail> {
     if text.len() > MOST_TEXT {
         return Err(Fail::from("long"));
     }
     let file = file_of(alloc, text)?;
-    let source = Source::of(alloc, text.as_bytes(), &file)?;
-    Ok(name_fault(&source)?)
+    Ok(fault_in(alloc, text, &file)?)
 }
 
 // A stage, a context and a trace with which nothing is wrong.

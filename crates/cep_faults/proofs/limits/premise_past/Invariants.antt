@@ -1,7 +1,7 @@
-use Rattle.std.proofs.Common.{◌≡◌, ◌≤◌, take, length}
-use Rattle.std.specs.List.{flat_map}
-use Rattle.cep_faults.specs.Faults.{premise_places}
+use Rattle.std.proofs.Common.{◌≡◌, ◌≤◌, take, length, filter}
+use Rattle.cep_parse.specs.Raw.{atoms_of}
+use Rattle.cep_faults.specs.Faults.{is_premise}
 use Rattle.cep_faults.proofs.limits.premise_past.Given as goal
 
 abbrev pub invariant-loop-elem : goal.invariant-loop-elem
-invariant-loop-elem l = record { counted : l.before ≡ length (flat_map (premise_places l.source l.back) (take l.elem-index l.side)); few : l.before ≤ l.most }
+invariant-loop-elem l = record { counted : l.before ≡ length (filter (is_premise l.source l.back) (atoms_of (take l.elem-index l.left))); few : l.before ≤ l.most }

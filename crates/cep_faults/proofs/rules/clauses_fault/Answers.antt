@@ -1,9 +1,14 @@
-use Rattle.cep_source.specs.Items.{clauses_in}
+use Rattle.std.proofs.Common.{[], ◌∙◌}
+use Rattle.cep_source.specs.Kept.{clause_item}
 use Rattle.cep_faults.specs.Faults.{clause_faults}
-use Rattle.cep_refusal.specs.First.{standing}
-use Rattle.cep_base.proofs.ForemostLoops.{foremost_flat}
+use Rattle.cep_faults.proofs.Firsts.{noted, all_mapped}
 use Rattle.cep_faults.proofs.rules.clauses_fault.Goals as goal
 
-pub loop-item-preserved : goal.loop-item-preserved
-loop-item-preserved c =
-    foremost_flat standing (clause_faults c.args.source.now) (clauses_in c.args.source.now) c.items-item-items.result.now c.loop-item.item-index c.item-item.result _ _ _ c.loop-item-test.true c.item-item.is c.loop-item.invariant c.in_ok-clause_in_fault.ensures c.note.ensures
+pub loop-clause-preserved : goal.loop-clause-preserved
+loop-clause-preserved c =
+    noted (λ clause. clause_faults c.args.source.now (clause_item clause)) [] c.clauses-clause-items.result.now c.loop-clause.clause-index _ c.clause-item.result _ _ _
+    c.loop-clause-test.true c.clause-item.is c.loop-clause.invariant c.in_ok-clause_fault.ensures c.note.ensures
+
+pub returns : goal.returns
+returns c =
+    c.found.ensures ∙ all_mapped (clause_faults c.args.source.now) clause_item c.clauses-clause-items.result.now _ c.loop-clause.clause-index _ c.loop-clause-test.false c.clauses-clause-items.ensures c.loop-clause.invariant

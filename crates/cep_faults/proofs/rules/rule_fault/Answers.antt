@@ -1,23 +1,39 @@
-use Rattle.std.proofs.Common.{ap, ◌∙◌}
+use Rattle.std.proofs.Common.{List, [], ◌++◌, ◌∙◌, ap, true, false}
 use Rattle.std.specs.List.{flat_map}
-use Rattle.cep_refusal.specs.First.{first_in}
+use Rattle.cep_base.specs.declared.limits.TheConstants.{MOST_BACKS, MOST_PREMISES}
+use Rattle.cep_parse.specs.declared.raw.RawElem.{RawElem}
 use Rattle.cep_parse.specs.Raw.{atoms_of}
-use Rattle.cep_source.specs.Uses.{elem_uses, rule_uses, rule_atoms}
-use Rattle.cep_faults.specs.Faults.{use_faults, placed_faults, size_faults, home_faults, variable_faults}
-use Rattle.cep_faults.proofs.Firsts.{followed, first_of_sides}
+use Rattle.cep_refusal.specs.declared.fault.Fault.{Fault}
+use Rattle.cep_refusal.specs.First.{first_in}
+use Rattle.cep_source.specs.Kept.{rule_item}
+use Rattle.cep_faults.specs.Faults.{elem_faults, premise_faults, right_faults, variable_faults, home_faults}
+use Rattle.cep_faults.proofs.Firsts.{followed}
+use Rattle.cep_faults.proofs.Nths.{variable_at_most}
 use Rattle.cep_faults.proofs.rules.rule_fault.Goals as goal
 
 pub returns : goal.returns
 returns c =
     let source = c.args.source.now in
-    let rule = c.args.rule.now.raw.now in
-    followed (flat_map (use_faults source) (rule_uses rule)) _ c.first_of-stages.result c.first_of-atoms.result c.first_of.result
-    (first_of_sides (use_faults source) elem_uses rule.left rule.right c.stages_fault.result c.stages_fault-2.result c.first_of-stages.result
-    (c.stages_fault.ensures ∙ ap (λ side. first_in (flat_map (use_faults source) (flat_map elem_uses side))) c.as_slice-left.ensures)
-    (c.stages_fault-2.ensures ∙ ap (λ side. first_in (flat_map (use_faults source) (flat_map elem_uses side))) c.as_slice.ensures)
-    c.first_of-stages.ensures)
-    (followed (flat_map (placed_faults source) (rule_atoms rule)) _ c.rule_atoms_fault.result c.first_of-sizes.result c.first_of-atoms.result c.rule_atoms_fault.ensures
-    (followed (size_faults source rule) _ c.rule_past.result c.first_of-variables.result c.first_of-sizes.result c.rule_past.ensures
-    (followed (home_faults c.args.rule.now.home rule) (variable_faults source.text (atoms_of rule.left)) c.home_fault.result c.in_ok-left_past.field-0 c.first_of-variables.result c.home_fault.ensures
-    (c.in_ok-left_past.ensures ∙ ap (λ side. first_in (variable_faults source.text (atoms_of side))) c.as_slice-left.ensures) c.first_of-variables.ensures)
-    c.first_of-sizes.ensures) c.first_of-atoms.ensures) c.first_of.ensures
+    let rule = rule_item c.args.rule.now in
+    let left = rule.raw.left in
+    let a : List Fault = flat_map (elem_faults source false) left in
+    let b : List Fault = flat_map (elem_faults source true) rule.raw.right in
+    let d : List Fault = premise_faults source false left MOST_PREMISES in
+    let e : List Fault = premise_faults source true left MOST_BACKS in
+    let f : List Fault = right_faults rule.raw.right in
+    let g : List Fault = variable_faults source (atoms_of left) in
+    c.found.ensures
+    ∙ followed (a ++ b ++ d ++ e ++ f ++ g) (home_faults rule) _ _ _
+    (followed (a ++ b ++ d ++ e ++ f) g _ _ _
+    (followed (a ++ b ++ d ++ e) f _ _ _
+    (followed (a ++ b ++ d) e _ _ _
+    (followed (a ++ b) d _ _ _
+    (followed a b _ _ _
+    (followed [] a _ _ _ c.none-first.ensures (c.side_fault.ensures ∙ ap (λ (side : List RawElem). first_in (flat_map (elem_faults source false) side)) c.as_slice-left.ensures) c.note.ensures)
+    (c.side_fault-2.ensures ∙ ap (λ (side : List RawElem). first_in (flat_map (elem_faults source true) side)) c.as_slice-right.ensures) c.note-2.ensures)
+    (c.state_premise_past.ensures ∙ ap (λ (side : List RawElem). first_in (premise_faults source false side MOST_PREMISES)) c.as_slice-left.ensures) c.note-3.ensures)
+    (c.backward_past.ensures ∙ ap (λ (side : List RawElem). first_in (premise_faults source true side MOST_BACKS)) c.as_slice-left.ensures) c.note-4.ensures)
+    (c.right_past.ensures ∙ ap (λ (side : List RawElem). first_in (right_faults side)) c.as_slice-right.ensures) c.note-5.ensures)
+    (variable_at_most source (atoms_of c.as_slice-left.result.now) c.in_ok-variables.variables _ c.in_ok-variables.ensures c.variable_past.ensures
+    ∙ ap (λ (side : List RawElem). first_in (variable_faults source (atoms_of side))) c.as_slice-left.ensures) c.note-6.ensures)
+    c.home_fault.ensures c.note-7.ensures

@@ -1,19 +1,22 @@
-use Rattle.cep_infer.proofs.Placing.{line_fits, col_fits, reached_is, place_there}
+use Rattle.std.proofs.Common.{inl, inr}
+use Rattle.cep_infer.proofs.Placing.{IsStart, start_is, line_fits, col_fits, reached_is, place_there}
 use Rattle.cep_infer.proofs.places.reach.Goals as goal
+use Rattle.cep_infer.proofs.places.reach.Goals.{then-from-to, else-from-to}
 
-pub passed_all-pos-requires-clause-line : goal.passed_all-pos-requires-clause-line
-passed_all-pos-requires-clause-line c = line_fits c.args.text.now c.start_before-start.result c.min-to.result c.requires.short (c.start_before-start.ensures.reached c.args.text.now c.requires.reached)
+pub passed-pos-requires : goal.passed-pos-requires
+passed-pos-requires c =
+    let text = c.args.text.now in
+    let start : IsStart text c.if-from-to.start c.min-to.result =
+    start_is text c.args.from c.if-from-to.start c.min-to.result c.requires.reached (elim c.if-from-to.branch [ then-from-to w ↦ inl (w.start-is, w.if-from-to.true) | else-from-to w ↦ inr w.start-is ]) in
+    record {
+      line = line_fits text c.if-from-to.start c.min-to.result c.requires.short start.reached;
+      col = col_fits text c.if-from-to.start c.min-to.result c.requires.short start.reached;
+    }
 
-pub passed_all-pos-requires-clause-col : goal.passed_all-pos-requires-clause-col
-passed_all-pos-requires-clause-col c = col_fits c.args.text.now c.start_before-start.result c.min-to.result c.requires.short (c.start_before-start.ensures.reached c.args.text.now c.requires.reached)
-
-pub returns-clause-reached : goal.returns-clause-reached
-returns-clause-reached c =
-    reached_is c.args.text.now c.start_before-start.result c.args.at c.min-to.result c.passed_all-pos.result c.min-to.ensures c.start_before-start.ensures.before
-    (c.start_before-start.ensures.reached c.args.text.now c.requires.reached) c.passed_all-pos.ensures
-
-pub returns-clause-there : goal.returns-clause-there
-returns-clause-there c =
-    place_there c.args.text.now c.args.at c.min-to.result c.passed_all-pos.result c.min-to.ensures
-    (reached_is c.args.text.now c.start_before-start.result c.args.at c.min-to.result c.passed_all-pos.result c.min-to.ensures c.start_before-start.ensures.before
-    (c.start_before-start.ensures.reached c.args.text.now c.requires.reached) c.passed_all-pos.ensures)
+pub returns : goal.returns
+returns c =
+    let text = c.args.text.now in
+    let start : IsStart text c.if-from-to.start c.min-to.result =
+    start_is text c.args.from c.if-from-to.start c.min-to.result c.requires.reached (elim c.if-from-to.branch [ then-from-to w ↦ inl (w.start-is, w.if-from-to.true) | else-from-to w ↦ inr w.start-is ]) in
+    let reached = reached_is text c.if-from-to.start c.args.at c.min-to.result c.passed-pos.result c.min-to.ensures start.before start.reached c.passed-pos.ensures in
+    record { reached = reached; there = place_there text c.args.at c.min-to.result c.passed-pos.result c.min-to.ensures reached }

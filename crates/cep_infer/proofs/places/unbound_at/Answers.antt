@@ -1,10 +1,16 @@
-use Rattle.std.proofs.Common.{◌≡◌, List, ℕ, IfOk, subst}
+use Rattle.std.proofs.Common.{not, ◌∙◌}
+use Rattle.cep_source.specs.Variables.{Occurrence}
 use Rattle.cep_source.specs.Kept.{rule_item}
-use Rattle.cep_infer.proofs.Unbound.{unbound_is}
+use Rattle.cep_source.specs.Firsts.{has_name}
+use Rattle.cep_infer.proofs.Unbound.{elem_pushed, all_pushed, unbound_is}
 use Rattle.cep_infer.proofs.places.unbound_at.Goals as goal
+
+pub loop-elem-preserved : goal.loop-elem-preserved
+loop-elem-preserved c =
+    elem_pushed c.args.source.now (λ (occurrence : Occurrence). not (has_name c.in_ok-left.left.firsts occurrence.name)) c.as_slice-elem-items.result.now c.loop-elem.elem-index c.loop-elem.blanks c.push_unbound.new.blanks c.elem-item.result c.nodes.result.now
+    c.loop-elem.ats.items c.push_unbound.new.ats.items _ c.loop-elem-test.true c.elem-item.is c.nodes.ensures c.in_ok-push_unbound.ensures.ats c.in_ok-push_unbound.ensures.blanks c.loop-elem.invariant
 
 pub returns : goal.returns
 returns c =
-    subst (λ (all : List ℕ). IfOk c.unbound_in.result (λ ats. ats.items ≡ all))
-    (unbound_is c.args.source.now (rule_item c.args.item.now) c.as_slice.result.now c.as_slice-2.result.now c.new-left.result c.meet_side.new.self c.as_slice.ensures c.as_slice-2.ensures c.new-left.ensures c.in_ok-meet_side.ensures)
-    c.unbound_in.ensures
+    all_pushed c.args.source.now (λ (occurrence : Occurrence). not (has_name c.in_ok-left.left.firsts occurrence.name)) c.as_slice-elem-items.result.now c.loop-elem.elem-index c.loop-elem.blanks c.loop-elem.ats.items _ c.loop-elem-test.false c.loop-elem.invariant
+    ∙ unbound_is c.args.source.now (rule_item c.args.rule.now) c.as_slice.result.now c.as_slice-elem-items.result.now c.in_ok-left.left c.as_slice.ensures c.as_slice-elem-items.ensures c.in_ok-left.ensures

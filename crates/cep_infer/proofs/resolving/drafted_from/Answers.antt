@@ -1,14 +1,30 @@
-use Rattle.std.proofs.Common.{subst, inl}
+use Rattle.std.proofs.Common.{subst, inl, inr}
 use Rattle.cep_refusal.specs.First.{IsFirstOrNone}
 use Rattle.cep_faults.specs.Misnamed.{Misnamed}
-use Rattle.cep_infer.proofs.Drafting.{sound_or_first}
+use Rattle.cep_types.specs.Sites.{Mistyped}
+use Rattle.cep_infer.proofs.Drafting.{first_trace, some_trace}
 use Rattle.cep_infer.proofs.resolving.drafted_from.Goals as goal
 
 pub returns-in-Some : goal.returns-in-Some
-returns-in-Some c = inl (subst (IsFirstOrNone (Misnamed c.args.source.now)) c.in-Some.is c.in_ok-fault.ensures)
+returns-in-Some c = inl (subst (IsFirstOrNone (Misnamed c.args.source.now)) c.in-Some.is c.in_ok-misnamed.ensures)
 
-pub typed-requires-clause-named : goal.typed-requires-clause-named
-typed-requires-clause-named c = subst (IsFirstOrNone (Misnamed c.args.source.now)) c.in-None.is c.in_ok-fault.ensures
+pub returns-in-Some-2 : goal.returns-in-Some-2
+returns-in-Some-2 c =
+    inr (subst (IsFirstOrNone (Misnamed c.args.source.now)) c.in_default.is c.in_ok-misnamed.ensures, subst (IsFirstOrNone (Mistyped c.args.source.now)) c.in-Some-2.is c.in_ok-mistyped.ensures)
 
-pub returns-in-None : goal.returns-in-None
-returns-in-None c = sound_or_first c.args.source.now (subst (IsFirstOrNone (Misnamed c.args.source.now)) c.in-None.is c.in_ok-fault.ensures) c.typed.result c.typed.ensures
+pub unwrap-trace-requires : goal.unwrap-trace-requires
+unwrap-trace-requires c =
+    some_trace c.args.source.now c.traces.result.now c.item_at.result (subst (IsFirstOrNone (Misnamed c.args.source.now)) c.in_default.is c.in_ok-misnamed.ensures) c.traces.ensures c.item_at.ensures
+
+pub parts_from-requires : goal.parts_from-requires
+parts_from-requires c = record {
+  named = subst (IsFirstOrNone (Misnamed c.args.source.now)) c.in_default.is c.in_ok-misnamed.ensures;
+  first = first_trace c.args.source.now c.traces.result.now c.unwrap-trace.result c.item_at.result c.traces.ensures c.item_at.ensures c.unwrap-trace.ensures;
+}
+
+pub returns : goal.returns
+returns c = record {
+  named = subst (IsFirstOrNone (Misnamed c.args.source.now)) c.in_default.is c.in_ok-misnamed.ensures;
+  typed = subst (IsFirstOrNone (Mistyped c.args.source.now)) c.in_default-2.is c.in_ok-mistyped.ensures;
+  draft_is = record { parts_are = c.in_ok-parts_from.ensures; backs_are = c.in_ok-places.ensures.backs; unbound_are = c.in_ok-places.ensures.unbound };
+}

@@ -1,10 +1,8 @@
-use Rattle.std.proofs.Common.{List, ◌∙◌, ◌+◌, map, drop, ap}
-use Rattle.cep_parse.specs.declared.raw.RawNode.{RawNode}
-use Rattle.cep_source.specs.Items.{said}
-use Rattle.cep_refusal.specs.First.{first_in}
+use Rattle.std.proofs.Common.{◌∙◌, ◌+◌, map, drop, ap}
 use Rattle.std.specs.List.{flat_map}
-use Rattle.cep_source.specs.Spaces.{pred_named}
-use Rattle.cep_types.specs.Sites.{sites_from, pred_types}
+use Rattle.cep_refusal.specs.First.{first_in}
+use Rattle.cep_source.specs.Items.{said}
+use Rattle.cep_types.specs.Sites.{sites_from}
 use Rattle.cep_types.specs.Clashes.{clash_of}
 use Rattle.cep_types.specs.Met.{type_met}
 use Rattle.cep_types.proofs.Clashing.{clash_more, clash_over}
@@ -14,7 +12,7 @@ pub loop-node-preserved : goal.loop-node-preserved
 loop-node-preserved c =
     let source = c.args.source.now in
     let f = clash_of source (type_met source c.args.variables.now.firsts) in
-    let nodes = c.as_slice-node-items.result.now in
+    let nodes = c.args.atom.nodes.now in
     clash_more source f _ nodes c.loop-node.node-index _ (map (said source) c.loop-node.pending) (map (said source) c.site.new.pending) (said source c.in_ok-wants.wants) c.loop-node.first c.clash.result c.note.new.self c.loop-node-test.true
     (c.in_ok-wants.ensures (drop (c.loop-node.node-index + 1) nodes)) c.loop-node.invariant c.clash.ensures c.note.ensures
 
@@ -22,7 +20,6 @@ pub returns : goal.returns
 returns c =
     let source = c.args.source.now in
     let f = clash_of source (type_met source c.args.variables.now.firsts) in
-    let nodes = c.as_slice-node-items.result.now in
+    let nodes = c.args.atom.nodes.now in
     c.found.ensures ∙ clash_over source f (first_in (flat_map f (sites_from source (map (said source) c.in_ok-pending.pending) nodes))) nodes c.loop-node.node-index (map (said source) c.loop-node.pending) c.loop-node.first c.loop-node-test.false c.loop-node.invariant
     ∙ ap (λ types. first_in (flat_map f (sites_from source types nodes))) c.in_ok-pending.ensures
-    ∙ ap (λ (ns : List RawNode). first_in (flat_map f (sites_from source (pred_types source (pred_named source (said source c.args.atom.now.name))) ns))) c.as_slice-node-items.ensures

@@ -1,27 +1,15 @@
-use Rattle.std.proofs.Common.{List, ◌∙◌, ap, sym}
+use Rattle.std.proofs.Common.{◌∙◌, ap}
 use Rattle.std.specs.Option.{option_map}
-use Rattle.std.specs.List.{slice_get}
-use Rattle.cep_source.specs.declared.items.RawContext.{RawContext}
-use Rattle.cep_source.specs.declared.space.Space.TheVariants as space
 use Rattle.cep_source.specs.Items.{Source, contexts_of}
-use Rattle.cep_source.specs.Spaces.{named, first_place, context_named}
+use Rattle.cep_source.specs.Spaces.{context_named}
 use Rattle.cep_source.specs.Kept.{source_of, context_item}
-use Rattle.cep_source.proofs.Lookups.{told_some, told_none}
+use Rattle.cep_source.proofs.Lookups.{told}
 use Rattle.cep_source.proofs.source.Source.context.Goals as goal
-
-pub returns-in_default : goal.returns-in_default
-returns-in_default c =
-    let source = source_of c.self.inside in
-    let name = c.said.result.now in
-    sym (told_none context_item (λ item. named source item.name) c.self.inside.kinds.contexts.items (contexts_of source) name c.self.invariant.kinds.contexts
-    (ap (λ (s : Source). first_place s space.Contexts name) c.self.view_is ∙ sym c.place.ensures ∙ c.in_default.is))
-    ∙ ap (λ (s : Source). context_named s name) c.self.view_is ∙ ap (context_named c.args.self.now) c.said.ensures
 
 pub returns : goal.returns
 returns c =
     let source = source_of c.self.inside in
     let name = c.said.result.now in
-    ap (option_map context_item) (c.item_at.ensures ∙ ap (λ (items : List RawContext). slice_get items c.in-Some.place) c.deref.ensures.value)
-    ∙ told_some context_item (λ item. named source item.name) c.self.inside.kinds.contexts.items (contexts_of source) name c.self.invariant.kinds.contexts c.in-Some.place
-    (ap (λ (s : Source). first_place s space.Contexts name) c.self.view_is ∙ sym c.place.ensures ∙ c.in-Some.is)
+    ap (option_map context_item) c.first_named.ensures
+    ∙ told source context_item (λ context. context.name) c.self.inside.kinds.contexts (contexts_of source) name c.self.invariant.kinds.contexts c.self.invariant.named.contexts
     ∙ ap (λ (s : Source). context_named s name) c.self.view_is ∙ ap (context_named c.args.self.now) c.said.ensures

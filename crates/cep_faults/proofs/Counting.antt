@@ -1,0 +1,277 @@
+-- What counts of atoms, one atom and one context after another.
+use Rattle.std.proofs.Common.{◌≡◌, ℕ, ◌==◌, ◌⊎◌, ⊎_elim, inl, inr, ◌+◌, ◌<◌, min, Bool, true, false, ◌&&◌, ◌||◌, not, if◌then◌else◌, List, [], ◌∷◌, ◌++◌, length, take, get_or, map, Option, Some, None, refl, sym, ap, subst, ◌∙◌, append_assoc, append-nil, length-append, arith, Contains}
+use Rattle.std.specs.Str.{bytes_eq}
+use Rattle.std.specs.List.{list_any, sum_by, flat_map}
+use Rattle.std.proofs.lemmas.Bool.{eq-eqb}
+use Rattle.std.proofs.lemmas.List.{map-append, take_more}
+use Rattle.std.proofs.lemmas.Grind.{flat_map-append}
+use Rattle.std.proofs.lemmas.List.Sums.{sum_by-append}
+use Rattle.std.proofs.lemmas.Slice.Eq.{bytes_eq-Decides}
+use Rattle.cep_parse.specs.declared.raw.RawNode.{RawNode}
+use Rattle.cep_parse.specs.declared.raw.RawAtom.{RawAtom}
+use Rattle.cep_base.proofs.Bytes.{any_map}
+use Rattle.cep_base.proofs.Elements.{contains_none, contains_cases, contains_first, contains_behind, contains_left, contains_right}
+use Rattle.cep_source.specs.Items.{Source, said}
+use Rattle.cep_source.specs.Firsts.{has_name, under_name, added}
+use Rattle.cep_source.specs.Uses.{stands_for_context}
+use Rattle.cep_source.specs.Starts.{listed_in, nodes_written, is_of_fact, are_nodes_alike, is_written_alike, counting_behind, counting}
+use Rattle.cep_faults.specs.declared.traces.Counted.{Counted}
+use Rattle.cep_faults.specs.declared.traces.Size.{Size}
+use Rattle.cep_faults.specs.FactKeys.{atom_key}
+use Rattle.cep_faults.specs.Counted.{cut, total_size, written_size, most_counted, others, facts_counting, nothing_counted, IsPassed, IsCountOf}
+use Rattle.cep_faults.proofs.FactKeys.{keys_tell, is_new, one_counts, one_fact, among_facts}
+
+or_true : (b : Bool) → (b || true) ≡ true
+or_true true = refl
+or_true false = refl
+
+or_move : (p q r : Bool) → (p || (q || r)) ≡ ((q || p) || r)
+or_move true true r = refl
+or_move true false r = refl
+or_move false true r = refl
+or_move false false r = refl
+
+or_none : (b : Bool) → (b || false) ≡ b
+or_none true = refl
+or_none false = refl
+
+both_parts : (a b : Bool) → (a && b) ≡ true → (a ≡ true) × (b ≡ true)
+both_parts true b e = (refl, e)
+both_parts false b e = absurd cc
+
+same_bytes : (name : List ℕ) → bytes_eq name name ≡ true
+same_bytes name = (bytes_eq-Decides name name).1 refl
+
+same_number : (n : ℕ) → (n == n) ≡ true
+same_number n = eq-eqb n n refl
+
+pub not_true : (a b : Bool) → a ≡ not b → a ≡ false → b ≡ true
+not_true a true is was = refl
+not_true a false is was = absurd cc
+
+pub not_false : (a b : Bool) → a ≡ not b → a ≡ true → b ≡ false
+not_false a true is was = absurd cc
+not_false a false is was = refl
+
+cut_both : (a b c m : ℕ) → c ≡ a + b → min (min a m + min b m) m ≡ min c m
+cut_both a b c m is = omega (arith, is)
+
+-- the size of two parts
+pub joined_size : (xs ys : List RawAtom) → cut (total_size (cut (written_size xs)) (cut (written_size ys))) ≡ cut (written_size (xs ++ ys))
+joined_size xs ys = λ i. record {
+  copies = cut_both (length xs) (length ys) (length (xs ++ ys)) most_counted (length-append xs ys) i;
+  nodes = cut_both (sum_by nodes_written xs) (sum_by nodes_written ys) (sum_by nodes_written (xs ++ ys)) most_counted (sum_by-append nodes_written xs ys) i;
+}
+
+-- a name that is there now was there before, or is the one that came
+under_last : {A : Type 0} (table : List (List ℕ × A)) (name : List ℕ) (value : A) (other : List ℕ) (given : A) → under_name (table ++ (name, value) ∷ []) other ≡ Some given → (under_name table other ≡ Some given) ⊎ ((bytes_eq other name ≡ true) × (given ≡ value))
+under_last [] name value other given is = by (bytes_eq other name) refl is where
+  by : (b : Bool) → bytes_eq other name ≡ b → ◌≡◌ {A = Option _} (if b then Some value else None) (Some given) → (None ≡ Some given) ⊎ ((bytes_eq other name ≡ true) × (given ≡ value))
+  by true e got = inr (e, let same : value ≡ given = cc in sym same)
+  by false e got = absurd cc
+under_last (entry ∷ table) name value other given is = by (bytes_eq other entry.0) is (under_last table name value other given) where
+  by : (b : Bool) → (if b then Some entry.1 else under_name (table ++ (name, value) ∷ []) other) ≡ Some given → (under_name (table ++ (name, value) ∷ []) other ≡ Some given → (under_name table other ≡ Some given) ⊎ ((bytes_eq other name ≡ true) × (given ≡ value)))
+      → ((if b then Some entry.1 else under_name table other) ≡ Some given) ⊎ ((bytes_eq other name ≡ true) × (given ≡ value))
+  by true got rest = inl got
+  by false got rest = rest got
+
+under_added : {A : Type 0} (table : List (List ℕ × A)) (name : List ℕ) (value : A) (other : List ℕ) (given : A) → under_name (added table (name, value)) other ≡ Some given → (under_name table other ≡ Some given) ⊎ ((bytes_eq other name ≡ true) × (given ≡ value))
+under_added table name value other given is = by (has_name table name) is where
+  by : (b : Bool) → under_name (if b then table else table ++ (name, value) ∷ []) other ≡ Some given → (under_name table other ≡ Some given) ⊎ ((bytes_eq other name ≡ true) × (given ≡ value))
+  by true got = inl got
+  by false got = under_last table name value other given got
+
+-- a name that is there is not added
+pub added_again : {A : Type 0} (table : List (List ℕ × A)) (name : List ℕ) (value : A) → has_name table name ≡ true → added table (name, value) ≡ table
+added_again table name value has = ap (λ (b : Bool). if b then table else table ++ (name, value) ∷ []) has
+
+module _ (source : Source) where
+  abbrev alike : RawAtom → RawAtom → Bool
+  alike one other = is_written_alike source one other
+
+  nodes_alike : (nodes : List RawNode) → are_nodes_alike source nodes nodes ≡ true
+  nodes_alike [] = refl
+  nodes_alike (node ∷ nodes) =
+      ap (λ b. (b && (node.args == node.args)) && are_nodes_alike source nodes nodes) (same_bytes (said source node.at))
+      ∙ ap (λ b. b && are_nodes_alike source nodes nodes) (same_number node.args) ∙ nodes_alike nodes
+
+  itself : (atom : RawAtom) → alike atom atom ≡ true
+  itself atom =
+      ap (λ b. b && (atom.args == atom.args) && are_nodes_alike source atom.nodes atom.nodes) (same_bytes (said source atom.name))
+      ∙ ap (λ b. b && are_nodes_alike source atom.nodes atom.nodes) (same_number atom.args) ∙ nodes_alike atom.nodes
+
+  -- an atom that was listed is written like one that counts
+  abbrev is_seen : List RawAtom → List RawAtom → RawAtom → Bool
+  is_seen before atoms x = list_any (alike x) (counting_behind source before atoms) || list_any (alike x) before
+
+  seen_first : (b : Bool) (before atoms : List RawAtom) (y x : RawAtom) → (is_of_fact source y && list_any (alike y) before) ≡ b → y ≡ x
+      → (list_any (alike x) (if b then counting_behind source before atoms else y ∷ counting_behind source (y ∷ before) atoms) || list_any (alike x) before) ≡ true
+  seen_first true before atoms y x is same =
+      ap (λ t. list_any (alike x) (counting_behind source before atoms) || t) (subst (λ z. list_any (alike z) before ≡ true) same (both_parts (is_of_fact source y) (list_any (alike y) before) is).1)
+      ∙ or_true (list_any (alike x) (counting_behind source before atoms))
+  seen_first false before atoms y x is same =
+      ap (λ t. (t || list_any (alike x) (counting_behind source (y ∷ before) atoms)) || list_any (alike x) before) (subst (λ z. alike x z ≡ true) (sym same) (itself x))
+
+  seen_later : (b : Bool) (before atoms : List RawAtom) (y x : RawAtom) → is_seen before atoms x ≡ true → is_seen (y ∷ before) atoms x ≡ true
+      → (list_any (alike x) (if b then counting_behind source before atoms else y ∷ counting_behind source (y ∷ before) atoms) || list_any (alike x) before) ≡ true
+  seen_later true before atoms y x here there = here
+  seen_later false before atoms y x here there = sym (or_move (list_any (alike x) (counting_behind source (y ∷ before) atoms)) (alike x y) (list_any (alike x) before)) ∙ there
+
+  seen_alike : (before atoms : List RawAtom) (x : RawAtom) → Contains atoms x → is_seen before atoms x ≡ true
+  seen_alike before [] x there = absurd (contains_none x there)
+  seen_alike before (y ∷ atoms) x there =
+      ⊎_elim (λ (same : y ≡ x). seen_first (is_of_fact source y && list_any (alike y) before) before atoms y x refl same)
+      (λ later. seen_later (is_of_fact source y && list_any (alike y) before) before atoms y x (seen_alike before atoms x later) (seen_alike (y ∷ before) atoms x later))
+      (contains_cases y atoms x there)
+
+  -- so a fact that was listed is not new
+  not_new : (atoms : List RawAtom) (x : RawAtom) → Contains atoms x → is_new source atoms x ≡ false
+  not_new atoms x there = by (is_of_fact source x) refl
+    where
+      by : (f : Bool) → is_of_fact source x ≡ f → (f && not (list_any (alike x) (facts_counting source atoms))) ≡ false
+      by false fact = refl
+      by true fact = ap not (sym (among_facts source x (counting source atoms) fact) ∙ sym (or_none (list_any (alike x) (counting source atoms))) ∙ seen_alike [] atoms x there)
+
+  same_facts : (atoms : List RawAtom) (a : RawAtom) → is_new source atoms a ≡ false → facts_counting source (atoms ++ a ∷ []) ≡ facts_counting source atoms
+  same_facts atoms a old = one_fact source atoms a ∙ ap (λ (b : Bool). facts_counting source atoms ++ (if b then a ∷ [] else [])) old ∙ append-nil (facts_counting source atoms)
+
+  repeated : (before more : List RawAtom) → ((raw : RawAtom) → Contains more raw → Contains before raw) → facts_counting source (before ++ more) ≡ facts_counting source before
+  repeated before [] among = ap (facts_counting source) (append-nil before)
+  repeated before (m ∷ more) among =
+      ap (facts_counting source) (sym (append_assoc before (m ∷ []) more))
+      ∙ repeated (before ++ m ∷ []) more (λ raw there. contains_left before (m ∷ []) raw (among raw (contains_behind m more raw there)))
+      ∙ same_facts before m (not_new before m (among m (contains_first m more)))
+
+  -- ---- what counts
+
+  one_more : (atoms : List RawAtom) (a : RawAtom) → counting source (atoms ++ a ∷ []) ≡ counting source atoms ++ (if is_of_fact source a && list_any (alike a) (counting source atoms) then [] else a ∷ [])
+  one_more atoms a = one_counts source [] atoms a ∙ ap (λ (b : Bool). counting source atoms ++ (if is_of_fact source a && b then [] else a ∷ [])) (or_none (list_any (alike a) (counting source atoms)))
+
+  -- an atom that is no fact counts, a fact that was listed does not, another does
+  counts : (atoms : List RawAtom) (a : RawAtom) → (is_of_fact source a && list_any (alike a) (counting source atoms)) ≡ false → counting source (atoms ++ a ∷ []) ≡ counting source atoms ++ a ∷ []
+  counts atoms a is = one_more atoms a ∙ ap (λ (b : Bool). counting source atoms ++ (if b then [] else a ∷ [])) is
+
+  counts_not : (atoms : List RawAtom) (a : RawAtom) → (is_of_fact source a && list_any (alike a) (counting source atoms)) ≡ true → counting source (atoms ++ a ∷ []) ≡ counting source atoms
+  counts_not atoms a is = one_more atoms a ∙ ap (λ (b : Bool). counting source atoms ++ (if b then [] else a ∷ [])) is ∙ append-nil (counting source atoms)
+
+  -- atoms that were listed before: all but facts count again
+  again_counting : (before more : List RawAtom) → ((raw : RawAtom) → Contains more raw → Contains before raw) → counting source (before ++ more) ≡ counting source before ++ others source more
+  again_counting before [] among = ap (counting source) (append-nil before) ∙ sym (append-nil (counting source before))
+  again_counting before (m ∷ more) among =
+      ap (counting source) (sym (append_assoc before (m ∷ []) more))
+      ∙ again_counting (before ++ m ∷ []) more (λ raw there. contains_left before (m ∷ []) raw (among raw (contains_behind m more raw there)))
+      ∙ by (is_of_fact source m) refl
+    where
+      seen : list_any (alike m) (counting source before) ≡ true
+      seen = sym (or_none (list_any (alike m) (counting source before))) ∙ seen_alike [] before m (among m (contains_first m more))
+
+      by : (f : Bool) → is_of_fact source m ≡ f → counting source (before ++ m ∷ []) ++ others source more ≡ counting source before ++ (if not f then m ∷ others source more else others source more)
+      by true fact = ap (λ xs. xs ++ others source more) (counts_not before m (ap (λ (b : Bool). b && list_any (alike m) (counting source before)) fact ∙ seen))
+      by false fact =
+          ap (λ xs. xs ++ others source more) (counts before m (ap (λ (b : Bool). b && list_any (alike m) (counting source before)) fact))
+          ∙ append_assoc (counting source before) (m ∷ []) (others source more)
+
+  told : (atoms : List RawAtom) (a : RawAtom) (counted : Counted) → IsCountOf source atoms counted → has_name counted.facts (atom_key source a) ≡ list_any (alike a) (facts_counting source atoms)
+  told atoms a counted so_far =
+      sym (any_map (bytes_eq (atom_key source a)) (λ entry. entry.0) counted.facts)
+      ∙ ap (list_any (bytes_eq (atom_key source a))) so_far.facts
+      ∙ any_map (bytes_eq (atom_key source a)) (atom_key source) (facts_counting source atoms)
+      ∙ (λ i. list_any (λ x. keys_tell source a x i) (facts_counting source atoms))
+
+  -- the contexts that were passed are passed still
+  passed_on : (atoms more : List RawAtom) (name : List ℕ) (size : Size) → IsPassed source atoms name size → IsPassed source (atoms ++ more) name size
+  passed_on atoms more name size was = record { size_is = was.size_is; among = λ atom there. contains_left atoms more atom (was.among atom there) }
+
+  -- before any atom
+  pub none_counted : (counted : Counted) → counted ≡ nothing_counted → IsCountOf source [] counted
+  none_counted counted is = subst (IsCountOf source []) (sym is) (record { size = refl; facts = refl; contexts = λ name size got. absurd cc })
+
+  -- one atom more
+  module _ (a : RawAtom) (old new : Counted) (atoms : List RawAtom) (so_far : IsCountOf source atoms old) (contexts_same : new.contexts ≡ old.contexts) where
+    still : (name : List ℕ) (size_ : Size) → under_name new.contexts name ≡ Some size_ → IsPassed source (atoms ++ a ∷ []) name size_
+    still name size_ got = passed_on atoms (a ∷ []) name size_ (so_far.contexts name size_ (ap (λ table. under_name table name) (sym contexts_same) ∙ got))
+
+    module _ (one : Size) (one_is : one ≡ cut (written_size (a ∷ []))) (size_is : new.size ≡ cut (total_size old.size one)) where
+      larger : counting source (atoms ++ a ∷ []) ≡ counting source atoms ++ a ∷ [] → new.size ≡ cut (written_size (counting source (atoms ++ a ∷ [])))
+      larger is = size_is ∙ (λ i. cut (total_size (so_far.size i) (one_is i))) ∙ joined_size (counting source atoms) (a ∷ []) ∙ ap (λ xs. cut (written_size xs)) (sym is)
+
+      pub no_fact : is_of_fact source a ≡ false → new.facts ≡ old.facts → IsCountOf source (atoms ++ a ∷ []) new
+      no_fact is facts = record {
+        size = larger (counts atoms a (ap (λ (b : Bool). b && list_any (alike a) (counting source atoms)) is));
+        facts = ap (map (λ entry. entry.0)) facts ∙ so_far.facts ∙ ap (map (atom_key source)) (sym (same_facts atoms a (ap (λ (b : Bool). b && not (list_any (alike a) (facts_counting source atoms))) is)));
+        contexts = still;
+      }
+
+      pub new_fact : (key : List ℕ) (with_size : Size) → is_of_fact source a ≡ true → key ≡ atom_key source a → has_name old.facts key ≡ false → new.facts ≡ added old.facts (key, with_size) → IsCountOf source (atoms ++ a ∷ []) new
+      new_fact key with_size fact key_is has facts = record {
+        size = larger (counts atoms a (ap (λ (b : Bool). b && list_any (alike a) (counting source atoms)) fact ∙ among_facts source a (counting source atoms) fact ∙ unseen));
+        facts = ap (map (λ entry. entry.0)) (facts ∙ ap (λ (b : Bool). if b then old.facts else old.facts ++ (key, with_size) ∷ []) has)
+            ∙ map-append (λ entry. entry.0) old.facts ((key, with_size) ∷ []) ∙ (λ i. so_far.facts i ++ key_is i ∷ [])
+            ∙ sym (map-append (atom_key source) (facts_counting source atoms) (a ∷ [])) ∙ ap (map (atom_key source)) (sym more_facts);
+        contexts = still;
+      }
+        where
+          unseen : list_any (alike a) (facts_counting source atoms) ≡ false
+          unseen = sym (told atoms a old so_far) ∙ ap (has_name old.facts) (sym key_is) ∙ has
+
+          more_facts : facts_counting source (atoms ++ a ∷ []) ≡ facts_counting source atoms ++ a ∷ []
+          more_facts = one_fact source atoms a ∙ ap (λ (b : Bool). facts_counting source atoms ++ (if b then a ∷ [] else [])) (ap (λ (b : Bool). b && not (list_any (alike a) (facts_counting source atoms))) fact ∙ ap not unseen)
+
+    pub old_fact : (key : List ℕ) → is_of_fact source a ≡ true → key ≡ atom_key source a → has_name old.facts key ≡ true → new.size ≡ old.size → new.facts ≡ old.facts → IsCountOf source (atoms ++ a ∷ []) new
+    old_fact key fact key_is has size_is facts = record {
+      size = size_is ∙ so_far.size ∙ ap (λ xs. cut (written_size xs)) (sym (counts_not atoms a (ap (λ (b : Bool). b && list_any (alike a) (counting source atoms)) fact ∙ among_facts source a (counting source atoms) fact ∙ seen)));
+      facts = ap (map (λ entry. entry.0)) facts ∙ so_far.facts ∙ ap (map (atom_key source)) (sym (same_facts atoms a (ap (λ (b : Bool). b && not (list_any (alike a) (facts_counting source atoms))) fact ∙ ap not seen)));
+      contexts = still;
+    }
+      where
+        seen : list_any (alike a) (facts_counting source atoms) ≡ true
+        seen = sym (told atoms a old so_far) ∙ ap (has_name old.facts) (sym key_is) ∙ has
+
+  -- a context more, which was listed before
+  pub context_again : (before : List RawAtom) (old new : Counted) (name : List ℕ) (size_ : Size) → IsCountOf source before old → under_name old.contexts name ≡ Some size_ → new.size ≡ cut (total_size old.size size_) → new.facts ≡ old.facts → new.contexts ≡ old.contexts
+      → IsCountOf source (before ++ listed_in source name) new
+  context_again before old new name size_ so_far got size_is facts contexts_same =
+      let passed = so_far.contexts name size_ got in
+      let atoms = listed_in source name in
+      record {
+        size = size_is ∙ (λ i. cut (total_size (so_far.size i) (passed.size_is i))) ∙ joined_size (counting source before) (others source atoms) ∙ ap (λ xs. cut (written_size xs)) (sym (again_counting before atoms passed.among));
+        facts = ap (map (λ entry. entry.0)) facts ∙ so_far.facts ∙ ap (map (atom_key source)) (sym (repeated before atoms passed.among));
+        contexts = λ other s g. passed_on before atoms other s (so_far.contexts other s (ap (λ table. under_name table other) (sym contexts_same) ∙ g));
+      }
+
+  -- and one that is listed first, whose atoms were counted
+  pub context_first : (before atoms : List RawAtom) (old new : Counted) (name : List ℕ) (size_ : Size) → atoms ≡ listed_in source name → IsCountOf source (before ++ atoms) old → size_ ≡ cut (written_size (others source atoms))
+      → new.size ≡ old.size → new.facts ≡ old.facts → new.contexts ≡ added old.contexts (name, size_) → IsCountOf source (before ++ listed_in source name) new
+  context_first before atoms old new name size_ atoms_are so_far size_is same_size same_facts_ contexts_are =
+      subst (λ xs. IsCountOf source (before ++ xs) new) atoms_are
+      (record {
+        size = same_size ∙ so_far.size;
+        facts = ap (map (λ entry. entry.0)) same_facts_ ∙ so_far.facts;
+        contexts = λ other s g. by other s (under_added old.contexts name size_ other s (ap (λ table. under_name table other) (sym contexts_are) ∙ g));
+      })
+    where
+      by : (other : List ℕ) (s : Size) → (under_name old.contexts other ≡ Some s) ⊎ ((bytes_eq other name ≡ true) × (s ≡ size_)) → IsPassed source (before ++ atoms) other s
+      by other s (inl got) = so_far.contexts other s got
+      by other s (inr both) =
+          let same : listed_in source other ≡ atoms = ap (listed_in source) ((bytes_eq-Decides other name).0 both.0) ∙ sym atoms_are in
+          record {
+            size_is = both.1 ∙ size_is ∙ ap (λ xs. cut (written_size (others source xs))) (sym same);
+            among = λ atom there. contains_right before atoms atom (subst (λ xs. Contains xs atom) same there);
+          }
+
+  -- two parts, one after the other
+  pub both_counted : (xs ys zs : List RawAtom) (start old new : Counted) → zs ≡ xs ++ ys → ((before : List RawAtom) → IsCountOf source before start → IsCountOf source (before ++ xs) old)
+      → ((before : List RawAtom) → IsCountOf source before old → IsCountOf source (before ++ ys) new) → (before : List RawAtom) → IsCountOf source before start → IsCountOf source (before ++ zs) new
+  both_counted xs ys zs start old new are one other before so_far =
+      subst (λ them. IsCountOf source them new) (append_assoc before xs ys ∙ ap (λ them. before ++ them) (sym are)) (other (before ++ xs) (one before so_far))
+
+pub first_more : (atoms : List RawAtom) (i : ℕ) (atom : RawAtom) → i < length atoms → atom ≡ get_or atoms i atom → take (i + 1) atoms ≡ take i atoms ++ atom ∷ []
+first_more atoms i atom within at = take_more atoms i atom within ∙ ap (λ y. take i atoms ++ y ∷ []) (sym at)
+
+pub listed_more : (g : RawAtom → List RawAtom) (atoms : List RawAtom) (i : ℕ) (atom : RawAtom) → i < length atoms → atom ≡ get_or atoms i atom → flat_map g (take (i + 1) atoms) ≡ flat_map g (take i atoms) ++ g atom
+listed_more g atoms i atom within at =
+    ap (flat_map g) (first_more atoms i atom within at) ∙ flat_map-append g (take i atoms) (atom ∷ []) ∙ ap (λ ys. flat_map g (take i atoms) ++ ys) (append-nil (g atom))
+
+-- what an atom in braces lists
+abbrev pub listed_by : Source → RawAtom → List RawAtom
+listed_by source atom = if stands_for_context source atom then listed_in source (said source atom.name) else atom ∷ []

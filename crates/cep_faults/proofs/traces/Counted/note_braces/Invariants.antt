@@ -1,0 +1,9 @@
+use Rattle.std.proofs.Common.{List, ◌++◌, take}
+use Rattle.cep_parse.specs.declared.raw.RawAtom.{RawAtom}
+use Rattle.cep_parse.specs.declared.raw.RawStart.TheVariants as start
+use Rattle.cep_source.specs.Starts.{start_atoms}
+use Rattle.cep_faults.specs.Counted.{IsCountOf}
+use Rattle.cep_faults.proofs.traces.Counted.note_braces.Given as goal
+
+abbrev pub invariant-loop-atom : goal.invariant-loop-atom
+invariant-loop-atom l = (before : List RawAtom) → IsCountOf l.source before l.fn.self → IsCountOf l.source (before ++ start_atoms l.source (start.Listed (take l.atom-index l.atoms))) l.self

@@ -1,4 +1,0 @@
-use Rattle.cep_source.proofs.source.Source.of.Goals as goal
-
-pub invariant_of-result : goal.invariant_of-result
-invariant_of-result c = record { kinds = c.in_ok-kinds.ensures; names = c.in_ok-names.ensures }

@@ -1,0 +1,17 @@
+use Rattle.std.proofs.Common.{List, ap, ◌∙◌}
+use Rattle.std.proofs.lemmas.List.{take_all}
+use Rattle.cep_parse.specs.declared.raw.RawElem.{RawElem}
+use Rattle.cep_parse.specs.Raw.{raw_nodes, atoms_of}
+use Rattle.cep_source.specs.Met.{none_met, met_nodes}
+use Rattle.cep_source.proofs.Meeting.{side_met, are_variables}
+use Rattle.cep_source.proofs.variables.Variables.of_side.Goals as goal
+
+pub loop-elem-preserved : goal.loop-elem-preserved
+loop-elem-preserved c =
+    side_met c.args.source.now c.args.side.now c.loop-elem.elem-index c.elem-item.result c.nodes.result.now c.loop-elem-test.true c.elem-item.is c.nodes.ensures
+    c.loop-elem.variables c.meet_nodes.new.self c.in_ok-meet_nodes.ensures c.loop-elem.invariant
+
+pub returns : goal.returns
+returns c =
+    are_variables c.args.source.now (atoms_of c.args.side.now) c.loop-elem.variables
+    (c.loop-elem.invariant ∙ ap (λ (side : List RawElem). met_nodes c.args.source.now none_met (raw_nodes (atoms_of side))) (take_all c.loop-elem.elem-index c.args.side.now c.loop-elem-test.false))

@@ -1,9 +1,0 @@
-use Rattle.std.proofs.Common.{map, drop}
-use Rattle.cep_source.specs.Items.{said}
-use Rattle.cep_types.specs.Sites.{sites_from}
-use Rattle.cep_types.proofs.Meeting.{IsMeeting}
-use Rattle.cep_types.proofs.variables.Variables.meet_atom.Given as goal
-
-abbrev pub invariant-loop-node : goal.invariant-loop-node
-invariant-loop-node l =
-    IsMeeting l.source (sites_from l.source (map (said l.source) l.initial.pending) l.node-items) l.node-items l.fn.self l.self (map (said l.source) l.pending) (drop l.node-index l.node-items)
