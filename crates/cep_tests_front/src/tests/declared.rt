@@ -8,6 +8,16 @@ use std::alloc::{AllocError, Global};
 use std::process::Abort;
 use std::test::Fail;
 
+// What is asked of a text.
+#[derive(Clone, Copy)]
+enum Asked {
+    Clauses,
+    RuleNames,
+    Braces,
+    Side,
+    Clause,
+}
+
 // Of its two rules the second has no label, and of its three clauses the last says so by its types alone.
 fn declaring() -> &'static str {
     "t : type. a : t. p t : pred. q t t : bwd. w : bwd.
@@ -90,52 +100,57 @@ fn put_second(source: &Source, out: &mut Text) -> Result<(), AllocError> {
     put_variables(source, &met, out)
 }
 
-// Adds what is declared of this kind.
-fn put_kind(source: &Source, kind: &str, out: &mut Text) -> Result<(), AllocError> {
-    match kind {
-        "clauses" => put_clauses(source, out),
-        "rules" => put_rule_names(source, out),
-        "braces" => put_braces(source, out),
-        "side" => put_side(source, out),
-        _ => put_second(source, out),
+// Adds what is asked.
+fn put_told(source: &Source, asked: Asked, out: &mut Text) -> Result<(), AllocError> {
+    match asked {
+        Asked::Clauses => put_clauses(source, out),
+        Asked::RuleNames => put_rule_names(source, out),
+        Asked::Braces => put_braces(source, out),
+        Asked::Side => put_side(source, out),
+        Asked::Clause => put_second(source, out),
     }
 }
 
-// What is declared of this kind.
-fn told(source: &Source, kind: &str) -> Result<Text, AllocError> {
+// What is asked.
+fn told(source: &Source, asked: Asked) -> Result<Text, AllocError> {
     let mut out = Text::new(source.alloc());
-    put_kind(source, kind, &mut out)?;
+    put_told(source, asked, &mut out)?;
     Ok(out)
 }
 
-// What the text declares of a kind, where this is its raw file.
-fn declared_in(alloc: Global, file: &RawFile, kind: &str) -> Result<Text, AllocError> {
+// What is asked of the text, where this is its raw file.
+fn declared_in(alloc: Global, file: &RawFile, asked: Asked) -> Result<Text, AllocError> {
     let source = Source::of(alloc, declaring().as_bytes(), file)?;
-    let told = told(&source, kind);
+    let told = told(&source, asked);
     drop(source);
     told
 }
 
-// What the text declares of a kind.
-fn declared(alloc: Global, kind: &str) -> Result<Text, Fail> {
+// What is asked of the text.
+fn declared(alloc: Global, asked: Asked) -> Result<Text, Fail> {
     let file = file_of(alloc, declaring())?;
-    Ok(declared_in(alloc, &file, kind)?)
+    Ok(declared_in(alloc, &file, asked)?)
 }
 
-// This is declared of a kind.
-fn expect_declared(rt: &impl Abort, alloc: Global, kind: &str, text: &str) -> Result<(), Fail> {
-    let declared = declared(alloc, kind)?;
+// This is told of the text.
+fn expect_declared(rt: &impl Abort, alloc: Global, asked: Asked, text: &str) -> Result<(), Fail> {
+    let declared = declared(alloc, asked)?;
     assert_eq!(rt; declared.bytes(), text.as_bytes());
     Ok(())
 }
 
 #[test]
 fn a_text_declares_clauses_rules_and_variables(rt: HostRuntime) -> Result<(), Fail> {
-    expect_declared(&rt, rt.alloc(), "clauses", "q 2.q 2 w q.w 0.")?;
-    expect_declared(&rt, rt.alloc(), "rules", "r.qui/1.")?;
-    expect_declared(&rt, rt.alloc(), "braces", "c context.p itself.d itself.")?;
-    expect_declared(&rt, rt.alloc(), "side", "Y _1 X 1")?;
-    expect_declared(&rt, rt.alloc(), "clause", "X _1 _2 Y 2")
+    expect_declared(&rt, rt.alloc(), Asked::Clauses, "q 2.q 2 w q.w 0.")?;
+    expect_declared(&rt, rt.alloc(), Asked::RuleNames, "r.qui/1.")?;
+    expect_declared(
+        &rt,
+        rt.alloc(),
+        Asked::Braces,
+        "c context.p itself.d itself.",
+    )?;
+    expect_declared(&rt, rt.alloc(), Asked::Side, "Y _1 X 1")?;
+    expect_declared(&rt, rt.alloc(), Asked::Clause, "X _1 _2 Y 2")
 }
 
 // Two names, of which the first came twice.
