@@ -5,6 +5,7 @@ about a text: its tokens for any text, and its items for one that the program ha
 """
 
 import re
+import unicodedata
 from dataclasses import dataclass, field
 
 RESERVED = ("type", "pred", "bwd", "fact", "stage", "context", "qui")
@@ -42,15 +43,25 @@ class Token:
         return self.start + len(self.text)
 
 
-def read_text(path):
-    """The bytes of a file, each as one character, so that columns count bytes."""
+def read_text(path, most=-1):
+    """The bytes of a file, each as one character, so that columns count bytes: at most so many of
+    them and one more, which is enough for the program to refuse the file as too long."""
     with open(path, "rb") as file:
-        return file.read().decode("latin-1")
+        return file.read(most + 1 if most >= 0 else -1).decode("latin-1")
+
+
+def printable(text):
+    """A text of others without the control characters by which it could write all over a terminal:
+    each but the tab is shown as `\\x1b`."""
+    return "".join(
+        f"\\x{ord(letter):02x}" if unicodedata.category(letter) == "Cc" and letter != "\t" else letter
+        for letter in text
+    )
 
 
 def shown(text):
-    """Bytes as people read them."""
-    return text.encode("latin-1").decode("utf-8", errors="replace")
+    """Bytes as people read them, printable."""
+    return printable(text.encode("latin-1").decode("utf-8", errors="replace"))
 
 
 def tokens(text):

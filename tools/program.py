@@ -1,12 +1,19 @@
 """Runs the program for the tools of this folder: `./ceptre` at the top, or what CEPTRE names."""
 
+import contextlib
 import os
 import subprocess
+import tempfile
+
+from language import read_text
 
 TOP = os.path.dirname(os.path.dirname(os.path.abspath(__file__)))
 
 # Statuses of the program, as docs/FORMATS.md has them.
 DONE, REJECTED, REFUSED, LIMIT, UNREAD = 0, 1, 3, 4, 7
+
+# The most bytes of a world and of a transcript, as docs/LIMITS.md has them.
+MOST_WORLD, MOST_LOG = 1 << 20, 1 << 26
 
 
 class CannotRun(Exception):
@@ -34,3 +41,19 @@ def refusal(world):
     if status == REJECTED and lines == ["refused 1 Line"]:
         return None
     raise CannotRun(lines[0] if lines else f"the program ended with status {status}")
+
+
+@contextlib.contextmanager
+def taken(path, most):
+    """The text of a file of at most so many bytes, and a path by which the program reads the same.
+
+    A pipe gives its bytes only once, so the program gets them in a file that goes away afterwards.
+    """
+    text = read_text(path, most)
+    if os.path.isfile(path):
+        yield text, path
+        return
+    with tempfile.NamedTemporaryFile(suffix=os.path.splitext(path)[1]) as copy:
+        copy.write(text.encode("latin-1"))
+        copy.flush()
+        yield text, copy.name

@@ -8,6 +8,7 @@ import tempfile
 import unittest
 
 from setting import TOP, module_of, read, tool
+from language import read_text
 from program import refusal
 
 FOLDER = os.path.join(TOP, "tools", "tests", "explain")
@@ -43,7 +44,7 @@ class Explain(unittest.TestCase):
         os.chdir(FOLDER)
         for name in names:
             with self.subTest(text=name):
-                lines = explain.explanation(name, refusal(name))
+                lines = explain.explanation(name, read_text(name), refusal(name))
                 self.assertEqual("\n".join(lines) + "\n", read(name[:-4] + ".told"))
 
     def test_a_text_that_is_refused(self):
