@@ -15,10 +15,8 @@ use Rattle.cep_rule.specs.Step.{Step}
 use Rattle.cep_rule.specs.Steps.{Spot, stage_after}
 use Rattle.cep_log.specs.declared.log.LogStep.{LogStep}
 use Rattle.cep_step.specs.declared.change.Change.{Change}
-use Rattle.cep_step.specs.declared.weighing.Weighed.TheVariants.{StateTooFull, Within}
-use Rattle.cep_step.specs.Passing.{IsTooFull}
+use Rattle.cep_step.specs.declared.weighing.Weighed.TheVariants.{Within}
 use Rattle.cep_step.specs.Changes.{edited, IsWeighed}
-use Rattle.cep_check.specs.declared.cause.CheckLimit.TheVariants.{State}
 use Rattle.cep_check.specs.declared.cause.Cause.{Cause}
 use Rattle.cep_check.specs.declared.cause.Cause.TheVariants.{StartStage, StartState, OtherStage, NotContained, NotProved, TooHigh, NotQuiet, OverLimit, StageLine, MidState, NotEnded, EndState}
 use Rattle.cep_check.specs.Causes.{IsFirstDifference, IsInTurn, IsWithinLimits, IsStepCause}
@@ -32,16 +30,8 @@ in_range_all types signature kinds values are atoms typed = all_weaker (IsTyped 
 pub ground_all : TypeLaws → (signature : Signature) (kinds : List ℕ) (values : List Tree) → AreValues signature.cons kinds values → (atoms : List AtomTree) → AllByRecursion (IsTyped signature kinds) atoms → AllByRecursion IsGroundAtom (full_instances values atoms)
 ground_all types signature kinds values are atoms typed = all_mapped (IsTyped signature kinds) IsGroundAtom (full_instance values) atoms (λ a typed. types.ground signature kinds values a are typed) typed
 
--- a state that is too full does not fit
-not_fitting : (state : Multiset) (number : ℕ) → IsTooFull state number → ¬ Fits state
-not_fitting state number full = λ fits. let few = fits.copies in let few' = fits.nodes in ⊎_elim (λ copies. let over = copies.0 in absurd (omega arith)) (λ nodes. let over = nodes.1 in absurd (omega arith)) full
-
 -- what a step in turn comes to
 module _ (program : Parts) (height : ℕ) (old : Spot) (rule : Rule) (step : LogStep) (ready : IsReadyStep program rule step) (is_state : IsState program.signature old.state) (fits : Fits old.state) (in_turn : IsInTurn program height old rule step) where
-  -- it passes a limit
-  pub state_cause : (number : ℕ) → IsWeighed program.signature rule step.offer.values old.state (StateTooFull number) → IsStepCause program height old rule step (OverLimit State)
-  state_cause number weighed = (in_turn, weighed.0, (weighed.1.0, weighed.1.1, not_fitting weighed.1.0 number weighed.1.2))
-
   module _ (change : Change) (weighed : IsWeighed program.signature rule step.offer.values old.state (Within change)) where
     within : IsWithinLimits program height old rule step
     within = record {
@@ -62,7 +52,7 @@ module _ (program : Parts) (height : ℕ) (old : Spot) (rule : Rule) (step : Log
     stage_cause (NotProved place) other = absurd other
     stage_cause (TooHigh place high) other = absurd other
     stage_cause (NotQuiet offer) other = absurd other
-    stage_cause (OverLimit which) other = absurd other
+    stage_cause (OverLimit limit) other = absurd other
     stage_cause (MidState line atom said is) other = absurd other
     stage_cause NotEnded other = other
     stage_cause (EndState atom said is) other = other
@@ -103,7 +93,7 @@ mid_cause program height old new rule step (NotContained atom have need) done ot
 mid_cause program height old new rule step (NotProved place) done other = absurd other
 mid_cause program height old new rule step (TooHigh place high) done other = absurd other
 mid_cause program height old new rule step (NotQuiet offer) done other = absurd other
-mid_cause program height old new rule step (OverLimit which) done other = absurd other
+mid_cause program height old new rule step (OverLimit limit) done other = absurd other
 mid_cause program height old new rule step (StageLine said is) done other = absurd other
 mid_cause program height old new rule step NotEnded done other = other
 mid_cause program height old new rule step (EndState atom said is) done other = other

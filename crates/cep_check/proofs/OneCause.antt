@@ -36,7 +36,7 @@ module _ (laws : BagLaws) (order : OffersOrdered) (one : LeadsToOne) (needs : Ne
   start_alike log of (TooHigh place high) other comes comes' = absurd comes
   start_alike log of (NotQuiet offer) other comes comes' = absurd comes
   start_alike log of (StageLine said is) other comes comes' = absurd comes
-  start_alike log of (OverLimit which) other comes comes' = absurd comes
+  start_alike log of (OverLimit limit) other comes comes' = absurd comes
   start_alike log of (MidState line atom said is) other comes comes' = absurd comes
   start_alike log of NotEnded other comes comes' = absurd comes
   start_alike log of (EndState atom said is) other comes comes' = absurd comes
@@ -46,7 +46,7 @@ module _ (laws : BagLaws) (order : OffersOrdered) (one : LeadsToOne) (needs : Ne
   start_alike log of (StartStage said is) (TooHigh place' high') comes comes' = absurd comes'
   start_alike log of (StartStage said is) (NotQuiet offer') comes comes' = absurd comes'
   start_alike log of (StartStage said is) (StageLine said' is') comes comes' = absurd comes'
-  start_alike log of (StartStage said is) (OverLimit which) comes comes' = absurd comes'
+  start_alike log of (StartStage said is) (OverLimit limit) comes comes' = absurd comes'
   start_alike log of (StartStage said is) (MidState line' atom' said' is') comes comes' = absurd comes'
   start_alike log of (StartStage said is) NotEnded comes comes' = absurd comes'
   start_alike log of (StartStage said is) (EndState atom' said' is') comes comes' = absurd comes'
@@ -56,7 +56,7 @@ module _ (laws : BagLaws) (order : OffersOrdered) (one : LeadsToOne) (needs : Ne
   start_alike log of (StartState atom said is) (TooHigh place' high') comes comes' = absurd comes'
   start_alike log of (StartState atom said is) (NotQuiet offer') comes comes' = absurd comes'
   start_alike log of (StartState atom said is) (StageLine said' is') comes comes' = absurd comes'
-  start_alike log of (StartState atom said is) (OverLimit which) comes comes' = absurd comes'
+  start_alike log of (StartState atom said is) (OverLimit limit) comes comes' = absurd comes'
   start_alike log of (StartState atom said is) (MidState line' atom' said' is') comes comes' = absurd comes'
   start_alike log of (StartState atom said is) NotEnded comes comes' = absurd comes'
   start_alike log of (StartState atom said is) (EndState atom' said' is') comes comes' = absurd comes'
@@ -90,8 +90,8 @@ module _ (laws : BagLaws) (order : OffersOrdered) (one : LeadsToOne) (needs : Ne
   end_alike log of last None rising NotEnded (StageLine said' is') comes comes' = absurd comes'
   end_alike log of last None rising (MidState line atom said is) other comes comes' = absurd comes
   end_alike log of last None rising NotEnded (MidState line' atom' said' is') comes comes' = absurd comes'
-  end_alike log of last None rising (OverLimit which) other comes comes' = absurd comes
-  end_alike log of last None rising NotEnded (OverLimit which) comes comes' = absurd comes'
+  end_alike log of last None rising (OverLimit limit) other comes comes' = absurd comes
+  end_alike log of last None rising NotEnded (OverLimit limit) comes comes' = absurd comes'
   end_alike log of last None rising (StartStage said is) other comes comes' = absurd comes
   end_alike log of last None rising NotEnded (StartStage said' is') comes comes' = absurd comes'
   end_alike log of last None rising (StartState atom said is) other comes comes' = absurd comes
@@ -116,9 +116,9 @@ module _ (laws : BagLaws) (order : OffersOrdered) (one : LeadsToOne) (needs : Ne
   end_alike log of last (Some end) rising (MidState line atom said is) other comes comes' = absurd comes
   end_alike log of last (Some end) rising (NotQuiet offer) (MidState line' atom' said' is') comes comes' = absurd comes'
   end_alike log of last (Some end) rising (EndState atom said is) (MidState line' atom' said' is') comes comes' = absurd comes'
-  end_alike log of last (Some end) rising (OverLimit which) other comes comes' = absurd comes
-  end_alike log of last (Some end) rising (NotQuiet offer) (OverLimit which) comes comes' = absurd comes'
-  end_alike log of last (Some end) rising (EndState atom said is) (OverLimit which) comes comes' = absurd comes'
+  end_alike log of last (Some end) rising (OverLimit limit) other comes comes' = absurd comes
+  end_alike log of last (Some end) rising (NotQuiet offer) (OverLimit limit) comes comes' = absurd comes'
+  end_alike log of last (Some end) rising (EndState atom said is) (OverLimit limit) comes comes' = absurd comes'
   end_alike log of last (Some end) rising (StartStage said is) other comes comes' = absurd comes
   end_alike log of last (Some end) rising (NotQuiet offer) (StartStage said' is') comes comes' = absurd comes'
   end_alike log of last (Some end) rising (EndState atom said is) (StartStage said' is') comes comes' = absurd comes'

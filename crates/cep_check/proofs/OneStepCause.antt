@@ -17,7 +17,7 @@ use Rattle.cep_text.specs.Texts.{offer_name, offer_text}
 use Rattle.cep_log.specs.declared.log.LogStep.{LogStep}
 use Rattle.cep_log.specs.declared.log.LogMid.{LogMid}
 use Rattle.cep_log.specs.Legal.{IsListing}
-use Rattle.cep_check.specs.declared.cause.CheckLimit.TheVariants.{Atom, State}
+use Rattle.cep_step.specs.declared.limit.Limit.TheVariants.{Atom, State}
 use Rattle.cep_check.specs.declared.cause.Cause.{Cause}
 use Rattle.cep_check.specs.declared.cause.Cause.TheVariants.{StartStage, StartState, OtherStage, NotContained, NotProved, TooHigh, NotQuiet, OverLimit, StageLine, MidState, NotEnded, EndState}
 use Rattle.cep_check.specs.Causes.{IsOfStage, IsFirstDifference, IsAtPremise, CanTake, IsProvedStep, IsInTurn, IsWithinLimits, IsStaged, IsStepCause, cause_line}
@@ -95,7 +95,7 @@ module _ (laws : BagLaws) (order : OffersOrdered) (one : LeadsToOne) (needs : Ne
     has_passed (TooHigh place high) comes = comes.0
     has_passed (NotQuiet offer) comes = comes.0
     has_passed (OverLimit Atom) comes = comes.0
-    has_passed (OverLimit State) comes = (comes.0, comes.1)
+    has_passed (OverLimit State) comes = (comes.0, comes.1.0)
     has_passed (StageLine said is) comes = comes.0
     has_passed (MidState line atom said is) comes = comes.0
     has_passed (StartStage said is) comes = absurd comes
@@ -119,7 +119,9 @@ module _ (laws : BagLaws) (order : OffersOrdered) (one : LeadsToOne) (needs : Ne
         omega arith
     fails_next (NotQuiet offer) comes passed = passed.quiet comes.1 (offer, comes.2.is)
     fails_next (OverLimit Atom) comes passed = comes.1 passed.1
-    fails_next (OverLimit State) comes passed = comes.2.2 (subst Fits (one program.signature rule step.offer.values old.state passed.new comes.2.0 passed.leads comes.2.1) passed.fits)
+    fails_next (OverLimit State) comes passed =
+        let over = comes.1.1 in
+        over.2 (subst Fits (one program.signature rule step.offer.values old.state passed.new over.0 passed.leads over.1) passed.fits)
     fails_next (StageLine said is) comes passed = comes.3 (some_same said is (sym comes.1 ∙ passed.stage ∙ comes.2))
     fails_next (MidState line atom said is) comes passed = passed
     fails_next (StartStage said is) comes passed = comes
@@ -297,7 +299,7 @@ module _ (laws : BagLaws) (order : OffersOrdered) (one : LeadsToOne) (needs : Ne
     own_line (NotProved place) other = refl
     own_line (TooHigh place high) other = refl
     own_line (NotQuiet offer) other = refl
-    own_line (OverLimit which) other = refl
+    own_line (OverLimit limit) other = refl
     own_line (StageLine said is) other = refl
     own_line (StartStage said is) other = refl
     own_line (StartState atom said is) other = refl

@@ -21,7 +21,7 @@ use Rattle.cep_log.specs.declared.log.LogStep.{LogStep}
 use Rattle.cep_log.specs.declared.log.LogMid.{LogMid}
 use Rattle.cep_log.specs.declared.log.LogEnd.{LogEnd}
 use Rattle.cep_log.specs.Legal.{IsLegalStep, AreLegalSteps, IsLegalEnd, IsLegal, start_spot}
-use Rattle.cep_check.specs.declared.cause.CheckLimit.TheVariants.{Atom, State}
+use Rattle.cep_step.specs.declared.limit.Limit.TheVariants.{Atom, State}
 use Rattle.cep_check.specs.declared.cause.Cause.{Cause}
 use Rattle.cep_check.specs.declared.cause.Cause.TheVariants.{StartStage, StartState, OtherStage, NotContained, NotProved, TooHigh, NotQuiet, OverLimit, StageLine, MidState, NotEnded, EndState}
 use Rattle.cep_check.specs.Causes.{ListsCount, IsFirstDifference, IsStartCause, IsStepCause, IsEndCause, IsRefusedFrom, IsLogRefused}
@@ -91,7 +91,9 @@ module _ (laws : BagLaws) (one : LeadsToOne) (needs : NeedsLeft) (program : Part
           (λ leaving. leaving.1 (offer, comes.2.is))
           machine.in_turn
       by (OverLimit Atom) comes = comes.1 machine.steps.fit
-      by (OverLimit State) comes = comes.2.2 (subst Fits (one program.signature rule step.offer.values old.state new.state comes.2.0 machine.steps.step comes.2.1) machine.steps.fits)
+      by (OverLimit State) comes =
+          let over = comes.1.1 in
+          over.2 (subst Fits (one program.signature rule step.offer.values old.state new.state over.0 machine.steps.step over.1) machine.steps.fits)
       by (StageLine said is) comes = comes.3 (some_same said is (sym comes.1 ∙ legal.stage ∙ ap (λ (r : Rule). r.next) same ∙ comes.2))
       by (MidState line atom said is) comes =
           let listed : comes.1.state ≡ finite.entries new.state = subst (λ (found : Option LogMid). IfSome found (λ (mid : LogMid). mid.state ≡ finite.entries new.state)) comes.2 legal.mid in
@@ -121,7 +123,7 @@ module _ (laws : BagLaws) (one : LeadsToOne) (needs : NeedsLeft) (program : Part
   end_clash height last None (NotProved place) comes legal = comes
   end_clash height last None (TooHigh place high) comes legal = comes
   end_clash height last None (NotQuiet offer) comes legal = comes
-  end_clash height last None (OverLimit which) comes legal = comes
+  end_clash height last None (OverLimit limit) comes legal = comes
   end_clash height last None (StageLine said is) comes legal = comes
   end_clash height last None (MidState line atom said is) comes legal = comes
   end_clash height last None (EndState atom said is) comes legal = comes
@@ -136,7 +138,7 @@ module _ (laws : BagLaws) (one : LeadsToOne) (needs : NeedsLeft) (program : Part
   end_clash height last (Some end) (NotContained atom have need) comes legal = comes
   end_clash height last (Some end) (NotProved place) comes legal = comes
   end_clash height last (Some end) (TooHigh place high) comes legal = comes
-  end_clash height last (Some end) (OverLimit which) comes legal = comes
+  end_clash height last (Some end) (OverLimit limit) comes legal = comes
   end_clash height last (Some end) (StageLine said is) comes legal = comes
   end_clash height last (Some end) (MidState line atom said is) comes legal = comes
 
@@ -155,7 +157,7 @@ module _ (laws : BagLaws) (one : LeadsToOne) (needs : NeedsLeft) (program : Part
   start_clash log (NotProved place) comes stage start = comes
   start_clash log (TooHigh place high) comes stage start = comes
   start_clash log (NotQuiet offer) comes stage start = comes
-  start_clash log (OverLimit which) comes stage start = comes
+  start_clash log (OverLimit limit) comes stage start = comes
   start_clash log (StageLine said is) comes stage start = comes
   start_clash log (MidState line atom said is) comes stage start = comes
   start_clash log NotEnded comes stage start = comes

@@ -56,7 +56,7 @@ proof_cause program height proofs goals n place proof goal (StartState atom said
 proof_cause program height proofs goals n place proof goal (OtherStage rule) is all p q fails = fails
 proof_cause program height proofs goals n place proof goal (NotContained atom have need) is all p q fails = fails
 proof_cause program height proofs goals n place proof goal (NotQuiet offer) is all p q fails = fails
-proof_cause program height proofs goals n place proof goal (OverLimit which) is all p q fails = fails
+proof_cause program height proofs goals n place proof goal (OverLimit limit) is all p q fails = fails
 proof_cause program height proofs goals n place proof goal (StageLine said told) is all p q fails = fails
 proof_cause program height proofs goals n place proof goal (MidState line atom said told) is all p q fails = fails
 proof_cause program height proofs goals n place proof goal NotEnded is all p q fails = fails
@@ -71,7 +71,7 @@ module _ (program : Parts) (height : ℕ) (old : Spot) (rule : Rule) (step : Log
   lack_cause (NotProved place) of_stage lacks = absurd lacks
   lack_cause (TooHigh place high) of_stage lacks = absurd lacks
   lack_cause (NotQuiet offer) of_stage lacks = absurd lacks
-  lack_cause (OverLimit which) of_stage lacks = absurd lacks
+  lack_cause (OverLimit limit) of_stage lacks = absurd lacks
   lack_cause (StageLine said told) of_stage lacks = absurd lacks
   lack_cause (MidState line atom said told) of_stage lacks = absurd lacks
   lack_cause NotEnded of_stage lacks = lacks
@@ -85,7 +85,7 @@ module _ (program : Parts) (height : ℕ) (old : Spot) (rule : Rule) (step : Log
   failure_cause (OtherStage number) can fails = absurd fails
   failure_cause (NotContained atom have need) can fails = absurd fails
   failure_cause (NotQuiet offer) can fails = absurd fails
-  failure_cause (OverLimit which) can fails = absurd fails
+  failure_cause (OverLimit limit) can fails = absurd fails
   failure_cause (StageLine said told) can fails = absurd fails
   failure_cause (MidState line atom said told) can fails = absurd fails
   failure_cause NotEnded can fails = fails
@@ -99,7 +99,7 @@ module _ (program : Parts) (height : ℕ) (old : Spot) (rule : Rule) (step : Log
   quiet_cause (NotContained atom have need) is there = absurd there
   quiet_cause (NotProved place) is there = absurd there
   quiet_cause (TooHigh place high) is there = absurd there
-  quiet_cause (OverLimit which) is there = absurd there
+  quiet_cause (OverLimit limit) is there = absurd there
   quiet_cause (StageLine said told) is there = absurd there
   quiet_cause (MidState line atom said told) is there = absurd there
   quiet_cause NotEnded is there = there

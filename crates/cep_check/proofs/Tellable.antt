@@ -112,7 +112,7 @@ module _ (bags : BagLaws) (types : TypeLaws) (comes_from : ComesFrom) (program :
   start_told log (NotProved place) of_program comes = tt
   start_told log (TooHigh place high) of_program comes = tt
   start_told log (NotQuiet offer) of_program comes = absurd comes
-  start_told log (OverLimit which) of_program comes = tt
+  start_told log (OverLimit limit) of_program comes = tt
   start_told log (StageLine said is) of_program comes = absurd comes
   start_told log (MidState line atom said is) of_program comes = absurd comes
   start_told log NotEnded of_program comes = tt
@@ -134,7 +134,7 @@ module _ (bags : BagLaws) (types : TypeLaws) (comes_from : ComesFrom) (program :
       (step_writable rule step.offer.values old.state comes.0.within.new known.values known.typed comes.0.within.leads writable) comes.4
   step_told height old rule step (NotProved place) writable of_program numbered comes = tt
   step_told height old rule step (TooHigh place high) writable of_program numbered comes = tt
-  step_told height old rule step (OverLimit which) writable of_program numbered comes = tt
+  step_told height old rule step (OverLimit limit) writable of_program numbered comes = tt
   step_told height old rule step (StartStage said is) writable of_program numbered comes = absurd comes
   step_told height old rule step (StartState atom said is) writable of_program numbered comes = absurd comes
   step_told height old rule step NotEnded writable of_program numbered comes = tt
@@ -149,7 +149,7 @@ module _ (bags : BagLaws) (types : TypeLaws) (comes_from : ComesFrom) (program :
   end_told height last (Some end) NotEnded listing writable comes = tt
   end_told height last (Some end) (NotProved place) listing writable comes = tt
   end_told height last (Some end) (TooHigh place high) listing writable comes = tt
-  end_told height last (Some end) (OverLimit which) listing writable comes = tt
+  end_told height last (Some end) (OverLimit limit) listing writable comes = tt
   end_told height last (Some end) (StartStage said is) listing writable comes = absurd comes
   end_told height last (Some end) (StartState atom said is) listing writable comes = absurd comes
   end_told height last (Some end) (OtherStage number) listing writable comes = absurd comes
@@ -159,7 +159,7 @@ module _ (bags : BagLaws) (types : TypeLaws) (comes_from : ComesFrom) (program :
   end_told height last None NotEnded listing writable comes = tt
   end_told height last None (NotProved place) listing writable comes = tt
   end_told height last None (TooHigh place high) listing writable comes = tt
-  end_told height last None (OverLimit which) listing writable comes = tt
+  end_told height last None (OverLimit limit) listing writable comes = tt
   end_told height last None (NotQuiet offer) listing writable comes = absurd comes
   end_told height last None (EndState atom said is) listing writable comes = absurd comes
   end_told height last None (StartStage said is) listing writable comes = absurd comes

@@ -21,7 +21,7 @@ use Rattle.cep_log.specs.declared.log.LogStep.{LogStep}
 use Rattle.cep_log.specs.declared.log.LogMid.{LogMid}
 use Rattle.cep_log.specs.declared.log.LogEnd.{LogEnd}
 use Rattle.cep_log.specs.Legal.{IsLegalStep, IsLegal, start_spot}
-use Rattle.cep_check.specs.declared.cause.CheckLimit.TheVariants.{Atom, State}
+use Rattle.cep_step.specs.Passing.{Passes}
 use Rattle.cep_check.specs.declared.cause.Cause.{Cause}
 use Rattle.cep_check.specs.declared.cause.Verdict.{Verdict}
 use Rattle.cep_check.specs.declared.cause.Verdict.TheVariants.{Accepted, Refused}
@@ -103,7 +103,7 @@ IsStartCause program log (NotContained atom have need) = ⊥
 IsStartCause program log (NotProved premise) = ⊥
 IsStartCause program log (TooHigh premise height) = ⊥
 IsStartCause program log (NotQuiet offer) = ⊥
-IsStartCause program log (OverLimit which) = ⊥
+IsStartCause program log (OverLimit limit) = ⊥
 IsStartCause program log (StageLine said is) = ⊥
 IsStartCause program log (MidState line atom said is) = ⊥
 IsStartCause program log NotEnded = ⊥
@@ -120,10 +120,8 @@ IsStepCause program height old rule step (TooHigh place high) =
     CanTake program old rule step.offer × IsTooHigh program height step.proofs (full_instances step.offer.values rule.backs) place high
 IsStepCause program height old rule step (NotQuiet offer) =
     IsProvedStep program height old rule step × (rule.group ≡ leaving_group old.stage) × IsFirstOffer program height old.state (own_group old.stage) offer
-IsStepCause program height old rule step (OverLimit Atom) = IsInTurn program height old rule step × (¬ MakesFit rule step.offer.values)
-IsStepCause program height old rule step (OverLimit State) =
-    IsInTurn program height old rule step × MakesFit rule step.offer.values
-    × ((new : Multiset) × Step program.signature rule step.offer.values old.state new × (¬ Fits new))
+IsStepCause program height old rule step (OverLimit limit) =
+    IsInTurn program height old rule step × Passes program.signature rule step.offer.values old.state limit
 IsStepCause program height old rule step (StageLine said is) =
     IsWithinLimits program height old rule step × (step.stage ≡ Some said) × (rule.next ≡ Some is) × (said ≢ is)
 IsStepCause program height old rule step (MidState line atom said is) =
@@ -159,7 +157,7 @@ IsEndCause program height last end (OtherStage rule) = ⊥
 IsEndCause program height last end (NotContained atom have need) = ⊥
 IsEndCause program height last end (NotProved premise) = ⊥
 IsEndCause program height last end (TooHigh premise high) = ⊥
-IsEndCause program height last end (OverLimit which) = ⊥
+IsEndCause program height last end (OverLimit limit) = ⊥
 IsEndCause program height last end (StageLine said is) = ⊥
 IsEndCause program height last end (MidState line atom said is) = ⊥
 
@@ -173,7 +171,7 @@ cause_line step (NotContained atom have need) = step.line
 cause_line step (NotProved premise) = step.line
 cause_line step (TooHigh premise height) = step.line
 cause_line step (NotQuiet offer) = step.line
-cause_line step (OverLimit which) = step.line
+cause_line step (OverLimit limit) = step.line
 cause_line step (StageLine said is) = step.line
 cause_line step NotEnded = step.line
 cause_line step (EndState atom said is) = step.line

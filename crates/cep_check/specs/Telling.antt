@@ -8,8 +8,8 @@ use Rattle.cep_text.specs.Texts.{atom_text, offer_name, offer_text, IsTypedGroun
 use Rattle.cep_log.specs.declared.fault.LogFault.{LogFault}
 use Rattle.cep_log.specs.declared.fault.LogFault.TheVariants.{Line, NoRule}
 use Rattle.cep_lines.specs.Lines.{stage_name}
-use Rattle.cep_check.specs.declared.cause.CheckLimit.{CheckLimit}
-use Rattle.cep_check.specs.declared.cause.CheckLimit.TheVariants.{Atom, State}
+use Rattle.cep_step.specs.declared.limit.Limit.{Limit}
+use Rattle.cep_step.specs.declared.limit.Limit.TheVariants.{Atom, State}
 use Rattle.cep_check.specs.declared.cause.Cause.{Cause}
 use Rattle.cep_check.specs.declared.cause.Cause.TheVariants.{StartStage, StartState, OtherStage, NotContained, NotProved, TooHigh, NotQuiet, OverLimit, StageLine, MidState, NotEnded, EndState}
 use Rattle.cep_check.specs.declared.cause.Verdict.{Verdict}
@@ -28,7 +28,7 @@ unfoldable pub counts_text : Signature → List ℕ → ℕ → List ℕ → ℕ
 counts_text signature words one between other a = words ++ decimal one ++ between ++ copies_text signature other a
 
 -- the limit that a step passes
-abbrev pub limit_text : CheckLimit → List ℕ
+abbrev pub limit_text : Limit → List ℕ
 limit_text Atom = codes "OverLimit atom"
 limit_text State = codes "OverLimit state"
 
@@ -41,7 +41,7 @@ cause_text program (NotContained atom have need) = counts_text program.signature
 cause_text program (NotProved premise) = codes "NotProved " ++ decimal premise
 cause_text program (TooHigh premise height) = codes "TooHigh " ++ decimal premise ++ codes " " ++ decimal height
 cause_text program (NotQuiet offer) = codes "NotQuiet " ++ offer_text program offer
-cause_text program (OverLimit which) = limit_text which
+cause_text program (OverLimit limit) = limit_text limit
 cause_text program (StageLine said is) = stages_text program (codes "StageLine said ") said is
 cause_text program (MidState line atom said is) = counts_text program.signature (codes "MidState said ") said (codes " is ") is (atom_of atom)
 cause_text program NotEnded = codes "NotEnded"
@@ -70,7 +70,7 @@ IsTellableCause program (NotContained atom have need) = IsTypedGround program.si
 IsTellableCause program (NotProved premise) = Unit {0}
 IsTellableCause program (TooHigh premise height) = Unit {0}
 IsTellableCause program (NotQuiet offer) = IsOfferOf program offer
-IsTellableCause program (OverLimit which) = Unit {0}
+IsTellableCause program (OverLimit limit) = Unit {0}
 IsTellableCause program (StageLine said is) = (said < length program.stages) × (is < length program.stages)
 IsTellableCause program (MidState line atom said is) = IsTypedGround program.signature (atom_of atom)
 IsTellableCause program NotEnded = Unit {0}

@@ -1,12 +1,6 @@
 use cep_rule::Offer;
+use cep_step::Limit;
 use cep_term::Atom;
-
-/// Which limit a step passes: that of an atom, or that of a state. Both are this profile's.
-#[derive(Clone, Copy, Debug, PartialEq, Eq)]
-pub enum CheckLimit {
-    Atom,
-    State,
-}
 
 /// Why a log is not legal. Stages and rules are told by their numbers, and an atom of whose copies
 /// there are other numbers than wanted is the first such in the order of atoms, over all atoms: a
@@ -50,7 +44,7 @@ pub enum Cause {
     },
     /// An atom that the step makes is not fit, or the state after it does not fit.
     OverLimit {
-        which: CheckLimit,
+        limit: Limit,
     },
     /// The stage that is said is not the one that the rule names.
     StageLine {

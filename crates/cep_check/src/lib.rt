@@ -17,6 +17,6 @@ mod step;
 mod telling;
 mod walk;
 
-pub use cause::{Cause, CheckLimit, Verdict};
+pub use cause::{Cause, Verdict};
 pub use checking::check;
 pub use telling::{put_fault, put_verdict};

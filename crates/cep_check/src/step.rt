@@ -14,7 +14,7 @@ ghost use Rattle.cep_step.specs.Changes.{CanStep, IsWeighed};
 ghost use Rattle.cep_check.specs.Causes.{IsOfStage, IsInTurn, IsStepCause};
 ghost use Rattle.cep_check.specs.Walking.{stands_at, IsWalkOf, IsReadyStep, IsLackCause, IsQuietCause, IsStageCause, IsDoneStep, IsMidCause, IsStepCauseOf};
 
-use crate::cause::{Cause, CheckLimit};
+use crate::cause::Cause;
 use crate::counts::{first_difference, first_lack};
 use crate::needed::needed_atoms;
 use crate::premises::first_failure;
@@ -186,12 +186,7 @@ fn go_on(
     ensures walk { IfOk result (λ cause. MatchOption cause (IsWalkOf program.now walk.new) (λ _. Unit {0})) }
 {
     let change = match weighed(alloc, program, rule, &step.offer.values, walk)? {
-        Weighed::AtomTooLarge(_) => return Ok(Some(Cause::OverLimit {
-            which: CheckLimit::Atom,
-        })),
-        Weighed::StateTooFull(_) => return Ok(Some(Cause::OverLimit {
-            which: CheckLimit::State,
-        })),
+        Weighed::Passes(limit, _) => return Ok(Some(Cause::OverLimit { limit })),
         Weighed::Within(change) => change,
     };
     if let Some(cause) = stage_cause(step.stage, rule.next) {

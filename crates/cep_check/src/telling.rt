@@ -7,10 +7,11 @@ ghost use Rattle.cep_text.specs.Writing.{IsBegun};
 ghost use Rattle.cep_lines.specs.Lines.{line, stage_name};
 ghost use Rattle.cep_check.specs.Telling.{stages_text, copies_text, counts_text, limit_text, cause_text, refused_text, verdict_text, fault_text, IsTellableCause, IsTellable};
 
-use crate::cause::{Cause, CheckLimit, Verdict};
+use crate::cause::{Cause, Verdict};
 use cep_base::Text;
 use cep_log::LogFault;
 use cep_rule::{Offer, Program};
+use cep_step::Limit;
 use cep_term::Atom;
 use cep_text::{put_atom, put_offer};
 use std::alloc::AllocError;
@@ -107,7 +108,7 @@ fn put_cause(program: &Program, cause: &Cause, out: &mut Text) -> Result<(), All
         Cause::NotProved { premise } => put_not_proved(*premise, out),
         Cause::TooHigh { premise, height } => put_too_high(*premise, *height, out),
         Cause::NotQuiet { offer } => put_not_quiet(program, offer, out),
-        Cause::OverLimit { which } => out.append(limit_text(*which)),
+        Cause::OverLimit { limit } => out.append(limit_text(*limit)),
         Cause::StageLine { said, is } => {
             put_stages(program, b"StageLine said ", *said, *is, out)
         }
@@ -244,11 +245,11 @@ fn put_not_quiet(program: &Program, offer: &Offer, out: &mut Text) -> Result<(),
 }
 
 // The limit that is passed.
-fn limit_text(which: CheckLimit) -> &'static [u8]
-    ensures { result.now ≡ limit_text which }
+fn limit_text(limit: Limit) -> &'static [u8]
+    ensures { result.now ≡ limit_text limit }
 {
-    match which {
-        CheckLimit::Atom => b"OverLimit atom",
-        CheckLimit::State => b"OverLimit state",
+    match limit {
+        Limit::Atom => b"OverLimit atom",
+        Limit::State => b"OverLimit state",
     }
 }

@@ -1,22 +1,16 @@
 -- What a step of a configuration comes to.
 use Rattle.std.specs.Prelude.{◌≡◌, ℕ, ◌+◌, List, Some, slice_get}
 use Rattle.cep_term.specs.Tree.{Tree}
-use Rattle.cep_term.specs.Multiset.{Multiset}
-use Rattle.cep_rule.specs.declared.signature.Signature.{Signature}
 use Rattle.cep_rule.specs.declared.rule.Rule.{Rule}
 use Rattle.cep_rule.specs.declared.parts.Parts.{Parts}
 use Rattle.cep_rule.specs.declared.offer.Offer.{Offer}
-use Rattle.cep_rule.specs.Instances.{full_instances}
-use Rattle.cep_rule.specs.Step.{Step}
-use Rattle.cep_rule.specs.Steps.{MakesFit, StepsTo}
+use Rattle.cep_rule.specs.Steps.{StepsTo}
 use Rattle.cep_rule.specs.Matching.{RoseBy}
-use Rattle.cep_machine.specs.declared.stepped.Which.{Which}
-use Rattle.cep_machine.specs.declared.stepped.Which.TheVariants.{Atom, State}
 use Rattle.cep_machine.specs.declared.stepped.Stepped.{Stepped}
-use Rattle.cep_machine.specs.declared.stepped.Stepped.TheVariants.{Done, Limit}
+use Rattle.cep_machine.specs.declared.stepped.Stepped.TheVariants as stepped
 use Rattle.cep_machine.specs.Configuration.{Configuration, spot_of}
 use Rattle.cep_machine.specs.Asking.{asked_offers}
-use Rattle.cep_step.specs.Passing.{IsFirstTooLarge, IsTooFull}
+use Rattle.cep_step.specs.Passing.{Passes, IsExcess}
 
 -- The offer at this place among those that a stage asks is of this rule, with these values for its variables.
 pub record IsAskedAt (program : Parts) (lists : List (List Offer)) (stage place : ℕ) (rule : Rule) (values : List Tree) : Type 0 where
@@ -29,22 +23,19 @@ pub record IsNext {M : Type 0} (program : Parts) (rule : Rule) (values : List Tr
   pub steps : StepsTo program rule values (spot_of old) (spot_of new)
   pub turns : new.turns ≡ old.turns + 1
 
--- A step passes a limit by a number: that of an atom, by its first right atom that is not fit; or that of a state, where all are fit and the state after it does not fit.
-abbrev pub Passes : Signature → Rule → List Tree → Multiset → Which → ℕ → Type 0
-Passes signature rule values state Atom number = IsFirstTooLarge (full_instances values rule.right) number
-Passes signature rule values state State number = MakesFit rule values × ((new : Multiset) × Step signature rule values state new × IsTooFull new number)
-
--- What a step comes to: the configuration after it, or the old one with the limit that the step would pass.
+-- What a step comes to: the configuration after it, or the old one with the limit that the step would pass, and the number that would pass it.
 abbrev pub IsStepped : {M : Type 0} → Parts → Rule → List Tree → Configuration M → Stepped M → Type 0
-IsStepped program rule values old (Done new) = IsNext program rule values old new
-IsStepped program rule values old (Limit config which number) = (config ≡ old) × Passes program.signature rule values old.state which number
+IsStepped program rule values old (stepped.Done new) = IsNext program rule values old new
+IsStepped program rule values old (stepped.Passes config limit number) =
+    (config ≡ old) × Passes program.signature rule values old.state limit
+    × IsExcess program.signature rule values old.state limit number
 
 -- the configuration that is there after a step, whatever it came to
 abbrev pub config_after : {M : Type 0} → Stepped M → Configuration M
-config_after (Done config) = config
-config_after (Limit config which number) = config
+config_after (stepped.Done config) = config
+config_after (stepped.Passes config limit number) = config
 
 -- How the counter rises: as is allowed where the step is done, and else not.
 abbrev pub RoseIfDone : {M : Type 0} → (ℕ → Type 0) → Stepped M → ℕ → ℕ → Type 0
-RoseIfDone allowed (Done config) old new = RoseBy allowed old new
-RoseIfDone allowed (Limit config which number) old new = new ≡ old
+RoseIfDone allowed (stepped.Done config) old new = RoseBy allowed old new
+RoseIfDone allowed (stepped.Passes config limit number) old new = new ≡ old

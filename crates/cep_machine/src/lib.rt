@@ -13,4 +13,4 @@ mod stepped;
 mod stepping;
 
 pub use config::Config;
-pub use stepped::{Stepped, Which};
+pub use stepped::Stepped;

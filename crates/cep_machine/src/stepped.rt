@@ -1,12 +1,6 @@
 use crate::config::Config;
 use cep_rule::Matcher;
-
-/// Which limit a step would pass: that of an atom, or that of a state. Both are this profile's.
-#[derive(Clone, Copy, Debug, PartialEq, Eq)]
-pub enum Which {
-    Atom,
-    State,
-}
+use cep_step::Limit;
 
 /// What a step comes to: the configuration after it; or the one before it, unchanged, with the limit
 /// that the step would pass, and the number that passes it. For an atom the number is its nodes, or
@@ -15,9 +9,9 @@ pub enum Which {
 #[derive(Drop)]
 pub enum Stepped<M: Matcher> {
     Done(Config<M>),
-    Limit {
+    Passes {
         config: Config<M>,
-        which: Which,
+        limit: Limit,
         number: u64,
     },
 }

@@ -10,7 +10,7 @@ ghost use Rattle.cep_machine.specs.Asking.{asked_offers};
 ghost use Rattle.cep_machine.specs.Stepping.{IsAskedAt, IsStepped, config_after, RoseIfDone};
 
 use crate::config::Config;
-use crate::stepped::{Stepped, Which};
+use crate::stepped::Stepped;
 use cep_base::Steps;
 use cep_rule::laws::values_are_small;
 use cep_rule::{Matcher, Program};
@@ -57,14 +57,9 @@ impl<M: Matcher> Config<M> {
             &self.state,
             self.nodes,
         )? {
-            Weighed::AtomTooLarge(number) => Ok(Stepped::Limit {
+            Weighed::Passes(limit, number) => Ok(Stepped::Passes {
                 config: self,
-                which: Which::Atom,
-                number,
-            }),
-            Weighed::StateTooFull(number) => Ok(Stepped::Limit {
-                config: self,
-                which: Which::State,
+                limit,
                 number,
             }),
             Weighed::Within(change) => {

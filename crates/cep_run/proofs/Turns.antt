@@ -22,14 +22,14 @@ use Rattle.cep_rule.specs.Program.{IsProgram}
 use Rattle.cep_rule.specs.Typing.{AreValues}
 use Rattle.cep_rule.specs.Matching.{offers_of, AreListed, RoseBy}
 use Rattle.cep_rule.specs.Shapes.{IsOfferOf}
-use Rattle.cep_machine.specs.declared.stepped.Which.{Which}
-use Rattle.cep_machine.specs.declared.stepped.Which.TheVariants as which
+use Rattle.cep_step.specs.declared.limit.Limit.{Limit}
+use Rattle.cep_step.specs.declared.limit.Limit.TheVariants as limit
 use Rattle.cep_machine.specs.Configuration.{Configuration}
 use Rattle.cep_machine.specs.Asking.{asked_offers, IsAskedIn}
-use Rattle.cep_step.specs.Passing.{IsTooLarge, IsFirstTooLarge, IsTooFull}
+use Rattle.cep_step.specs.Passing.{Passes, IsExcess}
 use Rattle.cep_machine.specs.declared.stepped.Stepped.{Stepped}
 use Rattle.cep_machine.specs.declared.stepped.Stepped.TheVariants as stepping
-use Rattle.cep_machine.specs.Stepping.{IsAskedAt, IsNext, Passes, IsStepped, RoseIfDone}
+use Rattle.cep_machine.specs.Stepping.{IsAskedAt, IsNext, IsStepped, RoseIfDone}
 use Rattle.cep_run.specs.declared.choice.Choice.{Choice}
 use Rattle.cep_run.specs.declared.choice.Choice.TheVariants.{Place, NoMore, NoRoom}
 use Rattle.cep_lines.specs.declared.end_word.EndWord.{EndWord}
@@ -120,24 +120,9 @@ too_many ok n most iff not = elim (nat_lt most n) as (λ t. nat_lt most n ≡ t 
 
 -- Steps
 
--- an atom that is too large is not fit
-too_large : (a : AtomTree) (number : ℕ) → IsTooLarge a number → IsFit a → ⊥
-too_large a number (inl large) fit = let nodes = fit.nodes in omega arith
-too_large a number (inr large) fit = let depth = fit.depth in omega arith
-
-first_too_large : (atoms : List AtomTree) (number : ℕ) → IsFirstTooLarge atoms number → AllByRecursion IsFit atoms → ⊥
-first_too_large [] number large fit = large
-first_too_large (a ∷ atoms) number (inl large) fit = too_large a number large fit.0
-first_too_large (a ∷ atoms) number (inr later) fit = first_too_large atoms number later.1 fit.1
-
--- a state that is too full does not fit
-too_full : (state : Multiset) (number : ℕ) → IsTooFull state number → Fits state → ⊥
-too_full state number (inl full) fits = let copies = fits.copies in omega arith
-too_full state number (inr full) fits = let nodes = fits.nodes in omega arith
-
-passes : (program : Parts) (which : Which) (values : List Tree) (rule : Rule) (state : Multiset) (number : ℕ) → Passes program.signature rule values state which number → PassesLimit program rule values state (limit_word which)
-passes program which.Atom values rule state number large = first_too_large (full_instances values rule.right) number large
-passes program which.State values rule state number full = (full.0, (full.1.0, full.1.1, too_full full.1.0 number full.1.2))
+passes : (program : Parts) (passed : Limit) (values : List Tree) (rule : Rule) (state : Multiset) → Passes program.signature rule values state passed → PassesLimit program rule values state (limit_word passed)
+passes program limit.Atom values rule state large = large
+passes program limit.State values rule state full = full
 
 module _ {M : Type 0} (program : Parts) (height : ℕ) (held : Multiset) (group : ℕ) (lists : List (List Offer)) (offers : List Offer) (place i : ℕ) (offer : Offer) (old : Configuration M)
     (are : AreOffers program height held group offers) (at : slice_get offers i ≡ Some offer) (placed : i ≡ place - 1) (asked : offers ≡ asked_offers lists old.stage) where
@@ -184,19 +169,19 @@ module _ {M : Type 0} (program : Parts) (height : ℕ) (held : Multiset) (group 
   one_turn_more new stepped = (stepped rule_of offer.values chosen_there).turns
 
   -- the step would pass a limit
-  pub step_fails : (last : Configuration M) (which : Which) (number : ℕ) → ((rule : Rule) (values : List Tree) → IsAskedAt program lists old.stage i rule values → (last ≡ old) × Passes program.signature rule values old.state which number)
-      → (come : List ℕ) (events : List Event) (rest : List ℕ) → (events ≡ []) × (rest ≡ come) → WouldPass program offers place (limit_word which) (position_of old) come events rest
-  step_fails last which number stepped come events rest same = record {
+  pub step_fails : (last : Configuration M) (passed : Limit) (number : ℕ) → ((rule : Rule) (values : List Tree) → IsAskedAt program lists old.stage i rule values → (last ≡ old) × Passes program.signature rule values old.state passed × IsExcess program.signature rule values old.state passed number)
+      → (come : List ℕ) (events : List Event) (rest : List ℕ) → (events ≡ []) × (rest ≡ come) → WouldPass program offers place (limit_word passed) (position_of old) come events rest
+  step_fails last passed number stepped come events rest same = record {
     offer = offer;
     rule = rule_of;
     placed = is_placed;
-    too_much = passes program which offer.values rule_of old.state number (stepped rule_of offer.values chosen_there).1;
+    too_much = passes program passed offer.values rule_of old.state (stepped rule_of offer.values chosen_there).1;
     unwritten = same.0;
     untaken = same.1;
   }
 
-  pub left_alone : (last : Configuration M) (which : Which) (number : ℕ) → ((rule : Rule) (values : List Tree) → IsAskedAt program lists old.stage i rule values → (last ≡ old) × Passes program.signature rule values old.state which number) → last ≡ old
-  left_alone last which number stepped = (stepped rule_of offer.values chosen_there).0
+  pub left_alone : (last : Configuration M) (passed : Limit) (number : ℕ) → ((rule : Rule) (values : List Tree) → IsAskedAt program lists old.stage i rule values → (last ≡ old) × Passes program.signature rule values old.state passed × IsExcess program.signature rule values old.state passed number) → last ≡ old
+  left_alone last passed number stepped = (stepped rule_of offer.values chosen_there).0
 
 -- What the choice of a place comes to, from what the matcher lists there and a copy of it
 module _ {M : Type 0} (height_held : M → ℕ) (state_held : M → Multiset) (offers_held : M → List (List Offer)) (program : Parts) (group place : ℕ) (old : Configuration M)
@@ -263,20 +248,20 @@ module _ {M : Type 0} (height_held : M → ℕ) (state_held : M → Multiset) (o
         }))
         (did_put talk left console new (take size bytes) went kept)
 
-    module _ (last : Configuration M) (which : Which) (number : ℕ) (is : stepped ≡ stepping.Limit last which number) where
-      fails : (rule : Rule) (values : List Tree) → IsAskedAt program all old.stage (place - 1) rule values → (last ≡ old) × Passes program.signature rule values old.state which number
+    module _ (last : Configuration M) (passed : Limit) (number : ℕ) (is : stepped ≡ stepping.Passes last passed number) where
+      fails : (rule : Rule) (values : List Tree) → IsAskedAt program all old.stage (place - 1) rule values → (last ≡ old) × Passes program.signature rule values old.state passed × IsExcess program.signature rule values old.state passed number
       fails rule values h = subst (IsStepped program rule values old) is (comes rule values h)
 
       -- the step would pass a limit, and nothing was done
       pub stays : last ≡ old
-      stays = left_alone program high held group all (offers_of all group) place (place - 1) offer old (lists.each group listed) at refl asked last which number fails
+      stays = left_alone program high held group all (offers_of all group) place (place - 1) offer old (lists.each group listed) at refl asked last passed number fails
 
-      pub limit_acts : (word : EndWord) → word ≡ limit_word which → (turned : Turned M) → turned ≡ Over (record { config = last; word = word }) → IsActed talk left console console program height (offers_of all group) place old turned
+      pub limit_acts : (word : EndWord) → word ≡ limit_word passed → (turned : Turned M) → turned ≡ Over (record { config = last; word = word }) → IsActed talk left console console program height (offers_of all group) place old turned
       limit_acts word named turned over =
           subst (IsActed talk left console console program height (offers_of all group) place old) (sym over)
           (subst (λ w. IsActed talk left console console program height (offers_of all group) place old (Over (record { config = last; word = w }))) (sym named) (
             did_map talk left console console _ _
-                (step_fails program high held group all (offers_of all group) place (place - 1) offer old (lists.each group listed) at refl asked last which number fails)
+                (step_fails program high held group all (offers_of all group) place (place - 1) offer old (lists.each group listed) at refl asked last passed number fails)
                 (did_same talk left console console refl refl),
             stays,
           ))

@@ -14,8 +14,8 @@ use Rattle.cep_rule.specs.declared.rule.Rule.{Rule}
 use Rattle.cep_rule.specs.Instances.{full_instances}
 use Rattle.cep_rule.specs.Derivations.{ProofTree, Proves, proof_height}
 use Rattle.cep_rule.specs.Steps.{StepsTo, AreProofs}
-use Rattle.cep_machine.specs.declared.stepped.Which.{Which}
-use Rattle.cep_machine.specs.declared.stepped.Which.TheVariants as which
+use Rattle.cep_step.specs.declared.limit.Limit.{Limit}
+use Rattle.cep_step.specs.declared.limit.Limit.TheVariants as limit
 use Rattle.cep_machine.specs.Configuration.{Configuration, spot_of, IsConfigurationOf}
 use Rattle.cep_run.specs.declared.choice.Choice.{Choice}
 use Rattle.cep_lines.specs.declared.end_word.EndWord.{EndWord}
@@ -114,9 +114,9 @@ pub record Acts (program : Parts) (height : ℕ) (offers : List Offer) (place : 
   pub untaken : rest ≡ come
 
 -- the word for a limit that a step would pass
-abbrev pub limit_word : Which → EndWord
-limit_word which.Atom = Atom
-limit_word which.State = State
+abbrev pub limit_word : Limit → EndWord
+limit_word limit.Atom = Atom
+limit_word limit.State = State
 
 -- The step by the offer at a place would pass a limit, and nothing is written.
 pub record WouldPass (program : Parts) (offers : List Offer) (place : ℕ) (word : EndWord) (at : Position) (come : List ℕ) (events : List Event) (rest : List ℕ) : Type 0 where

@@ -24,8 +24,9 @@ use crate::proving::put_step_lines;
 use crate::settings::Settings;
 use cep_base::{Console, ConsoleFault, Steps, Text};
 use cep_lines::{EndWord, put_due};
-use cep_machine::{Config, Stepped, Which};
+use cep_machine::{Config, Stepped};
 use cep_rule::{Matcher, Offer, Program};
+use cep_step::Limit;
 use std::alloc::{AllocError, Global};
 use std::sync::ledger::Ledger;
 
@@ -92,7 +93,7 @@ fn act<C: Console, M: Matcher, L: Ledger>(
             console.put(lines.bytes())?;
             Ok(Turned::Done(config))
         }
-        Stepped::Limit { config, which, .. } => Ok(over(config, word_of(which))),
+        Stepped::Passes { config, limit, .. } => Ok(over(config, word_of(limit))),
     }
 }
 
@@ -123,12 +124,12 @@ fn put_deed<M: Matcher, L: Ledger>(
 }
 
 // The word with which a step that passes a limit ends a run.
-fn word_of(which: Which) -> EndWord
-    ensures { result ≡ limit_word which }
+fn word_of(limit: Limit) -> EndWord
+    ensures { result ≡ limit_word limit }
 {
-    match which {
-        Which::Atom => EndWord::Atom,
-        Which::State => EndWord::State,
+    match limit {
+        Limit::Atom => EndWord::Atom,
+        Limit::State => EndWord::State,
     }
 }
 

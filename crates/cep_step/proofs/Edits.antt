@@ -1,5 +1,5 @@
 -- What is taken, added and gained is the change of a step.
-use Rattle.std.proofs.Common.{◌≡◌, ℕ, ◌+◌, ◌≤◌, true, List, length, sym, ap, subst, ◌∙◌, arith}
+use Rattle.std.proofs.Common.{◌≡◌, ⊎_elim, ℕ, ◌+◌, ◌≤◌, true, List, length, sym, ap, subst, ◌∙◌, arith}
 use Rattle.std.specs.List.{AllByRecursion}
 use Rattle.cep_base.specs.declared.limits.TheConstants.{MOST_PREMISES, MOST_RIGHT}
 use Rattle.cep_base.proofs.Elements.{all_at, all_of}
@@ -13,12 +13,17 @@ use Rattle.cep_rule.specs.Step.{Step}
 use Rattle.cep_rule.specs.Steps.{MakesFit}
 use Rattle.cep_rule.specs.Instances.{taken_by, added_by}
 use Rattle.cep_rule.specs.Matching.{state_after}
-use Rattle.cep_step.specs.declared.weighing.Weighed.TheVariants.{StateTooFull, Within}
+use Rattle.cep_step.specs.declared.limit.Limit.TheVariants.{State}
+use Rattle.cep_step.specs.declared.weighing.Weighed.TheVariants.{Passes, Within}
 use Rattle.cep_step.specs.Passing.{IsTooFull}
 use Rattle.cep_step.specs.Changes.{CanStep, IsWeighed}
 use Rattle.cep_step.specs.Weighing.{CanWeigh}
 use Rattle.cep_step.specs.StepLaws.{StepLaws}
 use Rattle.cep_step.proofs.Ready.{taken_fit, added_fit, few_taken, few_added}
+
+-- a state that is too full does not fit
+not_fitting : (state : Multiset) (number : ℕ) → IsTooFull state number → ¬ Fits state
+not_fitting state number full = λ fits. let few = fits.copies in let few' = fits.nodes in ⊎_elim (λ copies. let over = copies.0 in absurd (omega arith)) (λ nodes. let over = nodes.1 in absurd (omega arith)) full
 
 module _ (laws : StepLaws) (signature : Signature) (rule : Rule) (values : List Tree) (state : Multiset) (can : CanStep signature rule values state) where
   pub taken_ground : (taken : List AtomTree) → taken ≡ taken_by signature rule values → AllByRecursion IsGroundAtom taken
@@ -80,8 +85,10 @@ module _ (laws : StepLaws) (signature : Signature) (rule : Rule) (values : List 
     is_state : IsState signature (sum_of (difference_of state (gathered taken)) (gathered gains))
     is_state = laws.lead signature rule values state (sum_of (difference_of state (gathered taken)) (gathered gains)) can.typed can.divided can.are can.is_state fit step
 
-    pub too_full : (number : ℕ) → IsTooFull (sum_of (difference_of state (gathered taken)) (gathered gains)) number → IsWeighed signature rule values state (StateTooFull number)
-    too_full number full = (fit, (sum_of (difference_of state (gathered taken)) (gathered gains), step, full))
+    pub too_full : (number : ℕ) → IsTooFull (sum_of (difference_of state (gathered taken)) (gathered gains)) number → IsWeighed signature rule values state (Passes State number)
+    too_full number full =
+        let new = sum_of (difference_of state (gathered taken)) (gathered gains) in
+        ((fit, (new, step, not_fitting new number full)), λ small. (new, step, full))
 
     pub within : (bag : Multiset) (nodes : ℕ) → bag ≡ gathered taken → Fits (sum_of (difference_of state (gathered taken)) (gathered gains)) × (nodes ≡ nodes_in_all (sum_of (difference_of state (gathered taken)) (gathered gains))) → IsWeighed signature rule values state (Within (record { taken = bag; added = added; gains = gains; nodes = nodes }))
     within bag nodes same weight =

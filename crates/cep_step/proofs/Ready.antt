@@ -15,8 +15,9 @@ use Rattle.cep_rule.specs.Steps.{MakesFit}
 use Rattle.cep_rule.specs.Instances.{full_instance, full_instances, kept_of, taken_by, added_by}
 use Rattle.cep_rule.specs.Patterns.{PremiseTree}
 use Rattle.cep_rule.specs.Shapes.{IsSmallTerm}
-use Rattle.cep_step.specs.Passing.{IsFirstTooLarge}
-use Rattle.cep_step.specs.Sizes.{IsFirstBeyond}
+use Rattle.cep_step.specs.declared.limit.Limit.TheVariants.{Atom}
+use Rattle.cep_step.specs.Passing.{IsFirstUnfit, IsExcess}
+use Rattle.cep_step.specs.Sizes.{IsBeyond}
 use Rattle.cep_step.specs.Changes.{CanStep}
 use Rattle.cep_step.specs.Weighing.{premise_atoms}
 use Rattle.cep_step.specs.StepLaws.{StepLaws}
@@ -58,7 +59,7 @@ module _ (laws : StepLaws) (signature : Signature) (rule : Rule) (values : List 
       (λ a there. (can.is_state.each a (laws.there signature rule values state a can.contained there)).fit)
 
   -- the number by which an atom is not fit is exact where the values are small
-  pub exact_number : (number : ℕ) → IsFirstBeyond (full_instances values rule.right) number → AllByRecursion IsSmallTerm values → IsFirstTooLarge (full_instances values rule.right) number
+  pub exact_number : (number : ℕ) → IsFirstUnfit IsBeyond (full_instances values rule.right) number → AllByRecursion IsSmallTerm values → IsExcess signature rule values state Atom number
   exact_number number first small = exact (full_instances values rule.right) number (few_nodes values small rule.right can.small.right_nodes) first
 
   pub taken_fit : AllByRecursion IsFit (taken_by signature rule values)

@@ -1,20 +1,18 @@
 -- The copies and the nodes of the state after a step, from what comes and what goes.
-use Rattle.std.proofs.Common.{◌≡◌, ◌⊎◌, inl, inr, ⊎_elim, ℕ, ◌^◌, zero, suc, ◌+◌, ◌<◌, ◌≤◌, List, [], ◌∷◌, ◌++◌, length, take, Some, sym, ap, subst, arith}
+use Rattle.std.proofs.Common.{◌≡◌, ◌⊎◌, inl, inr, ⊎_elim, ℕ, ◌^◌, ◌+◌, ◌<◌, ◌≤◌, List, [], ◌∷◌, ◌++◌, length, take, Some, sym, ap, arith}
 use Rattle.std.specs.Prelude.{slice_get, sum_by}
 use Rattle.std.specs.List.{AllByRecursion}
 use Rattle.std.proofs.lemmas.List.Sums.{sum_by_push}
 use Rattle.cep_base.specs.declared.limits.TheConstants.{MOST_DEPTH, MOST_NODES}
-use Rattle.cep_term.specs.Tree.{Tree, AtomTree, atom_nodes, atom_depth, IsFit}
+use Rattle.cep_term.specs.Tree.{AtomTree, atom_nodes, atom_depth, IsFit}
 use Rattle.cep_term.specs.Multiset.{Multiset, gathered, sum_of, difference_of, copies_in, nodes_in_all, IsBag}
-use Rattle.cep_rule.specs.Instances.{full_instance, full_instances}
 use Rattle.cep_step.specs.declared.size.Size.{Size}
-use Rattle.cep_step.specs.Passing.{IsFirstTooLarge}
-use Rattle.cep_step.specs.Sizes.{capped, IsBeyond, IsFirstBeyond}
+use Rattle.cep_step.specs.Passing.{IsTooLarge, IsFirstUnfit}
+use Rattle.cep_step.specs.Sizes.{capped, IsBeyond}
 use Rattle.cep_step.specs.Weighing.{CanWeigh}
 use Rattle.cep_term.specs.BagLaws.{BagLaws}
 use Rattle.cep_base.proofs.Elements.{both_all}
-use Rattle.cep_base.proofs.Lists.{none_some, some_same, take_next}
-use Rattle.cep_step.proofs.Premises.{next_instances}
+use Rattle.cep_base.proofs.Lists.{holds_at, take_next}
 use Rattle.cep_step.proofs.SizesOf.{depth_of_atom}
 
 -- one atom more
@@ -29,10 +27,9 @@ fit_by_size : (a : AtomTree) (size : Size) → size.nodes ≡ capped (atom_nodes
 fit_by_size a size nodes depth fit = let few = fit.0 in let low = fit.1 in record { nodes = omega arith; depth = omega arith }
 
 -- one atom more is fit
-pub fit_next : (values : List Tree) (atoms : List AtomTree) (n : ℕ) (a : AtomTree) (size : Size) → AllByRecursion IsFit (full_instances values (take n atoms)) → slice_get atoms n ≡ Some a → size.nodes ≡ capped (atom_nodes (full_instance values a)) → size.depth ≡ capped (atom_depth (full_instance values a)) → (size.nodes ≤ MOST_NODES) × (size.depth ≤ MOST_DEPTH) → AllByRecursion IsFit (full_instances values (take (n + 1) atoms))
-fit_next values atoms n a size so_far is nodes depth fit =
-    subst (AllByRecursion IsFit) (sym (next_instances values atoms n a is))
-    (both_all IsFit (full_instances values (take n atoms)) (full_instance values a ∷ []) so_far ((fit_by_size (full_instance values a) size nodes depth fit), tt))
+pub fit_next : (atoms : List AtomTree) (n : ℕ) (a : AtomTree) (size : Size) → AllByRecursion IsFit (take n atoms) → slice_get atoms n ≡ Some a → size.nodes ≡ capped (atom_nodes a) → size.depth ≡ capped (atom_depth a) → (size.nodes ≤ MOST_NODES) × (size.depth ≤ MOST_DEPTH) → AllByRecursion IsFit (take (n + 1) atoms)
+fit_next atoms n a size so_far is nodes depth fit =
+    rw (take_next atoms n a is) (both_all IsFit (take n atoms) (a ∷ []) so_far (fit_by_size a size nodes depth fit, tt))
 
 -- a size that is too large is that of an atom that is
 pub beyond : (a : AtomTree) (size : Size) (number : ℕ) → size.nodes ≡ capped (atom_nodes a) → size.depth ≡ capped (atom_depth a) → ((MOST_NODES < size.nodes) × (number ≡ size.nodes)) ⊎ ((size.nodes ≤ MOST_NODES) × (MOST_DEPTH < size.depth) × (number ≡ size.depth)) → IsBeyond a number
@@ -44,28 +41,24 @@ beyond a size number nodes depth over =
     over
 
 -- what is beyond a limit is not fit
-pub not_fit : (a : AtomTree) (number : ℕ) → IsBeyond a number → ¬ IsFit a
+not_fit : (a : AtomTree) (number : ℕ) → IsBeyond a number → ¬ IsFit a
 not_fit a number over = λ fit. let few = fit.nodes in let low = fit.depth in ⊎_elim (λ many. let more' = many.0 in absurd (omega arith)) (λ high. let more' = high.1 in absurd (omega arith)) over
 
-pub not_all_fit : (atoms : List AtomTree) (number : ℕ) → IsFirstBeyond atoms number → ¬ AllByRecursion IsFit atoms
-not_all_fit [] number first = absurd first
-not_all_fit (a ∷ atoms) number first = λ fit. ⊎_elim (λ over. not_fit a number over fit.0) (λ later. not_all_fit atoms number later.1 fit.1) first
+pub not_all_fit : (atoms : List AtomTree) (number : ℕ) → IsFirstUnfit IsBeyond atoms number → ¬ AllByRecursion IsFit atoms
+not_all_fit atoms number first = λ fit. not_fit first.atom number first.over (holds_at IsFit atoms first.place first.atom fit first.there)
 
 -- where all nodes can be counted, the number is exact
-pub exact : (atoms : List AtomTree) (number : ℕ) → AllByRecursion (λ a. atom_nodes a < 2 ^ 64) atoms → IsFirstBeyond atoms number → IsFirstTooLarge atoms number
-exact [] number all first = first
-exact (a ∷ atoms) number all first =
-    let few = all.0 in
-    ⊎_elim
-    (λ over. inl (⊎_elim (λ many. let more' = many.0 in let is = many.1 in inl (more', (omega arith))) (λ high. inr high) over))
-    (λ later. inr (later.0, (exact atoms number all.1 later.1)))
-    first
+too_large : (a : AtomTree) (number : ℕ) → atom_nodes a < 2 ^ 64 → IsBeyond a number → IsTooLarge a number
+too_large a number few over = ⊎_elim (λ many. let is = many.1 in inl (many.0, omega arith)) (λ high. inr high) over
 
--- the first atom that is not fit
-pub first_at : (values : List Tree) (atoms : List AtomTree) (n : ℕ) (a : AtomTree) (number : ℕ) → AllByRecursion IsFit (full_instances values (take n atoms)) → slice_get atoms n ≡ Some a → IsBeyond (full_instance values a) number → IsFirstBeyond (full_instances values atoms) number
-first_at values [] n a number fit is over = none_some a is
-first_at values (x ∷ atoms) zero a number fit is over = inl (subst (λ y. IsBeyond (full_instance values y) number) (sym (some_same x a is)) over)
-first_at values (x ∷ atoms) (suc n) a number fit is over = inr (fit.0, (first_at values atoms n a number fit.1 is over))
+pub exact : (atoms : List AtomTree) (number : ℕ) → AllByRecursion (λ a. atom_nodes a < 2 ^ 64) atoms → IsFirstUnfit IsBeyond atoms number → IsFirstUnfit IsTooLarge atoms number
+exact atoms number all first = record {
+  place = first.place;
+  atom = first.atom;
+  there = first.there;
+  before = first.before;
+  over = too_large first.atom number (holds_at (λ a. atom_nodes a < 2 ^ 64) atoms first.place first.atom all first.there) first.over;
+}
 
 module _ (laws : BagLaws) (state : Multiset) (taken gains : List AtomTree) (can : CanWeigh state taken gains) where
   taken_bag : IsBag (gathered taken)

@@ -7,7 +7,7 @@ use Rattle.cep_rule.specs.declared.signature.Signature.{Signature}
 use Rattle.cep_rule.specs.declared.rule.Rule.{Rule}
 use Rattle.cep_rule.specs.Typing.{AreValues, is_fact}
 use Rattle.cep_rule.specs.Limits.{IsSmallRule}
-use Rattle.cep_rule.specs.Instances.{full_instances, left_of, taken_by, added_by}
+use Rattle.cep_rule.specs.Instances.{left_of, taken_by, added_by}
 use Rattle.cep_rule.specs.Program.{IsTypedRule, IsDividedRule}
 use Rattle.cep_rule.specs.Shapes.{IsSmallTerm}
 use Rattle.cep_rule.specs.State.{IsState, Fits}
@@ -16,8 +16,9 @@ use Rattle.cep_rule.specs.Step.{Step}
 use Rattle.cep_rule.specs.Steps.{MakesFit}
 use Rattle.cep_step.specs.declared.change.Change.{Change}
 use Rattle.cep_step.specs.declared.weighing.Weighed.{Weighed}
-use Rattle.cep_step.specs.declared.weighing.Weighed.TheVariants.{AtomTooLarge, StateTooFull, Within}
-use Rattle.cep_step.specs.Passing.{IsFirstTooLarge, IsTooFull}
+use Rattle.cep_step.specs.declared.weighing.Weighed.TheVariants as weighed
+use Rattle.cep_step.specs.declared.limit.Limit.TheVariants.{Atom}
+use Rattle.cep_step.specs.Passing.{Passes, IsExcess}
 
 -- the state after a change: the old one without what is taken, and with what is gained
 abbrev pub edited : Multiset → Change → Multiset
@@ -53,10 +54,11 @@ pub record IsChangeOf (signature : Signature) (rule : Rule) (values : List Tree)
   pub can : CanEdit state change
   pub nodes : change.nodes ≡ nodes_in_all (edited state change)
 
--- What weighing a step comes to: the first right atom that is not fit is too large by a number, which is exact where the values are small; or all are fit, and the state after the step is too full by a number; or the step is within the limits, and this is its change.
+-- What weighing a step comes to: it passes a limit by a number, which for an atom is exact where the
+-- values are small; or it is within the limits, and this is its change.
 abbrev pub IsWeighed : Signature → Rule → List Tree → Multiset → Weighed → Type 0
-IsWeighed signature rule values state (AtomTooLarge number) =
-    (¬ MakesFit rule values) × (AllByRecursion IsSmallTerm values → IsFirstTooLarge (full_instances values rule.right) number)
-IsWeighed signature rule values state (StateTooFull number) =
-    MakesFit rule values × ((new : Multiset) × Step signature rule values state new × IsTooFull new number)
-IsWeighed signature rule values state (Within change) = MakesFit rule values × IsChangeOf signature rule values state change
+IsWeighed signature rule values state (weighed.Passes limit number) =
+    Passes signature rule values state limit
+    × ((limit ≡ Atom → AllByRecursion IsSmallTerm values) → IsExcess signature rule values state limit number)
+IsWeighed signature rule values state (weighed.Within change) =
+    MakesFit rule values × IsChangeOf signature rule values state change

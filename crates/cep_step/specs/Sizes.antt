@@ -1,8 +1,8 @@
 -- Private.
 -- Sizes of instances, by the sizes of the values, in numbers that are counted up to a last one.
-use Rattle.std.specs.Prelude.{◌≡◌, ◌⊎◌, ℕ, ◌+◌, ◌-◌, ◌<◌, ◌≤◌, ◌^◌, List, [], ◌∷◌, max, min, slice_index_or}
+use Rattle.std.specs.Prelude.{◌≡◌, ◌⊎◌, ℕ, ◌+◌, ◌-◌, ◌<◌, ◌≤◌, ◌^◌, List, max, min, slice_index_or}
 use Rattle.cep_base.specs.declared.limits.TheConstants.{MOST_DEPTH, MOST_NODES}
-use Rattle.cep_term.specs.Tree.{Tree, Trees, AtomTree, variable, node, none, more, term_nodes, term_depth, atom_nodes, atom_depth, IsFit}
+use Rattle.cep_term.specs.Tree.{Tree, Trees, AtomTree, variable, node, none, more, term_nodes, term_depth, atom_nodes, atom_depth}
 use Rattle.cep_step.specs.declared.size.Size.{Size}
 
 -- a number as it is counted: the number itself up to the last one that a counter holds
@@ -37,8 +37,3 @@ abbrev pub IsBeyond : AtomTree → ℕ → Type 0
 IsBeyond a number =
     ((MOST_NODES < atom_nodes a) × (number ≡ capped (atom_nodes a)))
     ⊎ ((atom_nodes a ≤ MOST_NODES) × (MOST_DEPTH < atom_depth a) × (number ≡ atom_depth a))
-
--- The first atom that is not fit is so by this number.
-abbrev pub IsFirstBeyond : List AtomTree → ℕ → Type 0
-IsFirstBeyond [] number = ⊥
-IsFirstBeyond (a ∷ atoms) number = IsBeyond a number ⊎ (IsFit a × IsFirstBeyond atoms number)

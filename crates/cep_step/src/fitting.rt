@@ -3,7 +3,8 @@ ghost use Rattle.std.specs.Prelude.{◌≡◌, length, IfOk, MatchOption};
 ghost use Rattle.std.specs.List.{AllByRecursion};
 ghost use Rattle.cep_term.specs.Tree.{atom_of, IsAtomInRange, IsFit};
 ghost use Rattle.cep_rule.specs.Instances.{full_instance, full_instances};
-ghost use Rattle.cep_step.specs.Sizes.{IsFirstBeyond};
+ghost use Rattle.cep_step.specs.Passing.{IsFirstUnfit};
+ghost use Rattle.cep_step.specs.Sizes.{IsBeyond};
 
 use crate::measured::Measured;
 use cep_rule::{AtomList, Terms, instance};
@@ -28,7 +29,9 @@ pub fn fit_instance(alloc: Global, atom: &Atom, values: &Terms) -> Result<Option
 
 // The number by which the first of these atoms whose instance is not fit is too large.
 pub(crate) fn first_too_large(right: &AtomList, measured: &Measured) -> Option<u64>
-    ensures { MatchOption result (AllByRecursion IsFit (full_instances measured.now.values.now right.now)) (IsFirstBeyond (full_instances measured.now.values.now right.now)) }
+    ensures { MatchOption result
+        (AllByRecursion IsFit (full_instances measured.now.values.now right.now))
+        (IsFirstUnfit IsBeyond (full_instances measured.now.values.now right.now)) }
 {
     for i in 0..right.len() {
         if let Some(number) = measured.size(right.get(i)).excess() {

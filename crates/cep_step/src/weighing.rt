@@ -10,6 +10,7 @@ ghost use Rattle.cep_step.specs.Weighing.{CanWeigh, IsWeight};
 use crate::change::Change;
 use crate::fitting::first_too_large;
 use crate::laws::steps_are_lawful;
+use crate::limit::Limit;
 use crate::measured::Measured;
 use crate::sides::{added_atoms, taken_atoms};
 use cep_base::limits::{MOST_COPIES, MOST_STATE_NODES};
@@ -22,12 +23,11 @@ use std::alloc::{AllocError, Global};
 /// profile's.
 #[derive(Drop)]
 pub enum Weighed {
-    /// A right atom is not fit. Of the first such one this is how many nodes it has, or, where these
-    /// are within their limit, how many levels. Nodes are counted up to 2^64 - 1.
-    AtomTooLarge(u64),
-    /// The state after the step does not fit. This is how many copies it has, or, where these are
-    /// within their limit, how many nodes.
-    StateTooFull(u64),
+    /// The step passes the limit, and this is the number that passes it. Of the first right atom that
+    /// is not fit it is the nodes, or, where these are within their limit, the levels; nodes are
+    /// counted up to 2^64 - 1. Of a state after the step that does not fit it is the copies, or, where
+    /// these are within their limit, the nodes.
+    Passes(Limit, u64),
     /// The step is within the limits, and does this.
     Within(Change),
 }
@@ -56,13 +56,13 @@ pub fn weigh(
     steps_are_lawful();
     let measured = Measured::new(alloc, values)?;
     if let Some(number) = first_too_large(&rule.right, &measured) {
-        return Ok(Weighed::AtomTooLarge(number));
+        return Ok(Weighed::Passes(Limit::Atom, number));
     }
     let taken = taken_atoms(alloc, signature, rule, values)?;
     let added = added_atoms(alloc, signature, rule, values)?;
     let gains = gained(alloc, signature, state, &added)?;
     match weigh_edit(state, nodes, &taken, &gains) {
-        Weight::TooFull(number) => Ok(Weighed::StateTooFull(number)),
+        Weight::TooFull(number) => Ok(Weighed::Passes(Limit::State, number)),
         Weight::Fits(nodes) => Ok(Weighed::Within(Change {
             taken: Bag::of(alloc, &taken)?,
             added,

@@ -7,9 +7,10 @@ ghost use Rattle.cep_machine.specs.Stepping.{config_after};
 use crate::sample::{program_of, staged};
 use cep_base::Steps;
 use cep_base::limits::{MOST_HEIGHT, MOST_TURNS};
-use cep_machine::{Config, Stepped, Which};
+use cep_machine::{Config, Stepped};
 use cep_rule::{Matcher, Program};
 use cep_scratch::Scratch;
+use cep_step::Limit;
 use std::alloc::Global;
 use std::marker::Brand;
 use std::process::Abort;
@@ -64,10 +65,10 @@ fn done<M: Matcher>(stepped: Stepped<M>) -> Result<Config<M>, Fail>
 }
 
 // Which limit a step passes, and by which number.
-fn passed<M: Matcher>(stepped: Stepped<M>) -> Result<(Which, u64), Fail> {
+fn passed<M: Matcher>(stepped: Stepped<M>) -> Result<(Limit, u64), Fail> {
     match stepped {
         Stepped::Done(_) => Err(Fail::from("no limit")),
-        Stepped::Limit { which, number, .. } => Ok((which, number)),
+        Stepped::Passes { limit, number, .. } => Ok((limit, number)),
     }
 }
 
@@ -111,7 +112,7 @@ fn limit_after<L: Ledger>(
     turns: u32,
     place: usize,
     blank: Blank,
-) -> Result<(Which, u64), Fail>
+) -> Result<(Limit, u64), Fail>
     requires name { blank.name ≡ L.name }
     requires parts { blank.parts ≡ L.parts }
     requires open { 0 < L.parts }
@@ -127,7 +128,7 @@ fn limit_of(
     alloc: Global,
     (levels, doublings): (usize, u32),
     place: usize,
-) -> Result<(Which, u64), Fail> {
+) -> Result<(Limit, u64), Fail> {
     let program = growing(alloc, levels)?;
     limit_after::<Brand>(alloc, &program, doublings, place, Blank::new(1))
 }
@@ -140,7 +141,7 @@ fn expect_passed(
     place: usize,
     number: u64,
 ) -> Result<(), Fail> {
-    assert_eq!(rt; limit_of(alloc, term, place)?, (Which::Atom, number));
+    assert_eq!(rt; limit_of(alloc, term, place)?, (Limit::Atom, number));
     Ok(())
 }
 

@@ -5,9 +5,10 @@ use crate::tests::deepest::rising;
 use crate::tests::states::copying;
 use cep_base::Steps;
 use cep_ground::accept;
-use cep_machine::{Config, Stepped, Which};
+use cep_machine::{Config, Stepped};
 use cep_rule::{Matcher, Program};
 use cep_scratch::Scratch;
+use cep_step::Limit;
 use std::alloc::Global;
 use std::marker::Brand;
 use std::process::Abort;
@@ -19,7 +20,7 @@ fn first_step<L: Ledger>(
     alloc: Global,
     program: &Program,
     blank: Blank,
-) -> Result<(Which, u64), Fail>
+) -> Result<(Limit, u64), Fail>
     requires open { 0 < L.parts }
     requires parts { blank.parts ≡ L.parts }
     requires name { blank.name ≡ L.name }
@@ -34,12 +35,12 @@ fn first_step<L: Ledger>(
     }
     match config.step(alloc, program, 0, &mut steps)? {
         Stepped::Done(_) => Err(Fail::from("no limit")),
-        Stepped::Limit { which, number, .. } => Ok((which, number)),
+        Stepped::Passes { limit, number, .. } => Ok((limit, number)),
     }
 }
 
 // The same of the program of a text.
-fn passed(alloc: Global, text: &str) -> Result<(Which, u64), Fail> {
+fn passed(alloc: Global, text: &str) -> Result<(Limit, u64), Fail> {
     let program = accept(alloc, text.as_bytes())?.map_err(|_| "refused")?;
     first_step::<Brand>(alloc, &program, Blank::new(1))
 }
@@ -49,7 +50,7 @@ fn expect_passed(
     rt: &impl Abort,
     alloc: Global,
     text: &str,
-    limit: (Which, u64),
+    limit: (Limit, u64),
 ) -> Result<(), Fail> {
     assert_eq!(rt; passed(alloc, text)?, limit);
     Ok(())
@@ -58,13 +59,13 @@ fn expect_passed(
 #[test]
 fn the_levels_of_an_atom_are_told_where_its_nodes_are_few(rt: HostRuntime) -> Result<(), Fail> {
     let text = rising(rt.alloc(), 510)?;
-    expect_passed(&rt, rt.alloc(), text.as_str(), (Which::Atom, 513))
+    expect_passed(&rt, rt.alloc(), text.as_str(), (Limit::Atom, 513))
 }
 
 #[test]
 fn the_nodes_of_a_state_are_told_where_its_copies_are_few(rt: HostRuntime) -> Result<(), Fail> {
     let text = copying(rt.alloc(), 64, "")?;
-    expect_passed(&rt, rt.alloc(), text.as_str(), (Which::State, 4_259_840))
+    expect_passed(&rt, rt.alloc(), text.as_str(), (Limit::State, 4_259_840))
 }
 
 // A program that adds two copies to 99,999.
@@ -78,5 +79,5 @@ fn adding(alloc: Global) -> Result<String, Fail> {
 #[test]
 fn the_copies_of_a_state_are_told(rt: HostRuntime) -> Result<(), Fail> {
     let text = adding(rt.alloc())?;
-    expect_passed(&rt, rt.alloc(), text.as_str(), (Which::State, 100_001))
+    expect_passed(&rt, rt.alloc(), text.as_str(), (Limit::State, 100_001))
 }

@@ -5,9 +5,10 @@ ghost use Rattle.cep_log.specs.Legal.{IsLogOf};
 
 use cep_base::Steps;
 use cep_base::limits::MOST_LOG;
-use cep_check::{Cause, CheckLimit, Verdict, check};
+use cep_check::{Cause, Verdict, check};
 use cep_log::{Log, LogFault, read_log};
 use cep_rule::{Offer, Program, order_offer};
+use cep_step::Limit;
 use cep_term::{Atom, same};
 use cep_text::{Vocabulary, read_atom, read_offer};
 use std::alloc::{AllocError, Global};
@@ -58,10 +59,10 @@ fn outcome_of(alloc: Global, program: &Program, transcript: &[u8]) -> Result<Out
 }
 
 // The word of a limit.
-fn limit_word(which: CheckLimit) -> &'static str {
-    match which {
-        CheckLimit::Atom => "atom",
-        CheckLimit::State => "state",
+fn limit_word(limit: Limit) -> &'static str {
+    match limit {
+        Limit::Atom => "atom",
+        Limit::State => "state",
     }
 }
 
@@ -75,7 +76,7 @@ fn cause_line(alloc: Global, cause: &Cause) -> Result<String, AllocError> {
         Cause::NotProved { premise } => format!(in alloc; "NotProved {premise}"),
         Cause::TooHigh { premise, height } => format!(in alloc; "TooHigh {premise} {height}"),
         Cause::NotQuiet { .. } => String::from_str(alloc, "NotQuiet"),
-        Cause::OverLimit { which } => format!(in alloc; "OverLimit {}", limit_word(*which)),
+        Cause::OverLimit { limit } => format!(in alloc; "OverLimit {}", limit_word(*limit)),
         Cause::StageLine { said, is } => format!(in alloc; "StageLine {said} {is}"),
         Cause::MidState { said, is, .. } => format!(in alloc; "MidState {said} {is}"),
         Cause::NotEnded => String::from_str(alloc, "NotEnded"),

@@ -25,7 +25,7 @@ returns-clause-acted g c =
     (g.met.M.Matcher.exact c.args.program.now c.args.config.matcher c.requires.played.of_program.matcher) c.requires.listed c.requires.asked
     c.matcher.result.now c.matcher.ensures.matcher c.offer-chosen.result.now c.in_ok-offer.offer c.offer-chosen.ensures c.in_ok-offer.ensures
     g.C.Console.talk g.C.Console.left c.args.console.now c.args.settings.height _ c.in_ok-config.ensures.stepped
-    c.in-Limit.config c.in-Limit.which c.in-Limit.number c.in-Limit.is c.word_of.result c.word_of.ensures _ c.over.ensures
+    c.in-Passes.config c.in-Passes.limit c.in-Passes.number c.in-Passes.is c.word_of.result c.word_of.ensures _ c.over.ensures
 
 pub returns-in-Done-clause-ticked : goal.returns-in-Done-clause-ticked
 returns-in-Done-clause-ticked g c =
@@ -42,7 +42,7 @@ returns-clause-ticked g c =
     (g.met.M.Matcher.exact c.args.program.now c.args.config.matcher c.requires.played.of_program.matcher) c.requires.listed c.requires.asked
     c.matcher.result.now c.matcher.ensures.matcher c.offer-chosen.result.now c.in_ok-offer.offer c.offer-chosen.ensures c.in_ok-offer.ensures
     g.C.Console.talk g.C.Console.left c.args.console.now c.args.settings.height _ c.in_ok-config.ensures.stepped
-    c.in-Limit.config c.in-Limit.which c.in-Limit.number c.in-Limit.is g.M.Matcher.may_edit c.args.steps.now c.step.new.steps
+    c.in-Passes.config c.in-Passes.limit c.in-Passes.number c.in-Passes.is g.M.Matcher.may_edit c.args.steps.now c.step.new.steps
     c.in_ok-config.ensures.ticked c.args.settings.height c.word_of.result _ c.over.ensures
 
 pub returns-in-Done-clause-played : goal.returns-in-Done-clause-played
@@ -60,7 +60,7 @@ returns-clause-played g c =
     (g.met.M.Matcher.exact c.args.program.now c.args.config.matcher c.requires.played.of_program.matcher) c.requires.listed c.requires.asked
     c.matcher.result.now c.matcher.ensures.matcher c.offer-chosen.result.now c.in_ok-offer.offer c.offer-chosen.ensures c.in_ok-offer.ensures
     g.C.Console.talk g.C.Console.left c.args.console.now c.args.settings.height _ c.in_ok-config.ensures.stepped
-    c.in-Limit.config c.in-Limit.which c.in-Limit.number c.in-Limit.is g.M.Matcher.is_of c.args.settings c.requires.played c.word_of.result _ c.over.ensures
+    c.in-Passes.config c.in-Passes.limit c.in-Passes.number c.in-Passes.is g.M.Matcher.is_of c.args.settings c.requires.played c.word_of.result _ c.over.ensures
 
 pub put_deed-requires-clause-height : goal.put_deed-requires-clause-height
 put_deed-requires-clause-height g c =

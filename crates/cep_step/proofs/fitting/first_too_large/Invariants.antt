@@ -5,4 +5,4 @@ use Rattle.cep_rule.specs.Instances.{full_instances}
 use Rattle.cep_step.proofs.fitting.first_too_large.Given as goal
 
 abbrev pub invariant-loop-i : goal.invariant-loop-i
-invariant-loop-i l = AllByRecursion IsFit (full_instances l.measured.values.now (take l.i l.right))
+invariant-loop-i l = AllByRecursion IsFit (take l.i (full_instances l.measured.values.now l.right))
