@@ -29,7 +29,7 @@ changed-requires-clause-can g c =
     let own = subst (IsConfigurationOf g.M.Matcher.is_of c.args.program.now) (sym c.self.view_is) c.requires.of_program in
     let is = ready_offer c.values_are_small.ensures.offers c.args.program.now c.parts-parts.result.now (g.M.Matcher.height_held c.self.inside.matcher) (g.M.Matcher.state_held c.self.inside.matcher) c.self.inside.state (g.M.Matcher.offers_held c.self.inside.matcher) c.unwrap-group.result c.args.i c.offer-offer.result.now c.get-rule.result.now own.is_state own.fits c.parts-parts.ensures.kept c.parts-parts.ensures.parts (g.met.M.Matcher.exact c.args.program.now c.self.inside.matcher own.matcher) c.self.invariant.same_state c.offer-offer.ensures c.get-rule.ensures in
     let same : c.self.inside.state ≡ c.args.self.state = ap (λ (config : Configuration g.row.M.Denot). config.state) c.self.view_is in
-    let weighed = weighed_as c.args.program.now c.parts-parts.result.now c.get-rule.result.now c.offer-offer.result.now.values c.self.inside.state c.args.self.state c.in_ok-number.field-0 _ c.parts-parts.ensures.parts same c.in-Within.is c.in_ok-number.ensures in
+    let weighed = weighed_as c.args.program.now c.parts-parts.result.now c.get-rule.result.now c.offer-offer.result.now.values c.self.inside.state c.args.self.state c.in_ok-limit.field-0 _ c.parts-parts.ensures.parts same c.in-Within.is c.in_ok-limit.ensures in
     let within = subst (λ stage. stage < length c.args.program.now.stages) (sym c.unwrap_or-stage.ensures) (stage_in_range (length c.args.program.now.stages) c.self.inside.stage c.get-rule.result.now.next own.stage is.next) in
     can_change c.args.program.now c.unwrap_or-stage.result c.args.self.state c.get-rule.result.now c.offer-offer.result.now.values c.in-Within.change c.parts-parts.ensures.kept within weighed
 
@@ -38,7 +38,7 @@ returns-in-Passes-clause-stepped g c =
     let own = subst (IsConfigurationOf g.M.Matcher.is_of c.args.program.now) (sym c.self.view_is) c.requires.of_program in
     let is = ready_offer c.values_are_small.ensures.offers c.args.program.now c.parts-parts.result.now (g.M.Matcher.height_held c.self.inside.matcher) (g.M.Matcher.state_held c.self.inside.matcher) c.self.inside.state (g.M.Matcher.offers_held c.self.inside.matcher) c.unwrap-group.result c.args.i c.offer-offer.result.now c.get-rule.result.now own.is_state own.fits c.parts-parts.ensures.kept c.parts-parts.ensures.parts (g.met.M.Matcher.exact c.args.program.now c.self.inside.matcher own.matcher) c.self.invariant.same_state c.offer-offer.ensures c.get-rule.ensures in
     let same : c.self.inside.state ≡ c.args.self.state = ap (λ (config : Configuration g.row.M.Denot). config.state) c.self.view_is in
-    let weighed = weighed_as c.args.program.now c.parts-parts.result.now c.get-rule.result.now c.offer-offer.result.now.values c.self.inside.state c.args.self.state c.in_ok-number.field-0 _ c.parts-parts.ensures.parts same c.in-Passes.is c.in_ok-number.ensures in
+    let weighed = weighed_as c.args.program.now c.parts-parts.result.now c.get-rule.result.now c.offer-offer.result.now.values c.self.inside.state c.args.self.state c.in_ok-limit.field-0 _ c.parts-parts.ensures.parts same c.in-Passes.is c.in_ok-limit.ensures in
     let offers = of_asked (λ group. offers_of (g.M.Matcher.offers_held c.args.self.matcher) group ≡ asked_offers (g.M.Matcher.offers_held c.args.self.matcher) c.args.self.stage) c.asked.result c.unwrap-group.result c.asked.ensures.offers c.unwrap-group.ensures in
     let placed = subst (λ (config : Configuration g.row.M.Denot). slice_get (offers_of (g.M.Matcher.offers_held config.matcher) c.unwrap-group.result) c.args.i ≡ Some c.offer-offer.result.now) c.self.view_is c.offer-offer.ensures in
     let numbered : slice_get c.args.program.now.rules c.offer-offer.result.now.rule ≡ Some c.get-rule.result.now = ap (λ (parts : Parts). slice_get parts.rules c.offer-offer.result.now.rule) (sym c.parts-parts.ensures.parts) ∙ c.get-rule.ensures in
