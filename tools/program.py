@@ -1,6 +1,7 @@
-"""Runs the program for the tools of this folder: `./ceptre` at the top, or what CEPTRE names."""
+"""Runs the program for the tools of this folder: the one that `./ceptre` runs, or what CEPTRE names."""
 
 import contextlib
+import functools
 import os
 import subprocess
 import tempfile
@@ -20,13 +21,28 @@ class CannotRun(Exception):
     """The program is not there, or ended without an answer."""
 
 
+@functools.lru_cache(maxsize=None)
+def built():
+    """The path of the program of this repository, which is asked once: where no up-to-date one is
+    there it is built."""
+    done = subprocess.run([os.path.join(TOP, ".ci", "program")], stdout=subprocess.PIPE, check=False)
+    if done.returncode != 0:
+        raise CannotRun("there is no up-to-date program")
+    return os.fsdecode(done.stdout.removesuffix(b"\n"))
+
+
+def command():
+    """The path of the program."""
+    return os.environ.get("CEPTRE") or built()
+
+
 def run(*words, typed=b""):
     """The status and the lines of the program, called with these words."""
-    command = os.environ.get("CEPTRE") or os.path.join(TOP, "ceptre")
+    program = command()
     try:
-        done = subprocess.run([command, *words], input=typed, stdout=subprocess.PIPE, check=False)
+        done = subprocess.run([program, *words], input=typed, stdout=subprocess.PIPE, check=False)
     except OSError as error:
-        raise CannotRun(f"{command}: {error.strerror}") from error
+        raise CannotRun(f"{program}: {error.strerror}") from error
     return done.returncode, done.stdout.decode("latin-1").splitlines()
 
 
