@@ -5,7 +5,7 @@ import subprocess
 import tempfile
 import unittest
 
-from setting import HUNDRED, TOP, WORLDS, module_of, read, tool, typed_and_words, world_names
+from setting import HUNDRED, ROUNDS, TOP, WORLDS, called, module_of, read, tool, typed_and_words, world_names
 from language import read_world
 from transcript import Transcript
 
@@ -33,8 +33,11 @@ step 3: unlock A=yard D=portal B=chapel K=iron/key
 
 
 def end_listing(world, turns):
-    """The listing of a run of a world as it was played, ended by a limit of turns."""
+    """The listing of a run of a world as it was played, ended by a limit of turns. No derivation of
+    these worlds is higher than 12, and a low limit is quicker."""
     typed, words = typed_and_words(world)
+    if not any(word.startswith("height=") for word in words):
+        words = [*words, "height=12"]
     path = os.path.join(WORLDS, world + ".cep")
     with open(typed, "rb") as file:
         done = subprocess.run(
@@ -60,8 +63,9 @@ class Follow(unittest.TestCase):
         for name in world_names():
             world = read_world(read(WORLDS, name + ".cep"))
             log = Transcript.of(read(WORLDS, name + ".log"))
-            self.assertEqual(follow.listing(world, log.last), end_listing(name, 1_000_000))
-            for at in range(1, len(log.steps) + 1):
+            self.assertEqual(follow.state_at(world, log, len(log.steps))[1:], follow.listing(world, log.last))
+            most = len(log.steps)
+            for at in sorted({1, most // 2, most - 1} & set(range(1, most))):
                 with self.subTest(world=name, at=at):
                     state = follow.state_at(world, log, at)
                     self.assertEqual(state[1:], end_listing(name, at))
@@ -117,10 +121,57 @@ class Follow(unittest.TestCase):
     def test_what_is_not_accepted(self):
         answer = tool("follow", WALK[0], "worlds/nim.log")
         self.assertEqual(answer, (1, "", "worlds/nim.log: refused 3 Line\n"))
+        self.assertEqual(tool("follow", *WALK, "--at", "-1")[0], 1)
         self.assertEqual(tool("follow", "README.md", WALK[1])[0], 3)
         self.assertEqual(tool("follow", WALK[0], "worlds/none.log")[0], 3)
         self.assertEqual(tool("follow", *WALK, CEPTRE="/bin/false")[0], 3)
         self.assertEqual(tool("follow", WALK[0])[0], 2)
+
+    def test_a_transcript_that_was_cut(self):
+        """At whatever byte a transcript is cut, it is told as far as it goes, once the start is whole."""
+        text = read(WORLDS, "apple.log")
+        start = text.index("? 1 sell")
+        with tempfile.TemporaryDirectory() as folder:
+            log = os.path.join(folder, "cut.log")
+            for length in range(0, len(text), 7):
+                with self.subTest(length=length):
+                    with open(log, "w", encoding="utf-8") as file:
+                        file.write(text[:length])
+                    status, output, errors = called("follow", "worlds/apple.cep", log)
+                    if length < start:
+                        self.assertIn((status, output), [(1, "")])
+                        continue
+                    self.assertEqual(status, 4)
+                    self.assertIn("it was cut, and is told as far as it goes", errors)
+                    steps = text[:length].count("\nstep ")
+                    told = int(output.split("cut after step ")[1].split("\n")[0])
+                    self.assertIn(told, (steps, steps - 1))
+            status, output, _ = called("follow", "worlds/apple.cep", log, "--at", "1")
+        self.assertEqual(status, 4)
+        self.assertEqual(output, "stage market\nhave 1 apple ben\nhave 1 coin ann\n")
+
+    def test_a_cut_within_a_listing_in_the_middle(self):
+        with tempfile.TemporaryDirectory() as folder:
+            world, log = os.path.join(folder, "w.cep"), os.path.join(folder, "w.log")
+            for path, text in ((world, ROUNDS), (log, HUNDRED[: HUNDRED.index("end")])):
+                with open(path, "w", encoding="utf-8") as file:
+                    file.write(text)
+            self.assertIn("cut after step 100\n", called("follow", world, log)[1])
+            with open(log, "w", encoding="utf-8") as file:
+                file.write(HUNDRED[: HUNDRED.index("state 100") + 10])
+            self.assertIn("cut after step 99\n", called("follow", world, log)[1])
+
+    def test_pipes(self):
+        tools, walk = os.path.join(TOP, "tools"), " ".join(WALK)
+        for script, status in [
+            (f"{tools}/follow {walk} | true; exit ${{PIPESTATUS[0]}}", (0, 141)),
+            (f"{tools}/follow <(cat {WALK[0]}) <(cat {WALK[1]}) >/dev/null", (0,)),
+            (f"{tools}/follow {walk} >/dev/full", (3,)),
+        ]:
+            with self.subTest(script=script):
+                done = subprocess.run(["bash", "-c", script], cwd=TOP, capture_output=True, text=True, check=False)
+                self.assertIn(done.returncode, status)
+                self.assertEqual(done.stderr.count("\n"), int(done.returncode == 3), done.stderr)
 
     def test_help(self):
         self.assertEqual(tool("follow", "--help", folder=TOP)[0], 0)
