@@ -2,10 +2,10 @@
 
 import os
 import pty
+import resource
 import shutil
 import subprocess
 import tempfile
-import time
 import unittest
 
 from setting import TOP, WORLDS
@@ -137,8 +137,8 @@ class Command(unittest.TestCase):
         self.assertTrue(is_there(), "without it again")
 
     def test_many_calls_are_quick(self):
-        """41 calls on an idle machine take under 2 seconds; on a busy one the program's own are
-        taken off."""
+        """41 calls on an idle machine take under 2 seconds; the time of the processor is measured,
+        since other work may go on beside the tests, and the program's own part is taken off."""
         shutil.rmtree(os.path.join(self.top, "crates"))
         built = shutil.ignore_patterns("out")
         shutil.copytree(os.path.join(TOP, "crates"), os.path.join(self.top, "crates"), ignore=built)
@@ -146,14 +146,15 @@ class Command(unittest.TestCase):
         words = ["check", os.path.join(WORLDS, "apple.cep"), os.path.join(WORLDS, "apple.log")]
 
         def spent(script):
-            begun = time.perf_counter()
+            before = resource.getrusage(resource.RUSAGE_CHILDREN)
             for _ in range(41):
                 subprocess.run([script, *words], stdout=subprocess.DEVNULL, check=True)
-            return time.perf_counter() - begun
+            after = resource.getrusage(resource.RUSAGE_CHILDREN)
+            return after.ru_utime + after.ru_stime - before.ru_utime - before.ru_stime
 
         self.call(*words, kit=False)
         asked = spent(os.path.join(self.top, "ceptre"))
-        self.assertLess(asked - spent(os.environ["CEPTRE"]), 4)
+        self.assertLess(asked - spent(os.environ["CEPTRE"]), 3)
 
     def test_hints_on_a_terminal(self):
         self.call("world", "1")
