@@ -1,5 +1,5 @@
 -- The files of a shelf in memory, against the map that keeps them.
-use Rattle.std.proofs.Common.{◌≡◌, ℕ, Bool, true, false, cond, List, [], ◌∷◌, map, Option, Some, Vec, refl, sym, ap, ◌∙◌}
+use Rattle.std.proofs.Common.{◌≡◌, ℕ, List, [], ◌∷◌, map, Some, Vec, refl, ◌∙◌, arith}
 use Rattle.std.specs.Prelude.{String, string_bytes}
 use Rattle.std.specs.Option.{option_map}
 use Rattle.std.specs.Ordering.{nat_cmp, is_eq}
@@ -14,18 +14,11 @@ use Rattle.std.specs.declared.alloc.Global.{Global}
 use Rattle.std.proofs.lemmas.Map.Text.{btree_map_updates_text, is_eq-slice_cmp}
 use Rattle.cep_base.specs.MemShelf.{files_of}
 
--- the bytes of a value that a test picks
-option_map-cond : {X Y : Type 0} (f : X → Y) (b : Bool) (x : X) (o : Option X) → option_map f (cond b (Some x) o) ≡ cond b (Some (f x)) (option_map f o)
-option_map-cond f true x o = refl
-option_map-cond f false x o = refl
-
 -- to find among the files is to look up in the map
 find-map : (name : List ℕ) (entries : List (String Global × Vec ℕ Global))
     → find (slice_cmp nat_cmp) name (map (λ entry. (string_bytes entry.0, entry.1.items)) entries) ≡ option_map (λ bytes. bytes.items) (lookup (is_at (λ key. slice_cmp nat_cmp name (string_bytes key))) entries)
 find-map name [] = refl
-find-map name (entry ∷ entries) =
-    let test = is_eq (slice_cmp nat_cmp name (string_bytes entry.0)) in
-    ap (cond test (Some entry.1.items)) (find-map name entries) ∙ sym (option_map-cond (λ bytes. bytes.items) test entry.1 _)
+find-map name (entry ∷ entries) = grind (arith, find-map name entries)
 
 -- what is at a name
 pub get-files_of : (files : BTreeMap (String Global) (Vec ℕ Global)) (name : List ℕ) → get (files_of files) name ≡ option_map (λ bytes. bytes.items) (get_by_text files name)
@@ -39,9 +32,8 @@ is_eq-text name other = (eq_by_cmp_equiv nat_list_cmp_total).symm other name ∙
 pub files_of-insert : (old new : BTreeMap (String Global) (Vec ℕ Global)) (name : String Global) (bytes : Vec ℕ Global) → Updates string_cmp old new name (Some bytes)
     → files_of new ≡ insert (files_of old) (string_bytes name) bytes.items
 files_of-insert old new name bytes updates = same_map nat_list_cmp_total (slice_cmp-IsAntisymmetric nat_cmp-IsAntisymmetric) _ _ (λ other.
-    let key = string_bytes name in
-    let now : get_by_text new other ≡ cond (bytes_eq key other) (Some bytes) (get_by_text old other) = btree_map_updates_text key old new (Some bytes) updates other in
-    rw (get-files_of new other, now, get-insert nat_list_cmp_total (files_of old) key bytes.items other, get-files_of old other, is_eq-text key other) (option_map-cond _ _ bytes _))
+    let now = btree_map_updates_text (string_bytes name) old new (Some bytes) updates other in
+    grind (arith, get-files_of, get-insert nat_list_cmp_total (files_of old) (string_bytes name) bytes.items other, is_eq-text))
 
 -- for the functions of a shelf: what is at a name, and what an insertion makes
 pub ruleset holdings = (get-files_of, files_of-insert)

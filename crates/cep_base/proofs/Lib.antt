@@ -9,3 +9,8 @@ pub mod ForemostLoops
 pub mod Entries
 pub mod FirstNamed
 pub mod Did
+pub mod Bools
+pub mod Options
+pub mod Drops
+pub mod Sorted
+pub mod SortedEntries

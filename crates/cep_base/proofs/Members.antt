@@ -1,8 +1,9 @@
 -- The members of lists, one after another.
-use Rattle.std.proofs.Common.{◌≡◌, ℕ, zero, suc, ◌<◌, ◌⊎◌, inl, inr, ⊎_elim, List, [], ◌∷◌, ◌++◌, length, get_or, map, Some, refl, ap, sym, ◌∙◌, subst, arith}
+use Rattle.std.proofs.Common.{◌≡◌, ℕ, zero, suc, Bool, true, false, cond, ◌⊎◌, inl, inr, ⊎_elim, List, [], ◌∷◌, ◌++◌, map, Some, refl, arith}
+use Rattle.std.specs.Prelude.{filter}
 use Rattle.std.specs.List.{Contains, flat_map, slice_get}
-use Rattle.std.proofs.lemmas.List.{map-append}
-use Rattle.std.proofs.lemmas.List.Elements.{Contains-get_or, Contains-append_right}
+use Rattle.std.proofs.lemmas.List.Elements.{Contains-append_right}
+use Rattle.std.proofs.lemmas.Option.{slice_get-map, slice_get-get_or}
 
 -- y is a member
 pub data In {X : Type 0} : List X → X → Type 0 where
@@ -13,16 +14,14 @@ pub in_nil : {X : Type 0} (y : X) → In [] y → ⊥
 in_nil y h = elim h [ ]
 
 pub in_same : {X : Type 0} (xs ys : List X) (y : X) → xs ≡ ys → In ys y → In xs y
-in_same xs ys y e h = subst (λ zs. In zs y) (sym e) h
+in_same xs ys y e h = rw e h
 
 pub in_one : {X : Type 0} (x y : X) → In (x ∷ []) y → y ≡ x
-in_one x y (here a b) = refl
-in_one x y (there a b c h) = absurd (in_nil y h)
+in_one x y h = grind (arith, in_nil)
 
 pub in_left : {X : Type 0} (xs ys : List X) (y : X) → In xs y → In (xs ++ ys) y
-in_left [] ys y h = absurd (in_nil y h)
-in_left (x ∷ xs) ys y (here a b) = here x (xs ++ ys)
-in_left (x ∷ xs) ys y (there a b c h) = there x y (xs ++ ys) (in_left xs ys y h)
+in_left xs ys y (here a b) = here a (b ++ ys)
+in_left xs ys y (there a b c h) = there a b (c ++ ys) (in_left c ys b h)
 
 pub in_right : {X : Type 0} (xs ys : List X) (y : X) → In ys y → In (xs ++ ys) y
 in_right [] ys y h = h
@@ -31,7 +30,7 @@ in_right (x ∷ xs) ys y h = there x y (xs ++ ys) (in_right xs ys y h)
 pub in_parts : {X : Type 0} (xs ys : List X) (y : X) → In (xs ++ ys) y → In xs y ⊎ In ys y
 in_parts [] ys y h = inr h
 in_parts (x ∷ xs) ys y (here a b) = inl (here x xs)
-in_parts (x ∷ xs) ys y (there a b c h) = ⊎_elim (λ k. inl (there x y xs k)) (λ k. inr k) (in_parts xs ys y h)
+in_parts (x ∷ xs) ys y (there a b c h) = ⊎_elim (λ k. inl (there x y xs k)) inr (in_parts xs ys y h)
 
 -- what comes through a list of lists
 pub record Through {X Y : Type 0} (f : X → List Y) (xs : List X) (y : Y) : Type 0 where
@@ -47,9 +46,8 @@ through f (x ∷ xs) y h =
     (in_parts (f x) (flat_map f xs) y h)
 
 pub via : {X Y : Type 0} (f : X → List Y) (xs : List X) (x : X) (y : Y) → In xs x → In (f x) y → In (flat_map f xs) y
-via f [] x y h k = absurd (in_nil x h)
-via f (z ∷ xs) x y (here a b) k = in_left (f z) (flat_map f xs) y k
-via f (z ∷ xs) x y (there a b c h) k = in_right (f z) (flat_map f xs) y (via f xs x y h k)
+via f xs x y (here a b) k = in_left (f a) (flat_map f b) y k
+via f xs x y (there a b c h) k = in_right (f a) (flat_map f c) y (via f c b y h k)
 
 -- what is an image
 pub record Image {X Y : Type 0} (f : X → Y) (xs : List X) (y : Y) : Type 0 where
@@ -63,28 +61,21 @@ image f (x ∷ xs) y (here a b) = record { from = x; member = here x xs; is = re
 image f (x ∷ xs) y (there a b c h) = let k = image f xs y h in record { from = k.from; member = there x k.from xs k.member; is = k.is }
 
 pub mapped : {X Y : Type 0} (f : X → Y) (xs : List X) (x : X) → In xs x → In (map f xs) (f x)
-mapped f [] x h = absurd (in_nil x h)
-mapped f (z ∷ xs) x (here a b) = here (f z) (map f xs)
-mapped f (z ∷ xs) x (there a b c h) = there (f z) (f x) (map f xs) (mapped f xs x h)
+mapped f xs x (here a b) = here (f a) (map f b)
+mapped f xs x (there a b c h) = there (f a) (f b) (map f c) (mapped f c b h)
 
 -- std's word for it
 pub to_contains : {X : Type 0} (xs : List X) (y : X) → In xs y → Contains xs y
-to_contains [] y h = absurd (in_nil y h)
-to_contains (x ∷ xs) y (here a b) = Contains-get_or (x ∷ xs) 0 x (omega arith)
-to_contains (x ∷ xs) y (there a b c h) = Contains-append_right (x ∷ []) xs y (to_contains xs y h)
-
-at : {X : Type 0} (xs : List X) (y : X) (k : ℕ) → k < length xs → get_or xs k y ≡ y → In xs y
-at [] y k h e = absurd (omega arith)
-at (x ∷ xs) y zero h e = subst (λ z. In (x ∷ xs) z) e (here x xs)
-at (x ∷ xs) y (suc k) h e = there x y xs (at xs y k (omega arith) e)
-
-pub from_contains : {X : Type 0} (xs : List X) (y : X) → Contains xs y → In xs y
-from_contains xs y h = at xs y h.0 h.1 h.2
+to_contains xs y (here a b) = grind arith
+to_contains xs y (there a b c h) = Contains-append_right (a ∷ []) c b (to_contains c b h)
 
 pub in_got : {X : Type 0} (xs : List X) (k : ℕ) (y : X) → slice_get xs k ≡ Some y → In xs y
 in_got [] k y e = absurd cc
-in_got (x ∷ xs) zero y e = let same : x ≡ y = cc in subst (λ z. In (x ∷ xs) z) same (here x xs)
+in_got (x ∷ xs) zero y e = grind (arith, here)
 in_got (x ∷ xs) (suc k) y e = there x y xs (in_got xs k y e)
+
+pub from_contains : {X : Type 0} (xs : List X) (y : X) → Contains xs y → In xs y
+from_contains xs y (k, within, e) = in_got xs k y (grind (arith, slice_get-get_or))
 
 -- the n-th of images is the image of the n-th
 pub record Got {X : Type 0} (v : X → ℕ) (xs : List X) (k : ℕ) (at : ℕ) : Type 0 where
@@ -93,16 +84,28 @@ pub record Got {X : Type 0} (v : X → ℕ) (xs : List X) (k : ℕ) (at : ℕ) :
   pub is : at ≡ v from
 
 pub got : {X : Type 0} (v : X → ℕ) (xs : List X) (k at : ℕ) → slice_get (map v xs) k ≡ Some at → Got v xs k at
-got v [] k at e = absurd cc
-got v (x ∷ xs) zero at e = record { from = x; got = refl; is = cc }
-got v (x ∷ xs) (suc k) at e = let rest = got v xs k at e in record { from = rest.from; got = rest.got; is = rest.is }
+got v xs k at e = grind (arith, slice_get-map)
 
 pub give : {X : Type 0} (v : X → ℕ) (xs : List X) (k : ℕ) (x : X) → slice_get xs k ≡ Some x → slice_get (map v xs) k ≡ Some (v x)
-give v [] k x e = absurd cc
-give v (y ∷ xs) zero x e = let same : y ≡ x = cc in ap (λ z. Some (v z)) same
-give v (y ∷ xs) (suc k) x e = give v xs k x e
+give v xs k x e = rw (slice_get-map v xs k, e)
 
--- a list of what several give
-pub map-flat_map : {X Y Z : Type 0} (v : Y → Z) (f : X → List Y) (xs : List X) → map v (flat_map f xs) ≡ flat_map (λ x. map v (f x)) xs
-map-flat_map v f [] = refl
-map-flat_map v f (x ∷ xs) = map-append v (f x) (flat_map f xs) ∙ ap (λ ys. map v (f x) ++ ys) (map-flat_map v f xs)
+-- the members that pass a test
+pub in_filter : {X : Type 0} (test : X → Bool) (xs : List X) (x : X) → In xs x → test x ≡ true → In (filter test xs) x
+in_filter test xs x (here a b) passes = rw passes (here a (filter test b))
+in_filter test xs x (there a b c h) passes = by (test a) (in_filter test c b h passes)
+  where
+    by : (t : Bool) → In (filter test c) b → In (cond t (a ∷ filter test c) (filter test c)) b
+    by true rest = there a b (filter test c) rest
+    by false rest = rest
+
+pub from_filter : {X : Type 0} (test : X → Bool) (xs : List X) (x : X) → In (filter test xs) x → In xs x × (test x ≡ true)
+from_filter test [] x h = absurd (in_nil x h)
+from_filter {X = X} test (y ∷ xs) x h = by (test y) refl (from_filter test xs x) h
+  where
+    first : test y ≡ true → (z : X) (zs : List X) → z ≡ y → (In zs x → In xs x × (test x ≡ true)) → In (z ∷ zs) x → In (y ∷ xs) x × (test x ≡ true)
+    first passes z zs is rest (here a b) = (rw is (here y xs), rw is passes)
+    first passes z zs is rest (there a b c k) = let more = rest k in (there y b xs more.0, more.1)
+
+    by : (t : Bool) → test y ≡ t → (In (filter test xs) x → In xs x × (test x ≡ true)) → In (cond t (y ∷ filter test xs) (filter test xs)) x → In (y ∷ xs) x × (test x ≡ true)
+    by true passes rest k = first passes y (filter test xs) refl rest k
+    by false fails rest k = let more = rest k in (there y x xs more.0, more.1)

@@ -1,4 +1,4 @@
--- The calls of a fake that is told which of them are to fail.
+-- The calls of a fake of which chosen ones are to fail.
 use Rattle.std.specs.Prelude.{ℕ, ◌+◌, ◌<◌, List, [], ◌∷◌, ◌++◌, Contains, refl}
 use Rattle.std.specs.Coded.{Coded, code_by, coded×, coded_list, coded_ℕ}
 use Rattle.cep_base.specs.Faults.{last_count, count_up}
@@ -31,6 +31,6 @@ after_listing calls call = record calls { listed = calls.listed ++ call ∷ [] }
 abbrev pub after_call : CallLog → CallLog
 after_call calls = record calls { last = count_up calls.last }
 
--- the log after one failure more
+-- the log after one more failure
 abbrev pub after_fault : CallLog → CallLog
 after_fault calls = record calls { faults = count_up calls.faults }

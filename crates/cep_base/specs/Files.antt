@@ -9,22 +9,22 @@ use Rattle.cep_base.specs.Faults.{Rose}
 abbrev pub Files : Type 0
 Files = List ℕ → Option (List ℕ)
 
--- where the files are told, the file has these bytes
+-- if the files are reported, the file has these bytes
 abbrev pub HasFile : Option Files → List ℕ → List ℕ → Type 0
 HasFile files name bytes = IfSome files (λ file. file name ≡ Some bytes)
 
--- where the files are told, the file has more bytes than so many
+-- if the files are reported, the file has more bytes than so many
 abbrev pub HasLongerFile : Option Files → List ℕ → ℕ → Type 0
 HasLongerFile files name most = IfSome files (λ file. IsSomeAnd (file name) (λ bytes. most < length bytes))
 
--- Where the names asked for are told, this one was added, but for want of memory.
+-- If the names asked for are reported, this one was added, except for out of memory.
 abbrev pub Asks : {T : Type 0} → Option (List (List ℕ)) → List ℕ → Option (List (List ℕ)) → Result T ShelfFault → Type 0
 Asks before name after (Ok value) = after ≡ option_map (λ names. names ++ name ∷ []) before
 Asks before name after (Err (Memory error)) = after ≡ before
 Asks before name after (Err Failed) = after ≡ option_map (λ names. names ++ name ∷ []) before
 Asks before name after (Err TooLong) = after ≡ option_map (λ names. names ++ name ∷ []) before
 
--- `Failed` is answered only where the count of faults rose, and every other answer leaves it as it was.
+-- `Failed` is answered only if the count of faults rose, and every other answer leaves it as it was.
 abbrev pub ShelfCause : {T : Type 0} → ℕ → ℕ → Result T ShelfFault → Type 0
 ShelfCause before after (Ok value) = after ≡ before
 ShelfCause before after (Err (Memory error)) = after ≡ before

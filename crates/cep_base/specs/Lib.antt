@@ -9,3 +9,5 @@ pub mod CalmConsole
 pub mod MemConsole
 pub mod MemShelf
 pub mod Kinds
+pub mod FirstNames
+pub mod Sorted

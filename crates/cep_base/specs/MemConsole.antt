@@ -14,7 +14,7 @@ pub record NumberedDialogue : Type 0 where
 abbrev pub first_half : List ℕ → List ℕ
 first_half bytes = take (length bytes / 2) bytes
 
--- But for want of memory, `Failed` is answered exactly where the call is listed, and it is counted as a fault. Each call takes its number.
+-- Except for out of memory, `Failed` is answered exactly when the call is listed, and it is counted as a fault. Each call takes its number.
 abbrev pub ConsoleCounts : {T : Type 0} → CallLog → CallLog → Result T ConsoleFault → Type 0
 ConsoleCounts before after (Ok value) = (¬ FailsNext before) × (after ≡ after_call before)
 ConsoleCounts before after (Err (Memory error)) = after ≡ after_call before

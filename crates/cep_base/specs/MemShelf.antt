@@ -9,7 +9,7 @@ use Rattle.cep_base.specs.declared.shelf.ShelfFault.{ShelfFault}
 use Rattle.cep_base.specs.declared.shelf.ShelfFault.TheVariants.{Memory, Failed, TooLong}
 use Rattle.cep_base.specs.Calls.{CallLog, call_log_code, FailsNext, after_call, after_fault}
 
--- what a shelf in memory holds: its files by their names, the names of all loads so far that did not end for want of memory, and its calls
+-- what a shelf in memory holds: its files by their names, the names of all loads so far that did not end by out of memory, and its calls
 pub record Holdings : Type 0 where
   pub files : FinMap (slice_cmp nat_cmp) (List ℕ)
   pub asked : List (List ℕ)
@@ -26,7 +26,7 @@ holdings_code =
 abbrev pub files_of : BTreeMap (String Global) (Vec ℕ Global) → FinMap (slice_cmp nat_cmp) (List ℕ)
 files_of files = from_entries (map (λ entry. (string_bytes entry.0, entry.1.items)) files.entries)
 
--- But for want of memory, `Failed` is answered exactly where the load is listed or the file is missing, and it is counted as a fault. Each load takes its number.
+-- Except for out of memory, `Failed` is answered exactly when the load is listed or the file is missing, and it is counted as a fault. Each load takes its number.
 abbrev pub LoadCounts : {T : Type 0} → CallLog → CallLog → Option (List ℕ) → Result T ShelfFault → Type 0
 LoadCounts before after file (Ok value) = (¬ FailsNext before) × (after ≡ after_call before)
 LoadCounts before after file (Err (Memory error)) = after ≡ after_call before

@@ -21,7 +21,11 @@ impl Model for Calls {
 
     ghost Value = { CallLog };
 
-    ghost view = { λ calls. record { last = calls.last; listed = calls.listed.items; faults = calls.faults } };
+    ghost view = { λ calls. record {
+      last = calls.last;
+      listed = calls.listed.items;
+      faults = calls.faults;
+    } };
 }
 
 impl Calls {
@@ -44,7 +48,7 @@ impl Calls {
         Ok(self.listed.push(call)?)
     }
 
-    /// Counts a call, and tells whether it is to fail.
+    /// Counts a call, and answers whether it is to fail.
     pub fn begin(&mut self) -> bool
         ensures fails { IsTrue result ↔ FailsNext self.old }
         ensures counted { self.new ≡ after_call self.old }

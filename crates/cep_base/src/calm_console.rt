@@ -20,7 +20,10 @@ impl Model for CalmConsole {
 
     ghost Value = { Conversation };
 
-    ghost view = { λ console. record { talk = console.events.items; left = drop console.taken console.input.items } };
+    ghost view = { λ console. record {
+      talk = console.events.items;
+      left = drop console.taken console.input.items;
+    } };
 }
 
 impl CalmConsole {
@@ -51,10 +54,6 @@ impl Console for CalmConsole {
     ghost left = { λ console. Some console.left };
 
     ghost faults = { λ _. 0 };
-
-    fn is_read(&self) -> bool {
-        true
-    }
 
     fn put(&mut self, bytes: &[u8]) -> Result<(), ConsoleFault> {
         for &byte in bytes {

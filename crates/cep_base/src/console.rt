@@ -21,34 +21,40 @@ pub enum ConsoleFault {
     Failed,
 }
 
-/// A console. What it tells of itself is told for good: no call changes whether `talk` and `left`
-/// are known, so a contract may speak of them for a console that tells them, as the fakes in memory
-/// do, while a terminal tells nothing.
+/// A console: an implementation writes `put` and `next`, and `is_read` if it may have no reader.
+/// What it reports of itself is reported for good: no call changes whether `talk` and `left` are
+/// known, so a contract may speak of them for a console that reports them, as the fakes in memory
+/// do, while a terminal reports nothing.
 pub trait Console {
-    /// All events so far, where they are told.
+    /// All events so far, if they are reported.
     ghost talk: { Self → Option (List Event) };
 
-    /// The bytes still to come, where they are told.
+    /// The bytes still to come, if they are reported.
     ghost left: { Self → Option (List ℕ) };
 
-    /// How often the console failed: from 0 to 2^64 - 1, and it never falls.
+    /// How often the console failed: from 0 to 2^64 - 1, and it never decreases.
     ghost faults: { Self → ℕ };
 
-    /// Whether somebody reads what is written. Where nobody does, the talk is not told, and what
-    /// would be lost need not be made.
+    /// Whether somebody reads what is written, as is usual. If nobody does, the talk is not
+    /// reported, and what would be lost need not be made.
     fn is_read(&self) -> bool
-        ensures { result ≡ false → talk self.now ≡ None };
+        ensures { result ≡ false → talk self.now ≡ None }
+    {
+        true
+    }
 
-    /// Writes all of the bytes. A refused call wrote a front of them.
+    /// Writes all of the bytes. A refused call wrote a prefix of them.
     fn put(&mut self, bytes: &[u8]) -> Result<(), ConsoleFault>
         ensures written { OnOk result (GoesOn (talk self.old) (outs bytes.now) (talk self.new)) }
-        ensures part { OnErr result ((n : ℕ) × GoesOn (talk self.old) (outs (take n bytes.now)) (talk self.new)) }
+        ensures part { OnErr result
+            ((n : ℕ) × GoesOn (talk self.old) (outs (take n bytes.now)) (talk self.new)) }
         ensures left { left self.new ≡ left self.old }
         ensures cause { ConsoleCause (faults self.old) (faults self.new) result };
 
-    /// Reads the next byte, or `None` where nothing is left. A refused call read nothing.
+    /// Reads the next byte, or `None` if nothing is left. A refused call read nothing.
     fn next(&mut self) -> Result<Option<u8>, ConsoleFault>
-        ensures heard { IfOk result (λ byte. GoesOn (talk self.old) (heard byte ∷ []) (talk self.new)) }
+        ensures heard { IfOk result
+            (λ byte. GoesOn (talk self.old) (heard byte ∷ []) (talk self.new)) }
         ensures taken { IfOk result (λ byte. Takes (left self.old) byte (left self.new)) }
         ensures unheard { OnErr result (talk self.new ≡ talk self.old) }
         ensures untaken { OnErr result (left self.new ≡ left self.old) }

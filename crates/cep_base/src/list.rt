@@ -78,7 +78,7 @@ impl<T: Drop> List<T> {
         self.items[i] = item;
     }
 
-    /// Adds an item at the end. After want of memory the list is as before, and the item is gone.
+    /// Adds an item at the end. After out of memory the list is as before, and the item is gone.
     pub fn push(&mut self, item: T) -> Result<(), AllocError>
         ensures ok { OnOk result (self.new ≡ self.old ++ item ∷ []) }
         ensures err { OnErr result (self.new ≡ self.old) }

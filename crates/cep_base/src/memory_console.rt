@@ -1,4 +1,4 @@
-// A console in memory that fails when told.
+// A console in memory of which chosen calls fail.
 ghost use Rattle.std.specs.Prelude.{◌≡◌, ℕ, [], ◌∷◌, ◌++◌, take, Some, IfOk, OnOk, OnErr, IsErrOf};
 ghost use Rattle.cep_base.specs.declared.console.ConsoleFault.TheVariants.{Failed};
 ghost use Rattle.cep_base.specs.Talk.{outs, heard, GoesOn, Takes, ConsoleCause};
@@ -23,12 +23,16 @@ impl Model for MemConsole {
 
     ghost Value = { NumberedDialogue };
 
-    ghost view = { λ console. record { talk = console.calm.talk; left = console.calm.left; calls = console.calls } };
+    ghost view = { λ console. record {
+      talk = console.calm.talk;
+      left = console.calm.left;
+      calls = console.calls;
+    } };
 }
 
 impl MemConsole {
-    /// A console on which nothing was said, these bytes are to come, and the calls whose numbers
-    /// are in `fails` are to fail.
+    /// A console on which nothing was said, these bytes are to come, and the calls with the numbers
+    /// in `fails` are to fail.
     pub fn new(alloc: Global, input: &[u8], fails: &[u64]) -> Result<MemConsole, AllocError>
         ensures { IfOk result (λ console.
             console ≡ record { talk = []; left = input.now; calls = no_calls fails.now }) }
@@ -54,12 +58,9 @@ impl Console for MemConsole {
 
     ghost faults = { λ console. console.calls.faults };
 
-    fn is_read(&self) -> bool {
-        true
-    }
-
     fn put(&mut self, bytes: &[u8]) -> Result<(), ConsoleFault>
-        ensures written { OnOk result (GoesOn (Some self.old.talk) (outs bytes.now) (Some self.new.talk)) }
+        ensures written { OnOk result
+            (GoesOn (Some self.old.talk) (outs bytes.now) (Some self.new.talk)) }
         ensures part { OnErr result
             ((n : ℕ) × GoesOn (Some self.old.talk) (outs (take n bytes.now)) (Some self.new.talk)) }
         ensures left { Some self.new.left ≡ Some self.old.left }
@@ -67,7 +68,8 @@ impl Console for MemConsole {
 
         // What it says beside the trait: when it fails, and how much it has written then.
         ensures calls { ConsoleCounts self.old.calls self.new.calls result }
-        ensures half { IsErrOf result Failed → self.new.talk ≡ self.old.talk ++ outs (first_half bytes.now) }
+        ensures half { IsErrOf result Failed →
+            self.new.talk ≡ self.old.talk ++ outs (first_half bytes.now) }
     {
         if self.calls.begin() {
             self.calm.put(&bytes[..bytes.len() / 2])?;
@@ -78,7 +80,8 @@ impl Console for MemConsole {
     }
 
     fn next(&mut self) -> Result<Option<u8>, ConsoleFault>
-        ensures heard { IfOk result (λ byte. GoesOn (Some self.old.talk) (heard byte ∷ []) (Some self.new.talk)) }
+        ensures heard { IfOk result
+            (λ byte. GoesOn (Some self.old.talk) (heard byte ∷ []) (Some self.new.talk)) }
         ensures taken { IfOk result (λ byte. Takes (Some self.old.left) byte (Some self.new.left)) }
         ensures unheard { OnErr result (Some self.new.talk ≡ Some self.old.talk) }
         ensures untaken { OnErr result (Some self.new.left ≡ Some self.old.left) }

@@ -1,4 +1,4 @@
-// A shelf in memory that fails when told.
+// A shelf in memory of which chosen loads fail.
 ghost use Rattle.std.specs.Prelude.{◌≡◌, ◌≤◌, ◌↔◌, [], length, Some, IsSome, IfSome, IfOk, OnOk, OnErr, IsErrOf};
 ghost use Rattle.std.specs.FinMap as map;
 ghost use Rattle.cep_base.specs.declared.shelf.ShelfFault.TheVariants.{TooLong};
@@ -64,7 +64,8 @@ impl MemShelf {
 
     /// Lists a load that is to fail.
     pub fn fail(&mut self, call: u64) -> Result<(), AllocError>
-        ensures ok { OnOk result (self.new ≡ record self.old { calls = after_listing self.old.calls call }) }
+        ensures ok { OnOk result
+            (self.new ≡ record self.old { calls = after_listing self.old.calls call }) }
         ensures err { OnErr result (self.new ≡ self.old) }
     {
         self.calls.list(call)
@@ -91,9 +92,11 @@ impl Shelf for MemShelf {
 
     #[tactic(auto, using(crate::proofs::Holdings::holdings))]
     fn load(&mut self, alloc: Global, name: &str, most: usize) -> Result<Vec<u8>, ShelfFault>
-        ensures whole { IfOk result (λ bytes. HasFile (Some (map.get self.old.files)) name.now bytes.items) }
+        ensures whole { IfOk result
+            (λ bytes. HasFile (Some (map.get self.old.files)) name.now bytes.items) }
         ensures within { IfOk result (λ bytes. length bytes.items ≤ most) }
-        ensures longer { IsErrOf result TooLong → HasLongerFile (Some (map.get self.old.files)) name.now most }
+        ensures longer { IsErrOf result TooLong →
+            HasLongerFile (Some (map.get self.old.files)) name.now most }
         ensures same { Some (map.get self.new.files) ≡ Some (map.get self.old.files) }
         ensures asked { Asks (Some self.old.asked) name.now (Some self.new.asked) result }
         ensures cause { ShelfCause self.old.calls.faults self.new.calls.faults result }

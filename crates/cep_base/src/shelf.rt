@@ -14,18 +14,18 @@ pub enum ShelfFault {
     TooLong,
 }
 
-/// A shelf of files. As with a console, what it tells of itself is told for good.
+/// A shelf of files. As with a console, what it reports of itself is reported for good.
 pub trait Shelf {
-    /// The files, where they are told. No load changes them.
+    /// The files, if they are reported. No load changes them.
     ghost files: { Self → Option Files };
 
-    /// The names of all loads so far that did not end for want of memory, where they are told.
+    /// The names of all loads so far that did not end by out of memory, if they are reported.
     ghost asked: { Self → Option (List (List ℕ)) };
 
-    /// How often the shelf failed: from 0 to 2^64 - 1, and it never falls.
+    /// How often the shelf failed: from 0 to 2^64 - 1, and it never decreases.
     ghost faults: { Self → ℕ };
 
-    /// All bytes of a file, if they are at most `most`. `TooLong` comes exactly where the file has more.
+    /// All bytes of a file, if they are at most `most`. `TooLong` comes only if the file has more.
     fn load(&mut self, alloc: Global, name: &str, most: usize) -> Result<Vec<u8>, ShelfFault>
         ensures whole { IfOk result (λ bytes. HasFile (files self.old) name.now bytes.items) }
         ensures within { IfOk result (λ bytes. length bytes.items ≤ most) }

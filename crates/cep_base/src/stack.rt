@@ -1,4 +1,4 @@
-ghost use Rattle.std.specs.Prelude.{◌≡◌, [], ◌∷◌, ◌++◌, OnOk, OnErr, MatchOption};
+ghost use Rattle.std.specs.Prelude.{◌≡◌, ℕ, [], ◌∷◌, ◌++◌, drop, OnOk, OnErr, MatchOption};
 
 use std::alloc::{AllocError, Global};
 use std::marker::Model;
@@ -31,14 +31,16 @@ impl<T> Stack<T> {
 
     /// Takes the next one, if there is one. It takes no memory.
     pub fn pop(&mut self) -> Option<T>
-        ensures { MatchOption result ((self.old ≡ []) × (self.new ≡ [])) (λ item. self.old ≡ item ∷ self.new) }
+        ensures { MatchOption result
+            ((self.old ≡ []) × (self.new ≡ []))
+            (λ item. self.old ≡ item ∷ self.new) }
     {
         self.items.pop()
     }
 }
 
 impl<T: Drop> Stack<T> {
-    /// Puts one in front. After want of memory the stack is as before, and the item is gone.
+    /// Puts one in front. After out of memory the stack is as before, and the item is gone.
     pub fn push(&mut self, item: T) -> Result<(), AllocError>
         ensures ok { OnOk result (self.new ≡ item ∷ self.old) }
         ensures err { OnErr result (self.new ≡ self.old) }
@@ -49,10 +51,11 @@ impl<T: Drop> Stack<T> {
 }
 
 impl<T: Copy + Drop> Stack<T> {
-    /// Puts all of these in front, the first of them first. After want of memory some of the last of
+    /// Puts all of these in front, the first of them first. After out of memory some of the last of
     /// them are there.
     pub fn push_all(&mut self, items: &[T]) -> Result<(), AllocError>
-        ensures { OnOk result (self.new ≡ items.now ++ self.old) }
+        ensures ok { OnOk result (self.new ≡ items.now ++ self.old) }
+        ensures err { OnErr result ((left : ℕ) × (self.new ≡ drop left items.now ++ self.old)) }
     {
         let mut left = items.len();
         while left > 0 {

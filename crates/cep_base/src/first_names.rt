@@ -1,8 +1,8 @@
 ghost use Rattle.std.specs.Prelude.{◌≡◌, [], not, map, position, slice_get, IfOk, OnErr};
 ghost use Rattle.std.specs.Str.{bytes_eq};
-ghost use Rattle.cep_source.specs.Firsts.{has_name, under_name, added, names_among};
+ghost use Rattle.cep_base.specs.FirstNames.{has_name, under_name, added, names_among};
 
-use cep_base::{List, Name};
+use crate::{List, Name};
 use indexmap::IndexMap;
 use std::alloc::{AllocError, Global};
 use std::marker::Model;
@@ -31,7 +31,8 @@ impl<T: Copy> FirstNames<T> {
         }
     }
 
-    /// Adds a name at the end with what it comes with, and answers true, unless it is there.
+    /// Adds a name at the end with what it comes with, and answers true, unless it is there. After
+    /// out of memory the names are as before.
     pub fn add(&mut self, name: &[u8], with: T) -> Result<bool, AllocError>
         ensures new { IfOk result (λ new. new ≡ not (has_name self.old name.now)) }
         ensures entries { IfOk result (λ new. self.new ≡ added self.old (name.now, with)) }

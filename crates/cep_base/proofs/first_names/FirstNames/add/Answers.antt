@@ -1,7 +1,7 @@
 use Rattle.std.proofs.Common.{◌≡◌, ◌∙◌, ap, sym, not, false, refl}
-use Rattle.cep_source.specs.Firsts.{has_name}
+use Rattle.cep_base.specs.FirstNames.{has_name}
 use Rattle.cep_base.proofs.Entries.{has_seen, pushed}
-use Rattle.cep_source.proofs.firsts.FirstNames.add.Goals as goal
+use Rattle.cep_base.proofs.first_names.FirstNames.add.Goals as goal
 
 pub returns-then-contains_key-clause-new : goal.returns-then-contains_key-clause-new
 returns-then-contains_key-clause-new g c =

@@ -2,7 +2,7 @@ use Rattle.std.proofs.Common.{◌≡◌, ◌∙◌, map, rules}
 use Rattle.std.specs.Map.Iter.{deref_pair}
 use Rattle.std.proofs.lemmas.Map.Iter.{iter_end}
 use Rattle.std.proofs.lemmas.Simd.{map-map}
-use Rattle.cep_source.proofs.firsts.FirstNames.values.Goals as goal
+use Rattle.cep_base.proofs.first_names.FirstNames.values.Goals as goal
 
 pub returns : goal.returns
 returns g c =
