@@ -85,6 +85,16 @@ def judged_world(text):
     return status, lines[0] if lines else ""
 
 
+def goals_of(all_words, world_text):
+    """The goals that words ask for; a ValueError tells the first that the world has not."""
+    goals = [Goal.of(words) for words in all_words]
+    for goal in goals:
+        fault = fault_of(goal, world_text)
+        if fault:
+            raise ValueError(f"the world has no goal `{goal.atom}`: {fault}")
+    return goals
+
+
 @dataclass
 class Asked:
     """What is asked of each transcript of a world."""
