@@ -11,7 +11,7 @@ use Rattle.cep_term.specs.Tree.{AtomTree, IsGroundAtom}
 use Rattle.cep_term.specs.Order.{atom_cmp}
 use Rattle.cep_term.specs.Multiset.{Multiset, count_of, with_count, with_one, without_one, gathered, sum_of, difference_of, IsEntry, IsBag}
 use Rattle.cep_term.proofs.OrderLaws.{atom_cmp_ties}
-use Rattle.cep_term.proofs.Places.{Counted}
+use Rattle.cep_term.proofs.Edits.{Counted}
 use Rattle.cep_term.proofs.Multisets.{entries_empty, bag_empty, count_empty, count_set, count_set_own, bag_set_count, bag_sum, count_sum, same_counts, sum_commutes, sum_groups, sum_with_one, bag_gathered, gathered-append}
 
 -- nothing is added yet

@@ -1,23 +1,20 @@
 -- Laws of multisets: what their edits, sums and differences do to counts, copies and nodes.
-use Rattle.std.proofs.Common.{◌≡◌, ℕ, ◌+◌, ◌-◌, ◌*◌, ◌<◌, ◌≤◌, Bool, true, false, cond, ◌==◌, ◌≢◌, List, [], ◌∷◌, ◌++◌, Option, Some, None, unwrap_or, refl, sym, ap, subst, ◌∙◌, arith}
+use Rattle.std.proofs.Common.{◌≡◌, ℕ, ◌+◌, ◌-◌, ◌*◌, ◌<◌, ◌≤◌, cond, ◌≢◌, List, [], ◌∷◌, ◌++◌, Option, Some, unwrap_or, refl, sym, ap, ◌∙◌, arith}
 use Rattle.std.specs.Prelude.{fold, sum_by}
 use Rattle.std.specs.List.{AllByRecursion}
-use Rattle.std.proofs.lemmas.Bool.{eqb-true}
 use Rattle.std.proofs.lemmas.List.Sums.{sum_by-cons}
 use Rattle.std.proofs.Math.Nat.{zero-mul, add-mul}
-use Rattle.std.specs.declared.cmp.Ordering.{Ordering}
-use Rattle.std.specs.declared.cmp.Ordering.TheVariants.{Less, Equal, Greater}
-use Rattle.std.specs.Ordering.{is_eq, eq_by_cmp}
+use Rattle.std.specs.Ordering.{eq_by_cmp}
 use Rattle.std.specs.Cmp.{tied_itself}
 use Rattle.std.specs.FinMap as finite
-use Rattle.std.specs.FinMap.Entries.{find, below_all}
+use Rattle.std.specs.FinMap.Entries.{find}
+use Rattle.cep_base.proofs.SortedEntries.{below_rest, rest_sorted, find_below}
 use Rattle.cep_term.specs.Tree.{AtomTree, IsGroundAtom, atom_nodes}
 use Rattle.cep_term.specs.Order.{atom_cmp}
 use Rattle.cep_term.specs.Multiset.{Multiset, count_of, with_count, with_one, gathered, sum_of, difference_of, copies_in, nodes_in_all, IsContained, IsBag, IsEntry}
 use Rattle.cep_term.specs.Entries.{IsRising, find_count, set_among}
 use Rattle.cep_term.proofs.OrderLaws.{atom_cmp_total, atom_cmp_ties}
-use Rattle.cep_term.proofs.Places.{Counted, below_rest, rest_rises}
-use Rattle.cep_term.proofs.Edits.{is_true, worth_of, worth_set, each_set, rising_set, bag_set, entries_rising, find_below, total}
+use Rattle.cep_term.proofs.Edits.{Counted, is_true, worth_of, worth_set, each_set, rising_set, bag_set, entries_rising, total}
 use Rattle.cep_term.proofs.Seen.{count_le_total, no_entries, empty_seen}
 
 -- the entries of a multiset rise, and are all that it is
@@ -33,38 +30,17 @@ count_among_entries bag a = ap (λ o. unwrap_or o 0) (sym (finite.get-entries ba
 
 -- the entries after a count is set
 pub entries_set : (bag : Multiset) (a : AtomTree) (n : ℕ) → finite.entries (with_count bag a n) ≡ set_among (finite.entries bag) a n
-entries_set bag a n =
-    let es = finite.entries bag in
-    ap (λ z. finite.entries (with_count z a n)) (sym (from_entries bag)) ∙ ap (λ z. finite.entries z) (sym (bag_set es a n (entries_rise bag))) ∙ entries_rising (set_among es a n) (rising_set es a n (entries_rise bag))
+entries_set bag a n = grind (arith, from_entries bag, bag_set (finite.entries bag) a n (entries_rise bag), entries_rising (set_among (finite.entries bag) a n) (rising_set (finite.entries bag) a n (entries_rise bag)))
 
 -- the count of an atom after one was set
 pub count_set : (bag : Multiset) (a q : AtomTree) (n : ℕ) → count_of (with_count bag a n) q ≡ cond (eq_by_cmp atom_cmp q a) n (count_of bag q)
-count_set bag a q n = elim (n == 0) as (λ b. (n == 0) ≡ b → count_of (cond b (finite.remove bag a) (finite.insert bag a n)) q ≡ cond (eq_by_cmp atom_cmp q a) n (count_of bag q)) [
-  | true ↦ λ e. ap (λ o. unwrap_or o 0) (finite.get-remove atom_cmp_total bag a q) ∙ by_none (eq_by_cmp atom_cmp q a) (eqb-true n 0 e)
-  | false ↦ λ e. ap (λ o. unwrap_or o 0) (finite.get-insert atom_cmp_total bag a n q) ∙ by_some (eq_by_cmp atom_cmp q a)
-] refl
-  where
-    by_none : (b : Bool) → n ≡ 0 → unwrap_or (cond b None (finite.get bag q)) 0 ≡ cond b n (count_of bag q)
-    by_none true e = sym e
-    by_none false e = refl
-
-    by_some : (b : Bool) → unwrap_or (cond b (Some n) (finite.get bag q)) 0 ≡ cond b n (count_of bag q)
-    by_some true = refl
-    by_some false = refl
+count_set bag a q n = grind (arith, finite.get-remove atom_cmp_total bag a q, finite.get-insert atom_cmp_total bag a n q)
 
 pub count_set_own : (bag : Multiset) (a : AtomTree) (n : ℕ) → count_of (with_count bag a n) a ≡ n
-count_set_own bag a n = count_set bag a a n ∙ ap (λ r. cond (is_eq r) n (count_of bag a)) (tied_itself atom_cmp_total a)
-
-not_tied : (a q : AtomTree) → q ≢ a → eq_by_cmp atom_cmp q a ≡ false
-not_tied a q apart = by (atom_cmp q a) refl
-  where
-    by : (r : Ordering) → atom_cmp q a ≡ r → is_eq r ≡ false
-    by Less e = refl
-    by Equal e = absurd (apart (atom_cmp_ties q a e))
-    by Greater e = refl
+count_set_own bag a n = grind (arith, count_set bag a a n, tied_itself atom_cmp_total a)
 
 pub count_set_other : (bag : Multiset) (a q : AtomTree) (n : ℕ) → q ≢ a → count_of (with_count bag a n) q ≡ count_of bag q
-count_set_other bag a q n apart = count_set bag a q n ∙ ap (λ b. cond b n (count_of bag q)) (not_tied a q apart)
+count_set_other bag a q n apart = grind (arith, count_set bag a q n, atom_cmp_ties q a)
 
 -- the multiset without atoms has no copy of any
 pub count_empty : (q : AtomTree) → count_of finite.empty q ≡ 0
@@ -81,7 +57,10 @@ pub nodes_empty : nodes_in_all finite.empty ≡ 0
 nodes_empty = ap (λ es. sum_by (λ e. e.1 * atom_nodes e.0) es) entries_empty
 
 pub bag_empty : IsBag finite.empty
-bag_empty = subst (AllByRecursion IsEntry) (sym entries_empty) tt
+bag_empty = rw entries_empty tt
+
+pub bag_set_count : (bag : Multiset) (a : AtomTree) (n : ℕ) → IsGroundAtom a → IsBag bag → IsBag (with_count bag a n)
+bag_set_count bag a n known kept = rw (entries_set bag a n) (each_set (finite.entries bag) a n known kept)
 
 -- a fold that sets the count of each entry's atom by a rule sets it once, for an entry
 module _ (rule : ℕ → ℕ → ℕ) (unchanged : (n : ℕ) → rule n 0 ≡ n) where
@@ -90,36 +69,19 @@ module _ (rule : ℕ → ℕ → ℕ) (unchanged : (n : ℕ) → rule n 0 ≡ n)
 
   pub count_each : (es : List Counted) (bag : Multiset) (q : AtomTree) → IsRising es → count_of (each_by es bag) q ≡ rule (count_of bag q) (find_count es q)
   count_each [] bag q rising = sym (unchanged (count_of bag q))
-  count_each (e ∷ es) bag q rising =
-      let next = with_count bag e.0 (rule (count_of bag e.0) e.1) in
-      count_each es next q (rest_rises e es rising) ∙ by (atom_cmp q e.0) refl
-    where
-      by : (r : Ordering) → atom_cmp q e.0 ≡ r → rule (count_of (with_count bag e.0 (rule (count_of bag e.0) e.1)) q) (find_count es q) ≡ rule (count_of bag q) (unwrap_or (cond (is_eq r) (Some e.1) (find atom_cmp q es)) 0)
-      by Less p = ap (λ n. rule n (find_count es q)) (count_set bag e.0 q _ ∙ ap (λ r. cond (is_eq r) (rule (count_of bag e.0) e.1) (count_of bag q)) p)
-      by Greater p = ap (λ n. rule n (find_count es q)) (count_set bag e.0 q _ ∙ ap (λ r. cond (is_eq r) (rule (count_of bag e.0) e.1) (count_of bag q)) p)
-      by Equal p =
-          let atoms = atom_cmp_ties q e.0 p in
-          let none : find_count es q ≡ 0 = ap (λ o. unwrap_or o 0) (find_below q es (subst (λ b. below_all atom_cmp b es ≡ true) (sym atoms) (below_rest e es rising))) in
-          ap (λ n. rule n (find_count es q)) (count_set bag e.0 q _ ∙ ap (λ r. cond (is_eq r) (rule (count_of bag e.0) e.1) (count_of bag q)) p)
-          ∙ ap (rule (rule (count_of bag e.0) e.1)) none ∙ unchanged _ ∙ ap (λ b. rule (count_of bag b) e.1) (sym atoms)
+  count_each (e ∷ es) bag q rising = grind (arith, count_each es (with_count bag e.0 (rule (count_of bag e.0) e.1)) q (rest_sorted atom_cmp e es rising), count_set bag e.0 q (rule (count_of bag e.0) e.1), atom_cmp_ties q e.0, below_rest atom_cmp e es rising, find_below atom_cmp q es, unchanged)
 
   -- ground atoms with copies stay such
   pub bag_each : (es : List Counted) (bag : Multiset) → AllByRecursion IsEntry es → IsBag bag → IsBag (each_by es bag)
   bag_each [] bag all kept = kept
-  bag_each (e ∷ es) bag all kept = bag_each es _ all.1 (bag_with_count bag e.0 (rule (count_of bag e.0) e.1) all.0.1 kept)
-    where
-      bag_with_count : (b : Multiset) (a : AtomTree) (n : ℕ) → IsGroundAtom a → IsBag b → IsBag (with_count b a n)
-      bag_with_count b a n known ok = subst (AllByRecursion IsEntry) (sym (entries_set b a n)) (each_set (finite.entries b) a n known ok)
-
-pub bag_set_count : (bag : Multiset) (a : AtomTree) (n : ℕ) → IsGroundAtom a → IsBag bag → IsBag (with_count bag a n)
-bag_set_count bag a n known kept = subst (AllByRecursion IsEntry) (sym (entries_set bag a n)) (each_set (finite.entries bag) a n known kept)
+  bag_each (e ∷ es) bag all kept = bag_each es _ all.1 (bag_set_count bag e.0 (rule (count_of bag e.0) e.1) all.0.1 kept)
 
 -- the counts of a sum and of a difference
 pub count_sum : (bag other : Multiset) (q : AtomTree) → count_of (sum_of bag other) q ≡ count_of bag q + count_of other q
-count_sum bag other q = count_each (λ n m. n + m) (λ n. omega arith) (finite.entries other) bag q (entries_rise other) ∙ ap (λ n. count_of bag q + n) (count_among_entries other q)
+count_sum bag other q = rw (← count_among_entries other q) (count_each (λ n m. n + m) (λ n. omega arith) (finite.entries other) bag q (entries_rise other))
 
 pub count_difference : (bag other : Multiset) (q : AtomTree) → count_of (difference_of bag other) q ≡ count_of bag q - count_of other q
-count_difference bag other q = count_each (λ n m. n - m) (λ n. omega arith) (finite.entries other) bag q (entries_rise other) ∙ ap (λ n. count_of bag q - n) (count_among_entries other q)
+count_difference bag other q = rw (← count_among_entries other q) (count_each (λ n m. n - m) (λ n. omega arith) (finite.entries other) bag q (entries_rise other))
 
 pub bag_sum : (bag other : Multiset) → IsBag bag → IsBag other → IsBag (sum_of bag other)
 bag_sum bag other kept others = bag_each (λ n m. n + m) (λ n. omega arith) (finite.entries other) bag others kept
@@ -130,18 +92,11 @@ bag_difference bag other kept others = bag_each (λ n m. n - m) (λ n. omega ari
 -- a count that is found is not 0
 found_some : (es : List Counted) (q : AtomTree) (n : ℕ) → AllByRecursion IsEntry es → find atom_cmp q es ≡ Some n → 0 < n
 found_some [] q n all e = cc
-found_some (e ∷ es) q n all found =
-    elim (eq_by_cmp atom_cmp q e.0) as (λ b. cond b (Some e.1) (find atom_cmp q es) ≡ Some n → 0 < n) [
-      | true ↦ λ h. let same : e.1 ≡ n = cc in subst (λ m. 0 < m) same all.0.0
-      | false ↦ λ h. found_some es q n all.1 h
-    ] found
+found_some (e ∷ es) q n all found = grind (arith, found_some es q n all.1)
 
 -- so multisets of ground atoms with copies are equal where their counts are
 same_found : (x y : Option ℕ) → ((n : ℕ) → x ≡ Some n → 0 < n) → ((n : ℕ) → y ≡ Some n → 0 < n) → unwrap_or x 0 ≡ unwrap_or y 0 → x ≡ y
-same_found None None f g e = refl
-same_found None (Some m) f g e = let some = g m refl in absurd (omega arith)
-same_found (Some n) None f g e = let some = f n refl in absurd (omega arith)
-same_found (Some n) (Some m) f g e = ap Some e
+same_found x y f g e = grind arith
 
 pub same_counts : (bag other : Multiset) → IsBag bag → IsBag other → ((q : AtomTree) → count_of bag q ≡ count_of other q) → bag ≡ other
 same_counts bag other kept others same = finite.same_map atom_cmp_total atom_cmp_ties bag other (λ q.
@@ -210,21 +165,7 @@ sum_with_one bag other a known kept others =
     let more = with_one bag a in
     let all = sum_of bag other in
     same_counts _ _ (bag_sum more other (bag_set_count bag a (count_of bag a + 1) known kept) others) (bag_set_count all a (count_of all a + 1) known (bag_sum bag other kept others)) (λ q.
-    count_sum more other q ∙ ap (λ n. n + count_of other q) (count_set bag a q (count_of bag a + 1))
-    ∙ by q (eq_by_cmp atom_cmp q a) refl
-    ∙ sym (count_set all a q (count_of all a + 1)))
-  where
-    tied_atoms : (q : AtomTree) → eq_by_cmp atom_cmp q a ≡ true → q ≡ a
-    tied_atoms q e = from (atom_cmp q a) refl e
-      where
-        from : (r : Ordering) → atom_cmp q a ≡ r → is_eq r ≡ true → q ≡ a
-        from Less p h = cc
-        from Equal p h = atom_cmp_ties q a p
-        from Greater p h = cc
-
-    by : (q : AtomTree) (b : Bool) → eq_by_cmp atom_cmp q a ≡ b → cond b (count_of bag a + 1) (count_of bag q) + count_of other q ≡ cond b (count_of (sum_of bag other) a + 1) (count_of (sum_of bag other) q)
-    by q true e = let same = tied_atoms q e in omega (arith, count_sum bag other a, ap (λ z. count_of other z) same)
-    by q false e = sym (count_sum bag other q)
+    grind (arith, count_sum more other q, count_sum bag other a, count_sum bag other q, count_set bag a q (count_of bag a + 1), count_set all a q (count_of all a + 1), atom_cmp_ties q a))
 
 -- the multiset of a list of ground atoms, and of two lists together
 pub bag_gathered : (atoms : List AtomTree) → AllByRecursion IsGroundAtom atoms → IsBag (gathered atoms)

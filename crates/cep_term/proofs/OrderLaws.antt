@@ -1,5 +1,5 @@
 -- The order of trees is total, and only equal trees tie.
-use Rattle.std.proofs.Common.{◌≡◌, ℕ, List, [], Bool, true, false, IsTrue, ◌↔◌, refl, sym, ap, subst, ◌∙◌}
+use Rattle.std.proofs.Common.{◌≡◌, ◌≢◌, ◌⊎◌, inl, inr, ℕ, List, [], Bool, true, false, IsTrue, ◌↔◌, refl, sym, ap, subst, ◌∙◌, arith}
 use Rattle.std.specs.declared.cmp.Ordering.{Ordering}
 use Rattle.std.specs.declared.cmp.Ordering.TheVariants.{Less, Equal, Greater}
 use Rattle.std.specs.Ordering.{nat_cmp, ordering_then, is_eq}
@@ -60,3 +60,15 @@ same_by_cmp a b Equal true e f = (λ h. atom_cmp_ties a b (sym e), λ same. refl
 same_by_cmp a b Equal false e f = cc
 same_by_cmp a b Less true e f = cc
 same_by_cmp a b Greater true e f = cc
+
+-- two atoms are one or not
+pub atoms_apart : (a b : AtomTree) → (a ≡ b) ⊎ (a ≢ b)
+atoms_apart a b = by (atom_cmp a b) refl
+  where
+    differ : (r : Ordering) → atom_cmp a b ≡ r → is_eq r ≡ false → (a ≡ b) ⊎ (a ≢ b)
+    differ r e other = inr (λ same. grind (arith, tied_itself atom_cmp_total a))
+
+    by : (r : Ordering) → atom_cmp a b ≡ r → (a ≡ b) ⊎ (a ≢ b)
+    by Equal e = inl (atom_cmp_ties a b e)
+    by Less e = differ Less e refl
+    by Greater e = differ Greater e refl

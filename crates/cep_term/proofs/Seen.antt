@@ -1,20 +1,18 @@
 -- What the entries of a bag say of the multiset that they stand for.
-use Rattle.std.proofs.Common.{◌≡◌, ℕ, zero, suc, ◌+◌, ◌-◌, ◌<◌, ◌≤◌, Bool, true, false, cond, ◌==◌, List, [], ◌∷◌, length, map, get_or, Some, unwrap_or, ◌↔◌, refl, sym, ap, subst, ◌∙◌, arith}
+use Rattle.std.proofs.Common.{◌≡◌, ℕ, zero, suc, ◌+◌, ◌-◌, ◌<◌, ◌≤◌, Bool, true, false, ◌==◌, List, [], ◌∷◌, length, map, get_or, Some, unwrap_or, ◌↔◌, refl, sym, ap, subst, ◌∙◌, arith}
 use Rattle.std.specs.Prelude.{slice_get}
 use Rattle.std.proofs.lemmas.Bool.{eqb-true, eq-eqb}
 use Rattle.std.specs.List.{AllByRecursion}
-use Rattle.std.specs.declared.cmp.Ordering.TheVariants.{Less, Equal, Greater}
-use Rattle.std.specs.Ordering.{is_eq}
+use Rattle.std.proofs.lemmas.Option.{slice_get-map, slice_get-get_or}
 use Rattle.std.specs.Cmp.{tied_itself}
 use Rattle.std.specs.FinMap as finite
-use Rattle.std.specs.FinMap.Entries.{find, below_all}
+use Rattle.cep_base.proofs.SortedEntries.{below_rest, rest_sorted, find_below}
 use Rattle.cep_term.specs.Tree.{AtomTree, IsGroundAtom}
 use Rattle.cep_term.specs.Order.{atom_cmp}
 use Rattle.cep_term.specs.Multiset.{Multiset, count_of, with_count, copies_in, IsContained, IsBag, IsEntry}
 use Rattle.cep_term.specs.Entries.{IsRising, AreKept, find_count, set_among}
 use Rattle.cep_term.proofs.OrderLaws.{atom_cmp_total, atom_cmp_ties}
-use Rattle.cep_term.proofs.Places.{Counted, below_rest, rest_rises}
-use Rattle.cep_term.proofs.Edits.{total, total-cons, total_set, rising_set, each_set, bag_set, entries_rising, get_rising, find_below}
+use Rattle.cep_term.proofs.Edits.{Counted, total, total-cons, total_set, rising_set, each_set, bag_set, entries_rising, get_rising}
 
 module _ (es : List Counted) (bag : Multiset) (rising : IsRising es) (seen : finite.from_sorted es ≡ bag) where
   pub entries_seen : finite.entries bag ≡ es
@@ -37,12 +35,7 @@ module _ (es : List Counted) (bag : Multiset) (rising : IsRising es) (seen : fin
   set_seen a n m edited is same = ap (λ z. finite.from_sorted z) is ∙ bag_set es a n rising ∙ ap (λ z. with_count z a n) seen ∙ ap (with_count bag a) same
 
   pub get_seen : {E : Type 0} (f : E → Counted) (xs : List E) (i : ℕ) (x : E) → es ≡ map f xs → i < length xs → x ≡ get_or xs i x → slice_get (finite.entries bag) i ≡ Some (f x)
-  get_seen f xs i x is lt at = ap (λ z. slice_get z i) (entries_seen ∙ is) ∙ by xs i x lt at
-    where
-      by : (ys : List _) (j : ℕ) (y : _) → j < length ys → y ≡ get_or ys j y → slice_get (map f ys) j ≡ Some (f y)
-      by [] j y l e = absurd (omega arith)
-      by (z ∷ ys) zero y l e = ap (λ w. Some (f w)) (sym e)
-      by (z ∷ ys) (suc j) y l e = by ys j y (omega arith) e
+  get_seen f xs i x is lt at = rw (entries_seen, is, slice_get-map f xs i, slice_get-get_or xs i x lt, ← at) refl
 
 -- what always holds of the entries holds after an edit, where the copies are counted along
 pub kept_set : (es edited : List Counted) (a : AtomTree) (n copies new : ℕ) → AreKept es copies → IsGroundAtom a → edited ≡ set_among es a n → new + find_count es a ≡ copies + n → AreKept edited new
@@ -62,12 +55,7 @@ empty_seen = finite.empty_of_len (finite.from_sorted no_entries) (finite.len-ent
 -- an atom that is there is ground
 pub ground_there : (es : List Counted) (a : AtomTree) → AllByRecursion IsEntry es → ¬ (find_count es a ≡ 0) → IsGroundAtom a
 ground_there [] a all there = absurd (there refl)
-ground_there (e ∷ es) a all there =
-    elim (atom_cmp a e.0) as (λ r. atom_cmp a e.0 ≡ r → ¬ (unwrap_or (cond (is_eq r) (Some e.1) (find atom_cmp a es)) 0 ≡ 0) → IsGroundAtom a) [
-      | Less ↦ λ _ more. ground_there es a all.1 more
-      | Equal ↦ λ same more. subst IsGroundAtom (sym (atom_cmp_ties a e.0 same)) all.0.1
-      | Greater ↦ λ _ more. ground_there es a all.1 more
-    ] refl there
+ground_there (e ∷ es) a all there = grind (arith, ground_there es a all.1, atom_cmp_ties a e.0)
 
 -- there is no entry exactly in the empty multiset
 pub empty_seen_back : (es : List Counted) (bag : Multiset) (n : ℕ) (result : Bool) → IsRising es → finite.from_sorted es ≡ bag → n ≡ length es → result ≡ (n == 0) → (result ≡ true) ↔ (bag ≡ finite.empty)
@@ -86,29 +74,17 @@ all_at P f (y ∷ xs) (suc i) x all lt is = all_at P f xs i x all.1 (omega arith
 -- the counts of a list are at most others where each entry's is
 counts_from_entries : (others : List Counted) (count : AtomTree → ℕ) (a : AtomTree) → AllByRecursion (λ e. e.1 ≤ count e.0) others → find_count others a ≤ count a
 counts_from_entries [] count a all = omega arith
-counts_from_entries (e ∷ others) count a all =
-    elim (atom_cmp a e.0) as (λ r. atom_cmp a e.0 ≡ r → unwrap_or (cond (is_eq r) (Some e.1) (find atom_cmp a others)) 0 ≤ count a) [
-      | Less ↦ λ _. counts_from_entries others count a all.1
-      | Equal ↦ λ same. subst (λ b. e.1 ≤ count b) (sym (atom_cmp_ties a e.0 same)) all.0
-      | Greater ↦ λ _. counts_from_entries others count a all.1
-    ] refl
+counts_from_entries (e ∷ others) count a all = grind (arith, counts_from_entries others count a all.1, atom_cmp_ties a e.0)
 
 -- a longer list has each count of the rest, or more
 rest_counts : (e : Counted) (others : List Counted) (a : AtomTree) → IsRising (e ∷ others) → find_count others a ≤ find_count (e ∷ others) a
-rest_counts e others a rising =
-    elim (atom_cmp a e.0) as (λ r. atom_cmp a e.0 ≡ r → find_count others a ≤ unwrap_or (cond (is_eq r) (Some e.1) (find atom_cmp a others)) 0) [
-      | Less ↦ λ _. omega arith
-      | Equal ↦ λ same.
-          let none : find_count others a ≡ 0 = ap (λ o. unwrap_or o 0) (find_below a others (subst (λ b. below_all atom_cmp b others ≡ true) (sym (atom_cmp_ties a e.0 same)) (below_rest e others rising))) in
-          omega (arith, none)
-      | Greater ↦ λ _. omega arith
-    ] refl
+rest_counts e others a rising = grind (arith, atom_cmp_ties a e.0, below_rest atom_cmp e others rising, find_below atom_cmp a others)
 
 entries_from_counts : (others : List Counted) (count : AtomTree → ℕ) → IsRising others → ((a : AtomTree) → find_count others a ≤ count a) → AllByRecursion (λ e. e.1 ≤ count e.0) others
 entries_from_counts [] count rising all = tt
 entries_from_counts (e ∷ others) count rising all =
-    let first : find_count (e ∷ others) e.0 ≡ e.1 = ap (λ r. unwrap_or (cond (is_eq r) (Some e.1) (find atom_cmp e.0 others)) 0) (tied_itself atom_cmp_total e.0) in
-    (omega (arith, all e.0, first), entries_from_counts others count (rest_rises e others rising) (λ a. omega (arith, rest_counts e others a rising, all a)))
+    let first : find_count (e ∷ others) e.0 ≡ e.1 = grind (arith, tied_itself atom_cmp_total e.0) in
+    (omega (arith, all e.0, first), entries_from_counts others count (rest_sorted atom_cmp e others rising) (λ a. omega (arith, rest_counts e others a rising, all a)))
 
 -- so one bag is contained in another exactly where the other's entries have no greater count
 pub contained_seen : (result : Bool) (es others : List Counted) (bag other : Multiset) → IsRising es → IsRising others → finite.from_sorted es ≡ bag → finite.from_sorted others ≡ other
@@ -126,12 +102,7 @@ some_copy_there (suc n) is = omega arith
 -- no count is above the sum of them all
 pub count_le_total : (es : List Counted) (a : AtomTree) → find_count es a ≤ total es
 count_le_total [] a = omega arith
-count_le_total (e ∷ es) a =
-    elim (atom_cmp a e.0) as (λ r. unwrap_or (cond (is_eq r) (Some e.1) (find atom_cmp a es)) 0 ≤ total (e ∷ es)) [
-      | Less ↦ omega (arith, total-cons e es, count_le_total es a)
-      | Equal ↦ omega (arith, total-cons e es)
-      | Greater ↦ omega (arith, total-cons e es, count_le_total es a)
-    ]
+count_le_total (e ∷ es) a = grind (arith, total-cons e es, count_le_total es a)
 
 pub some_copy : (es : List Counted) (a : AtomTree) (copies : ℕ) → AreKept es copies → (false ≡ true) ↔ (find_count es a ≡ 0) → 1 ≤ copies
 some_copy es a copies kept is = omega (arith, some_copy_there (find_count es a) is, count_le_total es a, kept.counted)

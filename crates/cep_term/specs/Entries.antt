@@ -1,10 +1,10 @@
 -- Lists of entries, each an atom with its count, on which a bag stands: what they stand for, their edits, and the places of atoms among them.
-use Rattle.std.specs.Prelude.{◌≡◌, ℕ, zero, suc, ◌+◌, ◌-◌, ◌≤◌, ◌==◌, if◌then◌else◌, List, [], ◌∷◌, map, sum_by, unwrap_or, true, not}
+use Rattle.std.specs.Prelude.{◌≡◌, ℕ, ◌+◌, ◌-◌, ◌≤◌, ◌==◌, if◌then◌else◌, List, map, sum_by, unwrap_or, true, not}
 use Rattle.std.specs.List.{AllByRecursion}
-use Rattle.std.specs.declared.cmp.Ordering.TheVariants.{Less, Greater}
 use Rattle.std.specs.Ordering.{eq_by_cmp}
 use Rattle.std.specs.FinMap as finite
 use Rattle.std.specs.FinMap.Entries.{put, where_key}
+use Rattle.cep_base.specs.Sorted.{IsPlaceOf, IsGapOf}
 use Rattle.cep_term.specs.declared.entries.Entry.{Entry}
 use Rattle.cep_term.specs.Tree.{AtomTree, atom_of}
 use Rattle.cep_term.specs.Order.{atom_cmp}
@@ -18,11 +18,11 @@ entry_of e = (atom_of e.atom.value, e.count)
 abbrev pub entries_of : List Entry → List (AtomTree × ℕ)
 entries_of entries = map entry_of entries
 
--- the multiset of a list of entries whose atoms rise
+-- the multiset of a list of entries with increasing atoms
 abbrev pub bag_of : List Entry → Multiset
 bag_of entries = finite.from_sorted (entries_of entries)
 
--- The entries' atoms rise.
+-- The entries' atoms are strictly increasing.
 abbrev pub IsRising : List (AtomTree × ℕ) → Type 0
 IsRising entries = finite.is_sorted atom_cmp entries ≡ true
 
@@ -45,21 +45,15 @@ one_less_among entries a = set_among entries a (find_count entries a - 1)
 abbrev pub AreCovered : List (AtomTree × ℕ) → List (AtomTree × ℕ) → Type 0
 AreCovered few many = AllByRecursion (λ e. e.1 ≤ find_count many e.0) few
 
--- What holds of the entries of a bag: they rise, each is of a ground atom and has a copy, and the copies are as many as this.
+-- What holds of the entries of a bag: their atoms increase, each is of a ground atom and has a copy, and the copies are as many as this.
 pub record AreKept (entries : List (AtomTree × ℕ)) (copies : ℕ) : Type 0 where
   pub rising : IsRising entries
   pub each : AllByRecursion IsEntry entries
   pub counted : sum_by (λ e. e.1) entries ≡ copies
 
--- The entry at this place is the atom's, and those before it are of lesser atoms.
+-- The entry at this place is the atom's; and the atom has no entry and would go here.
 abbrev pub IsAt : List (AtomTree × ℕ) → AtomTree → ℕ → Type 0
-IsAt [] a i = ⊥
-IsAt (e ∷ entries) a zero = e.0 ≡ a
-IsAt (e ∷ entries) a (suc i) = (atom_cmp e.0 a ≡ Less) × IsAt entries a i
+IsAt = IsPlaceOf (λ e. e.0) atom_cmp
 
--- The atom has no entry and would go here: those before are of lesser atoms, and the next is of a greater one.
 abbrev pub IsGapFor : List (AtomTree × ℕ) → AtomTree → ℕ → Type 0
-IsGapFor [] a zero = Unit {0}
-IsGapFor [] a (suc i) = ⊥
-IsGapFor (e ∷ entries) a zero = atom_cmp e.0 a ≡ Greater
-IsGapFor (e ∷ entries) a (suc i) = (atom_cmp e.0 a ≡ Less) × IsGapFor entries a i
+IsGapFor = IsGapOf (λ e. e.0) atom_cmp

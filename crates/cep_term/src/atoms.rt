@@ -63,7 +63,7 @@ impl AtomList {
         self.atoms.as_slice()
     }
 
-    /// Adds an atom at the end. After want of memory the list is as before, and the atom is gone.
+    /// Adds an atom at the end. After out of memory the list is as before, and the atom is gone.
     pub fn push(&mut self, atom: Atom) -> Result<(), AllocError>
         ensures ok { OnOk result (self.new ≡ self.old ++ atom_of atom ∷ []) }
         ensures err { OnErr result (self.new ≡ self.old) }

@@ -48,7 +48,7 @@ impl Bag {
         }
     }
 
-    /// The multiset of a list of ground atoms. Only want of memory is refused.
+    /// The multiset of a list of ground atoms. Only out of memory is refused.
     pub fn of(alloc: Global, atoms: &AtomList) -> Result<Bag, AllocError>
         requires known { AllByRecursion IsGroundAtom atoms.now }
         requires few { length atoms.now < 2 ^ 32 }
@@ -59,14 +59,14 @@ impl Bag {
         Ok(bag)
     }
 
-    /// How many copies of the atom there are: 0 where it is not there. It takes no memory.
+    /// How many copies of the atom there are: 0 if it is not there. It takes no memory.
     pub fn count(&self, a: &Atom) -> u32
         ensures { result ≡ count_of self.now (atom_of a.now) }
     {
         count_among(&self.entries, a)
     }
 
-    /// Adds one copy of a ground atom. After want of memory the bag is as before.
+    /// Adds one copy of a ground atom. After out of memory the bag is as before.
     pub fn add(&mut self, a: &Atom) -> Result<(), AllocError>
         requires known { IsGroundAtom (atom_of a.now) }
         requires few { count_of self.old (atom_of a.now) < 2 ^ 32 - 1 }
@@ -79,7 +79,7 @@ impl Bag {
         Ok(())
     }
 
-    /// Adds a list of ground atoms, one after another. After want of memory a front of the list is
+    /// Adds a list of ground atoms, one after another. After out of memory a prefix of the list is
     /// added.
     pub fn add_all(&mut self, atoms: &AtomList) -> Result<(), AllocError>
         requires known { AllByRecursion IsGroundAtom atoms.now }
@@ -94,7 +94,7 @@ impl Bag {
         Ok(())
     }
 
-    /// Takes one copy of the atom. `Missing` comes exactly where there is none, and then nothing
+    /// Takes one copy of the atom. `Missing` comes if and only if there is none, and then nothing
     /// changes. It takes no memory.
     pub fn take(&mut self, a: &Atom) -> Result<(), Missing>
         ensures missing { IsErr result ↔ (count_of self.old (atom_of a.now) ≡ 0) }
@@ -121,11 +121,12 @@ impl Bag {
         }
     }
 
-    // Takes so many copies of the atom, or all where there are fewer.
+    // Takes so many copies of the atom, or all if there are fewer.
     fn take_copies(&mut self, atom: &Atom, copies: u32)
         requires known { IsGroundAtom (atom_of atom.now) }
         requires kept { IsBag self.old }
-        ensures { self.new ≡ with_count self.old (atom_of atom.now) (count_of self.old (atom_of atom.now) - copies) }
+        ensures { self.new ≡ with_count self.old
+            (atom_of atom.now) (count_of self.old (atom_of atom.now) - copies) }
     {
         for _taken in 0..copies {
             let _ = self.take(atom);
@@ -154,7 +155,7 @@ impl Bag {
         self.copies
     }
 
-    /// A bag with the same counts. Only want of memory is refused.
+    /// A bag with the same counts. Only out of memory is refused.
     pub fn copy(&self, alloc: Global) -> Result<Bag, AllocError>
         ensures { IfOk result (λ bag. bag ≡ self.now) }
     {

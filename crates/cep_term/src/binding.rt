@@ -49,7 +49,7 @@ impl Binding {
         Binding { values }
     }
 
-    /// The same values once more. Only want of memory is refused.
+    /// The same values again. Only out of memory is refused.
     pub fn copy(&self, alloc: Global) -> Result<Binding, AllocError>
         ensures { IfOk result (λ binding. binding ≡ self.now) }
     {
@@ -74,7 +74,7 @@ impl Binding {
         self.values.as_slice()
     }
 
-    /// The value of the variable, and `None` exactly where it has none. It takes no memory.
+    /// The value of the variable, and `None` if and only if it has none. It takes no memory.
     pub fn get(&self, v: u32) -> Option<&Term>
         requires { v < length self.now }
         ensures value { option_map (λ t. tree_of t.now) result ≡ value_of self.now v }
@@ -93,7 +93,7 @@ impl Binding {
     }
 }
 
-// The same values once more.
+// The same values again.
 fn copy_values(alloc: Global, values: &[Option<Term>]) -> Result<Vec<Option<Term>>, AllocError>
     ensures { IfOk result (λ copies. values_of copies.items ≡ values_of values.now) }
 {
@@ -104,7 +104,7 @@ fn copy_values(alloc: Global, values: &[Option<Term>]) -> Result<Vec<Option<Term
     Ok(copies)
 }
 
-// The same value once more, where there is one.
+// The same value again, if there is one.
 fn copy_value(alloc: Global, value: &Option<Term>) -> Result<Option<Term>, AllocError>
     ensures { IfOk result (λ copy. option_map tree_of copy ≡ option_map tree_of value.now) }
 {
@@ -115,10 +115,11 @@ fn copy_value(alloc: Global, value: &Option<Term>) -> Result<Option<Term>, Alloc
 }
 
 /// The pattern with each variable replaced by its value, as Ceptre's rules are instantiated. A
-/// variable without a value stays. Only want of memory is refused.
+/// variable without a value stays. Only out of memory is refused.
 pub fn apply(alloc: Global, pattern: &Atom, values: &Binding) -> Result<Atom, AllocError>
     ensures value { IfOk result (λ a. atom_of a ≡ atom_instance values.now (atom_of pattern.now)) }
-    ensures known { HasValues values.now (atom_of pattern.now) → IfOk result (λ a. IsGroundAtom (atom_of a)) }
+    ensures known { HasValues values.now (atom_of pattern.now)
+        → IfOk result (λ a. IsGroundAtom (atom_of a)) }
 {
     Ok(Atom {
         pred: pattern.pred,
@@ -129,7 +130,8 @@ pub fn apply(alloc: Global, pattern: &Atom, values: &Binding) -> Result<Atom, Al
 // The term with each variable that has a value replaced by it.
 #[cycle(under)]
 fn term_under(alloc: Global, t: &Term, values: &[Option<Term>]) -> Result<Term, AllocError>
-    ensures { IfOk result (λ other. tree_of other ≡ term_instance (values_of values.now) (tree_of t.now)) }
+    ensures { IfOk result
+        (λ other. tree_of other ≡ term_instance (values_of values.now) (tree_of t.now)) }
 {
     match t {
         Term::Var(v) => match values.get(*v as usize) {
@@ -146,7 +148,8 @@ fn term_under(alloc: Global, t: &Term, values: &[Option<Term>]) -> Result<Term, 
 // The arguments with each variable that has a value replaced by it.
 #[cycle(under)]
 fn args_under(alloc: Global, args: &Args, values: &[Option<Term>]) -> Result<Args, AllocError>
-    ensures { IfOk result (λ others. trees_of others ≡ argument_instances (values_of values.now) (trees_of args.now)) }
+    ensures { IfOk result (λ others. trees_of others
+        ≡ argument_instances (values_of values.now) (trees_of args.now)) }
 {
     match args {
         Args::Nil => Ok(Args::Nil),

@@ -13,7 +13,7 @@ pub fn same(a: &Atom, b: &Atom) -> bool
 }
 
 /// Compares two atoms by their predicate's number and then by their arguments from left to right;
-/// where one list of arguments ends first, it is less. The order is this profile's. It is of ground
+/// if one list of arguments ends first, it is less. The order is this profile's. It is of ground
 /// atoms; among others a variable stands before each other term. It takes no memory.
 pub fn order(a: &Atom, b: &Atom) -> Ordering
     ensures { result ≡ atom_cmp (atom_of a.now) (atom_of b.now) }

@@ -4,7 +4,7 @@ ghost use Rattle.cep_term.specs.Tree.{atom_of, tree_of, trees_of};
 use crate::term::{Args, Atom, Term};
 use std::alloc::{AllocError, Global};
 
-/// An atom that is the same tree. Only want of memory is refused.
+/// An atom that is the same tree. Only out of memory is refused.
 pub fn copy(alloc: Global, a: &Atom) -> Result<Atom, AllocError>
     ensures { IfOk result (λ other. atom_of other ≡ atom_of a.now) }
 {
@@ -14,7 +14,7 @@ pub fn copy(alloc: Global, a: &Atom) -> Result<Atom, AllocError>
     })
 }
 
-/// A term that is the same tree. Only want of memory is refused.
+/// A term that is the same tree. Only out of memory is refused.
 #[cycle(copy)]
 pub fn copy_term(alloc: Global, t: &Term) -> Result<Term, AllocError>
     ensures { IfOk result (λ other. tree_of other ≡ tree_of t.now) }

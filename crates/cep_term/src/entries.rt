@@ -1,4 +1,4 @@
-// Lists of entries whose atoms rise.
+// Lists of entries with increasing atoms.
 ghost use Rattle.std.specs.Prelude.{◌≡◌, ◌-◌, ◌^◌, ◌<◌, ◌≤◌, ◌↔◌, length, IfOk, IfErr, OnOk, OnErr, IsErr, IsTrue};
 ghost use Rattle.std.specs.List.{AllByRecursion};
 ghost use Rattle.cep_term.specs.Tree.{atom_of};
@@ -11,7 +11,7 @@ use crate::copying::copy;
 use crate::term::Atom;
 use std::alloc::{AllocError, Global};
 
-/// The answer of `Bag::take` where the bag has no copy of the atom.
+/// The answer of `Bag::take` if the bag has no copy of the atom.
 #[derive(Clone, Copy, Debug, PartialEq, Eq)]
 pub struct Missing;
 
@@ -35,6 +35,7 @@ pub fn place(entries: &[Entry], a: &Atom) -> Result<usize, usize>
 }
 
 // How many copies of the atom there are.
+#[tactic(auto, using(crate::proofs::EntryEdits::one_more))]
 pub fn count_among(entries: &[Entry], a: &Atom) -> u32
     requires { IsRising (entries_of entries.now) }
     ensures { result ≡ find_count (entries_of entries.now) (atom_of a.now) }
@@ -46,10 +47,12 @@ pub fn count_among(entries: &[Entry], a: &Atom) -> u32
 }
 
 // Adds one copy of the atom.
+#[tactic(auto, using(crate::proofs::EntryEdits::one_more))]
 pub fn add_copy(alloc: Global, entries: &mut Vec<Entry>, a: &Atom) -> Result<(), AllocError>
     requires rising { IsRising (entries_of entries.old.items) }
     requires few { find_count (entries_of entries.old.items) (atom_of a.now) < 2 ^ 32 - 1 }
-    ensures ok { OnOk result (entries_of entries.new.items ≡ one_more_among (entries_of entries.old.items) (atom_of a.now)) }
+    ensures ok { OnOk result (entries_of entries.new.items
+        ≡ one_more_among (entries_of entries.old.items) (atom_of a.now)) }
     ensures err { OnErr result (entries_of entries.new.items ≡ entries_of entries.old.items) }
 {
     match place(entries, a) {
@@ -65,12 +68,15 @@ pub fn add_copy(alloc: Global, entries: &mut Vec<Entry>, a: &Atom) -> Result<(),
     }
 }
 
-// Takes one copy of the atom, or answers `Missing` where there is none.
+// Takes one copy of the atom, or answers `Missing` if there is none.
+#[tactic(auto, using(crate::proofs::EntryEdits::copies))]
 pub fn take_copy(entries: &mut Vec<Entry>, a: &Atom) -> Result<(), Missing>
     requires rising { IsRising (entries_of entries.old.items) }
     requires each { AllByRecursion IsEntry (entries_of entries.old.items) }
-    ensures missing { IsErr result ↔ (find_count (entries_of entries.old.items) (atom_of a.now) ≡ 0) }
-    ensures ok { OnOk result (entries_of entries.new.items ≡ one_less_among (entries_of entries.old.items) (atom_of a.now)) }
+    ensures missing { IsErr result ↔
+        (find_count (entries_of entries.old.items) (atom_of a.now) ≡ 0) }
+    ensures ok { OnOk result (entries_of entries.new.items
+        ≡ one_less_among (entries_of entries.old.items) (atom_of a.now)) }
     ensures err { OnErr result (entries_of entries.new.items ≡ entries_of entries.old.items) }
 {
     match place(entries, a) {

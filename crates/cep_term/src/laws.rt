@@ -23,7 +23,8 @@ pub fn instances_of_instances()
         → IsGroundAtom a
         → atom_instance values a ≡ a }
     ensures twice { (first next both : Values) (a : AtomTree)
-        → ((v : ℕ) → term_instance next (term_instance first (variable v)) ≡ term_instance both (variable v))
+        → ((v : ℕ) → term_instance next (term_instance first (variable v))
+        ≡ term_instance both (variable v))
         → atom_instance next (atom_instance first a) ≡ atom_instance both a }
     ensures later { (old new : Values) (a : AtomTree)
         → AreGroundValues old

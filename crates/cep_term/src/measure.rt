@@ -57,7 +57,7 @@ fn term_depth(t: &Term) -> u64
     }
 }
 
-// How many levels the deepest argument has, and 0 where there is none.
+// How many levels the deepest argument has, and 0 if there is none.
 #[cycle(depth)]
 fn args_depth(args: &Args) -> u64
     requires { argument_depth (trees_of args.now) < 2 ^ 64 }

@@ -63,7 +63,7 @@ impl Terms {
         self.terms.as_slice()
     }
 
-    /// Adds a term at the end. After want of memory the list is as before, and the term is gone.
+    /// Adds a term at the end. After out of memory the list is as before, and the term is gone.
     pub fn push(&mut self, term: Term) -> Result<(), AllocError>
         ensures ok { OnOk result (self.new ≡ self.old ++ tree_of term ∷ []) }
         ensures err { OnErr result (self.new ≡ self.old) }

@@ -1,22 +1,16 @@
-use Rattle.std.proofs.Common.{◌+◌, arith, ap}
+use Rattle.std.proofs.Common.{arith}
 use Rattle.cep_term.specs.Tree.{atom_of}
 use Rattle.cep_term.proofs.Seen.{count_seen, copies_seen, set_seen, kept_set}
 use Rattle.cep_term.proofs.bag.Bag.add.Goals as goal
 
 pub add_copy-requires-clause-few : goal.add_copy-requires-clause-few
-add_copy-requires-clause-few c =
-    let count = count_seen _ _ c.self.invariant.rising c.self.view_is (atom_of c.args.a.now) in
-    omega (arith, c.requires.few)
+add_copy-requires-clause-few c = grind (arith, count_seen)
 
 pub overflow_add-self : goal.overflow_add-self
-overflow_add-self c =
-    let all = copies_seen _ _ c.self.invariant.rising c.self.view_is in
-    omega (arith, c.requires.few_in_all, c.self.invariant.counted)
+overflow_add-self c = grind (arith, copies_seen)
 
 pub invariant_of-self-2 : goal.invariant_of-self-2
 invariant_of-self-2 c = kept_set _ _ (atom_of c.args.a.now) _ c.self.inside.copies _ c.self.invariant c.requires.known c.in_ok-add_copy.ensures.ok (omega arith)
 
 pub returns-clause-ok : goal.returns-clause-ok
-returns-clause-ok c =
-    let count = count_seen _ _ c.self.invariant.rising c.self.view_is (atom_of c.args.a.now) in
-    set_seen _ _ c.self.invariant.rising c.self.view_is (atom_of c.args.a.now) _ _ _ c.in_ok-add_copy.ensures.ok (ap (λ n. n + 1) count)
+returns-clause-ok c = grind (arith, count_seen, set_seen)
