@@ -1,34 +1,24 @@
 -- Of atoms that are added those that a state gains, one after another.
-use Rattle.std.proofs.Common.{◌≡◌, ℕ, zero, suc, ◌+◌, Bool, true, false, cond, ◌&&◌, not, List, [], ◌∷◌, ◌++◌, drop, Some, refl, sym, ap, ◌∙◌, arith, add-one, append_assoc}
+use Rattle.std.proofs.Common.{◌≡◌, ℕ, ◌+◌, Bool, true, false, cond, ◌&&◌, List, [], ◌∷◌, ◌++◌, drop, Some, sym, ap, ◌∙◌, arith, append_assoc}
 use Rattle.std.specs.Prelude.{slice_get, nat_lt}
 use Rattle.std.specs.FinMap as finite
-use Rattle.std.specs.Ordering.{eq_by_cmp}
-use Rattle.cep_base.proofs.Lists.{none_some, some_same}
+use Rattle.cep_base.proofs.Drops.{drop_at}
 use Rattle.cep_term.specs.Tree.{AtomTree}
-use Rattle.cep_term.specs.Order.{atom_cmp}
 use Rattle.cep_term.specs.BagLaws.{BagLaws}
 use Rattle.cep_term.specs.Multiset.{Multiset, count_of, with_one, sum_of, gained}
-use Rattle.cep_rule.proofs.Copies.{one_if, count_more}
-
-drop_first : (xs : List AtomTree) (n : ℕ) (a : AtomTree) → slice_get xs n ≡ Some a → drop n xs ≡ a ∷ drop (suc n) xs
-drop_first [] n a is = none_some a is
-drop_first (x ∷ xs) zero a is = ap (λ y. y ∷ xs) (some_same x a is)
-drop_first (x ∷ xs) (suc n) a is = drop_first xs n a is
-
-drop_next : (xs : List AtomTree) (n : ℕ) (a : AtomTree) → slice_get xs n ≡ Some a → drop n xs ≡ a ∷ drop (n + 1) xs
-drop_next xs n a is = drop_first xs n a is ∙ ap (λ m. a ∷ drop m xs) (sym (add-one n))
+use Rattle.cep_rule.proofs.Copies.{count_more}
 
 module _ (laws : BagLaws) (test : AtomTree → Bool) (state fresh : Multiset) (atoms list whole : List AtomTree) where
   pub none_yet : list ≡ [] → fresh ≡ finite.empty → gained test state atoms ≡ list ++ gained test (sum_of state fresh) atoms
   none_yet none empty =
       laws.gained_alike test state (sum_of state fresh) atoms
-      (λ a is. let sum = laws.sum state fresh a in let zero_ = ap (λ (bag : Multiset). count_of bag a) empty ∙ laws.empty a in omega arith)
+      (λ a is. omega (arith, laws.sum state fresh a, ap (λ (bag : Multiset). count_of bag a) empty, laws.empty a))
       ∙ ap (λ xs. xs ++ gained test (sum_of state fresh) atoms) (sym none)
 
   pub skipped : (n : ℕ) (a : AtomTree) → whole ≡ list ++ gained test (sum_of state fresh) (drop n atoms) → slice_get atoms n ≡ Some a → (test a && nat_lt 0 (count_of (sum_of state fresh) a)) ≡ true → whole ≡ list ++ gained test (sum_of state fresh) (drop (n + 1) atoms)
   skipped n a so_far is held =
       so_far
-      ∙ ap (λ xs. list ++ gained test (sum_of state fresh) xs) (drop_next atoms n a is)
+      ∙ ap (λ xs. list ++ gained test (sum_of state fresh) xs) (drop_at atoms n a is)
       ∙ ap (λ t. list ++ cond t (gained test (sum_of state fresh) (drop (n + 1) atoms)) (a ∷ gained test (with_one (sum_of state fresh) a) (drop (n + 1) atoms))) held
 
   pub taken : (n : ℕ) (a : AtomTree) (fresh' : Multiset) (list' : List AtomTree) → whole ≡ list ++ gained test (sum_of state fresh) (drop n atoms) → slice_get atoms n ≡ Some a → (test a && nat_lt 0 (count_of (sum_of state fresh) a)) ≡ false
@@ -36,7 +26,7 @@ module _ (laws : BagLaws) (test : AtomTree → Bool) (state fresh : Multiset) (a
       → whole ≡ list' ++ gained test (sum_of state fresh') (drop (n + 1) atoms)
   taken n a fresh' list' so_far is held more longer =
       so_far
-      ∙ ap (λ xs. list ++ gained test (sum_of state fresh) xs) (drop_next atoms n a is)
+      ∙ ap (λ xs. list ++ gained test (sum_of state fresh) xs) (drop_at atoms n a is)
       ∙ ap (λ t. list ++ cond t (gained test (sum_of state fresh) (drop (n + 1) atoms)) (a ∷ gained test (with_one (sum_of state fresh) a) (drop (n + 1) atoms))) held
       ∙ ap (λ xs. list ++ a ∷ xs) (laws.gained_alike test (with_one (sum_of state fresh) a) (sum_of state fresh') (drop (n + 1) atoms) alike)
       ∙ sym (append_assoc list (a ∷ []) (gained test (sum_of state fresh') (drop (n + 1) atoms)))
@@ -44,9 +34,4 @@ module _ (laws : BagLaws) (test : AtomTree → Bool) (state fresh : Multiset) (a
     where
       alike : (b : AtomTree) → test b ≡ true → count_of (with_one (sum_of state fresh) a) b ≡ count_of (sum_of state fresh') b
       alike b is' =
-          let one = count_more laws (sum_of state fresh) a b in
-          let sum = laws.sum state fresh b in
-          let sum' = laws.sum state fresh' b in
-          let here = more b is' in
-          let one' = count_more laws fresh a b in
-          omega arith
+          omega (arith, count_more laws (sum_of state fresh) a b, laws.sum state fresh b, laws.sum state fresh' b, more b is', count_more laws fresh a b)

@@ -1,5 +1,5 @@
 -- Where more positions are known, no more pairs are bad; and bad pairs are those that fail by the bad pairs.
-use Rattle.std.proofs.Common.{◌≡◌, inl, inr, ⊎_elim, ℕ, zero, suc, Bool, true, false, ◌&&◌, ◌||◌, List, [], ◌∷◌, refl}
+use Rattle.std.proofs.Common.{◌≡◌, arith, inl, inr, ⊎_elim, ℕ, zero, suc, Bool, true, false, ◌&&◌, ◌||◌, List, [], ◌∷◌, refl}
 use Rattle.cep_term.specs.Tree.{Tree, Trees, AtomTree, variable, node, none, more}
 use Rattle.cep_rule.specs.Patterns.{ClauseTree}
 use Rattle.cep_rule.specs.Groundness.{Known, is_known, are_known, occurs, positions_known, known_at, known_after, known_after_all, CallsAt, Calls, LeavesUnknown, SomeFails, IsBadInRound, IsBad}
@@ -10,22 +10,10 @@ abbrev IsWithin : Known → Known → Type 0
 IsWithin few many = (v : ℕ) → few v ≡ true → many v ≡ true
 
 and_within : (a b c d : Bool) → (a ≡ true → c ≡ true) → (b ≡ true → d ≡ true) → (a && b) ≡ true → (c && d) ≡ true
-and_within true true c d f g e = both c d (f refl) (g refl)
-  where
-    both : (c d : Bool) → c ≡ true → d ≡ true → (c && d) ≡ true
-    both true d p q = q
-    both false d p q = p
-and_within true false c d f g e = cc
-and_within false b c d f g e = cc
+and_within a b c d f g e = grind arith
 
 or_within : (a b c d : Bool) → (a ≡ true → c ≡ true) → (b ≡ true → d ≡ true) → (a || b) ≡ true → (c || d) ≡ true
-or_within true b c d f g e = first c d (f refl)
-  where
-    first : (c d : Bool) → c ≡ true → (c || d) ≡ true
-    first true d p = refl
-    first false d p = cc
-or_within false b true d f g e = refl
-or_within false b false d f g e = g e
+or_within a b c d f g e = grind arith
 
 mutual
   known_within : (few many : Known) → IsWithin few many → (t : Tree) → is_known few t ≡ true → is_known many t ≡ true
@@ -72,8 +60,7 @@ calls_within : (pairs : ℕ → Known → Type 0) → IsDownward pairs → (goal
 calls_within pairs down goals few many within calls = (calls.0, calls_at_within pairs down goals few many calls.0 within calls.1)
 
 not_known : (a b : Bool) → (a ≡ true → b ≡ true) → b ≡ false → a ≡ false
-not_known true b f e = let g : b ≡ true = f refl in cc
-not_known false b f e = refl
+not_known a b f e = grind arith
 
 leaves_within : (clause : ClauseTree) (few many : Known) → IsWithin few many → LeavesUnknown many clause → LeavesUnknown few clause
 leaves_within clause few many within leaves =

@@ -11,4 +11,3 @@ pub mod SideLaws
 pub mod GroundLaws
 pub mod Telling
 pub mod Gains
-pub mod Sums

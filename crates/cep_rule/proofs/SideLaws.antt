@@ -1,8 +1,9 @@
 -- The atoms of both sides of a rule by values of the right types are ground.
-use Rattle.std.proofs.Common.{ℕ, Bool, true, false, not, ◌||◌, cond, List, [], ◌∷◌, ◌++◌, map}
+use Rattle.std.proofs.Common.{arith, ℕ, Bool, not, ◌||◌, List, [], ◌∷◌, ◌++◌, map}
 use Rattle.std.specs.Prelude.{filter}
 use Rattle.std.specs.List.{AllByRecursion}
 use Rattle.cep_base.proofs.Elements.{both_all}
+use Rattle.cep_base.proofs.Lists.{all_filtered}
 use Rattle.cep_term.specs.Tree.{Tree, AtomTree, IsGroundAtom}
 use Rattle.cep_term.specs.Multiset.{without}
 use Rattle.cep_rule.specs.declared.signature.Signature.{Signature}
@@ -18,20 +19,10 @@ ground_all : (signature : Signature) (kinds : List ℕ) (values : List Tree) →
 ground_all signature kinds values are [] typed = tt
 ground_all signature kinds values are (a ∷ atoms) typed = ((ground_instance signature kinds values a are typed.0), (ground_all signature kinds values are atoms typed.1))
 
--- what holds of all elements holds of those that pass a test
-all_filtered : {A : Type 0} (P : A → Type 0) (test : A → Bool) (xs : List A) → AllByRecursion P xs → AllByRecursion P (filter test xs)
-all_filtered P test [] all = tt
-all_filtered P test (x ∷ xs) all =
-    let rest = all_filtered P test xs all.1 in
-    elim (test x) as (λ t. AllByRecursion P (cond t (x ∷ filter test xs) (filter test xs))) [ true ↦ (all.0, rest) | false ↦ rest ]
-
 -- what holds of the atoms of all premises holds of those that stay
 all_kept : (P : AtomTree → Type 0) (test : PremiseTree → Bool) (premises : List PremiseTree) → AllByRecursion P (map (λ premise. premise.atom) premises) → AllByRecursion P (map (λ premise. premise.atom) (filter test premises))
 all_kept P test [] all = tt
-all_kept P test (premise ∷ premises) all =
-    let rest = all_kept P test premises all.1 in
-    let others = filter test premises in
-    elim (test premise) as (λ t. AllByRecursion P (map (λ (other : PremiseTree). other.atom) (cond t (premise ∷ others) others))) [ true ↦ (all.0, rest) | false ↦ rest ]
+all_kept P test (premise ∷ premises) all = grind (arith, all_kept P test premises all.1)
 
 module _ (signature : Signature) (rule : Rule) (values : List Tree) (typed : IsTypedRule signature rule) (are : AreValues signature.cons rule.kinds values) where
   typed_kept : AllByRecursion (IsTyped signature rule.kinds) (kept_of signature rule)

@@ -1,11 +1,12 @@
 -- The values of what applies or is proved are small: each variable occurs in an atom whose instance is fit.
-use Rattle.std.proofs.Common.{◌≡◌, ⊎_elim, ℕ, zero, suc, ◌<◌, ◌≤◌, List, [], ◌∷◌, ◌++◌, length, Option, None, Some, unwrap_or, refl, sym, ap, subst, ◌∙◌, arith}
-use Rattle.std.specs.Prelude.{slice_get, IsSomeAnd}
+use Rattle.std.proofs.Common.{◌≡◌, ⊎_elim, ℕ, zero, suc, ◌<◌, ◌≤◌, List, [], ◌∷◌, ◌++◌, length, Some, unwrap_or, sym, ap, subst, ◌∙◌, arith}
+use Rattle.std.specs.Prelude.{slice_get}
 use Rattle.std.specs.List.{AllByRecursion}
 use Rattle.std.proofs.lemmas.List.{map-append}
 use Rattle.std.proofs.lemmas.Option.{slice_get_within}
 use Rattle.cep_base.proofs.Elements.{both_all, all_of}
-use Rattle.cep_base.proofs.Lists.{none_some, holds_at, all_weaker, all_from_places}
+use Rattle.cep_base.proofs.Options.{none_some, from_some_is}
+use Rattle.cep_base.proofs.Lists.{holds_at, all_weaker, all_from_places}
 use Rattle.cep_term.specs.Tree.{Tree, Trees, AtomTree, variable, node, none, more, term_nodes, argument_nodes, term_depth, argument_depth, IsFit, Occurs, OccursAmong}
 use Rattle.cep_term.specs.Values.{value_of, term_instance, argument_instances}
 use Rattle.cep_term.specs.BagLaws.{BagLaws}
@@ -23,10 +24,6 @@ use Rattle.cep_rule.specs.Program.{IsTypedRule, IsTypedClause, IsProgram}
 use Rattle.cep_rule.specs.Shapes.{IsSmallTerm, HasSmallValues, HaveSmallValues}
 use Rattle.cep_rule.proofs.StepLaws.{needed_there}
 use Rattle.cep_rule.proofs.TypedAtoms.{as_many_values}
-
-from_found : {X : Type 0} (o : Option X) (P : X → Type 0) (Q : Type 0) → ((x : X) → o ≡ Some x → P x → Q) → IsSomeAnd o P → Q
-from_found None P Q f h = absurd h
-from_found (Some x) P Q f h = f x refl h
 
 given_at : (values : List Tree) (v : ℕ) (u : Tree) → slice_get values v ≡ Some u → value_of (given values) v ≡ Some u
 given_at [] v u is = none_some u is
@@ -83,8 +80,8 @@ module _ (program : Parts) (kept : IsProgram program) where
   mutual
     pub proof_small : (proof : ProofTree) (a : AtomTree) → Proves program proof a → HasSmallValues proof
     proof_small (by_clause number values subs) a proves = (
-      (from_found (slice_get program.clauses number) _ _ (λ clause found h. node_small number clause values subs a found proves.0 h.0 h.1) proves.1),
-      (from_found (slice_get program.clauses number) _ _ (λ clause found h. proofs_small subs (full_instances values clause.goals) h.1) proves.1),
+      (from_some_is (slice_get program.clauses number) _ _ (λ clause found h. node_small number clause values subs a found proves.0 h.0 h.1) proves.1),
+      (from_some_is (slice_get program.clauses number) _ _ (λ clause found h. proofs_small subs (full_instances values clause.goals) h.1) proves.1),
     )
 
     proofs_small : (proofs : ProofTrees) (goals : List AtomTree) → ProveAll program proofs goals → HaveSmallValues proofs

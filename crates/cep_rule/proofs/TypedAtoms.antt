@@ -2,11 +2,11 @@
 use Rattle.std.proofs.Common.{◌≡◌, ℕ, List, [], ◌∷◌, length, refl, arith}
 use Rattle.std.specs.Prelude.{slice_get}
 use Rattle.std.proofs.lemmas.Option.{slice_get_within}
+use Rattle.cep_base.proofs.Options.{from_some}
 use Rattle.cep_term.specs.Tree.{Tree, Trees, AtomTree, variable, node, none, more, IsInRange, AreInRange, IsAtomInRange}
 use Rattle.cep_rule.specs.declared.signature.Con.{Con}
 use Rattle.cep_rule.specs.declared.signature.Signature.{Signature}
 use Rattle.cep_rule.specs.Typing.{HasSort, HaveSorts, IsTyped, AreValues}
-use Rattle.cep_rule.proofs.InstanceLaws.{from_some}
 
 mutual
   term_in_range : (cons : List Con) (kinds : List ℕ) (sort : ℕ) (t : Tree) → HasSort cons kinds sort t → IsInRange (length kinds) t

@@ -60,7 +60,7 @@ impl Clauses {
         &self.clauses[i]
     }
 
-    /// Adds a clause at the end. After want of memory the list is as before, and the clause is
+    /// Adds a clause at the end. After out of memory the list is as before, and the clause is
     /// gone.
     pub fn push(&mut self, clause: Clause) -> Result<(), AllocError>
         ensures ok { OnOk result (self.new ≡ self.old ++ clause_of clause ∷ []) }

@@ -20,7 +20,7 @@ pub fn is_fact(signature: &Signature, a: &Atom) -> bool
 }
 
 /// Of ground atoms that are added to a state in this order, those that it gains: all but the facts
-/// that it has, or that stand earlier. Only want of memory is refused.
+/// that it has, or that stand earlier. Only out of memory is refused.
 pub fn gained(
     alloc: Global,
     signature: &Signature,
@@ -45,7 +45,8 @@ pub fn gained(
 
 // Whether the atom is a fact that is in either multiset.
 fn is_held(signature: &Signature, state: &Bag, fresh: &Bag, a: &Atom) -> bool
-    ensures { result ≡ (is_fact signature.now (atom_of a.now) && nat_lt 0 (count_of (sum_of state.now fresh.now) (atom_of a.now))) }
+    ensures { result ≡ (is_fact signature.now (atom_of a.now)
+        && nat_lt 0 (count_of (sum_of state.now fresh.now) (atom_of a.now))) }
 {
     bags_are_lawful();
     is_fact(signature, a) && (state.count(a) > 0 || fresh.count(a) > 0)
@@ -54,9 +55,11 @@ fn is_held(signature: &Signature, state: &Bag, fresh: &Bag, a: &Atom) -> bool
 // Adds the atom if it is a fact.
 fn hold(signature: &Signature, fresh: &mut Bag, a: &Atom) -> Result<(), AllocError>
     requires known { IsGroundAtom (atom_of a.now) }
-    requires new { is_fact signature.now (atom_of a.now) ≡ true → count_of fresh.old (atom_of a.now) ≡ 0 }
+    requires new { is_fact signature.now (atom_of a.now) ≡ true
+        → count_of fresh.old (atom_of a.now) ≡ 0 }
     requires few { copies_in fresh.old < 2 ^ 64 - 1 }
-    ensures held { OnOk result ((b : AtomTree) → is_fact signature.now b ≡ true → count_of fresh.new b ≡ count_of (with_one fresh.old (atom_of a.now)) b) }
+    ensures held { OnOk result ((b : AtomTree) → is_fact signature.now b
+        ≡ true → count_of fresh.new b ≡ count_of (with_one fresh.old (atom_of a.now)) b) }
     ensures few { OnOk result (copies_in fresh.new ≤ copies_in fresh.old + 1) }
 {
     bags_are_lawful();

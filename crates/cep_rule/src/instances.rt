@@ -7,7 +7,7 @@ use cep_term::{Args, Atom, Term, Terms, copy_term};
 use std::alloc::{AllocError, Global};
 
 /// The atom with each variable replaced by the value at its place, as Ceptre's rules are
-/// instantiated. Each variable needs to have a value. Only want of memory is refused.
+/// instantiated. Each variable needs to have a value. Only out of memory is refused.
 pub fn instance(alloc: Global, atom: &Atom, values: &Terms) -> Result<Atom, AllocError>
     requires { IsAtomInRange (length values.now) (atom_of atom.now) }
     ensures { IfOk result (λ a. atom_of a ≡ full_instance values.now (atom_of atom.now)) }
@@ -37,7 +37,8 @@ fn term_by(alloc: Global, term: &Term, values: &Terms) -> Result<Term, AllocErro
 #[cycle(instance)]
 fn args_by(alloc: Global, args: &Args, values: &Terms) -> Result<Args, AllocError>
     requires { AreInRange (length values.now) (trees_of args.now) }
-    ensures { IfOk result (λ others. trees_of others ≡ argument_instances (given values.now) (trees_of args.now)) }
+    ensures { IfOk result
+        (λ others. trees_of others ≡ argument_instances (given values.now) (trees_of args.now)) }
 {
     match args {
         Args::Nil => Ok(Args::Nil),

@@ -18,8 +18,8 @@ ghost use Rattle.cep_rule.specs.Instances.{full_instances, kept_of, left_of, rig
 ghost use Rattle.cep_rule.specs.Offers.{offer_cmp, Applies, AreOffers};
 ghost use Rattle.cep_rule.specs.Derivations.{ProofTree, Proves};
 ghost use Rattle.cep_rule.specs.Shapes.{IsProofOf, IsSmallTerm, HasSmallValues};
-ghost use Rattle.cep_rule.specs.State.{IsState, joined};
-ghost use Rattle.cep_rule.specs.Step.{Step, StepsByCounts};
+ghost use Rattle.cep_rule.specs.State.{IsState};
+ghost use Rattle.cep_rule.specs.Step.{Step};
 ghost use Rattle.cep_rule.specs.Steps.{MakesFit};
 ghost use Rattle.cep_rule.specs.Matching.{state_after};
 ghost use Rattle.cep_rule.specs.Program.{IsTypedRule, IsDividedRule, IsProgram};
@@ -45,35 +45,27 @@ pub fn offers_have_one_order()
     order_is_total();
 }
 
-/// A step by a rule with values for its variables leads from a state to one state, and leaves one
-/// rest alone but for the facts of the left side.
+/// A step by a rule with values for its variables leads from a state to one state. The rest that it
+/// leaves alone is unique up to the facts of the left side, and is a state if the old state is one.
 pub fn one_state_after_a_step()
     ensures state { (signature : Signature) (rule : Rule) (values : List Tree) (old one other : Multiset)
         → Step signature rule values old one
         → Step signature rule values old other
         → one ≡ other }
     ensures rest { (signature : Signature) (rule : Rule) (values : List Tree) (old one other : Multiset)
-        (step : Step signature rule values old one) (step' : Step signature rule values old other) (a : AtomTree)
+        (step : Step signature rule values old one) (step' : Step signature rule values old other)
+        (a : AtomTree)
         → (0 < count_of (left_of signature rule values) a → is_fact signature a ≡ false)
         → count_of step.rest a ≡ count_of step'.rest a }
+    ensures rest_is_state { (signature : Signature) (rule : Rule) (values : List Tree)
+        (old new : Multiset) (step : Step signature rule values old new)
+        → IsState signature old
+        → IsState signature step.rest }
 {
     bags_are_lawful();
 }
 
-/// A step can be told by counts alone: it is there exactly where the left side is, and what it does
-/// to the count of each atom says which one it is.
-pub fn steps_can_be_told_by_counts()
-    ensures { (signature : Signature) (rule : Rule) (values : List Tree) (old new : Multiset)
-        → IsBag (left_of signature rule values)
-        → IsBag old
-        → IsOnce (is_fact signature) old
-        → IsBag new
-        → (Step signature rule values old new ↔ StepsByCounts signature rule values old new) }
-{
-    bags_are_lawful();
-}
-
-/// Where a state contains the left side, it has each atom that the rule needs; and the linear ones
+/// If a state contains the left side, it has each atom that the rule needs; and the linear ones
 /// among them, none of which is a fact, can be taken from it.
 pub fn what_is_needed_is_there()
     ensures needed { (signature : Signature) (rule : Rule) (values : List Tree) (state : Multiset) (a : AtomTree)
@@ -108,13 +100,15 @@ pub fn edits_are_steps()
         → AreValues signature.cons rule.kinds values
         → IsState signature state
         → IsContained (left_of signature rule values) state
-        → Step signature rule values state (state_after signature state (gathered (used_by signature rule values)) (full_instances values rule.right)) }
+        → Step signature rule values state (state_after signature state
+        (gathered (used_by signature rule values)) (full_instances values rule.right)) }
     ensures whole { (signature : Signature) (rule : Rule) (values : List Tree) (state : Multiset)
         → IsTypedRule signature rule
         → AreValues signature.cons rule.kinds values
         → IsState signature state
         → IsContained (left_of signature rule values) state
-        → Step signature rule values state (state_after signature state (gathered (taken_by signature rule values)) (added_by signature rule values)) }
+        → Step signature rule values state (state_after signature state
+        (gathered (taken_by signature rule values)) (added_by signature rule values)) }
 {
     sides_are_bags();
     bags_are_lawful();
@@ -128,38 +122,21 @@ pub fn edits_gain()
         → IsOnce (is_fact signature) state
         → IsBag taken
         → AllByRecursion IsGroundAtom added
-        → state_after signature state taken added ≡ sum_of (difference_of state taken) (gathered (gained (is_fact signature) (difference_of state taken) added)) }
+        → state_after signature state taken added ≡
+        sum_of (difference_of state taken)
+        (gathered (gained (is_fact signature) (difference_of state taken) added)) }
 {
     bags_are_lawful();
 }
 
 /// An atom that is there after a step is of the right side, or was there before.
 pub fn atoms_come_from_somewhere()
-    ensures { (signature : Signature) (rule : Rule) (values : List Tree) (old new : Multiset) (a : AtomTree)
+    ensures { (signature : Signature) (rule : Rule) (values : List Tree) (old new : Multiset)
+        (a : AtomTree)
         → Step signature rule values old new
         → 0 < count_of new a
-        → Contains (full_instances values (rule.right ++ kept_of signature rule)) a ⊎ (0 < count_of old a) }
-{
-    bags_are_lawful();
-}
-
-/// A sum of states adds the copies of each atom that is no fact, and of a fact takes the greater
-/// count; and a part of a state that is taken from it is restored by a sum.
-pub fn sums_of_states()
-    ensures linear { (signature : Signature) (state other : Multiset) (a : AtomTree)
-        → is_fact signature a ≡ false
-        → count_of (joined signature state other) a ≡ count_of state a + count_of other a }
-    ensures facts { (signature : Signature) (state other : Multiset) (a : AtomTree)
-        → IsOnce (is_fact signature) state
-        → IsOnce (is_fact signature) other
-        → is_fact signature a ≡ true
-        → count_of (joined signature state other) a ≡ max (count_of state a) (count_of other a) }
-    ensures restored { (signature : Signature) (state part : Multiset)
-        → IsBag state
-        → IsOnce (is_fact signature) state
-        → IsBag part
-        → IsContained part state
-        → joined signature part (difference_of state part) ≡ state }
+        → Contains (full_instances values (rule.right ++ kept_of signature rule)) a
+        ⊎ (0 < count_of old a) }
 {
     bags_are_lawful();
 }
@@ -180,7 +157,7 @@ pub fn steps_lead_to_states()
 }
 
 /// The variables of a well-typed atom have types, and values of the right types, which are as many,
-/// make it a ground one that is well typed; and where the instance of a term is a value of its type,
+/// make it a ground one that is well typed; and if the instance of a term is a value of its type,
 /// so are the values of its variables.
 pub fn types_are_lawful()
     ensures { TypeLaws }
@@ -239,7 +216,7 @@ pub fn values_are_small()
     bags_are_lawful();
 }
 
-/// A pair that is bad is so too where fewer positions are known: so where more are known than in a
+/// A pair that is bad is so too with fewer positions known: so with more known than in a
 /// pair that is not bad, none is bad.
 pub fn more_positions_known_are_no_worse()
     ensures { (clauses : List ClauseTree) (pred : ℕ) (few many : Known)
@@ -248,7 +225,7 @@ pub fn more_positions_known_are_no_worse()
         → IsBad clauses pred few }
 {}
 
-/// A pair is bad exactly where some clause of its predicate fails by the bad pairs: so rounds can be
+/// A pair is bad if and only if a clause of its predicate fails by the bad pairs: so rounds can be
 /// forgotten, and of a pair that is not bad each clause calls no bad pair and leaves no variable of
 /// its head unknown.
 pub fn bad_pairs_are_those_that_fail()

@@ -42,7 +42,7 @@ pub trait Matcher: Sized + Drop {
     ghost may_edit: { Parts → Multiset → ℕ → Multiset → List AtomTree → ℕ → Type 0 };
 
     /// A matcher of the program that holds this state, with a height from 1 to 512. The counter
-    /// rises by what `may_begin` allows. Only want of memory is refused, after any ticks.
+    /// increases by what `may_begin` allows. Only out of memory is refused, after any ticks.
     fn begin<L: Ledger>(
         alloc: Global,
         program: &Program,
@@ -56,12 +56,13 @@ pub trait Matcher: Sized + Drop {
         ensures of_program { IfOk result (λ matcher. is_of program.now matcher) }
         ensures same_state { IfOk result (λ matcher. state_held matcher ≡ state.now) }
         ensures same_height { IfOk result (λ matcher. height_held matcher ≡ height) }
-        ensures ticked { IfOk result (λ matcher. RoseBy (may_begin program.now state.now height) steps.old steps.new) }
+        ensures ticked { IfOk result
+            (λ matcher. RoseBy (may_begin program.now state.now height) steps.old steps.new) }
         ensures never_falls { steps.old ≤ steps.new };
 
     /// The matcher after these atoms, none of which is a fact, are taken from its state and those are
     /// added, in this order. A fact that is there changes nothing.
-    /// The counter rises by what `may_edit` allows. Only want of memory is refused, after any
+    /// The counter increases by what `may_edit` allows. Only out of memory is refused, after any
     /// ticks, and then the matcher is gone.
     fn edit<L: Ledger>(
         self,
@@ -73,13 +74,18 @@ pub trait Matcher: Sized + Drop {
     ) -> Result<Self, AllocError>
         requires of_program { is_of program.now self }
         requires contained { IsContained taken.now (state_held self) }
-        requires no_facts { (a : AtomTree) → is_fact program.now.signature a ≡ true → count_of taken.now a ≡ 0 }
-        requires is_state { IsState program.now.signature (state_after program.now.signature (state_held self) taken.now added.now) }
+        requires no_facts { (a : AtomTree)
+            → is_fact program.now.signature a ≡ true → count_of taken.now a ≡ 0 }
+        requires is_state { IsState program.now.signature
+            (state_after program.now.signature (state_held self) taken.now added.now) }
         requires fits { Fits (state_after program.now.signature (state_held self) taken.now added.now) }
         ensures of_program { IfOk result (λ matcher. is_of program.now matcher) }
-        ensures new_state { IfOk result (λ matcher. state_held matcher ≡ state_after program.now.signature (state_held self) taken.now added.now) }
+        ensures new_state { IfOk result (λ matcher. state_held matcher
+            ≡ state_after program.now.signature (state_held self) taken.now added.now) }
         ensures same_height { IfOk result (λ matcher. height_held matcher ≡ height_held self) }
-        ensures ticked { IfOk result (λ matcher. RoseBy (may_edit program.now (state_held self) (height_held self) taken.now added.now) steps.old steps.new) }
+        ensures ticked { IfOk result (λ matcher. RoseBy
+            (may_edit program.now (state_held self) (height_held self) taken.now added.now)
+            steps.old steps.new) }
         ensures never_falls { steps.old ≤ steps.new };
 
     /// How many offers the group has. It takes no memory.

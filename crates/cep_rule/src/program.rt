@@ -5,9 +5,9 @@ use crate::parts::Parts;
 use std::marker::Model;
 
 /// A program that can be played: parts that keep what `IsProgram` says. The limits, the names, the
-/// groundness and the sizes among this are this profile's; that atoms are well typed, that linear
-/// and backward predicates do not mix, and that each variable of a right side occurs on the left,
-/// are Ceptre's.
+/// groundness, the sizes and the facts among this are this profile's; that atoms are well typed,
+/// that backward predicates and those of states do not mix, and that each variable of a right side
+/// occurs on the left, are Ceptre's.
 #[derive(Debug, Drop)]
 pub struct Program {
     parts: Parts,

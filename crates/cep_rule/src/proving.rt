@@ -22,7 +22,7 @@ pub fn height(d: &Derivation) -> u64
     }
 }
 
-// The height of the highest of these derivations, and 0 where there is none.
+// The height of the highest of these derivations, and 0 if there is none.
 #[cycle(height)]
 fn greatest_height(subs: &Derivations) -> u64
     requires { greatest_height (proofs_of subs.now) < 2 ^ 64 }
@@ -46,7 +46,9 @@ pub fn proves(program: &Program, d: &Derivation, atom: &Atom) -> bool
 // Whether the derivation proves the instance of the goal.
 #[cycle(proves)]
 fn proves_instance(program: &Program, d: &Derivation, goal: &Atom, values: &[Term]) -> bool
-    ensures { IsTrue result ↔ Proves program.now (proof_of d.now) (full_instance (map tree_of values.now) (atom_of goal.now)) }
+    ensures { IsTrue result ↔
+        Proves program.now (proof_of d.now)
+        (full_instance (map tree_of values.now) (atom_of goal.now)) }
 {
     let Derivation::Node(number, given, subs) = d;
     let parts = program.parts();
@@ -68,7 +70,9 @@ fn proves_instance(program: &Program, d: &Derivation, goal: &Atom, values: &[Ter
 // Whether the derivations prove the instances of the goals, one each.
 #[cycle(proves)]
 fn prove_instances(program: &Program, subs: &Derivations, goals: &[Atom], values: &[Term]) -> bool
-    ensures { IsTrue result ↔ ProveAll program.now (proofs_of subs.now) (full_instances (map tree_of values.now) (map atom_of goals.now)) }
+    ensures { IsTrue result ↔
+        ProveAll program.now (proofs_of subs.now)
+        (full_instances (map tree_of values.now) (map atom_of goals.now)) }
 {
     match subs {
         Derivations::Nil => goals.is_empty(),

@@ -77,7 +77,7 @@ impl Premises {
         &self.premises[i]
     }
 
-    /// Adds a premise at the end. After want of memory the list is as before, and the premise is
+    /// Adds a premise at the end. After out of memory the list is as before, and the premise is
     /// gone.
     pub fn push(&mut self, premise: Premise) -> Result<(), AllocError>
         ensures ok { OnOk result (self.new ≡ self.old ++ premise_of premise ∷ []) }

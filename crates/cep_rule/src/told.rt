@@ -8,7 +8,7 @@ use cep_base::limits::{MOST_DEPTH, MOST_NODES};
 use cep_term::laws::order_is_total;
 use cep_term::{Args, Atom, Term, order_term};
 
-// The value of the variable, and the variable itself where it has none.
+// The value of the variable, and the variable itself if it has none.
 fn value_of<'a>(values: &'a [Term], v: u32, unset: &'a Term) -> &'a Term
     requires { tree_of unset.now ≡ variable v }
     ensures { tree_of result.now ≡ term_instance (given (map tree_of values.now)) (variable v) }
@@ -30,7 +30,8 @@ fn is_same(one: &Term, other: &Term) -> bool
 // Whether the term is the instance of the pattern.
 #[cycle(is_instance)]
 fn is_instance(t: &Term, pattern: &Term, values: &[Term]) -> bool
-    ensures { IsTrue result ↔ (tree_of t.now ≡ term_instance (given (map tree_of values.now)) (tree_of pattern.now)) }
+    ensures { IsTrue result ↔
+        (tree_of t.now ≡ term_instance (given (map tree_of values.now)) (tree_of pattern.now)) }
 {
     match pattern {
         Term::Var(v) => is_same(t, value_of(values, *v, pattern)),
@@ -44,7 +45,8 @@ fn is_instance(t: &Term, pattern: &Term, values: &[Term]) -> bool
 // Whether the arguments are the instances of the patterns.
 #[cycle(is_instance)]
 fn are_instances(args: &Args, patterns: &Args, values: &[Term]) -> bool
-    ensures { IsTrue result ↔ (trees_of args.now ≡ argument_instances (given (map tree_of values.now)) (trees_of patterns.now)) }
+    ensures { IsTrue result ↔ (trees_of args.now
+        ≡ argument_instances (given (map tree_of values.now)) (trees_of patterns.now)) }
 {
     match patterns {
         Args::Nil => matches!(args, Args::Nil),
@@ -60,7 +62,8 @@ fn are_instances(args: &Args, patterns: &Args, values: &[Term]) -> bool
 // Whether two patterns have one instance, each by its own values.
 #[cycle(same_instance)]
 fn same_term(one: &Term, values: &[Term], other: &Term, others: &[Term]) -> bool
-    ensures { IsTrue result ↔ (term_instance (given (map tree_of values.now)) (tree_of one.now) ≡ term_instance (given (map tree_of others.now)) (tree_of other.now)) }
+    ensures { IsTrue result ↔ (term_instance (given (map tree_of values.now)) (tree_of one.now)
+        ≡ term_instance (given (map tree_of others.now)) (tree_of other.now)) }
 {
     match one {
         Term::Var(v) => is_instance(value_of(values, *v, one), other, others),
@@ -74,7 +77,9 @@ fn same_term(one: &Term, values: &[Term], other: &Term, others: &[Term]) -> bool
 // The same of arguments.
 #[cycle(same_instance)]
 fn same_args(one: &Args, values: &[Term], other: &Args, others: &[Term]) -> bool
-    ensures { IsTrue result ↔ (argument_instances (given (map tree_of values.now)) (trees_of one.now) ≡ argument_instances (given (map tree_of others.now)) (trees_of other.now)) }
+    ensures { IsTrue result ↔
+        (argument_instances (given (map tree_of values.now)) (trees_of one.now)
+        ≡ argument_instances (given (map tree_of others.now)) (trees_of other.now)) }
 {
     match one {
         Args::Nil => matches!(other, Args::Nil),
@@ -89,7 +94,8 @@ fn same_args(one: &Args, values: &[Term], other: &Args, others: &[Term]) -> bool
 
 // Whether two atoms have one instance, each by its own values.
 pub(crate) fn same_instance(one: &Atom, values: &[Term], other: &Atom, others: &[Term]) -> bool
-    ensures { IsTrue result ↔ (full_instance (map tree_of values.now) (atom_of one.now) ≡ full_instance (map tree_of others.now) (atom_of other.now)) }
+    ensures { IsTrue result ↔ (full_instance (map tree_of values.now) (atom_of one.now)
+        ≡ full_instance (map tree_of others.now) (atom_of other.now)) }
 {
     one.pred == other.pred && same_args(&one.args, values, &other.args, others)
 }
@@ -108,7 +114,9 @@ fn nodes_of(t: &Term) -> Option<u64>
 // How many nodes the arguments have.
 #[cycle(nodes)]
 fn nodes_among(args: &Args) -> Option<u64>
-    ensures { SomeIff result (argument_nodes (trees_of args.now) < 2 ^ 64) (argument_nodes (trees_of args.now)) }
+    ensures { SomeIff result
+        (argument_nodes (trees_of args.now) < 2 ^ 64)
+        (argument_nodes (trees_of args.now)) }
 {
     match args {
         Args::Nil => Some(0),
@@ -119,7 +127,8 @@ fn nodes_among(args: &Args) -> Option<u64>
 // How many nodes the instance has.
 #[cycle(nodes_by)]
 fn nodes_by(t: &Term, values: &[Term]) -> Option<u64>
-    ensures { let nodes = term_nodes (term_instance (given (map tree_of values.now)) (tree_of t.now)) in SomeIff result (nodes < 2 ^ 64) nodes }
+    ensures { let nodes = term_nodes (term_instance (given (map tree_of values.now)) (tree_of t.now)) in
+        SomeIff result (nodes < 2 ^ 64) nodes }
 {
     match t {
         Term::Var(v) => nodes_of(value_of(values, *v, t)),
@@ -130,7 +139,9 @@ fn nodes_by(t: &Term, values: &[Term]) -> Option<u64>
 // How many nodes the instances have together.
 #[cycle(nodes_by)]
 fn all_nodes_by(args: &Args, values: &[Term]) -> Option<u64>
-    ensures { let nodes = argument_nodes (argument_instances (given (map tree_of values.now)) (trees_of args.now)) in SomeIff result (nodes < 2 ^ 64) nodes }
+    ensures { let made = argument_instances (given (map tree_of values.now)) (trees_of args.now) in
+        let nodes = argument_nodes made in
+        SomeIff result (nodes < 2 ^ 64) nodes }
 {
     match args {
         Args::Nil => Some(0),
@@ -166,7 +177,8 @@ fn are_within(args: &Args, levels: u64) -> bool
 // Whether the instance has no more levels than these.
 #[cycle(levels_by)]
 fn is_within_by(t: &Term, values: &[Term], levels: u64) -> bool
-    ensures { IsTrue result ↔ (term_depth (term_instance (given (map tree_of values.now)) (tree_of t.now)) ≤ levels) }
+    ensures { IsTrue result ↔
+        (term_depth (term_instance (given (map tree_of values.now)) (tree_of t.now)) ≤ levels) }
 {
     match t {
         Term::Var(v) => is_within(value_of(values, *v, t), levels),
@@ -180,7 +192,8 @@ fn is_within_by(t: &Term, values: &[Term], levels: u64) -> bool
 // Whether the instances have no more levels than these.
 #[cycle(levels_by)]
 fn are_within_by(args: &Args, values: &[Term], levels: u64) -> bool
-    ensures { IsTrue result ↔ (argument_depth (argument_instances (given (map tree_of values.now)) (trees_of args.now)) ≤ levels) }
+    ensures { let made = argument_instances (given (map tree_of values.now)) (trees_of args.now) in
+        IsTrue result ↔ (argument_depth made ≤ levels) }
 {
     match args {
         Args::Nil => true,

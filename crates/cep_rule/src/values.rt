@@ -27,7 +27,8 @@ fn is_value(cons: &Cons, sort: u32, t: &Term) -> bool
 // Whether the arguments are values of these types, one of each.
 #[cycle(values)]
 fn are_arguments(cons: &Cons, sorts: &[u32], args: &Args) -> bool
-    ensures { IsTrue result ↔ (AreGround (trees_of args.now) × HaveSorts cons.now [] sorts.now (trees_of args.now)) }
+    ensures { IsTrue result ↔
+        (AreGround (trees_of args.now) × HaveSorts cons.now [] sorts.now (trees_of args.now)) }
 {
     match args {
         Args::Nil => sorts.is_empty(),

@@ -1,6 +1,5 @@
-use Rattle.std.proofs.Common.{◌≡◌, ◌++◌, ℕ, ◌≤◌, drop, true}
-use Rattle.cep_term.specs.Tree.{AtomTree}
-use Rattle.cep_term.specs.Multiset.{Multiset, count_of, sum_of, copies_in, gained}
+use Rattle.std.proofs.Common.{◌≡◌, ◌++◌, ◌≤◌, drop}
+use Rattle.cep_term.specs.Multiset.{sum_of, copies_in, gained}
 use Rattle.cep_rule.specs.Typing.{is_fact}
 use Rattle.cep_rule.proofs.gaining.gained.Given as goal
 
