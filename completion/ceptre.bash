@@ -1,9 +1,9 @@
-# Completion of the command ceptre for bash: source this file.
+# Completion of the command ceptre and of the scripts beside it for bash: source this file.
 
 _ceptre() {
     local word=${COMP_WORDS[COMP_CWORD]} command=${COMP_WORDS[1]-}
     COMPREPLY=()
-    # What stands behind the = of an option is a number, which nobody completes.
+    # What stands after the = of an option is a number, which nobody completes.
     if [[ $word == *=* || ${COMP_WORDS[COMP_CWORD - 1]} == = ]]; then
         return
     fi
@@ -16,16 +16,14 @@ _ceptre() {
     esac
 }
 
-# Completes with the files of an ending, and with folders.
+# Completes with the files of an ending, and with folders. Readline quotes their names, and puts a slash after a folder.
 _ceptre_files() {
     mapfile -t COMPREPLY < <(
         compgen -f -X "!*.$1" -- "$2"
-        compgen -d -S / -- "$2"
+        compgen -d -- "$2"
     )
-    # A folder is gone on with, so no space is put behind it; outside of a completion there is none to put.
-    if [[ ${COMPREPLY[0]-} == */ ]]; then
-        compopt -o nospace 2>/dev/null
-    fi
+    # Outside of a completion there is nothing to set.
+    compopt -o filenames 2>/dev/null
 }
 
 # Completes with the options that are not given yet.
@@ -40,4 +38,43 @@ _ceptre_options() {
     compopt -o nospace 2>/dev/null
 }
 
+# The options of each script, and whether a transcript follows its world.
+_ceptre_script() {
+    local word=${COMP_WORDS[COMP_CWORD]} options place=0 at
+    case ${COMP_WORDS[0]##*/} in
+    explain) options='--help' ;;
+    follow) options='--help --at' ;;
+    grade) options='--help --goal --height --end --typed --seed --turns --json' ;;
+    player) options='--help --log --load --rows --plain' ;;
+    sample) options='--help --runs --seed --players-by-seed --height --turns --goal --csv' ;;
+    esac
+    COMPREPLY=()
+    if [[ $word == -* ]]; then
+        mapfile -t COMPREPLY < <(compgen -W "$options" -- "$word")
+        return
+    fi
+    case ${COMP_WORDS[COMP_CWORD - 1]} in
+    --end) mapfile -t COMPREPLY < <(compgen -W 'quiet turns offers input typed atom state' -- "$word") && return ;;
+    --typed | --load | --log)
+        mapfile -t COMPREPLY < <(compgen -f -- "$word")
+        compopt -o filenames 2>/dev/null
+        return
+        ;;
+    --at | --goal | --height | --seed | --turns | --rows | --runs) return ;;
+    esac
+    # The first word that is no option is the world.
+    for ((at = 1; at < COMP_CWORD; at++)); do
+        [[ ${COMP_WORDS[at]} == -* || ${COMP_WORDS[at - 1]} == --[a-z]* ]] || place=1
+    done
+    if [[ $place == 0 ]]; then
+        _ceptre_files cep "$word"
+    else
+        case ${COMP_WORDS[0]##*/} in
+        follow | grade | explain) _ceptre_files log "$word" ;;
+        player) _ceptre_options "$word" ;;
+        esac
+    fi
+}
+
 complete -F _ceptre ceptre ./ceptre
+complete -F _ceptre_script {,./}tools/{explain,follow,grade,player,sample}

@@ -2,6 +2,7 @@
 
 import os
 import pty
+import select
 import signal
 import subprocess
 import tempfile
@@ -181,6 +182,8 @@ class Terminal(Player):
         """What comes from the terminal up to a prompt, or up to the end."""
         said, last = b"", time.monotonic() + 60
         while time.monotonic() < last and not (prompt and said.endswith(prompt)):
+            if not select.select([terminal], [], [], 1)[0]:
+                continue
             try:
                 part = os.read(terminal, 4096)
             except OSError:

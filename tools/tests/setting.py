@@ -4,6 +4,7 @@ import contextlib
 import functools
 import io
 import os
+import re
 import subprocess
 import sys
 from importlib.machinery import SourceFileLoader
@@ -18,7 +19,7 @@ sys.path.insert(0, TOOLS)
 
 # pylint: disable=wrong-import-position
 from output import FAILED
-from program import CannotRun
+from program import CannotRun, run
 
 # The gate tests what it has built.
 os.environ.setdefault("CEPTRE", os.path.join(TOP, "crates", "ceptre", "out", "ceptre"))
@@ -68,6 +69,25 @@ def module_of(name):
 def read(*path):
     with open(os.path.join(*path), encoding="utf-8") as file:
         return file.read()
+
+
+def usage():
+    """The usage line: the forms of each command, as words and options."""
+    _, lines = run()
+    forms = lines[0].removeprefix("usage: ").split(" | ")
+    return {
+        form.split()[0]: (
+            [word for word in form.split()[1:] if not word.startswith("[")],
+            re.findall(r"\[(\w+=)N\]", form),
+        )
+        for form in forms
+    }
+
+
+def scripts():
+    """The names of all scripts of tools/."""
+    names = sorted(os.listdir(TOOLS))
+    return [name for name in names if "." not in name and os.path.isfile(os.path.join(TOOLS, name))]
 
 
 def world_names():
