@@ -1,4 +1,5 @@
-"""Every token of every world gets its scope, in the TextMate grammar and, where vim is there, in it."""
+"""Every token of every world gets its scope, in the TextMate grammar and, where vim is there, in it;
+snippets are accepted, and editors find the place of a refusal."""
 
 import json
 import os
@@ -8,10 +9,13 @@ import subprocess
 import tempfile
 import unittest
 
-from setting import TOP, WORLDS, read, world_names
+from setting import TOP, WORLDS, read, tool, world_names
 from language import RESERVED, tokens
+from program import refusal
 
-GRAMMAR = os.path.join(TOP, "editors", "textmate", "ceptre.tmLanguage.json")
+FOLDER = os.path.join(TOP, "editors", "textmate")
+GRAMMAR = os.path.join(FOLDER, "ceptre.tmLanguage.json")
+REFUSED = os.path.join(TOP, "tools", "tests", "explain")
 SYNTAX = os.path.join(TOP, "editors", "vim", "syntax", "ceptre.vim")
 
 # The scope of each kind of token, and the group in vim.
@@ -117,6 +121,92 @@ class Editors(unittest.TestCase):
                 places = wanted(text)
                 groups = dict(zip(places, vim(path, places)))
                 self.assertEqual(groups, {at: SCOPES[kind][1] for at, kind in places.items()})
+
+
+def filled(body):
+    """A snippet with the words that it proposes."""
+    text = body if isinstance(body, str) else "\n".join(body)
+    return re.sub(r"\$\{[0-9]:([^}]*)\}|\$[0-9]", lambda match: match[1] or "", text)
+
+
+class Code(unittest.TestCase):
+    """The files for VS Code."""
+
+    def setUp(self):
+        with open(os.path.join(FOLDER, "package.json"), encoding="utf-8") as file:
+            self.package = json.load(file)["contributes"]
+
+    def test_each_file_that_is_named_is_there(self):
+        for kind in ("grammars", "snippets"):
+            for entry in self.package[kind]:
+                self.assertTrue(os.path.exists(os.path.join(FOLDER, entry["path"])), entry)
+
+    def test_words_are_names(self):
+        with open(os.path.join(FOLDER, "language-configuration.json"), encoding="utf-8") as file:
+            words = re.compile(json.load(file)["wordPattern"])
+        found = words.findall("#trace 30 day { iron/key C', at ann }. p X -o q Y'.")
+        self.assertEqual(found, ["#trace", "30", "day", "iron/key", "C'", "at", "ann", "p", "X", "o", "q", "Y'"])
+
+    def test_the_problem_matcher_finds_the_place(self):
+        pattern = self.package["problemMatchers"][0]["pattern"]
+        told = tool("explain", "number.cep", folder=REFUSED)[1].split("\n")
+        found = [match for match in (re.match(pattern["regexp"], line) for line in told) if match]
+        self.assertEqual(len(found), 1)
+        place = [found[0][pattern[part]] for part in ("file", "line", "column", "message")]
+        self.assertEqual(":".join(place[:3]) + ": " + place[3], told[0])
+        gcc = re.match(pattern["regexp"], "a b.cep:3:14: error: a missing dot")
+        self.assertEqual(gcc.groups(), ("a b.cep", "3", "14", "error", "a missing dot"))
+
+    def test_each_snippet_is_accepted(self):
+        with open(os.path.join(FOLDER, "snippets", "ceptre.json"), encoding="utf-8") as file:
+            snippets = {entry["prefix"]: filled(entry["body"]) for entry in json.load(file).values()}
+        worlds = {"world": snippets.pop("world")}
+        own = snippets.pop("#trace"), snippets.pop("#interactive")
+        stage = "\n".join(["stage main = {", snippets.pop("rule"), "}", "here thing : pred.", "stage day = {}"])
+        worlds["others"] = "\n".join([*snippets.values(), stage, *own]) + "\n"
+        for name, text in worlds.items():
+            with self.subTest(world=name), tempfile.TemporaryDirectory() as folder:
+                path = os.path.join(folder, "world.cep")
+                with open(path, "w", encoding="utf-8") as file:
+                    file.write(text)
+                self.assertIsNone(refusal(path), text)
+
+
+@unittest.skipUnless(has_vim(), "vim with syntax is missing here")
+class Vim(unittest.TestCase):
+    def by_script(self, path, *lines):
+        """What these lines of a script append to the list `found` in a world that is open."""
+        with tempfile.TemporaryDirectory() as folder:
+            out, script = os.path.join(folder, "found"), os.path.join(folder, "script.vim")
+            with open(script, "w", encoding="utf-8") as file:
+                runtime = os.path.join(TOP, "editors", "vim")
+                begin = [f"set runtimepath^={runtime} shellpipe=>%s", "filetype plugin on", "syntax on"]
+                begin += [f"edit {path}", "let found = []"]
+                file.write("\n".join([*begin, *lines, f"call writefile(found, '{out}')", "quitall!"]) + "\n")
+            command = ["vim", "-N", "-u", "NONE", "-i", "NONE", "-n", "-es", "-S", script]
+            subprocess.run(command, stdin=subprocess.DEVNULL, stdout=subprocess.DEVNULL, timeout=60, check=False)
+            return read(out).splitlines()
+
+    def test_comments_and_words(self):
+        lines = ("call add(found, &commentstring)", "call search('iron/key')", "call add(found, expand('<cword>'))")
+        self.assertEqual(self.by_script("worlds/dungeon.cep", *lines), ["% %s", "iron/key"])
+
+    def test_make(self):
+        path = os.path.join(REFUSED, "number.cep")
+        told = read(REFUSED, "number.told").split("\n")
+        line, column, reason = told[0].split(":")[1:]
+        lines = [
+            "silent make!",
+            "for item in getqflist()",
+            "  if item.valid",
+            "    call add(found, item.lnum . ':' . item.col . ':' . item.text)",
+            "  endif",
+            "endfor",
+        ]
+        found = "\n".join(self.by_script(path, *lines)).replace("\0", "\n")
+        self.assertTrue(found.startswith(f"{line}:{column}:{reason.strip()}"), found)
+        self.assertIn("likely: a number", found)
+        self.assertIn("mend:", found)
 
 
 if __name__ == "__main__":
