@@ -83,12 +83,14 @@ def tokens(text):
 @dataclass(frozen=True)
 class Declaration:
     """A declared name: its kind (`type`, `predicate`, `constructor`, `stage`, `context` or `rule`),
-    the types of its arguments, the type of a constructor, and its token."""
+    its token, the types of its arguments, the type of a constructor, and the word (`pred`, `bwd` or
+    `fact`) of a predicate."""
 
     kind: str
     token: Token
     arguments: tuple = ()
     result: str = ""
+    word: str = ""
 
     @property
     def name(self):
@@ -135,7 +137,7 @@ def declared_before(found, colon, in_stage):
     if after.text == "type":
         return Declaration("type", names[0])
     if after.text in KINDS:
-        return Declaration("predicate", names[0], arguments)
+        return Declaration("predicate", names[0], arguments, word=after.text)
     ended = colon + 2 < len(found) and found[colon + 2].text == "."
     if after.kind == "name" and (ended or arguments):
         return Declaration("constructor", names[0], arguments, after.text)

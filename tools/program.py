@@ -73,3 +73,11 @@ def taken(path, most):
         copy.write(text.encode("latin-1"))
         copy.flush()
         yield text, copy.name
+
+
+def refusal_of(text):
+    """The line by which a text is refused, or None where it is accepted."""
+    with tempfile.NamedTemporaryFile(suffix=".cep") as file:
+        file.write(text.encode("latin-1"))
+        file.flush()
+        return refusal(file.name)

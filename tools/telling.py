@@ -1,0 +1,175 @@
+"""What is told of a refusal of the program: its line, what it means, what is likely, and the mend.
+
+The program decides; the words stand in the tables of docs/LANGUAGE.md.
+"""
+
+import functools
+import os
+import re
+from dataclasses import dataclass
+
+import clash
+import wanted
+from causes import Likely, likely
+from language import shown
+from limits import limit
+from name_causes import near_names
+from place import Place
+from program import TOP, refusal_of
+
+# How many columns of a line are shown.
+WIDTH = 100
+
+REASONS = "| refusal | in plain words | where | an example | what to do |"
+CAUSES = "| likely cause | such as | how it is mended |"
+
+
+@functools.lru_cache(maxsize=None)
+def rows(heading):
+    """The rows of the table of docs/LANGUAGE.md that begins with this heading."""
+    path = os.path.join(TOP, "docs", "LANGUAGE.md")
+    with open(path, encoding="utf-8") as file:
+        lines = file.read().splitlines()
+    found = []
+    for line in lines[lines.index(heading) + 2 :]:
+        if not line.startswith("| "):
+            break
+        found.append([cell.strip() for cell in re.split(r" \| ", line.strip("|"))])
+    return found
+
+
+def plain(cell):
+    """The text of a cell, with the links of the page as the files that they lead to."""
+    cell = re.sub(r" ?\(\[[^]]*\]\(#[^)]*\)\)", "", cell)
+    cell = re.sub(r"\[(\w+\.md)\]\(([^)]*)\)", r"docs/\2", cell)
+    return re.sub(r"\[([^]]*)\]\(([^)]*)\)", r"\1 (docs/\2)", cell)
+
+
+def reasons():
+    """What each refusal means in plain words, and what to do, by its name."""
+    return {row[0].split("`")[1]: (plain(row[1]), plain(row[4])) for row in rows(REASONS)}
+
+
+def mends():
+    """How each likely cause is mended, by its name."""
+    return {row[0]: plain(row[2]) for row in rows(CAUSES)}
+
+
+@dataclass
+class Refusal:
+    """A refusal, as it is told: its place, what it means, what is likely and how that is mended."""
+
+    place: Place
+    meaning: str = ""
+    advice: str = ""
+    likely: Likely = Likely()
+
+    @classmethod
+    def of(cls, text, line):
+        """The refusal of a text by a line of the program."""
+        place = Place.of(text, line)
+        meaning, advice = reasons()[place.reason]
+        found = likely(place, refusal_of)
+        return cls(place, meaning, mends()[found.cause] if found.cause else advice, found)
+
+    def tried(self):
+        """What came of the edit, in words."""
+        edit, line = self.likely.edit, self.likely.next_line
+        if edit is None:
+            return ""
+        outcome = f"the program goes on to {line.split()[1]}" if line else "the text is accepted"
+        return f"{edit.told(self.place.text)} {outcome}"
+
+    def lines(self, path):
+        """All that is told."""
+        place = self.place
+        told = [f"{path}:{place.line}:{place.column}: {place.reason}", *excerpt(place)]
+        told.append(f"reason: {self.meaning}")
+        if self.likely.cause:
+            told.append(f"likely: {self.likely.cause}")
+        told.append(f"mend:   {self.advice}")
+        if self.tried():
+            told.append(f"tried:  {self.tried()}")
+        else:
+            hoped = wanted.told(place, refusal_of)
+            told += [f"wanted: {shown(hoped)}"] if hoped else []
+        return told + self.seen() + self.meant()
+
+    def line(self, path):
+        """The same in one line, as compilers write it."""
+        place = self.place
+        said = f"{place.reason}: {self.meaning}"
+        if self.likely.cause:
+            said += f"; likely {self.likely.cause}"
+        if self.tried():
+            said += f"; {self.tried()}"
+        return f"{path}:{place.line}:{place.column}: error: {said}"
+
+    def seen(self):
+        """The other places that it speaks of, and the limit that is passed."""
+        place = self.place
+        told = []
+        if place.reason == "OverLimit":
+            told.append(f"limit:  {limit(place)}")
+        if place.reason == "TypeClash":
+            told += [f"see:    {line}" for line in clash.type_places(place)]
+        if place.reason == "Ungrounded":
+            told += [f"blame:  {line}" for line in clash.blamed(place, refusal_of)]
+        if self.likely.cause == "a missing brace":
+            told += [f"see:    {line}" for line in opened(place)]
+        return told + [f"see:    {line}" for line in declared(place)]
+
+    def meant(self):
+        """Names that are spelt nearly so."""
+        if self.likely.edit:
+            return []
+        return [f"did you mean {name}? ({what})" for name, what in near_names(self.place)]
+
+
+def opened(place):
+    """Where the braces were opened that are open at the place."""
+    return [
+        f"line {brace.line}: the brace of this {owner or 'item'} is open"
+        for owner, brace in place.open_braces()[-1:]
+    ]
+
+
+def declared(place):
+    """The declarations that a refusal speaks of."""
+    if place.reason not in ("Twice", "WrongKind", "WrongArity", "TypeClash"):
+        return []
+    names = {place.at(0)}
+    if place.reason == "TypeClash" and place.head():
+        names.add(place.head().text)
+    lines = place.text.split("\n")
+    numbers = sorted(
+        {
+            declaration.token.line
+            for declaration in place.declared
+            if declaration.name in names and declaration.token.start != place.start
+        }
+    )
+    return [f"line {number}: {shown(lines[number - 1].rstrip()).strip()}" for number in numbers]
+
+
+def excerpt(place):
+    """The line of the refusal with a caret at the column, and the lines that belong to it: the one
+    of the token before, and those over which an atom goes on."""
+    numbers = {place.line}
+    if place.token(-1):
+        numbers.add(place.token(-1).line)
+    if place.reason == "WrongArity":
+        numbers.update(token.line for token in place.atom())
+    lines = place.text.split("\n")
+    token = place.token(0)
+    end = place.column + (len(token.text) if token and token.start == place.start else 1)
+    first = max(0, place.column - WIDTH // 2) if end > WIDTH + 1 else 0
+    told = []
+    for number in sorted(numbers):
+        part = lines[number - 1].rstrip("\r")[first : first + WIDTH]
+        told.append(f"{number:5} | {shown(part)}".rstrip())
+        if number == place.line:
+            before = shown(lines[number - 1][first : place.column - 1])
+            margin = "".join("\t" if letter == "\t" else " " for letter in before)
+            told.append(f"      | {margin}^")
+    return told
