@@ -2,8 +2,8 @@
 leaves a variable of its head unknown."""
 
 from items import items
-from language import shown
-from wanted import type_at, variable_types
+from language import in_one_line, shown
+from wanted import article, joined, type_at, variable_types
 
 # How many clauses are looked at, since the program is asked about each.
 MOST_CLAUSES = 60
@@ -20,15 +20,15 @@ def type_places(place):
     wanted = type_at(place, head) if head else ""
     if not wanted:
         return []
-    told = [f"here a {wanted} is wanted, by {source(place, head)}"]
+    told = [f"here {article(wanted)} is wanted, by {source(place, head)}"]
     if place.kind(0) != "variable":
         declared = place.of_kind(place.at(0), "constructor")
         if declared:
-            told.append(f"`{place.at(0)}` is a {declared.result}, by line {declared.token.line}")
+            told.append(f"`{place.at(0)}` is {article(declared.result)}, by line {declared.token.line}")
         return told
     for token, result in variable_types(place, place.at(0)):
         if token.start < place.start and result and result != wanted:
-            told.append(f"{source(place, token)} is a {result}")
+            told.append(f"{source(place, token)} is {article(result)}")
             break
     return told
 
@@ -87,7 +87,5 @@ def blamed(place, refusal_of):
     given = {token.text for token in goals}
     loose = [t.text for t in head if t.kind in ("variable", "blank") and t.text not in given]
     text = place.text[clause.first.start : clause.tokens[-1].end]
-    told = [f"line {clause.first.line}: {' '.join(shown(text).split())}"]
-    if loose:
-        told[0] += f" says nothing of {', '.join(dict.fromkeys(loose))}"
-    return told
+    told = f"line {clause.first.line}: {shown(in_one_line(text))}"
+    return [told + (f" does not say which {joined(list(dict.fromkeys(loose)))}" if loose else "")]

@@ -49,7 +49,7 @@ def items(found):
         part = tuple(found[place : last + 1])
         kind = kind_of(part, types)
         if kind == "stage":
-            yield Item(kind, part[:3])
+            yield Item(kind, part)
             yield from rules(part[4:], part[1].text)
         else:
             yield Item(kind, part)

@@ -51,17 +51,25 @@ def read_text(path, most=-1):
 
 
 def printable(text):
-    """A text of others without the control characters by which it could write all over a terminal:
-    each but the tab is shown as `\\x1b`."""
-    return "".join(
-        f"\\x{ord(letter):02x}" if unicodedata.category(letter) == "Cc" and letter != "\t" else letter
-        for letter in text
-    )
+    """A text of others without the characters by which it could write all over a terminal, or which
+    do not show: each but the tab is shown by its number, as `\\x1b` or `\\ufeff`."""
+
+    def plain(letter):
+        if letter == "\t" or unicodedata.category(letter) not in ("Cc", "Cf"):
+            return letter
+        return f"\\x{ord(letter):02x}" if letter < "\x80" else f"\\u{ord(letter):04x}"
+
+    return "".join(map(plain, text))
 
 
 def shown(text):
     """Bytes as people read them, printable."""
     return printable(text.encode("latin-1").decode("utf-8", errors="replace"))
+
+
+def in_one_line(text):
+    """A part of a text in one line, without comments."""
+    return " ".join(re.sub(r"%[^\n]*", " ", text).split())
 
 
 def tokens(text):
@@ -216,8 +224,7 @@ class Reader:
     def source(self, first):
         """The text from a token up to here, in one line, without comments."""
         words = self.tokens[first : self.place]
-        text = re.sub(r"%[^\n]*", " ", self.text[words[0].start : words[-1].end])
-        return " ".join(text.split())
+        return in_one_line(self.text[words[0].start : words[-1].end])
 
     def atom(self):
         return Term(self.take().text, tuple(self.arguments()))

@@ -45,7 +45,7 @@ def run_on(place):
 
 
 def missing_star(place):
-    return run_on(place) and place.braces() not in ("context", "#trace")
+    return run_on(place) and place.in_rule() and place.braces() not in ("context", "#trace")
 
 
 def missing_comma(place):

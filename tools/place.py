@@ -124,11 +124,14 @@ class Place:
         """The name of the atom or term among whose arguments the place is, or None."""
         depth = 0
         for ahead in range(-1, -self.index - 1, -1):
-            depth += (self.at(ahead) == ")") - (self.at(ahead) == "(")
-            is_argument = self.kind(ahead - 1) in VALUES
+            word = self.at(ahead)
+            depth += (word == ")") - (word == "(")
             if depth < 0:
                 return self.token(ahead + 1) if ahead < -1 else None
-            if depth == 0 and not is_argument and self.at(ahead - 1) not in (")", "("):
+            if self.kind(ahead) not in VALUES and word not in ("(", ")"):
+                return None
+            is_argument = self.kind(ahead - 1) in VALUES or self.at(ahead - 1) in ("(", ")")
+            if depth == 0 and not is_argument:
                 return self.token(ahead) if self.kind(ahead) == "name" else None
         return None
 

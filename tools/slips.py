@@ -117,8 +117,9 @@ def star_in_clause(place):
 
 
 def missing_comma(place):
-    if place.at(-1) == "." and place.index >= 2:
-        yield from instead(place.token(-1), ",")
+    first, _ = place.bounds()
+    if first and place.tokens[first - 1].text == ".":
+        yield from instead(place.tokens[first - 1], ",")
     if place.at(0) == ".":
         yield from instead(place.token(0), ",")
     if not place.in_rule():
@@ -134,10 +135,15 @@ def missing_arrow(place):
 
 
 def missing_clause_arrow(place):
-    words = place.words()
-    if not place.in_rule() and not place.braces() and "<-" not in words:
+    """Between a head and a goal, where these stand in one line: a head with variables says nothing
+    alone."""
+    first, last = place.bounds()
+    if not place.in_rule() and not place.braces():
         for number in unjoined(place):
-            yield from before(place, number, "<- ")
+            token, previous = place.tokens[number], place.tokens[number - 1]
+            has_variable = any(t.kind == "variable" for t in place.tokens[first:number])
+            if has_variable and token.line == previous.line and number < last:
+                yield from before(place, number, "<- ")
 
 
 def clause_arrow_in_rule(place):
@@ -283,8 +289,8 @@ SLIPS = [
     ("a missing arrow", missing_arrow),
     ("a missing star", missing_star),
     ("a missing comma", missing_comma),
-    ("a missing dot", missing_dot),
     ("a missing arrow", missing_clause_arrow),
+    ("a missing dot", missing_dot),
     ("a missing colon", missing_colon),
     ("a declaration without its kind", missing_kind),
     ("a missing brace", missing_close),
@@ -304,6 +310,9 @@ TRIED = (
     "BadQui",
 )
 
+
+# A brace cuts an item in two, so that the program goes on after it says little.
+CUTTING = ("a missing brace",)
 
 # The phases in which the program looks at a text; names come third.
 PHASES = {"BadByte": 1, "NameLong": 1, "Unexpected": 2, "Nested": 2}
@@ -344,6 +353,6 @@ def tried(place, refusal_of):
             line = refusal_of(edit.of(place.text))
             if line is None:
                 return cause, edit, None
-            if further is None and goes_on(place, edit, line):
+            if further is None and cause not in CUTTING and goes_on(place, edit, line):
                 further = cause, edit, line
     return further

@@ -91,7 +91,7 @@ class Refusal:
         if self.tried():
             told.append(f"tried:  {self.tried()}")
         else:
-            hoped = wanted.told(place, refusal_of)
+            hoped = wanted.told(place, self.likely.cause, refusal_of)
             told += [f"wanted: {shown(hoped)}"] if hoped else []
         return told + self.seen() + self.meant()
 

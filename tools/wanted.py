@@ -51,9 +51,14 @@ def in_comment(text):
     return "%" in text[text.rfind("\n") + 1 :]
 
 
+def article(word):
+    """A word with the article before it."""
+    return f"an {word}" if word[:1] in "aeiou" else f"a {word}"
+
+
 def joined(words):
     """Words in a row, with `or` before the last."""
-    return " or ".join([", ".join(words[:-1]), words[-1]] if len(words) > 1 else words)
+    return " or ".join([", ".join(words[:-1]), *words[-1:]] if len(words) > 1 else words)
 
 
 def wanted_name(place):
@@ -69,7 +74,7 @@ def wanted_name(place):
     if head is None:
         return "a predicate", f"{' '.join([place.at(0), *argument_types(place)])} : pred."
     result = type_at(place, head)
-    return f"a {result}" if result else "a thing", f"{place.at(0)} : {result or 'TYPE'}."
+    return article(result or "thing"), f"{place.at(0)} : {result or 'TYPE'}."
 
 
 def is_type(place):
@@ -130,12 +135,12 @@ def variable_types(place, name):
             yield token, type_at(there, head) if head else ""
 
 
-def told(place, refusal_of):
-    """The line that says what is wanted, or None."""
+def told(place, cause, refusal_of):
+    """The line that says what is wanted, or nothing."""
     if place.reason == "Unexpected":
-        found = next_tokens(place, refusal_of)
-        return joined(found) if found else None
+        return joined(next_tokens(place, refusal_of))
     if place.reason in ("Unknown", "WrongKind") and place.kind(0) == "name":
         what, declaration = wanted_name(place)
-        return f"{what}; perhaps `{declaration}`" if place.reason == "Unknown" else what
-    return None
+        undeclared = cause == "a name that nothing declares"
+        return f"{what}; perhaps `{declaration}`" if undeclared else what
+    return ""

@@ -4,14 +4,23 @@ Where the explanation was changed, `tools/explain NAME.cep >NAME.told` in that f
 """
 
 import os
+import re
+import shutil
+import subprocess
 import tempfile
 import unittest
+from concurrent.futures import ThreadPoolExecutor
 
-from setting import TOP, module_of, read, tool
+from setting import TOOLS, TOP, module_of, read, tool, world_names
+import hints
+import limits
+import verdicts
 from language import read_text
-from program import refusal
+from program import MOST_LOG, MOST_WORLD, refusal, refusal_of
+from telling import CAUSES, REASONS
 
 FOLDER = os.path.join(TOP, "tools", "tests", "explain")
+APPLE = os.path.join(TOP, "worlds", "apple.cep")
 
 
 def column(heading, place):
@@ -37,41 +46,54 @@ def told(line_start):
 
 
 class Explain(unittest.TestCase):
+    def setUp(self):
+        self.folder = tempfile.mkdtemp()
+        self.addCleanup(shutil.rmtree, self.folder)
+
+    def written(self, text, name="w.cep"):
+        """The path of a file with this text, which goes with the test."""
+        path = os.path.join(self.folder, name)
+        with open(path, "w", encoding="utf-8") as file:
+            file.write(text)
+        return path
+
     def test_each_text_is_explained_as_it_was(self):
         explain = module_of("explain")
         names = sorted(name for name in os.listdir(FOLDER) if name.endswith(".cep"))
         self.assertGreaterEqual(len(names), 60)
-        os.chdir(FOLDER)
-        for name in names:
-            with self.subTest(text=name):
-                lines = explain.explanation(name, read_text(name), refusal(name))
-                self.assertEqual("\n".join(lines) + "\n", read(name[:-4] + ".told"))
+
+        def told_again(name):
+            path = os.path.join(FOLDER, name)
+            return explain.explanation(name, read_text(path), refusal(path))
+
+        with ThreadPoolExecutor(os.cpu_count()) as pool:
+            for name, lines in zip(names, pool.map(told_again, names)):
+                with self.subTest(text=name):
+                    self.assertEqual("\n".join(lines) + "\n", read(FOLDER, name[:-4] + ".told"))
 
     def test_a_text_that_is_refused(self):
         answer = tool("explain", "number.cep", folder=FOLDER)
         self.assertEqual(answer, (1, read(FOLDER, "number.told"), ""))
 
     def test_each_likely_cause_of_the_table_is_met(self):
-        causes = column("| likely cause | such as | how it is mended |", 0)
+        causes = column(CAUSES, 0)
         self.assertEqual(sorted(causes), sorted(told("likely: ")))
 
     def test_each_reason_is_met_but_a_text_that_is_too_long(self):
-        reasons = column("| refusal | where | an example | what to do |", 0)
+        reasons = column(REASONS, 0)
         met = {name.split(": ")[1] for name in told("") if ".cep:" in name}
         self.assertEqual(met | {"TooLong"}, {reason.split("`")[1] for reason in reasons})
 
     def test_a_text_that_is_too_long(self):
-        with tempfile.NamedTemporaryFile("w", suffix=".cep") as file:
-            file.write("% " + "a" * (1 << 20) + "\n")
-            file.flush()
-            status, output, _ = tool("explain", file.name)
+        path = self.written("% " + "a" * MOST_WORLD + "\n")
+        status, output, _ = tool("explain", path)
         self.assertEqual(status, 1)
         self.assertIn(":1:1: TooLong\n", output)
         self.assertIn("mend:   Shorten the text\n", output)
 
     def test_an_accepted_world(self):
-        answer = tool("explain", "worlds/apple.cep")
-        self.assertEqual(answer, (0, "worlds/apple.cep: accepted\n", ""))
+        told = "worlds/apple.cep: accepted\ngoals:  full (made by rules, needed by none)\n"
+        self.assertEqual(tool("explain", "worlds/apple.cep"), (0, told, ""))
 
     def test_what_cannot_be_run(self):
         self.assertEqual(tool("explain", "worlds/none.cep")[0], 3)
@@ -83,6 +105,216 @@ class Explain(unittest.TestCase):
         status, output, _ = tool("explain", "--help")
         self.assertEqual(status, 0)
         self.assertIn("usage: explain", output)
+
+    def test_each_limit_has_its_number_in_the_table(self):
+        numbers = " ".join(column("| what is limited | the most | `OverLimit` stands at |", 1))
+        for name, said in vars(limits).items():
+            if name.isupper() and isinstance(said, str):
+                for number in re.findall(r"[0-9][0-9,]*", said.rsplit(": ", 1)[1]):
+                    self.assertIn(number.rstrip(","), numbers)
+
+    def test_several_refusals_of_one_text(self):
+        status, output, _ = tool("explain", "--all", "two_slips.cep", folder=FOLDER)
+        self.assertEqual(status, 1)
+        self.assertIn("two_slips.cep:6:7: Unexpected\n", output)
+        self.assertIn("\nand after that, perhaps:\ntwo_slips.cep:13:9: Unexpected\n", output)
+        self.assertIn("tried:  with `:` put in at 13:8 the text is accepted\n", output)
+
+    def test_a_refusal_in_one_line_as_compilers_write_it(self):
+        status, output, _ = tool("explain", "--format=gcc", "--all", "two_slips.cep", folder=FOLDER)
+        self.assertEqual(status, 1)
+        lines = output.splitlines()
+        self.assertEqual(len(lines), 2)
+        self.assertTrue(lines[0].startswith("two_slips.cep:6:7: error: Unexpected: "), output)
+        self.assertIn("likely a missing colon; with `:` put in at 13:8", lines[1])
+
+    def test_what_is_read_is_bounded(self):
+        status, output, errors = tool("explain", "/dev/zero")
+        self.assertEqual((status, errors), (1, ""))
+        self.assertIn("/dev/zero:1:1: TooLong\n", output)
+        self.assertEqual(len(read_text("/dev/zero", MOST_WORLD)), MOST_WORLD + 1)
+
+    def test_a_pipe_is_read_once(self):
+        script = "tools/explain <(cat worlds/apple.cep); tools/explain <(echo 'a : b.')"
+        done = subprocess.run(["bash", "-c", script], cwd=TOP, capture_output=True, check=False)
+        self.assertEqual((done.returncode, done.stderr), (1, b""))
+        self.assertIn(b": accepted\n", done.stdout)
+        self.assertIn(b"1:5: Unknown\n", done.stdout)
+
+    def test_a_pipe_that_closes(self):
+        script = 'tools/explain "$0" | :; echo "${PIPESTATUS[0]}"'
+        path = self.written("a : " + "x" * 250 + ".\n")
+        for _ in range(3):
+            command = ["bash", "-c", script, path]
+            done = subprocess.run(command, cwd=TOP, capture_output=True, text=True, check=False)
+            self.assertEqual(done.stderr, "")
+            self.assertIn(done.stdout, ("141\n", "1\n"))
+
+    def test_a_full_disk(self):
+        with open("/dev/full", "w", encoding="utf-8") as full:
+            command = [os.path.join(TOOLS, "explain"), "worlds/apple.cep"]
+            done = subprocess.run(command, cwd=TOP, stdout=full, stderr=subprocess.PIPE, check=False)
+        self.assertEqual(done.returncode, 3)
+        self.assertEqual(done.stderr.count(b"\n"), 1)
+
+    def test_control_bytes_do_not_reach_the_terminal(self):
+        path = self.written("a : type.\n% \033[31mred\r\nb \033[2J a.\n", "w\033[1m.cep")
+        _, output, _ = tool("explain", path)
+        self.assertNotIn("\033", output)
+        self.assertIn("w\\x1b[1m.cep:3:3: BadByte\n", output)
+        self.assertIn("b \\x1b[2J a.\n", output)
+
+    def test_an_output_of_ascii(self):
+        path = self.written("caf\xe9 : place.\n")
+        status, output, errors = tool("explain", path, PYTHONIOENCODING="ascii")
+        self.assertEqual((status, errors), (1, ""))
+        self.assertIn("caf\\xe9 : place.", output)
+
+    def test_a_transcript_in_place_of_the_world(self):
+        _, output, _ = tool("explain", "worlds/apple.log", "worlds/apple.cep")
+        self.assertIn("the world comes first", output.splitlines()[0])
+
+
+class Hints(unittest.TestCase):
+    WORLD = """\
+t : type.
+u : type.
+c : t.
+d : t.
+p t : pred.
+q t : pred.
+r t : pred.
+s t : pred.
+b t : bwd.
+e t : bwd.
+b c.
+stage main = {
+  one : $p X * p Y * r Z -o q X.
+}
+stage far = {}
+away : qui * stage far -o stage main.
+#interactive main.
+context none = { p c }.
+#trace _ main { p c, s c }.
+"""
+
+    def found(self, text):
+        return [f"{hint.line}:{hint.column} {hint.said}" for hint in hints.found(text)]
+
+    def test_each_hint(self):
+        told = [
+            "2:1 `u` is never used",
+            "4:1 `d` is never used",
+            "7:1 `r` is needed, and nothing makes it",
+            "8:1 `s` is there from the start, and nothing needs it",
+            "9:1 `b` is said by clauses and never asked",
+            "10:1 `e` is never used",
+            "13:16 this `p` is taken, where the other is kept with `$`",
+            "13:18 `Y` stands once: write `_` if any will do",
+            "13:24 `Z` stands once: write `_` if any will do",
+            "15:7 no rule leads to the stage `far`",
+            "18:9 the context `none` is never used",
+        ]
+        self.assertIsNone(refusal_of(self.WORLD))
+        self.assertEqual(self.found(self.WORLD), told)
+        self.assertEqual(hints.goals(self.WORLD), ["q"])
+
+    def test_a_comment_says_that_it_is_meant(self):
+        text = self.WORLD.replace("u : type.", "u : type.  % meant: for later")
+        text = text.replace("  one :", "  % All this is meant.\n  one :")
+        lines = [hint.split(":")[0] for hint in self.found(text)]
+        self.assertEqual(lines, ["4", "7", "8", "9", "10", "16", "19"])
+
+    def test_no_hint_on_the_worlds_but_where_a_comment_says_why(self):
+        for name in world_names():
+            with self.subTest(world=name):
+                self.assertEqual(hints.found(read(TOP, "worlds", name + ".cep")), [])
+
+    def test_hints_are_told_after_accepted_and_alone(self):
+        with tempfile.NamedTemporaryFile("w", suffix=".cep") as file:
+            file.write(self.WORLD)
+            file.flush()
+            status, output, _ = tool("explain", file.name)
+            self.assertEqual(status, 0)
+            self.assertTrue(output.startswith(f"{file.name}: accepted\n{file.name}:2:1: hint: "))
+            status, output, _ = tool("explain", "--hints", file.name)
+            self.assertEqual((status, len(output.splitlines())), (1, 11))
+            _, output, _ = tool("explain", "--format=gcc", file.name)
+            self.assertIn(":2:1: warning: `u` is never used\n", output)
+        self.assertEqual(tool("explain", "--hints", "worlds/manor.cep"), (0, "", ""))
+
+
+class Transcripts(unittest.TestCase):
+    LOG = read(TOP, "worlds", "apple.log")
+
+    def told(self, text, *words):
+        """What is told of a transcript with these bytes, and its mend carried out."""
+        with tempfile.TemporaryDirectory() as folder:
+            path = os.path.join(folder, "a log")
+            with open(path, "wb") as file:
+                file.write(text)
+            status, output, errors = tool("explain", *words, APPLE, path, folder=folder)
+            self.assertEqual(errors, "")
+            mends = [x.removeprefix("mend:   ") for x in output.splitlines() if x.startswith("mend:")]
+            for mend in mends if "tried:" in output else []:
+                subprocess.run(["bash", "-c", mend], cwd=folder, check=True)
+                path = os.path.join(folder, re.search(r"new\d*\.log", mend.split(">")[-1])[0])
+            return status, output, tool("explain", APPLE, path)[0]
+
+    def test_an_accepted_one(self):
+        path = "worlds/apple.log"
+        self.assertEqual(tool("explain", APPLE, path), (0, f"{path}: accepted 2\n", ""))
+
+    def test_each_fault_of_form_is_mended_by_its_line(self):
+        log = self.LOG.encode()
+        spaced = log.replace(b"\n", b"  \n")
+        typed = b"$ ./ceptre play\n" + log.replace(b"? choose\n", b"? choose\n1\n")
+        for name, text in {
+            "a byte-order mark": b"\xef\xbb\xbf" + log,
+            "a text in UTF-16": self.LOG.encode("utf-16"),
+            "spaces at the edges of lines": spaced,
+            "a copy of the terminal with what was typed": typed,
+            "line ends of carriage returns alone": log.replace(b"\n", b"\r"),
+        }.items():
+            with self.subTest(fault=name):
+                status, output, mended = self.told(text)
+                self.assertEqual((status, mended), (1, 0), output)
+                self.assertIn(f"likely: {name}\n", output)
+                self.assertIn("tried:  so mended it is accepted 2\n", output)
+
+    def test_what_no_line_mends(self):
+        cut = self.LOG[: self.LOG.index("end ")]
+        for name, text in {
+            "cut before its end": cut,
+            "an empty file": "",
+            "another world": read(TOP, "worlds", "river.log"),
+            "no transcript": "Dear teacher,\n",
+        }.items():
+            with self.subTest(fault=name):
+                status, output, _ = self.told(text.encode())
+                self.assertEqual(status, 1)
+                self.assertIn(f"likely: {name}\n", output)
+
+    def test_one_that_is_too_long(self):
+        start = self.LOG.index("? 1")
+        long = self.LOG[:start] + "? no\n" * (MOST_LOG // 5) + self.LOG[start:]
+        status, output, _ = self.told(long.encode())
+        self.assertEqual(status, 1)
+        self.assertIn("grep -av '^?'", output)
+
+    def test_a_step_that_is_not_legal(self):
+        text = self.LOG.replace("step sell P=ann", "step sell P=ben")
+        status, output, _ = self.told(text.encode())
+        self.assertEqual(status, 1)
+        self.assertIn("reason: The step takes something that is not there\n", output)
+        self.assertNotIn("likely:", output)
+        _, output, _ = self.told(text.encode(), "--format=gcc")
+        self.assertIn(":9:1: error: NotContained: The step takes", output)
+
+    def test_each_cause_of_the_formats_has_its_words(self):
+        table = read(TOP, "docs", "FORMATS.md").split("| such as |")[1].split("\n\n")[0]
+        causes = set(re.findall(r"^\| `(?:LINE|0) (\w+)", table, re.MULTILINE)) - {"NewTooLong"}
+        self.assertEqual(causes, set(verdicts.MEANINGS))
 
 
 if __name__ == "__main__":

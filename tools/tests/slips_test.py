@@ -1,0 +1,20 @@
+"""Slips of a token, over all worlds: nearly all are told with the right cause, and none with a false one."""
+
+import os
+import unittest
+
+from setting import TOOLS, module_of
+
+slips = module_of(os.path.join(TOOLS, "tests", "measure_slips"))
+
+
+class Slips(unittest.TestCase):
+    def test_slips_of_a_token_are_told_right(self):
+        lines = []
+        total = slips.measure(slips.TRIES, slips.SEED, lambda _, others: lines.extend(others))
+        self.assertGreaterEqual(slips.share(total), slips.ENOUGH, "\n".join(lines))
+        self.assertEqual(total["false"], 0, "\n".join(lines))
+
+
+if __name__ == "__main__":
+    unittest.main()
