@@ -12,7 +12,7 @@ use Rattle.cep_parse.specs.declared.raw.RawAtom.{RawAtom}
 use Rattle.cep_base.proofs.Bytes.{any_map}
 use Rattle.cep_base.proofs.Elements.{contains_none, contains_cases, contains_first, contains_behind, contains_left, contains_right}
 use Rattle.cep_source.specs.Items.{Source, said}
-use Rattle.cep_source.specs.Firsts.{has_name, under_name, added}
+use Rattle.cep_base.specs.FirstNames.{has_name, under_name, added}
 use Rattle.cep_source.specs.Uses.{stands_for_context}
 use Rattle.cep_source.specs.Starts.{listed_in, nodes_written, is_of_fact, are_nodes_alike, is_written_alike, counting_behind, counting}
 use Rattle.cep_faults.specs.declared.traces.Counted.{Counted}

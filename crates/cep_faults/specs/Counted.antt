@@ -3,7 +3,7 @@
 use Rattle.std.specs.Prelude.{◌≡◌, ℕ, List, [], ◌+◌, ◌-◌, ◌^◌, Some, map, filter, not, length, min, sum_by, Contains}
 use Rattle.cep_parse.specs.declared.raw.RawAtom.{RawAtom}
 use Rattle.cep_source.specs.Items.{Source}
-use Rattle.cep_source.specs.Firsts.{under_name}
+use Rattle.cep_base.specs.FirstNames.{under_name}
 use Rattle.cep_source.specs.Starts.{listed_in, nodes_written, is_of_fact, counting}
 use Rattle.cep_faults.specs.declared.traces.Size.{Size}
 use Rattle.cep_faults.specs.declared.traces.Counted.{Counted}

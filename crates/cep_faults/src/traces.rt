@@ -12,9 +12,10 @@ ghost use Rattle.cep_faults.specs.Totals.{start_faults, two_faults, traces_fault
 
 use crate::facts::{is_of_fact, key_of};
 use crate::limits::start_past;
+use cep_base::FirstNames;
 use cep_parse::{RawAtom, RawStart, Span};
 use cep_refusal::{Fault, FirstFault, Reason};
-use cep_source::{FirstNames, Source, TraceRef};
+use cep_source::{Source, TraceRef};
 use std::alloc::{AllocError, Global};
 
 /// How many atoms there are, each a copy, and how many nodes they have.

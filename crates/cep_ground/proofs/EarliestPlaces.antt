@@ -4,7 +4,7 @@ use Rattle.std.proofs.lemmas.Bool.{ltb-true, ltb-false}
 use Rattle.std.specs.Prelude.{Some}
 use Rattle.std.specs.List.{flat_map}
 use Rattle.cep_base.specs.declared.place.Pos.{Pos}
-use Rattle.cep_lex.specs.Places.{IsPlaceBehind}
+use Rattle.cep_lex.specs.Places.{IsPlaceAfter}
 use Rattle.cep_infer.specs.Places.{ArePlaces, ArePlaceLists}
 use Rattle.cep_ground.specs.Earliest.{IsEarliest}
 use Rattle.cep_base.proofs.Elements.{contains_none, contains_first, contains_behind, contains_cases}
@@ -28,28 +28,28 @@ joined text (xs ∷ ats) (ps ∷ lists) are = both_places text xs ps (flat_map (
 pub record AtPos (text : List ℕ) (ps : List Pos) (at : ℕ) : Type 0 where
   pub pos : Pos
   pub there : Contains ps pos
-  pub is : IsPlaceBehind (take at text) pos
+  pub is : IsPlaceAfter (take at text) pos
 
 pub at_pos : (text : List ℕ) (ats : List ℕ) (ps : List Pos) (at : ℕ) → ArePlaces text ats ps → Contains ats at → AtPos text ps at
 at_pos text [] ps at are there = absurd (contains_none at there)
 at_pos text (a ∷ ats) [] at are there = absurd are
 at_pos text (a ∷ ats) (p ∷ ps) at are there =
     ⊎_elim
-    (λ (same : a ≡ at). record { pos = p; there = contains_first p ps; is = subst (λ n. IsPlaceBehind (take n text) p) same are.0 })
+    (λ (same : a ≡ at). record { pos = p; there = contains_first p ps; is = subst (λ n. IsPlaceAfter (take n text) p) same are.0 })
     (λ later. let rest = at_pos text ats ps at are.1 later in record { pos = rest.pos; there = contains_behind p ps rest.pos rest.there; is = rest.is })
     (contains_cases a ats at there)
 
 record AtByte (text : List ℕ) (ats : List ℕ) (pos : Pos) : Type 0 where
   at : ℕ
   there : Contains ats at
-  is : IsPlaceBehind (take at text) pos
+  is : IsPlaceAfter (take at text) pos
 
 at_byte : (text : List ℕ) (ats : List ℕ) (ps : List Pos) (pos : Pos) → ArePlaces text ats ps → Contains ps pos → AtByte text ats pos
 at_byte text ats [] pos are there = absurd (contains_none pos there)
 at_byte text [] (p ∷ ps) pos are there = absurd are
 at_byte text (a ∷ ats) (p ∷ ps) pos are there =
     ⊎_elim
-    (λ (same : p ≡ pos). record { at = a; there = contains_first a ats; is = subst (λ q. IsPlaceBehind (take a text) q) same are.0 })
+    (λ (same : p ≡ pos). record { at = a; there = contains_first a ats; is = subst (λ q. IsPlaceAfter (take a text) q) same are.0 })
     (λ later. let rest = at_byte text ats ps pos are.1 later in record { at = rest.at; there = contains_behind a ats rest.at rest.there; is = rest.is })
     (contains_cases p ps pos there)
 
@@ -76,7 +76,7 @@ pub record IsLeastAt (text : List ℕ) (ats : List ℕ) (pos : Pos) : Type 0 whe
   pub at : ℕ
   pub there : Contains ats at
   pub least : (n : ℕ) → Contains ats n → at ≤ n
-  pub pos_is : IsPlaceBehind (take at text) pos
+  pub pos_is : IsPlaceAfter (take at text) pos
 
 pub least_at : (text ats all : List ℕ) → ats ≡ all → (ps : List Pos) → ArePlaces text ats ps → (pos : Pos) → IsEarliest ps (Some pos) → IsLeastAt text ats pos
 least_at text ats [] is ps are pos earliest =
@@ -93,5 +93,5 @@ least_at text ats (n ∷ ns) is ps are pos earliest =
       at = least.least;
       there = there;
       least = λ m inside. least.first m (subst (λ ms. Contains ms m) is inside);
-      pos_is = subst (λ q. IsPlaceBehind (take least.least text) q) same own.is;
+      pos_is = subst (λ q. IsPlaceAfter (take least.least text) q) same own.is;
     }

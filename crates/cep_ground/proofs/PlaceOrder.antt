@@ -5,7 +5,7 @@ use Rattle.std.proofs.lemmas.Bool.{eqb-false}
 use Rattle.std.specs.Prelude.{◌==◌, sum_by, cond}
 use Rattle.cep_base.specs.declared.place.Pos.{Pos}
 use Rattle.cep_base.specs.Spelling.{IsUnbroken}
-use Rattle.cep_lex.specs.Places.{IsPlaceBehind, IsEnded}
+use Rattle.cep_lex.specs.Places.{IsPlaceAfter, IsEnded}
 use Rattle.cep_ground.specs.Refusals.{StandsBefore}
 
 -- a line feed is no part of bytes that none breaks
@@ -81,7 +81,7 @@ no_breaks (byte ∷ bytes) none =
     (not_break byte (byte == 10) refl (omega (arith, none, step)), no_breaks bytes (omega (arith, none, step)))
 
 -- a place with more bytes before it does not stand before one with fewer
-pub later_place : (before mid : List ℕ) (pos pos' : Pos) → IsPlaceBehind before pos → IsPlaceBehind (before ++ mid) pos' → ¬ (StandsBefore pos' pos)
+pub later_place : (before mid : List ℕ) (pos pos' : Pos) → IsPlaceAfter before pos → IsPlaceAfter (before ++ mid) pos' → ¬ (StandsBefore pos' pos)
 later_place before mid pos pos' is is' earlier =
     let lines = sum_by-append one_break before mid in
     let one = is.line in
@@ -112,9 +112,9 @@ take_more (suc at) further (byte ∷ text) =
     (rest.0, ap (λ n. take n (byte ∷ text)) e ∙ ap (λ bytes. byte ∷ bytes) rest.1)
 
 -- so places stand in the order of their bytes
-pub places_rise : (text : List ℕ) (at at' : ℕ) (pos pos' : Pos) → at ≤ at' → IsPlaceBehind (take at text) pos → IsPlaceBehind (take at' text) pos' → ¬ (StandsBefore pos' pos)
+pub places_rise : (text : List ℕ) (at at' : ℕ) (pos pos' : Pos) → at ≤ at' → IsPlaceAfter (take at text) pos → IsPlaceAfter (take at' text) pos' → ¬ (StandsBefore pos' pos)
 places_rise text at at' pos pos' less is is' =
     let further = at' - at in
     let e : at' ≡ at + (at' - at) = omega (arith, less) in
     let more_ = take_more at (at' - at) text in
-    later_place (take at text) more_.0 pos pos' is (subst (λ bytes. IsPlaceBehind bytes pos') (ap (λ n. take n text) e ∙ more_.1) is')
+    later_place (take at text) more_.0 pos pos' is (subst (λ bytes. IsPlaceAfter bytes pos') (ap (λ n. take n text) e ∙ more_.1) is')

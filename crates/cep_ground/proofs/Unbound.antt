@@ -3,7 +3,7 @@ use Rattle.std.proofs.Common.{◌≡◌, ℕ, ◌≤◌, List, [], ◌∷◌, ma
 use Rattle.std.specs.Prelude.{Some, None}
 use Rattle.std.specs.List.{flat_map}
 use Rattle.cep_base.specs.declared.place.Pos.{Pos}
-use Rattle.cep_lex.specs.Places.{IsPlaceBehind}
+use Rattle.cep_lex.specs.Places.{IsPlaceAfter}
 use Rattle.cep_source.specs.Items.{Source, RuleItem, rules_of}
 use Rattle.cep_source.specs.Variables.{Occurrence}
 use Rattle.cep_infer.specs.Places.{unbound_of, unbound_at, ArePlaceLists}
@@ -19,7 +19,7 @@ pub record IsFirstUnbound (source : Source) (pos : Pos) : Type 0 where
   pub there : Contains (rules_of source) rule
   pub inside : Contains (unbound_of source rule) occurrence
   pub least : (rule' : RuleItem) (o' : Occurrence) → Contains (rules_of source) rule' → Contains (unbound_of source rule') o' → occurrence.at.from ≤ o'.at.from
-  pub pos_is : IsPlaceBehind (take occurrence.at.from source.text) pos
+  pub pos_is : IsPlaceAfter (take occurrence.at.from source.text) pos
 
 module _ (source : Source) where
   at_there : (rule : RuleItem) (o : Occurrence) → Contains (rules_of source) rule → Contains (unbound_of source rule) o → Contains (flat_map (λ (xs : List ℕ). xs) (map (unbound_at source) (rules_of source))) o.at.from
@@ -42,7 +42,7 @@ module _ (source : Source) where
         there = rule.there;
         inside = o.there;
         least = λ rule' o' there' inside'. let l = least.least o'.at.from (at_there rule' o' there' inside') in let e = o.same in omega (arith, l, e);
-        pos_is = subst (λ k. IsPlaceBehind (take k source.text) pos) (sym o.same) least.pos_is;
+        pos_is = subst (λ k. IsPlaceAfter (take k source.text) pos) (sym o.same) least.pos_is;
       }
 
   no_occurrence : (os : List Occurrence) → ((o : Occurrence) → Contains os o → ⊥) → os ≡ []

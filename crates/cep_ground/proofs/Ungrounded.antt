@@ -7,7 +7,7 @@ use Rattle.cep_base.specs.declared.place.Pos.{Pos}
 use Rattle.cep_base.proofs.Lists.{none_some, some_same, get_mapped, all_from_places}
 use Rattle.cep_base.proofs.Members.{in_got, to_contains}
 use Rattle.cep_base.proofs.Elements.{contains_none}
-use Rattle.cep_lex.specs.Places.{IsPlaceBehind}
+use Rattle.cep_lex.specs.Places.{IsPlaceAfter}
 use Rattle.cep_rule.specs.declared.rule.Rule.{Rule}
 use Rattle.cep_rule.specs.declared.parts.Parts.{Parts}
 use Rattle.cep_rule.specs.Patterns.{ClauseTree}
@@ -93,7 +93,7 @@ pub record IsFirstUngrounded (source : Source) (pos : Pos) : Type 0 where
   pub at : ℕ
   pub is : IsUngroundedIn source at
   pub least : (other : ℕ) → IsUngroundedIn source other → at ≤ other
-  pub pos_is : IsPlaceBehind (take at source.text) pos
+  pub pos_is : IsPlaceAfter (take at source.text) pos
 
 module _ (source : Source) (parts : Parts) (are : AreParts source parts) (marks : List (List Bool)) (marked : AreAllMarks parts.clauses parts.rules marks) where
   -- what stands at a marked place is ungrounded

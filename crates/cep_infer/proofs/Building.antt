@@ -23,7 +23,7 @@ use Rattle.cep_infer.proofs.FirstOccurrences.{names_met, kinds_are_met}
 use Rattle.cep_source.specs.declared.variables.Variables.{Variables}
 use Rattle.cep_source.specs.Variables.{blanks_after}
 use Rattle.cep_source.specs.Met.{none_met}
-use Rattle.cep_source.specs.Firsts.{names_among}
+use Rattle.cep_base.specs.FirstNames.{names_among}
 
 module _ (source : Source) (vars : List (List ℕ)) where
   pub atoms_both : (blanks : ℕ) (one two : List RawAtom) (ts us : List AtomTree) → AreAtomsBy source vars blanks one ts → AreAtomsBy source vars (blanks_after blanks (raw_nodes one)) two us → AreAtomsBy source vars blanks (one ++ two) (ts ++ us)

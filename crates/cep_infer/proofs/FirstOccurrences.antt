@@ -23,7 +23,7 @@ use Rattle.cep_base.proofs.Bytes.{bytes_eq_sym}
 use Rattle.cep_base.proofs.FirstNamed.{found, or_found, found_both, found_kept}
 use Rattle.cep_infer.proofs.Meeting.{nodes_at}
 use Rattle.cep_source.specs.declared.variables.Variables.{Variables}
-use Rattle.cep_source.specs.Firsts.{names_among}
+use Rattle.cep_base.specs.FirstNames.{names_among}
 use Rattle.cep_source.specs.Met.{none_met}
 
 -- whether a name is among names

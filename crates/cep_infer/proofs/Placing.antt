@@ -8,7 +8,7 @@ use Rattle.std.proofs.lemmas.List.Sums.{count_by-le-length, sum_by_push}
 use Rattle.std.proofs.lemmas.Slice.{between_is}
 use Rattle.cep_base.specs.declared.place.Pos.{Pos}
 use Rattle.cep_base.specs.Spelling.{IsUnbroken}
-use Rattle.cep_lex.specs.Places.{IsPlaceBehind}
+use Rattle.cep_lex.specs.Places.{IsPlaceAfter}
 use Rattle.cep_infer.specs.declared.places.Reached.{Reached}
 use Rattle.cep_infer.specs.Places.{IsReached, ArePlaces, ArePlaceLists}
 
@@ -28,7 +28,7 @@ counted_more : (before : List ℕ) (byte : ℕ) → byte ≢ 10 → breaks (befo
 counted_more before byte is = sum_by_push (λ b. cond (b == 10) 1 0) before byte ∙ ap (λ b. breaks before + cond b 1 0) (ne_eqb byte 10 is)
 
 -- behind an LF
-pub place_break : (before : List ℕ) (byte line : ℕ) (pos : Pos) → byte ≡ 10 → line ≡ pos.line + 1 → IsPlaceBehind before pos → IsPlaceBehind (before ++ byte ∷ []) (record { line = line; col = 1 })
+pub place_break : (before : List ℕ) (byte line : ℕ) (pos : Pos) → byte ≡ 10 → line ≡ pos.line + 1 → IsPlaceAfter before pos → IsPlaceAfter (before ++ byte ∷ []) (record { line = line; col = 1 })
 place_break before byte line pos is line_is place = record {
   lines = before ++ 10 ∷ [];
   bytes = [];
@@ -40,7 +40,7 @@ place_break before byte line pos is line_is place = record {
 }
 
 -- behind another byte
-pub place_more : (before : List ℕ) (byte col : ℕ) (pos : Pos) → byte ≢ 10 → col ≡ pos.col + 1 → IsPlaceBehind before pos → IsPlaceBehind (before ++ byte ∷ []) (record { line = pos.line; col = col })
+pub place_more : (before : List ℕ) (byte col : ℕ) (pos : Pos) → byte ≢ 10 → col ≡ pos.col + 1 → IsPlaceAfter before pos → IsPlaceAfter (before ++ byte ∷ []) (record { line = pos.line; col = col })
 place_more before byte col pos is col_is place = record {
   lines = place.lines;
   bytes = place.bytes ++ byte ∷ [];
@@ -53,12 +53,12 @@ place_more before byte col pos is col_is place = record {
 
 -- ---- some bytes further
 
-pub no_bytes : (before : List ℕ) (pos : Pos) → IsPlaceBehind before pos → IsPlaceBehind (before ++ []) pos
-no_bytes before pos place = subst (λ (bytes : List ℕ). IsPlaceBehind bytes pos) (sym (append-nil before)) place
+pub no_bytes : (before : List ℕ) (pos : Pos) → IsPlaceAfter before pos → IsPlaceAfter (before ++ []) pos
+no_bytes before pos place = subst (λ (bytes : List ℕ). IsPlaceAfter bytes pos) (sym (append-nil before)) place
 
-pub bytes_more : (before bytes : List ℕ) (i d : ℕ) (pos : Pos) → i < length bytes → IsPlaceBehind ((before ++ take i bytes) ++ get_or bytes i d ∷ []) pos → IsPlaceBehind (before ++ take (i + 1) bytes) pos
+pub bytes_more : (before bytes : List ℕ) (i d : ℕ) (pos : Pos) → i < length bytes → IsPlaceAfter ((before ++ take i bytes) ++ get_or bytes i d ∷ []) pos → IsPlaceAfter (before ++ take (i + 1) bytes) pos
 bytes_more before bytes i d pos h place =
-    subst (λ (bytes_ : List ℕ). IsPlaceBehind bytes_ pos) (append_assoc before (take i bytes) (get_or bytes i d ∷ []) ∙ ap (λ b. before ++ b) (sym (take_more bytes i d h))) place
+    subst (λ (bytes_ : List ℕ). IsPlaceAfter bytes_ pos) (append_assoc before (take i bytes) (get_or bytes i d ∷ []) ∙ ap (λ b. before ++ b) (sym (take_more bytes i d h))) place
 
 -- ---- places in a text
 
@@ -86,14 +86,14 @@ start_is text from start to reached (inr again) = subst (λ (r : Reached). IsSta
 
 -- a place further on, which is said by a number that may lie behind the text
 pub reached_is : (text : List ℕ) (start : Reached) (at to : ℕ) (pos : Pos) → to ≡ min at (length text) → start.at ≤ to → IsReached text start
-    → ((before : List ℕ) → IsPlaceBehind before start.pos → IsPlaceBehind (before ++ slice_range text start.at to) pos) → IsReached text (record { at = to; pos = pos })
+    → ((before : List ℕ) → IsPlaceAfter before start.pos → IsPlaceAfter (before ++ slice_range text start.at to) pos) → IsReached text (record { at = to; pos = pos })
 reached_is text start at to pos is h from further = record {
   within = let below = min-le_right at (length text) in omega arith;
-  place = subst (λ (bytes : List ℕ). IsPlaceBehind bytes pos) (joined text start.at to h) (further (take start.at text) from.place);
+  place = subst (λ (bytes : List ℕ). IsPlaceAfter bytes pos) (joined text start.at to h) (further (take start.at text) from.place);
 }
 
-pub place_there : (text : List ℕ) (at to : ℕ) (pos : Pos) → to ≡ min at (length text) → IsReached text (record { at = to; pos = pos }) → IsPlaceBehind (take at text) pos
-place_there text at to pos is reached = subst (λ (bytes : List ℕ). IsPlaceBehind bytes pos) (ap (λ n. take n text) is ∙ take_min at text) reached.place
+pub place_there : (text : List ℕ) (at to : ℕ) (pos : Pos) → to ≡ min at (length text) → IsReached text (record { at = to; pos = pos }) → IsPlaceAfter (take at text) pos
+place_there text at to pos is reached = subst (λ (bytes : List ℕ). IsPlaceAfter bytes pos) (ap (λ n. take n text) is ∙ take_min at text) reached.place
 
 range_short : (text : List ℕ) (from to : ℕ) → length (slice_range text from to) ≤ length text
 range_short text from to =
@@ -119,13 +119,13 @@ col_fits text start to short is =
 
 -- ---- one place more
 
-places_push : (text ats : List ℕ) (places : List Pos) (at : ℕ) (pos : Pos) → ArePlaces text ats places → IsPlaceBehind (take at text) pos → ArePlaces text (ats ++ at ∷ []) (places ++ pos ∷ [])
+places_push : (text ats : List ℕ) (places : List Pos) (at : ℕ) (pos : Pos) → ArePlaces text ats places → IsPlaceAfter (take at text) pos → ArePlaces text (ats ++ at ∷ []) (places ++ pos ∷ [])
 places_push text [] [] at pos are is = (is, tt)
 places_push text [] (p ∷ places) at pos are is = absurd are
 places_push text (a ∷ ats) [] at pos are is = absurd are
 places_push text (a ∷ ats) (p ∷ places) at pos are is = (are.0, places_push text ats places at pos are.1 is)
 
-pub places_more : (text ats : List ℕ) (i d : ℕ) (old new : List Pos) (pos : Pos) → i < length ats → ArePlaces text (take i ats) old → IsPlaceBehind (take (get_or ats i d) text) pos → new ≡ old ++ pos ∷ [] → ArePlaces text (take (i + 1) ats) new
+pub places_more : (text ats : List ℕ) (i d : ℕ) (old new : List Pos) (pos : Pos) → i < length ats → ArePlaces text (take i ats) old → IsPlaceAfter (take (get_or ats i d) text) pos → new ≡ old ++ pos ∷ [] → ArePlaces text (take (i + 1) ats) new
 places_more text ats i d old new pos h are is new_is =
     subst (λ (ps : List Pos). ArePlaces text (take (i + 1) ats) ps) (sym new_is)
     (subst (λ (as_ : List ℕ). ArePlaces text as_ (old ++ pos ∷ [])) (sym (take_more ats i d h)) (places_push text (take i ats) old (get_or ats i d) pos are is))

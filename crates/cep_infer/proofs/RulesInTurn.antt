@@ -17,7 +17,7 @@ use Rattle.cep_source.specs.Uses.{stages_at, stages_named}
 use Rattle.cep_source.specs.Variables.{blanks_after}
 use Rattle.cep_source.specs.Kept.{rule_item}
 use Rattle.cep_source.specs.Met.{none_met}
-use Rattle.cep_source.specs.Firsts.{names_among}
+use Rattle.cep_base.specs.FirstNames.{names_among}
 use Rattle.cep_types.specs.Sites.{rule_scope}
 use Rattle.cep_types.specs.Heads.{number_of}
 use Rattle.cep_types.specs.Met.{AreMet, kinds_met}

@@ -20,7 +20,7 @@ use Rattle.cep_infer.specs.Meaning.{names_of}
 use Rattle.cep_infer.specs.Places.{unbound_at}
 use Rattle.cep_base.proofs.Bytes.{bytes_eq_sym}
 use Rattle.cep_source.specs.declared.variables.Variables.{Variables}
-use Rattle.cep_source.specs.Firsts.{has_name, names_among}
+use Rattle.cep_base.specs.FirstNames.{has_name, names_among}
 use Rattle.cep_source.specs.Met.{AreVariables}
 
 -- what is made of those that pass, of two parts

@@ -3,7 +3,7 @@ use Rattle.std.specs.Prelude.{ℕ, ◌≤◌, not, List, [], ◌∷◌, map, fil
 use Rattle.std.specs.Str.{bytes_eq}
 use Rattle.std.specs.List.{list_any}
 use Rattle.cep_base.specs.declared.place.Pos.{Pos}
-use Rattle.cep_lex.specs.Places.{IsPlaceBehind}
+use Rattle.cep_lex.specs.Places.{IsPlaceAfter}
 use Rattle.cep_source.specs.Items.{Source, RuleItem, rules_of}
 use Rattle.cep_parse.specs.Raw.{atoms_of, raw_nodes}
 use Rattle.cep_source.specs.Variables.{Occurrence, occurrences_from, blanks_after}
@@ -29,14 +29,14 @@ unbound_at source item = map (λ occurrence. occurrence.at.from) (unbound_of sou
 -- The place lies within the text, and its line and column are those of what stands before it.
 pub record IsReached (text : List ℕ) (reached : Reached) : Type 0 where
   pub within : reached.at ≤ length text
-  pub place : IsPlaceBehind (take reached.at text) reached.pos
+  pub place : IsPlaceAfter (take reached.at text) reached.pos
 
 -- The lines and columns are those of these places, one after another.
 abbrev pub ArePlaces : List ℕ → List ℕ → List Pos → Type 0
 ArePlaces text [] [] = Unit {0}
 ArePlaces text [] (pos ∷ places) = ⊥
 ArePlaces text (at ∷ rest) [] = ⊥
-ArePlaces text (at ∷ rest) (pos ∷ places) = IsPlaceBehind (take at text) pos × ArePlaces text rest places
+ArePlaces text (at ∷ rest) (pos ∷ places) = IsPlaceAfter (take at text) pos × ArePlaces text rest places
 
 -- For each list of places one list of lines and columns.
 abbrev pub ArePlaceLists : List ℕ → List (List ℕ) → List (List Pos) → Type 0

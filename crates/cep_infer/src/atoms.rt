@@ -1,7 +1,7 @@
 // Atoms of one side, one clause or one state, one after another.
 ghost use Rattle.std.specs.Prelude.{◌≡◌, ◌∷◌, [], IfOk, OnOk};
 ghost use Rattle.cep_parse.specs.Raw.{atoms_of};
-ghost use Rattle.cep_source.specs.Firsts.{names_among};
+ghost use Rattle.cep_base.specs.FirstNames.{names_among};
 ghost use Rattle.cep_infer.specs.Heads.{AreAtomsBy};
 ghost use Rattle.cep_infer.specs.Built.{AreBuilt};
 

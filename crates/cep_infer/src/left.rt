@@ -3,7 +3,7 @@ ghost use Rattle.std.specs.Prelude.{◌≡◌, ◌||◌, ◌∷◌, [], slice_ge
 ghost use Rattle.std.specs.Option.{option_map};
 ghost use Rattle.cep_term.specs.Tree.{atom_of};
 ghost use Rattle.cep_source.specs.Items.{preds_of};
-ghost use Rattle.cep_source.specs.Firsts.{names_among};
+ghost use Rattle.cep_base.specs.FirstNames.{names_among};
 ghost use Rattle.cep_infer.specs.Meaning.{is_back, is_fact_by};
 ghost use Rattle.cep_infer.specs.Built.{IsLeftBuilt};
 

@@ -1,11 +1,11 @@
 // The lines and columns of many places.
 ghost use Rattle.std.specs.Prelude.{◌≡◌, ◌<◌, ◌≤◌, ◌+◌, ◌^◌, ◌++◌, ℕ, List, length, take, not, map, filter, IfOk, OnOk};
 ghost use Rattle.cep_base.specs.declared.limits.TheConstants.{MOST_TEXT};
-ghost use Rattle.cep_lex.specs.Places.{IsPlaceBehind};
+ghost use Rattle.cep_lex.specs.Places.{IsPlaceAfter};
 ghost use Rattle.cep_source.specs.Items.{rules_of};
 ghost use Rattle.cep_source.specs.Variables.{occurrences_from, blanks_after};
 ghost use Rattle.cep_source.specs.Kept.{rule_item};
-ghost use Rattle.cep_source.specs.Firsts.{has_name};
+ghost use Rattle.cep_base.specs.FirstNames.{has_name};
 ghost use Rattle.cep_infer.specs.Places.{IsReached, ArePlaces, ArePlaceLists, backs_at, unbound_at};
 
 use crate::draft::{PlaceLists, Places};
@@ -37,7 +37,7 @@ pub(crate) struct RulePlaces {
 fn passed(pos: Pos, bytes: &[u8]) -> Pos
     requires line { pos.line + length bytes.now < 2 ^ 32 }
     requires col { pos.col + length bytes.now < 2 ^ 32 }
-    ensures { (before : List ℕ) → IsPlaceBehind before pos → IsPlaceBehind (before ++ bytes.now) result }
+    ensures { (before : List ℕ) → IsPlaceAfter before pos → IsPlaceAfter (before ++ bytes.now) result }
 {
     let mut behind = pos;
     for byte in bytes {
@@ -57,7 +57,7 @@ fn reach(text: &[u8], from: Reached, at: u32) -> Reached
     requires short { length text.now ≤ MOST_TEXT }
     requires reached { IsReached text.now from }
     ensures reached { IsReached text.now result }
-    ensures there { IsPlaceBehind (take at text.now) result.pos }
+    ensures there { IsPlaceAfter (take at text.now) result.pos }
 {
     let to = (at as usize).min(text.len());
     let start = if from.at <= to { from } else { FRONT };

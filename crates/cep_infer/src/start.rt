@@ -8,7 +8,7 @@ ghost use Rattle.cep_term.specs.Tree.{IsGroundAtom, atom_of};
 ghost use Rattle.cep_source.specs.Items.{traces_of};
 ghost use Rattle.cep_source.specs.Starts.{start_atoms};
 ghost use Rattle.cep_source.specs.Kept.{trace_item};
-ghost use Rattle.cep_source.specs.Firsts.{names_among};
+ghost use Rattle.cep_base.specs.FirstNames.{names_among};
 ghost use Rattle.cep_infer.specs.Heads.{AreAtomsBy};
 ghost use Rattle.cep_infer.specs.Meaning.{IsStartBy, is_fact_by};
 ghost use Rattle.cep_infer.specs.Resolved.{IsWellNamed};

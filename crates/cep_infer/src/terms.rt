@@ -3,7 +3,7 @@ ghost use Rattle.std.specs.Prelude.{◌≡◌, ◌++◌, ◌≤◌, ◌<◌, len
 ghost use Rattle.cep_term.specs.Tree.{atom_of, tree_of, trees_of};
 ghost use Rattle.cep_source.specs.Kept.{atom_at};
 ghost use Rattle.cep_source.specs.Variables.{blanks_after};
-ghost use Rattle.cep_source.specs.Firsts.{names_among};
+ghost use Rattle.cep_base.specs.FirstNames.{names_among};
 ghost use Rattle.cep_types.specs.Heads.{heads_from};
 ghost use Rattle.cep_infer.specs.Heads.{IsAtomBy, heads_of, heads_among, argument_count};
 

@@ -7,3 +7,4 @@ pub mod Steps
 pub mod WordKinds
 pub mod Skipping
 pub mod Unique
+pub mod Lexed

@@ -8,7 +8,7 @@ abbrev pub IsEnded : List ℕ → Type 0
 IsEnded bytes = (bytes ≡ []) ⊎ ((front : List ℕ) × (bytes ≡ front ++ 10 ∷ []))
 
 -- Before this place stand whole lines, and then the bytes of its own line. The LFs and these bytes are counted, from 1.
-pub record IsPlaceBehind (before : List ℕ) (pos : Pos) : Type 0 where
+pub record IsPlaceAfter (before : List ℕ) (pos : Pos) : Type 0 where
   pub lines : List ℕ
   pub bytes : List ℕ
   pub cut : before ≡ lines ++ bytes

@@ -10,7 +10,7 @@ mod token;
 mod words;
 
 pub use fault::LexFault;
-pub use laws::lexed_once;
+pub use laws::{every_text_is_lexed, lexed_once};
 pub use lexing::lex;
-pub use places::place;
+pub use places::{START, place, place_after};
 pub use token::{Token, TokenKind, Tokens};

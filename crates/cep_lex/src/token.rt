@@ -3,7 +3,7 @@ use cep_base::List;
 /// What a token is. The spellings and the reserved words are this profile's.
 #[derive(Clone, Copy, Debug, PartialEq, Eq)]
 pub enum TokenKind {
-    /// A lower-case letter and the letters, digits, `_`, `/` and `'` behind it.
+    /// A lower-case letter and the letters, digits, `_`, `/` and `'` after it.
     Name,
     /// An upper-case letter and such a run.
     Variable,
@@ -30,7 +30,6 @@ pub enum TokenKind {
     KwType,
     KwPred,
     KwBwd,
-    /// A reserved word that no form uses.
     KwFact,
     KwStage,
     KwContext,

@@ -102,7 +102,7 @@ fn name_kind(word: &[u8]) -> TokenKind
     }
 }
 
-// `#` and the letters behind it, if there is one.
+// `#` and the letters after it, if there is one.
 fn directive(bytes: &[u8]) -> Option<(TokenKind, usize)>
     requires some { 0 < length bytes.now }
     requires hash { slice_index bytes.now 0 ≡ 35 }

@@ -15,3 +15,4 @@ pub mod Reading
 pub mod TokenLemmas
 pub mod WellWritten
 pub mod ParsedOnce
+pub mod Parsed

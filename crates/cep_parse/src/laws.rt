@@ -38,3 +38,8 @@ pub fn parsed_once()
 {
     one_raw_file();
 }
+
+/// All tokens of a text have a raw file, or a first fault.
+pub fn all_tokens_are_parsed()
+    ensures { (text : List ℕ) (tokens : List Token) → (answer : Result (List RawItem) ParseFault) × IsParsed text tokens answer }
+{}

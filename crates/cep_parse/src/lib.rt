@@ -14,7 +14,7 @@ mod steps;
 mod symbol;
 
 pub use fault::ParseFault;
-pub use laws::{items_are_made_of_tokens, one_raw_file, parsed_once};
+pub use laws::{all_tokens_are_parsed, items_are_made_of_tokens, one_raw_file, parsed_once};
 pub use parser::parse;
 pub use raw::{
     RawAtom, RawAtoms, RawElem, RawFile, RawItem, RawKind, RawNode, RawNodes, RawRule, RawRules,

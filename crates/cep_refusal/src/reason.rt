@@ -27,7 +27,7 @@ pub enum Reason {
     VarInContext,
     /// A backward predicate in a state or on a right side.
     BwdInState,
-    /// A linear predicate in a clause.
+    /// A linear predicate, or one of facts, in a clause.
     LinearInClause,
     /// A rule outside of stages that does not lead from one stage to one stage at quiescence.
     BadQui,

@@ -15,7 +15,7 @@ pub struct Refusal {
 }
 
 impl Refusal {
-    /// The refusal that tells of a fault of the text. A place behind the end is the end.
+    /// The refusal that tells of a fault of the text. A place after the end is the end.
     pub fn of(text: &[u8], fault: Fault) -> Refusal
         requires { min fault.at (length text.now) ≤ MOST_TEXT }
         ensures { Tells text.now fault result }

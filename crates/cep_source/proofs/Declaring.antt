@@ -15,7 +15,8 @@ use Rattle.cep_refusal.specs.declared.reason.Reason.TheVariants.{Twice}
 use Rattle.cep_refusal.specs.First.{standing, first_of, first_in, wrong}
 use Rattle.cep_source.specs.declared.table.Table.{Table}
 use Rattle.cep_source.specs.Spaces.{Named, named}
-use Rattle.cep_source.specs.Firsts.{IsTable, IsNamed, has_name, under_name, added, again_among, place_among, text_alone}
+use Rattle.cep_base.specs.FirstNames.{has_name, under_name, added}
+use Rattle.cep_source.specs.Firsts.{IsTable, IsNamed, again_among, place_among, text_alone}
 use Rattle.cep_source.proofs.Labels.{has_place, has_under}
 
 abbrev or_else : Option ℕ → Option ℕ → Option ℕ

@@ -11,7 +11,8 @@ use Rattle.cep_source.specs.declared.source.Source.TheInside.{Inside}
 use Rattle.cep_source.specs.Kept.{IsGathered, source_of, con_item, pred_item, context_item, rule_item}
 use Rattle.cep_source.specs.Items.{Source, RuleItem, cons_of, preds_of, contexts_of}
 use Rattle.cep_source.specs.Spaces.{Named, named, names_in, rule_name, rule_names_from, unlabelled_behind}
-use Rattle.cep_source.specs.Firsts.{IsTable, under_name, place_among, again_among, text_alone}
+use Rattle.cep_base.specs.FirstNames.{under_name}
+use Rattle.cep_source.specs.Firsts.{IsTable, place_among, again_among, text_alone}
 
 -- the names of items
 pub items_named : {X Y : Type 0} (source : Source) (item : X → Y) (span : Y → Span) (refs : List X) (all : List Y) → map item refs ≡ all

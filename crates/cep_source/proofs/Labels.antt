@@ -11,7 +11,8 @@ use Rattle.cep_source.specs.declared.items.RawPred.{RawPred}
 use Rattle.cep_source.specs.declared.gathering.Kinds.{Kinds}
 use Rattle.cep_source.specs.Kept.{AreKinds, HaveTheirNames, pred_item}
 use Rattle.cep_source.specs.Items.{Source, said, is_said, sorts_of, preds_of, is_labelled}
-use Rattle.cep_source.specs.Firsts.{place_among, has_name, under_name}
+use Rattle.cep_base.specs.FirstNames.{has_name, under_name}
+use Rattle.cep_source.specs.Firsts.{place_among}
 use Rattle.cep_source.specs.Spaces.{Named, named, names_in, is_in, first_place}
 
 has_from : {X : Type 0} (p : X → Bool) (i : ℕ) (xs : List X) → is_some (position_from p i xs) ≡ list_any p xs

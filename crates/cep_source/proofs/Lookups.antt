@@ -11,7 +11,8 @@ use Rattle.cep_base.proofs.Bytes.{bytes_eq_sym}
 use Rattle.cep_parse.specs.declared.raw.Span.{Span}
 use Rattle.cep_source.specs.declared.table.Table.{Table}
 use Rattle.cep_source.specs.Items.{Source, said}
-use Rattle.cep_source.specs.Firsts.{IsNamed, under_name}
+use Rattle.cep_base.specs.FirstNames.{under_name}
+use Rattle.cep_source.specs.Firsts.{IsNamed}
 use Rattle.cep_source.specs.Spaces.{Named, named}
 
 before_map : {X Y : Type 0} (p : Y → Bool) (f : X → Y) (xs : List X) → prefix_len (λ x. not (p (f x))) xs ≡ prefix_len (λ y. not (p y)) (map f xs)
@@ -77,12 +78,6 @@ told source item span table all name are named_by =
     ap (λ place. option_map item (option_and_then (slice_get refs) place)) (named_by.places name ∙ sym (position_map (λ (other : Named). bytes_eq other.name name) (λ x. named source (span (item x))) refs))
     ∙ ap (option_map item) (found_placed (λ x. bytes_eq (said source (span (item x))) name) refs)
     ∙ found_map (λ y. bytes_eq (said source (span y)) name) item refs ∙ ap (find (λ y. bytes_eq (said source (span y)) name)) are
-
--- what the entry at a number holds
-pub held_at : {K N X : Type 0} (key : K → N) (entries : List (K × X)) (n : ℕ) (entry : K × X) → Some entry ≡ slice_get entries n → Some entry.1 ≡ slice_get (map (λ (e : N × X). e.1) (map (λ (e : K × X). (key e.0, e.1)) entries)) n
-held_at key [] n entry is = absurd (let e : Some entry ≡ None = is in cc)
-held_at key (first ∷ entries) zero entry is = ap (option_map (λ (e : _ × _). e.1)) is
-held_at key (first ∷ entries) (suc n) entry is = held_at key entries n entry is
 
 -- one more item of a loop
 pub taken : {X : Type 0} (P : List X → Type 0) (xs : List X) (i : ℕ) (x : X) → i < length xs → x ≡ get_or xs i x → P (take i xs ++ x ∷ []) → P (take (i + 1) xs)

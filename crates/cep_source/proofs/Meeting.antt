@@ -15,7 +15,7 @@ use Rattle.cep_parse.specs.Raw.{raw_nodes, atoms_in, atoms_of}
 use Rattle.cep_source.specs.declared.variables.Variables.{Variables}
 use Rattle.cep_source.specs.Items.{Source, said}
 use Rattle.cep_source.specs.Variables.{Occurrence, occurrence_at, occurrences_from, firsts_beside, blanks_after, blanks_behind}
-use Rattle.cep_source.specs.Firsts.{has_name, added}
+use Rattle.cep_base.specs.FirstNames.{has_name, added}
 use Rattle.cep_source.specs.Met.{none_met, met_site, met_nodes, AreVariables}
 use Rattle.cep_source.proofs.Lookups.{taken}
 

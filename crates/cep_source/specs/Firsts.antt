@@ -1,8 +1,8 @@
 -- Names that come one after another: the first of each, and the places of first declarations.
-use Rattle.std.specs.Prelude.{◌≡◌, ℕ, Bool, if◌then◌else◌, List, [], ◌∷◌, ◌++◌, Option, map, length, position}
+use Rattle.std.specs.Prelude.{◌≡◌, ℕ, if◌then◌else◌, List, [], ◌∷◌, ◌++◌, Option, map, length, position}
 use Rattle.std.specs.Str.{bytes_eq}
 use Rattle.std.specs.List.{list_any}
-use Rattle.std.specs.Map.{lookup}
+use Rattle.cep_base.specs.FirstNames.{under_name}
 use Rattle.cep_parse.specs.declared.raw.Span.{Span}
 use Rattle.cep_refusal.specs.declared.fault.Fault.{Fault}
 use Rattle.cep_refusal.specs.declared.reason.Reason.TheVariants.{Twice}
@@ -10,20 +10,6 @@ use Rattle.cep_refusal.specs.First.{first_in, wrong}
 use Rattle.cep_source.specs.declared.table.Table.{Table}
 use Rattle.cep_source.specs.Items.{Source, RuleItem}
 use Rattle.cep_source.specs.Spaces.{Named, named, unlabelled_behind}
-
--- whether the name is among these, and what it came with
-abbrev pub has_name : {A : Type 0} → List (List ℕ × A) → List ℕ → Bool
-has_name table name = list_any (λ entry. bytes_eq name entry.0) table
-
-abbrev pub under_name : {A : Type 0} → List (List ℕ × A) → List ℕ → Option A
-under_name table name = lookup (λ other. bytes_eq name other) table
-
--- one more name, if it is new
-abbrev pub added : {A : Type 0} → List (List ℕ × A) → List ℕ × A → List (List ℕ × A)
-added table entry = if has_name table entry.0 then table else table ++ entry ∷ []
-
-abbrev pub names_among : {A : Type 0} → List (List ℕ × A) → List (List ℕ)
-names_among table = map (λ entry. entry.0) table
 
 -- the place of the first of some names that is this one
 abbrev pub place_among : List Named → List ℕ → Option ℕ

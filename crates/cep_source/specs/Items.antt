@@ -20,7 +20,7 @@ pub record Source : Type 0 where
 abbrev pub said : Source → Span → List ℕ
 said source span = slice_of source.text span.from span.to
 
--- A predicate: its name, the names of its arguments' types, and whether clauses define it.
+-- A predicate: its name, the names of its arguments' types, and its kind.
 pub record PredItem : Type 0 where
   pub name : Span
   pub args : List Span

@@ -8,7 +8,7 @@ use Rattle.cep_parse.specs.declared.raw.RawAtom.{RawAtom}
 use Rattle.cep_parse.specs.Raw.{raw_nodes}
 use Rattle.cep_source.specs.Items.{Source, said}
 use Rattle.cep_source.specs.Variables.{variables_of, blanks_after}
-use Rattle.cep_source.specs.Firsts.{added}
+use Rattle.cep_base.specs.FirstNames.{added}
 use Rattle.cep_source.specs.declared.variables.Variables.{Variables}
 
 -- nothing was met

@@ -2,7 +2,6 @@
 #![tactic(auto)]
 
 mod clauses;
-mod firsts;
 mod gathering;
 mod items;
 mod rules;
@@ -13,7 +12,6 @@ mod text;
 mod variables;
 
 pub use cep_refusal::{Fault, Reason};
-pub use firsts::FirstNames;
 pub use items::{AtomRef, ClauseRef, RawCon, RawContext, RawPred, RuleRef, TraceRef, item_at};
 pub use source::Source;
 pub use space::Space;

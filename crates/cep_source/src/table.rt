@@ -3,11 +3,12 @@ ghost use Rattle.std.specs.Prelude.{◌≡◌, ◌++◌, ◌∷◌, [], List, On
 ghost use Rattle.std.specs.Option.{option_and_then};
 ghost use Rattle.cep_parse.specs.declared.raw.Span.{Span};
 ghost use Rattle.cep_source.specs.Spaces.{Named};
-ghost use Rattle.cep_source.specs.Firsts.{IsTable, IsNamed, under_name};
+ghost use Rattle.cep_base.specs.FirstNames.{under_name};
+ghost use Rattle.cep_source.specs.Firsts.{IsTable, IsNamed};
 
-use crate::firsts::FirstNames;
 use crate::items::item_at;
 use crate::text::slice_at;
+use cep_base::FirstNames;
 use cep_parse::Span;
 use cep_refusal::{Fault, Reason};
 use std::alloc::{AllocError, Global};

@@ -4,10 +4,9 @@ ghost use Rattle.cep_source.specs.Variables.{occurrence_at, blanks_behind};
 ghost use Rattle.cep_source.specs.Met.{none_met, met_site, met_nodes, AreVariables};
 ghost use Rattle.cep_source.specs.Kept.{clause_item};
 
-use crate::firsts::FirstNames;
 use crate::items::ClauseRef;
 use crate::source::Source;
-use cep_base::Text;
+use cep_base::{FirstNames, Text};
 use cep_parse::{RawElem, RawKind, RawNode, Span};
 use std::alloc::{AllocError, Global};
 

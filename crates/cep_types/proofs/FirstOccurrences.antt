@@ -10,7 +10,7 @@ use Rattle.cep_types.specs.Met.{type_met, wanted_in, AreMet}
 use Rattle.cep_base.proofs.Bytes.{bytes_eq_sym}
 use Rattle.cep_base.proofs.FirstNamed.{found, found_kept}
 use Rattle.cep_source.specs.declared.variables.Variables.{Variables}
-use Rattle.cep_source.specs.Firsts.{under_name}
+use Rattle.cep_base.specs.FirstNames.{under_name}
 use Rattle.cep_source.specs.Met.{none_met}
 
 abbrev name_of : Wanted → List ℕ

@@ -17,7 +17,7 @@ use Rattle.cep_source.specs.Variables.{occurrence_at, blanks_behind, blanks_afte
 use Rattle.cep_types.specs.Sites.{Site, Wanted, sites_from, sites_in, sites_of, wanted_from}
 use Rattle.cep_types.specs.Met.{wanted_in, further, AreMet}
 use Rattle.cep_source.specs.declared.variables.Variables.{Variables}
-use Rattle.cep_source.specs.Firsts.{has_name, added}
+use Rattle.cep_base.specs.FirstNames.{has_name, added}
 use Rattle.cep_source.specs.Met.{met_site}
 
 -- the nodes of terms

@@ -15,7 +15,7 @@ use Rattle.cep_types.specs.Heads.{Head, con, var}
 use Rattle.cep_types.specs.Heads as heads
 use Rattle.cep_source.specs.declared.variables.Variables.{Variables}
 use Rattle.cep_source.specs.Variables.{blanks_after}
-use Rattle.cep_source.specs.Firsts.{under_name}
+use Rattle.cep_base.specs.FirstNames.{under_name}
 
 -- the name of a name's type
 abbrev pub type_met : Source → List (List ℕ × Span) → List ℕ → Option (List ℕ)

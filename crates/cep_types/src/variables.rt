@@ -1,7 +1,7 @@
 // The variables of atoms that share them, each with the type that is wanted where it occurs first.
 ghost use Rattle.std.specs.Prelude.{◌≡◌, ◌∷◌, ◌++◌, [], IfOk, OnOk};
 ghost use Rattle.cep_parse.specs.Raw.{atoms_of};
-ghost use Rattle.cep_source.specs.Firsts.{names_among};
+ghost use Rattle.cep_base.specs.FirstNames.{names_among};
 ghost use Rattle.cep_source.specs.Met.{none_met};
 ghost use Rattle.cep_source.specs.Kept.{atom_at, clause_item};
 ghost use Rattle.cep_types.specs.Heads.{variable_of, head_at};

@@ -1,9 +1,9 @@
 // What texts declare: their clauses, the names of their rules, which atoms stand for contexts, and the
 // variables of sides and clauses. And names that are kept with what they came with first.
 use crate::tests::source::file_of;
-use cep_base::Text;
+use cep_base::{FirstNames, Text};
 use cep_parse::RawFile;
-use cep_source::{ClauseRef, FirstNames, Source, Variables, item_at};
+use cep_source::{ClauseRef, Source, Variables, item_at};
 use std::alloc::{AllocError, Global};
 use std::process::Abort;
 use std::test::Fail;

@@ -1,6 +1,6 @@
 use Rattle.cep_infer.proofs.Building.{atom_built}
 use Rattle.cep_infer.proofs.atoms.push_atoms.Goals as goal
-use Rattle.cep_source.specs.Firsts.{names_among}
+use Rattle.cep_base.specs.FirstNames.{names_among}
 
 pub loop-raw-preserved : goal.loop-raw-preserved
 loop-raw-preserved c =

@@ -4,7 +4,7 @@ use Rattle.std.proofs.lemmas.Result.{on_ok_weaker}
 use Rattle.cep_parse.specs.declared.raw.RawAtom.{RawAtom}
 use Rattle.cep_parse.specs.declared.raw.RawElem.{RawElem}
 use Rattle.cep_term.specs.Tree.{atom_of}
-use Rattle.cep_source.specs.Firsts.{names_among}
+use Rattle.cep_base.specs.FirstNames.{names_among}
 use Rattle.cep_source.specs.Variables.{blanks_after}
 use Rattle.cep_infer.specs.Built.{IsLeftBuilt}
 use Rattle.cep_infer.specs.Heads.{IsAtomBy}

@@ -1,7 +1,7 @@
 use Rattle.std.proofs.Common.{[]}
 use Rattle.cep_infer.proofs.Building.{elem_built}
 use Rattle.cep_infer.proofs.left.read_left.Goals as goal
-use Rattle.cep_source.specs.Firsts.{names_among}
+use Rattle.cep_base.specs.FirstNames.{names_among}
 
 pub loop-elem-preserved : goal.loop-elem-preserved
 loop-elem-preserved c =

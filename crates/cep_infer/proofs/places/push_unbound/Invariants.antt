@@ -1,6 +1,6 @@
 use Rattle.std.proofs.Common.{◌≡◌, ◌++◌, not, drop}
 use Rattle.cep_source.specs.Variables.{occurrences_from, blanks_after}
-use Rattle.cep_source.specs.Firsts.{has_name}
+use Rattle.cep_base.specs.FirstNames.{has_name}
 use Rattle.cep_infer.proofs.Unbound.{places_of}
 use Rattle.cep_infer.proofs.places.push_unbound.Given as goal
 

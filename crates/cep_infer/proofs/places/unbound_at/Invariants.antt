@@ -1,7 +1,7 @@
 use Rattle.std.proofs.Common.{◌≡◌, ◌++◌, not, drop}
 use Rattle.cep_parse.specs.Raw.{atoms_of, raw_nodes}
 use Rattle.cep_source.specs.Variables.{occurrences_from}
-use Rattle.cep_source.specs.Firsts.{has_name}
+use Rattle.cep_base.specs.FirstNames.{has_name}
 use Rattle.cep_infer.proofs.Unbound.{places_of}
 use Rattle.cep_infer.proofs.places.unbound_at.Given as goal
 

@@ -2,7 +2,7 @@ use Rattle.std.proofs.Common.{List, [], ap, refl, subst, ◌∙◌}
 use Rattle.cep_parse.specs.declared.raw.RawElem.{RawElem}
 use Rattle.cep_parse.specs.Raw.{atoms_of}
 use Rattle.cep_source.specs.Kept.{rule_item}
-use Rattle.cep_source.specs.Firsts.{names_among}
+use Rattle.cep_base.specs.FirstNames.{names_among}
 use Rattle.cep_infer.specs.Heads.{AreAtomsBy}
 use Rattle.cep_infer.specs.Meaning.{group_of, next_of}
 use Rattle.cep_infer.specs.Built.{IsLeftBuilt}

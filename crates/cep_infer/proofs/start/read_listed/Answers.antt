@@ -1,5 +1,5 @@
 use Rattle.std.proofs.Common.{[], ◌∷◌, true, false, refl}
-use Rattle.cep_source.specs.Firsts.{names_among}
+use Rattle.cep_base.specs.FirstNames.{names_among}
 use Rattle.cep_infer.proofs.Building.{braces_built}
 use Rattle.cep_infer.proofs.start.read_listed.Goals as goal
 

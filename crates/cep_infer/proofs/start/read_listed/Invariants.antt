@@ -1,7 +1,7 @@
 use Rattle.std.proofs.Common.{[], take}
 use Rattle.cep_parse.specs.declared.raw.RawStart.TheVariants as start
 use Rattle.cep_source.specs.Starts.{start_atoms}
-use Rattle.cep_source.specs.Firsts.{names_among}
+use Rattle.cep_base.specs.FirstNames.{names_among}
 use Rattle.cep_infer.specs.Built.{AreBuilt}
 use Rattle.cep_infer.proofs.start.read_listed.Given as goal
 

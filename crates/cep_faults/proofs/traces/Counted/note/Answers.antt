@@ -1,5 +1,5 @@
 use Rattle.std.proofs.Common.{refl, sym, ◌∙◌, ap}
-use Rattle.cep_source.specs.Firsts.{has_name}
+use Rattle.cep_base.specs.FirstNames.{has_name}
 use Rattle.cep_faults.specs.declared.traces.Counted.{Counted}
 use Rattle.cep_faults.specs.Counted.{cut, total_size}
 use Rattle.cep_faults.proofs.Counting.{added_again, no_fact, new_fact, old_fact, not_true, not_false}

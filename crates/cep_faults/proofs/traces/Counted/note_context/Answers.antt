@@ -2,7 +2,7 @@ use Rattle.std.proofs.Common.{List, ℕ, [], ◌∷◌, ◌++◌, take, refl, sy
 use Rattle.std.proofs.lemmas.List.{take_all}
 use Rattle.cep_parse.specs.declared.raw.RawAtom.{RawAtom}
 use Rattle.cep_source.specs.Items.{said}
-use Rattle.cep_source.specs.Firsts.{under_name, added}
+use Rattle.cep_base.specs.FirstNames.{under_name, added}
 use Rattle.cep_faults.specs.Counted.{IsCountOf}
 use Rattle.cep_faults.proofs.Counting.{both_counted, first_more, context_again, context_first}
 use Rattle.cep_faults.proofs.traces.Counted.note_context.Goals as goal
