@@ -39,3 +39,21 @@ adding_breaks start whole now left piece later new so_far is begun = record {
       ∙ sym (append_assoc so_far.front begun.front (begun.rest ++ later)));
   added = begun.added ∙ (ap (λ text. text ++ begun.front) so_far.added ∙ append_assoc start so_far.front begun.front);
 }
+
+-- a prefix of the first of two pieces was added
+pub begun_first : (start one two new : List ℕ) → IsBegun start one new → IsBegun start (one ++ two) new
+begun_first start one two new begun = record {
+  front = begun.front;
+  rest = begun.rest ++ two;
+  cut = ap (λ text. text ++ two) begun.cut ∙ append_assoc begun.front begun.rest two;
+  added = begun.added;
+}
+
+-- the first of two pieces was added, and a prefix of the second
+pub begun_second : (start one two between new : List ℕ) → between ≡ start ++ one → IsBegun between two new → IsBegun start (one ++ two) new
+begun_second start one two between new first begun = record {
+  front = one ++ begun.front;
+  rest = begun.rest;
+  cut = ap (λ text. one ++ text) begun.cut ∙ sym (append_assoc one begun.front begun.rest);
+  added = begun.added ∙ (ap (λ text. text ++ begun.front) first ∙ append_assoc start one begun.front);
+}

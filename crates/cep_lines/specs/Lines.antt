@@ -5,7 +5,6 @@ use Rattle.std.specs.FinMap as finite
 use Rattle.cep_term.specs.Tree.{AtomTree}
 use Rattle.cep_term.specs.Multiset.{Multiset}
 use Rattle.cep_rule.specs.declared.signature.Signature.{Signature}
-use Rattle.cep_rule.specs.declared.rule.Rule.{Rule}
 use Rattle.cep_rule.specs.declared.parts.Stage.{Stage}
 use Rattle.cep_rule.specs.declared.parts.Parts.{Parts}
 use Rattle.cep_rule.specs.declared.offer.Offer.{Offer}
@@ -19,11 +18,6 @@ use Rattle.cep_lines.specs.declared.end_word.EndWord.TheVariants.{Quiet, Input, 
 -- a text and the LF that ends its line
 abbrev pub line : List ℕ → List ℕ
 line text = text ++ 10 ∷ []
-
--- the number of a version
-abbrev pub version_number : Version → ℕ
-version_number One = 1
-version_number Two = 2
 
 -- the bytes of the first line
 abbrev pub version_text : Version → List ℕ
@@ -97,9 +91,9 @@ by_line program proof = line (by_text program proof)
 unfoldable pub by_lines : Parts → List ProofTree → List ℕ
 by_lines program proofs = flat_map (by_line program) proofs
 
--- what is written of a step: its line, what proves the backward premises, and the next stage where the rule leads to one
-unfoldable pub step_lines : Parts → Offer → Rule → List ProofTree → List ℕ
-step_lines program offer rule proofs = step_line program offer ++ (by_lines program proofs ++ next_line program rule.next)
+-- what is written of a step: its line, what proves its backward premises, and the next stage where there is one
+unfoldable pub step_lines : Parts → Offer → List ProofTree → Option ℕ → List ℕ
+step_lines program offer proofs next = step_line program offer ++ (by_lines program proofs ++ next_line program next)
 
 -- the bytes of the line before the listing of the state after the step of this number
 abbrev pub state_text : ℕ → List ℕ
@@ -109,9 +103,15 @@ state_text number = codes "state " ++ decimal number
 unfoldable pub mid_lines : Signature → ℕ → Multiset → List ℕ
 mid_lines signature number state = line (state_text number) ++ listing signature state
 
--- what is written behind the own lines of the step of a number: the listing of the state after it, where one is due
-unfoldable pub due_lines : Signature → ℕ → Multiset → List ℕ
-due_lines signature number state = if has_listing Two number then mid_lines signature number state else []
+-- what version 2 has after the lines of the step of a number: the listing of the state after it, where one is expected
+unfoldable pub expected_listing : Signature → ℕ → Multiset → List ℕ
+expected_listing signature number state = if has_listing Two number then mid_lines signature number state else []
+
+-- what is written of a deed that counts as the turn of this number: the lines of its step, and the
+-- listing of the state where it leads, where one is expected
+unfoldable pub deed_lines : Parts → Offer → List ProofTree → Option ℕ → ℕ → Multiset → List ℕ
+deed_lines program offer proofs next number state =
+    step_lines program offer proofs next ++ expected_listing program.signature number state
 
 abbrev pub ending_word : EndWord → List ℕ
 ending_word Quiet = codes "quiet"

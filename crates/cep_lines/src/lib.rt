@@ -2,14 +2,14 @@
 //! the writers of all of them. It reads nothing, and knows neither logs nor runs.
 #![tactic(auto)]
 
+mod deed;
 mod end_word;
 mod lines;
-mod turn_lines;
+mod question;
 mod version;
 
+pub use deed::{put_by, put_deed, put_step};
 pub use end_word::EndWord;
-pub use lines::{
-    put_by, put_due, put_end, put_have, put_mid, put_offer_line, put_stage, put_start, put_step,
-};
-pub use turn_lines::{put_next, put_offers, put_question};
+pub use lines::{put_end, put_have, put_mid, put_stage, put_start};
+pub use question::{put_offer_line, put_offers, put_question};
 pub use version::Version;

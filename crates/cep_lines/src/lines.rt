@@ -1,24 +1,21 @@
-//! Writes the lines of a transcript at the end of a text.
+//! Writes the lines of a transcript at the end of a text: those of its start, of a listing and of its end.
 ghost use Rattle.std.specs.Prelude.{◌≡◌, ◌<◌, ◌++◌, length, OnOk, OnErr};
 ghost use Rattle.cep_term.specs.Tree.{atom_of};
 ghost use Rattle.cep_rule.specs.State.{IsState};
-ghost use Rattle.cep_rule.specs.Derivations.{proof_of};
-ghost use Rattle.cep_rule.specs.Shapes.{IsOfferOf, IsProofOf};
 ghost use Rattle.cep_text.specs.Texts.{IsTypedGround};
 ghost use Rattle.cep_text.specs.Writing.{IsBegun};
-ghost use Rattle.cep_lines.specs.Lines.{have_line, listing, offer_line, stage_line, step_line, by_line, mid_lines, due_lines, end_lines, header};
+ghost use Rattle.cep_lines.specs.Lines.{have_line, listing, stage_line, mid_lines, end_lines, header};
 
 use crate::end_word::EndWord;
-use crate::version::Version;
 use cep_base::Text;
-use cep_rule::{Derivation, Offer, Program};
+use cep_rule::Program;
 use cep_term::laws::bags_are_lawful;
 use cep_term::{Atom, Bag};
-use cep_text::{put_atom, put_offer, put_proof};
+use cep_text::put_atom;
 use std::alloc::AllocError;
 
 /// The first three lines, of version 2, and the listing of the program's start state. The height is 1 to 512
-/// where the transcript is to be read again. After `AllocError` a front of the lines was added, as
+/// where the transcript is to be read again. After `AllocError` a prefix of the lines was added, as
 /// with every writer here.
 pub fn put_start(program: &Program, height: u32, out: &mut Text) -> Result<(), AllocError>
     ensures ok { OnOk result (out.new ≡ out.old ++ header program.now height) }
@@ -64,30 +61,6 @@ fn put_listing(program: &Program, state: &Bag, out: &mut Text) -> Result<(), All
     Ok(())
 }
 
-/// The line of a step.
-#[tactic(auto, using(std::proofs::Common::append_assoc), unfolding(crate::specs::Lines::step_line))]
-pub fn put_step(program: &Program, offer: &Offer, out: &mut Text) -> Result<(), AllocError>
-    requires { IsOfferOf program.now offer.now }
-    ensures ok { OnOk result (out.new ≡ out.old ++ step_line program.now offer.now) }
-    ensures err { OnErr result (IsBegun out.old (step_line program.now offer.now) out.new) }
-{
-    out.append(b"step ")?;
-    put_offer(program, offer, out)?;
-    out.append(b"\n")
-}
-
-/// The line of a derivation that proves a backward premise of a step.
-#[tactic(auto, using(std::proofs::Common::append_assoc), unfolding(crate::specs::Lines::by_line))]
-pub fn put_by(program: &Program, proof: &Derivation, out: &mut Text) -> Result<(), AllocError>
-    requires { IsProofOf program.now (proof_of proof.now) }
-    ensures ok { OnOk result (out.new ≡ out.old ++ by_line program.now (proof_of proof.now)) }
-    ensures err { OnErr result (IsBegun out.old (by_line program.now (proof_of proof.now)) out.new) }
-{
-    out.append(b"by ")?;
-    put_proof(program, proof, out)?;
-    out.append(b"\n")
-}
-
 /// The line of a stage, by its number.
 #[tactic(auto, using(std::proofs::Common::append_assoc), unfolding(crate::specs::Lines::stage_line))]
 pub fn put_stage(program: &Program, stage: u32, out: &mut Text) -> Result<(), AllocError>
@@ -115,22 +88,6 @@ pub fn put_mid(program: &Program, step: u32, state: &Bag, out: &mut Text) -> Res
     put_listing(program, state, out)
 }
 
-/// What version 2 has behind the own lines of a step: after each hundredth the listing of the state
-/// after it, as `put_mid` writes it, and after any other nothing. The step is told by its number,
-/// counted from 1.
-#[tactic(auto, unfolding(crate::specs::Lines::due_lines))]
-pub fn put_due(program: &Program, step: u32, state: &Bag, out: &mut Text) -> Result<(), AllocError>
-    requires { IsState program.now.signature state.now }
-    ensures ok { OnOk result (out.new ≡ out.old ++ due_lines program.now.signature step state.now) }
-    ensures err { OnErr result (IsBegun out.old (due_lines program.now.signature step state.now) out.new) }
-{
-    if Version::Two.lists(step) {
-        put_mid(program, step, state, out)
-    } else {
-        Ok(())
-    }
-}
-
 /// The line of the end, and the listing of the last state.
 #[tactic(auto, using(std::proofs::Common::append_assoc), unfolding(crate::specs::Lines::end_lines))]
 pub fn put_end(
@@ -147,23 +104,4 @@ pub fn put_end(
     out.append(word.text())?;
     out.append(b"\n")?;
     put_listing(program, state, out)
-}
-
-/// The line of an offer, with its place among the offers of its turn, counted from 1.
-#[tactic(auto, using(std::proofs::Common::append_assoc), unfolding(crate::specs::Lines::offer_line))]
-pub fn put_offer_line(
-    program: &Program,
-    place: u32,
-    offer: &Offer,
-    out: &mut Text,
-) -> Result<(), AllocError>
-    requires { IsOfferOf program.now offer.now }
-    ensures ok { OnOk result (out.new ≡ out.old ++ offer_line program.now place offer.now) }
-    ensures err { OnErr result (IsBegun out.old (offer_line program.now place offer.now) out.new) }
-{
-    out.append(b"? ")?;
-    out.number(u64::from(place))?;
-    out.append(b" ")?;
-    put_offer(program, offer, out)?;
-    out.append(b"\n")
 }

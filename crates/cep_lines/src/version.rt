@@ -1,5 +1,5 @@
 ghost use Rattle.std.specs.Prelude.{◌≡◌};
-ghost use Rattle.cep_lines.specs.Lines.{version_number, version_text, has_listing};
+ghost use Rattle.cep_lines.specs.Lines.{has_listing};
 
 /// The form of a transcript. (Profile.)
 #[derive(Clone, Copy, Debug, PartialEq, Eq)]
@@ -11,26 +11,6 @@ pub enum Version {
 }
 
 impl Version {
-    /// The number that names it.
-    pub fn number(self) -> u32
-        ensures { result ≡ version_number self }
-    {
-        match self {
-            Version::One => 1,
-            Version::Two => 2,
-        }
-    }
-
-    /// The first line of a transcript, without its end.
-    pub fn text(self) -> &'static [u8]
-        ensures { result.now ≡ version_text self }
-    {
-        match self {
-            Version::One => b"ceptre 1",
-            Version::Two => b"ceptre 2",
-        }
-    }
-
     /// Whether the state after the step of this number, counted from 1, is listed.
     pub fn lists(self, step: u32) -> bool
         ensures { result ≡ has_listing self step }

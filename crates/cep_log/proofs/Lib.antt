@@ -14,3 +14,6 @@ pub mod WrittenLogs
 pub mod LineKindLemmas
 pub mod StepLemmas
 pub mod OneText
+pub mod LegalLogs
+pub mod DeedTexts
+pub mod DeedLogs

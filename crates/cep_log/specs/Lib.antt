@@ -3,4 +3,5 @@ pub mod Listed
 pub mod Legal
 pub mod Transcript
 pub mod Written
+pub mod Holding
 pub mod Growing

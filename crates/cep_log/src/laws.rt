@@ -14,6 +14,12 @@ ghost use Rattle.cep_rule.specs.declared.signature.Signature.{Signature};
 ghost use Rattle.cep_rule.specs.State.{IsState, Fits};
 ghost use Rattle.cep_rule.specs.declared.parts.Parts.{Parts};
 ghost use Rattle.cep_rule.specs.Program.{IsProgram};
+ghost use Rattle.cep_rule.specs.Limits.{IsHeight};
+ghost use Rattle.cep_rule.specs.Stages.{IsQuiet};
+ghost use Rattle.cep_step.specs.Deeds.{Position, start_of, Deed, AreDeeds};
+ghost use Rattle.cep_lines.specs.declared.end_word.EndWord.{EndWord};
+ghost use Rattle.cep_lines.specs.declared.end_word.EndWord.TheVariants.{Quiet};
+ghost use Rattle.cep_log.specs.Holding.{TellRun, HoldsDeeds};
 ghost use Rattle.cep_log.specs.declared.log.Log.{Log};
 ghost use Rattle.cep_log.specs.Legal.{IsListing, IsLegal};
 ghost use Rattle.cep_log.specs.Written.{text_of, TellLog, SayTheSame, TellTheSame, IsRenewal};
@@ -98,4 +104,35 @@ pub fn renewals_have_one_text()
         → text_of program one ≡ text_of program other }
 {
     one_state_after_a_step();
+}
+
+/// What deeds leave as a transcript, whoever decided on them: a log that holds lawful deeds from where
+/// the program begins, and how they ended, is legal. What is written of them, with remarks or none
+/// between them, has such a log, if it is not too long. So a check accepts it.
+pub fn deeds_have_legal_logs()
+    ensures legal { (program : Parts) (height : ℕ) (deeds : List Deed) (last : Position) (word : EndWord) (log : Log)
+        → IsProgram program
+        → IsHeight height
+        → AreDeeds program height (start_of program) deeds last
+        → (word ≡ Quiet → IsQuiet program height last.spot.state last.spot.stage)
+        → HoldsDeeds program height deeds word last.spot.state log
+        → log.lines ≤ MOST_LOG
+        → length log.steps ≤ log.lines
+        → IsLegal program log }
+    ensures written { (program : Parts) (height : ℕ) (deeds : List Deed) (last : Position) (word : EndWord) (bytes : List ℕ)
+        → IsProgram program
+        → IsHeight height
+        → AreDeeds program height (start_of program) deeds last
+        → (word ≡ Quiet → IsQuiet program height last.spot.state last.spot.stage)
+        → TellRun program height deeds word last.spot.state bytes
+        → length bytes ≤ MOST_LOG
+        → (log : Log)
+        × HasLog program bytes log
+        × HoldsDeeds program height deeds word last.spot.state log
+        × IsLegal program log
+        × (length log.steps ≡ length deeds) }
+{
+    steps_lead_to_states();
+    states_are_listings();
+    logs_are_read_as_written();
 }

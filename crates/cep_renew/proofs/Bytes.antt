@@ -8,13 +8,13 @@ use Rattle.cep_term.specs.Multiset.{Multiset}
 use Rattle.cep_rule.specs.declared.parts.Parts.{Parts}
 use Rattle.cep_rule.specs.Derivations.{ProofTree}
 use Rattle.cep_lines.specs.declared.version.Version.TheVariants.{Two}
-use Rattle.cep_lines.specs.Lines.{line, has_listing, have_text, have_line, listing, stage_text, stage_line, next_line, step_text, step_line, by_text, by_line, by_lines, state_text, mid_lines, due_lines, end_text, end_lines, version_text, height_text, header}
+use Rattle.cep_lines.specs.Lines.{line, has_listing, have_text, have_line, listing, stage_text, stage_line, next_line, step_text, step_line, by_text, by_line, by_lines, state_text, step_lines, mid_lines, expected_listing, deed_lines, end_text, end_lines, version_text, height_text, header}
 use Rattle.cep_log.specs.declared.log.LogStep.{LogStep}
 use Rattle.cep_log.specs.declared.log.LogMid.{LogMid}
 use Rattle.cep_log.specs.declared.log.LogEnd.{LogEnd}
 use Rattle.cep_log.specs.Transcript.{stage_texts}
 use Rattle.cep_log.specs.Written.{mid_texts, step_texts, end_texts}
-use Rattle.cep_renew.specs.Renewing.{own_lines, renewed_lines, last_lines}
+use Rattle.cep_renew.specs.Renewing.{renewed_lines, last_lines}
 
 -- the listing of a state, with no line of its own yet
 abbrev pub listed : Multiset → LogMid
@@ -49,8 +49,8 @@ module _ (program : Parts) where
   next_written None = refl
   next_written (Some stage) = sym (append-nil (line (stage_text program stage)))
 
-  own_written : (step : LogStep) → own_lines program step ≡ flat_map line (step_text program step.offer ∷ (map (by_text program) step.proofs ++ stage_texts program step.stage))
-  unfolding step_line by_lines
+  own_written : (step : LogStep) → step_lines program step.offer step.proofs step.stage ≡ flat_map line (step_text program step.offer ∷ (map (by_text program) step.proofs ++ stage_texts program step.stage))
+  unfolding step_lines step_line by_lines
   own_written step =
       let first = line (step_text program step.offer) in
       let bys = map (by_text program) step.proofs in
@@ -59,8 +59,8 @@ module _ (program : Parts) where
       ∙ ap (λ rest. first ++ (flat_map line bys ++ rest)) (next_written step.stage)
       ∙ ap (λ rest. first ++ rest) (sym (flat_map-append line bys stages))
 
-  due_written : (number : ℕ) (state : Multiset) → due_lines program.signature number state ≡ flat_map line (mid_texts program number (due_mid number state))
-  unfolding due_lines mid_lines
+  due_written : (number : ℕ) (state : Multiset) → expected_listing program.signature number state ≡ flat_map line (mid_texts program number (due_mid number state))
+  unfolding expected_listing mid_lines
   due_written number state = cases (has_listing Two number) where
     cases : (is : Bool) → cond is (mid_lines program.signature number state) [] ≡ flat_map line (mid_texts program number (cond is (Some (listed state)) None))
     cases true = ap (λ rest. line (state_text number) ++ rest) (listing_written state)
@@ -68,12 +68,13 @@ module _ (program : Parts) where
 
   -- the lines of a step
   pub step_written : (number : ℕ) (step : LogStep) (state : Multiset) → renewed_lines program number step state ≡ flat_map line (step_texts program number (record step { mid = due_mid number state }))
+  unfolding deed_lines
   step_written number step state =
       let first = step_text program step.offer in
       let bys = map (by_text program) step.proofs in
       let stages = stage_texts program step.stage in
       let mids = mid_texts program number (due_mid number state) in
-      ap (λ own. own ++ due_lines program.signature number state) (own_written step)
+      ap (λ own. own ++ expected_listing program.signature number state) (own_written step)
       ∙ ap (λ due. flat_map line (first ∷ (bys ++ stages)) ++ due) (due_written number state)
       ∙ sym (flat_map-append line (first ∷ (bys ++ stages)) mids)
       ∙ ap (λ lines. flat_map line (first ∷ lines)) (append_assoc bys stages mids)

@@ -1,7 +1,6 @@
--- A step that leads to a state can be done, and passes no limit; and the lines of derivations, one after another.
-use Rattle.std.proofs.Common.{◌≡◌, ⊎_elim, ℕ, List, [], ◌++◌, ◌+◌, drop, append_assoc, append-nil, Some, sym, ap, ◌∙◌, subst, arith}
+-- A step that leads to a state can be done, and passes no limit.
+use Rattle.std.proofs.Common.{◌≡◌, ⊎_elim, ℕ, List, Some, sym, ◌∙◌, subst, arith}
 use Rattle.std.specs.Prelude.{slice_get}
-use Rattle.std.specs.List.{flat_map}
 use Rattle.cep_base.proofs.Lists.{some_same, holds_at}
 use Rattle.cep_term.specs.Tree.{Tree}
 use Rattle.cep_term.specs.Multiset.{Multiset, IsContained}
@@ -12,17 +11,14 @@ use Rattle.cep_rule.specs.Typing.{AreValues}
 use Rattle.cep_rule.specs.Limits.{IsSmallRule}
 use Rattle.cep_rule.specs.State.{IsState, Fits}
 use Rattle.cep_rule.specs.Instances.{left_of}
-use Rattle.cep_rule.specs.Derivations.{ProofTree}
 use Rattle.cep_rule.specs.Step.{Step}
 use Rattle.cep_rule.specs.Program.{IsTypedRule, IsDividedRule, IsProgram}
 use Rattle.cep_step.specs.declared.weighing.Weighed.TheVariants.{StateTooFull}
 use Rattle.cep_step.specs.Passing.{IsTooFull}
 use Rattle.cep_step.specs.Changes.{CanStep, IsWeighed}
-use Rattle.cep_lines.specs.Lines.{by_line, by_lines}
 use Rattle.cep_log.specs.declared.log.LogStep.{LogStep}
 use Rattle.cep_log.specs.Legal.{IsStepOf}
 use Rattle.cep_renew.specs.Renewing.{LeadsTo}
-use Rattle.cep_renew.proofs.Steps.{left_at}
 
 module _ (program : Parts) (step : LogStep) (state new : Multiset) (leads : LeadsTo program step state new) (rule : Rule) (numbered : slice_get program.rules step.offer.rule ≡ Some rule) where
   does : Step program.signature rule step.offer.values state new
@@ -52,19 +48,3 @@ module _ (program : Parts) (step : LogStep) (state new : Multiset) (leads : Lead
   not_full one_state number weighed =
       let there = weighed.1 in
       not_fitting there.0 number there.2 (subst Fits (one_state program.signature rule step.offer.values state new there.0 does there.1) leads.fits)
-
--- The lines of derivations
-
-module _ (program : Parts) (proofs : List ProofTree) where
-  -- one more is written
-  pub by_more : (i : ℕ) (proof : ProofTree) (out old new : List ℕ) → slice_get proofs i ≡ Some proof → old ++ flat_map (by_line program) (drop i proofs) ≡ out ++ flat_map (by_line program) proofs
-      → new ≡ old ++ by_line program proof → new ++ flat_map (by_line program) (drop (i + 1) proofs) ≡ out ++ flat_map (by_line program) proofs
-  by_more i proof out old new at so_far more =
-      let rest = flat_map (by_line program) (drop (i + 1) proofs) in
-      ap (λ text. text ++ rest) more ∙ append_assoc old (by_line program proof) rest
-      ∙ ap (λ left. old ++ flat_map (by_line program) left) (sym (left_at proofs i proof at)) ∙ so_far
-
-  -- all are written
-  pub by_all : (i : ℕ) (out new : List ℕ) → drop i proofs ≡ [] → new ++ flat_map (by_line program) (drop i proofs) ≡ out ++ flat_map (by_line program) proofs → new ≡ out ++ by_lines program proofs
-  unfolding by_lines
-  by_all i out new none so_far = sym (append-nil new) ∙ ap (λ left. new ++ flat_map (by_line program) left) (sym none) ∙ so_far

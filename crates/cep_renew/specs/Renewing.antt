@@ -14,7 +14,7 @@ use Rattle.cep_rule.specs.Steps.{Spot, MakesFit}
 use Rattle.cep_step.specs.declared.change.Change.{Change}
 use Rattle.cep_step.specs.Changes.{IsChangeOf}
 use Rattle.cep_lines.specs.declared.version.Version.TheVariants.{Two}
-use Rattle.cep_lines.specs.Lines.{line, next_line, step_line, by_lines, due_lines, end_lines}
+use Rattle.cep_lines.specs.Lines.{line, deed_lines, end_lines}
 use Rattle.cep_log.specs.declared.log.Log.{Log}
 use Rattle.cep_log.specs.declared.log.LogStep.{LogStep}
 use Rattle.cep_log.specs.declared.log.LogEnd.{LogEnd}
@@ -49,13 +49,9 @@ pub record IsStepChange (program : Parts) (step : LogStep) (state : Multiset) (c
   pub fit : MakesFit rule step.offer.values
   pub does : IsChangeOf program.signature rule step.offer.values state change
 
--- the own lines of a step but for a listing
-abbrev pub own_lines : Parts → LogStep → List ℕ
-own_lines program step = step_line program step.offer ++ (by_lines program step.proofs ++ next_line program step.stage)
-
--- all own lines of the step of a number in version 2, where it leads to a state
+-- the lines of the step of a number in version 2, where it leads to a state
 abbrev pub renewed_lines : Parts → ℕ → LogStep → Multiset → List ℕ
-renewed_lines program number step state = own_lines program step ++ due_lines program.signature number state
+renewed_lines program number step state = deed_lines program step.offer step.proofs step.stage number state
 
 -- the lines of the end, where there is one
 abbrev pub last_lines : Signature → Option LogEnd → Multiset → List ℕ

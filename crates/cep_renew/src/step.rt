@@ -1,22 +1,18 @@
-// Writes the lines of a step in version 2, and does the step.
+// Does a step, and writes its lines in version 2.
 ghost use Rattle.std.specs.Prelude.{◌≡◌, ◌++◌, IfOk, OnOk};
-ghost use Rattle.std.specs.List.{AllByRecursion};
 ghost use Rattle.cep_term.specs.Multiset.{Multiset};
-ghost use Rattle.cep_rule.specs.Shapes.{IsProofOf};
-ghost use Rattle.cep_lines.specs.Lines.{by_lines};
 ghost use Rattle.cep_log.specs.Legal.{IsStepOf};
-ghost use Rattle.cep_renew.specs.Renewing.{IsAtState, CanBePut, LeadsTo, IsStepChange, own_lines, renewed_lines};
+ghost use Rattle.cep_renew.specs.Renewing.{IsAtState, CanBePut, LeadsTo, IsStepChange, renewed_lines};
 
 use crate::walk::Walk;
-use cep_base::Text;
-use cep_lines::{put_by, put_due, put_next, put_step};
-use cep_log::{LogStep, Proofs};
+use cep_lines::put_deed;
+use cep_log::LogStep;
 use cep_rule::Program;
 use cep_rule::laws::{one_state_after_a_step, what_is_needed_is_there};
 use cep_step::{Change, Weighed, weigh};
 use std::alloc::{AllocError, Global};
 
-// Writes the step of this number, counted from 1, behind the text, and goes on by it.
+// Goes on by the step of this number, counted from 1, and writes it at the end of the text.
 pub(crate) fn renew_step(
     alloc: Global,
     program: &Program,
@@ -32,30 +28,16 @@ pub(crate) fn renew_step(
     ensures leads { OnOk result (LeadsTo program.now step.now walk.old.state walk.new.state) }
     ensures text { OnOk result (walk.new.text ≡ walk.old.text ++ renewed_lines program.now number step.now walk.new.state) }
 {
-    put_own(program, step, &mut walk.text)?;
     go_on(alloc, program, step, walk)?;
-    put_due(program, number, &walk.state, &mut walk.text)
-}
-
-// The own lines of the step but for a listing.
-fn put_own(program: &Program, step: &LogStep, out: &mut Text) -> Result<(), AllocError>
-    requires { CanBePut program.now step.now }
-    ensures { OnOk result (out.new ≡ out.old ++ own_lines program.now step.now) }
-{
-    put_step(program, &step.offer, out)?;
-    put_proofs(program, &step.proofs, out)?;
-    put_next(program, step.stage, out)
-}
-
-// A line for each derivation.
-fn put_proofs(program: &Program, proofs: &Proofs, out: &mut Text) -> Result<(), AllocError>
-    requires { AllByRecursion (IsProofOf program.now) proofs.now }
-    ensures { OnOk result (out.new ≡ out.old ++ by_lines program.now proofs.now) }
-{
-    for i in 0..proofs.len() {
-        put_by(program, proofs.get(i), out)?;
-    }
-    Ok(())
+    put_deed(
+        program,
+        &step.offer,
+        step.proofs.as_slice(),
+        step.stage,
+        number,
+        &walk.state,
+        &mut walk.text,
+    )
 }
 
 // Goes on by the step.

@@ -1,7 +1,8 @@
--- What is written of a question is lines that a transcript passes over.
-use Rattle.std.proofs.Common.{◌≡◌, ℕ, ◌+◌, List, [], ◌∷◌, ◌++◌, length, append-nil, refl, sym, ap, ◌∙◌, subst, Option}
+-- What is written of a question is remarks: lines that a transcript passes over.
+use Rattle.std.proofs.Common.{◌≡◌, ◌≢◌, ℕ, ◌+◌, ◌==◌, ◌&&◌, not, Bool, true, false, List, [], ◌∷◌, ◌++◌, length, append-nil, refl, sym, ap, ◌∙◌, subst, Option}
 use Rattle.std.specs.Prelude.{codes, decimal, IsSomeAnd}
 use Rattle.std.specs.List.{AllByRecursion, flat_map}
+use Rattle.std.proofs.lemmas.Bool.{and_parts}
 use Rattle.std.proofs.lemmas.Grind.{flat_map-append}
 use Rattle.cep_base.specs.declared.console.Event.{Event}
 use Rattle.cep_base.specs.declared.console.Event.TheVariants.{Out, In, End}
@@ -14,20 +15,19 @@ use Rattle.cep_rule.specs.declared.offer.Offer.{Offer}
 use Rattle.cep_rule.specs.Typing.{AreValues}
 use Rattle.cep_rule.specs.Offers.{IsOffer}
 use Rattle.cep_rule.specs.Shapes.{IsOfferOf}
-use Rattle.cep_rule.specs.Program.{IsProgram}
 use Rattle.cep_text.specs.Texts.{offer_text}
 use Rattle.cep_lines.specs.Lines.{line, offer_line, offer_lines, question}
 use Rattle.cep_log.specs.Transcript.{IsPassedOver, IsOneLine}
+use Rattle.cep_log.specs.Written.{IsRemark}
+use Rattle.cep_log.specs.Holding.{AreRemarks}
+use Rattle.cep_choice.specs.TypedLine.{Cut, Ended, Last, Nothing, Full, ReadsLine}
 use Rattle.cep_run.specs.declared.choice.Choice.{Choice}
 use Rattle.cep_run.specs.declared.settings.Settings.{Settings}
-use Rattle.cep_choice.specs.TypedLine.{Cut, Ended, Last, Nothing, Full, ReadsLine}
 use Rattle.cep_run.specs.Choice.{room_after, no_line, Hears, chosen, again, no_more, no_room}
 use Rattle.cep_run.specs.Deciding.{Supply, How, Heard, Lone, Drawn, Decides}
-use Rattle.cep_run.specs.Deeds.{Position}
+use Rattle.cep_step.specs.Deeds.{Position}
 use Rattle.cep_run.specs.Run.{Question, IsQuestion}
-use Rattle.cep_run.specs.Dialogue.{question_events}
-use Rattle.cep_run.specs.Logs.{written_bytes}
-use Rattle.cep_run.proofs.OneLines.{TextLaws, literal, one_line_both}
+use Rattle.cep_run.specs.Dialogue.{asked_events, question_events, written_bytes}
 
 -- Which bytes are written
 
@@ -48,89 +48,84 @@ written_ins (byte ∷ bytes) = written_ins bytes
 -- the reading of a line writes nothing
 reads_unwritten : (room : ℕ) (come : List ℕ) (events : List Event) (cut : Cut) (rest : List ℕ) (taken : ℕ) → ReadsLine room come events cut rest taken → written_bytes events ≡ []
 reads_unwritten room come events (Ended text) rest taken reads = ap written_bytes reads.3 ∙ written_ins (text ++ 10 ∷ [])
-reads_unwritten room come events (Last text) rest taken reads = ap written_bytes reads.5 ∙ written_both (ins text) (End ∷ []) ∙ ap (λ bytes. bytes ++ []) (written_ins text)
+reads_unwritten room come events (Last text) rest taken reads = rw (reads.5, written_both (ins text) (End ∷ []), written_ins text) refl
 reads_unwritten room come events Nothing rest taken reads = ap written_bytes reads.3
 reads_unwritten room come events (Full bytes) rest taken reads = ap written_bytes reads.3 ∙ written_ins bytes
 
--- Lines
+-- Literals are told by a test.
 
--- the bytes of lines, each ended by its LF
-abbrev pub bytes_of : List (List ℕ) → List ℕ
-bytes_of lines = flat_map line lines
+abbrev all_plain : List ℕ → Bool
+all_plain [] = true
+all_plain (byte ∷ bytes) = (not (byte == 10) && not (byte == 13)) && all_plain bytes
 
--- What is written among the events is these lines, which are passed over.
-pub record IsAside (events : List Event) : Type 0 where
-  pub lines : List (List ℕ)
-  pub bytes : written_bytes events ≡ bytes_of lines
-  pub plain : AllByRecursion IsOneLine lines
-  pub over : AllByRecursion IsPassedOver lines
+not_plain : (bad byte : ℕ) → (not (bad == 10) && not (bad == 13)) ≡ false → (not (byte == 10) && not (byte == 13)) ≡ true → byte ≢ bad
+not_plain bad byte fails plain same = let both : false ≡ true = sym fails ∙ sym (ap (λ b. not (b == 10) && not (b == 13)) same) ∙ plain in cc
 
-pub no_aside : (events : List Event) → written_bytes events ≡ [] → IsAside events
-no_aside events none = record { lines = []; bytes = none; plain = tt; over = tt }
+literal : (bytes : List ℕ) → all_plain bytes ≡ true → IsOneLine bytes
+literal [] all = tt
+literal (byte ∷ bytes) all =
+    let parts = and_parts (not (byte == 10) && not (byte == 13)) (all_plain bytes) all in
+    ((not_plain 10 byte refl parts.0, not_plain 13 byte refl parts.0), literal bytes parts.1)
 
-both_asides : (events others : List Event) → IsAside events → IsAside others → IsAside (events ++ others)
-both_asides events others one other = record {
-  lines = one.lines ++ other.lines;
-  bytes = written_both events others ∙ ap (λ bytes. bytes ++ written_bytes others) one.bytes ∙ ap (λ bytes. bytes_of one.lines ++ bytes) other.bytes ∙ sym (flat_map-append line one.lines other.lines);
-  plain = both_all IsOneLine one.lines other.lines one.plain other.plain;
-  over = both_all IsPassedOver one.lines other.lines one.over other.over;
+-- Remarks
+
+pub no_remarks : (bytes : List ℕ) → bytes ≡ [] → AreRemarks bytes
+no_remarks bytes none = record { lines = []; passed = tt; written = none }
+
+both_remarks : (one other : List ℕ) → AreRemarks one → AreRemarks other → AreRemarks (one ++ other)
+both_remarks one other a b = record {
+  lines = a.lines ++ b.lines;
+  passed = both_all IsRemark a.lines b.lines a.passed b.passed;
+  written = rw (a.written, b.written, flat_map-append line a.lines b.lines) refl;
 }
 
--- one line is written
-line_aside : (text : List ℕ) → IsOneLine text → IsPassedOver text → IsAside (outs (line text))
-line_aside text plain over = record { lines = text ∷ []; bytes = written_outs (line text) ∙ sym (append-nil (line text)); plain = (plain, tt); over = (over, tt) }
+line_remark : (text : List ℕ) → IsOneLine text → IsPassedOver text → AreRemarks (line text)
+line_remark text one passed = record { lines = text ∷ []; passed = (record { passed = passed; one = one }, tt); written = sym (append-nil (line text)) }
 
 -- what was heard, with the answers to lines that choose nothing
-heard_aside : (n : ℕ) {come rest : List ℕ} {taken taken' : ℕ} {events : List Event} {choice : Choice} → Hears n come taken events choice rest taken' → IsAside events
+heard_remarks : (n : ℕ) {come rest : List ℕ} {taken taken' : ℕ} {events : List Event} {choice : Choice} → Hears n come taken events choice rest taken' → AreRemarks (written_bytes events)
 unfolding no_line
-heard_aside n {come} {rest} {taken} {events = events} (chosen cut text more reads is chooses many) = no_aside events (reads_unwritten (room_after taken) come events cut rest more reads)
-heard_aside n {come} {taken = taken} {events = events} (again cut text between more first others reads is none hears whole) =
-    subst IsAside (sym whole) (both_asides first (outs no_line ++ others) (no_aside first (reads_unwritten (room_after taken) come first cut between more reads))
-    (both_asides (outs no_line) others (line_aside (codes "? no") (literal (codes "? no") refl) refl) (heard_aside n hears)))
-heard_aside n {come} {rest} {taken} {events = events} (no_more more reads many) = no_aside events (reads_unwritten (room_after taken) come events Nothing rest more reads)
-heard_aside n {come} {rest} {taken} {events = events} (no_room bytes more reads many) = no_aside events (reads_unwritten (room_after taken) come events (Full bytes) rest more reads)
+heard_remarks n {come} {rest} {taken} {events = events} (chosen cut text more reads is chooses many) = no_remarks _ (reads_unwritten (room_after taken) come events cut rest more reads)
+heard_remarks n {come} {taken = taken} {events = events} (again cut text between more first others reads is none hears whole) =
+    let written : written_bytes events ≡ no_line ++ written_bytes others =
+    rw (whole, written_both first (outs no_line ++ others), reads_unwritten (room_after taken) come first cut between more reads, written_both (outs no_line) others, written_outs no_line) refl in
+    subst AreRemarks (sym written) (both_remarks no_line (written_bytes others) (line_remark (codes "? no") (literal (codes "? no") refl) refl) (heard_remarks n hears))
+heard_remarks n {come} {rest} {taken} {events = events} (no_more more reads many) = no_remarks _ (reads_unwritten (room_after taken) come events Nothing rest more reads)
+heard_remarks n {come} {rest} {taken} {events = events} (no_room bytes more reads many) = no_remarks _ (reads_unwritten (room_after taken) come events (Full bytes) rest more reads)
 
-module _ (texts : TextLaws) (program : Parts) (kept : IsProgram program) where
-  -- the text of the line of an offer
-  abbrev offer_said : ℕ → Offer → List ℕ
-  offer_said place offer = codes "? " ++ decimal place ++ codes " " ++ offer_text program offer
+module _ (program : Parts) (numbers : (number : ℕ) → IsOneLine (decimal number)) (offers_one : (offer : Offer) → IsOfferOf program offer → IsOneLine (offer_text program offer)) where
+  one_line_both : (one other : List ℕ) → IsOneLine one → IsOneLine other → IsOneLine (one ++ other)
+  one_line_both one other here there = both_all (λ byte. (byte ≢ 10) × (byte ≢ 13)) one other here there
 
-  offer_aside : (place : ℕ) (offer : Offer) → IsOfferOf program offer → IsAside (outs (offer_line program place offer))
+  offer_remark : (place : ℕ) (offer : Offer) → IsOfferOf program offer → AreRemarks (offer_line program place offer)
   unfolding offer_line
-  offer_aside place offer is = line_aside (offer_said place offer)
-      (one_line_both (codes "? " ++ decimal place ++ codes " ") (offer_text program offer) (one_line_both (codes "? " ++ decimal place) (codes " ") (one_line_both (codes "? ") (decimal place) (literal (codes "? ") refl) (texts.numbers place)) (literal (codes " ") refl)) (texts.offers program offer kept is))
+  offer_remark place offer is = line_remark (codes "? " ++ decimal place ++ codes " " ++ offer_text program offer)
+      (one_line_both (codes "? " ++ decimal place ++ codes " ") (offer_text program offer)
+      (one_line_both (codes "? " ++ decimal place) (codes " ") (one_line_both (codes "? ") (decimal place) (literal (codes "? ") refl) (numbers place)) (literal (codes " ") refl))
+      (offers_one offer is))
       refl
 
-  outs_both : (bytes others : List ℕ) → outs (bytes ++ others) ≡ outs bytes ++ outs others
-  outs_both [] others = refl
-  outs_both (byte ∷ bytes) others = ap (λ events. Out byte ∷ events) (outs_both bytes others)
-
-  offers_aside : (place : ℕ) (offers : List Offer) → AllByRecursion (IsOfferOf program) offers → IsAside (outs (offer_lines program place offers))
+  offers_remarks : (place : ℕ) (offers : List Offer) → AllByRecursion (IsOfferOf program) offers → AreRemarks (offer_lines program place offers)
   unfolding offer_lines
-  offers_aside place [] all = no_aside [] refl
-  offers_aside place (offer ∷ offers) all =
-      subst IsAside (sym (outs_both (offer_line program place offer) (offer_lines program (place + 1) offers)))
-      (both_asides (outs (offer_line program place offer)) (outs (offer_lines program (place + 1) offers)) (offer_aside place offer all.0) (offers_aside (place + 1) offers all.1))
+  offers_remarks place [] all = no_remarks [] refl
+  offers_remarks place (offer ∷ offers) all = both_remarks (offer_line program place offer) (offer_lines program (place + 1) offers) (offer_remark place offer all.0) (offers_remarks (place + 1) offers all.1)
 
-  asked_aside : (offers : List Offer) → AllByRecursion (IsOfferOf program) offers → IsAside (outs (question program offers))
+  choose_remarks : (offers : List Offer) → AllByRecursion (IsOfferOf program) offers → AreRemarks (question program offers)
   unfolding question
-  asked_aside offers all =
-      subst IsAside (sym (outs_both (offer_lines program 1 offers) (line (codes "? choose"))))
-      (both_asides (outs (offer_lines program 1 offers)) (outs (line (codes "? choose"))) (offers_aside 1 offers all) (line_aside (codes "? choose") (literal (codes "? choose") refl) refl))
+  choose_remarks offers all = both_remarks (offer_lines program 1 offers) (line (codes "? choose")) (offers_remarks 1 offers all) (line_remark (codes "? choose") (literal (codes "? choose") refl) refl)
 
-  decided_aside : (seed stage group : ℕ) (from to : Supply) (asked : Question) (how : How) → AllByRecursion (IsOfferOf program) asked.offers → asked.how ≡ how → Decides program seed stage group (length asked.offers) from how asked.choice to → IsAside (question_events program asked)
-  decided_aside seed stage group from to asked (Heard events) all is decides =
-      subst (λ (how : How). IsAside (question_events program (record asked { how = how }))) (sym is)
-      (both_asides (outs (question program asked.offers)) events (asked_aside asked.offers all) (heard_aside (length asked.offers) decides.1))
-  decided_aside seed stage group from to asked Lone all is decides = subst (λ (how : How). IsAside (question_events program (record asked { how = how }))) (sym is) (offers_aside 1 asked.offers all)
-  decided_aside seed stage group from to asked Drawn all is decides = subst (λ (how : How). IsAside (question_events program (record asked { how = how }))) (sym is) (offers_aside 1 asked.offers all)
+  asked_remarks : (seed stage group : ℕ) (offers : List Offer) (from to : Supply) (how : How) (choice : Choice) → AllByRecursion (IsOfferOf program) offers → Decides program seed stage group (length offers) from how choice to → AreRemarks (written_bytes (asked_events program offers how))
+  asked_remarks seed stage group offers from to (Heard events) choice all decides =
+      subst AreRemarks (sym (rw (written_both (outs (question program offers)) events, written_outs (question program offers)) refl))
+      (both_remarks (question program offers) (written_bytes events) (choose_remarks offers all) (heard_remarks (length offers) decides.1))
+  asked_remarks seed stage group offers from to Lone choice all decides = subst AreRemarks (sym (written_outs (offer_lines program 1 offers))) (offers_remarks 1 offers all)
+  asked_remarks seed stage group offers from to Drawn choice all decides = subst AreRemarks (sym (written_outs (offer_lines program 1 offers))) (offers_remarks 1 offers all)
 
   -- an offer has a rule of the program, with values for its variables
-  pub offer_of : (height : ℕ) (state : Multiset) (group : ℕ) (offer : Offer) → IsOffer program height state group offer → IsOfferOf program offer
+  offer_of : (height : ℕ) (state : Multiset) (group : ℕ) (offer : Offer) → IsOffer program height state group offer → IsOfferOf program offer
   offer_of height state group offer is = subst (λ (rule : Option Rule). IsSomeAnd rule (λ r. AreValues program.signature.cons r.kinds offer.values)) (sym is.applies.numbered) is.applies.values
 
-  pub question_aside : (settings : Settings) (at : Position) (from : Supply) (asked : Question) (to : Supply) → IsQuestion program settings at from asked to → IsAside (question_events program asked)
-  question_aside settings at from asked to is =
-      decided_aside settings.seed at.spot.stage asked.group from to asked asked.how
-      (all_of (IsOfferOf program) asked.offers (λ offer there. offer_of settings.height at.spot.state asked.group offer (is.offered.no_other offer there)))
-      refl is.decided
+  pub question_remarks : (settings : Settings) (at : Position) (from : Supply) (asked : Question) (to : Supply) → IsQuestion program settings at from asked to → AreRemarks (written_bytes (question_events program asked))
+  question_remarks settings at from asked to is =
+      asked_remarks settings.seed at.spot.stage asked.group asked.offers from to asked.how asked.choice
+      (all_of (IsOfferOf program) asked.offers (λ offer there. offer_of settings.height at.spot.state asked.group offer (is.offered.no_other offer there))) is.decided

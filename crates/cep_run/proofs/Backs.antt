@@ -1,9 +1,8 @@
--- The backward premises of an offer that applies: they may be asked, each has a derivation, and their lines are put one after another.
+-- The backward premises of an offer that applies: they may be asked, and each has a derivation.
 use Rattle.std.proofs.Common.{◌≡◌, ⊎_elim, ℕ, zero, suc, ◌+◌, ◌<◌, ◌≤◌, Bool, true, false, ◌&&◌, List, [], ◌∷◌, ◌++◌, length, take, Option, Some, None, refl, sym, ap, subst, ◌∙◌, arith, append_assoc, Contains}
 use Rattle.std.specs.Prelude.{slice_get, IsSome}
-use Rattle.std.specs.List.{AllByRecursion, flat_map}
-use Rattle.std.proofs.lemmas.Grind.{flat_map-append}
-use Rattle.std.proofs.lemmas.List.{append-nil, length-map}
+use Rattle.std.specs.List.{AllByRecursion}
+use Rattle.std.proofs.lemmas.List.{length-map}
 use Rattle.cep_base.proofs.Lists.{none_some, some_same, holds_at, holds_at_mapped, take_next, map_last}
 use Rattle.cep_term.specs.Tree.{Tree, Trees, AtomTree, variable, node, none, more, IsGround, OccursIn, Occurs, OccursAmong, IsInRange, AreInRange, IsAtomInRange}
 use Rattle.cep_term.specs.Multiset.{Multiset}
@@ -23,8 +22,7 @@ use Rattle.cep_rule.specs.Offers.{Applies}
 use Rattle.cep_rule.specs.Program.{IsProgram}
 use Rattle.cep_rule.specs.Steps.{AreProofs}
 use Rattle.cep_prove.specs.Answers.{has_value, IsGoal, IsAnswer, AreAnswers, IsLowestProof}
-use Rattle.cep_lines.specs.Lines.{by_line, by_lines}
-use Rattle.cep_run.specs.Turn.{AddsProof, AddsProofs}
+use Rattle.cep_run.specs.Turn.{IsProofWithin}
 
 -- Values that are given
 
@@ -156,34 +154,22 @@ same_goal alike program height goal known values has answer = alike values known
     by v (Some t) e some = answer.meets.kept v t e ∙ sym e
 
 -- the lowest derivation is within the height
-pub added_proof : (program : Parts) (height : ℕ) (a b : AtomTree) (proof : ProofTree) (old new : List ℕ) → a ≡ b → IsLowestProof program proof a → IsDerivable program height b → new ≡ old ++ by_line program proof → AddsProof program height b old new
-added_proof program height a b proof old new same lowest derivable added =
+pub is_within : (program : Parts) (height : ℕ) (a b : AtomTree) (proof : ProofTree) → a ≡ b → IsLowestProof program proof a → IsDerivable program height b → IsProofWithin program height b proof
+is_within program height a b proof same lowest derivable =
     let less = lowest.lowest derivable.proof (subst (λ c. Proves program derivable.proof c) (sym same) derivable.proves) in
     let low = derivable.low in
-    record { proof = proof; proves = subst (λ c. Proves program proof c) same lowest.proves; low = omega (arith, less, low); added = added }
+    record { proves = subst (λ c. Proves program proof c) same lowest.proves; low = omega (arith, less, low) }
 
--- Lines one after another
+-- Derivations one after another
 
-pub no_proofs : (program : Parts) (height : ℕ) (values : List Tree) (old new : List ℕ) → new ≡ old → AddsProofs program height (full_instances values []) old new
-unfolding by_lines
-no_proofs program height values old new same = record { proofs = []; proved = tt; added = same ∙ sym (append-nil old) }
+proofs_next : (program : Parts) (height : ℕ) (proofs : List ProofTree) (atoms : List AtomTree) (proof : ProofTree) (a : AtomTree) → AreProofs program height proofs atoms → IsProofWithin program height a proof → AreProofs program height (proofs ++ proof ∷ []) (atoms ++ a ∷ [])
+proofs_next program height [] [] proof a are is = (is.proves, is.low, tt)
+proofs_next program height (p ∷ proofs) (b ∷ atoms) proof a are is = (are.0, are.1, proofs_next program height proofs atoms proof a are.2 is)
+proofs_next program height [] (b ∷ atoms) proof a are is = absurd are
+proofs_next program height (p ∷ proofs) [] proof a are is = absurd are
 
-proofs_next : (program : Parts) (height : ℕ) (proofs : List ProofTree) (atoms : List AtomTree) (proof : ProofTree) (a : AtomTree) → AreProofs program height proofs atoms → Proves program proof a → proof_height proof ≤ height → AreProofs program height (proofs ++ proof ∷ []) (atoms ++ a ∷ [])
-proofs_next program height [] [] proof a are proves low = (proves, low, tt)
-proofs_next program height [] (b ∷ atoms) proof a are proves low = absurd are
-proofs_next program height (p ∷ proofs) [] proof a are proves low = absurd are
-proofs_next program height (p ∷ proofs) (b ∷ atoms) proof a are proves low = (are.0, are.1, proofs_next program height proofs atoms proof a are.2 proves low)
-
-lines_next : (program : Parts) (proofs : List ProofTree) (proof : ProofTree) → by_lines program (proofs ++ proof ∷ []) ≡ by_lines program proofs ++ by_line program proof
-unfolding by_lines
-lines_next program proofs proof = flat_map-append (by_line program) proofs (proof ∷ []) ∙ ap (λ bytes. flat_map (by_line program) proofs ++ bytes) (append-nil (by_line program proof))
-
-pub one_proof_more : (program : Parts) (height : ℕ) (values : List Tree) (backs : List AtomTree) (i : ℕ) (goal : AtomTree) (old between new : List ℕ) → slice_get backs i ≡ Some goal
-    → AddsProofs program height (full_instances values (take i backs)) old between → AddsProof program height (atom_instance (given values) goal) between new → AddsProofs program height (full_instances values (take (i + 1) backs)) old new
-one_proof_more program height values backs i goal old between new is before one =
-    let atoms : full_instances values (take (i + 1) backs) ≡ full_instances values (take i backs) ++ full_instance values goal ∷ [] = ap (full_instances values) (take_next backs i goal is) ∙ map_last (full_instance values) (take i backs) goal in
-    record {
-      proofs = before.proofs ++ one.proof ∷ [];
-      proved = subst (AreProofs program height (before.proofs ++ one.proof ∷ [])) (sym atoms) (proofs_next program height before.proofs (full_instances values (take i backs)) one.proof (full_instance values goal) before.proved one.proves one.low);
-      added = one.added ∙ ap (λ bytes. bytes ++ by_line program one.proof) before.added ∙ append_assoc old (by_lines program before.proofs) (by_line program one.proof) ∙ ap (λ bytes. old ++ bytes) (sym (lines_next program before.proofs one.proof));
-    }
+pub one_proof_more : (program : Parts) (height : ℕ) (values : List Tree) (backs : List AtomTree) (i : ℕ) (goal : AtomTree) (proofs : List ProofTree) (proof : ProofTree) → slice_get backs i ≡ Some goal
+    → AreProofs program height proofs (full_instances values (take i backs)) → IsProofWithin program height (atom_instance (given values) goal) proof → AreProofs program height (proofs ++ proof ∷ []) (full_instances values (take (i + 1) backs))
+one_proof_more program height values backs i goal proofs proof is before one =
+    subst (AreProofs program height (proofs ++ proof ∷ [])) (sym (ap (full_instances values) (take_next backs i goal is) ∙ map_last (full_instance values) (take i backs) goal))
+    (proofs_next program height proofs (full_instances values (take i backs)) proof (full_instance values goal) before one)

@@ -5,7 +5,7 @@ use Rattle.std.proofs.lemmas.List.{map-append}
 use Rattle.cep_rule.specs.declared.rule.Rule.{Rule}
 use Rattle.cep_rule.specs.declared.parts.Parts.{Parts}
 use Rattle.cep_rule.specs.Matching.{RoseBy}
-use Rattle.cep_run.specs.Deeds.{Deed}
+use Rattle.cep_step.specs.Deeds.{Deed}
 use Rattle.cep_run.specs.Run.{Turn, deeds_of}
 use Rattle.cep_run.specs.Costs.{Beginnings, Edits, IsDeedCost, AreDeedCosts, IsRunCost}
 

@@ -8,7 +8,7 @@ use Rattle.cep_rule.specs.Program.{IsProgram}
 use Rattle.cep_run.specs.declared.settings.Settings.{Settings}
 use Rattle.cep_run.specs.Deciding.{Supply}
 use Rattle.cep_lines.specs.Lines.{header}
-use Rattle.cep_run.specs.Deeds.{Position, start_of}
+use Rattle.cep_step.specs.Deeds.{Position, start_of}
 use Rattle.cep_run.specs.Run.{Turn, Ending, whole_supply, Run}
 use Rattle.cep_run.specs.Dialogue.{events_of, Dialogue}
 

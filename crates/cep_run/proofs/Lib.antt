@@ -15,8 +15,6 @@ pub mod Runs
 pub mod OneRun
 pub mod OneDialogue
 pub mod TurnSteps
-pub mod LegalLogs
-pub mod OneLines
 pub mod Asides
 pub mod Transcribed
 pub mod Saying

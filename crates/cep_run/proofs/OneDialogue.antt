@@ -10,7 +10,7 @@ use Rattle.cep_rule.specs.Steps.{AreProofs}
 use Rattle.cep_run.specs.declared.settings.Settings.{Settings}
 use Rattle.cep_run.specs.Deciding.{Supply}
 use Rattle.cep_lines.specs.Lines.{header}
-use Rattle.cep_run.specs.Deeds.{Position, start_of}
+use Rattle.cep_step.specs.Deeds.{Position, start_of}
 use Rattle.cep_run.specs.Run.{whole_supply, Turn, Ending, IsTurn, AreTurns, Run, unproved}
 use Rattle.cep_run.specs.Dialogue.{events_of, Dialogue}
 use Rattle.cep_run.proofs.Turns.{all_at}

@@ -17,7 +17,8 @@ use Rattle.cep_lines.specs.declared.end_word.EndWord.{EndWord}
 use Rattle.cep_lines.specs.declared.end_word.EndWord.TheVariants.{Quiet, Turns, Offers, Atom, State}
 use Rattle.cep_run.specs.declared.settings.Settings.{Settings}
 use Rattle.cep_run.specs.Deciding.{Supply, How, Heard, Lone, Drawn, Decides}
-use Rattle.cep_run.specs.Deeds.{Position, PassesLimit, StopsAtOffer}
+use Rattle.cep_step.specs.Deeds.{Position}
+use Rattle.cep_run.specs.Run.{PassesLimit, StopsAtOffer}
 use Rattle.cep_run.specs.Run.{Question, Turn, Ending, IsQuestion, IsChosen, IsTurn, AreTurns, EndsUnasked, LeadsNowhere, EndsAt, Run, unproved}
 use Rattle.cep_run.proofs.OneReading.{one_hearing}
 use Rattle.cep_run.proofs.TurnSteps.{steps_here, counted_here}

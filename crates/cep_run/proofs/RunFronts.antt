@@ -11,9 +11,10 @@ use Rattle.cep_run.specs.declared.choice.Choice.{Choice}
 use Rattle.cep_run.specs.declared.settings.Settings.{Settings}
 use Rattle.cep_run.specs.Choice.{IsChoiceWithin}
 use Rattle.cep_run.specs.Deciding.{Supply, How, Heard, Lone, Drawn, Decides}
-use Rattle.cep_run.specs.Deeds.{Position}
+use Rattle.cep_step.specs.Deeds.{Position}
 use Rattle.cep_run.specs.Run.{Question, Turn, Ending, IsQuestion, IsTurn, Run}
-use Rattle.cep_run.specs.Dialogue.{question_events, last_events, deed_lines, turn_events, events_of}
+use Rattle.cep_run.specs.Dialogue.{question_events, last_events, turn_events, events_of}
+use Rattle.cep_log.specs.Holding.{lines_of_deed}
 use Rattle.cep_run.specs.Fronts.{BeginsSome, IsRunOf}
 use Rattle.cep_run.proofs.HearsThere.{heard_within}
 use Rattle.cep_run.proofs.StepThere.{ThereLaws}
@@ -63,7 +64,7 @@ module _ (laws : ThereLaws) (program : Parts) (settings : Settings) (kept : IsPr
         | inl on ↦ (
             let front = turn_on at from on.turn on.is on.state in
             let deed = on.turn.deed in
-            let steps = outs (deed_lines program deed) in
+            let steps = outs (lines_of_deed program deed) in
             let said : question_events program question ++ (steps ++ front.more) ≡ turn_events program on.turn ++ front.more =
             sym (append_assoc (question_events program question) steps front.more) ∙ ap (λ (asked : Question). (question_events program asked ++ steps) ++ front.more) (sym on.of_question) in
             record { more = steps ++ front.more; left = front.left; whole = (front.whole.0, front.whole.1, front.whole.2, said ∙ front.whole.3) }

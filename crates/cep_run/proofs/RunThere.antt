@@ -24,7 +24,8 @@ use Rattle.cep_lines.specs.declared.end_word.EndWord.TheVariants.{Quiet, Input, 
 use Rattle.cep_run.specs.declared.settings.Settings.{Settings}
 use Rattle.cep_run.specs.Choice.{IsChoiceWithin}
 use Rattle.cep_run.specs.Deciding.{Supply}
-use Rattle.cep_run.specs.Deeds.{Position, PassesLimit}
+use Rattle.cep_step.specs.Deeds.{Position}
+use Rattle.cep_run.specs.Run.{PassesLimit}
 use Rattle.cep_run.specs.Run.{Question, Turn, Ending, IsQuestion, IsChosen, IsTurn, LeadsNowhere, EndsAt, Run}
 use Rattle.cep_run.proofs.StepThere.{ThereLaws, all_fit_or_not, state_fits_or_not, proofs_there}
 use Rattle.cep_run.proofs.DecisionThere.{decision_there}

@@ -14,7 +14,7 @@ use Rattle.cep_lines.specs.declared.end_word.EndWord.TheVariants.{Quiet, Turns}
 use Rattle.cep_run.specs.declared.settings.Settings.{Settings}
 use Rattle.cep_run.specs.Deciding.{Supply}
 use Rattle.cep_lines.specs.Lines.{end_lines, header}
-use Rattle.cep_run.specs.Deeds.{Position, Deed, start_of}
+use Rattle.cep_step.specs.Deeds.{Position, Deed, start_of}
 use Rattle.cep_run.specs.Run.{whole_supply, Turn, Ending, IsTurn, AreTurns, deeds_of, offers_listed, EndsAt, Run}
 use Rattle.cep_run.specs.Dialogue.{turn_events, last_events, events_of, Dialogue}
 use Rattle.cep_run.specs.Fronts.{BeginsSome, LeavesUnheard, IsRunOf}

@@ -8,10 +8,11 @@ use Rattle.cep_rule.specs.declared.rule.Rule.{Rule}
 use Rattle.cep_rule.specs.declared.parts.Parts.{Parts}
 use Rattle.cep_run.specs.declared.settings.Settings.{Settings}
 use Rattle.cep_run.specs.Deciding.{Supply}
-use Rattle.cep_run.specs.Deeds.{Position, start_of, Deed, AreDeeds}
+use Rattle.cep_step.specs.Deeds.{Position, start_of, Deed, AreDeeds}
 use Rattle.cep_run.specs.Run.{whole_supply, Turn, Ending, AreTurns, deeds_of, unproved}
 use Rattle.cep_run.specs.Dialogue.{Dialogue}
-use Rattle.cep_run.specs.Logs.{written_bytes, HoldsDeeds}
+use Rattle.cep_run.specs.Dialogue.{written_bytes}
+use Rattle.cep_log.specs.Holding.{HoldsDeeds}
 use Rattle.cep_base.specs.declared.limits.TheConstants.{MOST_LOG}
 use Rattle.cep_rule.specs.Limits.{IsHeight}
 use Rattle.cep_rule.specs.Program.{IsProgram}

@@ -1,18 +1,26 @@
--- The lines of a step: its own, those of its derivations, and that of its next stage.
-use Rattle.std.proofs.Common.{◌≡◌, ℕ, ◌<◌, List, ◌++◌, length, append_assoc, sym, ap, ◌∙◌, subst}
+-- What a deed says can be written, and what is told of it.
+use Rattle.std.proofs.Common.{◌≡◌, ℕ, ◌<◌, List, [], ◌∷◌, ◌++◌, length, drop, sym, ap, ◌∙◌, subst, Option}
 use Rattle.std.specs.Prelude.{slice_get, Some, IfSome, IsSomeAnd}
+use Rattle.std.specs.List.{AllByRecursion}
+use Rattle.cep_base.specs.declared.console.Event.{Event}
+use Rattle.cep_base.specs.Talk.{outs, Did}
+use Rattle.cep_base.proofs.Did.{did_map}
 use Rattle.cep_base.proofs.Lists.{holds_at}
+use Rattle.cep_term.specs.Tree.{AtomTree}
 use Rattle.cep_term.specs.Multiset.{Multiset}
 use Rattle.cep_rule.specs.declared.rule.Rule.{Rule}
 use Rattle.cep_rule.specs.declared.parts.Parts.{Parts}
 use Rattle.cep_rule.specs.declared.offer.Offer.{Offer}
-use Rattle.cep_rule.specs.Instances.{full_instances}
+use Rattle.cep_rule.specs.Derivations.{ProofTree, Proves}
 use Rattle.cep_rule.specs.Offers.{Applies}
 use Rattle.cep_rule.specs.Program.{IsProgram}
-use Rattle.cep_rule.specs.Shapes.{IsOfferOf}
+use Rattle.cep_rule.specs.Shapes.{IsOfferOf, IsProofOf}
+use Rattle.cep_rule.specs.Steps.{AreProofs}
 use Rattle.cep_rule.specs.Typing.{AreValues}
-use Rattle.cep_lines.specs.Lines.{step_line, by_lines, next_line, step_lines}
-use Rattle.cep_run.specs.Turn.{AddsProofs, TellsStep}
+use Rattle.cep_lines.specs.Lines.{deed_lines}
+use Rattle.cep_run.specs.Begun.{PutsFront}
+use Rattle.cep_run.specs.Turn.{TellsDeed, BeginsDeed}
+use Rattle.cep_run.proofs.Fronts.{outs_cut}
 
 -- an offer that applies has a text
 pub applied_has_text : (program : Parts) (height : ℕ) (state : Multiset) (offer : Offer) → Applies program height state offer → IsOfferOf program offer
@@ -22,18 +30,23 @@ applied_has_text program height state offer applies = subst (λ o. IsSomeAnd o (
 pub next_in_range : (program : Parts) (n : ℕ) (rule : Rule) → IsProgram program → slice_get program.rules n ≡ Some rule → IfSome rule.next (λ stage. stage < length program.stages)
 next_in_range program n rule kept numbered = holds_at (λ (r : Rule). IfSome r.next (λ stage. stage < length program.stages)) program.rules n rule kept.in_range.next_stages numbered
 
--- one behind the other they are the lines of the step
-pub whole_step : (program : Parts) (height : ℕ) (offer : Offer) (rule : Rule) (old one two new : List ℕ) → slice_get program.rules offer.rule ≡ Some rule → one ≡ old ++ step_line program offer → AddsProofs program height (full_instances offer.values rule.backs) one two → new ≡ two ++ next_line program rule.next → TellsStep program height offer old new
-unfolding step_lines
-whole_step program height offer rule old one two new numbered step proved next =
-    let proofs = proved.proofs in
-    record {
-      rule = rule;
-      numbered = numbered;
-      proofs = proofs;
-      proved = proved.proved;
-      added =
-          next ∙ ap (λ bytes. bytes ++ next_line program rule.next) (proved.added ∙ ap (λ bytes. bytes ++ by_lines program proofs) step ∙ append_assoc old (step_line program offer) (by_lines program proofs))
-          ∙ append_assoc old (step_line program offer ++ by_lines program proofs) (next_line program rule.next)
-          ∙ ap (λ bytes. old ++ bytes) (append_assoc (step_line program offer) (by_lines program proofs) (next_line program rule.next));
-    }
+-- what proves premises has the program's shape
+pub all_of_shape : ((program : Parts) (proof : ProofTree) (a : AtomTree) → Proves program proof a → IsProofOf program proof) → (program : Parts) (height : ℕ) (proofs : List ProofTree) (atoms : List AtomTree) → AreProofs program height proofs atoms → AllByRecursion (IsProofOf program) proofs
+all_of_shape shapes program height [] atoms are = tt
+all_of_shape shapes program height (proof ∷ proofs) [] are = absurd are
+all_of_shape shapes program height (proof ∷ proofs) (a ∷ atoms) are = (shapes program proof a are.0, all_of_shape shapes program height proofs atoms are.2)
+
+-- What is told of a deed, from what is written
+
+module _ {C : Type 0} (talk : C → Option (List Event)) (left : C → Option (List ℕ)) (old new : C) (program : Parts) (offer : Offer) (proofs : List ProofTree) (number : ℕ) (state : Multiset) (rule : Rule) (numbered : slice_get program.rules offer.rule ≡ Some rule) where
+  abbrev lines : List ℕ
+  lines = deed_lines program offer proofs rule.next number state
+
+  pub deed_told : Did talk left old new (λ come events rest. (events ≡ outs lines) × (rest ≡ come)) → Did talk left old new (TellsDeed program offer proofs number state)
+  deed_told told = did_map talk left old new _ _ (λ come events rest put. record { rule = rule; numbered = numbered; written = put.0; untaken = put.1 }) told
+
+  pub deed_begun : Did talk left old new (PutsFront lines) → Did talk left old new (BeginsDeed program offer proofs number state)
+  deed_begun begun = did_map talk left old new _ _ (λ come events rest put. record {
+    more = outs (drop put.size lines);
+    tells = record { rule = rule; numbered = numbered; written = ap (λ es. es ++ outs (drop put.size lines)) put.said ∙ outs_cut put.size lines; untaken = put.untaken };
+  }) begun

@@ -17,7 +17,7 @@ use Rattle.cep_run.specs.declared.choice.Choice.{Choice}
 use Rattle.cep_run.specs.declared.choice.Choice.TheVariants.{Place, NoMore, NoRoom}
 use Rattle.cep_run.specs.declared.settings.Settings.{Settings}
 use Rattle.cep_run.specs.Deciding.{Supply}
-use Rattle.cep_run.specs.Deeds.{Position, Deed, AreDeeds}
+use Rattle.cep_step.specs.Deeds.{Position, Deed, AreDeeds}
 use Rattle.cep_run.specs.Run.{Question, Turn, deeds_of, IsQuestion, IsChosen, IsTurn, AreTurns, LeadsNowhere, EndsAt}
 
 -- a rule of the group that is asked is of the stage, or leaves it where nothing of its own applies

@@ -39,14 +39,16 @@ use Rattle.cep_run.specs.declared.turn.Turned.{Turned}
 use Rattle.cep_run.specs.declared.turn.Turned.TheVariants.{Done, Over}
 use Rattle.cep_run.specs.declared.deciding.Spent.{Spent}
 use Rattle.cep_run.specs.Deciding.{Supply, How}
-use Rattle.cep_lines.specs.Lines.{step_lines, due_lines}
-use Rattle.cep_run.specs.Deeds.{Position, Deed, PassesLimit}
+use Rattle.cep_rule.specs.Derivations.{ProofTree}
+use Rattle.cep_lines.specs.Lines.{deed_lines}
+use Rattle.cep_step.specs.Deeds.{Position, Deed}
+use Rattle.cep_run.specs.Run.{PassesLimit}
 use Rattle.cep_run.specs.Costs.{Edits, IsStepCost, IsDeedCost}
 use Rattle.cep_run.specs.Run.{Question, Turn, IsQuestion, IsChosen, IsTurn, LeadsNowhere}
 use Rattle.cep_run.specs.Dialogue.{asked_events, question_events, turn_events}
 use Rattle.cep_run.specs.Fronts.{BeginsSome, FellShort, IsRunOf}
 use Rattle.cep_run.specs.Begun.{SettlesSome, BeginsAct}
-use Rattle.cep_run.specs.Turn.{position_of, supply_with, IsPlayed, Settles, IsPlaced, TellsDeed, Acts, WouldPass, limit_word, IsActed, RoseByAct, DoesTurn, Stops, IsTurned, config_left}
+use Rattle.cep_run.specs.Turn.{position_of, supply_with, IsPlayed, Settles, IsPlaced, ProveBacks, TellsDeed, BeginsDeed, Acts, WouldPass, limit_word, IsActed, RoseByAct, DoesTurn, Stops, IsTurned, config_left}
 use Rattle.cep_base.proofs.Did.{did_same, did_put, did_map, did_then}
 use Rattle.cep_run.proofs.TurnSteps.{lawful_step}
 use Rattle.cep_run.proofs.Fronts.{front_of_front, outs_cut}
@@ -147,23 +149,18 @@ module _ {M : Type 0} (program : Parts) (height : ℕ) (held : Multiset) (group 
   same_rule rule is = some_same rule rule_of (sym is ∙ numbered)
 
   -- the step was done
-  pub step_acts : (high : ℕ) (new : Configuration M) (first bytes : List ℕ) → ((rule : Rule) (values : List Tree) → IsAskedAt program lists old.stage i rule values → IsNext program rule values old new) → first ≡ [] → TellsDeed program high offer new.turns new.state first bytes
-      → (come : List ℕ) (events : List Event) (rest : List ℕ) → (events ≡ outs bytes) × (rest ≡ come) → Acts program high offers place (position_of old) (position_of new) come events rest
-  step_acts high new first bytes stepped none tells come events rest put =
-      let next = stepped rule_of offer.values chosen_there in
-      let told = tells.step in
-      let due = due_lines program.signature new.turns new.state in
-      let same = same_rule told.rule told.numbered in
-      record {
-        offer = offer;
-        rule = rule_of;
-        proofs = told.proofs;
-        placed = is_placed;
-        proved = subst (λ (rule : Rule). AreProofs program high told.proofs (full_instances offer.values rule.backs)) same told.proved;
-        steps = next.steps;
-        written = put.0 ∙ ap outs (tells.due ∙ ap (λ front. front ++ due) (told.added ∙ ap (λ bytes. bytes ++ step_lines program offer told.rule told.proofs) none ∙ ap (λ (rule : Rule). step_lines program offer rule told.proofs) same));
-        untaken = put.1;
-      }
+  pub step_acts : (high : ℕ) (new : Configuration M) (proofs : List ProofTree) → ((rule : Rule) (values : List Tree) → IsAskedAt program lists old.stage i rule values → IsNext program rule values old new) → ProveBacks program high offer proofs
+      → (come : List ℕ) (events : List Event) (rest : List ℕ) → TellsDeed program offer proofs new.turns new.state come events rest → Acts program high offers place (position_of old) (position_of new) come events rest
+  step_acts high new proofs stepped proved come events rest told = record {
+    offer = offer;
+    rule = rule_of;
+    proofs = proofs;
+    placed = is_placed;
+    proved = subst (λ (rule : Rule). AreProofs program high proofs (full_instances offer.values rule.backs)) (same_rule proved.rule proved.numbered) proved.proved;
+    steps = (stepped rule_of offer.values chosen_there).steps;
+    written = told.written ∙ ap (λ (rule : Rule). outs (deed_lines program offer proofs rule.next new.turns new.state)) (same_rule told.rule told.numbered);
+    untaken = told.untaken;
+  }
 
   pub one_turn_more : (new : Configuration M) → ((rule : Rule) (values : List Tree) → IsAskedAt program lists old.stage i rule values → IsNext program rule values old new) → new.turns ≡ old.turns + 1
   one_turn_more new stepped = (stepped rule_of offer.values chosen_there).turns
@@ -206,16 +203,28 @@ module _ {M : Type 0} (height_held : M → ℕ) (state_held : M → Multiset) (o
 
   module _ {C : Type 0} (talk : C → Option (List Event)) (left : C → Option (List ℕ)) (console : C) (height : ℕ) (stepped : Stepped M)
       (comes : (rule : Rule) (values : List Tree) → IsAskedAt program all old.stage (place - 1) rule values → IsStepped program rule values old stepped) where
-    -- the step was done, and its lines were put
-    pub done_acts : (next : Configuration M) → stepped ≡ stepping.Done next → (new : C) (none told bytes : List ℕ) → none ≡ [] → TellsDeed program height offer next.turns next.state none told → bytes ≡ told → GoesOn (talk console) (outs bytes) (talk new) → left new ≡ left console
+    -- the step was done, and its lines were written
+    pub done_acts : (next : Configuration M) → stepped ≡ stepping.Done next → (new : C) (proofs : List ProofTree) → ProveBacks program height offer proofs → Did talk left console new (TellsDeed program offer proofs next.turns next.state)
         → IsActed talk left console new program height (offers_of all group) place old (Done next)
-    done_acts next is new none told bytes empty tells same went kept =
+    done_acts next is new proofs proved told =
         let leads = λ (rule : Rule) (values : List Tree) (h : IsAskedAt program all old.stage (place - 1) rule values). subst (IsStepped program rule values old) is (comes rule values h) in (
-          did_map talk left console new _ _
-              (step_acts program high held group all (offers_of all group) place (place - 1) offer old (lists.each group listed) at refl asked height next none bytes leads empty (subst (TellsDeed program height offer next.turns next.state none) (sym same) tells))
-              (did_put talk left console new bytes went kept),
+          did_map talk left console new _ _ (step_acts program high held group all (offers_of all group) place (place - 1) offer old (lists.each group listed) at refl asked height next proofs leads proved) told,
           one_turn_more program high held group all (offers_of all group) place (place - 1) offer old (lists.each group listed) at refl asked next leads,
         )
+
+    -- the step was done, and the writing of its lines was refused
+    pub cut_acts : (next : Configuration M) → stepped ≡ stepping.Done next → (new : C) (proofs : List ProofTree) → ProveBacks program height offer proofs → Did talk left console new (BeginsDeed program offer proofs next.turns next.state)
+        → Did talk left console new (BeginsAct program height (offers_of all group) place (position_of old))
+    cut_acts next is new proofs proved begun =
+        let leads = λ (rule : Rule) (values : List Tree) (h : IsAskedAt program all old.stage (place - 1) rule values). subst (IsStepped program rule values old) is (comes rule values h) in
+        did_map talk left console new _ _
+        (λ come events rest cut. inr (record {
+          next = position_of next;
+          counted = one_turn_more program high held group all (offers_of all group) place (place - 1) offer old (lists.each group listed) at refl asked next leads;
+          more = cut.more;
+          acts = step_acts program high held group all (offers_of all group) place (place - 1) offer old (lists.each group listed) at refl asked height next proofs leads proved come (events ++ cut.more) rest cut.tells;
+        }))
+        begun
 
     -- it was done, and the counter rose by what it costs: by what the edit may tick, and then by one for each backward premise
     pub done_rose : (may_edit : Edits) (next : Configuration M) → stepped ≡ stepping.Done next → (old_steps between new_steps : ℕ)
@@ -232,21 +241,6 @@ module _ {M : Type 0} (height_held : M → ℕ) (state_held : M → Multiset) (o
         subst (λ (o : Offer). RoseBy (IsStepCost may_edit program at_height old.state rule o.values) old_steps new_steps) (sym one)
         (subst (λ h. RoseBy (IsStepCost may_edit program h old.state rule offer.values) old_steps new_steps) same
         (record { ticks = rose.ticks + length rule.backs; allows = record { edit = rose.ticks; allowed = rose.allows; sum = refl }; risen = omega (arith, first, later) }))
-
-    -- the step was done, and the putting of its lines was refused
-    pub cut_acts : (next : Configuration M) → stepped ≡ stepping.Done next → (new : C) (none told bytes : List ℕ) (size : ℕ) → none ≡ [] → TellsDeed program height offer next.turns next.state none told → bytes ≡ told → GoesOn (talk console) (outs (take size bytes)) (talk new) → left new ≡ left console
-        → Did talk left console new (BeginsAct program height (offers_of all group) place (position_of old))
-    cut_acts next is new none told bytes size empty tells same went kept =
-        let leads = λ (rule : Rule) (values : List Tree) (h : IsAskedAt program all old.stage (place - 1) rule values). subst (IsStepped program rule values old) is (comes rule values h) in
-        did_map talk left console new _ _
-        (λ come events rest put. inr (record {
-          next = position_of next;
-          counted = one_turn_more program high held group all (offers_of all group) place (place - 1) offer old (lists.each group listed) at refl asked next leads;
-          more = outs (drop size bytes);
-          acts = step_acts program high held group all (offers_of all group) place (place - 1) offer old (lists.each group listed) at refl asked height next none bytes leads empty (subst (TellsDeed program height offer next.turns next.state none) (sym same) tells)
-              come (events ++ outs (drop size bytes)) rest (ap (λ es. es ++ outs (drop size bytes)) put.0 ∙ outs_cut size bytes, put.1);
-        }))
-        (did_put talk left console new (take size bytes) went kept)
 
     module _ (last : Configuration M) (passed : Limit) (number : ℕ) (is : stepped ≡ stepping.Passes last passed number) where
       fails : (rule : Rule) (values : List Tree) → IsAskedAt program all old.stage (place - 1) rule values → (last ≡ old) × Passes program.signature rule values old.state passed × IsExcess program.signature rule values old.state passed number

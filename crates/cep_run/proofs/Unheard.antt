@@ -8,15 +8,16 @@ use Rattle.cep_rule.specs.declared.parts.Parts.{Parts}
 use Rattle.cep_rule.specs.declared.offer.Offer.{Offer}
 use Rattle.cep_choice.specs.TypedLine.{Cut, Ended, Last, Nothing, Full, ReadsLine}
 use Rattle.cep_lines.specs.declared.end_word.EndWord.{EndWord}
-use Rattle.cep_lines.specs.Lines.{question, step_lines, due_lines, offer_lines}
+use Rattle.cep_lines.specs.Lines.{question, deed_lines, offer_lines}
+use Rattle.cep_log.specs.Holding.{lines_of_deed}
 use Rattle.cep_run.specs.declared.choice.Choice.{Choice}
 use Rattle.cep_run.specs.declared.deciding.Spent.{Spent}
 use Rattle.cep_run.specs.declared.settings.Settings.{Settings}
 use Rattle.cep_run.specs.Choice.{room_after, no_line, Hears, chosen, again, no_more, no_room}
 use Rattle.cep_run.specs.Deciding.{Supply, How, Heard, Lone, Drawn, Decides}
-use Rattle.cep_run.specs.Deeds.{Position, Deed}
+use Rattle.cep_step.specs.Deeds.{Position, Deed}
 use Rattle.cep_run.specs.Run.{whole_supply, Question, Turn, IsQuestion, IsTurn, AreTurns, EndsAt}
-use Rattle.cep_run.specs.Dialogue.{asked_events, question_events, last_events, deed_lines, turn_events}
+use Rattle.cep_run.specs.Dialogue.{asked_events, question_events, last_events, turn_events}
 use Rattle.cep_run.specs.Fronts.{heard_bytes, LeavesUnheard}
 use Rattle.cep_run.specs.Begun.{PutsFront, BeginsAct}
 use Rattle.cep_run.specs.Turn.{Settles, SoFar, IsWholeRun}
@@ -110,7 +111,7 @@ pub act_left : (program : Parts) (height : ℕ) (offers : List Offer) (place : �
 act_left program height offers place old come events rest (inl nothing) = outs_left [] come events rest nothing
 act_left program height offers place old come events rest (inr on) =
     let acts = on.acts in
-    let none = sym (heard_append events on.more) ∙ ap heard_bytes acts.written ∙ outs_unheard (step_lines program acts.offer acts.rule acts.proofs ++ due_lines program.signature on.next.turns on.next.spot.state) in
+    let none = sym (heard_append events on.more) ∙ ap heard_bytes acts.written ∙ outs_unheard (deed_lines program acts.offer acts.proofs acts.rule.next on.next.turns on.next.spot.state) in
     unheard_left come events rest (front_nil (heard_bytes events) (heard_bytes on.more) none) acts.untaken
 
 module _ (program : Parts) (settings : Settings) where
@@ -119,7 +120,7 @@ module _ (program : Parts) (settings : Settings) where
 
   turn_left : (at : Position) (from : Supply) (turn : Turn) → IsTurn program settings at from turn → LeavesUnheard from.come (turn_events program turn) turn.left.come
   turn_left at from turn is =
-      let lines = deed_lines program turn.deed in
+      let lines = lines_of_deed program turn.deed in
       left_then from.come (question_events program turn.question) turn.left.come (outs lines) turn.left.come (question_left at from turn.question turn.left is.asks) (outs_left lines turn.left.come (outs lines) turn.left.come (refl, refl))
 
   turns_left : (at : Position) (from : Supply) (turns : List Turn) (last : Position) (to : Supply) → AreTurns program settings at from turns last to → LeavesUnheard from.come (flat_map (turn_events program) turns) to.come

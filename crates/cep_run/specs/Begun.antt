@@ -8,7 +8,7 @@ use Rattle.cep_rule.specs.declared.offer.Offer.{Offer}
 use Rattle.cep_run.specs.declared.choice.Choice.{Choice}
 use Rattle.cep_run.specs.declared.deciding.Spent.{Spent}
 use Rattle.cep_run.specs.Choice.{Hears}
-use Rattle.cep_run.specs.Deeds.{Position}
+use Rattle.cep_step.specs.Deeds.{Position}
 use Rattle.cep_run.specs.Turn.{AsksPlayer, Settles, Acts}
 
 -- A front of the text was written, and nothing was taken.

@@ -5,7 +5,7 @@ use Rattle.cep_term.specs.Multiset.{Multiset, gathered}
 use Rattle.cep_rule.specs.declared.rule.Rule.{Rule}
 use Rattle.cep_rule.specs.declared.parts.Parts.{Parts}
 use Rattle.cep_rule.specs.Instances.{taken_by, added_by}
-use Rattle.cep_run.specs.Deeds.{Deed}
+use Rattle.cep_step.specs.Deeds.{Deed}
 
 -- what a matcher may tick to begin: of which program, with which state, within which height, and how often
 abbrev pub Beginnings : Type 1

@@ -1,15 +1,17 @@
 -- The dialogue of a run: the text of its turns and of its end, with what was heard.
-use Rattle.std.specs.Prelude.{◌≡◌, ℕ, List, [], ◌++◌, Option, None, Some}
+use Rattle.std.specs.Prelude.{◌≡◌, ℕ, List, [], ◌∷◌, ◌++◌, Option, None, Some}
 use Rattle.std.specs.List.{flat_map}
 use Rattle.cep_base.specs.declared.console.Event.{Event}
+use Rattle.cep_base.specs.declared.console.Event.TheVariants.{Out, In, End}
 use Rattle.cep_base.specs.Talk.{outs}
 use Rattle.cep_rule.specs.declared.parts.Parts.{Parts}
 use Rattle.cep_rule.specs.declared.offer.Offer.{Offer}
 use Rattle.cep_run.specs.declared.settings.Settings.{Settings}
 use Rattle.cep_run.specs.Deciding.{Supply, How, Heard, Lone, Drawn}
-use Rattle.cep_run.specs.Deeds.{start_of, Deed}
+use Rattle.cep_step.specs.Deeds.{start_of}
+use Rattle.cep_log.specs.Holding.{lines_of_deed}
 use Rattle.cep_run.specs.Run.{whole_supply, Question, Turn, Ending, Run}
-use Rattle.cep_lines.specs.Lines.{offer_lines, question, step_lines, due_lines, end_lines, header}
+use Rattle.cep_lines.specs.Lines.{offer_lines, question, end_lines, header}
 
 -- the events of a question: its offers, and where the player decides the line that asks for a choice, and what was heard
 abbrev pub asked_events : Parts → List Offer → How → List Event
@@ -25,14 +27,9 @@ abbrev pub last_events : Parts → Option Question → List Event
 last_events program None = []
 last_events program (Some asked) = question_events program asked
 
--- what is written of a deed: the lines of its step, and the listing of the state where it leads, where one is due
-abbrev pub deed_lines : Parts → Deed → List ℕ
-deed_lines program deed =
-    step_lines program deed.offer deed.rule deed.proofs ++ due_lines program.signature deed.after.turns deed.after.spot.state
-
 -- the events of a turn
 abbrev pub turn_events : Parts → Turn → List Event
-turn_events program turn = question_events program turn.question ++ outs (deed_lines program turn.deed)
+turn_events program turn = question_events program turn.question ++ outs (lines_of_deed program turn.deed)
 
 -- the events of a run: those of its turns, and of its end
 abbrev pub events_of : Parts → List Turn → Ending → List Event
@@ -44,3 +41,10 @@ pub record Dialogue (program : Parts) (settings : Settings) (come : List ℕ) (t
   pub run : Run program settings (start_of program) (whole_supply come) turns ending left
   pub whole : events ≡ outs (header program settings.height) ++ events_of program turns ending
   pub rest_is : rest ≡ left.come
+
+-- the bytes that are written among events
+abbrev pub written_bytes : List Event → List ℕ
+written_bytes [] = []
+written_bytes (Out byte ∷ events) = byte ∷ written_bytes events
+written_bytes (In byte ∷ events) = written_bytes events
+written_bytes (End ∷ events) = written_bytes events

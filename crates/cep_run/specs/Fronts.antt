@@ -6,7 +6,7 @@ use Rattle.cep_base.specs.Talk.{Did}
 use Rattle.cep_rule.specs.declared.parts.Parts.{Parts}
 use Rattle.cep_run.specs.declared.settings.Settings.{Settings}
 use Rattle.cep_run.specs.Deciding.{Supply}
-use Rattle.cep_run.specs.Deeds.{Position}
+use Rattle.cep_step.specs.Deeds.{Position}
 use Rattle.cep_run.specs.Run.{Turn, Ending, Run}
 use Rattle.cep_run.specs.Dialogue.{events_of}
 

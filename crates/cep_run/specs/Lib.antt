@@ -1,10 +1,8 @@
 pub mod Choice
 pub mod Deciding
-pub mod Deeds
 pub mod Costs
 pub mod Run
 pub mod Dialogue
-pub mod Logs
 pub mod Turn
 pub mod Said
 pub mod Fronts

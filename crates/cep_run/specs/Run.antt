@@ -1,5 +1,5 @@
 -- A run: turn after turn, each a step of the machine, until it ends for a named reason. No byte that is written is spoken of here.
-use Rattle.std.specs.Prelude.{◌≡◌, ℕ, ◌+◌, ◌-◌, ◌<◌, ◌≤◌, List, [], ◌∷◌, length, map, Option, None, Some, slice_get}
+use Rattle.std.specs.Prelude.{◌≡◌, ◌⊎◌, ℕ, ◌+◌, ◌-◌, ◌<◌, ◌≤◌, List, [], ◌∷◌, length, map, Option, None, Some, slice_get}
 use Rattle.cep_base.specs.declared.limits.TheConstants.{MOST_OFFERS}
 use Rattle.cep_term.specs.Multiset.{Multiset}
 use Rattle.cep_rule.specs.declared.rule.Rule.{Rule}
@@ -7,13 +7,31 @@ use Rattle.cep_rule.specs.declared.parts.Parts.{Parts}
 use Rattle.cep_rule.specs.declared.offer.Offer.{Offer}
 use Rattle.cep_rule.specs.Offers.{AreOffers}
 use Rattle.cep_rule.specs.Stages.{IsAsked, IsQuiet}
+use Rattle.cep_term.specs.Tree.{Tree}
+use Rattle.cep_rule.specs.State.{Fits}
+use Rattle.cep_rule.specs.Step.{Step}
+use Rattle.cep_rule.specs.Steps.{MakesFit}
 use Rattle.cep_run.specs.declared.choice.Choice.{Choice}
 use Rattle.cep_run.specs.declared.choice.Choice.TheVariants.{Place, NoMore, NoRoom}
 use Rattle.cep_lines.specs.declared.end_word.EndWord.{EndWord}
 use Rattle.cep_lines.specs.declared.end_word.EndWord.TheVariants.{Quiet, Input, Turns, Offers, Typed, Atom, State}
 use Rattle.cep_run.specs.declared.settings.Settings.{Settings}
 use Rattle.cep_run.specs.Deciding.{Supply, How, Decides}
-use Rattle.cep_run.specs.Deeds.{Position, Deed, IsDeed, StopsAtOffer}
+use Rattle.cep_step.specs.Deeds.{Position, Deed, IsDeed}
+
+-- A step by the offer passes a limit: an atom that its rule makes is not fit; or all are, and the state after it does not fit.
+abbrev pub PassesLimit : Parts → Rule → List Tree → Multiset → EndWord → Type 0
+PassesLimit program rule values state Atom = ¬ MakesFit rule values
+PassesLimit program rule values state State = MakesFit rule values × ((next : Multiset) × Step program.signature rule values state next × ¬ Fits next)
+PassesLimit program rule values state Quiet = ⊥
+PassesLimit program rule values state Input = ⊥
+PassesLimit program rule values state Turns = ⊥
+PassesLimit program rule values state Offers = ⊥
+PassesLimit program rule values state Typed = ⊥
+
+-- A run with a limit of turns stops at an offer that was chosen, whoever chose it: no turn remains for it, or one does and its step passes a limit.
+abbrev pub StopsAtOffer : Parts → ℕ → Position → Rule → List Tree → EndWord → Type 0
+StopsAtOffer program limit at rule values word = ((word ≡ Turns) × (at.turns ≡ limit)) ⊎ ((at.turns < limit) × PassesLimit program rule values at.spot.state word)
 
 -- the supply with which a run begins, where these bytes are to come
 abbrev pub whole_supply : List ℕ → Supply

@@ -11,10 +11,10 @@ use Rattle.cep_log.specs.Legal.{IsLegal}
 use Rattle.cep_log.specs.Transcript.{HasLog}
 use Rattle.cep_run.specs.declared.settings.Settings.{Settings}
 use Rattle.cep_run.specs.declared.tally.Tally.{Tally}
-use Rattle.cep_run.specs.Deeds.{start_of, AreDeeds}
+use Rattle.cep_step.specs.Deeds.{start_of, AreDeeds}
 use Rattle.cep_run.specs.Run.{Turn, Ending, deeds_of, unproved, offers_listed}
 use Rattle.cep_run.specs.Dialogue.{Dialogue}
-use Rattle.cep_run.specs.Logs.{written_bytes}
+use Rattle.cep_run.specs.Dialogue.{written_bytes}
 
 -- The tally of a run: the word with which it ended, how many turns were done, how many offers were listed in them, and how many copies the last state has.
 pub record IsTally (done : List Turn) (ending : Ending) (tally : Tally) : Type 0 where

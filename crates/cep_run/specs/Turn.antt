@@ -1,6 +1,6 @@
 -- Private.
 -- What a part of a run does: words for the functions that do it.
-use Rattle.std.specs.Prelude.{◌≡◌, ℕ, ◌+◌, ◌-◌, ◌≤◌, Bool, true, List, [], ◌++◌, Option, Some, length, slice_get}
+use Rattle.std.specs.Prelude.{◌≡◌, ℕ, ◌+◌, ◌-◌, ◌≤◌, List, [], ◌++◌, Option, Some, length, slice_get}
 use Rattle.std.specs.List.{flat_map}
 use Rattle.cep_base.specs.declared.console.Event.{Event}
 use Rattle.cep_base.specs.declared.limits.TheConstants.{MOST_OFFERS, MOST_TYPED}
@@ -26,9 +26,10 @@ use Rattle.cep_run.specs.declared.turn.Turned.TheVariants.{Done, Over}
 use Rattle.cep_run.specs.Choice.{Hears}
 use Rattle.cep_run.specs.declared.deciding.Spent.{Spent}
 use Rattle.cep_run.specs.Deciding.{Supply, How, Decides}
-use Rattle.cep_lines.specs.Lines.{question, step_lines, due_lines, by_line, by_lines}
+use Rattle.cep_lines.specs.Lines.{question, deed_lines}
 use Rattle.cep_rule.specs.Matching.{RoseBy}
-use Rattle.cep_run.specs.Deeds.{Position, Deed, PassesLimit}
+use Rattle.cep_step.specs.Deeds.{Position, Deed}
+use Rattle.cep_run.specs.Run.{PassesLimit}
 use Rattle.cep_run.specs.Costs.{Edits, IsStepCost, IsDeedCost}
 use Rattle.cep_run.specs.Run.{Question, Turn, IsTurn, AreTurns, deeds_of, offers_listed, EndsAt, whole_supply}
 use Rattle.cep_run.specs.Dialogue.{asked_events, turn_events, last_events}
@@ -69,40 +70,30 @@ pub record IsPlaced (program : Parts) (offers : List Offer) (place : ℕ) (offer
   pub at_place : slice_get offers (place - 1) ≡ Some offer
   pub of_rule : slice_get program.rules offer.rule ≡ Some rule
 
--- The line of a derivation was added, which proves the atom within the height.
-pub record AddsProof (program : Parts) (height : ℕ) (a : AtomTree) (old new : List ℕ) : Type 0 where
-  pub proof : ProofTree
+-- The derivation proves the atom within the height.
+pub record IsProofWithin (program : Parts) (height : ℕ) (a : AtomTree) (proof : ProofTree) : Type 0 where
   pub proves : Proves program proof a
   pub low : proof_height proof ≤ height
-  pub added : new ≡ old ++ by_line program proof
 
--- The lines of derivations were added, which prove these atoms within the height, one each in order.
-pub record AddsProofs (program : Parts) (height : ℕ) (atoms : List AtomTree) (old new : List ℕ) : Type 0 where
-  pub proofs : List ProofTree
-  pub proved : AreProofs program height proofs atoms
-  pub added : new ≡ old ++ by_lines program proofs
-
--- The lines of a step were added: its own, those of what proves its backward premises within the height, and that of the next stage.
-pub record TellsStep (program : Parts) (height : ℕ) (offer : Offer) (old new : List ℕ) : Type 0 where
+-- The derivations prove the backward premises of the offer's rule within the height, one each in order.
+pub record ProveBacks (program : Parts) (height : ℕ) (offer : Offer) (proofs : List ProofTree) : Type 0 where
   pub rule : Rule
   pub numbered : slice_get program.rules offer.rule ≡ Some rule
-  pub proofs : List ProofTree
   pub proved : AreProofs program height proofs (full_instances offer.values rule.backs)
-  pub added : new ≡ old ++ step_lines program offer rule proofs
 
--- The lines of a step with a number were added, and behind them the listing of the state where it led, where one is due.
-pub record TellsDeed (program : Parts) (height : ℕ) (offer : Offer) (number : ℕ) (state : Multiset) (old new : List ℕ) : Type 0 where
-  pub between : List ℕ
-  pub step : TellsStep program height offer old between
-  pub due : new ≡ between ++ due_lines program.signature number state
+-- The lines of the deed that counts as the turn of this number are written, and nothing is taken.
+pub record TellsDeed (program : Parts) (offer : Offer) (proofs : List ProofTree) (number : ℕ) (state : Multiset) (come : List ℕ) (events : List Event) (rest : List ℕ) : Type 0 where
+  pub rule : Rule
+  pub numbered : slice_get program.rules offer.rule ≡ Some rule
+  pub written : events ≡ outs (deed_lines program offer proofs rule.next number state)
+  pub untaken : rest ≡ come
 
--- These lines tell of a step with a number, and they were added where somebody reads them.
-pub record TellsReader (read : Bool) (program : Parts) (height : ℕ) (offer : Offer) (number : ℕ) (state : Multiset) (old new : List ℕ) : Type 0 where
-  pub whole : List ℕ
-  pub tells : TellsDeed program height offer number state old whole
-  pub added : read ≡ true → new ≡ whole
+-- A prefix of these lines is written, and nothing is taken: with further events they are all.
+pub record BeginsDeed (program : Parts) (offer : Offer) (proofs : List ProofTree) (number : ℕ) (state : Multiset) (come : List ℕ) (events : List Event) (rest : List ℕ) : Type 0 where
+  pub more : List Event
+  pub tells : TellsDeed program offer proofs number state come (events ++ more) rest
 
--- The step by the offer at a place leads from one position to the other, its backward premises are proved within the height, and its lines are written, with the listing of the state where it leads, where one is due.
+-- The step by the offer at a place leads from one position to the other, its backward premises are proved within the height, and its lines are written.
 pub record Acts (program : Parts) (height : ℕ) (offers : List Offer) (place : ℕ) (old new : Position) (come : List ℕ) (events : List Event) (rest : List ℕ) : Type 0 where
   pub offer : Offer
   pub rule : Rule
@@ -110,7 +101,7 @@ pub record Acts (program : Parts) (height : ℕ) (offers : List Offer) (place : 
   pub placed : IsPlaced program offers place offer rule
   pub proved : AreProofs program height proofs (full_instances offer.values rule.backs)
   pub steps : StepsTo program rule offer.values old.spot new.spot
-  pub written : events ≡ outs (step_lines program offer rule proofs ++ due_lines program.signature new.turns new.spot.state)
+  pub written : events ≡ outs (deed_lines program offer proofs rule.next new.turns new.spot.state)
   pub untaken : rest ≡ come
 
 -- the word for a limit that a step would pass

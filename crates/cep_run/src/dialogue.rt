@@ -15,8 +15,9 @@ ghost use Rattle.cep_run.specs.Turn.{position_of, IsPlayed, IsWholeRun};
 ghost use Rattle.cep_run.specs.Said.{Says, IsTally, IsSomeSaid};
 
 use crate::deciding::Spent;
-use crate::laws::{deeds_are_counted, dialogues_are_there, one_dialogue, turns_are_deeds};
-use crate::log_laws::dialogues_have_logs;
+use crate::laws::{
+    deeds_are_counted, dialogues_are_there, dialogues_have_logs, one_dialogue, turns_are_deeds,
+};
 use crate::settings::Settings;
 use crate::tally::Tally;
 use crate::turn::{Turned, turn};

@@ -5,14 +5,21 @@ ghost use Rattle.cep_base.specs.declared.console.Event.{Event};
 ghost use Rattle.cep_rule.specs.declared.parts.Parts.{Parts};
 ghost use Rattle.cep_rule.specs.State.{IsState};
 ghost use Rattle.cep_rule.specs.Program.{IsProgram};
+ghost use Rattle.cep_rule.specs.Limits.{IsHeight};
+ghost use Rattle.cep_base.specs.declared.limits.TheConstants.{MOST_LOG};
+ghost use Rattle.cep_log.specs.declared.log.Log.{Log};
+ghost use Rattle.cep_log.specs.Legal.{IsLegal};
+ghost use Rattle.cep_log.specs.Transcript.{HasLog};
+ghost use Rattle.cep_log.specs.Holding.{HoldsDeeds};
 ghost use Rattle.cep_run.specs.declared.settings.Settings.{Settings};
 ghost use Rattle.cep_run.specs.Deciding.{Supply};
-ghost use Rattle.cep_run.specs.Deeds.{Position, Deed, AreDeeds};
+ghost use Rattle.cep_step.specs.Deeds.{Position, Deed, AreDeeds};
 ghost use Rattle.cep_run.specs.Run.{Question, Turn, Ending, IsQuestion, IsTurn, AreTurns, Run, deeds_of, unproved};
-ghost use Rattle.cep_run.specs.Dialogue.{question_events, turn_events, Dialogue};
+ghost use Rattle.cep_run.specs.Dialogue.{question_events, turn_events, written_bytes, Dialogue};
 ghost use Rattle.cep_run.specs.Fronts.{BeginsSome, IsRunOf};
 
 use cep_choice::laws::drawn_places_are_within;
+use cep_log::laws::{deeds_have_legal_logs, lines_are_read_as_written};
 use cep_rule::laws::{
     edits_are_steps, one_list_of_offers, one_state_after_a_step, steps_lead_to_states,
 };
@@ -104,4 +111,23 @@ pub fn dialogues_are_there()
         → (turns : List Turn) × (ending : Ending) × (events : List Event) × (rest : List ℕ) × Dialogue program settings come turns ending events rest }
 {
     runs_are_there();
+}
+
+/// What is written of a dialogue is a transcript, if it is not too long: its log holds what was
+/// done, is legal, and has as many steps as turns were done. So a check accepts what play wrote.
+pub fn dialogues_have_logs()
+    ensures { (program : Parts) (settings : Settings) (come : List ℕ) (turns : List Turn) (ending : Ending) (events : List Event) (rest : List ℕ)
+        → IsProgram program
+        → IsHeight settings.height
+        → Dialogue program settings come turns ending events rest
+        → length (written_bytes events) ≤ MOST_LOG
+        → (log : Log)
+        × HasLog program (written_bytes events) log
+        × HoldsDeeds program settings.height (deeds_of turns) ending.word ending.state log
+        × IsLegal program log
+        × (length log.steps ≡ length turns) }
+{
+    turns_are_deeds();
+    lines_are_read_as_written();
+    deeds_have_legal_logs();
 }

@@ -9,7 +9,6 @@ mod copying;
 mod deciding;
 mod dialogue;
 pub mod laws;
-pub mod log_laws;
 mod proving;
 mod settings;
 mod tally;

@@ -1,12 +1,10 @@
 // One turn of a run: the offers are written, one of them is chosen, and the step is done.
-ghost use Rattle.std.specs.Prelude.{◌≡◌, ◌+◌, ◌<◌, ◌≤◌, length, slice_get, Some, IfOk, OnOk, OnErr};
+ghost use Rattle.std.specs.Prelude.{◌≡◌, ◌+◌, ◌<◌, ◌≤◌, length, IfOk, OnOk, OnErr};
 ghost use Rattle.cep_base.specs.declared.limits.TheConstants.{MOST_TURNS};
 ghost use Rattle.cep_base.specs.Talk.{Did, ConsoleCause};
-ghost use Rattle.cep_term.specs.Multiset.{Multiset};
-ghost use Rattle.cep_rule.specs.declared.rule.Rule.{Rule};
-ghost use Rattle.cep_rule.specs.Limits.{IsHeight};
+ghost use Rattle.std.specs.List.{AllByRecursion};
 ghost use Rattle.cep_rule.specs.State.{IsState};
-ghost use Rattle.cep_rule.specs.Offers.{Applies};
+ghost use Rattle.cep_rule.specs.Shapes.{IsOfferOf, IsProofOf};
 ghost use Rattle.cep_rule.specs.Matching.{offers_of};
 ghost use Rattle.cep_machine.specs.Asking.{asked_offers};
 ghost use Rattle.cep_run.specs.declared.turn.Turned.TheVariants.{Over};
@@ -14,20 +12,21 @@ ghost use Rattle.cep_run.specs.Fronts.{FellShort, IsRunOf};
 ghost use Rattle.cep_run.specs.Begun.{BeginsAct};
 ghost use Rattle.cep_rule.specs.Matching.{RoseBy};
 ghost use Rattle.cep_run.specs.Costs.{IsDeedCost};
-ghost use Rattle.cep_run.specs.Turn.{position_of, supply_with, HasSpent, IsPlayed, TellsReader, IsActed, RoseByAct, IsTurned, config_left, limit_word};
+ghost use Rattle.cep_run.specs.Turn.{position_of, supply_with, HasSpent, IsPlayed, TellsDeed, BeginsDeed, IsActed, RoseByAct, IsTurned, config_left, limit_word};
 
 use crate::choice::Choice;
 use crate::copying::copy_offer;
 use crate::deciding::{Spent, decide};
 use crate::laws::runs_go_on;
-use crate::proving::put_step_lines;
+use crate::proving::prove_backs;
 use crate::settings::Settings;
 use cep_base::{Console, ConsoleFault, Steps, Text};
-use cep_lines::{EndWord, put_due};
+use cep_lines::{EndWord, put_deed};
+use cep_log::Proofs;
 use cep_machine::{Config, Stepped};
 use cep_rule::{Matcher, Offer, Program};
 use cep_step::Limit;
-use std::alloc::{AllocError, Global};
+use std::alloc::Global;
 use std::sync::ledger::Ledger;
 
 /// Where a run ended, and why.
@@ -55,7 +54,7 @@ fn over<M: Matcher>(config: Config<M>, word: EndWord) -> Turned<M>
 
 /// Does the step by the offer at a place, counted from 1, and writes it with what proves its backward
 /// premises and the stage that it leads to; or says which limit it would pass. The lines are made
-/// behind the step, so that nothing is proved of one that is not done, and so of a copy of the offer:
+/// after the step, so that nothing is proved of one that is not done, and so of a copy of the offer:
 /// the matcher that has it goes with the step.
 fn act<C: Console, M: Matcher, L: Ledger>(
     alloc: Global,
@@ -85,42 +84,47 @@ fn act<C: Console, M: Matcher, L: Ledger>(
     let offer = copy_offer(alloc, chosen)?;
     match config.step(alloc, program, i, steps)? {
         Stepped::Done(config) => {
-            let read = console.is_read();
-            let mut lines = Text::new(alloc);
-            put_deed(
-                alloc, program, settings, &offer, &config, read, &mut lines, steps,
-            )?;
-            console.put(lines.bytes())?;
+            let proofs = prove_backs(alloc, program, &offer, settings.height, steps)?;
+            tell_deed(alloc, program, &offer, &proofs, &config, console)?;
             Ok(Turned::Done(config))
         }
         Stepped::Passes { config, limit, .. } => Ok(over(config, word_of(limit))),
     }
 }
 
-// What is written of a step that was done: its lines, and where one is due the listing of the state
-// where it led, which is left out where nobody reads it.
-fn put_deed<M: Matcher, L: Ledger>(
+// Writes the lines of a deed that led to this configuration. Where nobody reads them, none are made.
+fn tell_deed<C: Console, M: Matcher>(
     alloc: Global,
     program: &Program,
-    settings: Settings,
     offer: &Offer,
+    proofs: &Proofs,
     config: &Config<M>,
-    read: bool,
-    out: &mut Text,
-    steps: &mut Steps<L>,
-) -> Result<(), AllocError>
-    requires height { IsHeight settings.height }
-    requires applies { (state : Multiset) × Applies program.now settings.height state offer.now }
+    console: &mut C,
+) -> Result<(), ConsoleFault>
+    requires offer { IsOfferOf program.now offer.now }
+    requires proofs { AllByRecursion (IsProofOf program.now) proofs.now }
     requires state { IsState program.now.signature config.now.state }
-    ensures ok { OnOk result (TellsReader read program.now settings.height offer.now config.now.turns config.now.state out.old out.new) }
-    ensures ticked { OnOk result ((rule : Rule) → slice_get program.now.rules offer.now.rule ≡ Some rule → steps.new ≡ steps.old + length rule.backs) }
-    ensures counted { steps.old ≤ steps.new }
+    ensures told { OnOk result (Did C.talk C.left console.old console.new
+        (TellsDeed program.now offer.now proofs.now config.now.turns config.now.state)) }
+    ensures begun { OnErr result (Did C.talk C.left console.old console.new
+        (BeginsDeed program.now offer.now proofs.now config.now.turns config.now.state)) }
+    ensures cause { ConsoleCause (C.faults console.old) (C.faults console.new) result }
 {
-    put_step_lines(alloc, program, offer, settings.height, out, steps)?;
-    if !read {
+    let rule = program.parts().rules.get(offer.rule as usize);
+    if !console.is_read() {
         return Ok(());
     }
-    put_due(program, config.turns(), config.state(), out)
+    let mut lines = Text::new(alloc);
+    put_deed(
+        program,
+        offer,
+        proofs.as_slice(),
+        rule.next,
+        config.turns(),
+        config.state(),
+        &mut lines,
+    )?;
+    console.put(lines.bytes())
 }
 
 // The word with which a step that passes a limit ends a run.

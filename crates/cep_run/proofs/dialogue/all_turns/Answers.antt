@@ -4,7 +4,7 @@ use Rattle.cep_rule.specs.Stages.{IsAsked, IsQuiet}
 use Rattle.cep_base.specs.Talk.{Did}
 use Rattle.cep_machine.specs.Asking.{asked_offers}
 use Rattle.cep_rule.specs.Matching.{RoseBy}
-use Rattle.cep_run.specs.Deeds.{Deed}
+use Rattle.cep_step.specs.Deeds.{Deed}
 use Rattle.cep_run.specs.Costs.{IsDeedCost, AreDeedCosts}
 use Rattle.cep_run.proofs.Counting.{counted_nothing, counted_behind}
 use Rattle.cep_run.specs.Turn.{position_of, HasSpent, IsPlayed, IsTurned, SoFar, config_left}

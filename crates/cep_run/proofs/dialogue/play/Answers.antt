@@ -6,7 +6,7 @@ use Rattle.cep_run.specs.Fronts.{BeginsSome, LeavesUnheard}
 use Rattle.cep_run.specs.Said.{IsSomeSaid}
 use Rattle.cep_run.specs.Begun.{PutsFront}
 use Rattle.cep_rule.specs.Matching.{RoseBy}
-use Rattle.cep_run.specs.Deeds.{Deed}
+use Rattle.cep_step.specs.Deeds.{Deed}
 use Rattle.cep_run.specs.Costs.{AreDeedCosts, IsRunCost}
 use Rattle.cep_run.proofs.Counting.{run_counted}
 use Rattle.cep_run.specs.Turn.{position_of}

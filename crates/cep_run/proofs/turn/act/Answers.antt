@@ -10,14 +10,11 @@ use Rattle.cep_run.proofs.turn.act.Goals as goal
 
 pub returns-in-Done-clause-acted : goal.returns-in-Done-clause-acted
 returns-in-Done-clause-acted g c =
-    let told = c.in_ok-put_deed-in-Done.ensures.ok in
     done_acts g.M.Matcher.height_held g.M.Matcher.state_held g.M.Matcher.offers_held c.args.program.now c.args.group c.args.place c.args.config
     (g.met.M.Matcher.exact c.args.program.now c.args.config.matcher c.requires.played.of_program.matcher) c.requires.listed c.requires.asked
     c.matcher.result.now c.matcher.ensures.matcher c.offer-chosen.result.now c.in_ok-offer.offer c.offer-chosen.ensures c.in_ok-offer.ensures
     g.C.Console.talk g.C.Console.left c.args.console.now c.args.settings.height _ c.in_ok-config.ensures.stepped
-    c.in-Done.config c.in-Done.is c.put.new.self c.new-lines.result told.whole told.whole c.new-lines.ensures told.tells refl
-    (unread g.C.Console.talk c.args.console.now c.put.new.self c.is_read-read.result (λ bytes. bytes) c.bytes.result.now told.whole c.is_read-read.ensures (λ read. c.bytes.ensures ∙ told.added read) c.in_ok-put-in-Done.ensures.written)
-    c.in_ok-put-in-Done.ensures.left
+    c.in-Done.config c.in-Done.is c.tell_deed.new.console c.in_ok-proofs-in-Done.proofs c.in_ok-proofs-in-Done.ensures.proved c.in_ok-tell_deed-in-Done.ensures.told
 
 pub returns-clause-acted : goal.returns-clause-acted
 returns-clause-acted g c =
@@ -33,8 +30,8 @@ returns-in-Done-clause-ticked g c =
     (g.met.M.Matcher.exact c.args.program.now c.args.config.matcher c.requires.played.of_program.matcher) c.requires.listed c.requires.asked
     c.matcher.result.now c.matcher.ensures.matcher c.offer-chosen.result.now c.in_ok-offer.offer c.offer-chosen.ensures c.in_ok-offer.ensures
     g.C.Console.talk g.C.Console.left c.args.console.now c.args.settings.height _ c.in_ok-config.ensures.stepped
-    g.M.Matcher.may_edit c.in-Done.config c.in-Done.is c.args.steps.now c.step.new.steps c.put_deed.new.steps
-    c.in_ok-config.ensures.ticked c.in_ok-put_deed-in-Done.ensures.ticked c.args.settings.height c.requires.played.height
+    g.M.Matcher.may_edit c.in-Done.config c.in-Done.is c.args.steps.now c.step.new.steps c.prove_backs.new.steps
+    c.in_ok-config.ensures.ticked c.in_ok-proofs-in-Done.ensures.ticked c.args.settings.height c.requires.played.height
 
 pub returns-clause-ticked : goal.returns-clause-ticked
 returns-clause-ticked g c =
@@ -62,19 +59,19 @@ returns-clause-played g c =
     g.C.Console.talk g.C.Console.left c.args.console.now c.args.settings.height _ c.in_ok-config.ensures.stepped
     c.in-Passes.config c.in-Passes.limit c.in-Passes.number c.in-Passes.is g.M.Matcher.is_of c.args.settings c.requires.played c.word_of.result _ c.over.ensures
 
-pub put_deed-requires-clause-height : goal.put_deed-requires-clause-height
-put_deed-requires-clause-height g c =
+pub prove_backs-requires-clause-height : goal.prove_backs-requires-clause-height
+prove_backs-requires-clause-height g c =
     subst (λ h. IsHeight h) c.requires.played.height (g.met.M.Matcher.low c.args.program.now c.args.config.matcher c.requires.played.of_program.matcher)
 
-pub put_deed-requires-clause-applies : goal.put_deed-requires-clause-applies
-put_deed-requires-clause-applies g c =
+pub prove_backs-requires-clause-applies : goal.prove_backs-requires-clause-applies
+prove_backs-requires-clause-applies g c =
     copy_applies g.M.Matcher.height_held g.M.Matcher.state_held g.M.Matcher.offers_held c.args.program.now c.args.group c.args.place c.args.config
     (g.met.M.Matcher.exact c.args.program.now c.args.config.matcher c.requires.played.of_program.matcher) c.requires.listed c.requires.asked
     c.matcher.result.now c.matcher.ensures.matcher c.offer-chosen.result.now c.in_ok-offer.offer c.offer-chosen.ensures c.in_ok-offer.ensures
     c.args.settings c.requires.played.height
 
-pub put_deed-requires-clause-state : goal.put_deed-requires-clause-state
-put_deed-requires-clause-state g c =
+pub tell_deed-requires-clause-state : goal.tell_deed-requires-clause-state
+tell_deed-requires-clause-state g c =
     (subst (λ s. IsConfigurationOf g.M.Matcher.is_of c.args.program.now (config_after s)) c.in-Done.is c.in_ok-config.ensures.of_program).is_state
 
 pub returns-in_err-offer-clause-begun : goal.returns-in_err-offer-clause-begun
@@ -83,18 +80,14 @@ returns-in_err-offer-clause-begun g c = on_err c.from_residual.result _ (did_map
 pub returns-in_err-config-clause-begun : goal.returns-in_err-config-clause-begun
 returns-in_err-config-clause-begun g c = on_err c.from_residual-in_err-config.result _ (did_map g.C.Console.talk g.C.Console.left c.args.console.now c.args.console.now _ _ (λ come events rest same. inl same) (did_same g.C.Console.talk g.C.Console.left c.args.console.now c.args.console.now refl refl))
 
-pub returns-in_err-put_deed-in-Done-clause-begun : goal.returns-in_err-put_deed-in-Done-clause-begun
-returns-in_err-put_deed-in-Done-clause-begun g c = on_err c.from_residual-in_err-put_deed-in-Done.result _ (did_map g.C.Console.talk g.C.Console.left c.args.console.now c.args.console.now _ _ (λ come events rest same. inl same) (did_same g.C.Console.talk g.C.Console.left c.args.console.now c.args.console.now refl refl))
+pub returns-in_err-proofs-in-Done-clause-begun : goal.returns-in_err-proofs-in-Done-clause-begun
+returns-in_err-proofs-in-Done-clause-begun g c = on_err c.from_residual-in_err-proofs-in-Done.result _ (did_map g.C.Console.talk g.C.Console.left c.args.console.now c.args.console.now _ _ (λ come events rest same. inl same) (did_same g.C.Console.talk g.C.Console.left c.args.console.now c.args.console.now refl refl))
 
-pub returns-in_err-put-in-Done-clause-begun : goal.returns-in_err-put-in-Done-clause-begun
-returns-in_err-put-in-Done-clause-begun g c =
-    let told = c.in_ok-put_deed-in-Done.ensures.ok in
-    let n = c.in_err-put-in-Done.ensures.part.0 in
-    on_err c.from_residual-in_err-put-in-Done.result _
+pub returns-in_err-tell_deed-in-Done-clause-begun : goal.returns-in_err-tell_deed-in-Done-clause-begun
+returns-in_err-tell_deed-in-Done-clause-begun g c =
+    on_err c.from_residual-in_err-tell_deed-in-Done.result _
     (cut_acts g.M.Matcher.height_held g.M.Matcher.state_held g.M.Matcher.offers_held c.args.program.now c.args.group c.args.place c.args.config
     (g.met.M.Matcher.exact c.args.program.now c.args.config.matcher c.requires.played.of_program.matcher) c.requires.listed c.requires.asked
     c.matcher.result.now c.matcher.ensures.matcher c.offer-chosen.result.now c.in_ok-offer.offer c.offer-chosen.ensures c.in_ok-offer.ensures
     g.C.Console.talk g.C.Console.left c.args.console.now c.args.settings.height _ c.in_ok-config.ensures.stepped
-    c.in-Done.config c.in-Done.is c.put.new.self c.new-lines.result told.whole told.whole n c.new-lines.ensures told.tells refl
-    (unread g.C.Console.talk c.args.console.now c.put.new.self c.is_read-read.result (take n) c.bytes.result.now told.whole c.is_read-read.ensures (λ read. c.bytes.ensures ∙ told.added read) c.in_err-put-in-Done.ensures.part.1)
-    c.in_err-put-in-Done.ensures.left)
+    c.in-Done.config c.in-Done.is c.tell_deed.new.console c.in_ok-proofs-in-Done.proofs c.in_ok-proofs-in-Done.ensures.proved c.in_err-tell_deed-in-Done.ensures.begun)

@@ -1,10 +1,10 @@
 use Rattle.std.proofs.Common.{◌≡◌, ◌+◌, take}
 use Rattle.cep_rule.specs.Instances.{full_instances}
-use Rattle.cep_run.specs.Turn.{AddsProofs}
-use Rattle.cep_run.proofs.proving.put_step_lines.Given as goal
+use Rattle.cep_rule.specs.Steps.{AreProofs}
+use Rattle.cep_run.proofs.proving.prove_backs.Given as goal
 
 abbrev pub invariant-loop-i : goal.invariant-loop-i
 invariant-loop-i g l = record {
-  added : AddsProofs l.program l.height (full_instances l.offer.values (take l.i l.rule.backs)) l.initial.out l.out;
+  proved : AreProofs l.program l.height l.proofs (full_instances l.offer.values (take l.i l.rule.backs));
   ticked : l.steps ≡ l.initial.steps + l.i;
 }

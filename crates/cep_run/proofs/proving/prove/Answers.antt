@@ -1,28 +1,24 @@
-use Rattle.std.proofs.Common.{map, arith}
+use Rattle.std.proofs.Common.{map, arith, ◌∙◌, ap, subst, sym}
 use Rattle.std.proofs.lemmas.List.{length-map}
-use Rattle.std.proofs.lemmas.Result.{on_ok_weaker}
 use Rattle.cep_base.proofs.Lists.{holds_at, get_mapped}
 use Rattle.cep_base.proofs.Members.{in_got, to_contains}
 use Rattle.cep_term.specs.Tree.{atom_of}
 use Rattle.cep_term.specs.Values.{atom_instance}
-use Rattle.cep_rule.specs.Derivations.{proof_of}
+use Rattle.cep_rule.specs.Derivations.{ProofTree, proof_of}
 use Rattle.cep_prove.specs.declared.answering.Answer.{Answer}
 use Rattle.cep_prove.specs.Answers.{IsLowestProof}
-use Rattle.cep_run.proofs.Backs.{some_answer, same_goal, added_proof}
-use Rattle.cep_run.proofs.proving.put_proof_of.Goals as goal
+use Rattle.std.proofs.lemmas.Result.{if_ok_weaker}
+use Rattle.cep_run.specs.Turn.{IsProofWithin}
+use Rattle.cep_run.proofs.Backs.{some_answer, same_goal, is_within}
+use Rattle.cep_run.proofs.proving.prove.Goals as goal
 
 pub get-requires : goal.get-requires
 get-requires g c =
     let some = some_answer c.args.program.now c.args.height (atom_of c.args.goal.now) c.args.known.now (map (λ (answer : Answer). answer.values) c.in_ok-list.list) c.in_ok-list.ensures.answers c.requires.valued c.requires.derivable in
     omega (arith, some, length-map c.in_ok-list.list (λ (answer : Answer). answer.values))
 
-pub put_by-requires : goal.put_by-requires
-put_by-requires g c =
-    let lowest = holds_at (λ (answer : Answer). IsLowestProof c.args.program.now (proof_of answer.proof) (atom_instance answer.values (atom_of c.args.goal.now))) c.in_ok-list.list 0 c.get.result.now c.in_ok-list.ensures.proofs c.get.ensures in
-    c.derivations_have_shape.ensures c.args.program.now (proof_of c.get.result.now.proof) (atom_instance c.get.result.now.values (atom_of c.args.goal.now)) lowest.proves
-
-pub returns-clause-ok : goal.returns-clause-ok
-returns-clause-ok g c =
+pub returns-clause-proved : goal.returns-clause-proved
+returns-clause-proved g c =
     let program = c.args.program.now in
     let goal_is = atom_of c.args.goal.now in
     let answer = c.get.result.now in
@@ -30,4 +26,5 @@ returns-clause-ok g c =
     let all = map (λ (answer : Answer). answer.values) c.in_ok-list.list in
     let there = to_contains all answer.values (in_got all 0 answer.values (get_mapped (λ (answer : Answer). answer.values) c.in_ok-list.list 0 answer c.get.ensures)) in
     let same = same_goal c.instances_of_instances.ensures.alike program c.args.height goal_is c.args.known.now answer.values c.requires.valued (c.in_ok-list.ensures.answers.no_other answer.values there) in
-    on_ok_weaker c.put_by.result (λ added. added_proof program c.args.height (atom_instance answer.values goal_is) (atom_instance c.args.known.now goal_is) (proof_of answer.proof) c.args.out.now c.put_by.new.out same lowest c.requires.derivable added) c.put_by.ensures.ok
+    let within = is_within program c.args.height (atom_instance answer.values goal_is) (atom_instance c.args.known.now goal_is) (proof_of answer.proof) same lowest c.requires.derivable in
+    if_ok_weaker c.copy_proof.result (λ copied e. subst (λ (proof : ProofTree). IsProofWithin program c.args.height (atom_instance c.args.known.now goal_is) proof) (sym e) within) c.copy_proof.ensures

@@ -24,9 +24,13 @@ use Rattle.cep_log.specs.declared.log.LogEnd.{LogEnd}
 use Rattle.cep_log.specs.Legal.{IsListing, IsStepOf, AreLegalSteps, start_spot, IsLegalEnd, IsLegal}
 use Rattle.cep_lines.specs.declared.end_word.EndWord.{EndWord}
 use Rattle.cep_lines.specs.declared.end_word.EndWord.TheVariants.{Quiet}
-use Rattle.cep_run.specs.Deeds.{Position, start_of, Deed, IsDeed, AreDeeds}
-use Rattle.cep_run.specs.Logs.{HoldsDeed, HoldsEnd, HoldsDeeds}
-use Rattle.cep_run.proofs.StepThere.{LeadToStates}
+use Rattle.cep_step.specs.Deeds.{Position, start_of, Deed, IsDeed, AreDeeds}
+use Rattle.cep_log.specs.Holding.{HoldsDeed, HoldsEnd, HoldsDeeds}
+use Rattle.cep_rule.specs.declared.signature.Signature.{Signature}
+use Rattle.cep_term.specs.Tree.{Tree}
+use Rattle.cep_rule.specs.Typing.{AreValues}
+use Rattle.cep_rule.specs.Step.{Step}
+use Rattle.cep_rule.specs.Steps.{MakesFit}
 
 -- Steps
 
@@ -56,13 +60,11 @@ mid_listing : (program : Parts) (found : Option LogMid) (state : Multiset) → I
 mid_listing program None state is same = tt
 mid_listing program (Some mid) state is same = subst (IsListing program.signature) (sym same) is
 
--- that logs of lawful deeds are legal, told for any
-abbrev pub AreLegalLogs : Type 0
-AreLegalLogs =
-    (program : Parts) (height : ℕ) (deeds : List Deed) (last : Position) (word : EndWord) (log : Log)
-    → IsProgram program → IsHeight height → AreDeeds program height (start_of program) deeds last
-    → (word ≡ Quiet → IsQuiet program height last.spot.state last.spot.stage)
-    → HoldsDeeds program height deeds word last.spot.state log → log.lines ≤ MOST_LOG → length log.steps ≤ log.lines → IsLegal program log
+-- Steps that make fit atoms lead from states to states.
+abbrev pub LeadToStates : Type 0
+LeadToStates =
+    (signature : Signature) (rule : Rule) (values : List Tree) (old new : Multiset) → IsTypedRule signature rule → IsDividedRule signature rule → AreValues signature.cons rule.kinds values
+    → IsState signature old → MakesFit rule values → Step signature rule values old new → IsState signature new
 
 module _ (lead : LeadToStates) (program : Parts) (kept : IsProgram program) (height : ℕ) (height_is : IsHeight height) where
   -- a step of the machine leads from a state to a state

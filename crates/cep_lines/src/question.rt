@@ -1,15 +1,34 @@
-// Writes the lines of a turn: the offers of a group, the question, and the stage that a step leads to.
-ghost use Rattle.std.specs.Prelude.{◌≡◌, ◌<◌, ◌≤◌, ◌++◌, length, All, IfSome, OnOk, OnErr};
+// Writes the lines of a question: the offers of a group, and the line that asks for a choice.
+ghost use Rattle.std.specs.Prelude.{◌≡◌, ◌<◌, ◌≤◌, ◌++◌, length, All, OnOk, OnErr};
 ghost use Rattle.cep_base.specs.declared.limits.TheConstants.{MOST_OFFERS};
 ghost use Rattle.cep_rule.specs.Matching.{offers_of};
 ghost use Rattle.cep_rule.specs.Shapes.{IsOfferOf};
 ghost use Rattle.cep_text.specs.Writing.{IsBegun};
-ghost use Rattle.cep_lines.specs.Lines.{offer_lines, question, next_line};
+ghost use Rattle.cep_lines.specs.Lines.{offer_line, offer_lines, question};
 
-use crate::lines::{put_offer_line, put_stage};
 use cep_base::Text;
-use cep_rule::{Matcher, Program};
+use cep_rule::{Matcher, Offer, Program};
+use cep_text::put_offer;
 use std::alloc::AllocError;
+
+/// The line of an offer, with its place among the offers of its turn, counted from 1.
+#[tactic(auto, using(std::proofs::Common::append_assoc), unfolding(crate::specs::Lines::offer_line))]
+pub fn put_offer_line(
+    program: &Program,
+    place: u32,
+    offer: &Offer,
+    out: &mut Text,
+) -> Result<(), AllocError>
+    requires { IsOfferOf program.now offer.now }
+    ensures ok { OnOk result (out.new ≡ out.old ++ offer_line program.now place offer.now) }
+    ensures err { OnErr result (IsBegun out.old (offer_line program.now place offer.now) out.new) }
+{
+    out.append(b"? ")?;
+    out.number(u64::from(place))?;
+    out.append(b" ")?;
+    put_offer(program, offer, out)?;
+    out.append(b"\n")
+}
 
 /// The lines of a group's offers, numbered from 1 in their order.
 pub fn put_offers<M: Matcher>(
@@ -46,16 +65,4 @@ pub fn put_question<M: Matcher>(
 {
     put_offers(program, matcher, group, out)?;
     out.append(b"? choose\n")
-}
-
-/// The line of the stage that a rule leads to, where it leads to one.
-pub fn put_next(program: &Program, next: Option<u32>, out: &mut Text) -> Result<(), AllocError>
-    requires { IfSome next (λ stage. stage < length program.now.stages) }
-    ensures ok { OnOk result (out.new ≡ out.old ++ next_line program.now next) }
-    ensures err { OnErr result (IsBegun out.old (next_line program.now next) out.new) }
-{
-    match next {
-        Some(stage) => put_stage(program, stage, out),
-        None => Ok(()),
-    }
 }
