@@ -88,11 +88,7 @@ fn put_expected_listing(
 /// in written order, that of the stage that it leads to, where it leads to another, and, after each
 /// hundredth step, the listing of the state where it leads. The number is that of the step, counted from
 /// 1, and the state is the one where it leads.
-#[tactic(
-    auto,
-    using(std::proofs::Common::append_assoc),
-    unfolding(crate::specs::Lines::step_lines, crate::specs::Lines::deed_lines)
-)]
+#[tactic(auto, using(std::proofs::Common::append_assoc), unfolding(crate::specs::Lines::step_lines, crate::specs::Lines::deed_lines))]
 pub fn put_deed(
     program: &Program,
     offer: &Offer,

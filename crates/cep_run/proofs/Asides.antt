@@ -1,7 +1,7 @@
 -- What is written of a question is remarks: lines that a transcript passes over.
 use Rattle.std.proofs.Common.{◌≡◌, ◌≢◌, ℕ, ◌+◌, ◌==◌, ◌&&◌, not, Bool, true, false, List, [], ◌∷◌, ◌++◌, length, append-nil, refl, sym, ap, ◌∙◌, subst, Option}
 use Rattle.std.specs.Prelude.{codes, decimal, IsSomeAnd}
-use Rattle.std.specs.List.{AllByRecursion, flat_map}
+use Rattle.std.specs.List.{AllByRecursion}
 use Rattle.std.proofs.lemmas.Bool.{and_parts}
 use Rattle.std.proofs.lemmas.Grind.{flat_map-append}
 use Rattle.cep_base.specs.declared.console.Event.{Event}
@@ -88,7 +88,7 @@ unfolding no_line
 heard_remarks n {come} {rest} {taken} {events = events} (chosen cut text more reads is chooses many) = no_remarks _ (reads_unwritten (room_after taken) come events cut rest more reads)
 heard_remarks n {come} {taken = taken} {events = events} (again cut text between more first others reads is none hears whole) =
     let written : written_bytes events ≡ no_line ++ written_bytes others =
-    rw (whole, written_both first (outs no_line ++ others), reads_unwritten (room_after taken) come first cut between more reads, written_both (outs no_line) others, written_outs no_line) refl in
+    rw (whole, written_both first (outs no_line ++ others), reads_unwritten (room_after taken) come first cut between more reads) refl in
     subst AreRemarks (sym written) (both_remarks no_line (written_bytes others) (line_remark (codes "? no") (literal (codes "? no") refl) refl) (heard_remarks n hears))
 heard_remarks n {come} {rest} {taken} {events = events} (no_more more reads many) = no_remarks _ (reads_unwritten (room_after taken) come events Nothing rest more reads)
 heard_remarks n {come} {rest} {taken} {events = events} (no_room bytes more reads many) = no_remarks _ (reads_unwritten (room_after taken) come events (Full bytes) rest more reads)

@@ -1,5 +1,5 @@
 -- The backward premises of an offer that applies: they may be asked, and each has a derivation.
-use Rattle.std.proofs.Common.{◌≡◌, ⊎_elim, ℕ, zero, suc, ◌+◌, ◌<◌, ◌≤◌, Bool, true, false, ◌&&◌, List, [], ◌∷◌, ◌++◌, length, take, Option, Some, None, refl, sym, ap, subst, ◌∙◌, arith, append_assoc, Contains}
+use Rattle.std.proofs.Common.{◌≡◌, ⊎_elim, ℕ, zero, suc, ◌+◌, ◌<◌, Bool, true, false, ◌&&◌, List, [], ◌∷◌, ◌++◌, length, take, Option, Some, None, refl, sym, ap, subst, ◌∙◌, arith, Contains}
 use Rattle.std.specs.Prelude.{slice_get, IsSome}
 use Rattle.std.specs.List.{AllByRecursion}
 use Rattle.std.proofs.lemmas.List.{length-map}
@@ -17,7 +17,7 @@ use Rattle.cep_rule.specs.Typing.{IsTyped, IsBackward, AreValues}
 use Rattle.cep_rule.specs.TypeLaws.{TypeLaws}
 use Rattle.cep_rule.specs.Groundness.{Known, nothing, is_known, are_known, positions_known, known_after, known_after_all, CallsAt, IsBad, IsGrounded}
 use Rattle.cep_rule.specs.Instances.{given, full_instance, full_instances}
-use Rattle.cep_rule.specs.Derivations.{ProofTree, Proves, proof_height, IsDerivable}
+use Rattle.cep_rule.specs.Derivations.{ProofTree, Proves, IsDerivable}
 use Rattle.cep_rule.specs.Offers.{Applies}
 use Rattle.cep_rule.specs.Program.{IsProgram}
 use Rattle.cep_rule.specs.Steps.{AreProofs}

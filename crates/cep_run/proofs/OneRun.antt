@@ -1,5 +1,5 @@
 -- What is typed, and the seed, determine the run.
-use Rattle.std.proofs.Common.{◌≡◌, ℕ, ◌<◌, ◌^◌, List, [], ◌∷◌, length, map, inl, inr, refl, sym, ap, ◌∙◌, subst, arith, Option, None, Some}
+use Rattle.std.proofs.Common.{◌≡◌, ◌⊎◌, ℕ, ◌+◌, ◌<◌, ◌^◌, List, [], ◌∷◌, length, map, inl, inr, refl, sym, ap, ◌∙◌, subst, arith, Option, None, Some}
 use Rattle.cep_term.specs.Tree.{Tree}
 use Rattle.cep_term.specs.Multiset.{Multiset}
 use Rattle.cep_rule.specs.declared.signature.Signature.{Signature}
@@ -14,12 +14,16 @@ use Rattle.cep_rule.specs.Steps.{Spot, StepsTo}
 use Rattle.cep_run.specs.declared.choice.Choice.{Choice}
 use Rattle.cep_run.specs.declared.choice.Choice.TheVariants.{Place, NoMore, NoRoom}
 use Rattle.cep_lines.specs.declared.end_word.EndWord.{EndWord}
-use Rattle.cep_lines.specs.declared.end_word.EndWord.TheVariants.{Quiet, Turns, Offers, Atom, State}
+use Rattle.cep_lines.specs.declared.end_word.EndWord.TheVariants.{Quiet, Turns, Offers, Input, Typed}
 use Rattle.cep_run.specs.declared.settings.Settings.{Settings}
 use Rattle.cep_run.specs.Deciding.{Supply, How, Heard, Lone, Drawn, Decides}
 use Rattle.cep_step.specs.Deeds.{Position}
-use Rattle.cep_run.specs.Run.{PassesLimit, StopsAtOffer}
-use Rattle.cep_run.specs.Run.{Question, Turn, Ending, IsQuestion, IsChosen, IsTurn, AreTurns, EndsUnasked, LeadsNowhere, EndsAt, Run, unproved}
+use Rattle.cep_step.specs.declared.limit.Limit.{Limit}
+use Rattle.cep_step.specs.declared.limit.Limit.TheVariants as limit
+use Rattle.cep_step.specs.Passing.{Passes}
+use Rattle.cep_base.specs.declared.limits.TheConstants.{MOST_OFFERS}
+use Rattle.cep_run.specs.Run.{Question, Turn, Ending, IsQuestion, IsChosen, IsTurn, AreTurns, EndsAt, quiet_end, turns_end, offers_end, input_end, typed_end, atom_end, state_end, Run, unproved}
+use Rattle.cep_run.specs.Turn.{limit_word}
 use Rattle.cep_run.proofs.OneReading.{one_hearing}
 use Rattle.cep_run.proofs.TurnSteps.{steps_here, counted_here}
 
@@ -66,16 +70,10 @@ record SameChoice (offer offer' : Offer) (rule rule' : Rule) : Type 0 where
 -- the offer at a place is one, of one rule
 one_choice : (program : Parts) (question : Question) (offer offer' : Offer) (rule rule' : Rule) → IsChosen program question offer rule → IsChosen program question offer' rule' → SameChoice offer offer' rule rule'
 one_choice program question offer offer' rule rule' is is' =
-    let places : is.place ≡ is'.place = cc (is.chosen, is'.chosen) in
+    let next : is.place + 1 ≡ is'.place + 1 = cc (is.chosen, is'.chosen) in
+    let places : is.place ≡ is'.place = omega (arith, next) in
     let one : offer ≡ offer' = cc (places, is.at_place, is'.at_place) in
     record { offers = one; rules = cc (one, is.of_rule, is'.of_rule) }
-
--- where a place is chosen, a choice was made
-place_or_none : {X : Type 0} (choice : Choice) (place : ℕ) → choice ≡ Place place → choice ≡ NoMore → X
-place_or_none choice place is none = absurd (cc)
-
-place_or_full : {X : Type 0} (choice : Choice) (place : ℕ) → choice ≡ Place place → choice ≡ NoRoom → X
-place_or_full choice place is none = absurd (cc)
 
 pub record SameQuestion (question question' : Question) (to to' : Supply) : Type 0 where
   pub questions : question ≡ question'
@@ -137,83 +135,100 @@ module _ (one_list : (program : Parts) (height : ℕ) (state : Multiset) (group 
       let deeds : (unproved turn).deed ≡ (unproved turn').deed = λ i. record { before = befores i; offer = offers i; rule = rules i; proofs = []; after = afters i } in
       record { turns = λ i. record { question = questions i; deed = deeds i; left = lefts i }; afters = afters; lefts = lefts }
 
-  -- where a question is asked, no run ends unasked
-  asked_or_ends : {X : Type 0} (at : Position) (from : Supply) (question : Question) (to : Supply) (word : EndWord) → IsQuestion program settings at from question to → EndsUnasked program settings at word → X
-  asked_or_ends at from question to Quiet is ends = absurd (quiet_or_asked program settings.height at.spot.state at.spot.stage question.group ends is.asked)
-  asked_or_ends at from question to Turns is ends = absurd (omega (arith, is.remain, ends.1))
-  asked_or_ends at from question to Offers is ends =
-      let many = ends.1.4 in
-      let few = is.few in
-      absurd (omega (arith, many, few, ap length (one_asked at question.group ends.1.0 question.offers ends.1.1 is.asked ends.1.2 is.offered ends.1.3)))
-  asked_or_ends at from question to _ is ends = absurd ends
-
   -- a step that is done passes no limit
-  done_or_passes : {X : Type 0} (rule : Rule) (values : List Tree) (old new : Spot) (word : EndWord) → StepsTo program rule values old new → PassesLimit program rule values old.state word → X
-  done_or_passes rule values old new Atom is passes = absurd (passes is.fit)
-  done_or_passes rule values old new State is passes = absurd (passes.1.2 (subst Fits (one_step program.signature rule values old.state new.state passes.1.0 is.step passes.1.1) is.fits))
-  done_or_passes rule values old new _ is passes = absurd passes
+  done_or_passes : {X : Type 0} (rule : Rule) (values : List Tree) (old new : Spot) (passed : Limit) → StepsTo program rule values old new → Passes program.signature rule values old.state passed → X
+  done_or_passes rule values old new limit.Atom is passes = absurd (passes is.fit)
+  done_or_passes rule values old new limit.State is passes = absurd (passes.1.2 (subst Fits (one_step program.signature rule values old.state new.state passes.1.0 is.step passes.1.1) is.fits))
 
-  -- a run does not stop at an offer whose step is done
-  done_or_stops : {X : Type 0} (at : Position) (rule : Rule) (values : List Tree) (new : Spot) (word : EndWord) → at.turns < settings.limit → StepsTo program rule values at.spot new → StopsAtOffer program settings.limit at rule values word → X
-  done_or_stops at rule values new word remain is (inl over) = absurd (omega (arith, remain, over.1))
-  done_or_stops at rule values new word remain is (inr passes) = done_or_passes rule values at.spot new word is passes.1
+  -- a step passes one limit first
+  one_limit : (rule : Rule) (values : List Tree) (state : Multiset) (one other : Limit) → Passes program.signature rule values state one → Passes program.signature rule values state other → one ≡ other
+  one_limit rule values state limit.Atom limit.Atom passes passes' = refl
+  one_limit rule values state limit.Atom limit.State passes passes' = absurd (passes passes'.0)
+  one_limit rule values state limit.State limit.Atom passes passes' = absurd (passes' passes.0)
+  one_limit rule values state limit.State limit.State passes passes' = refl
 
-  -- a question of which a step is done leads somewhere
-  leads_or_not : {X : Type 0} (at : Position) (question : Question) (choice : Choice) (word : EndWord) (offer : Offer) (rule : Rule) (new : Spot) → question.choice ≡ choice → at.turns < settings.limit → IsChosen program question offer rule → StepsTo program rule offer.values at.spot new → LeadsNowhere program settings at question choice word → X
-  leads_or_not at question NoMore word offer rule new is remain chosen steps leads = place_or_none question.choice chosen.place chosen.chosen is
-  leads_or_not at question NoRoom word offer rule new is remain chosen steps leads = place_or_full question.choice chosen.place chosen.chosen is
-  leads_or_not at question (Place place) word offer rule new is remain chosen steps leads =
-      let same = one_choice program question leads.0 offer leads.1 rule leads.2 chosen in
-      done_or_stops at rule offer.values new word remain steps
-      (subst (λ (r : Rule). StopsAtOffer program settings.limit at r offer.values word) same.rules (subst (λ (o : Offer). StopsAtOffer program settings.limit at leads.1 o.values word) same.offers leads.3))
+  -- how a run ends without a question: quiet, with all turns done, or with too many offers
+  abbrev Unasked : Position → EndWord → Type 0
+  Unasked at word =
+      ((word ≡ Quiet) × IsQuiet program settings.height at.spot.state at.spot.stage)
+      ⊎ (((word ≡ Turns) × ((group : ℕ) × IsAsked program settings.height at.spot.state at.spot.stage group) × (at.turns ≡ settings.limit))
+      ⊎ ((word ≡ Offers) × (at.turns < settings.limit) × ((group : ℕ) × (offers : List Offer) × IsAsked program settings.height at.spot.state at.spot.stage group × AreOffers program settings.height at.spot.state group offers × (MOST_OFFERS < length offers))))
+
+  -- and how after one: without a choice, or with one whose step passes a limit
+  abbrev Nowhere : Position → Question → EndWord → Type 0
+  Nowhere at question word =
+      ((word ≡ Input) × (question.choice ≡ NoMore)) ⊎ (((word ≡ Typed) × (question.choice ≡ NoRoom))
+      ⊎ ((passed : Limit) × (offer : Offer) × (rule : Rule) × (word ≡ limit_word passed) × IsChosen program question offer rule × Passes program.signature rule offer.values at.spot.state passed))
+
+  abbrev Ways : Position → Supply → EndWord → Option Question → Supply → Type 0
+  Ways at from word asked to = ((asked ≡ None) × (to ≡ from) × Unasked at word) ⊎ ((question : Question) × (asked ≡ Some question) × IsQuestion program settings at from question to × Nowhere at question word)
+
+  way : (at : Position) (from : Supply) {word : EndWord} {asked : Option Question} {to : Supply} → EndsAt program settings at from word asked to → Ways at from word asked to
+  way at from (quiet_end is left) = inl (refl, left, inl (refl, is))
+  way at from (turns_end {group = group} asks over left) = inl (refl, left, inr (inl (refl, (group, asks), over)))
+  way at from (offers_end {group = group} {offers = offers} remain asks are many left) = inl (refl, left, inr (inr (refl, remain, (group, offers, asks, are, many))))
+  way at from (input_end {question = question} asks none) = inr (question, refl, asks, inl (refl, none))
+  way at from (typed_end {question = question} asks full) = inr (question, refl, asks, inr (inl (refl, full)))
+  way at from (atom_end {question = question} {offer = offer} {rule = rule} asks chosen passes) = inr (question, refl, asks, inr (inr (limit.Atom, offer, rule, refl, chosen, passes)))
+  way at from (state_end {question = question} {offer = offer} {rule = rule} asks chosen passes) = inr (question, refl, asks, inr (inr (limit.State, offer, rule, refl, chosen, passes)))
+
+  -- where a question is asked, no run ends unasked
+  asked_or_ends : {X : Type 0} (at : Position) (from : Supply) (question : Question) (to : Supply) (word : EndWord) → IsQuestion program settings at from question to → Unasked at word → X
+  asked_or_ends at from question to word is (inl quiet) = absurd (quiet_or_asked program settings.height at.spot.state at.spot.stage question.group quiet.1 is.asked)
+  asked_or_ends at from question to word is (inr (inl over)) = absurd (omega (arith, is.remain, over.2))
+  asked_or_ends at from question to word is (inr (inr many)) =
+      absurd (omega (arith, many.2.4, is.few, ap length (one_asked at question.group many.2.0 question.offers many.2.1 is.asked many.2.2 is.offered many.2.3)))
+
+  one_unasked : (at : Position) (word word' : EndWord) → Unasked at word → Unasked at word' → word ≡ word'
+  one_unasked at word word' (inl quiet) (inl quiet') = quiet.0 ∙ sym quiet'.0
+  one_unasked at word word' (inl quiet) (inr (inl over)) = absurd (quiet_or_asked program settings.height at.spot.state at.spot.stage over.1.0 quiet.1 over.1.1)
+  one_unasked at word word' (inl quiet) (inr (inr many)) = absurd (quiet_or_asked program settings.height at.spot.state at.spot.stage many.2.0 quiet.1 many.2.2)
+  one_unasked at word word' (inr (inl over)) (inl quiet) = absurd (quiet_or_asked program settings.height at.spot.state at.spot.stage over.1.0 quiet.1 over.1.1)
+  one_unasked at word word' (inr (inl over)) (inr (inl over')) = over.0 ∙ sym over'.0
+  one_unasked at word word' (inr (inl over)) (inr (inr many)) = absurd (omega (arith, over.2, many.1))
+  one_unasked at word word' (inr (inr many)) (inl quiet) = absurd (quiet_or_asked program settings.height at.spot.state at.spot.stage many.2.0 quiet.1 many.2.2)
+  one_unasked at word word' (inr (inr many)) (inr (inl over)) = absurd (omega (arith, over.2, many.1))
+  one_unasked at word word' (inr (inr many)) (inr (inr many')) = many.0 ∙ sym many'.0
+
+  -- where a place is chosen, a choice was made
+  place_or_none : {X : Type 0} (choice : Choice) (place : ℕ) → choice ≡ Place place → choice ≡ NoMore → X
+  place_or_none choice place is none = absurd (cc)
+
+  place_or_full : {X : Type 0} (choice : Choice) (place : ℕ) → choice ≡ Place place → choice ≡ NoRoom → X
+  place_or_full choice place is full = absurd (cc)
+
+  none_or_full : {X : Type 0} (choice : Choice) → choice ≡ NoMore → choice ≡ NoRoom → X
+  none_or_full choice none full = absurd (cc)
+
+  one_nowhere : (at : Position) (question : Question) (word word' : EndWord) → Nowhere at question word → Nowhere at question word' → word ≡ word'
+  one_nowhere at question word word' (inl none) (inl none') = none.0 ∙ sym none'.0
+  one_nowhere at question word word' (inl none) (inr (inl full)) = none_or_full question.choice none.1 full.1
+  one_nowhere at question word word' (inl none) (inr (inr stops)) = place_or_none question.choice (stops.4.place + 1) stops.4.chosen none.1
+  one_nowhere at question word word' (inr (inl full)) (inl none) = none_or_full question.choice none.1 full.1
+  one_nowhere at question word word' (inr (inl full)) (inr (inl full')) = full.0 ∙ sym full'.0
+  one_nowhere at question word word' (inr (inl full)) (inr (inr stops)) = place_or_full question.choice (stops.4.place + 1) stops.4.chosen full.1
+  one_nowhere at question word word' (inr (inr stops)) (inl none) = place_or_none question.choice (stops.4.place + 1) stops.4.chosen none.1
+  one_nowhere at question word word' (inr (inr stops)) (inr (inl full)) = place_or_full question.choice (stops.4.place + 1) stops.4.chosen full.1
+  one_nowhere at question word word' (inr (inr (passed, offer, rule, named, chosen, passes))) (inr (inr (passed', offer', rule', named', chosen', passes'))) =
+      let same = one_choice program question offer' offer rule' rule chosen' chosen in
+      let passes_too = subst (λ (r : Rule). Passes program.signature r offer.values at.spot.state passed') same.rules (subst (λ (o : Offer). Passes program.signature rule' o.values at.spot.state passed') same.offers passes') in
+      named ∙ ap limit_word (one_limit rule offer.values at.spot.state passed passed' passes passes_too) ∙ sym named'
 
   -- where a turn is done, no run ends
   turn_or_end : {X : Type 0} (at : Position) (from : Supply) (turn : Turn) (word : EndWord) (asked : Option Question) (to : Supply) → IsTurn program settings at from turn → EndsAt program settings at from word asked to → X
-  turn_or_end at from turn word None to is ends = asked_or_ends at from turn.question turn.left word is.asks ends.0
-  turn_or_end at from turn word (Some question) to is ends =
-      let same = one_question at from turn.question question turn.left to is.asks ends.0 in
-      leads_or_not at turn.question turn.question.choice word turn.deed.offer turn.deed.rule turn.deed.after.spot refl is.asks.remain is.chosen (steps_here program settings at from turn is)
-      (subst (λ (q : Question). LeadsNowhere program settings at q q.choice word) (sym same.questions) ends.1)
+  turn_or_end {X} at from turn word asked to is ends = by (way at from ends) where
+    leads : Nowhere at turn.question word → X
+    leads (inl none) = place_or_none turn.question.choice (is.chosen.place + 1) is.chosen.chosen none.1
+    leads (inr (inl full)) = place_or_full turn.question.choice (is.chosen.place + 1) is.chosen.chosen full.1
+    leads (inr (inr (passed, offer, rule, named, chosen, passes))) =
+        let deed = turn.deed in
+        let same = one_choice program turn.question offer deed.offer rule deed.rule chosen is.chosen in
+        done_or_passes deed.rule deed.offer.values at.spot deed.after.spot passed (steps_here program settings at from turn is)
+        (subst (λ (r : Rule). Passes program.signature r deed.offer.values at.spot.state passed) same.rules (subst (λ (o : Offer). Passes program.signature rule o.values at.spot.state passed) same.offers passes))
 
-  -- a step passes limits for one word
-  one_limit : (rule : Rule) (values : List Tree) (state : Multiset) (word word' : EndWord) → PassesLimit program rule values state word → PassesLimit program rule values state word' → word ≡ word'
-  one_limit rule values state Atom Atom passes passes' = refl
-  one_limit rule values state Atom State passes passes' = absurd (passes passes'.0)
-  one_limit rule values state State Atom passes passes' = absurd (passes' passes.0)
-  one_limit rule values state State State passes passes' = refl
-  one_limit rule values state Atom _ passes passes' = absurd passes'
-  one_limit rule values state State _ passes passes' = absurd passes'
-  one_limit rule values state _ word' passes passes' = absurd passes
-
-  one_stop : (at : Position) (rule : Rule) (values : List Tree) (word word' : EndWord) → StopsAtOffer program settings.limit at rule values word → StopsAtOffer program settings.limit at rule values word' → word ≡ word'
-  one_stop at rule values word word' (inl over) (inl over') = over.0 ∙ sym over'.0
-  one_stop at rule values word word' (inl over) (inr passes') = absurd (omega (arith, over.1, passes'.0))
-  one_stop at rule values word word' (inr passes) (inl over') = absurd (omega (arith, passes.0, over'.1))
-  one_stop at rule values word word' (inr passes) (inr passes') = one_limit rule values at.spot.state word word' passes.1 passes'.1
-
-  one_lead : (at : Position) (question : Question) (choice : Choice) (word word' : EndWord) → LeadsNowhere program settings at question choice word → LeadsNowhere program settings at question choice word' → word ≡ word'
-  one_lead at question NoMore word word' leads leads' = leads ∙ sym leads'
-  one_lead at question NoRoom word word' leads leads' = leads ∙ sym leads'
-  one_lead at question (Place place) word word' leads leads' =
-      let same = one_choice program question leads'.0 leads.0 leads'.1 leads.1 leads'.2 leads.2 in
-      one_stop at leads.1 leads.0.values word word' leads.3
-      (subst (λ (r : Rule). StopsAtOffer program settings.limit at r leads.0.values word') same.rules (subst (λ (o : Offer). StopsAtOffer program settings.limit at leads'.1 o.values word') same.offers leads'.3))
-
-  -- a run that ends unasked ends with one word
-  one_unasked : (at : Position) (word word' : EndWord) → EndsUnasked program settings at word → EndsUnasked program settings at word' → word ≡ word'
-  one_unasked at Quiet Quiet ends ends' = refl
-  one_unasked at Quiet Turns ends ends' = absurd (quiet_or_asked program settings.height at.spot.state at.spot.stage ends'.0.0 ends ends'.0.1)
-  one_unasked at Quiet Offers ends ends' = absurd (quiet_or_asked program settings.height at.spot.state at.spot.stage ends'.1.0 ends ends'.1.2)
-  one_unasked at Turns Quiet ends ends' = absurd (quiet_or_asked program settings.height at.spot.state at.spot.stage ends.0.0 ends' ends.0.1)
-  one_unasked at Turns Turns ends ends' = refl
-  one_unasked at Turns Offers ends ends' = absurd (omega (arith, ends.1, ends'.0))
-  one_unasked at Offers Quiet ends ends' = absurd (quiet_or_asked program settings.height at.spot.state at.spot.stage ends.1.0 ends' ends.1.2)
-  one_unasked at Offers Turns ends ends' = absurd (omega (arith, ends.0, ends'.1))
-  one_unasked at Offers Offers ends ends' = refl
-  one_unasked at Quiet _ ends ends' = absurd ends'
-  one_unasked at Turns _ ends ends' = absurd ends'
-  one_unasked at Offers _ ends ends' = absurd ends'
-  one_unasked at _ word' ends ends' = absurd ends
+    by : Ways at from word asked to → X
+    by (inl (none, left, unasked)) = asked_or_ends at from turn.question turn.left word is.asks unasked
+    by (inr (question, there, asks, nowhere)) = leads (subst (λ (q : Question). Nowhere at q word) (sym (one_question at from turn.question question turn.left to is.asks asks).questions) nowhere)
 
   -- a run ends at a position in one way
   pub record SameEnd (word word' : EndWord) (asked asked' : Option Question) (to to' : Supply) : Type 0 where
@@ -221,17 +236,20 @@ module _ (one_list : (program : Parts) (height : ℕ) (state : Multiset) (group 
     pub questions : asked ≡ asked'
     pub supplies : to ≡ to'
 
-  one_end : (at : Position) (from : Supply) (word word' : EndWord) (asked asked' : Option Question) (to to' : Supply) → EndsAt program settings at from word asked to → EndsAt program settings at from word' asked' to' → SameEnd word word' asked asked' to to'
-  one_end at from word word' None None to to' ends ends' = record { words = one_unasked at word word' ends.0 ends'.0; questions = refl; supplies = ends.1 ∙ sym ends'.1 }
-  one_end at from word word' None (Some question') to to' ends ends' = asked_or_ends at from question' to' word ends'.0 ends.0
-  one_end at from word word' (Some question) None to to' ends ends' = asked_or_ends at from question to word' ends.0 ends'.0
-  one_end at from word word' (Some question) (Some question') to to' ends ends' =
-      let same = one_question at from question question' to to' ends.0 ends'.0 in
+  one_way : (at : Position) (from : Supply) (word word' : EndWord) (asked asked' : Option Question) (to to' : Supply) → Ways at from word asked to → Ways at from word' asked' to' → SameEnd word word' asked asked' to to'
+  one_way at from word word' asked asked' to to' (inl (none, left, unasked)) (inl (none', left', unasked')) = record { words = one_unasked at word word' unasked unasked'; questions = none ∙ sym none'; supplies = left ∙ sym left' }
+  one_way at from word word' asked asked' to to' (inl (none, left, unasked)) (inr (question, there, asks, nowhere)) = asked_or_ends at from question to' word asks unasked
+  one_way at from word word' asked asked' to to' (inr (question, there, asks, nowhere)) (inl (none, left, unasked)) = asked_or_ends at from question to word' asks unasked
+  one_way at from word word' asked asked' to to' (inr (question, there, asks, nowhere)) (inr (question', there', asks', nowhere')) =
+      let same = one_question at from question question' to to' asks asks' in
       record {
-        words = one_lead at question question.choice word word' ends.1 (subst (λ (q : Question). LeadsNowhere program settings at q q.choice word') (sym same.questions) ends'.1);
-        questions = ap Some same.questions;
+        words = one_nowhere at question word word' nowhere (subst (λ (q : Question). Nowhere at q word') (sym same.questions) nowhere');
+        questions = there ∙ ap Some same.questions ∙ sym there';
         supplies = same.supplies;
       }
+
+  one_end : (at : Position) (from : Supply) (word word' : EndWord) (asked asked' : Option Question) (to to' : Supply) → EndsAt program settings at from word asked to → EndsAt program settings at from word' asked' to' → SameEnd word word' asked asked' to to'
+  one_end at from word word' asked asked' to to' ends ends' = one_way at from word word' asked asked' to to' (way at from ends) (way at from ends')
 
   -- what is there after two runs is the same
   pub record SameRun (turns turns' : List Turn) (last last' : Position) (word word' : EndWord) (asked asked' : Option Question) (to to' : Supply) : Type 0 where

@@ -1,5 +1,5 @@
 -- From every position a run is there, whatever is typed.
-use Rattle.std.proofs.Common.{◌≡◌, ◌⊎◌, inl, inr, ℕ, zero, suc, ◌+◌, ◌-◌, ◌<◌, ◌≤◌, List, [], ◌∷◌, length, refl, sym, subst, arith, Option, None, Some}
+use Rattle.std.proofs.Common.{◌≡◌, ◌⊎◌, inl, inr, ℕ, zero, suc, ◌+◌, ◌-◌, ◌<◌, ◌≤◌, List, [], ◌∷◌, length, refl, ap, ◌∙◌, arith, Option, None, Some}
 use Rattle.std.specs.Prelude.{slice_get}
 use Rattle.std.proofs.lemmas.Bool.{cases_lt}
 use Rattle.std.proofs.lemmas.Option.{slice_get_within, get_or_from_slice_get}
@@ -20,16 +20,19 @@ use Rattle.cep_rule.specs.Program.{IsTypedRule, IsDividedRule, IsProgram}
 use Rattle.cep_run.specs.declared.choice.Choice.{Choice}
 use Rattle.cep_run.specs.declared.choice.Choice.TheVariants.{Place, NoMore, NoRoom}
 use Rattle.cep_lines.specs.declared.end_word.EndWord.{EndWord}
-use Rattle.cep_lines.specs.declared.end_word.EndWord.TheVariants.{Quiet, Input, Turns, Offers, Typed, Atom, State}
+use Rattle.cep_lines.specs.declared.end_word.EndWord.TheVariants.{Quiet, Input, Turns, Offers, Typed}
 use Rattle.cep_run.specs.declared.settings.Settings.{Settings}
 use Rattle.cep_run.specs.Choice.{IsChoiceWithin}
 use Rattle.cep_run.specs.Deciding.{Supply}
 use Rattle.cep_step.specs.Deeds.{Position}
-use Rattle.cep_run.specs.Run.{PassesLimit}
-use Rattle.cep_run.specs.Run.{Question, Turn, Ending, IsQuestion, IsChosen, IsTurn, LeadsNowhere, EndsAt, Run}
+use Rattle.cep_step.specs.declared.limit.Limit.{Limit}
+use Rattle.cep_step.specs.declared.limit.Limit.TheVariants as limit
+use Rattle.cep_step.specs.Passing.{Passes}
+use Rattle.cep_run.specs.Turn.{limit_word}
+use Rattle.cep_run.specs.Run.{Question, Turn, Ending, IsQuestion, IsChosen, IsTurn, EndsAt, quiet_end, turns_end, offers_end, input_end, typed_end, Run}
 use Rattle.cep_run.proofs.StepThere.{ThereLaws, all_fit_or_not, state_fits_or_not, proofs_there}
 use Rattle.cep_run.proofs.DecisionThere.{decision_there}
-use Rattle.cep_run.proofs.TurnSteps.{lawful_step, counted_here}
+use Rattle.cep_run.proofs.TurnSteps.{lawful_step, counted_here, limit_end}
 
 -- something stands at each place of a list
 at_place : {A : Type 0} (xs : List A) (k : ℕ) → k < length xs → (x : A) × (slice_get xs k ≡ Some x)
@@ -92,7 +95,7 @@ module _ (laws : ThereLaws) (program : Parts) (settings : Settings) (kept : IsPr
 
   module _ (at : Position) (from : Supply) (is_state : IsState program.signature at.spot.state) (question : Question) (left : Supply) (asks : IsQuestion program settings at from question left) where
     -- the step by an offer that is chosen and applies is done, or it passes a limit
-    step_or_end : (place : ℕ) (offer : Offer) → question.choice ≡ Place place → slice_get question.offers (place - 1) ≡ Some offer → Applies program settings.height at.spot.state offer → LeadsOn at from question ⊎ LeadsOut at from question left
+    step_or_end : (place : ℕ) (offer : Offer) → question.choice ≡ Place (place + 1) → slice_get question.offers place ≡ Some offer → Applies program settings.height at.spot.state offer → LeadsOn at from question ⊎ LeadsOut at from question left
     step_or_end place offer is at_place applies =
         let signature = program.signature in
         let rule = applies.rule in
@@ -103,12 +106,12 @@ module _ (laws : ThereLaws) (program : Parts) (settings : Settings) (kept : IsPr
         let chosen : IsChosen program question offer rule = record { place = place; chosen = is; at_place = at_place; of_rule = applies.numbered } in
         let next = state_after signature state (gathered (taken_by signature rule values)) (added_by signature rule values) in
         let step : Step signature rule values state next = laws.edit signature rule values state typed applies.values is_state applies.contained in
-        let passing = λ (word : EndWord) (passes : PassesLimit program rule values state word). subst (λ (choice : Choice). LeadsNowhere program settings at question choice word) (sym is) (offer, rule, chosen, inr (asks.remain, passes)) in
+        let passing : (passed : Limit) → Passes signature rule values state passed → LeadsOut at from question left = λ passed passes. record { word = limit_word passed; ends = limit_end program settings at from left question offer rule asks chosen passed passes } in
         let proofs = proofs_there program settings.height (full_instances values rule.backs) applies.derivable in
         elim (all_fit_or_not (full_instances values rule.right)) [
-          | inr large ↦ inr (record { word = Atom; ends = (asks, passing Atom large) })
+          | inr large ↦ inr (passing limit.Atom large)
           | inl fit ↦ elim (state_fits_or_not next) [
-            | inr full ↦ inr (record { word = State; ends = (asks, passing State (fit, (next, step, full))) })
+            | inr full ↦ inr (passing limit.State (fit, (next, step, full)))
             | inl fits ↦ inl (record {
               turn = record { question = question; deed = record { before = at; offer = offer; rule = rule; proofs = proofs.0; after = record { spot = record { stage = stage_after rule at.spot.stage; state = next }; turns = at.turns + 1 } }; left = left };
               is = record {
@@ -127,23 +130,23 @@ module _ (laws : ThereLaws) (program : Parts) (settings : Settings) (kept : IsPr
         ]
 
     pub by_choice : (choice : Choice) → question.choice ≡ choice → IsChoiceWithin (length question.offers) choice → LeadsOn at from question ⊎ LeadsOut at from question left
-    by_choice NoMore is within = inr (record { word = Input; ends = (asks, subst (λ (choice : Choice). LeadsNowhere program settings at question choice Input) (sym is) refl) })
-    by_choice NoRoom is within = inr (record { word = Typed; ends = (asks, subst (λ (choice : Choice). LeadsNowhere program settings at question choice Typed) (sym is) refl) })
+    by_choice NoMore is within = inr (record { word = Input; ends = input_end asks is })
+    by_choice NoRoom is within = inr (record { word = Typed; ends = typed_end asks is })
     by_choice (Place place) is within =
         let first = within.0 in
         let last = within.1 in
         let k = place - 1 in
         let there = at_place question.offers k (omega (arith, first, last)) in
         let is_offer : IsOffer program settings.height at.spot.state question.group there.0 = asks.offered.no_other there.0 (k, slice_get_within question.offers k there.0 there.1, get_or_from_slice_get question.offers k there.0 there.0 there.1) in
-        step_or_end place there.0 is there.1 is_offer.applies
+        step_or_end k there.0 (is ∙ ap Place (omega (arith, first))) there.1 is_offer.applies
 
   turn_or_end : (at : Position) (from : Supply) → IsState program.signature at.spot.state → at.turns ≤ settings.limit → HasTurn at from ⊎ HasEnd at from
   turn_or_end at from is_state within = elim (asks_or_quiet at.spot.state at.spot.stage is_state) [
-    | inr quiet ↦ inr (record { word = Quiet; asked = None; to = from; ends = (quiet, refl) })
+    | inr quiet ↦ inr (record { word = Quiet; asked = None; to = from; ends = quiet_end quiet refl })
     | inl asked ↦ elim (cases_lt at.turns settings.limit) [
-      | inr done ↦ inr (record { word = Turns; asked = None; to = from; ends = (((asked.group, asked.asked), (omega (arith, within, done))), refl) })
+      | inr done ↦ inr (record { word = Turns; asked = None; to = from; ends = turns_end asked.asked (omega (arith, within, done)) refl })
       | inl remain ↦ elim (cases_lt MOST_OFFERS (length asked.offers)) [
-        | inl many ↦ inr (record { word = Offers; asked = None; to = from; ends = ((remain, (asked.group, asked.offers, asked.asked, asked.offered, many)), refl) })
+        | inl many ↦ inr (record { word = Offers; asked = None; to = from; ends = offers_end remain asked.asked asked.offered many refl })
         | inr few ↦ (
             let decision = decision_there laws program settings.seed at.spot.stage asked.group (length asked.offers) from asked.some in
             let question : Question = record { group = asked.group; offers = asked.offers; how = decision.how; choice = decision.choice } in

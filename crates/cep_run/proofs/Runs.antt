@@ -15,7 +15,7 @@ use Rattle.cep_run.specs.declared.settings.Settings.{Settings}
 use Rattle.cep_run.specs.Deciding.{Supply}
 use Rattle.cep_lines.specs.Lines.{end_lines, header}
 use Rattle.cep_step.specs.Deeds.{Position, Deed, start_of}
-use Rattle.cep_run.specs.Run.{whole_supply, Turn, Ending, IsTurn, AreTurns, deeds_of, offers_listed, EndsAt, Run}
+use Rattle.cep_run.specs.Run.{whole_supply, Turn, Ending, IsTurn, AreTurns, deeds_of, offers_listed, EndsAt, quiet_end, turns_end, Run}
 use Rattle.cep_run.specs.Dialogue.{turn_events, last_events, events_of, Dialogue}
 use Rattle.cep_run.specs.Fronts.{BeginsSome, LeavesUnheard, IsRunOf}
 use Rattle.cep_run.specs.Begun.{PutsFront}
@@ -88,11 +88,11 @@ module _ (program : Parts) (settings : Settings) (start : Position) where
 
     -- the run is quiet after its last turn
     pub run_quiets : (counts : List Deed → Type 0) (come : List ℕ) (events : List Event) (rest : List ℕ) → IsQuiet program settings.height at.spot.state at.spot.stage → SoFar program settings counts start at spent offers come events rest → IsWholeRun program settings counts Quiet start at offers come events rest
-    run_quiets counts come events rest is so = run_over counts Quiet come events rest (is, refl) so
+    run_quiets counts come events rest is so = run_over counts Quiet come events rest (quiet_end is refl) so
 
     -- all turns are done
     pub run_is_over : (counts : List Deed → Type 0) (group : ℕ) (come : List ℕ) (events : List Event) (rest : List ℕ) → IsAsked program settings.height at.spot.state at.spot.stage group → at.turns ≡ settings.limit → SoFar program settings counts start at spent offers come events rest → IsWholeRun program settings counts Turns start at offers come events rest
-    run_is_over counts group come events rest asked all so = run_over counts Turns come events rest (((group, asked), all), refl) so
+    run_is_over counts group come events rest asked all so = run_over counts Turns come events rest (turns_end asked all refl) so
 
 -- what is counted otherwise, where that comes to the same
 pub still_counted : (program : Parts) (settings : Settings) (start at : Position) (spent : Spent) (offers : ℕ) (counts counts' : List Deed → Type 0) → ((deeds : List Deed) → counts deeds → counts' deeds)

@@ -1,5 +1,5 @@
 -- What is written of a dialogue tells the deeds of its turns.
-use Rattle.std.proofs.Common.{◌≡◌, ℕ, List, [], ◌∷◌, ◌++◌, append_assoc, refl, subst, Option, None, Some}
+use Rattle.std.proofs.Common.{ℕ, List, [], ◌∷◌, ◌++◌, append_assoc, refl, subst, Option, None, Some}
 use Rattle.std.specs.Prelude.{decimal}
 use Rattle.std.specs.List.{flat_map}
 use Rattle.cep_base.specs.declared.console.Event.{Event}
@@ -10,14 +10,14 @@ use Rattle.cep_rule.specs.declared.offer.Offer.{Offer}
 use Rattle.cep_rule.specs.Shapes.{IsOfferOf}
 use Rattle.cep_text.specs.Texts.{offer_text}
 use Rattle.cep_step.specs.Deeds.{Position, start_of}
-use Rattle.cep_lines.specs.declared.end_word.EndWord.{EndWord}
 use Rattle.cep_lines.specs.Lines.{end_lines, header}
 use Rattle.cep_log.specs.Transcript.{IsOneLine}
 use Rattle.cep_log.specs.Holding.{AreRemarks, lines_of_deed, TellDeeds, TellRun}
 use Rattle.cep_run.specs.declared.settings.Settings.{Settings}
 use Rattle.cep_run.specs.Deciding.{Supply}
-use Rattle.cep_run.specs.Run.{Question, Turn, Ending, whole_supply, deeds_of, AreTurns, EndsAt}
+use Rattle.cep_run.specs.Run.{Question, Turn, Ending, whole_supply, deeds_of, AreTurns}
 use Rattle.cep_run.specs.Dialogue.{question_events, last_events, turn_events, written_bytes, Dialogue}
+use Rattle.cep_run.proofs.TurnSteps.{LeftBy, left_by}
 use Rattle.cep_run.proofs.Asides.{written_both, written_outs, no_remarks, question_remarks}
 
 module _ (program : Parts) (numbers : (number : ℕ) → IsOneLine (decimal number)) (offers_one : (offer : Offer) → IsOfferOf program offer → IsOneLine (offer_text program offer)) (settings : Settings) where
@@ -34,9 +34,9 @@ module _ (program : Parts) (numbers : (number : ℕ) → IsOneLine (decimal numb
         rw (written_both (asked ++ outs lines) rest, written_both asked (outs lines), written_outs lines) (append_assoc (written_bytes asked) lines (written_bytes rest)),
       )
 
-  last_told : (at : Position) (from : Supply) (word : EndWord) (asked : Option Question) (to : Supply) → EndsAt program settings at from word asked to → AreRemarks (written_bytes (last_events program asked))
-  last_told at from word None to ends = no_remarks [] refl
-  last_told at from word (Some asked) to ends = question_remarks program numbers offers_one settings at from asked to ends.0
+  last_told : (at : Position) (from : Supply) (asked : Option Question) (to : Supply) → LeftBy program settings at from asked to → AreRemarks (written_bytes (last_events program asked))
+  last_told at from None to left = no_remarks [] refl
+  last_told at from (Some asked) to asks = question_remarks program numbers offers_one settings at from asked to asks
 
   pub run_told : (come : List ℕ) (turns : List Turn) (ending : Ending) (events : List Event) (rest : List ℕ) → (said : Dialogue program settings come turns ending events rest) → TellRun program settings.height (deeds_of turns) ending.word said.run.last.spot.state (written_bytes events)
   run_told come turns ending events rest said =
@@ -50,6 +50,6 @@ module _ (program : Parts) (numbers : (number : ℕ) → IsOneLine (decimal numb
         told = written_bytes steps;
         remarks = written_bytes last;
         tell = turns_told (start_of program) (whole_supply come) turns run.last run.between run.done;
-        passed = last_told run.last run.between ending.word ending.question said.left run.ends;
+        passed = last_told run.last run.between ending.question said.left (left_by program settings run.last run.between run.ends);
         whole = rw (said.whole, written_both (outs head) (steps ++ (last ++ outs end)), written_outs head, written_both steps (last ++ outs end), written_both last (outs end), written_outs end) refl;
       })

@@ -1,5 +1,5 @@
 -- What is done in turns are lawful deeds, and these are counted.
-use Rattle.std.proofs.Common.{◌≡◌, ◌⊎◌, ℕ, ◌+◌, ◌-◌, List, [], ◌∷◌, length, inl, inr, sym, ◌∙◌, ap, subst, arith, Option, None, Some}
+use Rattle.std.proofs.Common.{◌≡◌, ◌⊎◌, ℕ, ◌+◌, List, [], ◌∷◌, length, inl, inr, sym, ◌∙◌, ap, subst, arith, Option, None, Some}
 use Rattle.std.proofs.lemmas.Option.{slice_get_within, get_or_from_slice_get}
 use Rattle.cep_term.specs.Multiset.{Multiset}
 use Rattle.cep_rule.specs.declared.rule.Rule.{Rule}
@@ -12,13 +12,15 @@ use Rattle.cep_rule.specs.Typing.{AreValues}
 use Rattle.cep_rule.specs.Stages.{IsAsked, IsQuiet, HasOffer, own_group, leaving_group}
 use Rattle.cep_rule.specs.Steps.{Spot, StepsTo, AreProofs, IsMachineStep}
 use Rattle.cep_lines.specs.declared.end_word.EndWord.{EndWord}
-use Rattle.cep_lines.specs.declared.end_word.EndWord.TheVariants.{Quiet, Input, Typed, Turns}
-use Rattle.cep_run.specs.declared.choice.Choice.{Choice}
-use Rattle.cep_run.specs.declared.choice.Choice.TheVariants.{Place, NoMore, NoRoom}
+use Rattle.cep_lines.specs.declared.end_word.EndWord.TheVariants.{Quiet}
+use Rattle.cep_step.specs.declared.limit.Limit.{Limit}
+use Rattle.cep_step.specs.declared.limit.Limit.TheVariants as limit
+use Rattle.cep_step.specs.Passing.{Passes}
 use Rattle.cep_run.specs.declared.settings.Settings.{Settings}
 use Rattle.cep_run.specs.Deciding.{Supply}
 use Rattle.cep_step.specs.Deeds.{Position, Deed, AreDeeds}
-use Rattle.cep_run.specs.Run.{Question, Turn, deeds_of, IsQuestion, IsChosen, IsTurn, AreTurns, LeadsNowhere, EndsAt}
+use Rattle.cep_run.specs.Run.{Question, Turn, deeds_of, IsQuestion, IsChosen, IsTurn, AreTurns, EndsAt, quiet_end, turns_end, offers_end, input_end, typed_end, atom_end, state_end}
+use Rattle.cep_run.specs.Turn.{limit_word}
 
 -- a rule of the group that is asked is of the stage, or leaves it where nothing of its own applies
 in_turn : (program : Parts) (height : ℕ) (state : Multiset) (stage group of : ℕ) → of ≡ group → IsAsked program height state stage group → (of ≡ own_group stage) ⊎ ((of ≡ leaving_group stage) × ¬ HasOffer program height state (own_group stage))
@@ -30,7 +32,7 @@ pub lawful_step : (program : Parts) (settings : Settings) (at : Position) (from 
     → (offer : Offer) (rule : Rule) (proofs : List ProofTree) (new : Spot) → IsChosen program question offer rule → AreProofs program settings.height proofs (full_instances offer.values rule.backs) → StepsTo program rule offer.values at.spot new
     → IsMachineStep program settings.height at.spot new offer rule proofs
 lawful_step program settings at from question to asks offer rule proofs new chosen proved steps =
-    let k = chosen.place - 1 in
+    let k = chosen.place in
     let offers = question.offers in
     let is_offer : IsOffer program settings.height at.spot.state question.group offer = asks.offered.no_other offer (k, slice_get_within offers k offer chosen.at_place, get_or_from_slice_get offers k offer offer chosen.at_place) in
     let applies = is_offer.applies in
@@ -57,18 +59,35 @@ module _ (program : Parts) (settings : Settings) where
   turn_deeds at from [] last to done = done.0
   turn_deeds at from (turn ∷ turns) last to done = (done.0.here, done.0.does, turn_deeds turn.deed.after turn.left turns last to done.1)
 
-  quiet_leads : (at : Position) (question : Question) (choice : Choice) → LeadsNowhere program settings at question choice Quiet → ⊥
-  quiet_leads at question NoMore leads = let same : ◌≡◌ {A = EndWord} Quiet Input = leads in cc
-  quiet_leads at question NoRoom leads = let same : ◌≡◌ {A = EndWord} Quiet Typed = leads in cc
-  quiet_leads at question (Place place) leads = elim leads.3 [
-    | inl over ↦ (let same : ◌≡◌ {A = EndWord} Quiet Turns = over.0 in cc)
-    | inr passes ↦ passes.1
-  ]
-
   -- a run ends quiet only where nothing applies
-  pub quiet_here : (last : Position) (between to : Supply) (asked : Option Question) → EndsAt program settings last between Quiet asked to → IsQuiet program settings.height last.spot.state last.spot.stage
-  quiet_here last between to None ends = ends.0
-  quiet_here last between to (Some question) ends = absurd (quiet_leads last question question.choice ends.1)
+  pub quiet_here : (at : Position) (from : Supply) {word : EndWord} {asked : Option Question} {to : Supply} → word ≡ Quiet → EndsAt program settings at from word asked to → IsQuiet program settings.height at.spot.state at.spot.stage
+  quiet_here at from same (quiet_end is left) = is
+  quiet_here at from same (turns_end asks over left) = absurd (cc same)
+  quiet_here at from same (offers_end remain asks are many left) = absurd (cc same)
+  quiet_here at from same (input_end asks none) = absurd (cc same)
+  quiet_here at from same (typed_end asks full) = absurd (cc same)
+  quiet_here at from same (atom_end asks chosen passes) = absurd (cc same)
+  quiet_here at from same (state_end asks chosen passes) = absurd (cc same)
+
+  -- what is left after a run ended: all that was there, or what its last question leaves
+  abbrev pub LeftBy : Position → Supply → Option Question → Supply → Type 0
+  LeftBy at from None to = to ≡ from
+  LeftBy at from (Some question) to = IsQuestion program settings at from question to
+
+  pub left_by : (at : Position) (from : Supply) {word : EndWord} {asked : Option Question} {to : Supply} → EndsAt program settings at from word asked to → LeftBy at from asked to
+  left_by at from (quiet_end is left) = left
+  left_by at from (turns_end asks over left) = left
+  left_by at from (offers_end remain asks are many left) = left
+  left_by at from (input_end asks none) = asks
+  left_by at from (typed_end asks full) = asks
+  left_by at from (atom_end asks chosen passes) = asks
+  left_by at from (state_end asks chosen passes) = asks
+
+  -- a run ends where a step by the offer that is chosen passes a limit
+  pub limit_end : (at : Position) (from to : Supply) (question : Question) (offer : Offer) (rule : Rule) → IsQuestion program settings at from question to → IsChosen program question offer rule → (passed : Limit) → Passes program.signature rule offer.values at.spot.state passed
+      → EndsAt program settings at from (limit_word passed) (Some question) to
+  limit_end at from to question offer rule asks chosen limit.Atom passes = atom_end asks chosen passes
+  limit_end at from to question offer rule asks chosen limit.State passes = state_end asks chosen passes
 
 pub deeds_counted : (program : Parts) (height : ℕ) (at : Position) (deeds : List Deed) (last : Position) → AreDeeds program height at deeds last → last.turns ≡ at.turns + length deeds
 deeds_counted program height at [] last done = let same = ap (λ (here : Position). here.turns) done in omega (arith, same)

@@ -16,11 +16,12 @@ use Rattle.cep_run.specs.declared.settings.Settings.{Settings}
 use Rattle.cep_run.specs.Choice.{room_after, no_line, Hears, chosen, again, no_more, no_room}
 use Rattle.cep_run.specs.Deciding.{Supply, How, Heard, Lone, Drawn, Decides}
 use Rattle.cep_step.specs.Deeds.{Position, Deed}
-use Rattle.cep_run.specs.Run.{whole_supply, Question, Turn, IsQuestion, IsTurn, AreTurns, EndsAt}
+use Rattle.cep_run.specs.Run.{whole_supply, Question, Turn, IsQuestion, IsTurn, AreTurns}
 use Rattle.cep_run.specs.Dialogue.{asked_events, question_events, last_events, turn_events}
 use Rattle.cep_run.specs.Fronts.{heard_bytes, LeavesUnheard}
 use Rattle.cep_run.specs.Begun.{PutsFront, BeginsAct}
 use Rattle.cep_run.specs.Turn.{Settles, SoFar, IsWholeRun}
+use Rattle.cep_run.proofs.TurnSteps.{LeftBy, left_by}
 use Rattle.cep_run.proofs.Hearing.{HearsFront, line_cut, answer_cut, behind_bad}
 
 -- Events
@@ -128,9 +129,9 @@ module _ (program : Parts) (settings : Settings) where
   turns_left at from (turn ∷ turns) last to done =
       left_then from.come (turn_events program turn) turn.left.come (flat_map (turn_events program) turns) to.come (turn_left at from turn done.0) (turns_left turn.deed.after turn.left turns last to done.1)
 
-  last_left : (at : Position) (from : Supply) (word : EndWord) (asked : Option Question) (to : Supply) → EndsAt program settings at from word asked to → LeavesUnheard from.come (last_events program asked) to.come
-  last_left at from word None to ends = ap (λ (supply : Supply). supply.come) (sym ends.1)
-  last_left at from word (Some asked) to ends = question_left at from asked to ends.0
+  last_left : (at : Position) (from : Supply) (asked : Option Question) (to : Supply) → LeftBy program settings at from asked to → LeavesUnheard from.come (last_events program asked) to.come
+  last_left at from None to left = ap (λ (supply : Supply). supply.come) (sym left)
+  last_left at from (Some asked) to asks = question_left at from asked to asks
 
   -- some turns were done
   pub so_left : (counts : List Deed → Type 0) (start here : Position) (spent : Spent) (offers : ℕ) (come : List ℕ) (events : List Event) (rest : List ℕ) → SoFar program settings counts start here spent offers come events rest → LeavesUnheard come events rest
@@ -141,5 +142,5 @@ module _ (program : Parts) (settings : Settings) where
   whole_left counts word start last offers come events rest runs =
       let between = runs.between in
       let turns = flat_map (turn_events program) runs.turns in
-      let all = left_then come turns between.come (last_events program runs.asked) runs.left.come (turns_left start (whole_supply come) runs.turns last between runs.done) (last_left last between word runs.asked runs.left runs.ends) in
+      let all = left_then come turns between.come (last_events program runs.asked) runs.left.come (turns_left start (whole_supply come) runs.turns last between runs.done) (last_left last between runs.asked runs.left (left_by program settings last between runs.ends)) in
       subst (λ es. LeavesUnheard come es rest) (sym runs.written) (subst (λ left. LeavesUnheard come (turns ++ last_events program runs.asked) left) (sym runs.rest_is) all)

@@ -1,5 +1,5 @@
 -- A run: turn after turn, each a step of the machine, until it ends for a named reason. No byte that is written is spoken of here.
-use Rattle.std.specs.Prelude.{◌≡◌, ◌⊎◌, ℕ, ◌+◌, ◌-◌, ◌<◌, ◌≤◌, List, [], ◌∷◌, length, map, Option, None, Some, slice_get}
+use Rattle.std.specs.Prelude.{◌≡◌, ℕ, ◌+◌, ◌<◌, ◌≤◌, List, [], ◌∷◌, length, map, Option, None, Some, slice_get}
 use Rattle.cep_base.specs.declared.limits.TheConstants.{MOST_OFFERS}
 use Rattle.cep_term.specs.Multiset.{Multiset}
 use Rattle.cep_rule.specs.declared.rule.Rule.{Rule}
@@ -7,10 +7,8 @@ use Rattle.cep_rule.specs.declared.parts.Parts.{Parts}
 use Rattle.cep_rule.specs.declared.offer.Offer.{Offer}
 use Rattle.cep_rule.specs.Offers.{AreOffers}
 use Rattle.cep_rule.specs.Stages.{IsAsked, IsQuiet}
-use Rattle.cep_term.specs.Tree.{Tree}
-use Rattle.cep_rule.specs.State.{Fits}
-use Rattle.cep_rule.specs.Step.{Step}
-use Rattle.cep_rule.specs.Steps.{MakesFit}
+use Rattle.cep_step.specs.declared.limit.Limit.TheVariants as limit
+use Rattle.cep_step.specs.Passing.{Passes}
 use Rattle.cep_run.specs.declared.choice.Choice.{Choice}
 use Rattle.cep_run.specs.declared.choice.Choice.TheVariants.{Place, NoMore, NoRoom}
 use Rattle.cep_lines.specs.declared.end_word.EndWord.{EndWord}
@@ -18,20 +16,6 @@ use Rattle.cep_lines.specs.declared.end_word.EndWord.TheVariants.{Quiet, Input, 
 use Rattle.cep_run.specs.declared.settings.Settings.{Settings}
 use Rattle.cep_run.specs.Deciding.{Supply, How, Decides}
 use Rattle.cep_step.specs.Deeds.{Position, Deed, IsDeed}
-
--- A step by the offer passes a limit: an atom that its rule makes is not fit; or all are, and the state after it does not fit.
-abbrev pub PassesLimit : Parts → Rule → List Tree → Multiset → EndWord → Type 0
-PassesLimit program rule values state Atom = ¬ MakesFit rule values
-PassesLimit program rule values state State = MakesFit rule values × ((next : Multiset) × Step program.signature rule values state next × ¬ Fits next)
-PassesLimit program rule values state Quiet = ⊥
-PassesLimit program rule values state Input = ⊥
-PassesLimit program rule values state Turns = ⊥
-PassesLimit program rule values state Offers = ⊥
-PassesLimit program rule values state Typed = ⊥
-
--- A run with a limit of turns stops at an offer that was chosen, whoever chose it: no turn remains for it, or one does and its step passes a limit.
-abbrev pub StopsAtOffer : Parts → ℕ → Position → Rule → List Tree → EndWord → Type 0
-StopsAtOffer program limit at rule values word = ((word ≡ Turns) × (at.turns ≡ limit)) ⊎ ((at.turns < limit) × PassesLimit program rule values at.spot.state word)
 
 -- the supply with which a run begins, where these bytes are to come
 abbrev pub whole_supply : List ℕ → Supply
@@ -72,11 +56,11 @@ pub record IsQuestion (program : Parts) (settings : Settings) (at : Position) (f
   pub few : length question.offers ≤ MOST_OFFERS
   pub decided : Decides program settings.seed at.spot.stage question.group (length question.offers) from question.how question.choice to
 
--- The choice is this offer, at its place counted from 1, and this is its rule.
+-- The choice is this offer, which stands at a place, counted from 0, and this is its rule.
 pub record IsChosen (program : Parts) (question : Question) (offer : Offer) (rule : Rule) : Type 0 where
   pub place : ℕ
-  pub chosen : question.choice ≡ Place place
-  pub at_place : slice_get question.offers (place - 1) ≡ Some offer
+  pub chosen : question.choice ≡ Place (place + 1)
+  pub at_place : slice_get question.offers place ≡ Some offer
   pub of_rule : slice_get program.rules offer.rule ≡ Some rule
 
 -- One turn is done from a position with a supply: its question is asked here, the choice is the offer of its deed, and the deed is lawful.
@@ -96,29 +80,35 @@ abbrev pub offers_listed : List Turn → ℕ
 offers_listed [] = 0
 offers_listed (turn ∷ turns) = length turn.question.offers + offers_listed turns
 
--- A run ends without a question: the stage is quiet; or it asks a group, and all turns are done, or turns remain and the offers are too many.
-abbrev pub EndsUnasked : Parts → Settings → Position → EndWord → Type 0
-EndsUnasked program settings at Quiet = IsQuiet program settings.height at.spot.state at.spot.stage
-EndsUnasked program settings at Turns = ((group : ℕ) × IsAsked program settings.height at.spot.state at.spot.stage group) × (at.turns ≡ settings.limit)
-EndsUnasked program settings at Offers =
-    (at.turns < settings.limit)
-    × ((group : ℕ) × (offers : List Offer) × IsAsked program settings.height at.spot.state at.spot.stage group × AreOffers program settings.height at.spot.state group offers × (MOST_OFFERS < length offers))
-EndsUnasked program settings at Input = ⊥
-EndsUnasked program settings at Typed = ⊥
-EndsUnasked program settings at Atom = ⊥
-EndsUnasked program settings at State = ⊥
-
--- A question leads to no step: no more is typed, no more may be, or the run stops at the offer that is chosen.
-abbrev pub LeadsNowhere : Parts → Settings → Position → Question → Choice → EndWord → Type 0
-LeadsNowhere program settings at question NoMore word = word ≡ Input
-LeadsNowhere program settings at question NoRoom word = word ≡ Typed
-LeadsNowhere program settings at question (Place place) word =
-    (offer : Offer) × (rule : Rule) × IsChosen program question offer rule × StopsAtOffer program settings.limit at rule offer.values word
-
--- A run ends at a position, with a word and maybe a last question.
-abbrev pub EndsAt : Parts → Settings → Position → Supply → EndWord → Option Question → Supply → Type 0
-EndsAt program settings at from word None to = EndsUnasked program settings at word × (to ≡ from)
-EndsAt program settings at from word (Some question) to = IsQuestion program settings at from question to × LeadsNowhere program settings at question question.choice word
+-- A run ends at a position: with a word, maybe after a last question, and with the supply that is left then.
+pub data EndsAt (program : Parts) (settings : Settings) (at : Position) (from : Supply) : EndWord → Option Question → Supply → Type 0 where
+  -- no rule applies
+  quiet_end : {to : Supply} → IsQuiet program settings.height at.spot.state at.spot.stage → to ≡ from
+      → EndsAt program settings at from Quiet None to
+  -- a group is asked, and all turns are done
+  turns_end : {to : Supply} {group : ℕ} → IsAsked program settings.height at.spot.state at.spot.stage group
+      → at.turns ≡ settings.limit → to ≡ from → EndsAt program settings at from Turns None to
+  -- a group is asked, and turns remain, but its offers are too many
+  offers_end : {to : Supply} {group : ℕ} {offers : List Offer} → at.turns < settings.limit
+      → IsAsked program settings.height at.spot.state at.spot.stage group
+      → AreOffers program settings.height at.spot.state group offers → MOST_OFFERS < length offers
+      → to ≡ from → EndsAt program settings at from Offers None to
+  -- a question is asked, and no more is typed
+  input_end : {to : Supply} {question : Question} → IsQuestion program settings at from question to
+      → question.choice ≡ NoMore → EndsAt program settings at from Input (Some question) to
+  -- a question is asked, and no more may be typed
+  typed_end : {to : Supply} {question : Question} → IsQuestion program settings at from question to
+      → question.choice ≡ NoRoom → EndsAt program settings at from Typed (Some question) to
+  -- a question is asked, and the step by the offer that is chosen passes the limit of an atom
+  atom_end : {to : Supply} {question : Question} {offer : Offer} {rule : Rule}
+      → IsQuestion program settings at from question to → IsChosen program question offer rule
+      → Passes program.signature rule offer.values at.spot.state limit.Atom
+      → EndsAt program settings at from Atom (Some question) to
+  -- a question is asked, and the step by the offer that is chosen passes the limit of a state
+  state_end : {to : Supply} {question : Question} {offer : Offer} {rule : Rule}
+      → IsQuestion program settings at from question to → IsChosen program question offer rule
+      → Passes program.signature rule offer.values at.spot.state limit.State
+      → EndsAt program settings at from State (Some question) to
 
 -- A run from a position with a supply: its turns, how it ended, and the supply that is left.
 pub record Run (program : Parts) (settings : Settings) (at : Position) (from : Supply) (turns : List Turn) (ending : Ending) (to : Supply) : Type 0 where

@@ -1,6 +1,6 @@
 -- Private.
 -- What a part of a run does: words for the functions that do it.
-use Rattle.std.specs.Prelude.{◌≡◌, ℕ, ◌+◌, ◌-◌, ◌≤◌, List, [], ◌++◌, Option, Some, length, slice_get}
+use Rattle.std.specs.Prelude.{◌≡◌, ℕ, ◌+◌, ◌≤◌, List, [], ◌++◌, Option, Some, length, slice_get}
 use Rattle.std.specs.List.{flat_map}
 use Rattle.cep_base.specs.declared.console.Event.{Event}
 use Rattle.cep_base.specs.declared.limits.TheConstants.{MOST_OFFERS, MOST_TYPED}
@@ -29,8 +29,8 @@ use Rattle.cep_run.specs.Deciding.{Supply, How, Decides}
 use Rattle.cep_lines.specs.Lines.{question, deed_lines}
 use Rattle.cep_rule.specs.Matching.{RoseBy}
 use Rattle.cep_step.specs.Deeds.{Position, Deed}
-use Rattle.cep_run.specs.Run.{PassesLimit}
-use Rattle.cep_run.specs.Costs.{Edits, IsStepCost, IsDeedCost}
+use Rattle.cep_step.specs.Passing.{Passes}
+use Rattle.cep_run.specs.Costs.{Edits, IsStepCost}
 use Rattle.cep_run.specs.Run.{Question, Turn, IsTurn, AreTurns, deeds_of, offers_listed, EndsAt, whole_supply}
 use Rattle.cep_run.specs.Dialogue.{asked_events, turn_events, last_events}
 
@@ -65,9 +65,9 @@ pub record Settles (program : Parts) (seed stage group : ℕ) (offers : List Off
   pub decides : Decides program seed stage group (length offers) (supply_with come old) how choice (supply_with rest new)
   pub whole : events ≡ asked_events program offers how
 
--- The offer at a place, counted from 1, with its rule.
+-- The offer at a place, counted from 0, with its rule.
 pub record IsPlaced (program : Parts) (offers : List Offer) (place : ℕ) (offer : Offer) (rule : Rule) : Type 0 where
-  pub at_place : slice_get offers (place - 1) ≡ Some offer
+  pub at_place : slice_get offers place ≡ Some offer
   pub of_rule : slice_get program.rules offer.rule ≡ Some rule
 
 -- The derivation proves the atom within the height.
@@ -109,12 +109,14 @@ abbrev pub limit_word : Limit → EndWord
 limit_word limit.Atom = Atom
 limit_word limit.State = State
 
--- The step by the offer at a place would pass a limit, and nothing is written.
+-- The step by the offer at a place would pass a limit, which the word names, and nothing is written.
 pub record WouldPass (program : Parts) (offers : List Offer) (place : ℕ) (word : EndWord) (at : Position) (come : List ℕ) (events : List Event) (rest : List ℕ) : Type 0 where
   pub offer : Offer
   pub rule : Rule
   pub placed : IsPlaced program offers place offer rule
-  pub too_much : PassesLimit program rule offer.values at.spot.state word
+  pub passed : Limit
+  pub named : word ≡ limit_word passed
+  pub passes : Passes program.signature rule offer.values at.spot.state passed
   pub unwritten : events ≡ []
   pub untaken : rest ≡ come
 

@@ -24,6 +24,7 @@ use cep_base::{Console, ConsoleFault, Steps, Text};
 use cep_lines::{EndWord, put_deed};
 use cep_log::Proofs;
 use cep_machine::{Config, Stepped};
+use cep_rule::laws::derivations_have_shape;
 use cep_rule::{Matcher, Offer, Program};
 use cep_step::Limit;
 use std::alloc::Global;
@@ -52,7 +53,7 @@ fn over<M: Matcher>(config: Config<M>, word: EndWord) -> Turned<M>
     Turned::Over(Ended { config, word })
 }
 
-/// Does the step by the offer at a place, counted from 1, and writes it with what proves its backward
+/// Does the step by the offer at a place, counted from 0, and writes it with what proves its backward
 /// premises and the stage that it leads to; or says which limit it would pass. The lines are made
 /// after the step, so that nothing is proved of one that is not done, and so of a copy of the offer:
 /// the matcher that has it goes with the step.
@@ -62,15 +63,14 @@ fn act<C: Console, M: Matcher, L: Ledger>(
     settings: Settings,
     config: Config<M>,
     group: u32,
-    place: u32,
+    place: usize,
     console: &mut C,
     steps: &mut Steps<L>,
 ) -> Result<Turned<M>, ConsoleFault>
     requires played { IsPlayed M.is_of M.height_held program.now settings config }
     requires listed { group < length (M.offers_held config.matcher) }
     requires asked { offers_of (M.offers_held config.matcher) group ≡ asked_offers (M.offers_held config.matcher) config.stage }
-    requires some { 0 < place }
-    requires within { place ≤ length (offers_of (M.offers_held config.matcher) group) }
+    requires within { place < length (offers_of (M.offers_held config.matcher) group) }
     requires turns { config.turns < MOST_TURNS }
     ensures acted { IfOk result (IsActed C.talk C.left console.old console.new program.now settings.height (offers_of (M.offers_held config.matcher) group) place config) }
     ensures ticked { IfOk result (λ turned. RoseByAct M.may_edit program.now settings.height (offers_of (M.offers_held config.matcher) group) place config turned steps.old steps.new) }
@@ -79,10 +79,10 @@ fn act<C: Console, M: Matcher, L: Ledger>(
     ensures counted { steps.old ≤ steps.new }
     ensures cause { ConsoleCause (C.faults console.old) (C.faults console.new) result }
 {
-    let i = place as usize - 1;
-    let chosen = config.matcher().offer(group, i);
+    derivations_have_shape();
+    let chosen = config.matcher().offer(group, place);
     let offer = copy_offer(alloc, chosen)?;
-    match config.step(alloc, program, i, steps)? {
+    match config.step(alloc, program, place, steps)? {
         Stepped::Done(config) => {
             let proofs = prove_backs(alloc, program, &offer, settings.height, steps)?;
             tell_deed(alloc, program, &offer, &proofs, &config, console)?;
@@ -178,7 +178,14 @@ pub fn turn<C: Console, M: Matcher, L: Ledger>(
         spent,
     )? {
         Choice::Place(place) => act(
-            alloc, program, settings, config, group, place, console, steps,
+            alloc,
+            program,
+            settings,
+            config,
+            group,
+            place as usize - 1,
+            console,
+            steps,
         ),
         Choice::NoMore => Ok(over(config, EndWord::Input)),
         Choice::NoRoom => Ok(over(config, EndWord::Typed)),

@@ -1,9 +1,9 @@
-use Rattle.std.proofs.Common.{subst, sym, length-map, ◌∙◌}
+use Rattle.std.proofs.Common.{subst, sym, ◌∙◌}
+use Rattle.std.proofs.lemmas.List.{length-map}
 use Rattle.cep_term.specs.Multiset.{Multiset}
-use Rattle.cep_lines.specs.declared.end_word.EndWord.{EndWord}
 use Rattle.cep_log.specs.Holding.{HoldsDeeds}
 use Rattle.cep_step.specs.Deeds.{start_of}
-use Rattle.cep_run.specs.Run.{Turn, deeds_of, whole_supply, EndsAt}
+use Rattle.cep_run.specs.Run.{Turn, deeds_of, whole_supply}
 use Rattle.cep_run.proofs.TurnSteps.{quiet_here}
 use Rattle.cep_run.proofs.Transcribed.{run_told}
 use Rattle.cep_run.proofs.laws.dialogues_have_logs.Goals as goal
@@ -15,7 +15,7 @@ returns c = λ program settings come turns ending events rest kept height_is sai
     let deeds = c.turns_are_deeds.ensures program settings (start_of program) (whole_supply come) turns run.last run.between run.done in
     let told = run_told program lines.numbers (λ offer is. lines.offers program offer kept is) settings come turns ending events rest said in
     let found = c.deeds_have_legal_logs.ensures.written program settings.height (deeds_of turns) run.last ending.word _ kept height_is deeds
-    (λ quiet. quiet_here program settings run.last run.between said.left ending.question (subst (λ (word : EndWord). EndsAt program settings run.last run.between word ending.question said.left) quiet run.ends))
+    (λ quiet. quiet_here program settings run.last run.between quiet run.ends)
     told short in (
       found.0,
       found.1,

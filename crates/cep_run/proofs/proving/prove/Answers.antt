@@ -1,4 +1,4 @@
-use Rattle.std.proofs.Common.{map, arith, ◌∙◌, ap, subst, sym}
+use Rattle.std.proofs.Common.{map, arith, subst, sym}
 use Rattle.std.proofs.lemmas.List.{length-map}
 use Rattle.cep_base.proofs.Lists.{holds_at, get_mapped}
 use Rattle.cep_base.proofs.Members.{in_got, to_contains}
@@ -7,7 +7,8 @@ use Rattle.cep_term.specs.Values.{atom_instance}
 use Rattle.cep_rule.specs.Derivations.{ProofTree, proof_of}
 use Rattle.cep_prove.specs.declared.answering.Answer.{Answer}
 use Rattle.cep_prove.specs.Answers.{IsLowestProof}
-use Rattle.std.proofs.lemmas.Result.{if_ok_weaker}
+use Rattle.std.proofs.lemmas.Result.{IfOk-weaker}
+use Rattle.cep_rule.specs.declared.derivation.Derivation.{Derivation}
 use Rattle.cep_run.specs.Turn.{IsProofWithin}
 use Rattle.cep_run.proofs.Backs.{some_answer, same_goal, is_within}
 use Rattle.cep_run.proofs.proving.prove.Goals as goal
@@ -27,4 +28,4 @@ returns-clause-proved g c =
     let there = to_contains all answer.values (in_got all 0 answer.values (get_mapped (λ (answer : Answer). answer.values) c.in_ok-list.list 0 answer c.get.ensures)) in
     let same = same_goal c.instances_of_instances.ensures.alike program c.args.height goal_is c.args.known.now answer.values c.requires.valued (c.in_ok-list.ensures.answers.no_other answer.values there) in
     let within = is_within program c.args.height (atom_instance answer.values goal_is) (atom_instance c.args.known.now goal_is) (proof_of answer.proof) same lowest c.requires.derivable in
-    if_ok_weaker c.copy_proof.result (λ copied e. subst (λ (proof : ProofTree). IsProofWithin program c.args.height (atom_instance c.args.known.now goal_is) proof) (sym e) within) c.copy_proof.ensures
+    IfOk-weaker c.copy_proof.result _ (λ (copied : Derivation). IsProofWithin program c.args.height (atom_instance c.args.known.now goal_is) (proof_of copied)) (λ copied e. subst (λ (proof : ProofTree). IsProofWithin program c.args.height (atom_instance c.args.known.now goal_is) proof) (sym e) within) c.copy_proof.ensures

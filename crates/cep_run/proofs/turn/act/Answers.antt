@@ -1,10 +1,11 @@
-use Rattle.std.proofs.Common.{◌≡◌, subst, inl, refl, take, ◌∙◌}
+use Rattle.std.proofs.Common.{◌≡◌, subst, inl, refl, ◌∙◌}
 use Rattle.cep_rule.specs.Limits.{IsHeight}
+use Rattle.cep_rule.specs.Instances.{full_instances}
 use Rattle.cep_machine.specs.Configuration.{IsConfigurationOf}
 use Rattle.cep_machine.specs.Stepping.{config_after}
 use Rattle.cep_base.proofs.Did.{did_same, did_map}
 use Rattle.cep_base.proofs.Outcomes.{on_err}
-use Rattle.cep_run.proofs.Unread.{unread}
+use Rattle.cep_run.proofs.StepLines.{applied_has_text, all_of_shape}
 use Rattle.cep_run.proofs.Turns.{copy_applies, done_acts, done_rose, cut_acts, limit_acts, limit_rose, limit_played}
 use Rattle.cep_run.proofs.turn.act.Goals as goal
 
@@ -69,6 +70,19 @@ prove_backs-requires-clause-applies g c =
     (g.met.M.Matcher.exact c.args.program.now c.args.config.matcher c.requires.played.of_program.matcher) c.requires.listed c.requires.asked
     c.matcher.result.now c.matcher.ensures.matcher c.offer-chosen.result.now c.in_ok-offer.offer c.offer-chosen.ensures c.in_ok-offer.ensures
     c.args.settings c.requires.played.height
+
+pub tell_deed-requires-clause-offer : goal.tell_deed-requires-clause-offer
+tell_deed-requires-clause-offer g c =
+    let applies = copy_applies g.M.Matcher.height_held g.M.Matcher.state_held g.M.Matcher.offers_held c.args.program.now c.args.group c.args.place c.args.config
+    (g.met.M.Matcher.exact c.args.program.now c.args.config.matcher c.requires.played.of_program.matcher) c.requires.listed c.requires.asked
+    c.matcher.result.now c.matcher.ensures.matcher c.offer-chosen.result.now c.in_ok-offer.offer c.offer-chosen.ensures c.in_ok-offer.ensures
+    c.args.settings c.requires.played.height in
+    applied_has_text c.args.program.now c.args.settings.height applies.0 c.in_ok-offer.offer applies.1
+
+pub tell_deed-requires-clause-proofs : goal.tell_deed-requires-clause-proofs
+tell_deed-requires-clause-proofs g c =
+    let is = c.in_ok-proofs-in-Done.ensures.proved in
+    all_of_shape c.derivations_have_shape.ensures c.args.program.now c.args.settings.height c.in_ok-proofs-in-Done.proofs (full_instances c.in_ok-offer.offer.values is.rule.backs) is.proved
 
 pub tell_deed-requires-clause-state : goal.tell_deed-requires-clause-state
 tell_deed-requires-clause-state g c =

@@ -1,4 +1,7 @@
-use Rattle.std.proofs.Common.{◌≡◌, refl, sym, subst}
+use Rattle.std.proofs.Common.{◌≡◌, ℕ, ◌+◌, ◌-◌, refl, sym, ap, ◌∙◌, subst, arith}
+use Rattle.cep_run.specs.declared.choice.Choice.{Choice}
+use Rattle.cep_run.specs.declared.choice.Choice.TheVariants.{Place}
+use Rattle.cep_run.specs.Choice.{IsChoiceWithin}
 use Rattle.std.specs.Prelude.{IsNone}
 use Rattle.std.proofs.lemmas.Result.{on_err_weaker}
 use Rattle.cep_base.proofs.Outcomes.{on_err}
@@ -11,6 +14,10 @@ use Rattle.cep_base.proofs.Did.{did_same, did_map}
 use Rattle.cep_run.proofs.Counting.{both_ok}
 use Rattle.cep_run.proofs.Turns.{offers_have_texts, group_listed, group_offers, quiet_turn, crowds_here, no_more_here, no_room_here, chosen_here, decision_refused, act_refused}
 use Rattle.cep_run.proofs.turn.turn.Goals as goal
+
+-- a place that is chosen comes after one, counted from 0
+next_place : (place : ℕ) (choice : Choice) → choice ≡ Place place → (n : ℕ) → IsChoiceWithin n choice → choice ≡ Place (place - 1 + 1)
+next_place place choice is n within = let first = (subst (IsChoiceWithin n) is within).0 in is ∙ ap Place (omega (arith, first))
 
 pub returns-in_default-clause-turned : goal.returns-in_default-clause-turned
 returns-in_default-clause-turned g c =
@@ -52,7 +59,7 @@ returns-in-Place-clause-turned g c = both_ok c.act.result _ _ _ (λ turned acted
     (g.met.M.Matcher.exact c.args.program.now c.args.config.matcher c.requires.played.of_program.matcher) c.matcher.ensures.same_state c.matcher.ensures.listed c.in-Some.ensures.listed (c.in-Some.ensures.asked c.args.program.now c.requires.played.of_program) _ c.in-Some.ensures.offers
     c.requires.remain g.C.Console.talk g.C.Console.left c.args.console.now c.args.spent.now c.decide.new.console c.decide.new.spent c.matcher.result.now c.matcher.ensures.matcher
     (c.len_ok.ensures.0 c.if-not-len_ok.false)
-    g.M.Matcher.may_edit c.args.steps.now c.act.new.steps c.in-Place.place _ c.in-Place.is c.in_ok-place.ensures.settled c.act.new.console turned acted rose) c.act.ensures.acted c.act.ensures.ticked
+    g.M.Matcher.may_edit c.args.steps.now c.act.new.steps (c.in-Place.place - 1) _ (next_place c.in-Place.place _ c.in-Place.is _ c.in_ok-place.ensures.place) c.in_ok-place.ensures.settled c.act.new.console turned acted rose) c.act.ensures.acted c.act.ensures.ticked
 
 pub returns-in-NoMore-clause-turned : goal.returns-in-NoMore-clause-turned
 returns-in-NoMore-clause-turned g c =
@@ -86,5 +93,5 @@ returns-in-Place-clause-begun g c =
     (g.met.M.Matcher.exact c.args.program.now c.args.config.matcher c.requires.played.of_program.matcher) c.matcher.ensures.same_state c.matcher.ensures.listed c.in-Some.ensures.listed (c.in-Some.ensures.asked c.args.program.now c.requires.played.of_program) _ c.in-Some.ensures.offers
     c.requires.remain g.C.Console.talk g.C.Console.left c.args.console.now c.args.spent.now c.decide.new.console c.decide.new.spent c.matcher.result.now c.matcher.ensures.matcher
     (c.len_ok.ensures.0 c.if-not-len_ok.false)
-    c.runs_go_on.ensures.questions c.parts.ensures.kept c.requires.played.of_program.is_state c.runs_go_on.ensures.turns c.in-Place.place _ c.in-Place.is c.in_ok-place.ensures.settled c.act.new.console)
+    c.runs_go_on.ensures.questions c.parts.ensures.kept c.requires.played.of_program.is_state c.runs_go_on.ensures.turns (c.in-Place.place - 1) _ (next_place c.in-Place.place _ c.in-Place.is _ c.in_ok-place.ensures.place) c.in_ok-place.ensures.settled c.act.new.console)
     c.act.ensures.begun
