@@ -42,10 +42,11 @@ _ceptre_options() {
 _ceptre_script() {
     local word=${COMP_WORDS[COMP_CWORD]} options place=0 at
     case ${COMP_WORDS[0]##*/} in
-    explain) options='--help' ;;
+    explain) options='--help --all --hints --format' ;;
     follow) options='--help --at' ;;
     grade) options='--help --goal --height --end --typed --seed --turns --json' ;;
     player) options='--help --log --load --rows --plain' ;;
+    why) options='--help' ;;
     sample) options='--help --runs --seed --players-by-seed --height --turns --goal --csv' ;;
     esac
     COMPREPLY=()
@@ -54,6 +55,7 @@ _ceptre_script() {
         return
     fi
     case ${COMP_WORDS[COMP_CWORD - 1]} in
+    --format) mapfile -t COMPREPLY < <(compgen -W 'text gcc' -- "$word") && return ;;
     --end) mapfile -t COMPREPLY < <(compgen -W 'quiet turns offers input typed atom state' -- "$word") && return ;;
     --typed | --load | --log)
         mapfile -t COMPREPLY < <(compgen -f -- "$word")
@@ -70,11 +72,11 @@ _ceptre_script() {
         _ceptre_files cep "$word"
     else
         case ${COMP_WORDS[0]##*/} in
-        follow | grade | explain) _ceptre_files log "$word" ;;
+        follow | grade | explain | why) _ceptre_files log "$word" ;;
         player) _ceptre_options "$word" ;;
         esac
     fi
 }
 
 complete -F _ceptre ceptre ./ceptre
-complete -F _ceptre_script {,./}tools/{explain,follow,grade,player,sample}
+complete -F _ceptre_script {,./}tools/{explain,follow,grade,player,sample,why}

@@ -23,14 +23,17 @@ for option in seed height turns
     complete -c ceptre -n "__ceptre_may $option=" -a "$option="
 end
 
-for script in explain follow grade player sample
+for script in explain follow grade player sample why
     complete -p "*/tools/$script" -f
     complete -p "*/tools/$script" -l help
     complete -p "*/tools/$script" -n 'test (count (commandline -opc)) -eq 1' -k -a '(__fish_complete_suffix .cep)'
 end
-for script in follow grade
+for script in explain follow grade why
     complete -p "*/tools/$script" -n 'test (count (commandline -opc)) -ge 2' -k -a '(__fish_complete_suffix .log)'
 end
+complete -p '*/tools/explain' -l all -d 'several refusals'
+complete -p '*/tools/explain' -l hints -d 'the hints alone'
+complete -p '*/tools/explain' -x -l format -a 'text gcc'
 complete -p '*/tools/follow' -x -l at -d 'the state after a step'
 complete -p '*/tools/grade' -x -l goal -d 'an atom of the last state, and its points'
 complete -p '*/tools/grade' -x -l height -d 'the most that is allowed'

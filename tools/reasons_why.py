@@ -75,6 +75,8 @@ class Question:
             file.write(text.encode("latin-1"))
             file.flush()
             _, lines = run("play", file.name, f"height={self.height}", "turns=1")
+        if lines and lines[0].startswith("refused ") and self.values:
+            raise Unasked(f"with these values the rule is refused: {lines[0]}")
         if not lines or not lines[0].startswith("ceptre "):
             raise CannotRun(lines[0] if lines else "the program ended without an answer")
         turn = []
