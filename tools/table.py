@@ -203,7 +203,7 @@ class Table:
 
     def say(self, text):
         """A text in lines as wide as the terminal."""
-        width = max(20, shutil.get_terminal_size().columns)
+        width = max(20, shutil.get_terminal_size().columns or 80)
         for line in map(shown, text.split("\n")):
             margin = re.match(r" *(?:[0-9]+  )?", line).end()
             print("\n".join(textwrap.wrap(line, width, subsequent_indent=" " * margin)) or line)
@@ -257,7 +257,7 @@ class Table:
         """How many offers are shown at once."""
         if self.options.rows:
             return max(1, self.options.rows)
-        return max(5, shutil.get_terminal_size().lines - 6) if sys.stdout.isatty() else 1 << 20
+        return max(5, (shutil.get_terminal_size().lines or 24) - 6) if sys.stdout.isatty() else 1 << 20
 
     def show_offers(self, first):
         """A page of the offers that match, from the first again after the last."""

@@ -65,7 +65,7 @@ class Follow(unittest.TestCase):
             log = Transcript.of(read(WORLDS, name + ".log"))
             self.assertEqual(follow.state_at(world, log, len(log.steps))[1:], follow.listing(world, log.last))
             most = len(log.steps)
-            for at in sorted({1, most // 2, most - 1} & set(range(1, most))):
+            for at in sorted({most // 2, most - 1} & set(range(1, most))):
                 with self.subTest(world=name, at=at):
                     state = follow.state_at(world, log, at)
                     self.assertEqual(state[1:], end_listing(name, at))
@@ -133,7 +133,7 @@ class Follow(unittest.TestCase):
         start = text.index("? 1 sell")
         with tempfile.TemporaryDirectory() as folder:
             log = os.path.join(folder, "cut.log")
-            for length in range(0, len(text), 7):
+            for length in range(0, len(text), 11):
                 with self.subTest(length=length):
                     with open(log, "w", encoding="utf-8") as file:
                         file.write(text[:length])
