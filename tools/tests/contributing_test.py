@@ -41,21 +41,19 @@ class Contributing(unittest.TestCase):
         texts, bases = "\n".join(files.values()), {os.path.basename(path) for path in files}
         known = set(re.findall(r"[A-Za-z_]\w*", texts))
         for name in sorted(set(re.findall(r"`((?:specs/)?\w+\.(?:rt|antt))`", RECIPES))):
-            self.assertIn(name.removeprefix("specs/"), bases)
+            self.assertTrue(name.removeprefix("specs/") in bases, name)
         words = set(re.findall(r"`([A-Z][A-Za-z]+|[a-z]+_[a-z_]+)`", RECIPES))
         modules = {base.split(".")[0] for base in bases}
         own = {"NAME", "WORD", "END_WORDS", "has_no_form"} | set(os.listdir(os.path.join(TOP, "crates")))
         self.assertEqual(sorted(words - own - known - modules), [])
 
-    def test_all_places_of_an_end_word_are_named(self):
-        table = RECIPES.split("| crate | what has to say")[1].split("\n\n")[0]
+    def test_all_crates_of_an_end_word_are_named(self):
+        table = RECIPES.split("| crate | what it has to say of the word |")[1].split("\n\n")[0]
+        crates = set()
         for path, text in files_of_crates().items():
-            crate = os.path.relpath(path, os.path.join(TOP, "crates")).split(os.sep)[0]
-            part = path.split(os.sep)[-2]
-            if re.search(r"\bEndWord\b", text) and part in ("src", "specs") and not path.endswith("lib.rt"):
-                row = next((row for row in table.split("\n") if row.startswith(f"| `{crate}`")), "")
-                name = os.path.basename(path)
-                self.assertTrue(name in row or f"`{name.split('.')[0]}`" in row, f"{path} is not named")
+            if re.search(r"\bEndWord\b", text) and "proofs" not in path.split(os.sep):
+                crates.add(os.path.relpath(path, os.path.join(TOP, "crates")).split(os.sep)[0])
+        self.assertEqual(sorted(re.findall(r"^\| `(\w+)` \|", table, re.MULTILINE)), sorted(crates))
 
     @unittest.skipUnless(git("rev-parse", "HEAD"), "git is missing here")
     def test_the_commits_are_those_of_the_history(self):
