@@ -98,7 +98,8 @@ def unused_predicates(uses):
         if name not in uses.needed and name not in uses.made:
             said = "is never used"
         elif name not in uses.made:
-            said = "is asked, and no clause says it" if name in uses.backward else "is needed, and nothing makes it"
+            backward = name in uses.backward
+            said = "is asked, and no clause says it" if backward else "is needed, and nothing makes it"
         elif name not in uses.needed and name in uses.backward:
             said = "is said by clauses and never asked"
         elif name not in uses.needed and name not in uses.put:

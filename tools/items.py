@@ -7,8 +7,11 @@ from language import KINDS
 
 @dataclass(frozen=True)
 class Item:
-    """An item, or a rule of a stage: its kind (`type`, `predicate`, `constructor`, `clause`, `rule`,
-    `stage`, `context`, `interactive` or `trace`), its tokens, and the stage in whose braces it is."""
+    """An item, or a rule of a stage: its kind, its tokens, and the stage in whose braces it is.
+
+    Kinds are `type`, `predicate`, `constructor`, `clause`, `rule`, `stage`, `context`, `interactive`
+    and `trace`.
+    """
 
     kind: str
     tokens: tuple

@@ -14,7 +14,7 @@ def script(name, work):
     """The status of a script: what its work answers, once all that it wrote is where it belongs.
 
     A pipe that closes ends the script in silence, as it ends other commands. What cannot be read,
-    run or written is told in one line. A letter that the output cannot show is written by its number.
+    run or written is told in one line. What the output cannot show is written by its number.
     """
     if hasattr(signal, "SIGPIPE"):
         signal.signal(signal.SIGPIPE, signal.SIG_DFL)

@@ -1,6 +1,7 @@
 """The place at which a text is refused, and what stands around it."""
 
 from bisect import bisect_left
+from copy import copy
 from dataclasses import dataclass
 
 from language import KINDS, declarations, tokens
@@ -32,6 +33,13 @@ class Place:
         where, _, reason = line.removeprefix("refused ").split()
         row, column = (int(number) for number in where.split(":"))
         return cls(text, reason, row, column)
+
+    def moved(self, token):
+        """The place of another token of the same text."""
+        there = copy(self)
+        there.line, there.column, there.start = token.line, token.column, token.start
+        there.index = bisect_left([other.start for other in self.tokens], token.start)
+        return there
 
     def at(self, ahead):
         """The text of the token so many places after the refused one, or nothing."""
@@ -130,7 +138,8 @@ class Place:
                 return self.token(ahead + 1) if ahead < -1 else None
             if self.kind(ahead) not in VALUES and word not in ("(", ")"):
                 return None
-            is_argument = self.kind(ahead - 1) in VALUES or self.at(ahead - 1) in ("(", ")")
+            earlier = self.token(ahead - 1)
+            is_argument = earlier and (earlier.kind in VALUES or earlier.text in ("(", ")"))
             if depth == 0 and not is_argument:
                 return self.token(ahead) if self.kind(ahead) == "name" else None
         return None

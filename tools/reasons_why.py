@@ -1,7 +1,7 @@
 """Why a rule is or is not offered in a state, as the program says it of small worlds.
 
-Each world has the types, predicates and clauses of the real one, the state as its start, and one rule
-with the first premises of the rule that is asked about: its offers are the ways to meet these.
+Each world has the types, predicates and clauses of the real one, the state as its start, and one
+rule with the first premises of the rule that is asked about: its offers are the ways to meet these.
 """
 
 import tempfile
@@ -105,7 +105,8 @@ class Question:
             for premise in premises
         )
         rule = f"\nstage why = {{ why : {left} -o (). }}\n#interactive why.\n"
-        return [values_of(words_of(offer)[1:]) for offer in self.offers(text + rule + self.start("why"))]
+        offers = self.offers(text + rule + self.start("why"))
+        return [values_of(words_of(offer)[1:]) for offer in offers]
 
     def rule(self, name):
         """The item of a rule, and the name under which it is offered."""

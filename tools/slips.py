@@ -5,9 +5,13 @@ each slip only has to say where its token may be missing; whether it is there th
 """
 
 from dataclasses import dataclass
+from itertools import islice
 
 from language import KINDS, RESERVED
 from place import VALUES
+
+# How many edits of a slip are tried at most.
+MOST = 40
 
 # Marks after which an atom of a side, a context or a clause stands.
 JOINTS = (":", "*", "-o", "<-", ",", "{", "}", ".", "$")
@@ -346,7 +350,7 @@ def tried(place, refusal_of):
     if place.reason not in TRIED and place.source(1) != ";":
         return None
     for cause, edits in SLIPS:
-        for edit in edits(place):
+        for edit in islice(edits(place), MOST):
             if edit in seen:
                 continue
             seen.add(edit)

@@ -130,7 +130,7 @@ def variable_types(place, name):
     """Each place of a variable in the item at the place, with the type that is wanted there."""
     for token in place.item():
         if token.text == name:
-            there = type(place)(place.text, place.reason, token.line, token.column)
+            there = place.moved(token)
             head = there.head()
             yield token, type_at(there, head) if head else ""
 

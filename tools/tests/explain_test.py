@@ -1,6 +1,7 @@
 """Each text of `explain/` is refused, and explained as the file beside it says.
 
-Where the explanation was changed, `tools/explain NAME.cep >NAME.told` in that folder writes it anew.
+Where the explanation was changed, `tools/explain NAME.cep >NAME.told` in that folder
+writes it again.
 """
 
 import os

@@ -1,4 +1,4 @@
-"""Slips of a token, over all worlds: nearly all are told with the right cause, and none with a false one."""
+"""Slips of a token, over all worlds: nearly all are told right, and none with a false cause."""
 
 import os
 import unittest
