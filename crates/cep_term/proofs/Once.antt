@@ -50,10 +50,6 @@ find_held test (e ∷ es) q = grind (arith, find_held test es q, same_atom q e.0
 got_once : (test : AtomTree → Bool) (bag : Multiset) (a : AtomTree) → finite.get (once test bag) a ≡ option_map (held (test a)) (finite.get bag a)
 got_once test bag a = rw (finite.get-entries (once test bag) a, entries_once, find_held, finite.get-entries bag a)
 
-pub held_few : (test : Bool) (n : ℕ) → held test n ≤ n
-held_few true n = omega arith
-held_few false n = omega arith
-
 pub count_once : (test : AtomTree → Bool) (bag : Multiset) (a : AtomTree) → count_of (once test bag) a ≡ held (test a) (count_of bag a)
 count_once test bag a = grind (arith, got_once test bag a)
 

@@ -1,5 +1,5 @@
 -- The laws of multisets on which proofs of other crates rest.
-use Rattle.std.specs.Prelude.{◌≡◌, ◌≢◌, ◌⊎◌, ℕ, ◌+◌, ◌-◌, ◌*◌, ◌≤◌, ◌<◌, ◌↔◌, Bool, true, false, List, ◌++◌, length, sum_by, slice_get, Some, Contains}
+use Rattle.std.specs.Prelude.{◌≡◌, ◌≢◌, ℕ, ◌+◌, ◌-◌, ◌*◌, ◌≤◌, ◌<◌, ◌↔◌, Bool, true, false, List, ◌++◌, length, sum_by, slice_get, Some, Contains}
 use Rattle.std.specs.List.{AllByRecursion}
 use Rattle.std.specs.declared.cmp.Ordering.TheVariants.{Less}
 use Rattle.std.specs.Cmp.{IsTotalOrder}
@@ -13,8 +13,6 @@ pub record BagLaws : Type 0 where
   -- the order of atoms, in which the entries stand
   pub total : IsTotalOrder atom_cmp
   pub ties : finite.IsAntisymmetric atom_cmp
-  -- two atoms are one or not
-  pub apart : (a b : AtomTree) → (a ≡ b) ⊎ (a ≢ b)
   -- the multiset without atoms
   pub empty : (a : AtomTree) → count_of finite.empty a ≡ 0
   pub empty_copies : copies_in finite.empty ≡ 0
@@ -31,7 +29,6 @@ pub record BagLaws : Type 0 where
   pub within : (bag : Multiset) (a : AtomTree) → count_of bag a ≤ copies_in bag
   -- sums and differences
   pub sum : (bag other : Multiset) (a : AtomTree) → count_of (sum_of bag other) a ≡ count_of bag a + count_of other a
-  pub sum_alone : (bag : Multiset) → IsBag bag → sum_of finite.empty bag ≡ bag
   pub sum_copies : (bag other : Multiset) → copies_in (sum_of bag other) ≡ copies_in bag + copies_in other
   pub sum_nodes : (bag other : Multiset) → nodes_in_all (sum_of bag other) ≡ nodes_in_all bag + nodes_in_all other
   pub sum_kept : (bag other : Multiset) → IsBag bag → IsBag other → IsBag (sum_of bag other)
@@ -54,7 +51,6 @@ pub record BagLaws : Type 0 where
   pub sum_with_one : (bag other : Multiset) (a : AtomTree) → IsGroundAtom a → IsBag bag → IsBag other → sum_of (with_one bag a) other ≡ with_one (sum_of bag other) a
   pub joined_count : (xs ys : List AtomTree) (a : AtomTree) → count_of (gathered (xs ++ ys)) a ≡ count_of (gathered xs) a + count_of (gathered ys) a
   -- atoms that are held once
-  pub held_few : (test : Bool) (n : ℕ) → held test n ≤ n
   pub once_count : (test : AtomTree → Bool) (bag : Multiset) (a : AtomTree) → count_of (once test bag) a ≡ held (test a) (count_of bag a)
   pub once_kept : (test : AtomTree → Bool) (bag : Multiset) → IsBag bag → IsBag (once test bag)
   pub once_copies : (test : AtomTree → Bool) (bag : Multiset) → ((a : AtomTree) → finite.get bag a ≢ Some 0) → (a : AtomTree) → finite.get (once test bag) a ≢ Some 0

@@ -1,6 +1,6 @@
 //! Laws of terms, matching and multisets, for the crates that rest on them. Each function
 //! computes nothing, and its contract is the law.
-ghost use Rattle.std.specs.Prelude.{◌≡◌, ℕ};
+ghost use Rattle.std.specs.Prelude.{◌≡◌, ◌≢◌, ◌⊎◌, ℕ};
 ghost use Rattle.std.specs.Cmp.{IsTotalOrder};
 ghost use Rattle.std.specs.FinMap as finite;
 ghost use Rattle.cep_term.specs.Tree.{Tree, AtomTree, variable, IsGroundAtom, OccursIn};
@@ -15,6 +15,12 @@ pub fn order_is_total()
     ensures equal_terms { finite.IsAntisymmetric tree_cmp }
     ensures atoms { IsTotalOrder atom_cmp }
     ensures equal_atoms { finite.IsAntisymmetric atom_cmp }
+{}
+
+/// Two atoms are one or not. It stands apart from the laws of multisets, since where it is at hand
+/// proofs that look for cases find too many.
+pub fn atoms_are_one_or_not()
+    ensures { (a b : AtomTree) → (a ≡ b) ⊎ (a ≢ b) }
 {}
 
 /// What instances of ground atoms and of instances are, and on what an instance depends.

@@ -1,16 +1,14 @@
-use Rattle.cep_term.proofs.OrderLaws.{atom_cmp_total, atom_cmp_ties, atoms_apart}
+use Rattle.cep_term.proofs.OrderLaws.{atom_cmp_total, atom_cmp_ties}
 use Rattle.cep_term.proofs.Multisets.{count_empty, copies_empty, nodes_empty, bag_empty, count_set_own, count_set_other, copies_set_count, nodes_set_count, bag_set_count, same_counts, count_le_copies, count_sum, copies_sum, nodes_sum, bag_sum, sum_commutes, sum_groups, count_difference, bag_difference, sum_of_difference, difference_of_sum, bag_gathered, gathered-append, sum_with_one}
 use Rattle.cep_term.proofs.Gathered.{gathered_copies, gathered_nodes, gathered_there}
 use Rattle.cep_term.proofs.EntryPlaces.{earlier_is_less, entry_counted, entry_there}
-use Rattle.cep_term.proofs.Additions.{sum_alone}
-use Rattle.cep_term.proofs.Once.{held_few, count_joined, count_once, bag_once, copies_once, same_once, gains_all, ground_gained, count_others, count_single, once_gathered, gained_alike, gained_among, gained_few}
+use Rattle.cep_term.proofs.Once.{count_joined, count_once, bag_once, copies_once, same_once, gains_all, ground_gained, count_others, count_single, once_gathered, gained_alike, gained_among, gained_few}
 use Rattle.cep_term.proofs.laws.bags_are_lawful.Goals as goal
 
 pub returns : goal.returns
 returns c = record {
   total = atom_cmp_total;
   ties = atom_cmp_ties;
-  apart = atoms_apart;
   empty = count_empty;
   empty_copies = copies_empty;
   empty_nodes = nodes_empty;
@@ -23,7 +21,6 @@ returns c = record {
   equal = same_counts;
   within = count_le_copies;
   sum = count_sum;
-  sum_alone = sum_alone;
   sum_copies = copies_sum;
   sum_nodes = nodes_sum;
   sum_kept = bag_sum;
@@ -43,7 +40,6 @@ returns c = record {
   gathered_there = gathered_there;
   sum_with_one = sum_with_one;
   joined_count = count_joined;
-  held_few = held_few;
   once_count = count_once;
   once_kept = bag_once;
   once_copies = copies_once;
