@@ -32,7 +32,7 @@ def capital_thing(place):
 def small_variable(place):
     """A name of one letter, or one that stands with a capital letter in the same rule."""
     name = place.at(0)
-    if not place.index or place.at(-1) in ("#interactive", "#trace", "stage", ":"):
+    if place.head() is None:
         return False
     others = {token.text for token in place.item() if token.kind == "variable"}
     in_rule = any(token.text in ("-o", "<-") for token in place.item())

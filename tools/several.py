@@ -2,9 +2,11 @@
 
 from clash import without
 from items import Item
+from place import Place
 from telling import Refusal
 
-MOST = 10
+# How many refusals are told, and how often the program is asked for one.
+MOST, MOST_ASKED = 10, 40
 
 # After these the rest of the text is not judged: it is no text of the language, or too long.
 LAST = ("NoTrace", "TooLong")
@@ -13,28 +15,31 @@ LAST = ("NoTrace", "TooLong")
 def refusals(text, line, refusal_of):
     """The refusals of a text, the first by this line of the program, at most ten."""
     found, gone = [], set()
-    while line and len(found) < MOST:
-        refusal = Refusal.of(text, line)
-        place = refusal.place
-        # What was taken out may be missed elsewhere: that is no fault of the text.
-        if place.at(0) in gone or any(place.line == other.place.line for other in found):
+    for _ in range(MOST_ASKED):
+        if not line or len(found) == MOST:
             break
-        found.append(refusal)
-        if place.reason in LAST:
-            break
-        edit = refusal.likely.edit
+        place = Place.of(text, line)
+        edit = None
+        # What was taken out may be missed elsewhere, and a line is told of once.
+        if place.at(0) not in gone and place.line not in [other.place.line for other in found]:
+            found.append(Refusal.of(text, line))
+            edit, line = found[-1].likely.edit, found[-1].likely.next_line
         if edit:
-            text, line = edit.of(text), refusal.likely.next_line
-        else:
-            text = passed_over(text, place, gone)
-            line = refusal_of(text)
+            text = edit.of(text)
+            continue
+        before, text = text, passed_over(text, place, gone)
+        if place.reason in LAST or text == before:
+            break
+        line = refusal_of(text)
     return found
 
 
 def passed_over(text, place, gone):
-    """The text without the item at the place; the names that stood in it are noted."""
+    """The text without the item at the place, or without what is no token in its line; the name
+    that stood first in the item is noted."""
     if place.reason == "BadByte":
-        return text[: place.start] + " " + text[place.start + 1 :]
+        bad = {t.start for t in place.tokens if t.kind == "bad" and t.line == place.line}
+        return "".join(" " if at in bad else letter for at, letter in enumerate(text))
     first, last = place.bounds()
     part = tuple(place.tokens[first:last])
     if part and part[-1].text == "}":

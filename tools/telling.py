@@ -99,6 +99,8 @@ class Refusal:
         """The same in one line, as compilers write it."""
         place = self.place
         said = f"{place.reason}: {self.meaning}"
+        if place.reason == "OverLimit":
+            said += f"; {limit(place)}"
         if self.likely.cause:
             said += f"; likely {self.likely.cause}"
         if self.tried():

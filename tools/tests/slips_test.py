@@ -1,11 +1,8 @@
 """Slips of a token, over all worlds: nearly all are told right, and none with a false cause."""
 
-import os
 import unittest
 
-from setting import TOOLS, module_of
-
-slips = module_of(os.path.join(TOOLS, "tests", "measure_slips"))
+import measure_slips as slips
 
 
 class Slips(unittest.TestCase):

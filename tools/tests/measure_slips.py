@@ -8,7 +8,7 @@ import os
 import random
 import sys
 from collections import Counter
-from concurrent.futures import ThreadPoolExecutor
+from multiprocessing import get_context
 
 from setting import WORLDS, world_names
 
@@ -105,7 +105,7 @@ def measured(kind, tries, seed, pool):
     accepted; and a line for each of the others."""
     found, lines = Counter(), []
     slips = list(changed(kind, tries, seed))
-    for (where, right, _), answer in zip(slips, pool.map(lambda slip: told(slip[2]), slips)):
+    for (where, right, _), answer in zip(slips, pool.map(told, [text for _, _, text in slips])):
         if answer is None:
             found["accepted"] += 1
             continue
@@ -120,7 +120,7 @@ def measured(kind, tries, seed, pool):
 def measure(tries, seed, tell):
     """How many slips of all kinds came out how; each kind is told as it comes."""
     total = Counter()
-    with ThreadPoolExecutor(os.cpu_count()) as pool:
+    with get_context("fork").Pool(os.cpu_count()) as pool:
         for kind in SLIPS:
             found, lines = measured(kind, tries, seed, pool)
             total += found
