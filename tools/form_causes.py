@@ -129,7 +129,7 @@ def kept_elsewhere(place):
 
 
 def reserved_name(place):
-    """A declaration that begins with `stage` or `context` is told behind that word."""
+    """A declaration that begins with `stage` or `context` is refused after that word."""
     return any(place.at(ahead) in RESERVED for ahead in (0, -1, -2))
 
 

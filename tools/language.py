@@ -252,7 +252,7 @@ class Reader:
         return self.argument()
 
     def rule(self, world, name, first):
-        """A rule behind its label: the sides, with `qui` and stages passed over."""
+        """A rule after its label: the sides, with `qui` and stages passed over."""
         self.blanks = 0
         rule = Rule(name, "")
         while not self.skip("-o"):
@@ -353,7 +353,7 @@ class Reader:
         world.clauses.append(self.source(first))
 
     def declares(self, world, names):
-        """Whether these names and what stands behind their colon declare something."""
+        """Whether these names and what stands after their colon declare something."""
         after = self.peek(names + 1)
         if self.peek(names + 2).text != ".":
             return False

@@ -3,7 +3,6 @@
 import re
 from difflib import get_close_matches
 
-from form_causes import ends_unfinished
 from language import KINDS
 
 

@@ -49,7 +49,7 @@ def run(*words, typed=b""):
 def refusal(world):
     """The line by which a world is refused, or None where it is accepted.
 
-    An empty transcript is refused without a run, and only behind an accepted world.
+    An empty transcript is refused without a run, and only after an accepted world.
     """
     status, lines = run("check", world, os.devnull)
     if status == REFUSED and lines:
