@@ -1,0 +1,28 @@
+-- What a claim that is kept says of runs.
+use Rattle.std.proofs.Common.{◌≡◌, ℕ, List, refl, ℤ, ◌+ℤ◌, ◌-ℤ◌}
+use Rattle.cep_term.specs.Tree.{Tree}
+use Rattle.cep_term.specs.Multiset.{Multiset}
+use Rattle.cep_rule.specs.declared.rule.Rule.{Rule}
+use Rattle.cep_rule.specs.declared.parts.Parts.{Parts}
+use Rattle.cep_rule.specs.Step.{Step}
+use Rattle.cep_weigh.specs.declared.weight.Claim.{Claim}
+use Rattle.cep_weigh.specs.declared.weight.Claim.TheVariants.{Keep, Most, Fall}
+use Rattle.cep_weigh.specs.declared.weight.Part.{Part}
+use Rattle.cep_weigh.specs.Weights.{weight_of, left_sum, right_sum, IsKept, AreNotNegative}
+use Rattle.cep_weigh.specs.WeightRuns.{GoesAsClaimed, HoldsOfRun, HoldsOfRuns}
+use Rattle.cep_weigh.proofs.Runs.{run_claimed, run_keeps, run_ends}
+use Rattle.cep_weigh.proofs.Factors.{copies_bounded}
+
+run_holds : (claim : Claim) (parts : List Part) (state : Multiset) (run : List Multiset) → (claim ≡ Fall → AreNotNegative parts) → GoesAsClaimed claim parts state run → HoldsOfRun claim parts state run
+run_holds Keep parts state run signs goes = run_keeps parts state run goes
+run_holds Most parts state run signs goes = goes
+run_holds Fall parts state run signs goes = run_ends parts state run (signs refl) goes
+
+pub claims_hold : (program : Parts) (claim : Claim) (parts : List Part)
+    → ((rule : Rule) (values : List Tree) (old new : Multiset) → Step program.signature rule values old new → weight_of parts new ≡ weight_of parts old +ℤ (right_sum parts rule -ℤ left_sum parts rule))
+    → (claim ≡ Fall → AreNotNegative parts) → IsKept program claim parts → HoldsOfRuns program claim parts
+claims_hold program claim parts changes signs kept = record {
+  runs = λ run is. run_holds claim parts program.start run signs (run_claimed program claim parts changes kept program.start run is);
+  bounds = λ some run is part later weight factor there is_factor is_weight in_run.
+      copies_bounded claim parts part program.start later run weight factor (run_claimed program claim parts changes kept program.start run is) some there is_factor is_weight in_run;
+}

@@ -1,0 +1,96 @@
+-- What a step does to the copies of a linear predicate.
+use Rattle.std.proofs.Common.{◌≡◌, ℕ, ◌+◌, Bool, true, false, cond, not, ◌&&◌, ◌||◌, ◌==◌, List, [], ◌∷◌, ◌++◌, map, Some, None, refl, sym, ap, subst, ◌∙◌, arith, IsSomeAnd, slice_get}
+use Rattle.std.specs.Prelude.{filter, count_by, option_map, unwrap_or, Option}
+use Rattle.std.proofs.lemmas.Bool.{eqb-true, false≢true}
+use Rattle.std.proofs.lemmas.List.{map-append}
+use Rattle.std.proofs.lemmas.List.Sums.{sum_by-cons, sum_by-append}
+use Rattle.cep_base.specs.declared.kind.PredKind.TheVariants.{Linear}
+use Rattle.cep_base.specs.Kinds.{is_of_facts}
+use Rattle.cep_term.specs.Tree.{Tree, AtomTree}
+use Rattle.cep_term.specs.BagLaws.{BagLaws}
+use Rattle.cep_term.specs.Multiset.{Multiset, gathered, sum_of, once}
+use Rattle.cep_rule.specs.declared.signature.Signature.{Signature}
+use Rattle.cep_rule.specs.declared.signature.PredDecl.{PredDecl}
+use Rattle.cep_rule.specs.declared.rule.Rule.{Rule}
+use Rattle.cep_rule.specs.Patterns.{PremiseTree}
+use Rattle.cep_rule.specs.Binding.{needed_of}
+use Rattle.cep_rule.specs.Typing.{is_fact}
+use Rattle.cep_rule.specs.Instances.{full_instance, full_instances, kept_of, left_of, right_of}
+use Rattle.cep_rule.specs.Step.{Step}
+use Rattle.cep_weigh.specs.Weights.{copies_of, used_of, made_of}
+use Rattle.cep_weigh.proofs.CopiesOf.{copies_sum, copies_gathered, copies_once}
+
+-- The predicate is declared and linear.
+abbrev pub IsLinear : Signature → ℕ → Type 0
+IsLinear signature pred = IsSomeAnd (slice_get signature.preds pred) (λ decl. decl.kind ≡ Linear)
+
+abbrev of_pred : ℕ → AtomTree → Bool
+of_pred pred a = a.pred == pred
+
+-- no atom of it is a fact
+pub linear_is_no_fact : (signature : Signature) (pred : ℕ) → IsLinear signature pred → (a : AtomTree) → of_pred pred a ≡ true → is_fact signature a ≡ false
+linear_is_no_fact signature pred linear a is = by (slice_get signature.preds a.pred) (subst (IsLinear signature) (sym (eqb-true a.pred pred is)) linear)
+  where
+    by : (found : Option PredDecl) → IsSomeAnd found (λ decl. decl.kind ≡ Linear) → unwrap_or (option_map (λ decl. is_of_facts decl.kind) found) false ≡ false
+    by None there = absurd there
+    by (Some decl) there = ap is_of_facts there
+
+-- an instance has the predicate of its pattern
+instance_preds : (values : List Tree) (pred : ℕ) (atoms : List AtomTree) → count_by (of_pred pred) (full_instances values atoms) ≡ count_by (of_pred pred) atoms
+instance_preds values pred [] = refl
+instance_preds values pred (a ∷ atoms) =
+    let one = sum_by-cons (λ x. cond (of_pred pred x) 1 0) a atoms in
+    let other = sum_by-cons (λ x. cond (of_pred pred x) 1 0) (full_instance values a) (full_instances values atoms) in
+    omega (arith, instance_preds values pred atoms)
+
+module _ (laws : BagLaws) (signature : Signature) (pred : ℕ) (linear : IsLinear signature pred) where
+  side_copies : (values : List Tree) (atoms : List AtomTree) (rest : Multiset) → copies_of (once (is_fact signature) (sum_of (once (is_fact signature) (gathered (full_instances values atoms))) rest)) pred ≡ count_by (of_pred pred) atoms + copies_of rest pred
+  side_copies values atoms rest =
+      let apart = linear_is_no_fact signature pred linear in
+      copies_once (is_fact signature) pred apart _
+      ∙ copies_sum laws (once (is_fact signature) (gathered (full_instances values atoms))) rest pred
+      ∙ ap (λ n. n + copies_of rest pred) (copies_once (is_fact signature) pred apart _ ∙ copies_gathered laws (full_instances values atoms) pred ∙ instance_preds values pred atoms)
+
+  abbrev atom_in : PremiseTree → AtomTree
+  atom_in premise = premise.atom
+
+  abbrev is_kept : PremiseTree → Bool
+  is_kept premise = premise.kept || is_fact signature premise.atom
+
+  abbrev is_used : PremiseTree → Bool
+  is_used premise = not premise.kept && (of_pred pred premise.atom)
+
+  -- each premise of the predicate is kept or is used up
+  parted : (premises : List PremiseTree) → count_by (of_pred pred) (map atom_in premises) ≡ count_by (of_pred pred) (map atom_in (filter is_kept premises)) + count_by is_used premises
+  parted [] = refl
+  parted (premise ∷ premises) =
+      let needed = sum_by-cons (λ x. cond (of_pred pred x) 1 0) premise.atom (map atom_in premises) in
+      let kept = sum_by-cons (λ x. cond (of_pred pred x) 1 0) premise.atom (map atom_in (filter is_kept premises)) in
+      let used = sum_by-cons (λ x. cond (is_used x) 1 0) premise premises in
+      by premise.kept (is_fact signature premise.atom) (of_pred pred premise.atom) (linear_is_no_fact signature pred linear premise.atom) (parted premises) needed kept used
+    where
+      all : ℕ
+      all = count_by (of_pred pred) (map atom_in premises)
+
+      kept_rest : ℕ
+      kept_rest = count_by (of_pred pred) (map atom_in (filter is_kept premises))
+
+      by : (k f p : Bool) → (p ≡ true → f ≡ false) → all ≡ kept_rest + count_by is_used premises
+          → count_by (of_pred pred) (map atom_in (premise ∷ premises)) ≡ cond p 1 0 + all
+          → count_by (of_pred pred) (map atom_in (premise ∷ filter is_kept premises)) ≡ cond p 1 0 + kept_rest
+          → count_by is_used (premise ∷ premises) ≡ cond (not k && p) 1 0 + count_by is_used premises
+          → count_by (of_pred pred) (map atom_in (premise ∷ premises)) ≡ count_by (of_pred pred) (map atom_in (cond (k || f) (premise ∷ filter is_kept premises) (filter is_kept premises))) + count_by is_used (premise ∷ premises)
+      by true f true apart rest needed kept used = omega arith
+      by true f false apart rest needed kept used = omega arith
+      by false true true apart rest needed kept used = absurd (false≢true (sym (apart refl)))
+      by false true false apart rest needed kept used = omega arith
+      by false false true apart rest needed kept used = omega arith
+      by false false false apart rest needed kept used = omega arith
+
+  -- a step takes what is used up, and puts what is made
+  pub step_copies : (rule : Rule) (values : List Tree) (old new : Multiset) → Step signature rule values old new → copies_of new pred + used_of rule pred ≡ copies_of old pred + made_of rule pred
+  step_copies rule values old new step =
+      let before : copies_of old pred ≡ count_by (of_pred pred) (needed_of rule) + copies_of step.rest pred = ap (λ (bag : Multiset). copies_of bag pred) step.before ∙ side_copies values (needed_of rule) step.rest in
+      let after : copies_of new pred ≡ count_by (of_pred pred) (rule.right ++ kept_of signature rule) + copies_of step.rest pred = ap (λ (bag : Multiset). copies_of bag pred) step.after ∙ side_copies values (rule.right ++ kept_of signature rule) step.rest in
+      let both = sum_by-append (λ x. cond (of_pred pred x) 1 0) rule.right (kept_of signature rule) in
+      omega (arith, parted rule.premises)

@@ -1,0 +1,123 @@
+-- What the copies of a multiset are worth, by any function that is nothing for no copies: after a count is set, in a sum, and of a list that is gathered.
+use Rattle.std.proofs.Common.{◌≡◌, T, ℕ, ◌+◌, ◌<◌, Bool, true, false, cond, not, ◌&&◌, ◌==◌, List, [], ◌∷◌, Option, Some, None, unwrap_or, refl, sym, ap, subst, ◌∙◌, arith}
+use Rattle.std.specs.Prelude.{sum_by, fold}
+use Rattle.std.proofs.lemmas.Bool.{eqb-true, eqb-false}
+use Rattle.std.proofs.lemmas.List.Sums.{sum_by-cons}
+use Rattle.std.specs.declared.cmp.Ordering.{Ordering}
+use Rattle.std.specs.declared.cmp.Ordering.TheVariants.{Less, Equal, Greater}
+use Rattle.std.specs.Ordering.{is_eq, is_lt, eq_by_cmp}
+use Rattle.std.specs.Cmp.{eq_by_cmp_equiv, alike_right}
+use Rattle.std.specs.FinMap as finite
+use Rattle.std.specs.FinMap.Entries.{find, put, where_key, below_all, by_order, is_sorted, is_sorted-put, is_sorted-where_key, find-where_key}
+use Rattle.cep_term.specs.Tree.{AtomTree}
+use Rattle.cep_term.specs.Order.{atom_cmp}
+use Rattle.cep_term.specs.BagLaws.{BagLaws}
+use Rattle.cep_term.specs.Multiset.{Multiset, count_of, with_count, sum_of}
+use Rattle.cep_term.specs.Entries.{IsRising, find_count}
+
+abbrev pub Counted : Type 0
+Counted = AtomTree × ℕ
+
+is_true : (b : Bool) → T b → b ≡ true
+is_true true h = refl
+is_true false h = absurd h
+
+and_parts : (a b : Bool) → (a && b) ≡ true → (a ≡ true) × (b ≡ true)
+and_parts true b e = (refl, e)
+and_parts false b e = cc
+
+is_less : (r : Ordering) → is_lt r ≡ true → r ≡ Less
+is_less Less e = refl
+is_less Equal e = cc
+is_less Greater e = cc
+
+-- the entries without the atom's
+abbrev without : AtomTree → List Counted → List Counted
+without a es = where_key atom_cmp (λ b. not (eq_by_cmp atom_cmp a b)) es
+
+turned : (b : Bool) (o : Option ℕ) → cond (not b) o None ≡ cond b None o
+turned true o = refl
+turned false o = refl
+
+module _ (laws : BagLaws) where
+  below_further : (a b : AtomTree) (es : List Counted) → atom_cmp a b ≡ Less → below_all atom_cmp b es ≡ true → below_all atom_cmp a es ≡ true
+  below_further a b [] less h = refl
+  below_further a b (e ∷ es) less h =
+      let parts = and_parts (is_lt (atom_cmp b e.0)) (below_all atom_cmp b es) h in
+      ap (λ r. is_lt r && below_all atom_cmp a es) (laws.total.trans a b e.0 less (is_less (atom_cmp b e.0) parts.0)) ∙ below_further a b es less parts.1
+
+  find_below : (a : AtomTree) (es : List Counted) → below_all atom_cmp a es ≡ true → find atom_cmp a es ≡ None
+  find_below a [] h = refl
+  find_below a (e ∷ es) h =
+      let parts = and_parts (is_lt (atom_cmp a e.0)) (below_all atom_cmp a es) h in
+      ap (λ r. cond (is_eq r) (Some e.1) (find atom_cmp a es)) (is_less (atom_cmp a e.0) parts.0) ∙ find_below a es parts.1
+
+  keep_below : (a : AtomTree) (es : List Counted) → below_all atom_cmp a es ≡ true → without a es ≡ es
+  keep_below a [] h = refl
+  keep_below a (e ∷ es) h =
+      let parts = and_parts (is_lt (atom_cmp a e.0)) (below_all atom_cmp a es) h in
+      ap (λ r. cond (not (is_eq r)) (e ∷ without a es) (without a es)) (is_less (atom_cmp a e.0) parts.0) ∙ ap (λ z. e ∷ z) (keep_below a es parts.1)
+
+  -- the entries after a count is set
+  entries_removed : (bag : Multiset) (a : AtomTree) → finite.entries (finite.remove bag a) ≡ without a (finite.entries bag)
+  entries_removed bag a =
+      let es = finite.entries bag in
+      let rises : T (is_sorted atom_cmp (without a es)) = is_sorted-where_key atom_cmp (λ b. not (eq_by_cmp atom_cmp a b)) es (finite.entries_sorted bag) in
+      ap (λ (z : Multiset). finite.entries z) (finite.same_map laws.total laws.ties (finite.remove bag a) (finite.from_sorted (without a es)) (λ q.
+          finite.get-remove laws.total bag a q
+          ∙ sym (finite.get-from_sorted atom_cmp (without a es) q rises
+          ∙ find-where_key atom_cmp (λ b. not (eq_by_cmp atom_cmp a b)) q (λ x tied. ap (λ r. not (is_eq r)) (sym (alike_right laws.total q x a tied))) es
+          ∙ turned (eq_by_cmp atom_cmp a q) (find atom_cmp q es)
+          ∙ ap (λ b. cond b None (find atom_cmp q es)) ((eq_by_cmp_equiv laws.total).symm a q)
+          ∙ ap (λ o. cond (eq_by_cmp atom_cmp q a) None o) (sym (finite.get-entries bag q)))))
+      ∙ finite.entries-from_sorted atom_cmp (without a es) rises
+
+  module _ (worth : AtomTree → ℕ → ℕ) (nothing : (a : AtomTree) → worth a 0 ≡ 0) where
+    abbrev pub worth_of : List Counted → ℕ
+    worth_of es = sum_by (λ e. worth e.0 e.1) es
+
+    worth_of-cons : (e : Counted) (es : List Counted) → worth_of (e ∷ es) ≡ worth e.0 e.1 + worth_of es
+    worth_of-cons e es = sum_by-cons (λ (d : Counted). worth d.0 d.1) e es
+
+    worth_none : (a : AtomTree) (es : List Counted) → below_all atom_cmp a es ≡ true → worth a (find_count es a) ≡ 0
+    worth_none a es below = ap (λ o. worth a (unwrap_or o 0)) (find_below a es below) ∙ nothing a
+
+    worth_put : (es : List Counted) (a : AtomTree) (n : ℕ) → IsRising es → worth_of (put atom_cmp a n es) + worth a (find_count es a) ≡ worth_of es + worth a n
+    worth_put [] a n rising = omega (arith, worth_of-cons (a, n) [], nothing a)
+    worth_put (e ∷ es) a n rising =
+        let parts = and_parts (below_all atom_cmp e.0 es) (is_sorted atom_cmp es) rising in
+        elim (atom_cmp a e.0) as (λ r. atom_cmp a e.0 ≡ r → worth_of (by_order r ((a, n) ∷ e ∷ es) ((e.0, n) ∷ es) (e ∷ put atom_cmp a n es)) + worth a (unwrap_or (cond (is_eq r) (Some e.1) (find atom_cmp a es)) 0) ≡ worth_of (e ∷ es) + worth a n) [
+          | Less ↦ λ less. omega (arith, worth_of-cons (a, n) (e ∷ es), worth_none a es (below_further a e.0 es less parts.0))
+          | Equal ↦ λ same. let atoms = laws.ties a e.0 same in omega (arith, worth_of-cons (e.0, n) es, worth_of-cons e es, ap (λ b. worth b n) atoms, ap (λ b. worth b e.1) atoms)
+          | Greater ↦ λ more. omega (arith, worth_of-cons e (put atom_cmp a n es), worth_of-cons e es, worth_put es a n parts.1)
+        ] refl
+
+    worth_without : (es : List Counted) (a : AtomTree) → IsRising es → worth_of (without a es) + worth a (find_count es a) ≡ worth_of es
+    worth_without [] a rising = omega (arith, nothing a)
+    worth_without (e ∷ es) a rising =
+        let parts = and_parts (below_all atom_cmp e.0 es) (is_sorted atom_cmp es) rising in
+        elim (atom_cmp a e.0) as (λ r. atom_cmp a e.0 ≡ r → worth_of (cond (not (is_eq r)) (e ∷ without a es) (without a es)) + worth a (unwrap_or (cond (is_eq r) (Some e.1) (find atom_cmp a es)) 0) ≡ worth_of (e ∷ es)) [
+          | Less ↦ λ less. omega (arith, worth_of-cons e (without a es), worth_of-cons e es, worth_without es a parts.1)
+          | Equal ↦ λ same.
+              let atoms = laws.ties a e.0 same in
+              let kept = keep_below a es (subst (λ b. below_all atom_cmp b es ≡ true) (sym atoms) parts.0) in
+              omega (arith, ap worth_of kept, worth_of-cons e es, ap (λ b. worth b e.1) atoms)
+          | Greater ↦ λ more. omega (arith, worth_of-cons e (without a es), worth_of-cons e es, worth_without es a parts.1)
+        ] refl
+
+    pub worth_set : (bag : Multiset) (a : AtomTree) (n : ℕ) → worth_of (finite.entries (with_count bag a n)) + worth a (count_of bag a) ≡ worth_of (finite.entries bag) + worth a n
+    worth_set bag a n =
+        let es = finite.entries bag in
+        let rising = is_true (is_sorted atom_cmp es) (finite.entries_sorted bag) in
+        let counted : find_count es a ≡ count_of bag a = ap (λ o. unwrap_or o 0) (sym (finite.get-entries bag a)) in
+        elim (n == 0) as (λ b. (n == 0) ≡ b → worth_of (finite.entries (cond b (finite.remove bag a) (finite.insert bag a n))) + worth a (count_of bag a) ≡ worth_of es + worth a n) [
+          | true ↦ λ e. omega (arith, ap worth_of (entries_removed bag a), worth_without es a rising, ap (worth a) counted, nothing a, ap (worth a) (eqb-true n 0 e))
+          | false ↦ λ e. omega (arith, ap worth_of (finite.entries-insert laws.total bag a n), worth_put es a n rising, ap (worth a) counted)
+        ] refl
+
+    pub worth_sum : ((a : AtomTree) (n m : ℕ) → worth a (n + m) ≡ worth a n + worth a m) → (es : List Counted) (bag : Multiset)
+        → worth_of (finite.entries (fold (λ (so_far : Multiset) e. with_count so_far e.0 (count_of so_far e.0 + e.1)) bag es)) ≡ worth_of (finite.entries bag) + worth_of es
+    worth_sum adds [] bag = omega arith
+    worth_sum adds (e ∷ es) bag =
+        let next = with_count bag e.0 (count_of bag e.0 + e.1) in
+        omega (arith, worth_sum adds es next, worth_set bag e.0 (count_of bag e.0 + e.1), adds e.0 (count_of bag e.0) e.1, worth_of-cons e es)

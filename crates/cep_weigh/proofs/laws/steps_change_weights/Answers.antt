@@ -1,0 +1,5 @@
+use Rattle.cep_weigh.proofs.Runs.{step_weights}
+use Rattle.cep_weigh.proofs.laws.steps_change_weights.Goals as goal
+
+pub returns : goal.returns
+returns c = step_weights c.bags_are_lawful.ensures

@@ -1,0 +1,139 @@
+-- Files of claims: what a line says, or why it says no claim, and what a file says.
+use Rattle.std.specs.Prelude.{Bool, true, false, ◌≡◌, ◌⊎◌, ℕ, ◌+◌, ◌<◌, ◌==◌, List, [], ◌∷◌, ◌++◌, length, map, slice_get, IsSomeAnd, Contains, codes, ℤ, pos, ◌<ℤ◌}
+use Rattle.std.specs.List.{AllByRecursion, slice_split}
+use Rattle.std.specs.Fmt.{signed_decimal}
+use Rattle.bstr.specs.Text.{lines_of, without_terminator}
+use Rattle.cep_base.specs.declared.kind.PredKind.TheVariants.{Linear}
+use Rattle.cep_rule.specs.declared.signature.Signature.{Signature}
+use Rattle.cep_rule.specs.declared.parts.Parts.{Parts}
+use Rattle.cep_rule.specs.Names.{IsName}
+use Rattle.cep_weigh.specs.declared.weight.Claim.{Claim}
+use Rattle.cep_weigh.specs.declared.weight.Claim.TheVariants as claim
+use Rattle.cep_weigh.specs.declared.weight.Part.{Part}
+use Rattle.cep_weigh.specs.declared.weight.Weight.{Weight}
+use Rattle.cep_weigh.specs.declared.fault.KeepFault.{KeepFault}
+use Rattle.cep_weigh.specs.declared.fault.KeepFault.TheVariants.{Keep, KeepName, KeepTwice, KeepSign}
+use Rattle.cep_weigh.specs.declared.written.NamedPart.{NamedPart}
+use Rattle.cep_weigh.specs.declared.written.Written.{Written}
+use Rattle.cep_weigh.specs.Weights.{IsFactor, AreApart, AreNotNegative}
+
+-- the lines of a file of claims: an LF ends a line, and a CR directly before it is dropped; the last line may lack its LF, and then keeps its CR
+abbrev pub claim_lines : List ℕ → List (List ℕ)
+claim_lines bytes = map without_terminator (lines_of bytes)
+
+-- A line that says nothing: it is empty, or begins with `%`.
+abbrev pub SaysNothing : List ℕ → Type 0
+SaysNothing [] = Unit {0}
+SaysNothing (byte ∷ bytes) = byte ≡ 37
+
+-- the words of a line: what stands before, between and after its spaces
+abbrev pub words_of : List ℕ → List (List ℕ)
+words_of line = slice_split (λ byte. byte == 32) line
+
+-- the word of a claim
+abbrev pub claim_word : Claim → List ℕ
+claim_word claim.Keep = codes "keep"
+claim_word claim.Most = codes "most"
+claim_word claim.Fall = codes "fall"
+
+-- the mark before a part: `=` before the first, and `+` before each other
+abbrev pub mark_of : Bool → List ℕ
+mark_of true = codes "="
+mark_of false = codes "+"
+
+-- the words of parts, each its mark, its factor and its name, where the first of them is the first of its sum or not
+abbrev pub parts_words : Bool → List NamedPart → List (List ℕ)
+parts_words first [] = []
+parts_words first (part ∷ parts) = mark_of first ∷ signed_decimal part.factor ∷ part.name ∷ parts_words false parts
+
+-- `keep NAME = SUM`, `most NAME = SUM` or `fall NAME = SUM`
+abbrev pub claim_words : Written → List (List ℕ)
+claim_words written = claim_word written.claim ∷ written.name ∷ parts_words true written.parts
+
+-- A part of a line has a factor and a name.
+pub record IsNamedPart (part : NamedPart) : Type 0 where
+  pub factor : IsFactor part.factor
+  pub name : IsName part.name
+
+-- A claim may be written so: it has a name and some parts.
+pub record IsWritable (written : Written) : Type 0 where
+  pub name : IsName written.name
+  pub some : 0 < length written.parts
+  pub parts : AllByRecursion IsNamedPart written.parts
+
+-- The line is written as this claim.
+pub record IsWrittenAs (line : List ℕ) (written : Written) : Type 0 where
+  pub writable : IsWritable written
+  pub words : words_of line ≡ claim_words written
+
+-- The predicate with this number has the name, and is linear.
+abbrev pub IsLinearNamed : Signature → ℕ → List ℕ → Type 0
+IsLinearNamed signature pred name = IsSomeAnd (slice_get signature.preds pred) (λ decl. (decl.name ≡ name) × (decl.kind ≡ Linear))
+
+-- The parts by numbers are these by names: each has the factor, and its predicate is linear and has the name.
+abbrev pub AreNumbered : Signature → List NamedPart → List Part → Type 0
+AreNumbered signature [] [] = Unit {0}
+AreNumbered signature [] (part ∷ sum) = ⊥
+AreNumbered signature (named ∷ parts) [] = ⊥
+AreNumbered signature (named ∷ parts) (part ∷ sum) = (part.factor ≡ named.factor) × IsLinearNamed signature part.pred named.name × AreNumbered signature parts sum
+
+-- Some part's name is not that of a linear predicate.
+abbrev pub SomeIsUnknown : Signature → List NamedPart → Type 0
+SomeIsUnknown signature parts = (named : NamedPart) × Contains parts named × ((pred : ℕ) → ¬ IsLinearNamed signature pred named.name)
+
+-- An earlier claim has the name.
+abbrev pub IsNamedBefore : List Weight → List ℕ → Type 0
+IsNamedBefore earlier name = Contains (map (λ weight. weight.name) earlier) name
+
+-- After these earlier claims, the line with this number says this claim: it is written so, by names of linear predicates; no earlier claim has its name, and no two parts are of one predicate; and where the weight is to fall no factor is negative.
+pub record IsClaimOf (signature : Signature) (earlier : List Weight) (line : List ℕ) (number : ℕ) (weight : Weight) : Type 0 where
+  pub written : Written
+  pub line_is : IsWrittenAs line written
+  pub number_is : weight.line ≡ number
+  pub claim_is : weight.claim ≡ written.claim
+  pub name_is : weight.name ≡ written.name
+  pub numbered : AreNumbered signature written.parts weight.sum
+  pub fresh : ¬ IsNamedBefore earlier weight.name
+  pub apart : AreApart weight.sum
+  pub signs : weight.claim ≡ claim.Fall → AreNotNegative weight.sum
+
+-- The line is written as a claim, by names of linear predicates.
+pub record IsKnown (signature : Signature) (line : List ℕ) : Type 0 where
+  pub written : Written
+  pub line_is : IsWrittenAs line written
+  pub sum : List Part
+  pub numbered : AreNumbered signature written.parts sum
+
+-- An earlier claim has its name, or two of its parts are of one predicate.
+abbrev pub SaysTwice : {signature : Signature} {line : List ℕ} → List Weight → IsKnown signature line → Type 0
+SaysTwice earlier known = IsNamedBefore earlier known.written.name ⊎ ¬ AreApart known.sum
+
+-- After these earlier claims, the line with this number says no claim, and this is why: the first of these that holds. It is not written as a claim; a part's name is not that of a linear predicate; a name is said twice; or a weight that is to fall has a negative factor.
+abbrev pub IsFaultOf : Signature → List Weight → List ℕ → ℕ → KeepFault → Type 0
+IsFaultOf signature earlier line number (Keep at) = (at ≡ number) × ((written : Written) → ¬ IsWrittenAs line written)
+IsFaultOf signature earlier line number (KeepName at) = (at ≡ number) × ((written : Written) × IsWrittenAs line written × SomeIsUnknown signature written.parts)
+IsFaultOf signature earlier line number (KeepTwice at) = (at ≡ number) × ((known : IsKnown signature line) × SaysTwice earlier known)
+IsFaultOf signature earlier line number (KeepSign at) =
+    (at ≡ number) × ((known : IsKnown signature line) × (¬ SaysTwice earlier known) × (known.written.claim ≡ claim.Fall) × ¬ AreNotNegative known.sum)
+
+-- These lines, numbered from here on, add claims to the earlier ones: each line that does not say nothing says one.
+abbrev pub AddClaims : Signature → ℕ → List (List ℕ) → List Weight → List Weight → Type 0
+AddClaims signature number [] earlier all = all ≡ earlier
+AddClaims signature number (line ∷ lines) earlier all =
+    (SaysNothing line × AddClaims signature (number + 1) lines earlier all)
+    ⊎ ((weight : Weight) × (¬ SaysNothing line) × IsClaimOf signature earlier line number weight × AddClaims signature (number + 1) lines (earlier ++ weight ∷ []) all)
+
+-- The file says these claims.
+abbrev pub HasClaims : Parts → List ℕ → List Weight → Type 0
+HasClaims program bytes weights = AddClaims program.signature 1 (claim_lines bytes) [] weights
+
+-- The first line of the file that says no claim has this fault: those before it say claims.
+pub record HasFault (program : Parts) (bytes : List ℕ) (fault : KeepFault) : Type 0 where
+  pub before : List (List ℕ)
+  pub line : List ℕ
+  pub rest : List (List ℕ)
+  pub cut : claim_lines bytes ≡ before ++ line ∷ rest
+  pub earlier : List Weight
+  pub add : AddClaims program.signature 1 before [] earlier
+  pub says : ¬ SaysNothing line
+  pub why : IsFaultOf program.signature earlier line (length before + 1) fault

@@ -1,0 +1,3 @@
+pub mod Weights
+pub mod WeightRuns
+pub mod Claims
