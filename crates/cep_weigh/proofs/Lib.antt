@@ -5,3 +5,5 @@ pub mod Sums
 pub mod Runs
 pub mod Factors
 pub mod Holding
+pub mod Numbers
+pub mod Parted

@@ -1,3 +1,4 @@
 pub mod Weights
 pub mod WeightRuns
 pub mod Claims
+pub mod Tables

@@ -7,10 +7,12 @@
 //! claim wants and what it says of runs. No rule needs to apply anywhere.
 #![tactic(auto)]
 
+mod claims;
 mod fault;
 pub mod laws;
 pub mod limits;
 mod name_table;
+mod numbering;
 mod weight;
 mod words;
 mod writing;

@@ -1,7 +1,5 @@
-ghost use Rattle.std.specs.Prelude.{◌≡◌, [], ◌∷◌, ◌++◌, not, if◌then◌else◌, IfOk};
-ghost use Rattle.std.specs.Str.{bytes_eq};
-ghost use Rattle.std.specs.List.{list_any};
-ghost use Rattle.std.specs.Map.{lookup};
+ghost use Rattle.std.specs.Prelude.{◌≡◌, [], OnOk};
+ghost use Rattle.cep_weigh.specs.Tables.{AddsName, number_in};
 
 use indexmap::IndexMap;
 use std::alloc::{AllocError, Global};
@@ -23,7 +21,7 @@ impl Model for NameTable {
 
 impl NameTable {
     // No names. It takes no memory.
-    pub(crate) fn none(alloc: Global) -> NameTable
+    pub(crate) fn new(alloc: Global) -> NameTable
         ensures { result ≡ [] }
     {
         NameTable {
@@ -31,22 +29,20 @@ impl NameTable {
         }
     }
 
-    // Adds a name at the end with its number, unless the name is there.
-    pub(crate) fn add(&mut self, name: &[u8], number: u32) -> Result<bool, AllocError>
-        ensures new { IfOk result (λ new. new ≡ not (list_any (λ entry. bytes_eq name.now entry.0) self.old)) }
-        ensures entries { IfOk result (λ new. self.new ≡ (if new then self.old ++ (name.now, number) ∷ [] else self.old)) }
+    // Adds a name with its number, unless the name is there.
+    pub(crate) fn add(&mut self, name: &[u8], number: u32) -> Result<(), AllocError>
+        ensures { OnOk result (AddsName self.old name.now number self.new) }
     {
-        if self.entries.contains_key(name) {
-            return Ok(false);
+        if !self.entries.contains_key(name) {
+            let name = Vec::from_slice(*self.entries.allocator(), name)?;
+            self.entries.insert(name, number)?;
         }
-        let name = Vec::from_slice(*self.entries.allocator(), name)?;
-        self.entries.insert(name, number)?;
-        Ok(true)
+        Ok(())
     }
 
     // The number of a name.
     pub(crate) fn number(&self, name: &[u8]) -> Option<u32>
-        ensures { result ≡ lookup (λ other. bytes_eq name.now other) self.now }
+        ensures { result ≡ number_in self.now name.now }
     {
         self.entries.get(name).copied()
     }

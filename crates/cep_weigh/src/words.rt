@@ -52,11 +52,14 @@ pub(crate) fn factor_word(word: &[u8]) -> Option<i64>
         (λ factor. IsFactor factor × (word.now ≡ signed_decimal factor)) }
 {
     let factor = number_word(word)?;
-    if factor != 0 && -MOST_FACTOR <= factor && factor <= MOST_FACTOR {
-        Some(factor)
-    } else {
-        None
-    }
+    if is_factor(factor) { Some(factor) } else { None }
+}
+
+// Whether the number may be a factor.
+fn is_factor(number: i64) -> bool
+    ensures { IsTrue result ↔ IsFactor number }
+{
+    number != 0 && -MOST_FACTOR <= number && number <= MOST_FACTOR
 }
 
 // The number that the word is the decimal of, with `-` before it where it is negative.

@@ -36,7 +36,10 @@ fn claim_of(
     let Some(claim) = claim_word(claim) else {
         return Ok(None);
     };
-    if words.is_empty() || !is_name(name) {
+    if words.is_empty() {
+        return Ok(None);
+    }
+    if !is_name(name) {
         return Ok(None);
     }
     match parts_of(alloc, words)? {

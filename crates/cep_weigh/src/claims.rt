@@ -1,0 +1,62 @@
+// The claims that were read so far.
+ghost use Rattle.std.specs.Prelude.{◌≡◌, ◌↔◌, [], ◌∷◌, ◌++◌, IsTrue, OnOk};
+ghost use Rattle.cep_weigh.specs.Claims.{IsNamedBefore};
+
+use crate::name_table::NameTable;
+use crate::weight::{Weight, Weights};
+use std::alloc::{AllocError, Global};
+use std::marker::Model;
+
+// Claims, whose names can be looked up.
+#[derive(Drop)]
+pub(crate) struct Claims {
+    names: NameTable,
+    weights: Weights,
+}
+
+impl Model for Claims {
+    ghost use Rattle.std.specs.Prelude.{List};
+    ghost use Rattle.cep_weigh.specs.declared.weight.Weight.{Weight};
+    ghost use Rattle.cep_weigh.specs.Tables.{NamesClaims};
+
+    ghost Value = { List Weight };
+
+    ghost view = { λ claims. claims.weights };
+
+    ghost invariant = { λ claims. NamesClaims claims.weights claims.names };
+}
+
+impl Claims {
+    // No claims. It takes no memory.
+    pub(crate) fn new(alloc: Global) -> Claims
+        ensures { result ≡ [] }
+    {
+        Claims {
+            names: NameTable::new(alloc),
+            weights: Weights::new(alloc),
+        }
+    }
+
+    // Whether some claim has the name.
+    pub(crate) fn has_name(&self, name: &[u8]) -> bool
+        ensures { IsTrue result ↔ IsNamedBefore self.now name.now }
+    {
+        self.names.number(name).is_some()
+    }
+
+    // Adds a claim at the end.
+    pub(crate) fn add(&mut self, weight: Weight) -> Result<(), AllocError>
+        ensures { OnOk result (self.new ≡ self.old ++ weight ∷ []) }
+    {
+        self.names.add(weight.name.bytes(), weight.line)?;
+        self.weights.push(weight)?;
+        Ok(())
+    }
+
+    // All of them.
+    pub(crate) fn weights(self) -> Weights
+        ensures { result ≡ self }
+    {
+        self.weights
+    }
+}
