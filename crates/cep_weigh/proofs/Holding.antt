@@ -1,5 +1,8 @@
 -- What a claim that is kept says of runs.
-use Rattle.std.proofs.Common.{◌≡◌, ℕ, List, refl, ℤ, ◌+ℤ◌, ◌-ℤ◌}
+use Rattle.std.proofs.Common.{◌≡◌, ℕ, ◌<◌, ◌≤◌, List, length, slice_get, Some, refl, subst, arith, ℤ, ◌+ℤ◌, ◌-ℤ◌, Result, Ok, Err}
+use Rattle.std.specs.Prelude.{OnOk}
+use Rattle.std.proofs.lemmas.Option.{slice_get_within}
+use Rattle.cep_base.proofs.Lists.{all_from_places}
 use Rattle.cep_term.specs.Tree.{Tree}
 use Rattle.cep_term.specs.Multiset.{Multiset}
 use Rattle.cep_rule.specs.declared.rule.Rule.{Rule}
@@ -8,7 +11,7 @@ use Rattle.cep_rule.specs.Step.{Step}
 use Rattle.cep_weigh.specs.declared.weight.Claim.{Claim}
 use Rattle.cep_weigh.specs.declared.weight.Claim.TheVariants.{Keep, Most, Fall}
 use Rattle.cep_weigh.specs.declared.weight.Part.{Part}
-use Rattle.cep_weigh.specs.Weights.{weight_of, left_sum, right_sum, IsKept, AreNotNegative}
+use Rattle.cep_weigh.specs.Weights.{weight_of, left_sum, right_sum, KeepsTo, IsKept, AreNotNegative}
 use Rattle.cep_weigh.specs.WeightRuns.{GoesAsClaimed, HoldsOfRun, HoldsOfRuns}
 use Rattle.cep_weigh.proofs.Runs.{run_claimed, run_keeps, run_ends}
 use Rattle.cep_weigh.proofs.Factors.{copies_bounded}
@@ -26,3 +29,13 @@ claims_hold program claim parts changes signs kept = record {
   bounds = λ some run is part later weight factor there is_factor is_weight in_run.
       copies_bounded claim parts part program.start later run weight factor (run_claimed program claim parts changes kept program.start run is) some there is_factor is_weight in_run;
 }
+
+pub kept_all : (program other : Parts) (claim : Claim) (sum parts : List Part) (i : ℕ) → other ≡ program → parts ≡ sum → length other.rules ≤ i
+    → ((number : ℕ) (rule : Rule) → number < i → slice_get other.rules number ≡ Some rule → KeepsTo claim parts rule) → IsKept program claim sum
+kept_all program other claim sum parts i same is all each =
+    subst (λ p. IsKept p claim sum) same (subst (λ ps. IsKept other claim ps) is
+    (all_from_places (KeepsTo claim parts) other.rules (λ n rule at. let within = slice_get_within other.rules n rule at in each n rule (omega arith) at)))
+
+pub ok_as : {T E : Type 0} (r : Result T E) (P Q : Type 0) → (P → Q) → OnOk r P → OnOk r Q
+ok_as (Ok x) P Q f p = f p
+ok_as (Err e) P Q f p = tt

@@ -7,3 +7,6 @@ pub mod Factors
 pub mod Holding
 pub mod Numbers
 pub mod Parted
+pub mod Tabled
+pub mod Numbered
+pub mod Adding

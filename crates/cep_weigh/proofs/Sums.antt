@@ -13,7 +13,7 @@ use Rattle.cep_weigh.specs.Weights.{weighed, Wants, AreNotNegative, ArePositive,
 neg_sum : (x y : ℕ) → neg_ℤ (pos (x + y)) ≡ neg_ℤ (pos x) +ℤ neg_ℤ (pos y)
 neg_sum x y = omega (arith, ints)
 
-scaled : (f : ℤ) (a b : ℕ) → f *ℤ pos (a + b) ≡ (f *ℤ pos a) +ℤ (f *ℤ pos b)
+pub scaled : (f : ℤ) (a b : ℕ) → f *ℤ pos (a + b) ≡ (f *ℤ pos a) +ℤ (f *ℤ pos b)
 scaled (pos m) a b = pos-*ℤ-pos m (a + b) ∙ ap pos (mul-add m a b) ∙ sym (λ i. pos-*ℤ-pos m a i +ℤ pos-*ℤ-pos m b i)
 scaled (negsuc m) a b =
     negsuc-*ℤ-pos m (a + b) ∙ ap (λ n. neg_ℤ (pos n)) (mul-add (suc m) a b) ∙ neg_sum (suc m * a) (suc m * b)
@@ -88,10 +88,10 @@ weighed_sum (part ∷ parts) n m = regroup (part.factor *ℤ pos (n part.pred + 
     regroup : (xy x y s s' t' : ℤ) → xy ≡ x +ℤ y → s ≡ s' +ℤ t' → xy +ℤ s ≡ (x +ℤ s') +ℤ (y +ℤ t')
     regroup xy x y s s' t' e f = omega (arith, ints)
 
-scaled_none : (f : ℤ) → f *ℤ pos 0 ≡ pos 0
+pub scaled_none : (f : ℤ) → f *ℤ pos 0 ≡ pos 0
 scaled_none f = *ℤ-zero f
 
-scaled_one : (f : ℤ) → f *ℤ pos 1 ≡ f
+pub scaled_one : (f : ℤ) → f *ℤ pos 1 ≡ f
 scaled_one (pos m) = pos-*ℤ-pos m 1 ∙ ap pos (mul-one m)
 scaled_one (negsuc m) = negsuc-*ℤ-pos m 1 ∙ ap (λ n. neg_ℤ (pos n)) (mul-one (suc m))
 

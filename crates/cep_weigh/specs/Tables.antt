@@ -1,10 +1,13 @@
 -- Private.
--- Tables of names that reading keeps.
+-- Tables of names that reading keeps, and parts whose sums are small.
 use Rattle.std.specs.Prelude.{◌≡◌, ◌↔◌, ℕ, ◌<◌, ◌==◌, if◌then◌else◌, List, Option, Some, None, IsSome, MatchOption}
+use Rattle.std.specs.List.{AllByRecursion}
 use Rattle.std.specs.Str.{bytes_eq}
 use Rattle.std.specs.Map.{lookup}
 use Rattle.cep_rule.specs.declared.signature.Signature.{Signature}
+use Rattle.cep_weigh.specs.declared.weight.Part.{Part}
 use Rattle.cep_weigh.specs.declared.weight.Weight.{Weight}
+use Rattle.cep_weigh.specs.Weights.{IsFactor, AreApart}
 use Rattle.cep_weigh.specs.Claims.{IsLinearNamed, IsNamedBefore}
 
 -- the number of a name in a table
@@ -32,3 +35,8 @@ NamesLinear signature table = (name : List ℕ) → MatchOption (number_in table
 -- The table has the names of these claims.
 abbrev pub NamesClaims : List Weight → List (List ℕ × ℕ) → Type 0
 NamesClaims weights table = (name : List ℕ) → IsSome (number_in table name) ↔ IsNamedBefore weights name
+
+-- The parts are of different predicates, with factors that are such.
+pub record AreFactors (parts : List Part) : Type 0 where
+  pub apart : AreApart parts
+  pub factors : AllByRecursion (λ part. IsFactor part.factor) parts

@@ -1,5 +1,5 @@
 -- Runs as lists of states, for weights: by any rules, whatever the stage, and however large a state becomes.
-use Rattle.std.specs.Prelude.{◌≡◌, ℕ, ◌/◌, ◌≤◌, List, [], ◌∷◌, length, Contains, ℤ, pos, ◌≤ℤ◌}
+use Rattle.std.specs.Prelude.{◌≡◌, ℕ, ◌/◌, ◌≤◌, List, [], ◌∷◌, length, slice_get, Some, Contains, ℤ, pos, ◌≤ℤ◌}
 use Rattle.std.specs.List.{AllByRecursion}
 use Rattle.cep_term.specs.Tree.{Tree}
 use Rattle.cep_term.specs.Multiset.{Multiset}
@@ -44,3 +44,9 @@ BoundsCopies parts state run =
 pub record HoldsOfRuns (program : Parts) (claim : Claim) (parts : List Part) : Type 0 where
   pub runs : (run : List Multiset) → IsRun program program.start run → HoldsOfRun claim parts program.start run
   pub bounds : ArePositive parts → (run : List Multiset) → IsRun program program.start run → BoundsCopies parts program.start run
+
+-- Each step by the rule with this number breaks the claim: the weight does not become what it wants.
+abbrev pub BreaksSteps : Parts → Claim → List Part → ℕ → Type 0
+BreaksSteps program claim parts number =
+    (rule : Rule) (values : List Tree) (old new : Multiset) → slice_get program.rules number ≡ Some rule → Step program.signature rule values old new
+    → ¬ Wants claim (weight_of parts old) (weight_of parts new)

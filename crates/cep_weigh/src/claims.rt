@@ -1,5 +1,5 @@
 // The claims that were read so far.
-ghost use Rattle.std.specs.Prelude.{◌≡◌, ◌↔◌, [], ◌∷◌, ◌++◌, IsTrue, OnOk};
+ghost use Rattle.std.specs.Prelude.{◌≡◌, ◌↔◌, [], ◌∷◌, ◌++◌, IsTrue, IfOk};
 ghost use Rattle.cep_weigh.specs.Claims.{IsNamedBefore};
 
 use crate::name_table::NameTable;
@@ -44,13 +44,17 @@ impl Claims {
         self.names.number(name).is_some()
     }
 
-    // Adds a claim at the end.
-    pub(crate) fn add(&mut self, weight: Weight) -> Result<(), AllocError>
-        ensures { OnOk result (self.new ≡ self.old ++ weight ∷ []) }
+    // These claims and one more at the end.
+    pub(crate) fn and(self, weight: Weight) -> Result<Claims, AllocError>
+        ensures { IfOk result (λ claims. claims ≡ self ++ weight ∷ []) }
     {
-        self.names.add(weight.name.bytes(), weight.line)?;
-        self.weights.push(weight)?;
-        Ok(())
+        let Claims {
+            mut names,
+            mut weights,
+        } = self;
+        names.add(weight.name.bytes(), weight.line)?;
+        weights.push(weight)?;
+        Ok(Claims { names, weights })
     }
 
     // All of them.

@@ -9,6 +9,7 @@
 
 mod claims;
 mod fault;
+mod judging;
 pub mod laws;
 pub mod limits;
 mod name_table;
@@ -19,4 +20,5 @@ mod writing;
 mod written;
 
 pub use fault::KeepFault;
+pub use judging::{judge, start_weight};
 pub use weight::{Against, Claim, Part, Weight, WeightParts, Weights};

@@ -1,16 +1,17 @@
 // The linear predicates of a program by their names, and the parts of a line by their numbers.
-ghost use Rattle.std.specs.Prelude.{◌≡◌, ◌≤◌, ◌↔◌, length, IsTrue, IfOk, IfSome, IfNone};
+ghost use Rattle.std.specs.Prelude.{◌≡◌, ◌≤◌, ◌↔◌, length, IsTrue, slice_get, Some, ◌+◌, OnOk, IfOk, IfSome, IfNone};
+ghost use Rattle.cep_rule.specs.declared.signature.Signature.{Signature};
 ghost use Rattle.cep_base.specs.declared.kind.PredKind.TheVariants.{Linear};
 ghost use Rattle.cep_base.specs.declared.limits.TheConstants.{MOST_PREDS};
 ghost use Rattle.cep_weigh.specs.Weights.{AreApart, AreNotNegative};
 ghost use Rattle.cep_weigh.specs.Claims.{AreNumbered, SomeIsUnknown};
-ghost use Rattle.cep_weigh.specs.Tables.{NamesLinear};
+ghost use Rattle.cep_weigh.specs.Tables.{NamesLinear, NamesLinearBelow};
 
 use crate::name_table::NameTable;
 use crate::weight::{Part, WeightParts};
 use crate::written::NamedPart;
 use cep_base::PredKind;
-use cep_rule::Signature;
+use cep_rule::{PredDecl, Signature};
 use std::alloc::{AllocError, Global};
 
 // The linear predicates by their names.
@@ -20,12 +21,22 @@ pub(crate) fn linear_names(alloc: Global, signature: &Signature) -> Result<NameT
 {
     let mut table = NameTable::new(alloc);
     for i in 0..signature.preds.len() {
-        let pred = signature.preds.get(i);
-        if is_linear(pred.kind) {
-            table.add(pred.name.bytes(), i as u32)?;
-        }
+        add_linear(&mut table, i as u32, signature.preds.get(i))?;
     }
     Ok(table)
+}
+
+// Adds the predicate with this number if it is linear.
+fn add_linear(table: &mut NameTable, number: u32, pred: &PredDecl) -> Result<(), AllocError>
+    ensures { OnOk result ((signature : Signature)
+        → slice_get signature.preds number ≡ Some pred.now
+        → NamesLinearBelow signature number table.old
+        → NamesLinearBelow signature (number + 1) table.new) }
+{
+    if is_linear(pred.kind) {
+        return table.add(pred.name.bytes(), number);
+    }
+    Ok(())
 }
 
 // Whether the predicates of the kind are linear.

@@ -1,0 +1,9 @@
+use Rattle.std.proofs.Common.{sym, ◌∙◌}
+use Rattle.std.proofs.lemmas.Int.{to_z-of_z}
+use mir.Syntax.{w64}
+use Rattle.cep_weigh.proofs.Adding.{first_factor, first_fits}
+use Rattle.cep_weigh.proofs.judging.+factor_of.Goals as goal
+
+pub returns-then-part-pred-clause-value : goal.returns-then-part-pred-clause-value
+returns-then-part-pred-clause-value t c =
+    to_z-of_z w64 _ (first_fits c.args.parts.now _ c.in-len1-up.len_at_least c.requires.factors) ∙ sym (first_factor c.args.parts.now _ c.args.pred c.in-len1-up.len_at_least c.requires.apart c.if-part-pred.true)

@@ -1,0 +1,15 @@
+use Rattle.std.proofs.Common.{rules, arith}
+use mir.Syntax.{w64}
+use mir.Val.{SFits}
+use Rattle.cep_weigh.proofs.Adding.{worth_within}
+use Rattle.cep_weigh.proofs.judging.worth.Goals as goal
+
+pub returns-clause-low : goal.returns-clause-low
+returns-clause-low c =
+    let fits : SFits w64 c.factor_of.result = search rules in
+    (worth_within c.factor_of.result c.from.result c.args.copies fits c.from.ensures (omega arith) c.factor_of.ensures.low c.factor_of.ensures.high).low
+
+pub returns-clause-high : goal.returns-clause-high
+returns-clause-high c =
+    let fits : SFits w64 c.factor_of.result = search rules in
+    (worth_within c.factor_of.result c.from.result c.args.copies fits c.from.ensures (omega arith) c.factor_of.ensures.low c.factor_of.ensures.high).high
