@@ -10,3 +10,4 @@ pub mod Parted
 pub mod Tabled
 pub mod Numbered
 pub mod Adding
+pub mod Lined

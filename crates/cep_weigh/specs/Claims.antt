@@ -116,12 +116,16 @@ IsFaultOf signature earlier line number (KeepTwice at) = (at ≡ number) × ((kn
 IsFaultOf signature earlier line number (KeepSign at) =
     (at ≡ number) × ((known : IsKnown signature line) × (¬ SaysTwice earlier known) × (known.written.claim ≡ claim.Fall) × ¬ AreNotNegative known.sum)
 
--- These lines, numbered from here on, add claims to the earlier ones: each line that does not say nothing says one.
+-- After these earlier claims, a line that says nothing adds none, and each other one the claim that it says.
+abbrev pub AddsLine : Signature → ℕ → List ℕ → List Weight → List Weight → Type 0
+AddsLine signature number line earlier after =
+    (SaysNothing line × (after ≡ earlier))
+    ⊎ ((weight : Weight) × (¬ SaysNothing line) × IsClaimOf signature earlier line number weight × (after ≡ earlier ++ weight ∷ []))
+
+-- These lines, numbered from here on, add claims to the earlier ones, line by line.
 abbrev pub AddClaims : Signature → ℕ → List (List ℕ) → List Weight → List Weight → Type 0
 AddClaims signature number [] earlier all = all ≡ earlier
-AddClaims signature number (line ∷ lines) earlier all =
-    (SaysNothing line × AddClaims signature (number + 1) lines earlier all)
-    ⊎ ((weight : Weight) × (¬ SaysNothing line) × IsClaimOf signature earlier line number weight × AddClaims signature (number + 1) lines (earlier ++ weight ∷ []) all)
+AddClaims signature number (line ∷ lines) earlier all = (after : List Weight) × AddsLine signature number line earlier after × AddClaims signature (number + 1) lines after all
 
 -- The file says these claims.
 abbrev pub HasClaims : Parts → List ℕ → List Weight → Type 0

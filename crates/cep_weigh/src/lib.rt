@@ -14,6 +14,7 @@ pub mod laws;
 pub mod limits;
 mod name_table;
 mod numbering;
+mod reading;
 mod weight;
 mod words;
 mod writing;
@@ -21,4 +22,5 @@ mod written;
 
 pub use fault::KeepFault;
 pub use judging::{judge, start_weight};
+pub use reading::read_weights;
 pub use weight::{Against, Claim, Part, Weight, WeightParts, Weights};

@@ -32,5 +32,5 @@ loop-i-preserved c =
 pub returns : goal.returns
 returns c =
     let entries = finite.entries c.parts.result.now.start in
-    c.loop-i.invariant.value ∙ ap (added (entry_worth c.as_slice-parts.result.now)) (take_all c.loop-i.i entries (omega arith))
+    c.loop-i.invariant.value ∙ ap (added (entry_worth c.as_slice-parts.result.now)) (take_all c.loop-i.i entries (omega (arith, finite.len-entries c.parts.result.now.start)))
     ∙ entries_are c.as_slice-parts.result.now entries ∙ (λ i. weight_of (c.as_slice-parts.ensures i) (c.parts.ensures.parts i).start)
