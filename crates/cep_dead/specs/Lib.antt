@@ -1,0 +1,4 @@
+pub mod Tables
+pub mod Rounds
+pub mod Moves
+pub mod Whys

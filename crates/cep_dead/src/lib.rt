@@ -1,0 +1,4 @@
+//! Rules that can never apply.
+#![tactic(auto)]
+
+pub mod laws;
