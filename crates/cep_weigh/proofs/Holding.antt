@@ -1,6 +1,5 @@
 -- What a claim that is kept says of runs.
-use Rattle.std.proofs.Common.{◌≡◌, ℕ, ◌<◌, ◌≤◌, List, length, slice_get, Some, refl, subst, arith, ℤ, ◌+ℤ◌, ◌-ℤ◌, Result, Ok, Err}
-use Rattle.std.specs.Prelude.{OnOk}
+use Rattle.std.proofs.Common.{◌≡◌, ℕ, ◌<◌, ◌≤◌, List, length, slice_get, Some, refl, subst, arith, ℤ, ◌+ℤ◌, ◌-ℤ◌}
 use Rattle.std.proofs.lemmas.Option.{slice_get_within}
 use Rattle.cep_base.proofs.Lists.{all_from_places}
 use Rattle.cep_term.specs.Tree.{Tree}
@@ -35,7 +34,3 @@ pub kept_all : (program other : Parts) (claim : Claim) (sum parts : List Part) (
 kept_all program other claim sum parts i same is all each =
     subst (λ p. IsKept p claim sum) same (subst (λ ps. IsKept other claim ps) is
     (all_from_places (KeepsTo claim parts) other.rules (λ n rule at. let within = slice_get_within other.rules n rule at in each n rule (omega arith) at)))
-
-pub ok_as : {T E : Type 0} (r : Result T E) (P Q : Type 0) → (P → Q) → OnOk r P → OnOk r Q
-ok_as (Ok x) P Q f p = f p
-ok_as (Err e) P Q f p = tt

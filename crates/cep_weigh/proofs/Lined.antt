@@ -106,5 +106,5 @@ pub told_err : {T E : Type 0} (r : Result T E) (e : E) (P : E → Type 0) → r 
 told_err {T = T} r e P is h = let k : IfErr {T = T} (Err e) P = subst (λ s. IfErr s P) is h in k
 
 pub not_twice : (b : Bool) (P Q : Type 0) → (IsTrue b ↔ P) → b ≡ false → Q → (P ⊎ ¬ Q) → ⊥
-not_twice b P Q tells no q (inl p) = let yes : b ≡ true = tells.1 p in absurd (cc (yes, no))
-not_twice b P Q tells no q (inr never) = never q
+not_twice b P Q tells is q (inl p) = let yes : b ≡ true = tells.1 p in absurd (cc (yes, is))
+not_twice b P Q tells is q (inr never) = never q

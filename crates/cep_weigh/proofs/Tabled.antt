@@ -1,68 +1,78 @@
 -- Tables of names: what a look-up gives after an addition, and which names stand in them.
 use Rattle.std.proofs.Common.{◌≡◌, ◌⊎◌, inl, inr, ⊎_elim, ℕ, zero, suc, ◌+◌, ◌<◌, ◌≤◌, Bool, true, false, cond, ◌||◌, List, [], ◌∷◌, ◌++◌, length, map, Option, Some, None, is_some, refl, sym, ap, ◌∙◌, subst, arith, Contains, slice_get, IsSomeAnd}
-use Rattle.std.specs.Prelude.{MatchOption, IsSome, ◌↔◌, if◌then◌else◌}
+use Rattle.std.specs.Prelude.{MatchOption, IsTrue, ◌↔◌, if◌then◌else◌}
 use Rattle.std.specs.List.{list_any}
 use Rattle.std.specs.Str.{bytes_eq}
-use Rattle.std.specs.Map.{lookup}
 use Rattle.std.proofs.lemmas.Slice.Eq.{bytes_eq-Decides}
 use Rattle.std.proofs.lemmas.Bool.{false≢true, cases_lt}
 use Rattle.std.proofs.lemmas.List.{map-append}
 use Rattle.cep_base.specs.declared.kind.PredKind.TheVariants.{Linear}
-use Rattle.cep_base.proofs.Lists.{none_some, some_same}
+use Rattle.cep_base.specs.FirstNames.{has_name, under_name, added}
 use Rattle.cep_base.proofs.Elements.{contains_left, contains_right, contains_either, contains_first, contains_cases, contains_none}
 use Rattle.cep_rule.specs.declared.signature.PredDecl.{PredDecl}
 use Rattle.cep_rule.specs.declared.signature.Signature.{Signature}
 use Rattle.cep_weigh.specs.declared.weight.Weight.{Weight}
 use Rattle.cep_weigh.specs.Claims.{IsLinearNamed, IsNamedBefore}
-use Rattle.cep_weigh.specs.Tables.{number_in, first_number, AddsName, NamesLinearBelow, NamesLinear, NamesClaims}
+use Rattle.cep_weigh.specs.Tables.{NamesLinearBelow, NamesLinear, NamesClaims}
 
 abbrev Table : Type 0
 Table = List (List ℕ × ℕ)
 
-first_none : (o : Option ℕ) → first_number o None ≡ o
-first_none None = refl
-first_none (Some n) = refl
+-- the first of two numbers that is there
+abbrev first_number : Option ℕ → Option ℕ → Option ℕ
+first_number None other = other
+first_number (Some n) other = Some n
 
-pub number_pushed : (other : List ℕ) (table : Table) (name : List ℕ) (number : ℕ) → number_in (table ++ (name, number) ∷ []) other ≡ first_number (number_in table other) (if bytes_eq other name then Some number else None)
+-- what each look-up gives after a name was added
+abbrev AddsName : Table → List ℕ → ℕ → Table → Type 0
+AddsName old name number new = (other : List ℕ) → under_name new other ≡ first_number (under_name old other) (if bytes_eq other name then Some number else None)
+
+number_pushed : (other : List ℕ) (table : Table) (name : List ℕ) (number : ℕ) → under_name (table ++ (name, number) ∷ []) other ≡ first_number (under_name table other) (if bytes_eq other name then Some number else None)
 number_pushed other [] name number = refl
 number_pushed other (entry ∷ table) name number = by (bytes_eq other entry.0) (number_pushed other table name number) where
-  by : (b : Bool) → number_in (table ++ (name, number) ∷ []) other ≡ first_number (number_in table other) (if bytes_eq other name then Some number else None)
-      → cond b (Some entry.1) (number_in (table ++ (name, number) ∷ []) other) ≡ first_number (cond b (Some entry.1) (number_in table other)) (if bytes_eq other name then Some number else None)
+  by : (b : Bool) → under_name (table ++ (name, number) ∷ []) other ≡ first_number (under_name table other) (if bytes_eq other name then Some number else None)
+      → cond b (Some entry.1) (under_name (table ++ (name, number) ∷ []) other) ≡ first_number (cond b (Some entry.1) (under_name table other)) (if bytes_eq other name then Some number else None)
   by true rest = refl
   by false rest = rest
 
-any_found : (name : List ℕ) (table : Table) → list_any (λ entry. bytes_eq name entry.0) table ≡ is_some (number_in table name)
+any_found : (name : List ℕ) (table : Table) → list_any (λ entry. bytes_eq name entry.0) table ≡ is_some (under_name table name)
 any_found name [] = refl
 any_found name (entry ∷ table) = by (bytes_eq name entry.0) (any_found name table) where
-  by : (b : Bool) → list_any (λ entry'. bytes_eq name entry'.0) table ≡ is_some (number_in table name) → (b || list_any (λ entry'. bytes_eq name entry'.0) table) ≡ is_some (cond b (Some entry.1) (number_in table name))
+  by : (b : Bool) → list_any (λ entry'. bytes_eq name entry'.0) table ≡ is_some (under_name table name) → (b || list_any (λ entry'. bytes_eq name entry'.0) table) ≡ is_some (cond b (Some entry.1) (under_name table name))
   by true rest = refl
   by false rest = rest
 
 same_bytes : (a b : List ℕ) → bytes_eq a b ≡ true → a ≡ b
 same_bytes a b e = (bytes_eq-Decides a b).0 e
 
-pub adds_there : (table : Table) (name : List ℕ) (number : ℕ) → list_any (λ entry. bytes_eq name entry.0) table ≡ true → AddsName table name number table
-adds_there table name number there other = by (number_in table other) refl (bytes_eq other name) refl where
-  by : (o : Option ℕ) → number_in table other ≡ o → (b : Bool) → bytes_eq other name ≡ b → o ≡ first_number o (if b then Some number else None)
+adds_there : (table : Table) (name : List ℕ) (number : ℕ) → list_any (λ entry. bytes_eq name entry.0) table ≡ true → AddsName table name number table
+adds_there table name number there other = by (under_name table other) refl (bytes_eq other name) refl where
+  by : (o : Option ℕ) → under_name table other ≡ o → (b : Bool) → bytes_eq other name ≡ b → o ≡ first_number o (if b then Some number else None)
   by (Some n) is b same = refl
   by None is false same = refl
   by None is true same =
-      let found : is_some (number_in table name) ≡ true = sym (any_found name table) ∙ there in
-      let none : is_some (number_in table name) ≡ false = ap (λ n. is_some (number_in table n)) (sym (same_bytes other name same)) ∙ ap is_some is in
+      let found : is_some (under_name table name) ≡ true = sym (any_found name table) ∙ there in
+      let none : is_some (under_name table name) ≡ false = ap (λ n. is_some (under_name table n)) (sym (same_bytes other name same)) ∙ ap is_some is in
       absurd (false≢true (sym none ∙ found))
 
-pub adds_new : (table new : Table) (name : List ℕ) (number : ℕ) → new ≡ table ++ (name, number) ∷ [] → AddsName table name number new
-adds_new table new name number is other = ap (λ t. number_in t other) is ∙ number_pushed other table name number
+adds_new : (table new : Table) (name : List ℕ) (number : ℕ) → new ≡ table ++ (name, number) ∷ [] → AddsName table name number new
+adds_new table new name number is other = ap (λ t. under_name t other) is ∙ number_pushed other table name number
+
+pub adds_by : (table new : Table) (name : List ℕ) (number : ℕ) → new ≡ added table (name, number) → AddsName table name number new
+adds_by table new name number is = by (has_name table name) refl is where
+  by : (b : Bool) → has_name table name ≡ b → new ≡ (if b then table else table ++ (name, number) ∷ []) → AddsName table name number new
+  by true there same = subst (AddsName table name number) (sym same) (adds_there table name number there)
+  by false there same = adds_new table new name number same
 
 -- the linear predicates below a number
 abbrev NamedBelow : Signature → ℕ → List ℕ → Option ℕ → Type 0
 NamedBelow signature most name o = MatchOption o ((pred : ℕ) → pred < most → ¬ IsLinearNamed signature pred name) (λ pred. IsLinearNamed signature pred name)
 
-pub linear_found : (signature : Signature) (table : Table) → NamesLinear signature table → (name : List ℕ) (o : Option ℕ) (pred : ℕ) → o ≡ number_in table name → o ≡ Some pred → IsLinearNamed signature pred name
+pub linear_found : (signature : Signature) (table : Table) → NamesLinear signature table → (name : List ℕ) (o : Option ℕ) (pred : ℕ) → o ≡ under_name table name → o ≡ Some pred → IsLinearNamed signature pred name
 linear_found signature table names name o pred is there =
     let h : MatchOption (Some pred) ((p : ℕ) → ¬ IsLinearNamed signature p name) (λ p. IsLinearNamed signature p name) = subst (λ x. MatchOption x ((p : ℕ) → ¬ IsLinearNamed signature p name) (λ p. IsLinearNamed signature p name)) (sym is ∙ there) (names name) in h
 
-pub linear_missed : (signature : Signature) (table : Table) → NamesLinear signature table → (name : List ℕ) (o : Option ℕ) → o ≡ number_in table name → o ≡ None → (pred : ℕ) → ¬ IsLinearNamed signature pred name
+pub linear_missed : (signature : Signature) (table : Table) → NamesLinear signature table → (name : List ℕ) (o : Option ℕ) → o ≡ under_name table name → o ≡ None → (pred : ℕ) → ¬ IsLinearNamed signature pred name
 linear_missed signature table names name o is none =
     let h : MatchOption None ((p : ℕ) → ¬ IsLinearNamed signature p name) (λ p. IsLinearNamed signature p name) = subst (λ x. MatchOption x ((p : ℕ) → ¬ IsLinearNamed signature p name) (λ p. IsLinearNamed signature p name)) (sym is ∙ none) (names name) in h
 
@@ -77,7 +87,7 @@ to_named signature i decl name at named linear = subst (λ o. IsSomeAnd o (λ d.
 
 module _ (signature : Signature) (i : ℕ) (decl : PredDecl) (at : slice_get signature.preds i ≡ Some decl) where
   pub below_other : (table : Table) → (decl.kind ≡ Linear → ⊥) → NamesLinearBelow signature i table → NamesLinearBelow signature (i + 1) table
-  below_other table other below name = by (number_in table name) (below name) where
+  below_other table other below name = by (under_name table name) (below name) where
     by : (o : Option ℕ) → MatchOption o ((pred : ℕ) → pred < i → ¬ IsLinearNamed signature pred name) (λ pred. IsLinearNamed signature pred name)
         → MatchOption o ((pred : ℕ) → pred < i + 1 → ¬ IsLinearNamed signature pred name) (λ pred. IsLinearNamed signature pred name)
     by (Some n) is = is
@@ -87,7 +97,7 @@ module _ (signature : Signature) (i : ℕ) (decl : PredDecl) (at : slice_get sig
         (cases_lt pred i)
 
   pub below_linear : (old new : Table) → decl.kind ≡ Linear → AddsName old decl.name i new → NamesLinearBelow signature i old → NamesLinearBelow signature (i + 1) new
-  below_linear old new linear adds below name = subst (NamedBelow signature (i + 1) name) (sym (adds name)) (by (number_in old name) (below name) (bytes_eq name decl.name) refl) where
+  below_linear old new linear adds below name = subst (NamedBelow signature (i + 1) name) (sym (adds name)) (by (under_name old name) (below name) (bytes_eq name decl.name) refl) where
     by : (o : Option ℕ) → MatchOption o ((pred : ℕ) → pred < i → ¬ IsLinearNamed signature pred name) (λ pred. IsLinearNamed signature pred name)
         → (b : Bool) → bytes_eq name decl.name ≡ b → NamedBelow signature (i + 1) name (first_number o (if b then Some i else None))
     by (Some n) is b same = is
@@ -101,7 +111,7 @@ module _ (signature : Signature) (i : ℕ) (decl : PredDecl) (at : slice_get sig
         (cases_lt pred i)
 
 pub below_all : (signature : Signature) (table : Table) → NamesLinearBelow signature (length signature.preds) table → NamesLinear signature table
-below_all signature table below name = by (number_in table name) (below name) where
+below_all signature table below name = by (under_name table name) (below name) where
   within : (preds : List PredDecl) (pred : ℕ) → IsSomeAnd (slice_get preds pred) (λ d. (d.name ≡ name) × (d.kind ≡ Linear)) → pred < length preds
   within [] pred is = absurd is
   within (d ∷ preds) zero is = omega arith
@@ -116,28 +126,50 @@ below_all signature table below name = by (number_in table name) (below name) wh
 pub no_claims : NamesClaims [] []
 no_claims name = ((λ found. absurd (false≢true found)), (λ there. absurd (contains_none name there)))
 
-pub one_claim_more : (weights : List Weight) (weight : Weight) (old new : Table) (number : ℕ) → NamesClaims weights old → AddsName old weight.name number new → NamesClaims (weights ++ weight ∷ []) new
-one_claim_more weights weight old new number names adds name =
-    ((λ found. from (number_in old name) (bytes_eq name weight.name) refl (names name).0 (sym (ap is_some (adds name)) ∙ found)),
-     (λ there. ap is_some (adds name) ∙ to (number_in old name) (bytes_eq name weight.name) refl (names name).1 there))
+has_pushed : (name : List ℕ) (table : Table) (other : List ℕ) (number : ℕ) → has_name (table ++ (other, number) ∷ []) name ≡ (has_name table name || bytes_eq name other)
+has_pushed name [] other number = by (bytes_eq name other) where
+  by : (b : Bool) → (b || false) ≡ b
+  by true = refl
+  by false = refl
+has_pushed name (entry ∷ table) other number = by (bytes_eq name entry.0) (has_pushed name table other number) where
+  by : (b : Bool) → has_name (table ++ (other, number) ∷ []) name ≡ (has_name table name || bytes_eq name other)
+      → (b || has_name (table ++ (other, number) ∷ []) name) ≡ ((b || has_name table name) || bytes_eq name other)
+  by true rest = refl
+  by false rest = rest
+
+has_added : (name : List ℕ) (table : Table) (other : List ℕ) (number : ℕ) → has_name (added table (other, number)) name ≡ (has_name table name || bytes_eq name other)
+has_added name table other number = by (has_name table other) refl where
+  there : (b : Bool) → bytes_eq name other ≡ b → has_name table other ≡ true → has_name table name ≡ (has_name table name || b)
+  there true same is = ap (λ n. has_name table n) (same_bytes name other same) ∙ is ∙ sym (ap (λ n. has_name table n || true) (same_bytes name other same) ∙ ap (λ b. b || true) is)
+  there false same is = or_false (has_name table name) where
+    or_false : (b : Bool) → b ≡ (b || false)
+    or_false true = refl
+    or_false false = refl
+
+  by : (b : Bool) → has_name table other ≡ b → has_name (if b then table else table ++ (other, number) ∷ []) name ≡ (has_name table name || bytes_eq name other)
+  by true is = there (bytes_eq name other) refl is
+  by false is = has_pushed name table other number
+
+pub one_claim_more : (weights : List Weight) (weight : Weight) (old new : Table) (number : ℕ) → NamesClaims weights old → new ≡ added old (weight.name, number) → NamesClaims (weights ++ weight ∷ []) new
+one_claim_more weights weight old new number names is name =
+    let after : has_name new name ≡ (has_name old name || bytes_eq name weight.name) = ap (λ t. has_name t name) is ∙ has_added name old weight.name number in
+    ((λ found. from (has_name old name) (bytes_eq name weight.name) refl (names name).0 (sym after ∙ found)),
+     (λ there. after ∙ to (has_name old name) (bytes_eq name weight.name) refl (names name).1 there))
   where
-    name_of : Weight → List ℕ
-    name_of w = w.name
-
-    from : (o : Option ℕ) (b : Bool) → bytes_eq name weight.name ≡ b → (is_some o ≡ true → Contains (map (λ w. w.name) weights) name) → is_some (first_number o (if b then Some number else None)) ≡ true → Contains (map (λ w. w.name) (weights ++ weight ∷ [])) name
-    from (Some n) b same before found = rw (map-append (λ (w : Weight). w.name) weights (weight ∷ [])) (contains_left (map (λ w. w.name) weights) (weight.name ∷ []) name (before refl))
-    from None true same before found =
+    from : (a b : Bool) → bytes_eq name weight.name ≡ b → (a ≡ true → Contains (map (λ (w : Weight). w.name) weights) name) → (a || b) ≡ true → Contains (map (λ (w : Weight). w.name) (weights ++ weight ∷ [])) name
+    from true b same before found = rw (map-append (λ (w : Weight). w.name) weights (weight ∷ [])) (contains_left (map (λ w. w.name) weights) (weight.name ∷ []) name (before refl))
+    from false true same before found =
         rw (map-append (λ (w : Weight). w.name) weights (weight ∷ [])) (contains_right (map (λ w. w.name) weights) (weight.name ∷ []) name (subst (λ n. Contains (weight.name ∷ []) n) (sym (same_bytes name weight.name same)) (contains_first weight.name [])))
-    from None false same before found = absurd (false≢true found)
+    from false false same before found = absurd (false≢true found)
 
-    to : (o : Option ℕ) (b : Bool) → bytes_eq name weight.name ≡ b → (Contains (map (λ w. w.name) weights) name → is_some o ≡ true) → Contains (map (λ w. w.name) (weights ++ weight ∷ [])) name → is_some (first_number o (if b then Some number else None)) ≡ true
-    to (Some n) b same before there = refl
-    to None true same before there = refl
-    to None false same before there =
+    to : (a b : Bool) → bytes_eq name weight.name ≡ b → (Contains (map (λ (w : Weight). w.name) weights) name → a ≡ true) → Contains (map (λ (w : Weight). w.name) (weights ++ weight ∷ [])) name → (a || b) ≡ true
+    to true b same before there = refl
+    to false true same before there = refl
+    to false false same before there =
         ⊎_elim
-        (λ (earlier : Contains (map (λ w. w.name) weights) name). before earlier)
+        (λ (earlier : Contains (map (λ (w : Weight). w.name) weights) name). before earlier)
         (λ (last : Contains (weight.name ∷ []) name). ⊎_elim
         (λ (is : weight.name ≡ name). absurd (false≢true (sym same ∙ (bytes_eq-Decides name weight.name).1 (sym is))))
-        (λ (none : Contains [] name). absurd (contains_none name none))
+        (λ (nothing : Contains [] name). absurd (contains_none name nothing))
         (contains_cases weight.name [] name last))
         (contains_either (map (λ w. w.name) weights) (weight.name ∷ []) name (rw (map-append (λ (w : Weight). w.name) weights (weight ∷ [])) at there))

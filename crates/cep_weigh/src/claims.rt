@@ -2,15 +2,15 @@
 ghost use Rattle.std.specs.Prelude.{◌≡◌, ◌↔◌, [], ◌∷◌, ◌++◌, IsTrue, IfOk};
 ghost use Rattle.cep_weigh.specs.Claims.{IsNamedBefore};
 
-use crate::name_table::NameTable;
 use crate::weight::{Weight, Weights};
+use cep_base::FirstNames;
 use std::alloc::{AllocError, Global};
 use std::marker::Model;
 
 // Claims, whose names can be looked up.
 #[derive(Drop)]
 pub(crate) struct Claims {
-    names: NameTable,
+    names: FirstNames<u32>,
     weights: Weights,
 }
 
@@ -32,7 +32,7 @@ impl Claims {
         ensures { result ≡ [] }
     {
         Claims {
-            names: NameTable::new(alloc),
+            names: FirstNames::none(alloc),
             weights: Weights::new(alloc),
         }
     }
@@ -41,7 +41,7 @@ impl Claims {
     pub(crate) fn has_name(&self, name: &[u8]) -> bool
         ensures { IsTrue result ↔ IsNamedBefore self.now name.now }
     {
-        self.names.number(name).is_some()
+        self.names.has_name(name)
     }
 
     // These claims and one more at the end.
@@ -52,7 +52,7 @@ impl Claims {
             mut names,
             mut weights,
         } = self;
-        names.add(weight.name.bytes(), weight.line)?;
+        let _ = names.add(weight.name.bytes(), weight.line)?;
         weights.push(weight)?;
         Ok(Claims { names, weights })
     }

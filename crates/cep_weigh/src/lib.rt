@@ -12,7 +12,6 @@ mod fault;
 mod judging;
 pub mod laws;
 pub mod limits;
-mod name_table;
 mod numbering;
 mod reading;
 mod weight;

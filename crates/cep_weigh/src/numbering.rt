@@ -7,19 +7,18 @@ ghost use Rattle.cep_weigh.specs.Weights.{AreApart, AreNotNegative};
 ghost use Rattle.cep_weigh.specs.Claims.{AreNumbered, SomeIsUnknown};
 ghost use Rattle.cep_weigh.specs.Tables.{NamesLinear, NamesLinearBelow};
 
-use crate::name_table::NameTable;
 use crate::weight::{Part, WeightParts};
 use crate::written::NamedPart;
-use cep_base::PredKind;
+use cep_base::{FirstNames, PredKind};
 use cep_rule::{PredDecl, Signature};
 use std::alloc::{AllocError, Global};
 
 // The linear predicates by their names.
-pub(crate) fn linear_names(alloc: Global, signature: &Signature) -> Result<NameTable, AllocError>
+pub(crate) fn linear_names(alloc: Global, signature: &Signature) -> Result<FirstNames<u32>, AllocError>
     requires { length signature.now.preds ≤ MOST_PREDS }
     ensures { IfOk result (NamesLinear signature.now) }
 {
-    let mut table = NameTable::new(alloc);
+    let mut table = FirstNames::none(alloc);
     for i in 0..signature.preds.len() {
         add_linear(&mut table, i as u32, signature.preds.get(i))?;
     }
@@ -27,14 +26,14 @@ pub(crate) fn linear_names(alloc: Global, signature: &Signature) -> Result<NameT
 }
 
 // Adds the predicate with this number if it is linear.
-fn add_linear(table: &mut NameTable, number: u32, pred: &PredDecl) -> Result<(), AllocError>
+fn add_linear(table: &mut FirstNames<u32>, number: u32, pred: &PredDecl) -> Result<(), AllocError>
     ensures { OnOk result ((signature : Signature)
         → slice_get signature.preds number ≡ Some pred.now
         → NamesLinearBelow signature number table.old
         → NamesLinearBelow signature (number + 1) table.new) }
 {
     if is_linear(pred.kind) {
-        return table.add(pred.name.bytes(), number);
+        let _ = table.add(pred.name.bytes(), number)?;
     }
     Ok(())
 }
@@ -50,7 +49,7 @@ fn is_linear(kind: PredKind) -> bool
 pub(crate) fn numbered(
     alloc: Global,
     signature: &Signature,
-    linear: &NameTable,
+    linear: &FirstNames<u32>,
     parts: &[NamedPart],
 ) -> Result<Option<WeightParts>, AllocError>
     requires { NamesLinear signature.now linear.now }
@@ -60,7 +59,7 @@ pub(crate) fn numbered(
     let _ = signature;
     let mut sum = WeightParts::new(alloc);
     for part in parts {
-        match linear.number(part.name.bytes()) {
+        match linear.under(part.name.bytes()) {
             Some(pred) => {
                 let factor = part.factor;
                 sum.push(Part { pred, factor })?;

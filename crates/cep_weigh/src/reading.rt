@@ -9,13 +9,13 @@ ghost use Rattle.cep_weigh.specs.Tables.{NamesLinear};
 use crate::claims::Claims;
 use crate::fault::KeepFault;
 use crate::limits::MOST_CLAIMS;
-use crate::name_table::NameTable;
 use crate::numbering::{are_apart, are_not_negative, linear_names, numbered};
 use crate::weight::{Claim, Weight, Weights};
 use crate::words::says_nothing;
 use crate::writing::written_as;
 use crate::written::Written;
 use bstr::ByteSlice;
+use cep_base::FirstNames;
 use cep_rule::{Program, Signature};
 use std::alloc::{AllocError, Global};
 
@@ -26,7 +26,7 @@ use std::alloc::{AllocError, Global};
 /// `most` or `fall`, a name, `=`, and one or more parts with `+` between two, each a factor and the name
 /// of a linear predicate, with single spaces between words.
 ///
-/// Of a line's faults the first in the order of `KeepFault` is answered. Besides, only want of memory is
+/// Of a line's faults the first in the order of `KeepFault` is answered. Besides, only out of memory is
 /// refused.
 pub fn read_weights(
     alloc: Global,
@@ -57,7 +57,7 @@ pub fn read_weights(
 fn after_line(
     alloc: Global,
     signature: &Signature,
-    linear: &NameTable,
+    linear: &FirstNames<u32>,
     claims: Claims,
     number: u32,
     line: &[u8],
@@ -82,7 +82,7 @@ fn after_line(
 fn claim_of(
     alloc: Global,
     signature: &Signature,
-    linear: &NameTable,
+    linear: &FirstNames<u32>,
     claims: &Claims,
     number: u32,
     line: &[u8],

@@ -4,7 +4,7 @@ use Rattle.cep_weigh.proofs.Tabled.{below_none, below_all}
 use Rattle.cep_weigh.proofs.numbering.linear_names.Goals as goal
 
 pub loop-i-init : goal.loop-i-init
-loop-i-init c = rw c.new-table.ensures (below_none c.args.signature.now)
+loop-i-init c = rw c.none-table.ensures (below_none c.args.signature.now)
 
 pub loop-i-preserved : goal.loop-i-preserved
 loop-i-preserved c = c.in_ok-add_linear.ensures c.args.signature.now c.get.ensures c.loop-i.invariant
