@@ -8,7 +8,7 @@ use Rattle.std.specs.FinMap.Entries.{below_all, is_sorted}
 use Rattle.cep_term.specs.Tree.{AtomTree}
 use Rattle.cep_term.specs.Order.{atom_cmp}
 use Rattle.cep_term.specs.BagLaws.{BagLaws}
-use Rattle.cep_term.specs.Multiset.{Multiset, count_of, with_count, gathered, sum_of, held, once}
+use Rattle.cep_term.specs.Multiset.{Multiset, count_of, gathered, sum_of, held, once}
 use Rattle.cep_weigh.proofs.Worths.{worth_set, worth_sum}
 use Rattle.cep_weigh.specs.Weights.{copies_of}
 

@@ -1,18 +1,16 @@
 -- Sums of factors, one after another, and what bounds the copies of a predicate.
-use Rattle.std.proofs.Common.{◌≡◌, ⊎_elim, Bool, true, false, cond, not, ◌&&◌, ◌==◌, ℕ, suc, ◌+◌, ◌*◌, ◌/◌, ◌<◌, ◌≤◌, List, [], ◌∷◌, map, Contains, refl, sym, ap, subst, ◌∙◌, arith, mul_comm, le-div_iff_mul-le, ℤ, pos, ◌+ℤ◌, ◌*ℤ◌, ◌≤ℤ◌, ◌<ℤ◌}
+use Rattle.std.proofs.Common.{◌≡◌, ⊎_elim, Bool, true, false, cond, not, ◌&&◌, ◌==◌, ℕ, ◌+◌, ◌*◌, ◌/◌, ◌<◌, ◌≤◌, List, [], ◌∷◌, map, Contains, refl, sym, ap, subst, ◌∙◌, arith, mul_comm, le-div_iff_mul-le, ℤ, pos, ◌+ℤ◌, ◌*ℤ◌, ◌≤ℤ◌, ◌<ℤ◌}
 use Rattle.std.specs.Prelude.{filter, count_by}
-use Rattle.std.specs.List.{AllByRecursion}
 use Rattle.std.proofs.lemmas.Int.{ints}
 use Rattle.std.proofs.lemmas.List.Sums.{sum_by-cons}
 use Rattle.std.proofs.Math.IntN.{pos-*ℤ-pos}
 use Rattle.cep_base.proofs.Elements.{all_at, contains_cases}
-use Rattle.cep_term.specs.Tree.{AtomTree}
 use Rattle.cep_term.specs.Multiset.{Multiset}
 use Rattle.cep_rule.specs.Patterns.{PremiseTree}
 use Rattle.cep_weigh.specs.declared.weight.Claim.{Claim}
 use Rattle.cep_weigh.specs.declared.weight.Claim.TheVariants.{Keep, Most, Fall}
 use Rattle.cep_weigh.specs.declared.weight.Part.{Part}
-use Rattle.cep_weigh.specs.Weights.{weighed, copies_of, weight_of, Wants, ArePositive, factor_of, factors_of}
+use Rattle.cep_weigh.specs.Weights.{weighed, copies_of, weight_of, Wants, ArePositive, factors_of}
 use Rattle.cep_weigh.specs.WeightRuns.{GoesAsClaimed}
 use Rattle.cep_weigh.proofs.Sums.{weighed_sum, weighed_none, weighed_one, positive_not_negative, part_within}
 use Rattle.cep_weigh.proofs.Runs.{run_falls}

@@ -1,5 +1,5 @@
 -- The parts of a sum, word by word.
-use Rattle.std.proofs.Common.{◌≡◌, ℕ, Bool, true, false, List, [], ◌∷◌, ◌++◌, length, map, take, drop, get_or, Option, Some, None, ◌+◌, ◌-◌, ◌<◌, ◌≤◌, ◌==◌, ◌↔◌, refl, sym, ap, ◌∙◌, subst, arith}
+use Rattle.std.proofs.Common.{◌≡◌, ℕ, Bool, true, false, List, [], ◌∷◌, ◌++◌, length, map, take, drop, get_or, Option, Some, None, ◌-◌, ◌<◌, ◌≤◌, ◌==◌, ◌↔◌, refl, sym, ap, ◌∙◌, subst, arith}
 use Rattle.std.specs.Prelude.{IsTrue, IfSome, IfNone}
 use Rattle.std.proofs.lemmas.List.{take_all}
 use Rattle.std.proofs.lemmas.Bool.{eqb-true}
@@ -138,10 +138,10 @@ pub stuck_part : (words : List (List ℕ)) (parts all : List NamedPart) (left re
 stuck_part words parts all left rest mark factor name so_far each e is never =
     stuck words parts all left so_far each e (λ none. absurd (cc (is, none)))
     (λ behind part same named.
-        let h : mark ∷ factor ∷ name ∷ rest ≡ mark_of (is_first parts) ∷ signed_decimal part.factor ∷ part.name ∷ behind = sym is ∙ same in
-        let spelled : factor ≡ signed_decimal part.factor = cc in
-        let called : name ≡ part.name = cc in
-        never part named spelled called)
+    let h : mark ∷ factor ∷ name ∷ rest ≡ mark_of (is_first parts) ∷ signed_decimal part.factor ∷ part.name ∷ behind = sym is ∙ same in
+    let spelled : factor ≡ signed_decimal part.factor = cc in
+    let called : name ≡ part.name = cc in
+    never part named spelled called)
 
 -- a sum has some words
 pub no_words : {X : Type 0} (now : X → List ℕ) (xs : List X) (claim name : List ℕ) (written : Written) → (length xs == 0) ≡ true → IsWritable written → claim ∷ name ∷ map now xs ≡ claim_words written → ⊥

@@ -1,5 +1,5 @@
 -- Claims over whole runs, by induction.
-use Rattle.std.proofs.Common.{◌≡◌, ℕ, suc, ◌+◌, List, [], ◌∷◌, length, refl, sym, ◌∙◌, arith, ℤ, pos, ◌+ℤ◌, ◌-ℤ◌, ◌≤ℤ◌, ◌<ℤ◌}
+use Rattle.std.proofs.Common.{◌≡◌, ℕ, suc, List, [], ◌∷◌, length, ◌∙◌, arith, ℤ, pos, ◌+ℤ◌, ◌-ℤ◌, ◌≤ℤ◌, ◌<ℤ◌}
 use Rattle.std.specs.List.{AllByRecursion}
 use Rattle.std.proofs.lemmas.Int.{ints}
 use Rattle.cep_base.proofs.Lists.{all_weaker}
@@ -29,11 +29,10 @@ module _ (program : Parts) (claim : Claim) (parts : List Part) (changes : (rule 
   pub run_claimed : (state : Multiset) (run : List Multiset) → IsRun program state run → GoesAsClaimed claim parts state run
   run_claimed state [] is = tt
   run_claimed state (next ∷ later) is =
-      let follows : Follows program state next = is.0 in
-      (
+      let follows : Follows program state next = is.0 in (
         wants_states claim (weight_of parts next) (left_sum parts follows.rule) (weight_of parts state) (right_sum parts follows.rule)
-        (changes follows.rule follows.values state next follows.step)
-        (all_at (λ (rule : Rule). Wants claim (left_sum parts rule) (right_sum parts rule)) program.rules follows.rule kept follows.of_program),
+            (changes follows.rule follows.values state next follows.step)
+            (all_at (λ (rule : Rule). Wants claim (left_sum parts rule) (right_sum parts rule)) program.rules follows.rule kept follows.of_program),
         run_claimed next later is.1,
       )
 

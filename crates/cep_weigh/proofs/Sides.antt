@@ -2,7 +2,6 @@
 use Rattle.std.proofs.Common.{◌≡◌, ℕ, ◌+◌, Bool, true, false, cond, not, ◌&&◌, ◌||◌, ◌==◌, List, [], ◌∷◌, ◌++◌, map, Some, None, refl, sym, ap, subst, ◌∙◌, arith, IsSomeAnd, slice_get}
 use Rattle.std.specs.Prelude.{filter, count_by, option_map, unwrap_or, Option}
 use Rattle.std.proofs.lemmas.Bool.{eqb-true, false≢true}
-use Rattle.std.proofs.lemmas.List.{map-append}
 use Rattle.std.proofs.lemmas.List.Sums.{sum_by-cons, sum_by-append}
 use Rattle.cep_base.specs.declared.kind.PredKind.TheVariants.{Linear}
 use Rattle.cep_base.specs.Kinds.{is_of_facts}
@@ -15,7 +14,7 @@ use Rattle.cep_rule.specs.declared.rule.Rule.{Rule}
 use Rattle.cep_rule.specs.Patterns.{PremiseTree}
 use Rattle.cep_rule.specs.Binding.{needed_of}
 use Rattle.cep_rule.specs.Typing.{is_fact}
-use Rattle.cep_rule.specs.Instances.{full_instance, full_instances, kept_of, left_of, right_of}
+use Rattle.cep_rule.specs.Instances.{full_instance, full_instances, kept_of}
 use Rattle.cep_rule.specs.Step.{Step}
 use Rattle.cep_weigh.specs.Weights.{copies_of, used_of, made_of}
 use Rattle.cep_weigh.proofs.CopiesOf.{copies_sum, copies_gathered, copies_once}

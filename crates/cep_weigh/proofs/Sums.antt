@@ -1,5 +1,5 @@
 -- Weighed sums: how they change, and that they are not negative.
-use Rattle.std.proofs.Common.{◌≡◌, ◌⊎◌, ⊎_elim, Bool, true, false, cond, ◌==◌, eq-eqb, ℕ, suc, ◌+◌, ◌*◌, List, [], ◌∷◌, Contains, refl, sym, ap, subst, ◌∙◌, arith, mul-add, mul-one, ℤ, pos, negsuc, neg_ℤ, ◌+ℤ◌, ◌-ℤ◌, ◌*ℤ◌, ◌≤ℤ◌, ◌<ℤ◌}
+use Rattle.std.proofs.Common.{◌≡◌, ⊎_elim, true, false, cond, ◌==◌, eq-eqb, ℕ, suc, ◌+◌, ◌*◌, List, [], ◌∷◌, Contains, refl, sym, ap, subst, ◌∙◌, arith, mul-add, mul-one, ℤ, pos, negsuc, neg_ℤ, ◌+ℤ◌, ◌-ℤ◌, ◌*ℤ◌, ◌≤ℤ◌, ◌<ℤ◌}
 use Rattle.std.specs.List.{AllByRecursion}
 use Rattle.std.proofs.lemmas.Int.{ints}
 use Rattle.std.proofs.lemmas.Bool.{eqb-true, eqb-false}

@@ -1,6 +1,6 @@
 -- Tables of names: what a look-up gives after an addition, and which names stand in them.
-use Rattle.std.proofs.Common.{◌≡◌, ◌⊎◌, inl, inr, ⊎_elim, ℕ, zero, suc, ◌+◌, ◌<◌, ◌≤◌, Bool, true, false, cond, ◌||◌, List, [], ◌∷◌, ◌++◌, length, map, Option, Some, None, is_some, refl, sym, ap, ◌∙◌, subst, arith, Contains, slice_get, IsSomeAnd}
-use Rattle.std.specs.Prelude.{MatchOption, IsTrue, ◌↔◌, if◌then◌else◌}
+use Rattle.std.proofs.Common.{◌≡◌, ⊎_elim, ℕ, zero, suc, ◌+◌, ◌<◌, ◌≤◌, Bool, true, false, cond, ◌||◌, List, [], ◌∷◌, ◌++◌, length, map, Option, Some, None, is_some, refl, sym, ap, ◌∙◌, subst, arith, Contains, slice_get, IsSomeAnd}
+use Rattle.std.specs.Prelude.{MatchOption, if◌then◌else◌}
 use Rattle.std.specs.List.{list_any}
 use Rattle.std.specs.Str.{bytes_eq}
 use Rattle.std.proofs.lemmas.Slice.Eq.{bytes_eq-Decides}
@@ -12,7 +12,7 @@ use Rattle.cep_base.proofs.Elements.{contains_left, contains_right, contains_eit
 use Rattle.cep_rule.specs.declared.signature.PredDecl.{PredDecl}
 use Rattle.cep_rule.specs.declared.signature.Signature.{Signature}
 use Rattle.cep_weigh.specs.declared.weight.Weight.{Weight}
-use Rattle.cep_weigh.specs.Claims.{IsLinearNamed, IsNamedBefore}
+use Rattle.cep_weigh.specs.Claims.{IsLinearNamed}
 use Rattle.cep_weigh.specs.Tables.{NamesLinearBelow, NamesLinear, NamesClaims}
 
 abbrev Table : Type 0
@@ -105,9 +105,9 @@ module _ (signature : Signature) (i : ℕ) (decl : PredDecl) (at : slice_get sig
     by None never false same = λ pred low named.
         ⊎_elim (λ (less : pred < i). never pred less named)
         (λ (most : i ≤ pred).
-            let is : pred ≡ i = omega arith in
-            let here = named_at signature i decl name at (subst (λ p. IsLinearNamed signature p name) is named) in
-            false≢true (sym same ∙ (bytes_eq-Decides name decl.name).1 (sym here.0)))
+        let is : pred ≡ i = omega arith in
+        let here = named_at signature i decl name at (subst (λ p. IsLinearNamed signature p name) is named) in
+        false≢true (sym same ∙ (bytes_eq-Decides name decl.name).1 (sym here.0)))
         (cases_lt pred i)
 
 pub below_all : (signature : Signature) (table : Table) → NamesLinearBelow signature (length signature.preds) table → NamesLinear signature table
@@ -152,9 +152,10 @@ has_added name table other number = by (has_name table other) refl where
 
 pub one_claim_more : (weights : List Weight) (weight : Weight) (old new : Table) (number : ℕ) → NamesClaims weights old → new ≡ added old (weight.name, number) → NamesClaims (weights ++ weight ∷ []) new
 one_claim_more weights weight old new number names is name =
-    let after : has_name new name ≡ (has_name old name || bytes_eq name weight.name) = ap (λ t. has_name t name) is ∙ has_added name old weight.name number in
-    ((λ found. from (has_name old name) (bytes_eq name weight.name) refl (names name).0 (sym after ∙ found)),
-     (λ there. after ∙ to (has_name old name) (bytes_eq name weight.name) refl (names name).1 there))
+    let after : has_name new name ≡ (has_name old name || bytes_eq name weight.name) = ap (λ t. has_name t name) is ∙ has_added name old weight.name number in (
+      (λ found. from (has_name old name) (bytes_eq name weight.name) refl (names name).0 (sym after ∙ found)),
+      (λ there. after ∙ to (has_name old name) (bytes_eq name weight.name) refl (names name).1 there),
+    )
   where
     from : (a b : Bool) → bytes_eq name weight.name ≡ b → (a ≡ true → Contains (map (λ (w : Weight). w.name) weights) name) → (a || b) ≡ true → Contains (map (λ (w : Weight). w.name) (weights ++ weight ∷ [])) name
     from true b same before found = rw (map-append (λ (w : Weight). w.name) weights (weight ∷ [])) (contains_left (map (λ w. w.name) weights) (weight.name ∷ []) name (before refl))

@@ -1,18 +1,18 @@
 -- What the copies of a multiset are worth, by any function that is nothing for no copies: after a count is set, in a sum, and of a list that is gathered.
-use Rattle.std.proofs.Common.{◌≡◌, T, ℕ, ◌+◌, ◌<◌, Bool, true, false, cond, not, ◌&&◌, ◌==◌, List, [], ◌∷◌, Option, Some, None, unwrap_or, refl, sym, ap, subst, ◌∙◌, arith}
+use Rattle.std.proofs.Common.{◌≡◌, T, ℕ, ◌+◌, Bool, true, false, cond, not, ◌&&◌, ◌==◌, List, [], ◌∷◌, Option, Some, None, unwrap_or, refl, sym, ap, subst, ◌∙◌, arith}
 use Rattle.std.specs.Prelude.{sum_by, fold}
-use Rattle.std.proofs.lemmas.Bool.{eqb-true, eqb-false}
+use Rattle.std.proofs.lemmas.Bool.{eqb-true}
 use Rattle.std.proofs.lemmas.List.Sums.{sum_by-cons}
 use Rattle.std.specs.declared.cmp.Ordering.{Ordering}
 use Rattle.std.specs.declared.cmp.Ordering.TheVariants.{Less, Equal, Greater}
 use Rattle.std.specs.Ordering.{is_eq, is_lt, eq_by_cmp}
 use Rattle.std.specs.Cmp.{eq_by_cmp_equiv, alike_right}
 use Rattle.std.specs.FinMap as finite
-use Rattle.std.specs.FinMap.Entries.{find, put, where_key, below_all, by_order, is_sorted, is_sorted-put, is_sorted-where_key, find-where_key}
+use Rattle.std.specs.FinMap.Entries.{find, put, where_key, below_all, by_order, is_sorted, is_sorted-where_key, find-where_key}
 use Rattle.cep_term.specs.Tree.{AtomTree}
 use Rattle.cep_term.specs.Order.{atom_cmp}
 use Rattle.cep_term.specs.BagLaws.{BagLaws}
-use Rattle.cep_term.specs.Multiset.{Multiset, count_of, with_count, sum_of}
+use Rattle.cep_term.specs.Multiset.{Multiset, count_of, with_count}
 use Rattle.cep_term.specs.Entries.{IsRising, find_count}
 
 abbrev pub Counted : Type 0
@@ -64,12 +64,12 @@ module _ (laws : BagLaws) where
       let es = finite.entries bag in
       let rises : T (is_sorted atom_cmp (without a es)) = is_sorted-where_key atom_cmp (λ b. not (eq_by_cmp atom_cmp a b)) es (finite.entries_sorted bag) in
       ap (λ (z : Multiset). finite.entries z) (finite.same_map laws.total laws.ties (finite.remove bag a) (finite.from_sorted (without a es)) (λ q.
-          finite.get-remove laws.total bag a q
-          ∙ sym (finite.get-from_sorted atom_cmp (without a es) q rises
-          ∙ find-where_key atom_cmp (λ b. not (eq_by_cmp atom_cmp a b)) q (λ x tied. ap (λ r. not (is_eq r)) (sym (alike_right laws.total q x a tied))) es
-          ∙ turned (eq_by_cmp atom_cmp a q) (find atom_cmp q es)
-          ∙ ap (λ b. cond b None (find atom_cmp q es)) ((eq_by_cmp_equiv laws.total).symm a q)
-          ∙ ap (λ o. cond (eq_by_cmp atom_cmp q a) None o) (sym (finite.get-entries bag q)))))
+      finite.get-remove laws.total bag a q
+      ∙ sym (finite.get-from_sorted atom_cmp (without a es) q rises
+      ∙ find-where_key atom_cmp (λ b. not (eq_by_cmp atom_cmp a b)) q (λ x tied. ap (λ r. not (is_eq r)) (sym (alike_right laws.total q x a tied))) es
+      ∙ turned (eq_by_cmp atom_cmp a q) (find atom_cmp q es)
+      ∙ ap (λ b. cond b None (find atom_cmp q es)) ((eq_by_cmp_equiv laws.total).symm a q)
+      ∙ ap (λ o. cond (eq_by_cmp atom_cmp q a) None o) (sym (finite.get-entries bag q)))))
       ∙ finite.entries-from_sorted atom_cmp (without a es) rises
 
   module _ (worth : AtomTree → ℕ → ℕ) (nothing : (a : AtomTree) → worth a 0 ≡ 0) where

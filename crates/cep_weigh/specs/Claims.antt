@@ -1,5 +1,5 @@
 -- Files of claims: what a line says, or why it says no claim, and what a file says.
-use Rattle.std.specs.Prelude.{Bool, true, false, ◌≡◌, ◌⊎◌, ℕ, ◌+◌, ◌<◌, ◌==◌, List, [], ◌∷◌, ◌++◌, length, map, slice_get, IsSomeAnd, Contains, codes, ℤ, pos, ◌<ℤ◌}
+use Rattle.std.specs.Prelude.{Bool, true, false, ◌≡◌, ◌⊎◌, ℕ, ◌+◌, ◌<◌, ◌==◌, List, [], ◌∷◌, ◌++◌, length, map, slice_get, IsSomeAnd, Contains, codes}
 use Rattle.std.specs.List.{AllByRecursion, slice_split}
 use Rattle.std.specs.Fmt.{signed_decimal}
 use Rattle.bstr.specs.Text.{lines_of, without_terminator}

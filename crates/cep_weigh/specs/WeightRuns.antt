@@ -1,5 +1,5 @@
 -- Runs as lists of states, for weights: by any rules, whatever the stage, and however large a state becomes.
-use Rattle.std.specs.Prelude.{◌≡◌, ℕ, ◌/◌, ◌≤◌, List, [], ◌∷◌, length, slice_get, Some, Contains, ℤ, pos, ◌≤ℤ◌}
+use Rattle.std.specs.Prelude.{◌≡◌, ℕ, ◌/◌, ◌≤◌, List, [], ◌∷◌, length, slice_get, Some, Contains, pos, ◌≤ℤ◌}
 use Rattle.std.specs.List.{AllByRecursion}
 use Rattle.cep_term.specs.Tree.{Tree}
 use Rattle.cep_term.specs.Multiset.{Multiset}

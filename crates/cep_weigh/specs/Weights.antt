@@ -1,5 +1,5 @@
 -- Weights: what the parts of a claim make of a state and of the two sides of a rule, and what the claim wants.
-use Rattle.std.specs.Prelude.{◌≡◌, ℕ, ◌<◌, ◌==◌, ◌&&◌, if◌then◌else◌, not, List, [], ◌∷◌, map, sum_by, count_by, slice_get, Some, IsSomeAnd, ℤ, pos, ◌+ℤ◌, ◌*ℤ◌, ◌≤ℤ◌, ◌<ℤ◌, neg_ℤ}
+use Rattle.std.specs.Prelude.{◌≡◌, ℕ, ◌<◌, ◌==◌, ◌&&◌, if◌then◌else◌, not, List, [], ◌∷◌, sum_by, count_by, slice_get, Some, IsSomeAnd, ℤ, pos, ◌+ℤ◌, ◌*ℤ◌, ◌≤ℤ◌, ◌<ℤ◌, neg_ℤ}
 use Rattle.std.specs.List.{AllByRecursion}
 use Rattle.std.specs.FinMap as finite
 use Rattle.cep_base.specs.declared.kind.PredKind.TheVariants.{Linear}

@@ -9,12 +9,12 @@ use crate::laws::{claims_hold_of_runs, sums_add_factors};
 use crate::weight::{Against, Claim, Part, Weight};
 use cep_rule::{Premise, Program, Rule};
 
-/// The rule of least number that does not keep to the weight's claim, with both its sums, or none if
-/// each rule keeps to it. Then the claim holds of every run from the start: the weight stays, or never
-/// rises, or there are at most as many steps as the start weighs; and where all factors are positive, no
-/// state of a run has more copies of a part's predicate than the weight of the start divided by the
-/// part's factor. Of a rule that is answered each step breaks the claim; whether it ever applies is left
-/// open. Claims are this profile's. It takes no memory.
+/// The rule of least number that does not keep to the weight's claim, with both its sums, or none
+/// if each rule keeps to it. Then the claim holds of every run from the start: the weight stays,
+/// or never increases, or there are at most as many steps as the start weighs; and if all factors
+/// are positive, no state of a run has more copies of a part's predicate than the weight of the
+/// start divided by the part's factor. Of a rule that is answered each step breaks the claim;
+/// whether it ever applies is left open. Claims are this profile's. It takes no memory.
 pub fn judge(program: &Program, weight: &Weight) -> Option<Against>
     requires { IsWeightOf program.now weight.now }
     ensures rule { MatchOption result
@@ -100,7 +100,8 @@ fn left_sum(parts: &[Part], rule: &Rule) -> i64
 // The factor of a premise's predicate, and 0 where the premise is kept.
 fn used_factor(parts: &[Part], premise: &Premise) -> i64
     requires { AreFactors parts.now }
-    ensures value { result ≡ (if (premise_of premise.now).kept then pos 0 else factor_of parts.now (premise_of premise.now).atom.pred) }
+    ensures value { let seen = premise_of premise.now in
+        result ≡ (if seen.kept then pos 0 else factor_of parts.now seen.atom.pred) }
     ensures low { neg_ℤ (pos 1000000) ≤ℤ result }
     ensures high { result ≤ℤ pos 1000000 }
 {

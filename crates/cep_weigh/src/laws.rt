@@ -16,23 +16,26 @@ use cep_term::laws::bags_are_lawful;
 
 /// A step changes the weight by the right sum less the left sum of its rule.
 pub fn steps_change_weights()
-    ensures { (signature : Signature) (parts : List Part) (rule : Rule) (values : List Tree) (old new : Multiset)
+    ensures { (signature : Signature) (parts : List Part) (rule : Rule)
+        (values : List Tree) (old new : Multiset)
         → AreOfLinear signature parts
         → Step signature rule values old new
-        → weight_of parts new ≡ weight_of parts old +ℤ (right_sum parts rule -ℤ left_sum parts rule) }
+        → weight_of parts new ≡
+        weight_of parts old +ℤ (right_sum parts rule -ℤ left_sum parts rule) }
 {
     bags_are_lawful();
 }
 
-/// A claim to which each rule keeps holds of all runs; and no step by a rule that does not keep to it
-/// does what the claim wants.
+/// A claim to which each rule keeps holds of all runs; and no step by a rule that does not keep to
+/// it does what the claim wants.
 pub fn claims_hold_of_runs()
     ensures kept { (program : Parts) (claim : Claim) (parts : List Part)
         → AreOfLinear program.signature parts
         → (claim ≡ Fall → AreNotNegative parts)
         → IsKept program claim parts
         → HoldsOfRuns program claim parts }
-    ensures broken { (signature : Signature) (claim : Claim) (parts : List Part) (rule : Rule) (values : List Tree) (old new : Multiset)
+    ensures broken { (signature : Signature) (claim : Claim) (parts : List Part) (rule : Rule)
+        (values : List Tree) (old new : Multiset)
         → AreOfLinear signature parts
         → ¬ KeepsTo claim parts rule
         → Step signature rule values old new
@@ -41,11 +44,12 @@ pub fn claims_hold_of_runs()
     steps_change_weights();
 }
 
-/// The left sum adds the factors of the premises that are not kept, one after another, and the right sum
-/// those of the right atoms.
+/// The left sum adds the factors of the premises that are not kept, one after another, and the
+/// right sum those of the right atoms.
 pub fn sums_add_factors()
     ensures left { (parts : List Part) (rule : Rule)
-        → left_sum parts rule ≡ factors_of parts (map (λ premise. premise.atom.pred) (filter (λ premise. not premise.kept) rule.premises)) }
+        → left_sum parts rule ≡ factors_of parts
+        (map (λ premise. premise.atom.pred) (filter (λ premise. not premise.kept) rule.premises)) }
     ensures right { (parts : List Part) (rule : Rule)
         → right_sum parts rule ≡ factors_of parts (map (λ a. a.pred) rule.right) }
 {}

@@ -14,7 +14,10 @@ use cep_rule::{PredDecl, Signature};
 use std::alloc::{AllocError, Global};
 
 // The linear predicates by their names.
-pub(crate) fn linear_names(alloc: Global, signature: &Signature) -> Result<FirstNames<u32>, AllocError>
+pub(crate) fn linear_names(
+    alloc: Global,
+    signature: &Signature,
+) -> Result<FirstNames<u32>, AllocError>
     requires { length signature.now.preds ≤ MOST_PREDS }
     ensures { IfOk result (NamesLinear signature.now) }
 {

@@ -19,15 +19,15 @@ use cep_base::FirstNames;
 use cep_rule::{Program, Signature};
 use std::alloc::{AllocError, Global};
 
-/// The weights that the lines of a file of claims say, in their order, or the fault of the first line
-/// that says no claim. The bytes are at most 1,048,576. The format is this profile's: an LF ends a line,
-/// and a CR directly before it is dropped; the last line may lack its LF, and then keeps its CR. Lines
-/// are counted from 1. One that is empty or begins with `%` says nothing, and each other one is `keep`,
-/// `most` or `fall`, a name, `=`, and one or more parts with `+` between two, each a factor and the name
-/// of a linear predicate, with single spaces between words.
+/// The weights that the lines of a file of claims say, in their order, or the fault of the first
+/// line that says no claim. The bytes are at most 1,048,576. The format is this profile's: an LF
+/// ends a line, and a CR directly before it is dropped; the last line may lack its LF, and then
+/// keeps its CR. Lines are counted from 1. One that is empty or begins with `%` says nothing, and
+/// each other one is `keep`, `most` or `fall`, a name, `=`, and one or more parts with `+` between
+/// two, each a factor and the name of a linear predicate, with single spaces between words.
 ///
-/// Of a line's faults the first in the order of `KeepFault` is answered. Besides, only out of memory is
-/// refused.
+/// Of a line's faults the first in the order of `KeepFault` is answered. Besides, only out of
+/// memory is refused.
 pub fn read_weights(
     alloc: Global,
     program: &Program,
@@ -67,7 +67,8 @@ fn after_line(
         (λ read. IfOk read (AddsLine signature.now number line.now claims)) }
     ensures fault { IfOk result
         (λ read. IfErr read
-            (λ fault. (¬ SaysNothing line.now) × IsFaultOf signature.now claims line.now number fault)) }
+        (λ fault. (¬ SaysNothing line.now)
+        × IsFaultOf signature.now claims line.now number fault)) }
 {
     if says_nothing(line) {
         return Ok(Ok(claims));
@@ -112,7 +113,12 @@ fn claim_of(
         }
     }
     let line = number;
-    Ok(Ok(Weight { line, claim, name, sum }))
+    Ok(Ok(Weight {
+        line,
+        claim,
+        name,
+        sum,
+    }))
 }
 
 // Whether each rule is to lower the weight.

@@ -20,8 +20,8 @@ pub struct Part {
 /// The parts of a weight, in written order.
 pub type WeightParts = List<Part>;
 
-/// A weight with its claim: the number of its line, counted from 1, what is claimed, its name and its
-/// parts. `IsWeightOf` says which weights are of a program.
+/// A weight with its claim: the number of its line, counted from 1, what is claimed, its name and
+/// its parts. `IsWeightOf` says which weights are of a program.
 #[derive(Debug, Drop)]
 pub struct Weight {
     pub line: u32,

@@ -35,7 +35,9 @@ pub(crate) fn words_of(alloc: Global, line: &[u8]) -> Result<Vec<&[u8]>, AllocEr
 
 // What the word of a claim claims.
 pub(crate) fn claim_word(word: &[u8]) -> Option<Claim>
-    ensures { MatchOption result ((claim : Claim) → word.now ≢ claim_word claim) (λ claim. word.now ≡ claim_word claim) }
+    ensures { MatchOption result
+        ((claim : Claim) → word.now ≢ claim_word claim)
+        (λ claim. word.now ≡ claim_word claim) }
 {
     match word {
         b"keep" => Some(Claim::Keep),
@@ -52,7 +54,11 @@ pub(crate) fn factor_word(word: &[u8]) -> Option<i64>
         (λ factor. IsFactor factor × (word.now ≡ signed_decimal factor)) }
 {
     let factor = number_word(word)?;
-    if is_factor(factor) { Some(factor) } else { None }
+    if is_factor(factor) {
+        Some(factor)
+    } else {
+        None
+    }
 }
 
 // Whether the number may be a factor.
@@ -117,5 +123,8 @@ fn is_name_byte(byte: u8) -> bool
 fn is_free(word: &[u8]) -> bool
     ensures { IsTrue result ↔ AllByRecursion (λ reserved. word.now ≢ reserved) reserved_words }
 {
-    !matches!(word, b"type" | b"pred" | b"bwd" | b"fact" | b"stage" | b"context" | b"qui")
+    !matches!(
+        word,
+        b"type" | b"pred" | b"bwd" | b"fact" | b"stage" | b"context" | b"qui"
+    )
 }

@@ -14,7 +14,8 @@ use std::alloc::{AllocError, Global};
 // The claim that the line is written as.
 pub(crate) fn written_as(alloc: Global, line: &[u8]) -> Result<Option<Written>, AllocError>
     ensures some { IfOk result (λ read. IfSome read (IsWrittenAs line.now)) }
-    ensures none { IfOk result (λ read. IfNone read ((written : Written) → ¬ IsWrittenAs line.now written)) }
+    ensures none { IfOk result
+        (λ read. IfNone read ((written : Written) → ¬ IsWrittenAs line.now written)) }
 {
     let words = words_of(alloc, line)?;
     match words.as_slice() {
@@ -30,8 +31,12 @@ fn claim_of(
     name: &[u8],
     words: &[&[u8]],
 ) -> Result<Option<Written>, AllocError>
-    ensures some { IfOk result (λ read. IfSome read (λ written. IsWritable written × (claim.now ∷ name.now ∷ map (λ word. word.now) words.now ≡ claim_words written))) }
-    ensures none { IfOk result (λ read. IfNone read ((written : Written) → IsWritable written → claim.now ∷ name.now ∷ map (λ word. word.now) words.now ≢ claim_words written)) }
+    ensures some { let all = claim.now ∷ name.now ∷ map (λ word. word.now) words.now in
+        IfOk result (λ read. IfSome read
+        (λ written. IsWritable written × (all ≡ claim_words written))) }
+    ensures none { let all = claim.now ∷ name.now ∷ map (λ word. word.now) words.now in
+        IfOk result (λ read. IfNone read
+        ((written : Written) → IsWritable written → all ≢ claim_words written)) }
 {
     let Some(claim) = claim_word(claim) else {
         return Ok(None);
@@ -53,8 +58,12 @@ fn claim_of(
 
 // The parts of the sum whose words these are.
 fn parts_of(alloc: Global, words: &[&[u8]]) -> Result<Option<NamedParts>, AllocError>
-    ensures some { IfOk result (λ read. IfSome read (λ parts. AllByRecursion IsNamedPart parts × (map (λ word. word.now) words.now ≡ parts_words true parts))) }
-    ensures none { IfOk result (λ read. IfNone read ((parts : List NamedPart) → AllByRecursion IsNamedPart parts → map (λ word. word.now) words.now ≢ parts_words true parts)) }
+    ensures some { let all = map (λ word. word.now) words.now in
+        IfOk result (λ read. IfSome read
+        (λ parts. AllByRecursion IsNamedPart parts × (all ≡ parts_words true parts))) }
+    ensures none { let all = map (λ word. word.now) words.now in
+        IfOk result (λ read. IfNone read ((parts : List NamedPart)
+        → AllByRecursion IsNamedPart parts → all ≢ parts_words true parts)) }
 {
     let mut parts = NamedParts::new(alloc);
     let mut rest = words;
@@ -68,7 +77,11 @@ fn parts_of(alloc: Global, words: &[&[u8]]) -> Result<Option<NamedParts>, AllocE
         }
         rest = behind;
     }
-    if rest.is_empty() { Ok(Some(parts)) } else { Ok(None) }
+    if rest.is_empty() {
+        Ok(Some(parts))
+    } else {
+        Ok(None)
+    }
 }
 
 // Whether the word is the mark before a part, which may be the first.
@@ -84,8 +97,10 @@ fn is_mark(first: bool, word: &[u8]) -> bool
 
 // The part that the two words are.
 fn part_of(alloc: Global, factor: &[u8], name: &[u8]) -> Result<Option<NamedPart>, AllocError>
-    ensures some { IfOk result (λ read. IfSome read (λ part. IsNamedPart part × (factor.now ≡ signed_decimal part.factor) × (name.now ≡ part.name))) }
-    ensures none { IfOk result (λ read. IfNone read ((part : NamedPart) → IsNamedPart part → factor.now ≡ signed_decimal part.factor → name.now ≢ part.name)) }
+    ensures some { IfOk result (λ read. IfSome read (λ part. IsNamedPart part
+        × (factor.now ≡ signed_decimal part.factor) × (name.now ≡ part.name))) }
+    ensures none { IfOk result (λ read. IfNone read ((part : NamedPart) → IsNamedPart part
+        → factor.now ≡ signed_decimal part.factor → name.now ≢ part.name)) }
 {
     match factor_word(factor) {
         Some(factor) => {

@@ -1,8 +1,8 @@
-use Rattle.std.proofs.Common.{◌≡◌, rules, sym, ap, ◌∙◌, subst, arith, slice_get, Some}
+use Rattle.std.proofs.Common.{◌≡◌, rules, sym, ap, ◌∙◌, subst, arith, slice_get}
 use mir.Syntax.{w64}
 use mir.Val.{SFits}
 use Rattle.cep_base.proofs.Lists.{some_same}
-use Rattle.cep_weigh.specs.Weights.{left_sum, right_sum, Wants, KeepsTo}
+use Rattle.cep_weigh.specs.Weights.{left_sum, right_sum, Wants}
 use Rattle.cep_weigh.proofs.Adding.{unwanted}
 use Rattle.cep_weigh.proofs.Holding.{kept_all}
 use Rattle.cep_weigh.proofs.judging.judge.Goals as goal
@@ -15,7 +15,7 @@ returns-then-not-wants-clause-broken c = λ rule values old new at step.
     let same : c.get-rule.result.now ≡ rule = some_same _ _ (sym c.get-rule.ensures ∙ ap (λ parts. slice_get parts.rules c.loop-i.i) c.parts.ensures.parts ∙ at) in
     c.claims_hold_of_runs.ensures.broken c.args.program.now.signature c.args.weight.now.claim c.args.weight.now.sum rule values old new c.requires.linear
     (λ keeps. never (subst (λ z. Wants c.args.weight.now.claim z c.right_sum-right.result) (sym (c.left_sum-left.ensures ∙ (λ i. left_sum (c.as_slice-parts.ensures i) (same i))))
-        (subst (λ z. Wants c.args.weight.now.claim (left_sum c.args.weight.now.sum rule) z) (sym (c.right_sum-right.ensures ∙ (λ i. right_sum (c.as_slice-parts.ensures i) (same i)))) keeps)))
+    (subst (λ z. Wants c.args.weight.now.claim (left_sum c.args.weight.now.sum rule) z) (sym (c.right_sum-right.ensures ∙ (λ i. right_sum (c.as_slice-parts.ensures i) (same i)))) keeps)))
     step
 
 pub returns-clause-rule : goal.returns-clause-rule

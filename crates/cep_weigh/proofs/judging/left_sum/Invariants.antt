@@ -1,6 +1,5 @@
 use Rattle.std.proofs.Common.{◌≡◌, ◌*◌, take, pos, neg_ℤ, ◌≤ℤ◌}
-use Rattle.cep_weigh.proofs.Adding.{added, used, entry_worth, copies_among}
-use Rattle.cep_weigh.specs.Weights.{factor_of}
+use Rattle.cep_weigh.proofs.Adding.{added, used}
 use Rattle.cep_weigh.proofs.judging.left_sum.Given as goal
 
 abbrev pub invariant-loop-i : goal.invariant-loop-i

@@ -1,4 +1,4 @@
-use Rattle.std.proofs.Common.{◌≡◌, length, sym, subst, arith}
+use Rattle.std.proofs.Common.{◌≡◌, length, subst, arith}
 use Rattle.cep_weigh.specs.Tables.{NamesLinearBelow}
 use Rattle.cep_weigh.proofs.Tabled.{below_none, below_all}
 use Rattle.cep_weigh.proofs.numbering.linear_names.Goals as goal

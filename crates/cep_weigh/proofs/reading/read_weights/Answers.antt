@@ -1,4 +1,4 @@
-use Rattle.std.proofs.Common.{◌≡◌, ◌≤◌, length, sym, ap, ◌∙◌, subst, arith}
+use Rattle.std.proofs.Common.{◌≤◌, length, ◌∙◌, subst, arith}
 use Rattle.cep_weigh.specs.Claims.{claim_lines}
 use Rattle.cep_weigh.proofs.Lined.{none_done, one_done, number_short, all_said, fault_said, all_of_program, told_ok, told_err}
 use Rattle.cep_weigh.proofs.reading.read_weights.Goals as goal

@@ -1,4 +1,4 @@
-use Rattle.std.proofs.Common.{◌≡◌, true, false, List, ℕ, ℤ, sym, ap, subst, ◌∙◌, bytes_eq, refl}
+use Rattle.std.proofs.Common.{◌≡◌, true, false, List, ℕ, sym, ap, subst, ◌∙◌, bytes_eq}
 use Rattle.std.specs.Fmt.{signed_decimal}
 use Rattle.std.specs.Str.{IsAscii}
 use Rattle.std.proofs.lemmas.Fmt.{IsAscii-signed, parse-signed_decimal}

@@ -1,6 +1,6 @@
-use Rattle.std.proofs.Common.{◌≡◌, ◌==◌, Bor, [], length, true, false, List, ℕ, ◌∷◌, map, refl, sym, ap, ◌∙◌, arith, subst}
+use Rattle.std.proofs.Common.{◌≡◌, ◌==◌, Bor, [], length, true, List, ℕ, refl, sym, ap, ◌∙◌, arith}
 use Rattle.cep_weigh.specs.Claims.{mark_of}
-use Rattle.cep_weigh.proofs.Parted.{is_first, three, some_at, none_at, first_is, part_read, stuck_short, stuck_mark, stuck_part}
+use Rattle.cep_weigh.proofs.Parted.{three, some_at, none_at, first_is, part_read, stuck_short, stuck_mark, stuck_part}
 use Rattle.cep_weigh.proofs.writing.parts_of.Goals as goal
 
 abbrev nowhere : Bor (List ℕ)
