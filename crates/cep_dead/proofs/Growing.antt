@@ -1,5 +1,5 @@
 -- Tables grow from round to round, and what passes one passes each later one.
-use Rattle.std.proofs.Common.{◌≡◌, ⊎_elim, inl, inr, ℕ, zero, suc, ◌+◌, ◌-◌, ◌≤◌, List, [], ◌∷◌, Contains, refl, sym, ap, subst, ◌∙◌, arith}
+use Rattle.std.proofs.Common.{◌≡◌, ⊎_elim, inl, inr, ℕ, zero, suc, ◌+◌, ◌-◌, ◌≤◌, List, refl, subst, arith}
 use Rattle.std.specs.List.{AllByRecursion}
 use Rattle.cep_base.proofs.Lists.{all_weaker}
 use Rattle.cep_term.specs.Tree.{AtomTree}
@@ -7,7 +7,7 @@ use Rattle.cep_rule.specs.declared.signature.Signature.{Signature}
 use Rattle.cep_rule.specs.declared.rule.Rule.{Rule}
 use Rattle.cep_rule.specs.declared.parts.Parts.{Parts}
 use Rattle.cep_dead.specs.Tables.{Item, of_stage, of_pred, of_con, HasConAt, IsOpen, CanBegin, Pass, Adds}
-use Rattle.cep_dead.specs.Rounds.{premises_of, RulePasses, IsMade, IsAddedByRule, IsAddedByClause, IsInRound, IsDead}
+use Rattle.cep_dead.specs.Rounds.{premises_of, RulePasses, IsAddedByRule, IsAddedByClause, IsInRound, IsDead}
 
 pub open_later : (table later : Item → Type 0) → ((item : Item) → table item → later item) → (a : AtomTree) → IsOpen table a → IsOpen later a
 open_later table later grows a is = record { pred = grows _ is.pred; cons = λ i c has. grows _ (is.cons i c has) }

@@ -1,16 +1,16 @@
 -- Instances that are open in a table: their patterns pass it, and what these add opens the instances of what they make.
-use Rattle.std.proofs.Common.{◌≡◌, ◌⊎◌, ⊎_elim, inl, inr, ℕ, zero, suc, List, [], ◌∷◌, map, Contains, Option, Some, None, unwrap_or, refl, sym, ap, subst, ◌∙◌, arith}
-use Rattle.std.specs.Prelude.{slice_get, slice_index_or, IsSomeAnd}
+use Rattle.std.proofs.Common.{◌≡◌, ◌⊎◌, inl, inr, ℕ, zero, suc, List, [], ◌∷◌, Option, Some, None, unwrap_or, refl, sym, ap, subst, ◌∙◌}
+use Rattle.std.specs.Prelude.{slice_get, IsSomeAnd}
 use Rattle.std.specs.List.{AllByRecursion}
 use Rattle.cep_base.proofs.Lists.{none_some, some_same}
 use Rattle.cep_base.proofs.Elements.{all_at, contains_map}
-use Rattle.cep_term.specs.Tree.{Tree, Trees, AtomTree, variable, node, none, more, IsGround}
+use Rattle.cep_term.specs.Tree.{Tree, Trees, AtomTree, variable, node, none, more}
 use Rattle.cep_term.specs.Values.{Values, value_of, term_instance, argument_instances}
 use Rattle.cep_rule.specs.declared.signature.Con.{Con}
 use Rattle.cep_rule.specs.declared.signature.Signature.{Signature}
 use Rattle.cep_rule.specs.Typing.{HasSort, HaveSorts, IsTyped, IsValue, AreValues}
 use Rattle.cep_rule.specs.Instances.{given, full_instance, full_instances}
-use Rattle.cep_dead.specs.Tables.{Item, of_stage, of_pred, of_con, argument_at, HasConAt, HasVarAt, StandsAlone, IsOpen, CanBegin, Pass, Adds}
+use Rattle.cep_dead.specs.Tables.{Item, argument_at, HasConAt, HasVarAt, IsOpen, CanBegin, Pass, Adds}
 
 pub from_some : {X : Type 0} (found : Option X) (P : X → Type 0) (Q : Type 0) → ((x : X) → found ≡ Some x → P x → Q) → IsSomeAnd found P → Q
 from_some None P Q f h = absurd h

@@ -1,15 +1,13 @@
 -- What passes all rounds together passes one of them: so these together are closed.
-use Rattle.std.proofs.Common.{◌≡◌, ◌↔◌, ⊎_elim, Bool, true, false, ◌==◌, inl, inr, ℕ, zero, suc, ◌≤◌, max, List, [], ◌∷◌, Contains, Some, refl, sym, ap, subst, ◌∙◌, arith}
-use Rattle.std.specs.List.{AllByRecursion}
+use Rattle.std.proofs.Common.{◌≡◌, ◌↔◌, ⊎_elim, true, false, ◌==◌, inl, inr, ℕ, zero, suc, ◌≤◌, max, List, [], ◌∷◌, Contains, Some, refl, ap, subst, ◌∙◌, arith}
 use Rattle.std.proofs.lemmas.Bool.{eqb-true, eqb-false}
 use Rattle.cep_base.proofs.Lists.{none_some, some_same}
 use Rattle.cep_base.proofs.Elements.{all_at, all_of, contains_none, contains_first, contains_behind, contains_cases}
 use Rattle.cep_term.specs.Tree.{Tree, Trees, AtomTree, variable, node, none, more}
-use Rattle.cep_rule.specs.declared.signature.Signature.{Signature}
 use Rattle.cep_rule.specs.declared.rule.Rule.{Rule}
 use Rattle.cep_rule.specs.declared.parts.Parts.{Parts}
-use Rattle.cep_dead.specs.Tables.{Item, of_stage, of_pred, of_con, argument_at, HasConAt, HasVarAt, StandsAlone, IsOpen, CanBegin, Pass, Adds}
-use Rattle.cep_dead.specs.Rounds.{premises_of, RulePasses, IsMade, IsAddedByRule, IsAddedByClause, IsInRound, IsDead, IsInSomeRound, IsClosed}
+use Rattle.cep_dead.specs.Tables.{Item, of_stage, of_pred, of_con, argument_at, HasConAt, HasVarAt, IsOpen, CanBegin, Pass, Adds}
+use Rattle.cep_dead.specs.Rounds.{premises_of, RulePasses, IsMade, IsInRound, IsDead, IsInSomeRound, IsClosed}
 use Rattle.cep_dead.proofs.Growing.{open_later, begin_later, pass_later, adds_later, later_item, rule_later, by_rule_later, by_clause_later}
 
 -- What holds of each argument from some round on holds of all from one round on.
@@ -33,11 +31,13 @@ module _ (Q : ℕ → AtomTree → Type 0) (grows : (n m : ℕ) (a : AtomTree) �
   all_atoms (b ∷ atoms) each =
       let first = each b (contains_first b atoms) in
       let later = all_atoms atoms (λ a there. each a (contains_behind b atoms a there)) in
-      let both = max first.0 later.0 in
-      (both, λ a there. ⊎_elim
-      (λ (same : b ≡ a). subst (Q both) same (grows first.0 both b (omega arith) first.1))
-      (λ behind. grows later.0 both a (omega arith) (later.1 a behind))
-      (contains_cases b atoms a there))
+      let both = max first.0 later.0 in (
+        both,
+        λ a there. ⊎_elim
+            (λ (same : b ≡ a). subst (Q both) same (grows first.0 both b (omega arith) first.1))
+            (λ behind. grows later.0 both a (omega arith) (later.1 a behind))
+            (contains_cases b atoms a there),
+      )
 
 module _ (program : Parts) where
   abbrev all_rounds : Item → Type 0
@@ -52,11 +52,13 @@ module _ (program : Parts) where
       let pred = is.pred in
       let cons = all_arguments Q (λ n m i t within holds c args e. later_item program n m within _ (holds c args e)) a.args (λ i. i)
       (λ i t there. one i t there) in
-      let both = max pred.0 cons.0 in
-      (both, record {
-        pred = later_item program pred.0 both (omega arith) _ pred.1;
-        cons = λ i c has. later_item program cons.0 both (omega arith) _ (cons.1 i (node c has.0) has.1 c has.0 refl);
-      })
+      let both = max pred.0 cons.0 in (
+        both,
+        record {
+          pred = later_item program pred.0 both (omega arith) _ pred.1;
+          cons = λ i c has. later_item program cons.0 both (omega arith) _ (cons.1 i (node c has.0) has.1 c has.0 refl);
+        },
+      )
     where
       same_con : (c d : ℕ) (args args' : Trees) → node c args ≡ node d args' → c ≡ d
       same_con c d args args' e = cc
@@ -101,11 +103,13 @@ module _ (program : Parts) where
         let opened = all_atoms (λ n a. IsOpen (in_round n) a) (λ n m a within is. open_later (in_round n) (in_round m) (later_item program n m within) a is) premises
         (λ a there. open_once a (all_at (IsOpen all_rounds) premises a pass.opened there)) in
         let possible = all_atoms CanBeginEach (λ n m a within each i v has. begin_from n m v within (each i v has)) premises of_atom in
-        let both = max opened.0 possible.0 in
-        (both, record {
-          opened = all_of (IsOpen (in_round both)) premises (λ a there. open_later (in_round opened.0) (in_round both) (later_item program opened.0 both (omega arith)) a (opened.1 a there));
-          possible = λ v alone. begin_from possible.0 both v (omega arith) (possible.1 alone.0 alone.1 alone.2.0 v alone.2.1);
-        })
+        let both = max opened.0 possible.0 in (
+          both,
+          record {
+            opened = all_of (IsOpen (in_round both)) premises (λ a there. open_later (in_round opened.0) (in_round both) (later_item program opened.0 both (omega arith)) a (opened.1 a there));
+            possible = λ v alone. begin_from possible.0 both v (omega arith) (possible.1 alone.0 alone.1 alone.2.0 v alone.2.1);
+          },
+        )
       where
         CanBeginEach : ℕ → AtomTree → Type 0
         CanBeginEach n a = (i v : ℕ) → HasVarAt a i v → (c : ℕ) × CanBegin program.signature (in_round n) kinds premises v c
@@ -144,11 +148,13 @@ module _ (program : Parts) where
   rule_once rule passes =
       let stage = passes.stage in
       let premises = pass_once rule.kinds (premises_of rule) passes.premises in
-      let both = max stage.0 premises.0 in
-      (both, record {
-        stage = later_item program stage.0 both (omega arith) _ stage.1;
-        premises = pass_later (in_round premises.0) (in_round both) (later_item program premises.0 both (omega arith)) program.signature rule.kinds (premises_of rule) premises.1;
-      })
+      let both = max stage.0 premises.0 in (
+        both,
+        record {
+          stage = later_item program stage.0 both (omega arith) _ stage.1;
+          premises = pass_later (in_round premises.0) (in_round both) (later_item program premises.0 both (omega arith)) program.signature rule.kinds (premises_of rule) premises.1;
+        },
+      )
 
   made_once : (rule : Rule) (item : Item) → IsMade program all_rounds rule item → (n : ℕ) × IsMade program (in_round n) rule item
   made_once rule item made =
@@ -170,24 +176,28 @@ module _ (program : Parts) where
     rules = λ item added.
         let passes = rule_once added.rule added.passes in
         let made = made_once added.rule item added.made in
-        let both = max passes.0 made.0 in
-        (suc both, inr (inl (record {
-          rule = added.rule;
-          of_program = added.of_program;
-          passes = rule_later program (in_round passes.0) (in_round both) (later_item program passes.0 both (omega arith)) added.rule passes.1;
-          made = made_from made.0 both (omega arith) added.rule item made.1;
-        })));
+        let both = max passes.0 made.0 in (
+          suc both,
+          inr (inl (record {
+            rule = added.rule;
+            of_program = added.of_program;
+            passes = rule_later program (in_round passes.0) (in_round both) (later_item program passes.0 both (omega arith)) added.rule passes.1;
+            made = made_from made.0 both (omega arith) added.rule item made.1;
+          })),
+        );
     clauses = λ item added.
         let clause = added.clause in
         let passes = pass_once clause.kinds clause.goals added.passes in
         let made = adds_once clause.kinds clause.goals clause.head item added.made in
-        let both = max passes.0 made.0 in
-        (suc both, inr (inr (record {
-          clause = clause;
-          of_program = added.of_program;
-          passes = pass_later (in_round passes.0) (in_round both) (later_item program passes.0 both (omega arith)) program.signature clause.kinds clause.goals passes.1;
-          made = adds_later (in_round made.0) (in_round both) (later_item program made.0 both (omega arith)) program.signature clause.kinds clause.goals clause.head item made.1;
-        })));
+        let both = max passes.0 made.0 in (
+          suc both,
+          inr (inr (record {
+            clause = clause;
+            of_program = added.of_program;
+            passes = pass_later (in_round passes.0) (in_round both) (later_item program passes.0 both (omega arith)) program.signature clause.kinds clause.goals passes.1;
+            made = adds_later (in_round made.0) (in_round both) (later_item program made.0 both (omega arith)) program.signature clause.kinds clause.goals clause.head item made.1;
+          })),
+        );
   }
 
   pub least : (table : Item → Type 0) → IsClosed program table → (n : ℕ) (item : Item) → in_round n item → table item

@@ -2,3 +2,4 @@ pub mod Tables
 pub mod Rounds
 pub mod Moves
 pub mod Whys
+pub mod Deads

@@ -42,12 +42,12 @@ pub record CanBegin (signature : Signature) (table : Item → Type 0) (kinds : L
   pub at_each : (a : AtomTree) (i : ℕ) → Contains premises a → HasVarAt a i v → table (of_con a.pred i c)
   pub typed : ¬ StandsAlone premises v → IsSomeAnd (slice_get signature.cons c) (λ con. slice_get kinds v ≡ Some con.sort)
 
--- Premises pass a table: each is open, and the set of each variable that stands by itself at a position of a premise has a constructor.
+-- Premises pass a table: each is open, and no set of a variable that stands by itself at a position of a premise is empty.
 pub record Pass (signature : Signature) (table : Item → Type 0) (kinds : List ℕ) (premises : List AtomTree) : Type 0 where
   pub opened : AllByRecursion (IsOpen table) premises
   pub possible : (v : ℕ) → StandsAlone premises v → (c : ℕ) × CanBegin signature table kinds premises v c
 
--- The item is one of those that an atom adds behind premises that pass: its predicate, and at each position the constructor that stands there, or each in the set of the variable that stands there.
+-- The item is one of those that an atom adds where these premises pass: its predicate, and at each position the constructor that stands there, or each in the set of the variable that stands there.
 abbrev pub Adds : Signature → (Item → Type 0) → List ℕ → List AtomTree → AtomTree → Item → Type 0
 Adds signature table kinds premises a (of_stage k) = ⊥
 Adds signature table kinds premises a (of_pred p) = p ≡ a.pred

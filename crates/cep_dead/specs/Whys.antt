@@ -5,24 +5,20 @@ use Rattle.cep_term.specs.Tree.{AtomTree}
 use Rattle.cep_rule.specs.declared.rule.Rule.{Rule}
 use Rattle.cep_rule.specs.declared.parts.Parts.{Parts}
 use Rattle.cep_rule.specs.declared.signature.Signature.{Signature}
+use Rattle.cep_dead.specs.declared.dead_rule.DeadWhy.{DeadWhy}
+use Rattle.cep_dead.specs.declared.dead_rule.DeadWhy.TheVariants.{Stage, Premise, Var}
 use Rattle.cep_dead.specs.Tables.{Item, of_stage, IsOpen, StandsAlone, CanBegin}
 use Rattle.cep_dead.specs.Rounds.{stage_of, premises_of}
 
--- Why a rule does not pass: its stage is not there, the premise at a place, counted from 1, is not open, or the set of a variable is empty.
-pub data Why : Type 0 where
-  no_stage : ℕ → Why
-  no_premise : ℕ → Why
-  no_value : ℕ → Why
-
 -- The premise at the place, counted from 1, is the first that is not open.
 pub record IsFirstShut (table : Item → Type 0) (premises : List AtomTree) (place : ℕ) : Type 0 where
-  pub front : List AtomTree
+  pub before : List AtomTree
   pub shut : AtomTree
   pub rest : List AtomTree
-  pub whole : premises ≡ front ++ shut ∷ rest
-  pub opened : AllByRecursion (IsOpen table) front
+  pub whole : premises ≡ before ++ shut ∷ rest
+  pub opened : AllByRecursion (IsOpen table) before
   pub is_shut : ¬ IsOpen table shut
-  pub placed : place ≡ length front + 1
+  pub placed : place ≡ length before + 1
 
 -- The variable is the first whose set is empty, among those that stand by themselves at a position of a premise.
 pub record IsFirstEmpty (signature : Signature) (table : Item → Type 0) (kinds : List ℕ) (premises : List AtomTree) (v : ℕ) : Type 0 where
@@ -31,8 +27,8 @@ pub record IsFirstEmpty (signature : Signature) (table : Item → Type 0) (kinds
   pub first : (w : ℕ) → w < v → StandsAlone premises w → (c : ℕ) × CanBegin signature table kinds premises w c
 
 -- This is why the rule does not pass the table: its stage is not there; else some premise is not open; else the set of some variable is empty.
-abbrev pub IsWhy : Parts → (Item → Type 0) → Rule → Why → Type 0
-IsWhy program table rule (no_stage stage) = (stage ≡ stage_of rule) × ¬ table (of_stage stage)
-IsWhy program table rule (no_premise place) = table (of_stage (stage_of rule)) × IsFirstShut table (premises_of rule) place
-IsWhy program table rule (no_value v) =
+abbrev pub IsWhy : Parts → (Item → Type 0) → Rule → DeadWhy → Type 0
+IsWhy program table rule (Stage stage) = (stage ≡ stage_of rule) × ¬ table (of_stage stage)
+IsWhy program table rule (Premise place) = table (of_stage (stage_of rule)) × IsFirstShut table (premises_of rule) place
+IsWhy program table rule (Var v) =
     table (of_stage (stage_of rule)) × AllByRecursion (IsOpen table) (premises_of rule) × IsFirstEmpty program.signature table rule.kinds (premises_of rule) v
