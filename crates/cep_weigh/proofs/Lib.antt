@@ -11,3 +11,4 @@ pub mod Tabled
 pub mod Numbered
 pub mod Adding
 pub mod Lined
+pub mod OneReading

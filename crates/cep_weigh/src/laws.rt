@@ -1,16 +1,20 @@
 //! Laws of weights. Each function computes nothing, and its contract is the law.
-ghost use Rattle.std.specs.Prelude.{◌≡◌, not, map, filter, List, ◌+ℤ◌, ◌-ℤ◌};
+ghost use Rattle.std.specs.Prelude.{◌≡◌, not, map, filter, List, ℕ, ◌+ℤ◌, ◌-ℤ◌};
 ghost use Rattle.cep_term.specs.Tree.{Tree};
 ghost use Rattle.cep_term.specs.Multiset.{Multiset};
 ghost use Rattle.cep_rule.specs.declared.signature.Signature.{Signature};
 ghost use Rattle.cep_rule.specs.declared.rule.Rule.{Rule};
 ghost use Rattle.cep_rule.specs.declared.parts.Parts.{Parts};
 ghost use Rattle.cep_rule.specs.Step.{Step};
+ghost use Rattle.cep_rule.specs.Program.{IsProgram};
 ghost use Rattle.cep_weigh.specs.declared.weight.Claim.{Claim};
 ghost use Rattle.cep_weigh.specs.declared.weight.Claim.TheVariants.{Fall};
 ghost use Rattle.cep_weigh.specs.declared.weight.Part.{Part};
 ghost use Rattle.cep_weigh.specs.Weights.{weight_of, left_sum, right_sum, Wants, KeepsTo, IsKept, AreOfLinear, AreNotNegative, factors_of};
 ghost use Rattle.cep_weigh.specs.WeightRuns.{HoldsOfRuns};
+ghost use Rattle.cep_weigh.specs.Claims.{HasClaims, HasFault};
+ghost use Rattle.cep_weigh.specs.declared.weight.Weight.{Weight};
+ghost use Rattle.cep_weigh.specs.declared.fault.KeepFault.{KeepFault};
 
 use cep_term::laws::bags_are_lawful;
 
@@ -52,4 +56,22 @@ pub fn sums_add_factors()
         (map (λ premise. premise.atom.pred) (filter (λ premise. not premise.kept) rule.premises)) }
     ensures right { (parts : List Part) (rule : Rule)
         → right_sum parts rule ≡ factors_of parts (map (λ a. a.pred) rule.right) }
+{}
+
+/// A file of claims says one list of claims or has one fault, and not both.
+pub fn one_reading()
+    ensures claims { (program : Parts) (bytes : List ℕ) (one other : List Weight)
+        → IsProgram program
+        → HasClaims program bytes one
+        → HasClaims program bytes other
+        → one ≡ other }
+    ensures fault { (program : Parts) (bytes : List ℕ) (one other : KeepFault)
+        → IsProgram program
+        → HasFault program bytes one
+        → HasFault program bytes other
+        → one ≡ other }
+    ensures either { (program : Parts) (bytes : List ℕ) (weights : List Weight) (fault : KeepFault)
+        → IsProgram program
+        → HasClaims program bytes weights
+        → ¬ HasFault program bytes fault }
 {}

@@ -8,6 +8,7 @@ ghost use Rattle.cep_weigh.specs.Tables.{NamesLinear};
 
 use crate::claims::Claims;
 use crate::fault::KeepFault;
+use crate::laws::one_reading;
 use crate::limits::MOST_CLAIMS;
 use crate::numbering::{are_apart, are_not_negative, linear_names, numbered};
 use crate::weight::{Claim, Weight, Weights};
@@ -39,6 +40,7 @@ pub fn read_weights(
         (λ read. IfOk read (AllByRecursion (IsWeightOf program.now))) }
     ensures fault { IfOk result (λ read. IfErr read (HasFault program.now bytes.now)) }
 {
+    one_reading();
     let signature = &program.parts().signature;
     let linear = linear_names(alloc, signature)?;
     let mut claims = Claims::new(alloc);

@@ -1,0 +1,244 @@
+-- A file of claims says one list of claims or has one fault.
+use Rattle.std.proofs.Common.{◌≡◌, ◌≢◌, ⊎_elim, inl, inr, ℕ, zero, suc, ◌+◌, Bool, true, false, List, [], ◌∷◌, ◌++◌, length, map, refl, sym, ap, ◌∙◌, subst, arith, Contains, slice_get, IsSomeAnd}
+use Rattle.std.specs.List.{AllByRecursion}
+use Rattle.std.specs.Fmt.{signed_decimal}
+use Rattle.cep_base.specs.declared.kind.PredKind.TheVariants.{Linear}
+use Rattle.cep_base.proofs.Elements.{contains_none, contains_cases}
+use Rattle.cep_rule.specs.declared.signature.PredDecl.{PredDecl}
+use Rattle.cep_rule.specs.declared.signature.Signature.{Signature}
+use Rattle.cep_rule.specs.declared.parts.Parts.{Parts}
+use Rattle.cep_rule.specs.Names.{AllDiffer}
+use Rattle.cep_weigh.specs.declared.weight.Claim.{Claim}
+use Rattle.cep_weigh.specs.declared.weight.Claim.TheVariants as claim
+use Rattle.cep_weigh.specs.declared.weight.Part.{Part}
+use Rattle.cep_weigh.specs.declared.weight.Weight.{Weight}
+use Rattle.cep_weigh.specs.declared.fault.KeepFault.{KeepFault}
+use Rattle.cep_weigh.specs.declared.fault.KeepFault.TheVariants.{Keep, KeepName, KeepTwice, KeepSign}
+use Rattle.cep_weigh.specs.declared.written.NamedPart.{NamedPart}
+use Rattle.cep_weigh.specs.declared.written.Written.{Written}
+use Rattle.cep_weigh.specs.Weights.{AreApart, AreNotNegative}
+use Rattle.cep_weigh.specs.Claims.{claim_lines, SaysNothing, claim_word, parts_words, IsNamedPart, IsWrittenAs, IsLinearNamed, AreNumbered, SomeIsUnknown, IsNamedBefore, IsClaimOf, IsKnown, SaysTwice, IsFaultOf, AddsLine, AddClaims, HasClaims, HasFault}
+use Rattle.cep_weigh.proofs.Numbers.{one_factor}
+
+-- a line is written as one claim
+abbrev head_of : List ℕ → ℕ
+head_of [] = 0
+head_of (byte ∷ bytes) = byte
+
+abbrev first_byte : Claim → ℕ
+first_byte claim.Keep = 107
+first_byte claim.Most = 109
+first_byte claim.Fall = 102
+
+begins : (c : Claim) → head_of (claim_word c) ≡ first_byte c
+begins claim.Keep = refl
+begins claim.Most = refl
+begins claim.Fall = refl
+
+one_word : (one other : Claim) → claim_word one ≡ claim_word other → one ≡ other
+one_word one other e = by one other (sym (begins one) ∙ ap head_of e ∙ begins other) where
+  by : (c d : Claim) → first_byte c ≡ first_byte d → c ≡ d
+  by claim.Keep claim.Keep same = refl
+  by claim.Keep claim.Most same = absurd (let h : 107 ≡ 109 = same in omega arith)
+  by claim.Keep claim.Fall same = absurd (let h : 107 ≡ 102 = same in omega arith)
+  by claim.Most claim.Keep same = absurd (let h : 109 ≡ 107 = same in omega arith)
+  by claim.Most claim.Most same = refl
+  by claim.Most claim.Fall same = absurd (let h : 109 ≡ 102 = same in omega arith)
+  by claim.Fall claim.Keep same = absurd (let h : 102 ≡ 107 = same in omega arith)
+  by claim.Fall claim.Most same = absurd (let h : 102 ≡ 109 = same in omega arith)
+  by claim.Fall claim.Fall same = refl
+
+one_sum : (first : Bool) (parts others : List NamedPart) → AllByRecursion IsNamedPart parts → AllByRecursion IsNamedPart others → parts_words first parts ≡ parts_words first others → parts ≡ others
+one_sum first [] [] each each' e = refl
+one_sum first [] (other ∷ others) each each' e = absurd cc
+one_sum first (part ∷ parts) [] each each' e = absurd cc
+one_sum first (part ∷ parts) (other ∷ others) each each' e =
+    let spelled : signed_decimal part.factor ≡ signed_decimal other.factor = cc in
+    let name : part.name ≡ other.name = cc in
+    let factor : part.factor ≡ other.factor = one_factor part.factor other.factor each.0.factor each'.0.factor spelled in
+    let same : part ≡ other = λ i. record { factor = factor i; name = name i } in
+    let behind : parts_words false parts ≡ parts_words false others = cc in
+    let rest : parts ≡ others = one_sum false parts others each.1 each'.1 behind in
+    λ i. same i ∷ rest i
+
+one_written : (line : List ℕ) (one other : Written) → IsWrittenAs line one → IsWrittenAs line other → one ≡ other
+one_written line one other is is' =
+    let e = sym is.words ∙ is'.words in
+    let word : claim_word one.claim ≡ claim_word other.claim = cc in
+    let name : one.name ≡ other.name = cc in
+    let words : parts_words true one.parts ≡ parts_words true other.parts = cc in
+    let claim = one_word one.claim other.claim word in
+    let parts = one_sum true one.parts other.parts is.writable.parts is'.writable.parts words in
+    λ i. record { claim = claim i; name = name i; parts = parts i }
+
+-- a name is that of one predicate
+abbrev Named : List PredDecl → ℕ → List ℕ → Type 0
+Named preds pred name = IsSomeAnd (slice_get preds pred) (λ decl. (decl.name ≡ name) × (decl.kind ≡ Linear))
+
+among : (preds : List PredDecl) (pred : ℕ) (name other : List ℕ) → AllByRecursion (λ next. other ≢ next) (map (λ decl. decl.name) preds) → Named preds pred name → other ≡ name → ⊥
+among [] pred name other apart is e = absurd is
+among (decl ∷ preds) zero name other apart is e = apart.0 (e ∙ sym is.0)
+among (decl ∷ preds) (suc pred) name other apart is e = among preds pred name other apart.1 is e
+
+one_pred : (preds : List PredDecl) (one other : ℕ) (name : List ℕ) → AllDiffer (map (λ decl. decl.name) preds) → Named preds one name → Named preds other name → one ≡ other
+one_pred [] one other name differ is is' = absurd is
+one_pred (decl ∷ preds) zero zero name differ is is' = refl
+one_pred (decl ∷ preds) zero (suc other) name differ is is' = absurd (among preds other name decl.name differ.0 is' is.0)
+one_pred (decl ∷ preds) (suc one) zero name differ is is' = absurd (among preds one name decl.name differ.0 is is'.0)
+one_pred (decl ∷ preds) (suc one) (suc other) name differ is is' = ap suc (one_pred preds one other name differ.1 is is')
+
+module _ (signature : Signature) (differ : AllDiffer (map (λ decl. decl.name) signature.preds)) where
+  one_numbering : (parts : List NamedPart) (one other : List Part) → AreNumbered signature parts one → AreNumbered signature parts other → one ≡ other
+  one_numbering [] [] [] are are' = refl
+  one_numbering [] [] (part ∷ other) are are' = absurd are'
+  one_numbering [] (part ∷ one) other are are' = absurd are
+  one_numbering (named ∷ parts) [] other are are' = absurd are
+  one_numbering (named ∷ parts) (part ∷ one) [] are are' = absurd are'
+  one_numbering (named ∷ parts) (part ∷ one) (part' ∷ other) are are' =
+      let pred : part.pred ≡ part'.pred = one_pred signature.preds part.pred part'.pred named.name differ are.1 are'.1 in
+      let factor : part.factor ≡ part'.factor = are.0 ∙ sym are'.0 in
+      let same : part ≡ part' = λ i. record { pred = pred i; factor = factor i } in
+      let rest : one ≡ other = one_numbering parts one other are.2 are'.2 in
+      λ i. same i ∷ rest i
+
+  sum_of_line : (line : List ℕ) (one other : Written) (sum sum' : List Part) → IsWrittenAs line one → IsWrittenAs line other → AreNumbered signature one.parts sum → AreNumbered signature other.parts sum' → sum ≡ sum'
+  sum_of_line line one other sum sum' is is' are are' =
+      one_numbering other.parts sum sum' (subst (λ (w : Written). AreNumbered signature w.parts sum) (one_written line one other is is') are) are'
+
+  -- a line says one claim
+  one_claim : (earlier : List Weight) (line : List ℕ) (number : ℕ) (one other : Weight) → IsClaimOf signature earlier line number one → IsClaimOf signature earlier line number other → one ≡ other
+  one_claim earlier line number one other is is' =
+      let same = one_written line is.written is'.written is.line_is is'.line_is in
+      let lines : one.line ≡ other.line = is.number_is ∙ sym is'.number_is in
+      let claims : one.claim ≡ other.claim = is.claim_is ∙ ap (λ (w : Written). w.claim) same ∙ sym is'.claim_is in
+      let names : one.name ≡ other.name = is.name_is ∙ ap (λ (w : Written). w.name) same ∙ sym is'.name_is in
+      let sums : one.sum ≡ other.sum = sum_of_line line is.written is'.written one.sum other.sum is.line_is is'.line_is is.numbered is'.numbered in
+      λ i. record { line = lines i; claim = claims i; name = names i; sum = sums i }
+
+  one_line : (number : ℕ) (line : List ℕ) (earlier one other : List Weight) → AddsLine signature number line earlier one → AddsLine signature number line earlier other → one ≡ other
+  one_line number line earlier one other (inl a) (inl b) = a.1 ∙ sym b.1
+  one_line number line earlier one other (inl a) (inr b) = absurd (b.1 a.0)
+  one_line number line earlier one other (inr a) (inl b) = absurd (a.1 b.0)
+  one_line number line earlier one other (inr a) (inr b) = a.3 ∙ ap (λ (w : Weight). earlier ++ w ∷ []) (one_claim earlier line number a.0 b.0 a.2 b.2) ∙ sym b.3
+
+  one_adding : (number : ℕ) (lines : List (List ℕ)) (earlier one other : List Weight) → AddClaims signature number lines earlier one → AddClaims signature number lines earlier other → one ≡ other
+  one_adding number [] earlier one other a b = a ∙ sym b
+  one_adding number (line ∷ lines) earlier one other a b =
+      let same = one_line number line earlier a.0 b.0 a.1 b.1 in
+      one_adding (number + 1) lines b.0 one other (subst (λ after. AddClaims signature (number + 1) lines after one) same a.2) b.2
+
+  -- a line has one fault, and then it says no claim
+  known_at : (parts : List NamedPart) (sum : List Part) (named : NamedPart) → AreNumbered signature parts sum → Contains parts named → (pred : ℕ) × IsLinearNamed signature pred named.name
+  known_at [] sum named are there = absurd (contains_none named there)
+  known_at (first ∷ parts) [] named are there = absurd are
+  known_at (first ∷ parts) (part ∷ sum) named are there =
+      ⊎_elim (λ (same : first ≡ named). (part.pred, subst (λ (p : NamedPart). IsLinearNamed signature part.pred p.name) same are.1))
+      (λ later. known_at parts sum named are.2 later) (contains_cases first parts named there)
+
+  none_unknown : (line : List ℕ) (one other : Written) (sum : List Part) → IsWrittenAs line one → IsWrittenAs line other → AreNumbered signature other.parts sum → ¬ SomeIsUnknown signature one.parts
+  none_unknown line one other sum is is' are unknown =
+      let here = subst (λ (w : Written). Contains w.parts unknown.0) (one_written line one other is is') unknown.1 in
+      let known = known_at other.parts sum unknown.0 are here in
+      unknown.2 known.0 known.1
+
+  twice_too : (earlier : List Weight) (line : List ℕ) (one other : IsKnown signature line) → SaysTwice earlier one → SaysTwice earlier other
+  twice_too earlier line one other (inl named) = inl (subst (λ (w : Written). IsNamedBefore earlier w.name) (one_written line one.written other.written one.line_is other.line_is) named)
+  twice_too earlier line one other (inr never) =
+      inr (λ apart. never (subst AreApart (sym (sum_of_line line one.written other.written one.sum other.sum one.line_is other.line_is one.numbered other.numbered)) apart))
+
+  known_of : (earlier : List Weight) (line : List ℕ) (number : ℕ) (weight : Weight) → IsClaimOf signature earlier line number weight → IsKnown signature line
+  known_of earlier line number weight is = record { written = is.written; line_is = is.line_is; sum = weight.sum; numbered = is.numbered }
+
+  not_twice_said : (earlier : List Weight) (line : List ℕ) (number : ℕ) (weight : Weight) (is : IsClaimOf signature earlier line number weight) → SaysTwice earlier (known_of earlier line number weight is) → ⊥
+  unfolding known_of
+  not_twice_said earlier line number weight is (inl named) = is.fresh (subst (IsNamedBefore earlier) (sym is.name_is) named)
+  not_twice_said earlier line number weight is (inr never) = never is.apart
+
+  claim_or_fault : (earlier : List Weight) (line : List ℕ) (number at : ℕ) (weight : Weight) (fault : KeepFault) → IsClaimOf signature earlier line number weight → IsFaultOf signature earlier line at fault → ⊥
+  claim_or_fault earlier line number at weight (Keep n) is why = why.1 is.written is.line_is
+  claim_or_fault earlier line number at weight (KeepName n) is why = none_unknown line why.1.0 is.written weight.sum why.1.1 is.line_is is.numbered why.1.2
+  claim_or_fault earlier line number at weight (KeepTwice n) is why =
+      not_twice_said earlier line number weight is (twice_too earlier line why.1.0 (known_of earlier line number weight is) why.1.1)
+  claim_or_fault earlier line number at weight (KeepSign n) is why =
+      let known = why.1.0 in
+      let claims : weight.claim ≡ claim.Fall = is.claim_is ∙ ap (λ (w : Written). w.claim) (one_written line is.written known.written is.line_is known.line_is) ∙ why.1.2 in
+      why.1.3 (subst AreNotNegative (sum_of_line line is.written known.written weight.sum known.sum is.line_is known.line_is is.numbered known.numbered) (is.signs claims))
+
+  one_fault : (earlier : List Weight) (line : List ℕ) (at : ℕ) (one other : KeepFault) → IsFaultOf signature earlier line at one → IsFaultOf signature earlier line at other → one ≡ other
+  one_fault earlier line at (Keep n) (Keep m) a b = ap Keep (a.0 ∙ sym b.0)
+  one_fault earlier line at (Keep n) (KeepName m) a b = absurd (a.1 b.1.0 b.1.1)
+  one_fault earlier line at (Keep n) (KeepTwice m) a b = absurd (a.1 b.1.0.written b.1.0.line_is)
+  one_fault earlier line at (Keep n) (KeepSign m) a b = absurd (a.1 b.1.0.written b.1.0.line_is)
+  one_fault earlier line at (KeepName n) (Keep m) a b = absurd (b.1 a.1.0 a.1.1)
+  one_fault earlier line at (KeepName n) (KeepName m) a b = ap KeepName (a.0 ∙ sym b.0)
+  one_fault earlier line at (KeepName n) (KeepTwice m) a b = absurd (none_unknown line a.1.0 b.1.0.written b.1.0.sum a.1.1 b.1.0.line_is b.1.0.numbered a.1.2)
+  one_fault earlier line at (KeepName n) (KeepSign m) a b = absurd (none_unknown line a.1.0 b.1.0.written b.1.0.sum a.1.1 b.1.0.line_is b.1.0.numbered a.1.2)
+  one_fault earlier line at (KeepTwice n) (Keep m) a b = absurd (b.1 a.1.0.written a.1.0.line_is)
+  one_fault earlier line at (KeepTwice n) (KeepName m) a b = absurd (none_unknown line b.1.0 a.1.0.written a.1.0.sum b.1.1 a.1.0.line_is a.1.0.numbered b.1.2)
+  one_fault earlier line at (KeepTwice n) (KeepTwice m) a b = ap KeepTwice (a.0 ∙ sym b.0)
+  one_fault earlier line at (KeepTwice n) (KeepSign m) a b = absurd (b.1.1 (twice_too earlier line a.1.0 b.1.0 a.1.1))
+  one_fault earlier line at (KeepSign n) (Keep m) a b = absurd (b.1 a.1.0.written a.1.0.line_is)
+  one_fault earlier line at (KeepSign n) (KeepName m) a b = absurd (none_unknown line b.1.0 a.1.0.written a.1.0.sum b.1.1 a.1.0.line_is a.1.0.numbered b.1.2)
+  one_fault earlier line at (KeepSign n) (KeepTwice m) a b = absurd (a.1.1 (twice_too earlier line b.1.0 a.1.0 b.1.1))
+  one_fault earlier line at (KeepSign n) (KeepSign m) a b = ap KeepSign (a.0 ∙ sym b.0)
+
+  adds_or_fault : (earlier after : List Weight) (line : List ℕ) (number at : ℕ) (fault : KeepFault) → AddsLine signature number line earlier after → ¬ SaysNothing line → IsFaultOf signature earlier line at fault → ⊥
+  adds_or_fault earlier after line number at fault (inl none) says why = says none.0
+  adds_or_fault earlier after line number at fault (inr one) says why = claim_or_fault earlier line number at one.0 fault one.2 why
+
+  -- the first line that says no claim is one
+  heads : (a b : List ℕ) (xs ys : List (List ℕ)) → a ∷ xs ≡ b ∷ ys → a ≡ b
+  heads a b xs ys e = cc
+
+  tails : (a b : List ℕ) (xs ys : List (List ℕ)) → a ∷ xs ≡ b ∷ ys → xs ≡ ys
+  tails a b xs ys e = cc
+
+  first_fault : (number : ℕ) (before before' rest rest' : List (List ℕ)) (line line' : List ℕ) (old earlier earlier' : List Weight) (one other : KeepFault)
+      → before ++ line ∷ rest ≡ before' ++ line' ∷ rest' → AddClaims signature number before old earlier → AddClaims signature number before' old earlier' → ¬ SaysNothing line → ¬ SaysNothing line'
+      → IsFaultOf signature earlier line (number + length before) one → IsFaultOf signature earlier' line' (number + length before') other → one ≡ other
+  first_fault number [] [] rest rest' line line' old earlier earlier' one other e a b says says' why why' =
+      one_fault earlier line (number + length {A = List ℕ} []) one other why
+      (subst (λ claims. IsFaultOf signature claims line (number + length {A = List ℕ} []) other) (b ∙ sym a) (subst (λ l. IsFaultOf signature earlier' l (number + length {A = List ℕ} []) other) (sym (heads line line' rest rest' e)) why'))
+  first_fault number [] (first ∷ before') rest rest' line line' old earlier earlier' one other e a b says says' why why' =
+      absurd (adds_or_fault old b.0 line number (number + length {A = List ℕ} []) one
+      (subst (λ l. AddsLine signature number l old b.0) (sym (heads line first rest (before' ++ line' ∷ rest') e)) b.1) says
+      (subst (λ claims. IsFaultOf signature claims line (number + length {A = List ℕ} []) one) a why))
+  first_fault number (first ∷ before) [] rest rest' line line' old earlier earlier' one other e a b says says' why why' =
+      absurd (adds_or_fault old a.0 line' number (number + length {A = List ℕ} []) other
+      (subst (λ l. AddsLine signature number l old a.0) (heads first line' (before ++ line ∷ rest) rest' e) a.1) says'
+      (subst (λ claims. IsFaultOf signature claims line' (number + length {A = List ℕ} []) other) b why'))
+  first_fault number (first ∷ before) (first' ∷ before') rest rest' line line' old earlier earlier' one other e a b says says' why why' =
+      let same = heads first first' (before ++ line ∷ rest) (before' ++ line' ∷ rest') e in
+      let after = one_line number first' old a.0 b.0 (subst (λ l. AddsLine signature number l old a.0) same a.1) b.1 in
+      let at : number + length (first ∷ before) ≡ number + 1 + length before = omega arith in
+      let at' : number + length (first' ∷ before') ≡ number + 1 + length before' = omega arith in
+      first_fault (number + 1) before before' rest rest' line line' b.0 earlier earlier' one other (tails first first' (before ++ line ∷ rest) (before' ++ line' ∷ rest') e)
+      (subst (λ claims. AddClaims signature (number + 1) before claims earlier) after a.2) b.2 says says'
+      (subst (λ (n : ℕ). IsFaultOf signature earlier line n one) at why) (subst (λ (n : ℕ). IsFaultOf signature earlier' line' n other) at' why')
+
+  all_or_fault : (number : ℕ) (before rest lines : List (List ℕ)) (line : List ℕ) (old earlier all : List Weight) (at : ℕ) (fault : KeepFault) → lines ≡ before ++ line ∷ rest → AddClaims signature number before old earlier → AddClaims signature number lines old all → ¬ SaysNothing line
+      → IsFaultOf signature earlier line at fault → ⊥
+  all_or_fault number [] rest [] line old earlier all at fault e a b says why = absurd cc
+  all_or_fault number [] rest (first ∷ lines) line old earlier all at fault e a b says why =
+      adds_or_fault old b.0 line number at fault (subst (λ l. AddsLine signature number l old b.0) (heads first line lines rest e) b.1) says (subst (λ claims. IsFaultOf signature claims line at fault) a why)
+  all_or_fault number (first ∷ before) rest [] line old earlier all at fault e a b says why = absurd cc
+  all_or_fault number (first ∷ before) rest (first' ∷ lines) line old earlier all at fault e a b says why =
+      let same = heads first' first lines (before ++ line ∷ rest) e in
+      let after = one_line number first old a.0 b.0 a.1 (subst (λ l. AddsLine signature number l old b.0) same b.1) in
+      all_or_fault (number + 1) before rest lines line b.0 earlier all at fault (tails first' first lines (before ++ line ∷ rest) e)
+      (subst (λ claims. AddClaims signature (number + 1) before claims earlier) after a.2) b.2 says why
+
+module _ (program : Parts) (differ : AllDiffer (map (λ decl. decl.name) program.signature.preds)) (bytes : List ℕ) where
+  pub one_list : (one other : List Weight) → HasClaims program bytes one → HasClaims program bytes other → one ≡ other
+  one_list one other a b = one_adding program.signature differ 1 (claim_lines bytes) [] one other a b
+
+  pub one_first : (one other : KeepFault) → HasFault program bytes one → HasFault program bytes other → one ≡ other
+  one_first one other a b =
+      first_fault program.signature differ 1 a.before b.before a.rest b.rest a.line b.line [] a.earlier b.earlier one other (sym a.cut ∙ b.cut) a.add b.add a.says b.says
+      (subst (λ (n : ℕ). IsFaultOf program.signature a.earlier a.line n one) (turn (length a.before)) a.why) (subst (λ (n : ℕ). IsFaultOf program.signature b.earlier b.line n other) (turn (length b.before)) b.why)
+    where
+      turn : (n : ℕ) → n + 1 ≡ 1 + n
+      turn n = omega arith
+
+  pub not_both : (weights : List Weight) (fault : KeepFault) → HasClaims program bytes weights → HasFault program bytes fault → ⊥
+  not_both weights fault a b = all_or_fault program.signature differ 1 b.before b.rest (claim_lines bytes) b.line [] b.earlier weights (length b.before + 1) fault b.cut b.add a b.says b.why
