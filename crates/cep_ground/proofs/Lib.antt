@@ -31,3 +31,5 @@ pub mod TypedTerms
 pub mod Spelled
 pub mod Located
 pub mod RefusedDrafts
+pub mod OneRefusal
+pub mod Accepted

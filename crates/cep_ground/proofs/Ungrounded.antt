@@ -95,6 +95,19 @@ pub record IsFirstUngrounded (source : Source) (pos : Pos) : Type 0 where
   pub least : (other : ℕ) → IsUngroundedIn source other → at ≤ other
   pub pos_is : IsPlaceAfter (take at source.text) pos
 
+-- the rules of the parts have as many backward premises as are written
+abbrev AreCounted : Source → Type 0
+AreCounted source = (item : RuleItem) (rule : Rule) → Contains (rules_of source) item → IsRuleBy source item rule → length rule.backs ≡ length (backs_at source item)
+
+-- a premise that calls a bad pair stands at some place
+pub placed : (source : Source) (parts : Parts) → AreParts source parts → AreCounted source → (n : ℕ) (rule : Rule) → slice_get parts.rules n ≡ Some rule → (i : ℕ) → IsUngroundedAt parts.clauses rule i → (at : ℕ) × IsUngroundedIn source at
+placed source parts are counted n rule is i calls =
+    let item = item_of source (rules_of source) parts.rules n rule are.rules_are is in
+    let size = counted item.item rule (to_contains (rules_of source) item.item (in_got (rules_of source) n item.item item.there)) item.holds in
+    let within = called_within parts.clauses rule i calls in
+    let at = item_within (backs_at source item.item) i (omega (arith, size, within)) in
+    (at.item, record { parts = parts; declared = are; number = n; premise = i; item = item.item; rule = rule; written = item.there; numbered = is; calls = calls; here = at.there })
+
 module _ (source : Source) (parts : Parts) (are : AreParts source parts) (marks : List (List Bool)) (marked : AreAllMarks parts.clauses parts.rules marks) where
   -- what stands at a marked place is ungrounded
   ungrounded_at : (at : ℕ) → Contains (all_marked (map (backs_at source) (rules_of source)) marks) at → IsUngroundedIn source at
@@ -135,14 +148,9 @@ module _ (source : Source) (parts : Parts) (are : AreParts source parts) (marks 
         record { at = least.at; is = ungrounded_at least.at least.there; least = λ other is. least.least other (marked_at other is); pos_is = least.pos_is }
 
     -- where no place is marked, all rules are grounded
-    pub all_grounded : ((item : RuleItem) (rule : Rule) → Contains (rules_of source) item → IsRuleBy source item rule → length rule.backs ≡ length (backs_at source item))
-        → IsEarliest (all_marked lists marks) None → AllByRecursion (IsGrounded parts.clauses) parts.rules
+    pub all_grounded : AreCounted source → IsEarliest (all_marked lists marks) None → AllByRecursion (IsGrounded parts.clauses) parts.rules
     all_grounded counted none =
         all_from_places (IsGrounded parts.clauses) parts.rules (λ n rule is i calls.
-        let item = item_of source (rules_of source) parts.rules n rule are.rules_are is in
-        let size = counted item.item rule (to_contains (rules_of source) item.item (in_got (rules_of source) n item.item item.there)) item.holds in
-        let within = called_within parts.clauses rule i calls in
-        let at = item_within (backs_at source item.item) i (omega (arith, size, within)) in
-        let there = marked_at at.item (record { parts = parts; declared = are; number = n; premise = i; item = item.item; rule = rule; written = item.there; numbered = is; calls = calls; here = at.there }) in
-        let pos = at_pos source.text (all_marked (map (backs_at source) (rules_of source)) marks) (all_marked lists marks) at.item (all_marked_places source.text (map (backs_at source) (rules_of source)) lists marks places) there in
+        let at = placed source parts are counted n rule is i calls in
+        let pos = at_pos source.text (all_marked (map (backs_at source) (rules_of source)) marks) (all_marked lists marks) at.0 (all_marked_places source.text (map (backs_at source) (rules_of source)) lists marks places) (marked_at at.0 at.1) in
         contains_none pos.pos (subst (λ ps. Contains ps pos.pos) none pos.there))

@@ -12,11 +12,10 @@ use cep_refusal::{Fault, Reason, Refusal};
 use cep_rule::Program;
 use std::alloc::{AllocError, Global};
 
-/// The program that a text spells, or why it is refused: of all that is wrong with it what is told
-/// first, by the phase in which it is judged, its place and its number. The syntax, the limits and
-/// the refusals are this profile's; that atoms are well typed, that linear and backward predicates
-/// do not mix, and that each variable of a right side occurs on the left, is Ceptre's; facts are this
-/// profile's.
+/// The program that a text spells, or why it is refused: the first of its faults, by phase, place and
+/// number. The syntax, the limits, the refusals and facts are this profile's; that atoms are well
+/// typed, that states have no atom of a backward predicate and clauses no other, and that each
+/// variable of a right side occurs on the left, is Ceptre's.
 pub fn accept(alloc: Global, text: &[u8]) -> Result<Result<Program, Refusal>, AllocError>
     ensures { IfOk result (λ answer. IsAccepted text.now answer) }
 {

@@ -12,7 +12,10 @@ ghost use Rattle.cep_parse.specs.Written.{IsItemOf};
 
 /// Symbols are one raw file at most, so what `parse` accepts is a function of the text.
 pub fn one_raw_file()
-    ensures { (symbols : List Symbol) (one : List RawItem) (other : List RawItem) → File symbols one → File symbols other → one ≡ other }
+    ensures { (symbols : List Symbol) (one other : List RawItem)
+        → File symbols one
+        → File symbols other
+        → one ≡ other }
 {}
 
 /// The items of a raw file are made of its tokens: names stand at names, variables at variables,
@@ -29,7 +32,7 @@ pub fn items_are_made_of_tokens()
 {}
 
 /// The tokens of a text have one raw file or one first fault, so what `parse` answers is a function
-/// of the text, but for want of memory.
+/// of the text, but for running out of memory.
 pub fn parsed_once()
     ensures { (text : List ℕ) (tokens : List Token) (one other : Result (List RawItem) ParseFault)
         → IsParsed text tokens one
@@ -39,7 +42,8 @@ pub fn parsed_once()
     one_raw_file();
 }
 
-/// All tokens of a text have a raw file, or a first fault.
+/// The tokens of each text have a raw file, or a first fault.
 pub fn all_tokens_are_parsed()
-    ensures { (text : List ℕ) (tokens : List Token) → (answer : Result (List RawItem) ParseFault) × IsParsed text tokens answer }
+    ensures { (text : List ℕ) (tokens : List Token)
+        → (answer : Result (List RawItem) ParseFault) × IsParsed text tokens answer }
 {}

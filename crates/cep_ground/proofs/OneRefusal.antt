@@ -1,0 +1,149 @@
+-- A text is refused for one fault at most, and for some fault where anything is wrong with it.
+use Rattle.std.proofs.Common.{◌≡◌, ◌⊎◌, inl, inr, ⊎_elim, ℕ, zero, suc, ◌+◌, ◌*◌, ◌<◌, ◌≤◌, ◌==◌, if◌then◌else◌, List, [], ◌++◌, take, refl, sym, ap, ◌∙◌, arith, append-nil}
+use Rattle.std.proofs.lemmas.Bool.{cases_lt}
+use Rattle.cep_base.specs.declared.place.Pos.{Pos}
+use Rattle.cep_lex.specs.Places.{IsPlaceAfter}
+use Rattle.cep_refusal.specs.declared.fault.Fault.{Fault}
+use Rattle.cep_refusal.specs.declared.refusal.Refusal.{Refusal}
+use Rattle.cep_refusal.specs.declared.reason.Reason.{Reason}
+use Rattle.cep_refusal.specs.declared.reason.Reason.TheVariants.{BadByte, NameLong, Unexpected, Nested, Twice, Unknown, WrongKind, WrongArity, TypeClash, VarInContext, BwdInState, LinearInClause, BadQui, NoTrace, TwoTraces, Unbound, Ungrounded, OverLimit, TooLong}
+use Rattle.cep_refusal.specs.Reasons.{number, phase}
+use Rattle.cep_refusal.specs.Told.{Tells}
+use Rattle.cep_ground.specs.Refusals.{IsWrong, IsRefusedFor}
+use Rattle.cep_ground.proofs.PlaceOrder.{later_place}
+
+-- ---- a reason by its number
+
+abbrev numbered : ℕ → Reason
+numbered n =
+    if n == 1 then BadByte else (if n == 2 then NameLong else (if n == 3 then Unexpected else (if n == 4 then Nested else
+    (if n == 5 then Twice else (if n == 6 then Unknown else (if n == 7 then WrongKind else (if n == 8 then WrongArity else
+    (if n == 9 then TypeClash else (if n == 10 then VarInContext else (if n == 11 then BwdInState else (if n == 12 then LinearInClause else
+    (if n == 13 then BadQui else (if n == 14 then NoTrace else (if n == 15 then TwoTraces else (if n == 16 then Unbound else
+    (if n == 17 then Ungrounded else (if n == 18 then OverLimit else TooLong)))))))))))))))))
+
+by_number : (reason : Reason) → numbered (number reason) ≡ reason
+by_number BadByte = refl
+by_number NameLong = refl
+by_number Unexpected = refl
+by_number Nested = refl
+by_number Twice = refl
+by_number Unknown = refl
+by_number WrongKind = refl
+by_number WrongArity = refl
+by_number TypeClash = refl
+by_number VarInContext = refl
+by_number BwdInState = refl
+by_number LinearInClause = refl
+by_number BadQui = refl
+by_number NoTrace = refl
+by_number TwoTraces = refl
+by_number Unbound = refl
+by_number Ungrounded = refl
+by_number OverLimit = refl
+by_number TooLong = refl
+
+number_within : (reason : Reason) → number reason ≤ 19
+number_within BadByte = omega arith
+number_within NameLong = omega arith
+number_within Unexpected = omega arith
+number_within Nested = omega arith
+number_within Twice = omega arith
+number_within Unknown = omega arith
+number_within WrongKind = omega arith
+number_within WrongArity = omega arith
+number_within TypeClash = omega arith
+number_within VarInContext = omega arith
+number_within BwdInState = omega arith
+number_within LinearInClause = omega arith
+number_within BadQui = omega arith
+number_within NoTrace = omega arith
+number_within TwoTraces = omega arith
+number_within Unbound = omega arith
+number_within Ungrounded = omega arith
+number_within OverLimit = omega arith
+number_within TooLong = omega arith
+
+-- ---- the order of faults, on numbers
+
+abbrev IsBefore : ℕ → ℕ → ℕ → ℕ → ℕ → ℕ → Type 0
+IsBefore p p' a a' n n' = (p < p') ⊎ ((p ≡ p') × ((a < a') ⊎ ((a ≡ a') × (n ≤ n'))))
+
+one_standing : (p p' a a' n n' : ℕ) → IsBefore p p' a a' n n' → IsBefore p' p a' a n' n → (a ≡ a') × (n ≡ n')
+one_standing p p' a a' n n' one other = grind arith
+
+-- a fault is told no later than another, or the other is of an earlier phase, or stands earlier
+told_or_not : (p p' a a' n n' : ℕ) → n ≤ 19 → n' ≤ 19 → IsBefore p p' a a' n n' ⊎ ((p' < p) ⊎ ((p' ≡ p) × (a' * 20 + n' < a * 20 + n)))
+told_or_not p p' a a' n n' within within' =
+    ⊎_elim (λ (less : p < p'). inl (inl less)) (λ (no_less : p' ≤ p).
+    ⊎_elim (λ (more : p' < p). inr (inl more)) (λ (no_more : p ≤ p').
+    ⊎_elim (λ (less : a < a'). inl (inr (omega arith, inl less))) (λ (not_less : a' ≤ a).
+    ⊎_elim (λ (more : a' < a). inr (inr (omega arith, omega arith))) (λ (not_more : a ≤ a').
+    ⊎_elim (λ (more : n' < n). inr (inr (omega arith, omega arith))) (λ (less : n ≤ n'). inl (inr (omega arith, inr (omega arith, less))))
+    (cases_lt n' n)) (cases_lt a' a)) (cases_lt a a')) (cases_lt p' p)) (cases_lt p p')
+
+-- ---- one refusal
+
+same_fault : (one other : Fault) → one.at ≡ other.at → number one.reason ≡ number other.reason → one ≡ other
+same_fault one other at numbers =
+    let reason : one.reason ≡ other.reason = sym (by_number one.reason) ∙ ap numbered numbers ∙ by_number other.reason in
+    λ i. record { reason = reason i; at = at i }
+
+pub one_refusal : (text : List ℕ) (one other : Fault) → IsRefusedFor text one → IsRefusedFor text other → one ≡ other
+one_refusal text one other is is' =
+    let same = one_standing (phase one.reason) (phase other.reason) one.at other.at (number one.reason) (number other.reason) (is.first other is'.holds) (is'.first one is.holds) in
+    same_fault one other same.0 same.1
+
+-- ---- one line and column
+
+no_order : (line line' col col' : ℕ) → ¬ ((line < line') ⊎ ((line ≡ line') × (col < col'))) → ¬ ((line' < line) ⊎ ((line' ≡ line) × (col' < col))) → (line ≡ line') × (col ≡ col')
+no_order line line' col col' not_before not_after =
+    let lines : line ≡ line' =
+    ⊎_elim (λ (less : line < line'). absurd (not_before (inl less))) (λ (no_less : line' ≤ line).
+    ⊎_elim (λ (more : line' < line). absurd (not_after (inl more))) (λ (no_more : line ≤ line'). omega arith) (cases_lt line' line)) (cases_lt line line') in (
+      lines,
+      ⊎_elim (λ (less : col < col'). absurd (not_before (inr (lines, less)))) (λ (no_less : col' ≤ col).
+          ⊎_elim (λ (more : col' < col). absurd (not_after (inr (sym lines, more)))) (λ (no_more : col ≤ col'). omega arith) (cases_lt col' col)) (cases_lt col col'),
+    )
+
+one_place : (before : List ℕ) (one other : Pos) → IsPlaceAfter before one → IsPlaceAfter before other → one ≡ other
+one_place before one other is is' =
+    let again : (pos : Pos) → IsPlaceAfter before pos → IsPlaceAfter (before ++ []) pos = λ pos there. rw (append-nil before) there in
+    let same = no_order one.line other.line one.col other.col (later_place before [] other one is' (again one is)) (later_place before [] one other is (again other is')) in
+    λ i. record { line = same.0 i; col = same.1 i }
+
+pub one_telling : (text : List ℕ) (fault : Fault) (one other : Refusal) → Tells text fault one → Tells text fault other → one ≡ other
+one_telling text fault one other is is' =
+    let pos = one_place (take fault.at text) one.pos other.pos is.pos is'.pos in
+    let reason : one.reason ≡ other.reason = is.reason ∙ sym is'.reason in
+    λ i. record { pos = pos i; reason = reason i }
+
+-- ---- where anything is wrong, something is the first
+
+abbrev key : Fault → ℕ
+key fault = fault.at * 20 + number fault.reason
+
+module _ (text : List ℕ) (unrefused : (fault : Fault) → ¬ (IsRefusedFor text fault)) where
+  -- of one phase, by place and number
+  none_of_phase : (phase_ : ℕ) → ((other : Fault) → IsWrong text other → phase other.reason < phase_ → ⊥) → (bound : ℕ) (fault : Fault) → IsWrong text fault → phase fault.reason ≡ phase_ → key fault < bound → ⊥
+  none_of_phase phase_ earlier zero fault is here less = omega arith
+  none_of_phase phase_ earlier (suc bound) fault is here less =
+      unrefused fault (record {
+        holds = is;
+        first = λ other is'. ⊎_elim (λ told. told) (λ before. absurd (⊎_elim
+            (λ (less' : phase other.reason < phase fault.reason). earlier other is' (omega arith))
+            (λ (same : (phase other.reason ≡ phase fault.reason) × (key other < key fault)). none_of_phase phase_ earlier bound other is' (same.0 ∙ here) (omega (arith, same.1)))
+            before))
+            (told_or_not (phase fault.reason) (phase other.reason) fault.at other.at (number fault.reason) (number other.reason) (number_within fault.reason) (number_within other.reason));
+      })
+
+  none_before : (bound : ℕ) (fault : Fault) → IsWrong text fault → phase fault.reason < bound → ⊥
+  none_before zero fault is less = omega arith
+  none_before (suc bound) fault is less =
+      ⊎_elim
+      (λ (earlier : phase fault.reason < bound). none_before bound fault is earlier)
+      (λ (last : bound ≤ phase fault.reason). none_of_phase bound (none_before bound) (suc (key fault)) fault is (omega arith) (omega arith))
+      (cases_lt (phase fault.reason) bound)
+
+  pub nothing_left : (fault : Fault) → ¬ (IsWrong text fault)
+  nothing_left fault is = none_before (suc (phase fault.reason)) fault is (omega arith)

@@ -1,0 +1,5 @@
+use Rattle.cep_ground.proofs.OneRefusal as law
+use Rattle.cep_ground.proofs.laws.one_refusal.Goals as goal
+
+pub returns : goal.returns
+returns c = record { fault = law.one_refusal; told = law.one_telling }
