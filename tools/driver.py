@@ -1,4 +1,4 @@
-"""A run of `ceptre play` as a child, which is told one choice at a time and writes its transcript."""
+"""A run of `ceptre play` as a child, which is given one choice at a time and writes its transcript."""
 
 import re
 import signal
@@ -10,7 +10,7 @@ OFFER = re.compile(r"\? ([0-9]+) (.*)")
 
 
 class Run:
-    """The child, the lines that it wrote, the choices that it was told, and the offers of its last
+    """The child, the lines that it wrote, the choices that it was given, and the offers of its last
     question, which are none once it has ended."""
 
     def __init__(self, words):
@@ -28,7 +28,7 @@ class Run:
             raise CannotRun(f"{program}: {error.strerror}") from error
 
     def play(self, typed=()):
-        """Reads the first question, and tells these choices as long as there are questions."""
+        """Reads the first question, and gives these choices as long as there are questions."""
         self.read()
         for choice in typed:
             if not self.offers:
@@ -52,7 +52,7 @@ class Run:
         self.child.wait()
 
     def tell(self, choice):
-        """Tells the number of one of the offers."""
+        """Gives the number of one of the offers."""
         self.typed.append(choice)
         # A child that is gone is seen by what it wrote, and by no signal.
         before = signal.signal(signal.SIGPIPE, signal.SIG_IGN)

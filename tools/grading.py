@@ -86,7 +86,7 @@ def judged_world(text):
 
 
 def goals_of(all_words, world_text):
-    """The goals that words ask for; a ValueError tells the first that the world has not."""
+    """The goals that words ask for; a ValueError names the first that the world has not."""
     goals = [Goal.of(words) for words in all_words]
     for goal in goals:
         fault = fault_of(goal, world_text)
@@ -139,14 +139,14 @@ def claims(lines):
 
 
 def last_state(lines):
-    """The atoms of the state behind the end of an accepted transcript, each with its copies."""
+    """The atoms of the state after the end of an accepted transcript, each with its copies."""
     ends = [i for i, line in enumerate(lines) if line.startswith("end ")]
     listed = (line.split(" ", 2) for line in lines[ends[0] :] if line.startswith("have "))
     return {atom: copies for _, copies, atom in listed}
 
 
 def deeds(lines):
-    """What was done: the steps, the stages behind them and the end."""
+    """What was done: the steps, the stages after them and the end."""
     return [line for line in lines if line.startswith(("step ", "stage ", "end "))]
 
 
@@ -156,7 +156,7 @@ def differs(lines, others):
     for number, (one, other) in enumerate(zip(own, played)):
         if one != other:
             done = sum(line.startswith("step ") for line in own[: number + 1])
-            place = f"step {done}" if one.startswith("step ") else f"behind step {done}"
+            place = f"step {done}" if one.startswith("step ") else f"after step {done}"
             return f"{place}: {one}, and not {other}"
     return "" if len(own) == len(played) else "it has another number of steps"
 

@@ -1,6 +1,6 @@
 """Prose for a world: templates that stand in its comments, and readable texts where there is none.
 
-    %: walk "You go from {A} to {B}." "Go to {B}."   a rule: what is told, and perhaps its offer
+    %: walk "You go from {A} to {B}." "Go to {B}."   a rule: what its step says, and perhaps its offer
     %: iron/key "the iron key"                       a thing; {1} is its first argument
     %: lantern "The lantern has {#1} drops left."    an atom of the state; {#1} counts a chain of terms
     %: stage night "Night falls."                    when this stage begins
@@ -52,7 +52,7 @@ class Prose:
 
     @classmethod
     def of(cls, text, world):
-        """The templates of a text. One that does not fit the world is told in `faults`."""
+        """The templates of a text. One that does not fit the world is named in `faults`."""
         found = cls()
         for number, line in enumerate(text.split("\n"), 1):
             comment = line.partition("%")[2].removesuffix("\r")
@@ -109,7 +109,7 @@ class Prose:
         return PLACE.sub(value, template)
 
     def of_offer(self, offer, at):
-        """A template of an offer's rule, filled: at 0 what is told of it, at 1 how it is offered."""
+        """A template of an offer's rule, filled: at 0 what its step says, at 1 how it is offered."""
         rule = offer.split(" ", 1)[0]
         values = {n: Reader(v).argument() for n, v in values_of(words_of(offer)[1:]).items()}
         template = self.rules.get(rule, ("", ""))[at]

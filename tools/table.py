@@ -25,7 +25,7 @@ choose an offer that is alone with them.
   all             all offers again
   undo [N]        take the last choice back, or the last N
   state [WORDS]   what there is, perhaps only what has these words
-  again           what was told so far
+  again           what came so far
   history         what was done so far
   save FILE       keep what was chosen
   load FILE       begin again, and choose what was saved there
@@ -69,7 +69,7 @@ class Table:
                 return 0
 
     def begin(self, typed):
-        """A run anew, with these choices made."""
+        """Another run, with these choices made."""
         if self.run:
             self.run.close()
         self.shown_up_to = self.first = 0

@@ -26,7 +26,7 @@ MENDS = {
     TOO_LONG: "grep -av '^?' LOG >NEW",
     NONE: "Hand in what ./ceptre play wrote; its first line is `ceptre 2`",
     OTHER_WORLD: "Check it against the very text that was played",
-    CUT: "End the input and let the game write its end; tools/follow WORLD LOG tells how far it goes",
+    CUT: "End the input and let the game write its end; tools/follow WORLD LOG shows how far it goes",
     "a text in UTF-16": "iconv -f UTF-16 -t UTF-8 LOG >NEW",
     "a byte-order mark": "tail -c +4 LOG >NEW",
     "line ends of carriage returns alone": "tr '\\r' '\\n' <LOG >NEW",

@@ -128,7 +128,7 @@ class Follow(unittest.TestCase):
         self.assertEqual(tool("follow", WALK[0])[0], 2)
 
     def test_a_transcript_that_was_cut(self):
-        """At whatever byte a transcript is cut, it is told as far as it goes, once the start is whole."""
+        """At whatever byte a transcript is cut, it is shown as far as it goes, once the start is whole."""
         text = read(WORLDS, "apple.log")
         start = text.index("? 1 sell")
         with tempfile.TemporaryDirectory() as folder:
@@ -142,7 +142,7 @@ class Follow(unittest.TestCase):
                         self.assertIn((status, output), [(1, "")])
                         continue
                     self.assertEqual(status, 4)
-                    self.assertIn("it was cut, and is told as far as it goes", errors)
+                    self.assertIn("it was cut, and is shown as far as it goes", errors)
                     steps = text[:length].count("\nstep ")
                     told = int(output.split("cut after step ")[1].split("\n")[0])
                     self.assertIn(told, (steps, steps - 1))
