@@ -22,22 +22,29 @@ room_after taken = MOST_TYPED - taken
 unfoldable pub no_line : List ℕ
 no_line = line (codes "? no")
 
--- The events of one choice among n, from the bytes to come and the number taken so far, to what came of it, the bytes that are left and the number taken then.
+-- The events of one choice among n, from the bytes to come and the number taken so far, to what
+-- came of it, the bytes that are left and the number taken then.
 pub data Hears (n : ℕ) : List ℕ → ℕ → List Event → Choice → List ℕ → ℕ → Type 0 where
   -- the line chooses a place
-  chosen : {come rest : List ℕ} {taken taken' : ℕ} {events : List Event} {place : ℕ} (cut : Cut) (line : List ℕ) (more : ℕ)
-      → ReadsLine (room_after taken) come events cut rest more → IsLine cut line → Chooses n line place → taken' ≡ taken + more
+  chosen : {come rest : List ℕ} {taken taken' : ℕ} {events : List Event} {place : ℕ} (cut : Cut)
+      (line : List ℕ) (more : ℕ)
+      → ReadsLine (room_after taken) come events cut rest more → IsLine cut line
+      → Chooses n line place → taken' ≡ taken + more
       → Hears n come taken events (choice.Place place) rest taken'
   -- the line chooses nothing, and a further one is read
-  again : {come rest : List ℕ} {taken taken' : ℕ} {events : List Event} {result : Choice} (cut : Cut) (line : List ℕ) (between : List ℕ) (more : ℕ) (first others : List Event)
-      → ReadsLine (room_after taken) come first cut between more → IsLine cut line → ChoosesNone n line
-      → Hears n between (taken + more) others result rest taken' → events ≡ first ++ (outs no_line ++ others)
+  again : {come rest : List ℕ} {taken taken' : ℕ} {events : List Event} {result : Choice}
+      (cut : Cut) (line : List ℕ) (between : List ℕ) (more : ℕ) (first others : List Event)
+      → ReadsLine (room_after taken) come first cut between more → IsLine cut line
+      → ChoosesNone n line
+      → Hears n between (taken + more) others result rest taken'
+      → events ≡ first ++ (outs no_line ++ others)
       → Hears n come taken events result rest taken'
   -- nothing more comes
   no_more : {come rest : List ℕ} {taken taken' : ℕ} {events : List Event} (more : ℕ)
       → ReadsLine (room_after taken) come events Nothing rest more → taken' ≡ taken + more
       → Hears n come taken events choice.NoMore rest taken'
   -- no more may be taken
-  no_room : {come rest : List ℕ} {taken taken' : ℕ} {events : List Event} (bytes : List ℕ) (more : ℕ)
+  no_room : {come rest : List ℕ} {taken taken' : ℕ} {events : List Event} (bytes : List ℕ)
+      (more : ℕ)
       → ReadsLine (room_after taken) come events (Full bytes) rest more → taken' ≡ taken + more
       → Hears n come taken events choice.NoRoom rest taken'

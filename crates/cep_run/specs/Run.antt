@@ -1,4 +1,5 @@
--- A run: turn after turn, each a step of the machine, until it ends for a named reason. No byte that is written is spoken of here.
+-- A run: turn after turn, each a step of the machine, until it ends for a named reason. No byte
+-- that is written is spoken of here.
 use Rattle.std.specs.Prelude.{◌≡◌, ℕ, ◌+◌, ◌<◌, ◌≤◌, List, [], ◌∷◌, length, map, Option, None, Some, slice_get}
 use Rattle.cep_base.specs.declared.limits.TheConstants.{MOST_OFFERS}
 use Rattle.cep_term.specs.Multiset.{Multiset}
@@ -48,23 +49,29 @@ pub record Ending : Type 0 where
   pub state : Multiset
   pub question : Option Question
 
--- The question is asked here: turns remain, the stage asks the group, the offers are those of it and not too many, and the choice is decided.
-pub record IsQuestion (program : Parts) (settings : Settings) (at : Position) (from : Supply) (question : Question) (to : Supply) : Type 0 where
+-- The question is asked here: turns remain, the stage asks the group, the offers are those of it
+-- and not too many, and the choice is decided.
+pub record IsQuestion (program : Parts) (settings : Settings) (at : Position) (from : Supply)
+    (question : Question) (to : Supply) : Type 0 where
   pub remain : at.turns < settings.limit
   pub asked : IsAsked program settings.height at.spot.state at.spot.stage question.group
   pub offered : AreOffers program settings.height at.spot.state question.group question.offers
   pub few : length question.offers ≤ MOST_OFFERS
-  pub decided : Decides program settings.seed at.spot.stage question.group (length question.offers) from question.how question.choice to
+  pub decided : Decides program settings.seed at.spot.stage question.group
+      (length question.offers) from question.how question.choice to
 
 -- The choice is this offer, which stands at a place, counted from 0, and this is its rule.
-pub record IsChosen (program : Parts) (question : Question) (offer : Offer) (rule : Rule) : Type 0 where
+pub record IsChosen (program : Parts) (question : Question) (offer : Offer)
+    (rule : Rule) : Type 0 where
   pub place : ℕ
   pub chosen : question.choice ≡ Place (place + 1)
   pub at_place : slice_get question.offers place ≡ Some offer
   pub of_rule : slice_get program.rules offer.rule ≡ Some rule
 
--- One turn is done from a position with a supply: its question is asked here, the choice is the offer of its deed, and the deed is lawful.
-pub record IsTurn (program : Parts) (settings : Settings) (at : Position) (from : Supply) (turn : Turn) : Type 0 where
+-- One turn is done from a position with a supply: its question is asked here, the choice is the
+-- offer of its deed, and the deed is lawful.
+pub record IsTurn (program : Parts) (settings : Settings) (at : Position) (from : Supply)
+    (turn : Turn) : Type 0 where
   pub here : turn.deed.before ≡ at
   pub asks : IsQuestion program settings at from turn.question turn.left
   pub chosen : IsChosen program turn.question turn.deed.offer turn.deed.rule
@@ -73,20 +80,26 @@ pub record IsTurn (program : Parts) (settings : Settings) (at : Position) (from 
 -- Turns are done one after another, from a position with a supply to the last of them.
 abbrev pub AreTurns : Parts → Settings → Position → Supply → List Turn → Position → Supply → Type 0
 AreTurns program settings at from [] last to = (last ≡ at) × (to ≡ from)
-AreTurns program settings at from (turn ∷ turns) last to = IsTurn program settings at from turn × AreTurns program settings turn.deed.after turn.left turns last to
+AreTurns program settings at from (turn ∷ turns) last to =
+    IsTurn program settings at from turn × AreTurns program settings turn.deed.after turn.left
+    turns last to
 
 -- how many offers were listed in turns
 abbrev pub offers_listed : List Turn → ℕ
 offers_listed [] = 0
 offers_listed (turn ∷ turns) = length turn.question.offers + offers_listed turns
 
--- A run ends at a position: with a word, maybe after a last question, and with the supply that is left then.
-pub data EndsAt (program : Parts) (settings : Settings) (at : Position) (from : Supply) : EndWord → Option Question → Supply → Type 0 where
+-- A run ends at a position: with a word, maybe after a last question, and with the supply that is
+-- left then.
+pub data EndsAt (program : Parts) (settings : Settings) (at : Position) (from : Supply) : EndWord
+    → Option Question → Supply → Type 0 where
   -- no rule applies
-  quiet_end : {to : Supply} → IsQuiet program settings.height at.spot.state at.spot.stage → to ≡ from
+  quiet_end : {to : Supply} → IsQuiet program settings.height at.spot.state at.spot.stage
+      → to ≡ from
       → EndsAt program settings at from Quiet None to
   -- a group is asked, and all turns are done
-  turns_end : {to : Supply} {group : ℕ} → IsAsked program settings.height at.spot.state at.spot.stage group
+  turns_end : {to : Supply} {group : ℕ} → IsAsked program settings.height at.spot.state
+      at.spot.stage group
       → at.turns ≡ settings.limit → to ≡ from → EndsAt program settings at from Turns None to
   -- a group is asked, and turns remain, but its offers are too many
   offers_end : {to : Supply} {group : ℕ} {offers : List Offer} → at.turns < settings.limit
@@ -111,7 +124,8 @@ pub data EndsAt (program : Parts) (settings : Settings) (at : Position) (from : 
       → EndsAt program settings at from State (Some question) to
 
 -- A run from a position with a supply: its turns, how it ended, and the supply that is left.
-pub record Run (program : Parts) (settings : Settings) (at : Position) (from : Supply) (turns : List Turn) (ending : Ending) (to : Supply) : Type 0 where
+pub record Run (program : Parts) (settings : Settings) (at : Position) (from : Supply)
+    (turns : List Turn) (ending : Ending) (to : Supply) : Type 0 where
   pub last : Position
   pub between : Supply
   pub done : AreTurns program settings at from turns last between

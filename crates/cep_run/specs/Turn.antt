@@ -42,59 +42,74 @@ position_of config = record { spot = spot_of config; turns = config.turns }
 abbrev pub supply_with : List ℕ → Spent → Supply
 supply_with come spent = record { come = come; taken = spent.taken; drawn = spent.drawn }
 
--- What was spent in so many turns of a run with this seed: no more bytes than may be taken, no more words than turns, and the next words are those behind them.
+-- What was spent in so many turns of a run with this seed: no more bytes than may be taken, no more
+-- words than turns, and the next words are those behind them.
 pub record HasSpent (seed turns : ℕ) (spent : Spent) : Type 0 where
   pub taken : spent.taken ≤ MOST_TYPED
   pub drawn : spent.drawn ≤ turns
   pub draw : spent.draw ≡ generator_behind seed spent.drawn
 
 -- The configuration is one of the program, at the height of the run.
-pub record IsPlayed {M : Type 0} (is_of : Parts → M → Type 0) (height_held : M → ℕ) (program : Parts) (settings : Settings) (config : Configuration M) : Type 0 where
+pub record IsPlayed {M : Type 0} (is_of : Parts → M → Type 0) (height_held : M → ℕ)
+    (program : Parts) (settings : Settings) (config : Configuration M) : Type 0 where
   pub of_program : IsConfigurationOf is_of program config
   pub height : height_held config.matcher ≡ settings.height
 
 -- The offers are written, and a choice among them is heard.
-pub record AsksPlayer (program : Parts) (offers : List Offer) (come : List ℕ) (taken : ℕ) (events : List Event) (choice : Choice) (rest : List ℕ) (taken' : ℕ) : Type 0 where
+pub record AsksPlayer (program : Parts) (offers : List Offer) (come : List ℕ) (taken : ℕ)
+    (events : List Event) (choice : Choice) (rest : List ℕ) (taken' : ℕ) : Type 0 where
   pub heard : List Event
   pub hears : Hears (length offers) come taken heard choice rest taken'
   pub whole : events ≡ outs (question program offers) ++ heard
 
--- A choice among the offers of a group that a stage asks is decided, and what is said of it is said.
-pub record Settles (program : Parts) (seed stage group : ℕ) (offers : List Offer) (old : Spent) (choice : Choice) (new : Spent) (come : List ℕ) (events : List Event) (rest : List ℕ) : Type 0 where
+-- A choice among the offers of a group that a stage asks is decided, and what is said of it is
+-- said.
+pub record Settles (program : Parts) (seed stage group : ℕ) (offers : List Offer) (old : Spent)
+    (choice : Choice) (new : Spent) (come : List ℕ) (events : List Event)
+    (rest : List ℕ) : Type 0 where
   pub how : How
-  pub decides : Decides program seed stage group (length offers) (supply_with come old) how choice (supply_with rest new)
+  pub decides : Decides program seed stage group (length offers) (supply_with come old) how choice
+      (supply_with rest new)
   pub whole : events ≡ asked_events program offers how
 
 -- The offer at a place, counted from 0, with its rule.
-pub record IsPlaced (program : Parts) (offers : List Offer) (place : ℕ) (offer : Offer) (rule : Rule) : Type 0 where
+pub record IsPlaced (program : Parts) (offers : List Offer) (place : ℕ) (offer : Offer)
+    (rule : Rule) : Type 0 where
   pub at_place : slice_get offers place ≡ Some offer
   pub of_rule : slice_get program.rules offer.rule ≡ Some rule
 
 -- The derivation proves the atom within the height.
-pub record IsProofWithin (program : Parts) (height : ℕ) (a : AtomTree) (proof : ProofTree) : Type 0 where
+pub record IsProofWithin (program : Parts) (height : ℕ) (a : AtomTree)
+    (proof : ProofTree) : Type 0 where
   pub proves : Proves program proof a
   pub low : proof_height proof ≤ height
 
--- The derivations prove the backward premises of the offer's rule within the height, one each in order.
-pub record ProveBacks (program : Parts) (height : ℕ) (offer : Offer) (proofs : List ProofTree) : Type 0 where
+-- The derivations prove the backward premises of the offer's rule within the height, one each in
+-- order.
+pub record ProveBacks (program : Parts) (height : ℕ) (offer : Offer)
+    (proofs : List ProofTree) : Type 0 where
   pub rule : Rule
   pub numbered : slice_get program.rules offer.rule ≡ Some rule
   pub proved : AreProofs program height proofs (full_instances offer.values rule.backs)
 
 -- The lines of the deed that counts as the turn of this number are written, and nothing is taken.
-pub record TellsDeed (program : Parts) (offer : Offer) (proofs : List ProofTree) (number : ℕ) (state : Multiset) (come : List ℕ) (events : List Event) (rest : List ℕ) : Type 0 where
+pub record TellsDeed (program : Parts) (offer : Offer) (proofs : List ProofTree) (number : ℕ)
+    (state : Multiset) (come : List ℕ) (events : List Event) (rest : List ℕ) : Type 0 where
   pub rule : Rule
   pub numbered : slice_get program.rules offer.rule ≡ Some rule
   pub written : events ≡ outs (deed_lines program offer proofs rule.next number state)
   pub untaken : rest ≡ come
 
 -- A prefix of these lines is written, and nothing is taken: with further events they are all.
-pub record BeginsDeed (program : Parts) (offer : Offer) (proofs : List ProofTree) (number : ℕ) (state : Multiset) (come : List ℕ) (events : List Event) (rest : List ℕ) : Type 0 where
+pub record BeginsDeed (program : Parts) (offer : Offer) (proofs : List ProofTree) (number : ℕ)
+    (state : Multiset) (come : List ℕ) (events : List Event) (rest : List ℕ) : Type 0 where
   pub more : List Event
   pub tells : TellsDeed program offer proofs number state come (events ++ more) rest
 
--- The step by the offer at a place leads from one position to the other, its backward premises are proved within the height, and its lines are written.
-pub record Acts (program : Parts) (height : ℕ) (offers : List Offer) (place : ℕ) (old new : Position) (come : List ℕ) (events : List Event) (rest : List ℕ) : Type 0 where
+-- The step by the offer at a place leads from one position to the other, its backward premises are
+-- proved within the height, and its lines are written.
+pub record Acts (program : Parts) (height : ℕ) (offers : List Offer) (place : ℕ)
+    (old new : Position) (come : List ℕ) (events : List Event) (rest : List ℕ) : Type 0 where
   pub offer : Offer
   pub rule : Rule
   pub proofs : List ProofTree
@@ -109,8 +124,10 @@ abbrev pub limit_word : Limit → EndWord
 limit_word limit.Atom = Atom
 limit_word limit.State = State
 
--- The step by the offer at a place would pass a limit, which the word names, and nothing is written.
-pub record WouldPass (program : Parts) (offers : List Offer) (place : ℕ) (word : EndWord) (at : Position) (come : List ℕ) (events : List Event) (rest : List ℕ) : Type 0 where
+-- The step by the offer at a place would pass a limit, which the word names, and nothing is
+-- written.
+pub record WouldPass (program : Parts) (offers : List Offer) (place : ℕ) (word : EndWord)
+    (at : Position) (come : List ℕ) (events : List Event) (rest : List ℕ) : Type 0 where
   pub offer : Offer
   pub rule : Rule
   pub placed : IsPlaced program offers place offer rule
@@ -120,21 +137,30 @@ pub record WouldPass (program : Parts) (offers : List Offer) (place : ℕ) (word
   pub unwritten : events ≡ []
   pub untaken : rest ≡ come
 
--- How the counter rises with the choice of a place: by what the step by its offer costs where it is done, and else not.
-abbrev pub RoseByAct : {M : Type 0} → Edits → Parts → ℕ → List Offer → ℕ → Configuration M → Turned M → ℕ → ℕ → Type 0
+-- How the counter rises with the choice of a place: by what the step by its offer costs where it is
+-- done, and else not.
+abbrev pub RoseByAct : {M : Type 0} → Edits → Parts → ℕ → List Offer → ℕ → Configuration M
+    → Turned M → ℕ → ℕ → Type 0
 RoseByAct may_edit program height offers place config (Done next) ticks ticks' =
-    (offer : Offer) (rule : Rule) → IsPlaced program offers place offer rule → RoseBy (IsStepCost may_edit program height config.state rule offer.values) ticks ticks'
+    (offer : Offer) (rule : Rule) → IsPlaced program offers place offer rule
+    → RoseBy (IsStepCost may_edit program height config.state rule offer.values) ticks ticks'
 RoseByAct may_edit program height offers place config (Over last) ticks ticks' = ticks' ≡ ticks
 
--- What the choice of a place comes to, in a configuration: the step is done, or it would pass a limit and the run ends here.
-abbrev pub IsActed : {C M : Type 0} → (C → Option (List Event)) → (C → Option (List ℕ)) → C → C → Parts → ℕ → List Offer → ℕ → Configuration M → Turned M → Type 0
+-- What the choice of a place comes to, in a configuration: the step is done, or it would pass a
+-- limit and the run ends here.
+abbrev pub IsActed : {C M : Type 0} → (C → Option (List Event)) → (C → Option (List ℕ)) → C → C
+    → Parts → ℕ → List Offer → ℕ → Configuration M → Turned M → Type 0
 IsActed talk left old new program height offers place config (Done next) =
-    Did talk left old new (Acts program height offers place (position_of config) (position_of next)) × (next.turns ≡ config.turns + 1)
+    Did talk left old new (Acts program height offers place (position_of config)
+    (position_of next)) × (next.turns ≡ config.turns + 1)
 IsActed talk left old new program height offers place config (Over last) =
-    Did talk left old new (WouldPass program offers place last.word (position_of config)) × (last.config ≡ config)
+    Did talk left old new (WouldPass program offers place last.word (position_of config))
+    × (last.config ≡ config)
 
 -- These events do a turn, in which these offers are listed, and whose deed is counted so.
-pub record DoesTurn (program : Parts) (settings : Settings) (counts : Deed → Type 0) (offers : List Offer) (at : Position) (spent : Spent) (next : Position) (spent' : Spent) (come : List ℕ) (events : List Event) (rest : List ℕ) : Type 0 where
+pub record DoesTurn (program : Parts) (settings : Settings) (counts : Deed → Type 0)
+    (offers : List Offer) (at : Position) (spent : Spent) (next : Position) (spent' : Spent)
+    (come : List ℕ) (events : List Event) (rest : List ℕ) : Type 0 where
   pub turn : Turn
   pub is : IsTurn program settings at (supply_with come spent) turn
   pub after : turn.deed.after ≡ next
@@ -144,33 +170,49 @@ pub record DoesTurn (program : Parts) (settings : Settings) (counts : Deed → T
   pub written : events ≡ turn_events program turn
 
 -- These events come before the end of a run at this position.
-pub record Stops (program : Parts) (settings : Settings) (at : Position) (spent : Spent) (word : EndWord) (spent' : Spent) (come : List ℕ) (events : List Event) (rest : List ℕ) : Type 0 where
+pub record Stops (program : Parts) (settings : Settings) (at : Position) (spent : Spent)
+    (word : EndWord) (spent' : Spent) (come : List ℕ) (events : List Event)
+    (rest : List ℕ) : Type 0 where
   pub asked : Option Question
-  pub ends : EndsAt program settings at (supply_with come spent) word asked (supply_with rest spent')
+  pub ends : EndsAt program settings at (supply_with come spent) word asked
+      (supply_with rest spent')
   pub written : events ≡ last_events program asked
 
--- What a turn from a position comes to: it was done, its deed was counted, one more turn is done and not too many offers were listed; or the run ends here, and nothing was counted.
-abbrev pub IsTurned : {C M : Type 0} → (C → Option (List Event)) → (C → Option (List ℕ)) → C → C → Parts → Settings → (Deed → Type 0) → Type 0 → List Offer → Configuration M → Spent → Spent → Turned M → Type 0
-IsTurned talk left old new program settings counts uncounted offers config spent spent' (Done next) =
-    Did talk left old new (DoesTurn program settings counts offers (position_of config) spent (position_of next) spent') × (next.turns ≡ config.turns + 1) × (length offers ≤ MOST_OFFERS)
-IsTurned talk left old new program settings counts uncounted offers config spent spent' (Over last) =
-    Did talk left old new (Stops program settings (position_of config) spent last.word spent') × (last.config ≡ config) × uncounted
+-- What a turn from a position comes to: it was done, its deed was counted, one more turn is done
+-- and not too many offers were listed; or the run ends here, and nothing was counted.
+abbrev pub IsTurned : {C M : Type 0} → (C → Option (List Event)) → (C → Option (List ℕ)) → C → C
+    → Parts → Settings → (Deed → Type 0) → Type 0 → List Offer → Configuration M → Spent → Spent
+    → Turned M → Type 0
+IsTurned talk left old new program settings counts uncounted offers config spent spent'
+    (Done next) =
+    Did talk left old new (DoesTurn program settings counts offers (position_of config) spent
+    (position_of next) spent') × (next.turns ≡ config.turns + 1) × (length offers ≤ MOST_OFFERS)
+IsTurned talk left old new program settings counts uncounted offers config spent spent'
+    (Over last) =
+    Did talk left old new (Stops program settings (position_of config) spent last.word spent')
+    × (last.config ≡ config) × uncounted
 
 -- the configuration that is there after a turn
 abbrev pub config_left : {M : Type 0} → Turned M → Configuration M
 config_left (Done config) = config
 config_left (Over last) = last.config
 
--- Some turns are done from the start to here, in which so many offers were listed, what was said is their events, and their deeds are counted so.
-pub record SoFar (program : Parts) (settings : Settings) (counts : List Deed → Type 0) (start here : Position) (spent : Spent) (offers : ℕ) (come : List ℕ) (events : List Event) (rest : List ℕ) : Type 0 where
+-- Some turns are done from the start to here, in which so many offers were listed, what was said is
+-- their events, and their deeds are counted so.
+pub record SoFar (program : Parts) (settings : Settings) (counts : List Deed → Type 0)
+    (start here : Position) (spent : Spent) (offers : ℕ) (come : List ℕ) (events : List Event)
+    (rest : List ℕ) : Type 0 where
   pub turns : List Turn
   pub done : AreTurns program settings start (whole_supply come) turns here (supply_with rest spent)
   pub listed : offers ≡ offers_listed turns
   pub counted : counts (deeds_of turns)
   pub written : events ≡ flat_map (turn_events program) turns
 
--- All turns of a run are done from the start to here, in which so many offers were listed, what was said is their events and what comes before the end, and their deeds are counted so.
-pub record IsWholeRun (program : Parts) (settings : Settings) (counts : List Deed → Type 0) (word : EndWord) (start last : Position) (offers : ℕ) (come : List ℕ) (events : List Event) (rest : List ℕ) : Type 0 where
+-- All turns of a run are done from the start to here, in which so many offers were listed, what was
+-- said is their events and what comes before the end, and their deeds are counted so.
+pub record IsWholeRun (program : Parts) (settings : Settings) (counts : List Deed → Type 0)
+    (word : EndWord) (start last : Position) (offers : ℕ) (come : List ℕ) (events : List Event)
+    (rest : List ℕ) : Type 0 where
   pub turns : List Turn
   pub between : Supply
   pub left : Supply

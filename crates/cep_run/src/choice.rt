@@ -26,7 +26,8 @@ pub fn choose<C: Console>(console: &mut C, n: u32, taken: &mut u64) -> Result<Ch
     requires { taken.old ≤ MOST_TYPED }
     ensures heard { IfOk result (λ choice. Did C.talk C.left console.old console.new (λ come events rest.
         Hears n come taken.old events choice rest taken.new)) }
-    ensures begun { OnErr result (FellShort C.talk C.left console.old console.new (λ come. come) (HearsSome n taken.old)) }
+    ensures begun { OnErr result (FellShort C.talk C.left console.old console.new (λ come. come)
+        (HearsSome n taken.old)) }
     ensures place { IfOk result (λ choice. IsChoiceWithin n choice) }
     ensures within { taken.new ≤ MOST_TYPED }
     ensures cause { ConsoleCause (C.faults console.old) (C.faults console.new) result }

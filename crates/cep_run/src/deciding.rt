@@ -53,7 +53,12 @@ impl Spent {
         ensures drawn { 1 < n
             → (seed : ℕ)
             → self.old.draw ≡ generator_behind seed self.old.drawn
-            → (result ≡ place_drawn seed self.old.drawn n) × (self.new ≡ record { taken = self.old.taken; drawn = self.old.drawn + 1; draw = generator_behind seed (self.old.drawn + 1) }) }
+            → (result ≡ place_drawn seed self.old.drawn n)
+            × (self.new ≡ record {
+              taken = self.old.taken;
+              drawn = self.old.drawn + 1;
+              draw = generator_behind seed (self.old.drawn + 1);
+            }) }
         ensures within { (0 < result) × (result ≤ n) }
     {
         let place = self.draw.place(n);
@@ -91,7 +96,8 @@ fn ask<C: Console, M: Matcher>(
         AsksPlayer program.now (offers_of (M.offers_held matcher.now) group) come taken.old events choice rest taken.new)) }
     ensures begun { OnErr result (FellShort C.talk C.left console.old console.new (λ come. come)
         (AsksSome program.now (offers_of (M.offers_held matcher.now) group) taken.old)) }
-    ensures place { IfOk result (λ choice. IsChoiceWithin (length (offers_of (M.offers_held matcher.now) group)) choice) }
+    ensures place { IfOk result
+        (λ choice. IsChoiceWithin (length (offers_of (M.offers_held matcher.now) group)) choice) }
     ensures within { taken.new ≤ MOST_TYPED }
     ensures cause { ConsoleCause (C.faults console.old) (C.faults console.new) result }
 {
@@ -113,8 +119,10 @@ fn tell<C: Console, M: Matcher>(
     requires offers { All (IsOfferOf program.now) (offers_of (M.offers_held matcher.now) group) }
     requires few { length (offers_of (M.offers_held matcher.now) group) ≤ MOST_OFFERS }
     ensures told { OnOk result (Did C.talk C.left console.old console.new (λ come events rest.
-        (events ≡ outs (offer_lines program.now 1 (offers_of (M.offers_held matcher.now) group))) × (rest ≡ come))) }
-    ensures begun { OnErr result (Did C.talk C.left console.old console.new (PutsFront (offer_lines program.now 1 (offers_of (M.offers_held matcher.now) group)))) }
+        (events ≡ outs (offer_lines program.now 1 (offers_of (M.offers_held matcher.now) group)))
+        × (rest ≡ come))) }
+    ensures begun { OnErr result (Did C.talk C.left console.old console.new
+        (PutsFront (offer_lines program.now 1 (offers_of (M.offers_held matcher.now) group)))) }
     ensures cause { ConsoleCause (C.faults console.old) (C.faults console.new) result }
 {
     if !console.is_read() {
@@ -143,10 +151,14 @@ pub fn decide<C: Console, M: Matcher>(
     requires turns { config.now.turns < MOST_TURNS }
     requires spent { HasSpent seed config.now.turns spent.old }
     ensures settled { IfOk result (λ choice. Did C.talk C.left console.old console.new
-        (Settles program.now seed config.now.stage group (offers_of (M.offers_held config.now.matcher) group) spent.old choice spent.new)) }
+        (Settles program.now seed config.now.stage group
+        (offers_of (M.offers_held config.now.matcher) group) spent.old choice spent.new)) }
     ensures begun { OnErr result (FellShort C.talk C.left console.old console.new (λ come. come)
-        (SettlesSome program.now seed config.now.stage group (offers_of (M.offers_held config.now.matcher) group) spent.old)) }
-    ensures place { IfOk result (λ choice. IsChoiceWithin (length (offers_of (M.offers_held config.now.matcher) group)) choice) }
+        (SettlesSome program.now seed config.now.stage group
+        (offers_of (M.offers_held config.now.matcher) group) spent.old)) }
+    ensures place { IfOk result
+        (λ choice. IsChoiceWithin (length (offers_of (M.offers_held config.now.matcher) group))
+        choice) }
     ensures spent { HasSpent seed (config.now.turns + 1) spent.new }
     ensures cause { ConsoleCause (C.faults console.old) (C.faults console.new) result }
 {

@@ -60,8 +60,11 @@ fn all_turns<C: Console, M: Matcher, L: Ledger>(
     requires begins { start.turns ≡ 0 }
     requires limit { settings.limit ≤ MOST_TURNS }
     ensures said { IfOk result (λ end. Did C.talk C.left console.old console.new
-        (IsWholeRun program.now settings (λ deeds. RoseBy (AreDeedCosts M.may_edit program.now settings.height deeds) steps.old steps.new) end.word (position_of start) (position_of end.config) end.offers)) }
-    ensures begun { OnErr result (FellShort C.talk C.left console.old console.new whole_supply (IsRunOf program.now settings (position_of start))) }
+        (IsWholeRun program.now settings
+        (λ deeds. RoseBy (AreDeedCosts M.may_edit program.now settings.height deeds) steps.old
+        steps.new) end.word (position_of start) (position_of end.config) end.offers)) }
+    ensures begun { OnErr result (FellShort C.talk C.left console.old console.new whole_supply
+        (IsRunOf program.now settings (position_of start))) }
     ensures played { IfOk result (λ end. IsPlayed M.is_of M.height_held program.now settings end.config) }
     ensures counted { steps.old ≤ steps.new }
     ensures cause { ConsoleCause (C.faults console.old) (C.faults console.new) result }
@@ -106,7 +109,8 @@ fn begin<C: Console>(
 ) -> Result<(), ConsoleFault>
     ensures told { OnOk result (Did C.talk C.left console.old console.new (λ come events rest.
         (events ≡ outs (header program.now height)) × (rest ≡ come))) }
-    ensures begun { OnErr result (Did C.talk C.left console.old console.new (PutsFront (header program.now height))) }
+    ensures begun { OnErr result (Did C.talk C.left console.old console.new
+        (PutsFront (header program.now height))) }
     ensures cause { ConsoleCause (C.faults console.old) (C.faults console.new) result }
 {
     let mut header = Text::new(alloc);
@@ -125,7 +129,8 @@ fn finish<C: Console>(
     requires { IsState program.now.signature state.now }
     ensures told { OnOk result (Did C.talk C.left console.old console.new (λ come events rest.
         (events ≡ outs (end_lines program.now.signature word state.now)) × (rest ≡ come))) }
-    ensures begun { OnErr result (Did C.talk C.left console.old console.new (PutsFront (end_lines program.now.signature word state.now))) }
+    ensures begun { OnErr result (Did C.talk C.left console.old console.new
+        (PutsFront (end_lines program.now.signature word state.now))) }
     ensures cause { ConsoleCause (C.faults console.old) (C.faults console.new) result }
 {
     let mut lines = Text::new(alloc);
@@ -148,9 +153,11 @@ pub fn play<M: Matcher, C: Console, L: Ledger>(
 ) -> Result<Tally, ConsoleFault>
     requires height { IsHeight settings.height }
     requires limit { settings.limit ≤ MOST_TURNS }
-    ensures said { IfOk result (λ tally. Says C.talk C.left console.old console.new program.now settings (λ turns ending.
+    ensures said { IfOk result (λ tally. Says C.talk C.left console.old console.new program.now settings
+        (λ turns ending.
         IsTally turns ending tally × RoseBy (IsRunCost M.may_begin M.may_edit program.now settings.height (deeds_of turns)) steps.old steps.new)) }
-    ensures begun { OnErr result (FellShort C.talk C.left console.old console.new (λ come. come) (IsSomeSaid program.now settings)) }
+    ensures begun { OnErr result (FellShort C.talk C.left console.old console.new (λ come. come)
+        (IsSomeSaid program.now settings)) }
     ensures counted { steps.old ≤ steps.new }
     ensures cause { ConsoleCause (C.faults console.old) (C.faults console.new) result }
 {

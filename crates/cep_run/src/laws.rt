@@ -28,7 +28,8 @@ use cep_scratch::laws::offers_are_there;
 /// From a position, what is typed and the seed determine the run: its turns, but for the derivations
 /// that they carry, how it ends, and what is left of the supply.
 pub fn one_run()
-    ensures { (program : Parts) (settings : Settings) (at : Position) (from : Supply) (turns turns' : List Turn) (ending ending' : Ending) (to to' : Supply)
+    ensures { (program : Parts) (settings : Settings) (at : Position) (from : Supply)
+        (turns turns' : List Turn) (ending ending' : Ending) (to to' : Supply)
         → Run program settings at from turns ending to
         → Run program settings at from turns' ending' to'
         → (map unproved turns ≡ map unproved turns') × (ending ≡ ending') × (to ≡ to') }
@@ -40,11 +41,15 @@ pub fn one_run()
 /// What is typed determines the whole dialogue but for the derivations of its turns, how it ends, and
 /// what is left; and where no rule has a backward premise, event by event.
 pub fn one_dialogue()
-    ensures but_for_proofs { (program : Parts) (settings : Settings) (come : List ℕ) (turns turns' : List Turn) (ending ending' : Ending) (events events' : List Event) (rest rest' : List ℕ)
+    ensures but_for_proofs { (program : Parts) (settings : Settings) (come : List ℕ)
+        (turns turns' : List Turn) (ending ending' : Ending) (events events' : List Event)
+        (rest rest' : List ℕ)
         → Dialogue program settings come turns ending events rest
         → Dialogue program settings come turns' ending' events' rest'
         → (map unproved turns ≡ map unproved turns') × (ending ≡ ending') × (rest ≡ rest') }
-    ensures to_the_byte { (program : Parts) (settings : Settings) (come : List ℕ) (turns turns' : List Turn) (ending ending' : Ending) (events events' : List Event) (rest rest' : List ℕ)
+    ensures to_the_byte { (program : Parts) (settings : Settings) (come : List ℕ)
+        (turns turns' : List Turn) (ending ending' : Ending) (events events' : List Event)
+        (rest rest' : List ℕ)
         → AllByRecursion (λ rule. rule.backs ≡ []) program.rules
         → Dialogue program settings come turns ending events rest
         → Dialogue program settings come turns' ending' events' rest'
@@ -56,7 +61,8 @@ pub fn one_dialogue()
 /// What was done in the turns of a run are lawful deeds, one after another, which can be checked
 /// without what was typed.
 pub fn turns_are_deeds()
-    ensures { (program : Parts) (settings : Settings) (at : Position) (from : Supply) (turns : List Turn) (last : Position) (to : Supply)
+    ensures { (program : Parts) (settings : Settings) (at : Position) (from : Supply)
+        (turns : List Turn) (last : Position) (to : Supply)
         → AreTurns program settings at from turns last to
         → AreDeeds program settings.height at (deeds_of turns) last }
 {}
@@ -75,7 +81,8 @@ pub fn runs_are_there()
         → IsProgram program
         → IsState program.signature at.spot.state
         → at.turns ≤ settings.limit
-        → (turns : List Turn) × (ending : Ending) × (to : Supply) × Run program settings at from turns ending to }
+        → (turns : List Turn) × (ending : Ending) × (to : Supply)
+        × Run program settings at from turns ending to }
 {
     offers_are_there();
     steps_lead_to_states();
@@ -86,12 +93,14 @@ pub fn runs_are_there()
 /// Runs go on from where they are: what a question says begins some run, and so does what a turn
 /// says.
 pub fn runs_go_on()
-    ensures questions { (program : Parts) (settings : Settings) (at : Position) (from : Supply) (question : Question) (to : Supply)
+    ensures questions { (program : Parts) (settings : Settings) (at : Position) (from : Supply)
+        (question : Question) (to : Supply)
         → IsProgram program
         → IsState program.signature at.spot.state
         → IsQuestion program settings at from question to
         → BeginsSome (IsRunOf program settings at) from (question_events program question) }
-    ensures turns { (program : Parts) (settings : Settings) (at : Position) (from : Supply) (turn : Turn)
+    ensures turns { (program : Parts) (settings : Settings) (at : Position) (from : Supply)
+        (turn : Turn)
         → IsProgram program
         → IsState program.signature at.spot.state
         → IsTurn program settings at from turn
@@ -108,7 +117,8 @@ pub fn runs_go_on()
 pub fn dialogues_are_there()
     ensures { (program : Parts) (settings : Settings) (come : List ℕ)
         → IsProgram program
-        → (turns : List Turn) × (ending : Ending) × (events : List Event) × (rest : List ℕ) × Dialogue program settings come turns ending events rest }
+        → (turns : List Turn) × (ending : Ending) × (events : List Event) × (rest : List ℕ)
+        × Dialogue program settings come turns ending events rest }
 {
     runs_are_there();
 }
@@ -116,7 +126,8 @@ pub fn dialogues_are_there()
 /// What is written of a dialogue is a transcript, if it is not too long: its log holds what was
 /// done, is legal, and has as many steps as turns were done. So a check accepts what play wrote.
 pub fn dialogues_have_logs()
-    ensures { (program : Parts) (settings : Settings) (come : List ℕ) (turns : List Turn) (ending : Ending) (events : List Event) (rest : List ℕ)
+    ensures { (program : Parts) (settings : Settings) (come : List ℕ) (turns : List Turn)
+        (ending : Ending) (events : List Event) (rest : List ℕ)
         → IsProgram program
         → IsHeight settings.height
         → Dialogue program settings come turns ending events rest

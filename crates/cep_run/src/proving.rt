@@ -36,7 +36,8 @@ pub fn prove_backs<L: Ledger>(
     requires applies { (state : Multiset) × Applies program.now height state offer.now }
     ensures proved { IfOk result (ProveBacks program.now height offer.now) }
     ensures ticked { OnOk result
-        ((rule : Rule) → slice_get program.now.rules offer.now.rule ≡ Some rule → steps.new ≡ steps.old + length rule.backs) }
+        ((rule : Rule) → slice_get program.now.rules offer.now.rule ≡ Some rule
+        → steps.new ≡ steps.old + length rule.backs) }
     ensures counted { steps.old ≤ steps.new }
 {
     types_are_lawful();
@@ -64,7 +65,8 @@ fn prove<L: Ledger>(
     requires height { IsHeight height }
     requires valued { HasValues known.now (atom_of goal.now) }
     requires derivable { IsDerivable program.now height (atom_instance known.now (atom_of goal.now)) }
-    ensures proved { IfOk result (λ proof. IsProofWithin program.now height (atom_instance known.now (atom_of goal.now)) (proof_of proof)) }
+    ensures proved { IfOk result (λ proof. IsProofWithin program.now height
+        (atom_instance known.now (atom_of goal.now)) (proof_of proof)) }
     ensures ticked { steps.new ≡ steps.old + 1 }
 {
     instances_of_instances();

@@ -69,13 +69,19 @@ fn act<C: Console, M: Matcher, L: Ledger>(
 ) -> Result<Turned<M>, ConsoleFault>
     requires played { IsPlayed M.is_of M.height_held program.now settings config }
     requires listed { group < length (M.offers_held config.matcher) }
-    requires asked { offers_of (M.offers_held config.matcher) group ≡ asked_offers (M.offers_held config.matcher) config.stage }
+    requires asked { offers_of (M.offers_held config.matcher) group ≡ asked_offers
+        (M.offers_held config.matcher) config.stage }
     requires within { place < length (offers_of (M.offers_held config.matcher) group) }
     requires turns { config.turns < MOST_TURNS }
-    ensures acted { IfOk result (IsActed C.talk C.left console.old console.new program.now settings.height (offers_of (M.offers_held config.matcher) group) place config) }
-    ensures ticked { IfOk result (λ turned. RoseByAct M.may_edit program.now settings.height (offers_of (M.offers_held config.matcher) group) place config turned steps.old steps.new) }
-    ensures played { IfOk result (λ turned. IsPlayed M.is_of M.height_held program.now settings (config_left turned)) }
-    ensures begun { OnErr result (Did C.talk C.left console.old console.new (BeginsAct program.now settings.height (offers_of (M.offers_held config.matcher) group) place (position_of config))) }
+    ensures acted { IfOk result (IsActed C.talk C.left console.old console.new program.now settings.height
+        (offers_of (M.offers_held config.matcher) group) place config) }
+    ensures ticked { IfOk result (λ turned. RoseByAct M.may_edit program.now settings.height
+        (offers_of (M.offers_held config.matcher) group) place config turned steps.old steps.new) }
+    ensures played { IfOk result (λ turned. IsPlayed M.is_of M.height_held program.now settings
+        (config_left turned)) }
+    ensures begun { OnErr result (Did C.talk C.left console.old console.new
+        (BeginsAct program.now settings.height
+        (offers_of (M.offers_held config.matcher) group) place (position_of config))) }
     ensures counted { steps.old ≤ steps.new }
     ensures cause { ConsoleCause (C.faults console.old) (C.faults console.new) result }
 {
@@ -153,9 +159,13 @@ pub fn turn<C: Console, M: Matcher, L: Ledger>(
     requires remain { config.turns < settings.limit }
     requires spent { HasSpent settings.seed config.turns spent.old }
     ensures turned { IfOk result (IsTurned C.talk C.left console.old console.new program.now settings
-        (λ deed. RoseBy (IsDeedCost M.may_edit program.now settings.height deed) steps.old steps.new) (steps.new ≡ steps.old) (asked_offers (M.offers_held config.matcher) config.stage) config spent.old spent.new) }
-    ensures played { IfOk result (λ turned. IsPlayed M.is_of M.height_held program.now settings (config_left turned)) }
-    ensures begun { OnErr result (FellShort C.talk C.left console.old console.new (λ come. supply_with come spent.old) (IsRunOf program.now settings (position_of config))) }
+        (λ deed. RoseBy (IsDeedCost M.may_edit program.now settings.height deed) steps.old
+        steps.new) (steps.new ≡ steps.old)
+        (asked_offers (M.offers_held config.matcher) config.stage) config spent.old spent.new) }
+    ensures played { IfOk result (λ turned. IsPlayed M.is_of M.height_held program.now settings
+        (config_left turned)) }
+    ensures begun { OnErr result (FellShort C.talk C.left console.old console.new
+        (λ come. supply_with come spent.old) (IsRunOf program.now settings (position_of config))) }
     ensures spent { IfOk result (λ _. HasSpent settings.seed (config.turns + 1) spent.new) }
     ensures counted { steps.old ≤ steps.new }
     ensures cause { ConsoleCause (C.faults console.old) (C.faults console.new) result }
