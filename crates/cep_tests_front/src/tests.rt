@@ -2,7 +2,6 @@ mod declared;
 mod drafts;
 mod files;
 mod names;
-mod programs;
 mod source;
 mod tokens;
 mod worlds;

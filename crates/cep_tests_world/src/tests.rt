@@ -1,11 +1,4 @@
-mod backward;
-mod checked;
-mod checks;
-mod dialogues;
-mod facts;
+mod draws;
 mod faults;
 mod outside;
-mod renewed;
-mod stages;
-mod walks;
-mod worlds;
+mod sample;

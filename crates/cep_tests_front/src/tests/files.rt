@@ -89,77 +89,6 @@ s trace
 "
 }
 
-// Texts, each under the line of its first fault.
-fn faulty_texts() -> &'static str {
-    "unexpected 2:1
-p t : pred
-q : pred.
-=
-unexpected 2:1
-p t : pred
-context c = {}
-=
-unexpected 1:6
-a : b
-=
-unexpected 1:4
-a :
-=
-unexpected 1:5
-_ : type.
-=
-unexpected 1:6
-_ : a.
-=
-unexpected 1:7
-a b : type.
-=
-unexpected 1:5
-a X : t.
-=
-unexpected 1:9
-l : a b : t.
-=
-unexpected 1:4
-p ().
-=
-unexpected 1:6
-p (f))
-=
-unexpected 1:2
-$() -o a.
-=
-unexpected 1:6
-a -o $b.
-=
-unexpected 1:6
-a -o qui.
-=
-unexpected 1:17
-stage s = { r : qui -o a. }
-=
-unexpected 1:15
-stage s = { a -o b. }
-=
-unexpected 1:18
-context c = { a, }
-=
-unexpected 1:14
-stage s = {}..
-=
-unexpected 1:1
-#foo s.
-=
-unexpected 1:8
-#trace s c.
-=
-unexpected 1:1
-fact : type.
-=
-unexpected 1:1
-. "
-}
-
 // The text of a span.
 fn put(out: &mut String, text: &str, at: Span) -> Result<(), AllocError> {
     out.push_str(text.get(at.from as usize..at.to as usize).unwrap_or("?"))
@@ -394,15 +323,6 @@ fn texts_say_this(rt: HostRuntime) -> Result<(), Fail> {
     for entry in parsed_texts().split("=\n") {
         let (text, items) = entry.split_once('\n').ok_or("no items")?;
         expect_shown(&rt, rt.alloc(), text, items)?;
-    }
-    Ok(())
-}
-
-#[test]
-fn first_faults_stand_here(rt: HostRuntime) -> Result<(), Fail> {
-    for entry in faulty_texts().split("\n=\n") {
-        let (fault, text) = entry.split_once('\n').ok_or("no text")?;
-        expect_shown(&rt, rt.alloc(), text, fault)?;
     }
     Ok(())
 }

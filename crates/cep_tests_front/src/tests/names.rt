@@ -1,14 +1,9 @@
-// To which declaration the names of texts go, and what is wrong with those that go to none.
-ghost use Rattle.std.specs.Prelude.{◌≤◌, length};
-ghost use Rattle.cep_base.specs.declared.limits.TheConstants.{MOST_TEXT};
-
+// To which declaration the names of texts go.
 use crate::tests::source::file_of;
 use cep_base::PredKind;
-use cep_base::limits::MOST_TEXT;
-use cep_faults::name_fault;
 use cep_parse::RawFile;
 use cep_source::{Fault, Source, Space, item_at};
-use std::alloc::{AllocError, Global};
+use std::alloc::Global;
 use std::process::Abort;
 use std::test::Fail;
 
@@ -38,73 +33,6 @@ Twice 43
 qui/1: rule 0
 qui/2: rule 1
 x: rule 3"
-}
-
-// Texts, each under the line of what is told of its names. Behind each a stage, a context and a trace
-// are added, with which nothing is wrong.
-fn misnamed() -> &'static str {
-    "none
-
-=
-Twice 10
-a : type. a : type.
-=
-Unknown 2
-p t : pred.
-=
-Unknown 23
-qui * stage s -o stage z.
-=
-WrongKind 24
-t : type. p t : pred. q p : pred.
-=
-WrongArity 43
-t : type. a : t. p t : pred. context d = { p a a }
-=
-WrongArity 47
-t : type. f t : t. p t : pred. context d = { p f }
-=
-VarInContext 38
-t : type. p t : pred. context d = { p X }
-=
-BwdInState 23
-q : bwd. context d = { q }
-=
-LinearInClause 24
-p : pred. q : bwd. q <- p.
-=
-LinearInClause 10
-k : fact. k <- k.
-=
-VarInContext 38
-t : type. k t : fact. context d = { k X }
-=
-BadQui 0
-r : qui * stage s -o ().
-=
-OverLimit 28
-t : type. p t t t t t t t t t : pred.
-=
-OverLimit 90
-p : pred. stage u = { r : p * p * p * p * p * p * p * p * p * p * p * p * p * p * p * p * p -o (). }
-=
-OverLimit 100
-p : pred. k : fact. stage u = { r : p * k * p * k * p * k * p * k * p * k * p * k * p * k * p * k * k -o (). }
-=
-OverLimit 54
-q : bwd. q <- q <- q <- q <- q <- q <- q <- q <- q <- q.
-=
-OverLimit 142
-t : type. p t t t t t t t t : pred. stage u = { r : p _ X _ _ _ _ _ _ * p _ X _ _ _ _ _ _ * p _ X _ _ _ _ _ _ * p _ X _ _ _ _ _ _ * p X _ _ _ _ _ _ _ -o (). }
-=
-TwoTraces 48
-#trace 1000000 s c.
-=
-OverLimit 7
-#trace 0001000001 s c.
-=
-OverLimit 7
-#trace 00 s c."
 }
 
 // The spaces, each with a word for what is in it.
@@ -244,49 +172,4 @@ fn names_go_to_their_first_declarations(rt: HostRuntime) -> Result<(), Fail> {
         expect_declared(&rt, rt.alloc(), text, told)?;
     }
     Ok(())
-}
-
-// The first fault of the names of a text with this raw file.
-fn fault_in(alloc: Global, text: &str, file: &RawFile) -> Result<Option<Fault>, AllocError>
-    requires { length text.now ≤ MOST_TEXT }
-{
-    let source = Source::of(alloc, text.as_bytes(), file)?;
-    let fault = name_fault(&source);
-    drop(source);
-    fault
-}
-
-// The first fault of the names of a text.
-fn first_fault(alloc: Global, text: &str) -> Result<Option<Fault>, Fail> {
-    if text.len() > MOST_TEXT {
-        return Err(Fail::from("long"));
-    }
-    let file = file_of(alloc, text)?;
-    Ok(fault_in(alloc, text, &file)?)
-}
-
-// A stage, a context and a trace with which nothing is wrong.
-fn behind() -> &'static str {
-    " stage s = {} context c = {} #trace _ s c."
-}
-
-// This is told of the names of a text with a front like this.
-fn expect_told(rt: &impl Abort, alloc: Global, front: &str, word: &str) -> Result<(), Fail> {
-    let text = format!(in alloc; "{front}{}", behind())?;
-    expect_fault(rt, alloc, first_fault(alloc, text.as_str())?, word)
-}
-
-#[test]
-fn the_first_fault_of_the_names_is_told(rt: HostRuntime) -> Result<(), Fail> {
-    for entry in misnamed().split("\n=\n") {
-        let (word, front) = entry.split_once('\n').ok_or("no text")?;
-        expect_told(&rt, rt.alloc(), front, word)?;
-    }
-    Ok(())
-}
-
-#[test]
-fn a_text_without_a_trace_is_told_at_its_end(rt: HostRuntime) -> Result<(), Fail> {
-    let fault = first_fault(rt.alloc(), "p : pred. ")?;
-    expect_fault(&rt, rt.alloc(), fault, "NoTrace 10")
 }

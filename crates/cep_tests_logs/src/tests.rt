@@ -1,6 +1,0 @@
-mod changes;
-mod heights;
-mod stages;
-mod told;
-mod versions;
-mod walks;
