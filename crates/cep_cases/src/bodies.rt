@@ -48,8 +48,12 @@ fn spell_once(texts: &Texts, body: &str, number: u64, out: &mut Vec<u8>) -> Resu
 fn put_repeated<'a>(texts: &Texts, repeated: &'a str, out: &mut Vec<u8>) -> Result<&'a str> {
     let mut inner = String::new(texts.alloc());
     let rest = cut_repeated(repeated, &mut inner)?;
-    let (times, body) = inner.split_once('|').context("a body that is repeated without a number")?;
-    let times = times.parse::<u64>().context("how often a body is repeated")?;
+    let (times, body) = inner
+        .split_once('|')
+        .context("a body that is repeated without a number")?;
+    let times = times
+        .parse::<u64>()
+        .context("how often a body is repeated")?;
     if body.contains("\\#") {
         put_numbered(texts, body, times, out)?;
     } else {
@@ -80,7 +84,9 @@ fn put_alike(texts: &Texts, body: &str, times: u64, out: &mut Vec<u8>) -> Result
 fn cut_repeated<'a>(repeated: &'a str, inner: &mut String) -> Result<&'a str> {
     let mut rest = repeated;
     for _bracket in 0..repeated.len() {
-        let (before, after) = rest.split_once(']').context("a body that is repeated without an end")?;
+        let (before, after) = rest
+            .split_once(']')
+            .context("a body that is repeated without an end")?;
         rest = after;
         let Some(open) = before.strip_suffix('\\') else {
             inner.push_str(before)?;
@@ -93,10 +99,21 @@ fn cut_repeated<'a>(repeated: &'a str, inner: &mut String) -> Result<&'a str> {
 }
 
 // The letters of escapes of one byte.
-const LETTERS: [(char, u8); 5] = [('\n', 0), ('\\', b'\\'), ('n', b'\n'), ('r', b'\r'), ('t', b'\t')];
+const LETTERS: [(char, u8); 5] = [
+    ('\n', 0),
+    ('\\', b'\\'),
+    ('n', b'\n'),
+    ('r', b'\r'),
+    ('t', b'\t'),
+];
 
 // Adds what an escape spells, and answers what follows it.
-fn put_escape<'a>(texts: &Texts, escape: &'a str, number: u64, out: &mut Vec<u8>) -> Result<&'a str> {
+fn put_escape<'a>(
+    texts: &Texts,
+    escape: &'a str,
+    number: u64,
+    out: &mut Vec<u8>,
+) -> Result<&'a str> {
     if let Some(rest) = escape.strip_prefix('<') {
         return put_text(texts, rest, out);
     }

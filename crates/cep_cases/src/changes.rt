@@ -45,13 +45,17 @@ fn change_of(texts: &Texts, line: &str) -> Result<Change> {
         Some((number, line)) => (number, Instead::Line(line_of(texts, line)?)),
         None => (line, Instead::End),
     };
-    let number = number.parse::<u64>().context(format_args!("no change: {line}"))?;
+    let number = number
+        .parse::<u64>()
+        .context(format_args!("no change: {line}"))?;
     Ok(Change::Line { number, instead })
 }
 
 // A change of what stands before an arrow into what stands after it.
 fn part_of(texts: &Texts, parts: &str) -> Result<Change> {
-    let (before, after) = parts.split_once(" => ").context("a change of a part without an arrow")?;
+    let (before, after) = parts
+        .split_once(" => ")
+        .context("a change of a part without an arrow")?;
     let mut old = Vec::new(texts.alloc());
     spell(texts, before, &mut old)?;
     let mut new = Vec::new(texts.alloc());

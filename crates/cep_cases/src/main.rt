@@ -21,7 +21,9 @@ fn run_file<R: Files + Print + AllocGlobal>(rt: &R, player: &mut Player, line: &
     let most = most.parse::<usize>().context("a line of the index")?;
     let content = fs::read_to_string(rt, name).context(format_args!("reading {name}"))?;
     player.begin_file(most);
-    let told = player.run_file(content.as_str()).context(format_args!("in {name}"))?;
+    let told = player
+        .run_file(content.as_str())
+        .context(format_args!("in {name}"))?;
     print!(rt; "{told}")?;
     Ok(())
 }

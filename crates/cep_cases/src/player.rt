@@ -91,7 +91,11 @@ impl Player {
             last = Section::of(lines);
             self.take(last, &mut case)?;
         }
-        if last.each { self.run_each(name, last, &mut case) } else { self.run_one(name, &case) }
+        if last.each {
+            self.run_each(name, last, &mut case)
+        } else {
+            self.run_one(name, &case)
+        }
     }
 
     // Takes what a section says of the case, if it says one thing for all.
@@ -130,10 +134,17 @@ impl Player {
     }
 
     // Runs a case for each line of the section, where it changes this text if it changes one.
-    fn run_lines(&mut self, name: &str, section: Section, base: &[u8], case: &mut Case) -> Result<()> {
+    fn run_lines(
+        &mut self,
+        name: &str,
+        section: Section,
+        base: &[u8],
+        case: &mut Case,
+    ) -> Result<()> {
         for (i, line) in section.body.split('\n').enumerate() {
             let number = i.saturating_add(1);
-            self.take_line(section, base, line, case).context(format_args!("line {number}"))?;
+            self.take_line(section, base, line, case)
+                .context(format_args!("line {number}"))?;
             let name = format!(in self.alloc; "{name}/{number}")?;
             self.run_one(name.as_str(), case)?;
         }
@@ -141,7 +152,13 @@ impl Player {
     }
 
     // Takes what a line of the section says of the case.
-    fn take_line(&mut self, section: Section, base: &[u8], line: &str, case: &mut Case) -> Result<()> {
+    fn take_line(
+        &mut self,
+        section: Section,
+        base: &[u8],
+        line: &str,
+        case: &mut Case,
+    ) -> Result<()> {
         if section.target == "words" {
             case.words = String::from_str(self.alloc, line)?;
             return Ok(());
@@ -162,7 +179,12 @@ impl Player {
     fn outcome(&mut self, case: &Case) -> Result<Outcome, AllocError> {
         self.shelf.forget();
         let mut console = CalmConsole::new(self.alloc, case.typed.as_slice())?;
-        let status = status(self.alloc, case.words.as_str(), &mut console, &mut self.shelf)?;
+        let status = status(
+            self.alloc,
+            case.words.as_str(),
+            &mut console,
+            &mut self.shelf,
+        )?;
         let said = written(self.alloc, console.talk())?;
         Ok(Outcome { status, said })
     }

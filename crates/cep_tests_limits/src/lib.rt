@@ -1,5 +1,5 @@
-//! Tests at the limits of programs, of their texts, of runs and of transcripts, each with what one more
-//! gives, and of the deepest recursions. `docs/LIMITS.md` lists them.
+//! Tests of the numbers by which steps pass limits. What stands at each limit, and one beyond it, are cases
+//! of `cep_cases`; `docs/LIMITS.md` lists them.
 #![tactic(auto)]
 
 #[cfg(test)]

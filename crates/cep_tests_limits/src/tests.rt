@@ -1,14 +1,1 @@
-mod declared;
-mod deepest;
-mod expecting;
-mod fullest;
-mod growing;
-mod heights;
-mod hundreds;
 mod numbers;
-mod offers;
-mod rooms;
-mod states;
-mod transcripts;
-mod turns;
-mod typed;

@@ -1,15 +1,13 @@
 // The numbers by which steps pass limits.
 ghost use Rattle.std.specs.Prelude.{◌≡◌, ◌<◌};
 
-use crate::tests::deepest::rising;
-use crate::tests::states::copying;
 use cep_base::Steps;
 use cep_ground::accept;
 use cep_machine::{Config, Stepped};
 use cep_rule::{Matcher, Program};
 use cep_scratch::Scratch;
 use cep_step::Limit;
-use std::alloc::Global;
+use std::alloc::{AllocError, Global};
 use std::marker::Brand;
 use std::process::Abort;
 use std::sync::ledger::{Blank, Ledger};
@@ -56,15 +54,43 @@ fn expect_passed(
     Ok(())
 }
 
+// A program that raises the number of so many levels above zero.
+fn raising(alloc: Global, levels: usize) -> Result<String, AllocError> {
+    let opened = "(s ".repeat(alloc, levels)?;
+    let closed = ")".repeat(alloc, levels)?;
+    format!(in alloc;
+        "nat : type. z : nat. s nat : nat. num nat : pred.
+stage main = {{ up : num N -o num (s N). }}
+#trace _ main {{ num {opened}z{closed} }}.
+"
+    )
+}
+
+// A program that may copy an atom of 65,536 nodes, and begins with so many copies of it.
+fn copying(alloc: Global, copies: usize) -> Result<String, AllocError> {
+    let mut term = String::from_str(alloc, "z")?;
+    for _doubled in 0..15 {
+        term = format!(in alloc; "(f {term} {term})")?;
+    }
+    let further = "w, ".repeat(alloc, copies.saturating_sub(1))?;
+    format!(in alloc;
+        "t : type. z : t. f t t : t. p t : pred.
+stage main = {{ r : $p X -o p X. }}
+#trace _ main {{ {further}w }}.
+context w = {{ p {term} }}
+"
+    )
+}
+
 #[test]
 fn the_levels_of_an_atom_are_told_where_its_nodes_are_few(rt: HostRuntime) -> Result<(), Fail> {
-    let text = rising(rt.alloc(), 510)?;
+    let text = raising(rt.alloc(), 510)?;
     expect_passed(&rt, rt.alloc(), text.as_str(), (Limit::Atom, 513))
 }
 
 #[test]
 fn the_nodes_of_a_state_are_told_where_its_copies_are_few(rt: HostRuntime) -> Result<(), Fail> {
-    let text = copying(rt.alloc(), 64, "")?;
+    let text = copying(rt.alloc(), 64)?;
     expect_passed(&rt, rt.alloc(), text.as_str(), (Limit::State, 4_259_840))
 }
 
