@@ -29,8 +29,10 @@ pub record IsConfigurationOf {M : Type 0} (is_of : Parts → M → Type 0) (prog
 -- a configuration is stored as its parts
 abbrev pub configuration_code : {M : Type 0} → Coded M → Coded (Configuration M)
 configuration_code {M} code =
-    code_by (ℕ × (Multiset × (ℕ × M))) (coded× coded_ℕ (coded× (finite.code atom_code coded_ℕ) (coded× coded_ℕ code)))
-    (λ c. (c.stage, (c.state, (c.turns, c.matcher)))) (λ parts. record { stage = parts.0; state = parts.1.0; turns = parts.1.1.0; matcher = parts.1.1.1 }) (λ _. refl)
+    code_by (ℕ × (Multiset × (ℕ × M)))
+    (coded× coded_ℕ (coded× (finite.code atom_code coded_ℕ) (coded× coded_ℕ code)))
+    (λ c. (c.stage, (c.state, (c.turns, c.matcher))))
+    (λ parts. record { stage = parts.0; state = parts.1.0; turns = parts.1.1.0; matcher = parts.1.1.1 }) (λ _. refl)
 
 -- What every configuration keeps: the matcher holds its state, and has a list for both groups of
 -- its stage.

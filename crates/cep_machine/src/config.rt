@@ -6,9 +6,9 @@ use cep_step::Spot;
 use cep_term::Bag;
 use std::marker::Model;
 
-/// A configuration of a program: a stage by its number, a state, and how many turns are done, with the
-/// matcher of that state. Ceptre's semantics goes from one to the next; the matcher and the turns are
-/// this profile's. It keeps no program: that it is of one is said of the two.
+/// A configuration of a program: a stage by its number, a state, and how many turns are done, with
+/// the matcher of that state. Ceptre's semantics goes from one to the next; the matcher and the
+/// turns are this profile's. It keeps no program: that it is of one is said of the two.
 #[derive(Drop)]
 pub struct Config<M: Matcher> {
     pub(crate) spot: Spot,

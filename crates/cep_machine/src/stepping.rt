@@ -19,11 +19,11 @@ use std::alloc::{AllocError, Global};
 use std::sync::ledger::Ledger;
 
 impl<M: Matcher> Config<M> {
-    /// Does a step by the offer at this place of the group that is asked, counted from 0, or says which
-    /// limit it would pass. A step is Ceptre's; the limits are this profile's. Fewer than 1,000,000
-    /// turns may be done before. The matcher is told of all linear premises as taken, kept ones included,
-    /// and as added of the right atoms in written order and then of the linear premises that are kept. Only want
-    /// of memory is refused, and then the configuration is gone.
+    /// Does a step by the offer at this place of the group that is asked, counted from 0, or says
+    /// which limit it would pass. A step is Ceptre's; the limits are this profile's. Fewer than
+    /// 1,000,000 turns may be done before. The matcher is told of all linear premises as taken,
+    /// kept ones included, and as added of the right atoms in written order and then of the linear
+    /// premises that are kept. Only want of memory is refused, and then the configuration is gone.
     pub fn step<L: Ledger>(
         self,
         alloc: Global,
@@ -44,8 +44,10 @@ impl<M: Matcher> Config<M> {
             (gathered (taken_by program.now.signature rule values))
             (added_by program.now.signature rule values))
             stepped steps.old steps.new) }
-        ensures of_program { IfOk result (λ stepped. IsConfigurationOf M.is_of program.now (config_after stepped)) }
-        ensures same_height { IfOk result (λ stepped. M.height_held (config_after stepped).matcher ≡ M.height_held self.matcher) }
+        ensures of_program { IfOk result
+            (λ stepped. IsConfigurationOf M.is_of program.now (config_after stepped)) }
+        ensures same_height { IfOk result (λ stepped. M.height_held (config_after stepped).matcher
+            ≡ M.height_held self.matcher) }
         ensures never_falls { steps.old ≤ steps.new }
     {
         values_are_small();
