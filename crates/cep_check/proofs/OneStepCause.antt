@@ -149,12 +149,14 @@ module _ (laws : BagLaws) (order : OffersOrdered) (one : LeadsToOne) (needs : Ne
 
     other_stage_alike : (number : ℕ) (comes : IsStepCause program height old rule step (OtherStage number)) (other : Cause) → IsStepCause program height old rule step other → 0 ≡ tests other → AreToldAlike program (OtherStage number) other
     other_stage_alike number comes (OtherStage number') comes' same = ap (λ n. codes "OtherStage " ++ offer_name (slice_get program.rules n)) (comes.0 ∙ sym comes'.0)
+    other_stage_alike number comes (OverLimit Atom) comes' same = absurd (omega (arith, same))
     other_stage_alike number comes other comes' same = absurd (omega (arith, same))
 
     lack_alike : (atom : _) (have need : ℕ) (comes : IsStepCause program height old rule step (NotContained atom have need)) (other : Cause) → IsStepCause program height old rule step other → 1 ≡ tests other → AreToldAlike program (NotContained atom have need) other
     lack_alike atom have need comes (NotContained atom' have' need') comes' same =
         counts_alike (codes "NotContained have ") (codes " need ") have have' need need' (atom_of atom) (atom_of atom')
         (lack_once laws (left_of program.signature rule step.offer.values) old.state (atom_of atom) (atom_of atom') have have' need need' comes.1 comes'.1)
+    lack_alike atom have need comes (OverLimit Atom) comes' same = absurd (omega (arith, same))
     lack_alike atom have need comes other comes' same = absurd (omega (arith, same))
 
     unproved_alike : (place : ℕ) (comes : IsStepCause program height old rule step (NotProved place)) (other : Cause) → IsStepCause program height old rule step other → 2 ≡ tests other → AreToldAlike program (NotProved place) other
@@ -167,6 +169,7 @@ module _ (laws : BagLaws) (order : OffersOrdered) (one : LeadsToOne) (needs : Ne
         proved_and_not place place' comes.1.0 comes'.1.0 comes.1.1 comes'.1.1 comes.1.2 comes'.1.2
         (fails_once program height step.proofs goals place place' comes.1.0 comes'.1.0 comes.1.1 comes'.1.1 comes.1.2 comes'.1.2 (unproved_fails comes.1.0 comes.1.1 comes.1.3) (high_fails comes'.1.0 comes'.1.1 high' comes'.1.4 comes'.1.5))
         comes.1.3 comes'.1.3
+    unproved_alike place comes (OverLimit Atom) comes' same = absurd (omega (arith, same))
     unproved_alike place comes other comes' same = absurd (omega (arith, same))
 
     high_alike : (place high : ℕ) (comes : IsStepCause program height old rule step (TooHigh place high)) (other : Cause) → IsStepCause program height old rule step other → 2 ≡ tests other → AreToldAlike program (TooHigh place high) other
@@ -181,10 +184,12 @@ module _ (laws : BagLaws) (order : OffersOrdered) (one : LeadsToOne) (needs : Ne
         let one_proof : comes.1.0 ≡ comes'.1.0 = some_same comes.1.0 comes'.1.0 (sym at.derivation ∙ ap (slice_get step.proofs) here ∙ at'.derivation) in
         ap (λ n. codes "TooHigh " ++ decimal n ++ codes " " ++ decimal high) (at.counted ∙ ap (λ n. n + 1) here ∙ sym at'.counted)
         ∙ ap (λ n. codes "TooHigh " ++ decimal place' ++ codes " " ++ decimal n) (comes.1.4 ∙ ap proof_height one_proof ∙ sym comes'.1.4)
+    high_alike place high comes (OverLimit Atom) comes' same = absurd (omega (arith, same))
     high_alike place high comes other comes' same = absurd (omega (arith, same))
 
     not_quiet_alike : (offer : Offer) (comes : IsStepCause program height old rule step (NotQuiet offer)) (other : Cause) → IsStepCause program height old rule step other → 3 ≡ tests other → AreToldAlike program (NotQuiet offer) other
     not_quiet_alike offer comes (NotQuiet offer') comes' same = ap (λ o. codes "NotQuiet " ++ offer_text program o) (first_offer_once order program height old.state (own_group old.stage) offer offer' comes.2 comes'.2)
+    not_quiet_alike offer comes (OverLimit Atom) comes' same = absurd (omega (arith, same))
     not_quiet_alike offer comes other comes' same = absurd (omega (arith, same))
 
     atom_limit_alike : (comes : IsStepCause program height old rule step (OverLimit Atom)) (other : Cause) → IsStepCause program height old rule step other → 4 ≡ tests other → AreToldAlike program (OverLimit Atom) other
@@ -197,6 +202,7 @@ module _ (laws : BagLaws) (order : OffersOrdered) (one : LeadsToOne) (needs : Ne
 
     stage_line_alike : (said is : ℕ) (comes : IsStepCause program height old rule step (StageLine said is)) (other : Cause) → IsStepCause program height old rule step other → 6 ≡ tests other → AreToldAlike program (StageLine said is) other
     stage_line_alike said is comes (StageLine said' is') comes' same = stages_alike (codes "StageLine said ") said said' is is' (some_same said said' (sym comes.1 ∙ comes'.1)) (some_same is is' (sym comes.2 ∙ comes'.2))
+    stage_line_alike said is comes (OverLimit Atom) comes' same = absurd (omega (arith, same))
     stage_line_alike said is comes other comes' same = absurd (omega (arith, same))
 
     -- the line of every cause but that of a listing is that of the step
@@ -226,6 +232,7 @@ module _ (laws : BagLaws) (order : OffersOrdered) (one : LeadsToOne) (needs : Ne
 
       mid_alike : (line : ℕ) (atom : _) (said is : ℕ) (comes : IsStepCause program height old rule step (MidState line atom said is)) (other : Cause) → IsStepCause program height old rule step other → 7 ≡ tests other → AreAlike (MidState line atom said is) other
       mid_alike line atom said is comes (MidState line' atom' said' is') comes' same = both_mid line line' atom atom' said said' is is' comes comes'
+      mid_alike line atom said is comes (OverLimit Atom) comes' same = absurd (omega (arith, same))
       mid_alike line atom said is comes other comes' same = absurd (omega (arith, same))
 
       pub step_alike : (cause other : Cause) → IsStepCause program height old rule step cause → IsStepCause program height old rule step other → AreAlike cause other

@@ -19,3 +19,13 @@ pub returns : goal.returns
 returns c =
     let all : length c.args.log.now.steps ≤ c.loop-i.i = let len = c.len-i-end.ensures in let test = c.loop-i-test.false in omega arith in
     renewing_ends c.renewing_is_lawful.ensures c.args.program.now c.parts.ensures.kept c.args.log.now (c.loop-i.i + 1) c.args.text.now c.loop-i.text c.loop-i.spot (drop c.loop-i.i c.args.log.now.steps) (none_left c.args.log.now.steps c.loop-i.i all) c.loop-i.invariant
+
+pub unreachable-requires : goal.unreachable-requires
+unreachable-requires c =
+    next_fits c.renewing_is_lawful.ensures c.args.program.now c.parts.ensures.kept c.args.log.now (c.loop-i.i + 1) c.args.text.now c.loop-i.text c.loop-i.spot c.args.log.now.steps c.loop-i.i c.get-step.result.now c.get-step.ensures c.loop-i.invariant
+    c.in-Err.field-0 (rw c.in-Err.is at c.in_ok-next.ensures)
+
+pub loop-i-preserved : goal.loop-i-preserved
+loop-i-preserved c =
+    renewing_goes_on c.renewing_is_lawful.ensures c.args.program.now c.parts.ensures.kept c.args.log.now (c.loop-i.i + 1) c.args.text.now c.loop-i.text c.loop-i.spot c.args.log.now.steps c.loop-i.i c.get-step.result.now c.get-step.ensures c.loop-i.invariant
+    c.in-Ok.next c.renew_step.new.text (rw c.in-Ok.is at c.in_ok-next.ensures)
