@@ -15,8 +15,8 @@ use Rattle.cep_rule.specs.Step.{Step}
 use Rattle.cep_rule.specs.Steps.{Spot, stage_after}
 use Rattle.cep_log.specs.declared.log.LogStep.{LogStep}
 use Rattle.cep_step.specs.declared.change.Change.{Change}
-use Rattle.cep_step.specs.declared.weighing.Weighed.TheVariants.{Within}
-use Rattle.cep_step.specs.Changes.{edited, IsWeighed}
+use Rattle.cep_step.specs.Changes.{edited, changed, IsChangeOf}
+use Rattle.cep_step.specs.Spots.{IsSpotOf}
 use Rattle.cep_check.specs.declared.cause.Cause.{Cause}
 use Rattle.cep_check.specs.declared.cause.Cause.TheVariants.{StartStage, StartState, OtherStage, NotContained, NotProved, TooHigh, NotQuiet, OverLimit, StageLine, MidState, NotEnded, EndState}
 use Rattle.cep_check.specs.Causes.{IsFirstDifference, IsInTurn, IsWithinLimits, IsStepCause}
@@ -30,70 +30,33 @@ in_range_all types signature kinds values are atoms typed = all_weaker (IsTyped 
 pub ground_all : TypeLaws → (signature : Signature) (kinds : List ℕ) (values : List Tree) → AreValues signature.cons kinds values → (atoms : List AtomTree) → AllByRecursion (IsTyped signature kinds) atoms → AllByRecursion IsGroundAtom (full_instances values atoms)
 ground_all types signature kinds values are atoms typed = all_mapped (IsTyped signature kinds) IsGroundAtom (full_instance values) atoms (λ a typed. types.ground signature kinds values a are typed) typed
 
--- what a step in turn comes to
-module _ (program : Parts) (height : ℕ) (old : Spot) (rule : Rule) (step : LogStep) (ready : IsReadyStep program rule step) (is_state : IsState program.signature old.state) (fits : Fits old.state) (in_turn : IsInTurn program height old rule step) where
-  module _ (change : Change) (weighed : IsWeighed program.signature rule step.offer.values old.state (Within change)) where
-    within : IsWithinLimits program height old rule step
-    within = record {
-      in_turn = in_turn;
-      fit = weighed.0;
-      new = edited old.state change;
-      leads = weighed.1.step;
-      fits = weighed.1.can.fits;
-    }
+-- what a step in turn comes to that is within the limits
+module _ (program : Parts) (height : ℕ) (old : Spot) (rule : Rule) (step : LogStep) (ready : IsReadyStep program rule step) (in_turn : IsInTurn program height old rule step) (change : Change) (is : IsChangeOf program rule step.offer.values old change) where
+  within : IsWithinLimits program height old rule step (changed old change).state
+  within = record { in_turn = in_turn; fit = is.leads.fit; leads = is.leads.step; fits = is.leads.fits }
 
-    -- it is followed by another stage than the rule's
-    pub stage_cause : (cause : Cause) → IsStageCause step.stage rule.next cause → IsStepCause program height old rule step cause
-    stage_cause (StageLine said is) other = (within, other.0, other.1, other.2)
-    stage_cause (StartStage said is) other = other
-    stage_cause (StartState atom said is) other = other
-    stage_cause (OtherStage number) other = absurd other
-    stage_cause (NotContained atom have need) other = absurd other
-    stage_cause (NotProved place) other = absurd other
-    stage_cause (TooHigh place high) other = absurd other
-    stage_cause (NotQuiet offer) other = absurd other
-    stage_cause (OverLimit limit) other = absurd other
-    stage_cause (MidState line atom said is) other = absurd other
-    stage_cause NotEnded other = other
-    stage_cause (EndState atom said is) other = other
+  -- it is followed by another stage than the rule's
+  pub stage_cause : (cause : Cause) → IsStageCause step.stage rule.next cause → IsStepCause program height old rule step cause
+  stage_cause (StageLine said is) other = ((edited old.state change, within), other.0, other.1, other.2)
+  stage_cause cause other = absurd other
 
-    -- it is done
-    pub is_done : (new : Spot) → new.stage ≡ stage_after rule old.stage → new.state ≡ edited old.state change → step.stage ≡ rule.next → IsDoneStep program height old new rule step
-    unfolding within
-    is_done new stage_is state_is staged = record {
+  -- it is done
+  pub is_done : (new : Spot) → new ≡ changed old change → step.stage ≡ rule.next → IsDoneStep program height old new rule step × IsSpotOf program new
+  is_done new same staged = rw same (
+    record {
       machine = record {
         numbered = ready.numbered;
         values = ready.values;
         in_turn = ⊎_elim (λ own. inl own) (λ leaving. inr (leaving, in_turn.quiet leaving)) in_turn.is_proved.can_take.of_stage;
         proved = in_turn.is_proved.proved;
-        steps = record {
-          fit = weighed.0;
-          step = subst (λ (state : Multiset). Step program.signature rule step.offer.values old.state state) (sym state_is) weighed.1.step;
-          fits = subst Fits (sym state_is) weighed.1.can.fits;
-          stage = stage_is;
-        };
+        steps = is.leads;
       };
       staged = record { within = within; stage = staged };
-      after = sym state_is;
-    }
+    },
+    is.of_program,
+  )
 
 -- a step that is done is followed by another listing than that of where it leads
 pub mid_cause : (program : Parts) (height : ℕ) (old new : Spot) (rule : Rule) (step : LogStep) (cause : Cause) → IsDoneStep program height old new rule step → IsMidCause step.mid new.state cause → IsStepCause program height old rule step cause
-mid_cause program height old new rule step (MidState line atom said is) done other = (
-  done.staged,
-  other.0,
-  other.1,
-  other.2,
-  subst (λ (state : Multiset). IsFirstDifference other.0.state state (atom_of atom) said is) (sym done.after) other.3,
-)
-mid_cause program height old new rule step (StartStage said is) done other = other
-mid_cause program height old new rule step (StartState atom said is) done other = other
-mid_cause program height old new rule step (OtherStage number) done other = absurd other
-mid_cause program height old new rule step (NotContained atom have need) done other = absurd other
-mid_cause program height old new rule step (NotProved place) done other = absurd other
-mid_cause program height old new rule step (TooHigh place high) done other = absurd other
-mid_cause program height old new rule step (NotQuiet offer) done other = absurd other
-mid_cause program height old new rule step (OverLimit limit) done other = absurd other
-mid_cause program height old new rule step (StageLine said is) done other = absurd other
-mid_cause program height old new rule step NotEnded done other = other
-mid_cause program height old new rule step (EndState atom said is) done other = other
+mid_cause program height old new rule step (MidState line atom said is) done other = (new.state, done.staged, other)
+mid_cause program height old new rule step cause done other = absurd other

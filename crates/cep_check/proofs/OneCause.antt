@@ -30,36 +30,9 @@ module _ (laws : BagLaws) (order : OffersOrdered) (one : LeadsToOne) (needs : Ne
   start_alike log of (StartState atom said is) (StartState atom' said' is') comes comes' =
       counts_alike laws order one needs program (codes "StartState said ") (codes " is ") said said' is is' (atom_of atom) (atom_of atom')
       (difference_once laws log.start of.start.rising program.start (atom_of atom) (atom_of atom') said said' is is' comes.1 comes'.1)
-  start_alike log of (OtherStage number) other comes comes' = absurd comes
-  start_alike log of (NotContained atom have need) other comes comes' = absurd comes
-  start_alike log of (NotProved place) other comes comes' = absurd comes
-  start_alike log of (TooHigh place high) other comes comes' = absurd comes
-  start_alike log of (NotQuiet offer) other comes comes' = absurd comes
-  start_alike log of (StageLine said is) other comes comes' = absurd comes
-  start_alike log of (OverLimit limit) other comes comes' = absurd comes
-  start_alike log of (MidState line atom said is) other comes comes' = absurd comes
-  start_alike log of NotEnded other comes comes' = absurd comes
-  start_alike log of (EndState atom said is) other comes comes' = absurd comes
-  start_alike log of (StartStage said is) (OtherStage number') comes comes' = absurd comes'
-  start_alike log of (StartStage said is) (NotContained atom' have' need') comes comes' = absurd comes'
-  start_alike log of (StartStage said is) (NotProved place') comes comes' = absurd comes'
-  start_alike log of (StartStage said is) (TooHigh place' high') comes comes' = absurd comes'
-  start_alike log of (StartStage said is) (NotQuiet offer') comes comes' = absurd comes'
-  start_alike log of (StartStage said is) (StageLine said' is') comes comes' = absurd comes'
-  start_alike log of (StartStage said is) (OverLimit limit) comes comes' = absurd comes'
-  start_alike log of (StartStage said is) (MidState line' atom' said' is') comes comes' = absurd comes'
-  start_alike log of (StartStage said is) NotEnded comes comes' = absurd comes'
-  start_alike log of (StartStage said is) (EndState atom' said' is') comes comes' = absurd comes'
-  start_alike log of (StartState atom said is) (OtherStage number') comes comes' = absurd comes'
-  start_alike log of (StartState atom said is) (NotContained atom' have' need') comes comes' = absurd comes'
-  start_alike log of (StartState atom said is) (NotProved place') comes comes' = absurd comes'
-  start_alike log of (StartState atom said is) (TooHigh place' high') comes comes' = absurd comes'
-  start_alike log of (StartState atom said is) (NotQuiet offer') comes comes' = absurd comes'
-  start_alike log of (StartState atom said is) (StageLine said' is') comes comes' = absurd comes'
-  start_alike log of (StartState atom said is) (OverLimit limit) comes comes' = absurd comes'
-  start_alike log of (StartState atom said is) (MidState line' atom' said' is') comes comes' = absurd comes'
-  start_alike log of (StartState atom said is) NotEnded comes comes' = absurd comes'
-  start_alike log of (StartState atom said is) (EndState atom' said' is') comes comes' = absurd comes'
+  start_alike log of (StartStage said is) other comes comes' = absurd comes'
+  start_alike log of (StartState atom said is) other comes comes' = absurd comes'
+  start_alike log of cause other comes comes' = absurd comes
 
   asked_clash : (height : ℕ) (last : Spot) (end : LogEnd) (offer : Offer) → end.word ≡ Quiet → IsFirstAsked program height last offer → IsTrulyQuiet program height last end → ⊥
   asked_clash height last end offer quiet asked truly = ⊎_elim (λ own. (truly quiet).0 (offer, own.is)) (λ leaving. (truly quiet).1 (offer, leaving.1.is)) asked
@@ -76,58 +49,11 @@ module _ (laws : BagLaws) (order : OffersOrdered) (one : LeadsToOne) (needs : Ne
   end_alike log of last (Some end) rising (EndState atom said is) (EndState atom' said' is') comes comes' =
       counts_alike laws order one needs program (codes "EndState said ") (codes " is ") said said' is is' (atom_of atom) (atom_of atom')
       (difference_once laws end.state rising last.state (atom_of atom) (atom_of atom') said said' is is' comes.1 comes'.1)
-  end_alike log of last None rising (OtherStage number) other comes comes' = absurd comes
-  end_alike log of last None rising NotEnded (OtherStage number') comes comes' = absurd comes'
-  end_alike log of last None rising (NotContained atom have need) other comes comes' = absurd comes
-  end_alike log of last None rising NotEnded (NotContained atom' have' need') comes comes' = absurd comes'
-  end_alike log of last None rising (NotProved place) other comes comes' = absurd comes
-  end_alike log of last None rising NotEnded (NotProved place') comes comes' = absurd comes'
-  end_alike log of last None rising (TooHigh place high) other comes comes' = absurd comes
-  end_alike log of last None rising NotEnded (TooHigh place' high') comes comes' = absurd comes'
-  end_alike log of last None rising (NotQuiet offer) other comes comes' = absurd comes
-  end_alike log of last None rising NotEnded (NotQuiet offer') comes comes' = absurd comes'
-  end_alike log of last None rising (StageLine said is) other comes comes' = absurd comes
-  end_alike log of last None rising NotEnded (StageLine said' is') comes comes' = absurd comes'
-  end_alike log of last None rising (MidState line atom said is) other comes comes' = absurd comes
-  end_alike log of last None rising NotEnded (MidState line' atom' said' is') comes comes' = absurd comes'
-  end_alike log of last None rising (OverLimit limit) other comes comes' = absurd comes
-  end_alike log of last None rising NotEnded (OverLimit limit) comes comes' = absurd comes'
-  end_alike log of last None rising (StartStage said is) other comes comes' = absurd comes
-  end_alike log of last None rising NotEnded (StartStage said' is') comes comes' = absurd comes'
-  end_alike log of last None rising (StartState atom said is) other comes comes' = absurd comes
-  end_alike log of last None rising NotEnded (StartState atom' said' is') comes comes' = absurd comes'
-  end_alike log of last None rising (EndState atom said is) other comes comes' = absurd comes
-  end_alike log of last None rising NotEnded (EndState atom' said' is') comes comes' = absurd comes'
-  end_alike log of last (Some end) rising (OtherStage number) other comes comes' = absurd comes
-  end_alike log of last (Some end) rising (NotQuiet offer) (OtherStage number') comes comes' = absurd comes'
-  end_alike log of last (Some end) rising (EndState atom said is) (OtherStage number') comes comes' = absurd comes'
-  end_alike log of last (Some end) rising (NotContained atom have need) other comes comes' = absurd comes
-  end_alike log of last (Some end) rising (NotQuiet offer) (NotContained atom' have' need') comes comes' = absurd comes'
-  end_alike log of last (Some end) rising (EndState atom said is) (NotContained atom' have' need') comes comes' = absurd comes'
-  end_alike log of last (Some end) rising (NotProved place) other comes comes' = absurd comes
-  end_alike log of last (Some end) rising (NotQuiet offer) (NotProved place') comes comes' = absurd comes'
-  end_alike log of last (Some end) rising (EndState atom said is) (NotProved place') comes comes' = absurd comes'
-  end_alike log of last (Some end) rising (TooHigh place high) other comes comes' = absurd comes
-  end_alike log of last (Some end) rising (NotQuiet offer) (TooHigh place' high') comes comes' = absurd comes'
-  end_alike log of last (Some end) rising (EndState atom said is) (TooHigh place' high') comes comes' = absurd comes'
-  end_alike log of last (Some end) rising (StageLine said is) other comes comes' = absurd comes
-  end_alike log of last (Some end) rising (NotQuiet offer) (StageLine said' is') comes comes' = absurd comes'
-  end_alike log of last (Some end) rising (EndState atom said is) (StageLine said' is') comes comes' = absurd comes'
-  end_alike log of last (Some end) rising (MidState line atom said is) other comes comes' = absurd comes
-  end_alike log of last (Some end) rising (NotQuiet offer) (MidState line' atom' said' is') comes comes' = absurd comes'
-  end_alike log of last (Some end) rising (EndState atom said is) (MidState line' atom' said' is') comes comes' = absurd comes'
-  end_alike log of last (Some end) rising (OverLimit limit) other comes comes' = absurd comes
-  end_alike log of last (Some end) rising (NotQuiet offer) (OverLimit limit) comes comes' = absurd comes'
-  end_alike log of last (Some end) rising (EndState atom said is) (OverLimit limit) comes comes' = absurd comes'
-  end_alike log of last (Some end) rising (StartStage said is) other comes comes' = absurd comes
-  end_alike log of last (Some end) rising (NotQuiet offer) (StartStage said' is') comes comes' = absurd comes'
-  end_alike log of last (Some end) rising (EndState atom said is) (StartStage said' is') comes comes' = absurd comes'
-  end_alike log of last (Some end) rising (StartState atom said is) other comes comes' = absurd comes
-  end_alike log of last (Some end) rising (NotQuiet offer) (StartState atom' said' is') comes comes' = absurd comes'
-  end_alike log of last (Some end) rising (EndState atom said is) (StartState atom' said' is') comes comes' = absurd comes'
-  end_alike log of last (Some end) rising NotEnded other comes comes' = absurd comes
-  end_alike log of last (Some end) rising (NotQuiet offer) NotEnded comes comes' = absurd comes'
-  end_alike log of last (Some end) rising (EndState atom said is) NotEnded comes comes' = absurd comes'
+  end_alike log of last None rising NotEnded other comes comes' = absurd comes'
+  end_alike log of last None rising cause other comes comes' = absurd comes
+  end_alike log of last (Some end) rising (NotQuiet offer) other comes comes' = absurd comes'
+  end_alike log of last (Some end) rising (EndState atom said is) other comes comes' = absurd comes'
+  end_alike log of last (Some end) rising cause other comes comes' = absurd comes
 
   -- From a spot on a log is refused for one cause at one line.
   from_alike : (log : Log) → IsLogOf program log → (steps : List LogStep) → AllByRecursion (IsStepOf program) steps → (old : Spot) (line line' : ℕ) (cause other : Cause) → IsRefusedFrom program log old steps line cause → IsRefusedFrom program log old steps line' other → (line ≡ line') × AreToldAlike program cause other

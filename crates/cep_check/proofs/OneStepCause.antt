@@ -52,8 +52,8 @@ module _ (laws : BagLaws) (order : OffersOrdered) (one : LeadsToOne) (needs : Ne
     Passed (suc (suc (suc zero))) = IsProvedStep program height old rule step
     Passed (suc (suc (suc (suc zero)))) = IsInTurn program height old rule step
     Passed (suc (suc (suc (suc (suc zero))))) = IsInTurn program height old rule step × MakesFit rule step.offer.values
-    Passed (suc (suc (suc (suc (suc (suc zero)))))) = IsWithinLimits program height old rule step
-    Passed (suc (suc (suc (suc (suc (suc (suc zero))))))) = IsStaged program height old rule step
+    Passed (suc (suc (suc (suc (suc (suc zero)))))) = (new : Multiset) × IsWithinLimits program height old rule step new
+    Passed (suc (suc (suc (suc (suc (suc (suc zero))))))) = (new : Multiset) × IsStaged program height old rule step new
     Passed (suc (suc (suc (suc (suc (suc (suc (suc n)))))))) = ⊥
 
     passed_before : (n : ℕ) → Passed (suc n) → Passed n
@@ -62,8 +62,8 @@ module _ (laws : BagLaws) (order : OffersOrdered) (one : LeadsToOne) (needs : Ne
     passed_before (suc (suc zero)) p = p.can_take
     passed_before (suc (suc (suc zero))) p = p.is_proved
     passed_before (suc (suc (suc (suc zero)))) p = p.0
-    passed_before (suc (suc (suc (suc (suc zero))))) p = (p.in_turn, p.fit)
-    passed_before (suc (suc (suc (suc (suc (suc zero)))))) p = p.within
+    passed_before (suc (suc (suc (suc (suc zero))))) p = (p.1.in_turn, p.1.fit)
+    passed_before (suc (suc (suc (suc (suc (suc zero)))))) p = (p.0, p.1.within)
     passed_before (suc (suc (suc (suc (suc (suc (suc n))))))) p = absurd p
 
     passed_all_before : (k n m : ℕ) → m ≡ k + n → Passed m → Passed n
@@ -97,11 +97,8 @@ module _ (laws : BagLaws) (order : OffersOrdered) (one : LeadsToOne) (needs : Ne
     has_passed (OverLimit Atom) comes = comes.0
     has_passed (OverLimit State) comes = (comes.0, comes.1.0)
     has_passed (StageLine said is) comes = comes.0
-    has_passed (MidState line atom said is) comes = comes.0
-    has_passed (StartStage said is) comes = absurd comes
-    has_passed (StartState atom said is) comes = absurd comes
-    has_passed NotEnded comes = absurd comes
-    has_passed (EndState atom said is) comes = absurd comes
+    has_passed (MidState line atom said is) comes = (comes.0, comes.1)
+    has_passed cause comes = absurd comes
 
     fails_next : (cause : Cause) → IsStepCause program height old rule step cause → Passed (suc (tests cause)) → ⊥
     fails_next (OtherStage number) comes passed = comes.1 passed
@@ -121,13 +118,10 @@ module _ (laws : BagLaws) (order : OffersOrdered) (one : LeadsToOne) (needs : Ne
     fails_next (OverLimit Atom) comes passed = comes.1 passed.1
     fails_next (OverLimit State) comes passed =
         let over = comes.1.1 in
-        over.2 (subst Fits (one program.signature rule step.offer.values old.state passed.new over.0 passed.leads over.1) passed.fits)
-    fails_next (StageLine said is) comes passed = comes.3 (some_same said is (sym comes.1 ∙ passed.stage ∙ comes.2))
+        over.2 (subst Fits (one program.signature rule step.offer.values old.state passed.0 over.0 passed.1.leads over.1) passed.1.fits)
+    fails_next (StageLine said is) comes passed = comes.3 (some_same said is (sym comes.1 ∙ passed.1.stage ∙ comes.2))
     fails_next (MidState line atom said is) comes passed = passed
-    fails_next (StartStage said is) comes passed = comes
-    fails_next (StartState atom said is) comes passed = comes
-    fails_next NotEnded comes passed = comes
-    fails_next (EndState atom said is) comes passed = comes
+    fails_next cause comes passed = absurd comes
 
     no_fewer : (cause other : Cause) → IsStepCause program height old rule step cause → IsStepCause program height old rule step other → tests cause < tests other → ⊥
     no_fewer cause other comes comes' fewer =
@@ -155,39 +149,17 @@ module _ (laws : BagLaws) (order : OffersOrdered) (one : LeadsToOne) (needs : Ne
 
     other_stage_alike : (number : ℕ) (comes : IsStepCause program height old rule step (OtherStage number)) (other : Cause) → IsStepCause program height old rule step other → 0 ≡ tests other → AreToldAlike program (OtherStage number) other
     other_stage_alike number comes (OtherStage number') comes' same = ap (λ n. codes "OtherStage " ++ offer_name (slice_get program.rules n)) (comes.0 ∙ sym comes'.0)
-    other_stage_alike number comes (NotContained atom' have' need') comes' same = absurd (omega (arith, same))
-    other_stage_alike number comes (NotProved place') comes' same = absurd (omega (arith, same))
-    other_stage_alike number comes (TooHigh place' high') comes' same = absurd (omega (arith, same))
-    other_stage_alike number comes (NotQuiet offer') comes' same = absurd (omega (arith, same))
     other_stage_alike number comes (OverLimit Atom) comes' same = absurd (omega (arith, same))
-    other_stage_alike number comes (OverLimit State) comes' same = absurd (omega (arith, same))
-    other_stage_alike number comes (StageLine said' is') comes' same = absurd (omega (arith, same))
-    other_stage_alike number comes (MidState line' atom' said' is') comes' same = absurd (omega (arith, same))
-    other_stage_alike number comes (StartStage said' is') comes' same = absurd comes'
-    other_stage_alike number comes (StartState atom' said' is') comes' same = absurd comes'
-    other_stage_alike number comes NotEnded comes' same = absurd comes'
-    other_stage_alike number comes (EndState atom' said' is') comes' same = absurd comes'
+    other_stage_alike number comes other comes' same = absurd (omega (arith, same))
 
     lack_alike : (atom : _) (have need : ℕ) (comes : IsStepCause program height old rule step (NotContained atom have need)) (other : Cause) → IsStepCause program height old rule step other → 1 ≡ tests other → AreToldAlike program (NotContained atom have need) other
-    lack_alike atom have need comes (OtherStage number') comes' same = absurd (omega (arith, same))
     lack_alike atom have need comes (NotContained atom' have' need') comes' same =
         counts_alike (codes "NotContained have ") (codes " need ") have have' need need' (atom_of atom) (atom_of atom')
         (lack_once laws (left_of program.signature rule step.offer.values) old.state (atom_of atom) (atom_of atom') have have' need need' comes.1 comes'.1)
-    lack_alike atom have need comes (NotProved place') comes' same = absurd (omega (arith, same))
-    lack_alike atom have need comes (TooHigh place' high') comes' same = absurd (omega (arith, same))
-    lack_alike atom have need comes (NotQuiet offer') comes' same = absurd (omega (arith, same))
     lack_alike atom have need comes (OverLimit Atom) comes' same = absurd (omega (arith, same))
-    lack_alike atom have need comes (OverLimit State) comes' same = absurd (omega (arith, same))
-    lack_alike atom have need comes (StageLine said' is') comes' same = absurd (omega (arith, same))
-    lack_alike atom have need comes (MidState line' atom' said' is') comes' same = absurd (omega (arith, same))
-    lack_alike atom have need comes (StartStage said' is') comes' same = absurd comes'
-    lack_alike atom have need comes (StartState atom' said' is') comes' same = absurd comes'
-    lack_alike atom have need comes NotEnded comes' same = absurd comes'
-    lack_alike atom have need comes (EndState atom' said' is') comes' same = absurd comes'
+    lack_alike atom have need comes other comes' same = absurd (omega (arith, same))
 
     unproved_alike : (place : ℕ) (comes : IsStepCause program height old rule step (NotProved place)) (other : Cause) → IsStepCause program height old rule step other → 2 ≡ tests other → AreToldAlike program (NotProved place) other
-    unproved_alike place comes (OtherStage number') comes' same = absurd (omega (arith, same))
-    unproved_alike place comes (NotContained atom' have' need') comes' same = absurd (omega (arith, same))
     unproved_alike place comes (NotProved place') comes' same =
         let at = comes.1.2 in
         let at' = comes'.1.2 in
@@ -197,19 +169,10 @@ module _ (laws : BagLaws) (order : OffersOrdered) (one : LeadsToOne) (needs : Ne
         proved_and_not place place' comes.1.0 comes'.1.0 comes.1.1 comes'.1.1 comes.1.2 comes'.1.2
         (fails_once program height step.proofs goals place place' comes.1.0 comes'.1.0 comes.1.1 comes'.1.1 comes.1.2 comes'.1.2 (unproved_fails comes.1.0 comes.1.1 comes.1.3) (high_fails comes'.1.0 comes'.1.1 high' comes'.1.4 comes'.1.5))
         comes.1.3 comes'.1.3
-    unproved_alike place comes (NotQuiet offer') comes' same = absurd (omega (arith, same))
     unproved_alike place comes (OverLimit Atom) comes' same = absurd (omega (arith, same))
-    unproved_alike place comes (OverLimit State) comes' same = absurd (omega (arith, same))
-    unproved_alike place comes (StageLine said' is') comes' same = absurd (omega (arith, same))
-    unproved_alike place comes (MidState line' atom' said' is') comes' same = absurd (omega (arith, same))
-    unproved_alike place comes (StartStage said' is') comes' same = absurd comes'
-    unproved_alike place comes (StartState atom' said' is') comes' same = absurd comes'
-    unproved_alike place comes NotEnded comes' same = absurd comes'
-    unproved_alike place comes (EndState atom' said' is') comes' same = absurd comes'
+    unproved_alike place comes other comes' same = absurd (omega (arith, same))
 
     high_alike : (place high : ℕ) (comes : IsStepCause program height old rule step (TooHigh place high)) (other : Cause) → IsStepCause program height old rule step other → 2 ≡ tests other → AreToldAlike program (TooHigh place high) other
-    high_alike place high comes (OtherStage number') comes' same = absurd (omega (arith, same))
-    high_alike place high comes (NotContained atom' have' need') comes' same = absurd (omega (arith, same))
     high_alike place high comes (NotProved place') comes' same =
         proved_and_not place' place comes'.1.0 comes.1.0 comes'.1.1 comes.1.1 comes'.1.2 comes.1.2
         (fails_once program height step.proofs goals place' place comes'.1.0 comes.1.0 comes'.1.1 comes.1.1 comes'.1.2 comes.1.2 (unproved_fails comes'.1.0 comes'.1.1 comes'.1.3) (high_fails comes.1.0 comes.1.1 high comes.1.4 comes.1.5))
@@ -221,90 +184,31 @@ module _ (laws : BagLaws) (order : OffersOrdered) (one : LeadsToOne) (needs : Ne
         let one_proof : comes.1.0 ≡ comes'.1.0 = some_same comes.1.0 comes'.1.0 (sym at.derivation ∙ ap (slice_get step.proofs) here ∙ at'.derivation) in
         ap (λ n. codes "TooHigh " ++ decimal n ++ codes " " ++ decimal high) (at.counted ∙ ap (λ n. n + 1) here ∙ sym at'.counted)
         ∙ ap (λ n. codes "TooHigh " ++ decimal place' ++ codes " " ++ decimal n) (comes.1.4 ∙ ap proof_height one_proof ∙ sym comes'.1.4)
-    high_alike place high comes (NotQuiet offer') comes' same = absurd (omega (arith, same))
     high_alike place high comes (OverLimit Atom) comes' same = absurd (omega (arith, same))
-    high_alike place high comes (OverLimit State) comes' same = absurd (omega (arith, same))
-    high_alike place high comes (StageLine said' is') comes' same = absurd (omega (arith, same))
-    high_alike place high comes (MidState line' atom' said' is') comes' same = absurd (omega (arith, same))
-    high_alike place high comes (StartStage said' is') comes' same = absurd comes'
-    high_alike place high comes (StartState atom' said' is') comes' same = absurd comes'
-    high_alike place high comes NotEnded comes' same = absurd comes'
-    high_alike place high comes (EndState atom' said' is') comes' same = absurd comes'
+    high_alike place high comes other comes' same = absurd (omega (arith, same))
 
     not_quiet_alike : (offer : Offer) (comes : IsStepCause program height old rule step (NotQuiet offer)) (other : Cause) → IsStepCause program height old rule step other → 3 ≡ tests other → AreToldAlike program (NotQuiet offer) other
-    not_quiet_alike offer comes (OtherStage number') comes' same = absurd (omega (arith, same))
-    not_quiet_alike offer comes (NotContained atom' have' need') comes' same = absurd (omega (arith, same))
-    not_quiet_alike offer comes (NotProved place') comes' same = absurd (omega (arith, same))
-    not_quiet_alike offer comes (TooHigh place' high') comes' same = absurd (omega (arith, same))
     not_quiet_alike offer comes (NotQuiet offer') comes' same = ap (λ o. codes "NotQuiet " ++ offer_text program o) (first_offer_once order program height old.state (own_group old.stage) offer offer' comes.2 comes'.2)
     not_quiet_alike offer comes (OverLimit Atom) comes' same = absurd (omega (arith, same))
-    not_quiet_alike offer comes (OverLimit State) comes' same = absurd (omega (arith, same))
-    not_quiet_alike offer comes (StageLine said' is') comes' same = absurd (omega (arith, same))
-    not_quiet_alike offer comes (MidState line' atom' said' is') comes' same = absurd (omega (arith, same))
-    not_quiet_alike offer comes (StartStage said' is') comes' same = absurd comes'
-    not_quiet_alike offer comes (StartState atom' said' is') comes' same = absurd comes'
-    not_quiet_alike offer comes NotEnded comes' same = absurd comes'
-    not_quiet_alike offer comes (EndState atom' said' is') comes' same = absurd comes'
+    not_quiet_alike offer comes other comes' same = absurd (omega (arith, same))
 
     atom_limit_alike : (comes : IsStepCause program height old rule step (OverLimit Atom)) (other : Cause) → IsStepCause program height old rule step other → 4 ≡ tests other → AreToldAlike program (OverLimit Atom) other
-    atom_limit_alike comes (OtherStage number') comes' same = absurd (omega (arith, same))
-    atom_limit_alike comes (NotContained atom' have' need') comes' same = absurd (omega (arith, same))
-    atom_limit_alike comes (NotProved place') comes' same = absurd (omega (arith, same))
-    atom_limit_alike comes (TooHigh place' high') comes' same = absurd (omega (arith, same))
-    atom_limit_alike comes (NotQuiet offer') comes' same = absurd (omega (arith, same))
     atom_limit_alike comes (OverLimit Atom) comes' same = refl
-    atom_limit_alike comes (OverLimit State) comes' same = absurd (omega (arith, same))
-    atom_limit_alike comes (StageLine said' is') comes' same = absurd (omega (arith, same))
-    atom_limit_alike comes (MidState line' atom' said' is') comes' same = absurd (omega (arith, same))
-    atom_limit_alike comes (StartStage said' is') comes' same = absurd comes'
-    atom_limit_alike comes (StartState atom' said' is') comes' same = absurd comes'
-    atom_limit_alike comes NotEnded comes' same = absurd comes'
-    atom_limit_alike comes (EndState atom' said' is') comes' same = absurd comes'
+    atom_limit_alike comes other comes' same = absurd (omega (arith, same))
 
     state_limit_alike : (comes : IsStepCause program height old rule step (OverLimit State)) (other : Cause) → IsStepCause program height old rule step other → 5 ≡ tests other → AreToldAlike program (OverLimit State) other
-    state_limit_alike comes (OtherStage number') comes' same = absurd (omega (arith, same))
-    state_limit_alike comes (NotContained atom' have' need') comes' same = absurd (omega (arith, same))
-    state_limit_alike comes (NotProved place') comes' same = absurd (omega (arith, same))
-    state_limit_alike comes (TooHigh place' high') comes' same = absurd (omega (arith, same))
-    state_limit_alike comes (NotQuiet offer') comes' same = absurd (omega (arith, same))
-    state_limit_alike comes (OverLimit Atom) comes' same = absurd (omega (arith, same))
     state_limit_alike comes (OverLimit State) comes' same = refl
-    state_limit_alike comes (StageLine said' is') comes' same = absurd (omega (arith, same))
-    state_limit_alike comes (MidState line' atom' said' is') comes' same = absurd (omega (arith, same))
-    state_limit_alike comes (StartStage said' is') comes' same = absurd comes'
-    state_limit_alike comes (StartState atom' said' is') comes' same = absurd comes'
-    state_limit_alike comes NotEnded comes' same = absurd comes'
-    state_limit_alike comes (EndState atom' said' is') comes' same = absurd comes'
+    state_limit_alike comes other comes' same = absurd (omega (arith, same))
 
     stage_line_alike : (said is : ℕ) (comes : IsStepCause program height old rule step (StageLine said is)) (other : Cause) → IsStepCause program height old rule step other → 6 ≡ tests other → AreToldAlike program (StageLine said is) other
-    stage_line_alike said is comes (OtherStage number') comes' same = absurd (omega (arith, same))
-    stage_line_alike said is comes (NotContained atom' have' need') comes' same = absurd (omega (arith, same))
-    stage_line_alike said is comes (NotProved place') comes' same = absurd (omega (arith, same))
-    stage_line_alike said is comes (TooHigh place' high') comes' same = absurd (omega (arith, same))
-    stage_line_alike said is comes (NotQuiet offer') comes' same = absurd (omega (arith, same))
-    stage_line_alike said is comes (OverLimit Atom) comes' same = absurd (omega (arith, same))
-    stage_line_alike said is comes (OverLimit State) comes' same = absurd (omega (arith, same))
     stage_line_alike said is comes (StageLine said' is') comes' same = stages_alike (codes "StageLine said ") said said' is is' (some_same said said' (sym comes.1 ∙ comes'.1)) (some_same is is' (sym comes.2 ∙ comes'.2))
-    stage_line_alike said is comes (MidState line' atom' said' is') comes' same = absurd (omega (arith, same))
-    stage_line_alike said is comes (StartStage said' is') comes' same = absurd comes'
-    stage_line_alike said is comes (StartState atom' said' is') comes' same = absurd comes'
-    stage_line_alike said is comes NotEnded comes' same = absurd comes'
-    stage_line_alike said is comes (EndState atom' said' is') comes' same = absurd comes'
+    stage_line_alike said is comes (OverLimit Atom) comes' same = absurd (omega (arith, same))
+    stage_line_alike said is comes other comes' same = absurd (omega (arith, same))
 
     -- the line of every cause but that of a listing is that of the step
     own_line : (cause : Cause) → (tests cause ≡ 7 → ⊥) → step.line ≡ cause_line step cause
     own_line (MidState line atom said is) other = absurd (other refl)
-    own_line (OtherStage number) other = refl
-    own_line (NotContained atom have need) other = refl
-    own_line (NotProved place) other = refl
-    own_line (TooHigh place high) other = refl
-    own_line (NotQuiet offer) other = refl
-    own_line (OverLimit limit) other = refl
-    own_line (StageLine said is) other = refl
-    own_line (StartStage said is) other = refl
-    own_line (StartState atom said is) other = refl
-    own_line NotEnded other = refl
-    own_line (EndState atom said is) other = refl
+    own_line cause other = refl
 
     -- Two causes are told alike, at one line.
     abbrev pub AreAlike : Cause → Cause → Type 0
@@ -313,31 +217,23 @@ module _ (laws : BagLaws) (order : OffersOrdered) (one : LeadsToOne) (needs : Ne
     module _ (listing : IfSome step.mid (λ (mid : LogMid). IsListing program.signature mid.state)) where
       both_mid : (line line' : ℕ) (atom atom' : _) (said said' is is' : ℕ) → IsStepCause program height old rule step (MidState line atom said is) → IsStepCause program height old rule step (MidState line' atom' said' is') → AreAlike (MidState line atom said is) (MidState line' atom' said' is')
       both_mid line line' atom atom' said said' is is' comes comes' =
-          let same : comes.1 ≡ comes'.1 = some_same comes.1 comes'.1 (sym comes.2 ∙ comes'.2) in
-          let after : comes.0.within.new ≡ comes'.0.within.new = one program.signature rule step.offer.values old.state comes.0.within.new comes'.0.within.new comes.0.within.leads comes'.0.within.leads in
-          let lists : IsListing program.signature comes'.1.state = subst (λ (found : Option LogMid). IfSome found (λ (mid : LogMid). IsListing program.signature mid.state)) comes'.2 listing in
-          let first : IsFirstDifference comes'.1.state comes'.0.within.new (atom_of atom) said is =
-          subst (λ (mid : LogMid). IsFirstDifference mid.state comes'.0.within.new (atom_of atom) said is) same
-          (subst (λ (state : Multiset). IsFirstDifference comes.1.state state (atom_of atom) said is) after comes.4) in (
-            comes.3 ∙ ap (λ (mid : LogMid). mid.line) same ∙ sym comes'.3,
+          let one_mid = comes.2 in
+          let other = comes'.2 in
+          let same : one_mid.0 ≡ other.0 = some_same one_mid.0 other.0 (sym one_mid.1 ∙ other.1) in
+          let after : comes.0 ≡ comes'.0 = one program.signature rule step.offer.values old.state comes.0 comes'.0 comes.1.within.leads comes'.1.within.leads in
+          let lists : IsListing program.signature other.0.state = subst (λ (found : Option LogMid). IfSome found (λ (mid : LogMid). IsListing program.signature mid.state)) other.1 listing in
+          let first : IsFirstDifference other.0.state comes'.0 (atom_of atom) said is =
+          subst (λ (mid : LogMid). IsFirstDifference mid.state comes'.0 (atom_of atom) said is) same
+          (subst (λ (state : Multiset). IsFirstDifference one_mid.0.state state (atom_of atom) said is) after one_mid.3) in (
+            one_mid.2 ∙ ap (λ (mid : LogMid). mid.line) same ∙ sym other.2,
             counts_alike (codes "MidState said ") (codes " is ") said said' is is' (atom_of atom) (atom_of atom')
-                (difference_once laws comes'.1.state lists.rising comes'.0.within.new (atom_of atom) (atom_of atom') said said' is is' first comes'.4),
+                (difference_once laws other.0.state lists.rising comes'.0 (atom_of atom) (atom_of atom') said said' is is' first other.3),
           )
 
       mid_alike : (line : ℕ) (atom : _) (said is : ℕ) (comes : IsStepCause program height old rule step (MidState line atom said is)) (other : Cause) → IsStepCause program height old rule step other → 7 ≡ tests other → AreAlike (MidState line atom said is) other
       mid_alike line atom said is comes (MidState line' atom' said' is') comes' same = both_mid line line' atom atom' said said' is is' comes comes'
-      mid_alike line atom said is comes (OtherStage number') comes' same = absurd (omega (arith, same))
-      mid_alike line atom said is comes (NotContained atom' have' need') comes' same = absurd (omega (arith, same))
-      mid_alike line atom said is comes (NotProved place') comes' same = absurd (omega (arith, same))
-      mid_alike line atom said is comes (TooHigh place' high') comes' same = absurd (omega (arith, same))
-      mid_alike line atom said is comes (NotQuiet offer') comes' same = absurd (omega (arith, same))
       mid_alike line atom said is comes (OverLimit Atom) comes' same = absurd (omega (arith, same))
-      mid_alike line atom said is comes (OverLimit State) comes' same = absurd (omega (arith, same))
-      mid_alike line atom said is comes (StageLine said' is') comes' same = absurd (omega (arith, same))
-      mid_alike line atom said is comes (StartStage said' is') comes' same = absurd comes'
-      mid_alike line atom said is comes (StartState atom' said' is') comes' same = absurd comes'
-      mid_alike line atom said is comes NotEnded comes' same = absurd comes'
-      mid_alike line atom said is comes (EndState atom' said' is') comes' same = absurd comes'
+      mid_alike line atom said is comes other comes' same = absurd (omega (arith, same))
 
       pub step_alike : (cause other : Cause) → IsStepCause program height old rule step cause → IsStepCause program height old rule step other → AreAlike cause other
       step_alike cause other comes comes' = by cause comes (as_many_tests cause other comes comes')

@@ -96,13 +96,11 @@ module _ (laws : BagLaws) (one : LeadsToOne) (needs : NeedsLeft) (program : Part
           over.2 (subst Fits (one program.signature rule step.offer.values old.state new.state over.0 machine.steps.step over.1) machine.steps.fits)
       by (StageLine said is) comes = comes.3 (some_same said is (sym comes.1 ∙ legal.stage ∙ ap (λ (r : Rule). r.next) same ∙ comes.2))
       by (MidState line atom said is) comes =
-          let listed : comes.1.state ≡ finite.entries new.state = subst (λ (found : Option LogMid). IfSome found (λ (mid : LogMid). mid.state ≡ finite.entries new.state)) comes.2 legal.mid in
-          let after : new.state ≡ comes.0.within.new = one program.signature rule step.offer.values old.state new.state comes.0.within.new machine.steps.step comes.0.within.leads in
-          no_difference comes.1.state comes.0.within.new (atom_of atom) said is (listed ∙ ap finite.entries after) comes.4
-      by (StartStage said is) comes = comes
-      by (StartState atom said is) comes = comes
-      by NotEnded comes = comes
-      by (EndState atom said is) comes = comes
+          let mid = comes.2 in
+          let listed : mid.0.state ≡ finite.entries new.state = subst (λ (found : Option LogMid). IfSome found (λ (mid : LogMid). mid.state ≡ finite.entries new.state)) mid.1 legal.mid in
+          let after : new.state ≡ comes.0 = one program.signature rule step.offer.values old.state new.state comes.0 machine.steps.step comes.1.within.leads in
+          no_difference mid.0.state comes.0 (atom_of atom) said is (listed ∙ ap finite.entries after) mid.3
+      by cause comes = absurd comes
 
   -- a legal step leads to one spot
   pub one_spot : (height : ℕ) (old new other : Spot) (step : LogStep) → IsLegalStep program height old new step → IsLegalStep program height old other step → new ≡ other
@@ -116,31 +114,12 @@ module _ (laws : BagLaws) (one : LeadsToOne) (needs : NeedsLeft) (program : Part
   -- an end with a cause is not legal
   pub end_clash : (height : ℕ) (last : Spot) (end : Option LogEnd) (cause : Cause) → IsEndCause program height last end cause → IsSomeAnd end (IsLegalEnd program height last) → ⊥
   end_clash height last None NotEnded comes legal = legal
-  end_clash height last None (StartStage said is) comes legal = comes
-  end_clash height last None (StartState atom said is) comes legal = comes
-  end_clash height last None (OtherStage number) comes legal = comes
-  end_clash height last None (NotContained atom have need) comes legal = comes
-  end_clash height last None (NotProved place) comes legal = comes
-  end_clash height last None (TooHigh place high) comes legal = comes
-  end_clash height last None (NotQuiet offer) comes legal = comes
-  end_clash height last None (OverLimit limit) comes legal = comes
-  end_clash height last None (StageLine said is) comes legal = comes
-  end_clash height last None (MidState line atom said is) comes legal = comes
-  end_clash height last None (EndState atom said is) comes legal = comes
+  end_clash height last None cause comes legal = comes
   end_clash height last (Some end) (NotQuiet offer) comes legal =
       let quiet = legal.quiet comes.0 in
       ⊎_elim (λ own. quiet.0 (offer, own.is)) (λ leaving. quiet.1 (offer, leaving.1.is)) comes.1
   end_clash height last (Some end) (EndState atom said is) comes legal = no_difference end.state last.state (atom_of atom) said is legal.state comes.1
-  end_clash height last (Some end) NotEnded comes legal = comes
-  end_clash height last (Some end) (StartStage said is) comes legal = comes
-  end_clash height last (Some end) (StartState atom said is) comes legal = comes
-  end_clash height last (Some end) (OtherStage number) comes legal = comes
-  end_clash height last (Some end) (NotContained atom have need) comes legal = comes
-  end_clash height last (Some end) (NotProved place) comes legal = comes
-  end_clash height last (Some end) (TooHigh place high) comes legal = comes
-  end_clash height last (Some end) (OverLimit limit) comes legal = comes
-  end_clash height last (Some end) (StageLine said is) comes legal = comes
-  end_clash height last (Some end) (MidState line atom said is) comes legal = comes
+  end_clash height last (Some end) cause comes legal = comes
 
   from_clash : (log : Log) (steps : List LogStep) (old last : Spot) (line : ℕ) (cause : Cause) → IsRefusedFrom program log old steps line cause → AreLegalSteps program log.height steps old last → IsSomeAnd log.end (IsLegalEnd program log.height last) → ⊥
   from_clash log [] old last line cause refused legal ending = end_clash log.height old log.end cause refused.1 (subst (λ (spot : Spot). IsSomeAnd log.end (IsLegalEnd program log.height spot)) legal ending)
@@ -152,16 +131,7 @@ module _ (laws : BagLaws) (one : LeadsToOne) (needs : NeedsLeft) (program : Part
   pub start_clash : (log : Log) (cause : Cause) → IsStartCause program log cause → log.stage ≡ program.start_stage → log.start ≡ finite.entries program.start → ⊥
   start_clash log (StartStage said is) comes stage start = comes.2 (comes.0 ∙ stage ∙ sym comes.1)
   start_clash log (StartState atom said is) comes stage start = no_difference log.start program.start (atom_of atom) said is start comes.1
-  start_clash log (OtherStage number) comes stage start = comes
-  start_clash log (NotContained atom have need) comes stage start = comes
-  start_clash log (NotProved place) comes stage start = comes
-  start_clash log (TooHigh place high) comes stage start = comes
-  start_clash log (NotQuiet offer) comes stage start = comes
-  start_clash log (OverLimit limit) comes stage start = comes
-  start_clash log (StageLine said is) comes stage start = comes
-  start_clash log (MidState line atom said is) comes stage start = comes
-  start_clash log NotEnded comes stage start = comes
-  start_clash log (EndState atom said is) comes stage start = comes
+  start_clash log cause comes stage start = comes
 
   pub refused_clash : (log : Log) (line : ℕ) (cause : Cause) → IsLogRefused program log line cause → IsLegal program log → ⊥
   refused_clash log line cause refused legal = ⊎_elim

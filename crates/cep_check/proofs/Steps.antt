@@ -51,59 +51,21 @@ proofs_all program height proofs goals n short short' all = subst (λ ps. ArePro
 pub proof_cause : (program : Parts) (height : ℕ) (proofs : List ProofTree) (goals : List AtomTree) (n place : ℕ) (proof : ProofTree) (goal : AtomTree) (cause : Cause) → place ≡ n + 1 → AreProofs program height (take n proofs) (take n goals) → slice_get proofs n ≡ Some proof → slice_get goals n ≡ Some goal → IsOneProofCause program height proof goal place cause → IsProofCause program height proofs goals cause
 proof_cause program height proofs goals n place proof goal (NotProved at) is all p q fails = (proof, goal, record { before = n; counted = fails.0 ∙ is; derivation = p; premise = q; proved = all }, fails.1)
 proof_cause program height proofs goals n place proof goal (TooHigh at high) is all p q fails = (proof, goal, record { before = n; counted = fails.0 ∙ is; derivation = p; premise = q; proved = all }, fails.1, fails.2, fails.3)
-proof_cause program height proofs goals n place proof goal (StartStage said told) is all p q fails = fails
-proof_cause program height proofs goals n place proof goal (StartState atom said told) is all p q fails = fails
-proof_cause program height proofs goals n place proof goal (OtherStage rule) is all p q fails = fails
-proof_cause program height proofs goals n place proof goal (NotContained atom have need) is all p q fails = fails
-proof_cause program height proofs goals n place proof goal (NotQuiet offer) is all p q fails = fails
-proof_cause program height proofs goals n place proof goal (OverLimit limit) is all p q fails = fails
-proof_cause program height proofs goals n place proof goal (StageLine said told) is all p q fails = fails
-proof_cause program height proofs goals n place proof goal (MidState line atom said told) is all p q fails = fails
-proof_cause program height proofs goals n place proof goal NotEnded is all p q fails = fails
-proof_cause program height proofs goals n place proof goal (EndState atom said told) is all p q fails = fails
+proof_cause program height proofs goals n place proof goal cause is all p q fails = absurd fails
 
 module _ (program : Parts) (height : ℕ) (old : Spot) (rule : Rule) (step : LogStep) where
   pub lack_cause : (cause : Cause) → IsOfStage old.stage rule → IsLackCause (left_of program.signature rule step.offer.values) old.state cause → IsStepCause program height old rule step cause
   lack_cause (NotContained atom have need) of_stage lacks = (of_stage, lacks)
-  lack_cause (StartStage said told) of_stage lacks = lacks
-  lack_cause (StartState atom said told) of_stage lacks = lacks
-  lack_cause (OtherStage number) of_stage lacks = absurd lacks
-  lack_cause (NotProved place) of_stage lacks = absurd lacks
-  lack_cause (TooHigh place high) of_stage lacks = absurd lacks
-  lack_cause (NotQuiet offer) of_stage lacks = absurd lacks
-  lack_cause (OverLimit limit) of_stage lacks = absurd lacks
-  lack_cause (StageLine said told) of_stage lacks = absurd lacks
-  lack_cause (MidState line atom said told) of_stage lacks = absurd lacks
-  lack_cause NotEnded of_stage lacks = lacks
-  lack_cause (EndState atom said told) of_stage lacks = lacks
+  lack_cause cause of_stage lacks = absurd lacks
 
   pub failure_cause : (cause : Cause) → CanTake program old rule step.offer → IsProofCause program height step.proofs (full_instances step.offer.values rule.backs) cause → IsStepCause program height old rule step cause
   failure_cause (NotProved place) can fails = (can, fails)
   failure_cause (TooHigh place high) can fails = (can, fails)
-  failure_cause (StartStage said told) can fails = fails
-  failure_cause (StartState atom said told) can fails = fails
-  failure_cause (OtherStage number) can fails = absurd fails
-  failure_cause (NotContained atom have need) can fails = absurd fails
-  failure_cause (NotQuiet offer) can fails = absurd fails
-  failure_cause (OverLimit limit) can fails = absurd fails
-  failure_cause (StageLine said told) can fails = absurd fails
-  failure_cause (MidState line atom said told) can fails = absurd fails
-  failure_cause NotEnded can fails = fails
-  failure_cause (EndState atom said told) can fails = fails
+  failure_cause cause can fails = absurd fails
 
   pub quiet_cause : (cause : Cause) → IsProvedStep program height old rule step → IsQuietCause program height old rule cause → IsStepCause program height old rule step cause
   quiet_cause (NotQuiet offer) is there = (is, there.0, there.1)
-  quiet_cause (StartStage said told) is there = there
-  quiet_cause (StartState atom said told) is there = there
-  quiet_cause (OtherStage number) is there = absurd there
-  quiet_cause (NotContained atom have need) is there = absurd there
-  quiet_cause (NotProved place) is there = absurd there
-  quiet_cause (TooHigh place high) is there = absurd there
-  quiet_cause (OverLimit limit) is there = absurd there
-  quiet_cause (StageLine said told) is there = absurd there
-  quiet_cause (MidState line atom said told) is there = absurd there
-  quiet_cause NotEnded is there = there
-  quiet_cause (EndState atom said told) is there = there
+  quiet_cause cause is there = absurd there
 
 -- one step more
 legal_one : (program : Parts) (height : ℕ) (steps : List LogStep) (n : ℕ) (step : LogStep) (old new last : Spot) → slice_get steps n ≡ Some step → IsLegalStep program height old new step → AreLegalSteps program height (drop (suc n) steps) new last → AreLegalSteps program height (drop n steps) old last

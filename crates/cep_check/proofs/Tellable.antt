@@ -107,16 +107,7 @@ module _ (bags : BagLaws) (types : TypeLaws) (comes_from : ComesFrom) (program :
   start_told log (StartStage said is) of_program comes =
       (subst (λ stage. stage < length program.stages) (sym comes.0) of_program.stage, subst (λ stage. stage < length program.stages) (sym comes.1) kept.in_range.start_stage)
   start_told log (StartState atom said is) of_program comes = difference_writable log.start program.start (atom_of atom) said is of_program.start.each start_writable comes.1
-  start_told log (OtherStage number) of_program comes = absurd comes
-  start_told log (NotContained atom have need) of_program comes = absurd comes
-  start_told log (NotProved place) of_program comes = tt
-  start_told log (TooHigh place high) of_program comes = tt
-  start_told log (NotQuiet offer) of_program comes = absurd comes
-  start_told log (OverLimit limit) of_program comes = tt
-  start_told log (StageLine said is) of_program comes = absurd comes
-  start_told log (MidState line atom said is) of_program comes = absurd comes
-  start_told log NotEnded of_program comes = tt
-  start_told log (EndState atom said is) of_program comes = absurd comes
+  start_told log cause of_program comes = absurd comes
 
   step_told : (height : ℕ) (old : Spot) (rule : Rule) (step : LogStep) (cause : Cause) → AreWritable program old.state → IsStepOf program step → slice_get program.rules step.offer.rule ≡ Some rule → IsStepCause program height old rule step cause → IsTellableCause program cause
   step_told height old rule step (OtherStage number) writable of_program numbered comes = subst (λ n. n < length program.rules) (sym comes.0) (at_within program.rules step.offer.rule rule numbered)
@@ -129,16 +120,14 @@ module _ (bags : BagLaws) (types : TypeLaws) (comes_from : ComesFrom) (program :
       (subst (λ (stage : Option ℕ). IfSome stage (λ number. number < length program.stages)) comes.1 of_program.in_range, subst (λ (stage : Option ℕ). IfSome stage (λ number. number < length program.stages)) comes.2 known.next)
   step_told height old rule step (MidState line atom said is) writable of_program numbered comes =
       let known = ready program rule step kept of_program numbered in
-      let listing : IsListing program.signature comes.1.state = subst (λ (found : Option LogMid). IfSome found (λ (mid : LogMid). IsListing program.signature mid.state)) comes.2 of_program.listing in
-      difference_writable comes.1.state comes.0.within.new (atom_of atom) said is listing.each
-      (step_writable rule step.offer.values old.state comes.0.within.new known.values known.typed comes.0.within.leads writable) comes.4
+      let mid = comes.2 in
+      let listing : IsListing program.signature mid.0.state = subst (λ (found : Option LogMid). IfSome found (λ (mid : LogMid). IsListing program.signature mid.state)) mid.1 of_program.listing in
+      difference_writable mid.0.state comes.0 (atom_of atom) said is listing.each
+      (step_writable rule step.offer.values old.state comes.0 known.values known.typed comes.1.within.leads writable) mid.3
   step_told height old rule step (NotProved place) writable of_program numbered comes = tt
   step_told height old rule step (TooHigh place high) writable of_program numbered comes = tt
   step_told height old rule step (OverLimit limit) writable of_program numbered comes = tt
-  step_told height old rule step (StartStage said is) writable of_program numbered comes = absurd comes
-  step_told height old rule step (StartState atom said is) writable of_program numbered comes = absurd comes
-  step_told height old rule step NotEnded writable of_program numbered comes = tt
-  step_told height old rule step (EndState atom said is) writable of_program numbered comes = absurd comes
+  step_told height old rule step cause writable of_program numbered comes = absurd comes
 
   end_told : (height : ℕ) (last : Spot) (end : Option LogEnd) (cause : Cause) → IfSome end (λ (end : LogEnd). IsListing program.signature end.state) → AreWritable program last.state → IsEndCause program height last end cause → IsTellableCause program cause
   end_told height last (Some end) (NotQuiet offer) listing writable comes = ⊎_elim
@@ -146,28 +135,9 @@ module _ (bags : BagLaws) (types : TypeLaws) (comes_from : ComesFrom) (program :
       (λ leaving. offer_of height last.state offer leaving.1.is.applies)
       comes.1
   end_told height last (Some end) (EndState atom said is) listing writable comes = difference_writable end.state last.state (atom_of atom) said is listing.each writable comes.1
-  end_told height last (Some end) NotEnded listing writable comes = tt
-  end_told height last (Some end) (NotProved place) listing writable comes = tt
-  end_told height last (Some end) (TooHigh place high) listing writable comes = tt
-  end_told height last (Some end) (OverLimit limit) listing writable comes = tt
-  end_told height last (Some end) (StartStage said is) listing writable comes = absurd comes
-  end_told height last (Some end) (StartState atom said is) listing writable comes = absurd comes
-  end_told height last (Some end) (OtherStage number) listing writable comes = absurd comes
-  end_told height last (Some end) (NotContained atom have need) listing writable comes = absurd comes
-  end_told height last (Some end) (StageLine said is) listing writable comes = absurd comes
-  end_told height last (Some end) (MidState line atom said is) listing writable comes = absurd comes
+  end_told height last (Some end) cause listing writable comes = absurd comes
   end_told height last None NotEnded listing writable comes = tt
-  end_told height last None (NotProved place) listing writable comes = tt
-  end_told height last None (TooHigh place high) listing writable comes = tt
-  end_told height last None (OverLimit limit) listing writable comes = tt
-  end_told height last None (NotQuiet offer) listing writable comes = absurd comes
-  end_told height last None (EndState atom said is) listing writable comes = absurd comes
-  end_told height last None (StartStage said is) listing writable comes = absurd comes
-  end_told height last None (StartState atom said is) listing writable comes = absurd comes
-  end_told height last None (OtherStage number) listing writable comes = absurd comes
-  end_told height last None (NotContained atom have need) listing writable comes = absurd comes
-  end_told height last None (StageLine said is) listing writable comes = absurd comes
-  end_told height last None (MidState line atom said is) listing writable comes = absurd comes
+  end_told height last None cause listing writable comes = absurd comes
 
   -- where a legal step leads, atoms are writable
   legal_writable : (height : ℕ) (old new : Spot) (step : LogStep) → IsLegalStep program height old new step → AreWritable program old.state → AreWritable program new.state

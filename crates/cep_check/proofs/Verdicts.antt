@@ -11,7 +11,7 @@ use Rattle.cep_check.specs.declared.cause.Cause.{Cause}
 use Rattle.cep_check.specs.declared.cause.Verdict.{Verdict}
 use Rattle.cep_check.specs.declared.cause.Verdict.TheVariants.{Accepted, Refused}
 use Rattle.cep_check.specs.Causes.{IsEndCause, end_line, IsRefusedFrom, IsVerdict}
-use Rattle.cep_check.specs.Walking.{AreStepsDone, IsEndVerdict}
+use Rattle.cep_check.specs.Walking.{IsEndVerdict}
 
 -- behind the last step nothing is left to do
 pub none_left : (program : Parts) (height : ℕ) (steps : List LogStep) (n : ℕ) (spot : Spot) → length steps ≤ n → AreLegalSteps program height (drop n steps) spot spot
@@ -24,12 +24,11 @@ refused_end program log (step ∷ steps) old last line cause legal line_is comes
 
 module _ (program : Parts) (log : Log) (of_program : IsLogOf program log) (stage : log.stage ≡ program.start_stage) (start : log.start ≡ finite.entries program.start) where
   -- a step is not legal
-  pub verdict_refused : (old new : Spot) (verdict : Verdict) → old ≡ start_spot program → AreStepsDone program log old new (Some verdict) → IsVerdict program log verdict
-  verdict_refused old new (Accepted steps) same done = absurd done
-  verdict_refused old new (Refused line cause) same done = inr (stage, start, subst (λ (spot : Spot). IsRefusedFrom program log spot log.steps line cause) same done)
+  pub verdict_refused : (old : Spot) (line : ℕ) (cause : Cause) → old ≡ start_spot program → IsRefusedFrom program log old log.steps line cause → IsVerdict program log (Refused line cause)
+  verdict_refused old line cause same refused = inr (stage, start, subst (λ (spot : Spot). IsRefusedFrom program log spot log.steps line cause) same refused)
 
   -- all steps are
-  pub verdict_end : (old last : Spot) (verdict : Verdict) → old ≡ start_spot program → AreStepsDone program log old last None → IsEndVerdict program log last verdict → IsVerdict program log verdict
+  pub verdict_end : (old last : Spot) (verdict : Verdict) → old ≡ start_spot program → AreLegalSteps program log.height log.steps old last → IsEndVerdict program log last verdict → IsVerdict program log verdict
   verdict_end old last (Accepted steps) same done ends = (
     (record {
       of_program = of_program;

@@ -4,8 +4,8 @@ use cep_term::Atom;
 
 /// Why a log is not legal. Stages and rules are told by their numbers, and an atom of whose copies
 /// there are other numbers than wanted is the first such in the order of atoms, over all atoms: a
-/// number of 0 stands for an atom that is not there. That steps and quiescence are so is Ceptre's; the
-/// limits, the heights and what a transcript says are this profile's.
+/// number of 0 stands for an atom that is not there. That steps and quiescence are so is Ceptre's;
+/// the limits, the heights and what a transcript says are this profile's.
 #[derive(Debug, Drop)]
 pub enum Cause {
     /// The stage that is said is not the program's start stage.

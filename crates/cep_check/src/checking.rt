@@ -1,28 +1,30 @@
-ghost use Rattle.std.specs.Prelude.{◌≡◌, ◌↔◌, ◌≤◌, IfOk, MatchOption};
+ghost use Rattle.std.specs.Prelude.{◌≡◌, ◌↔◌, ◌≤◌, IfOk, MatchOption, MatchResult};
 ghost use Rattle.std.specs.FinMap as finite;
 ghost use Rattle.cep_base.specs.declared.limits.TheConstants.{MOST_LOG};
-ghost use Rattle.cep_log.specs.Legal.{IsLogOf, IsLegal};
-ghost use Rattle.cep_check.specs.Causes.{IsStartCause, cause_line, end_line, AcceptsLog, IsVerdict};
+ghost use Rattle.cep_step.specs.Spots.{IsSpotOf};
+ghost use Rattle.cep_log.specs.Legal.{IsLogOf, AreLegalSteps, IsLegal};
+ghost use Rattle.cep_check.specs.Causes.{IsStartCause, cause_line, end_line, AcceptsLog, IsRefusedFrom, IsVerdict};
 ghost use Rattle.cep_check.specs.Telling.{IsTellable};
-ghost use Rattle.cep_check.specs.Walking.{stands_at, IsWalkOf, AreStepsDone, IsEndVerdict};
+ghost use Rattle.cep_check.specs.Walking.{IsEndVerdict};
 
 use crate::cause::{Cause, Verdict};
 use crate::counts::first_difference;
 use crate::ending::end_cause;
 use crate::laws::{one_cause, refused_logs_are_not_legal, verdicts_can_be_told};
 use crate::step::advance;
-use crate::walk::Walk;
 use cep_base::Steps;
 use cep_log::{Log, LogStep};
 use cep_rule::Program;
+use cep_step::Spot;
 use cep_term::copy;
 use std::alloc::{AllocError, Global};
 use std::sync::ledger::Ledger;
 
-/// Whether a log of the program is legal for it: it is accepted exactly where it is, with the number of
-/// its steps, and else refused for the first cause that comes, with its line. Both are one, by the
-/// law `one_cause`. The offers are those within the log's height. Which logs are legal is said with
-/// the log. Each verdict can be told as a line. Only want of memory is refused, after any ticks.
+/// Whether a log of the program is legal for it: it is accepted exactly where it is, with the
+/// number of its steps, and else refused for the first cause that comes, with its line. Both are
+/// one, by the law `one_cause`. The offers are those within the log's height. Which logs are legal
+/// is said with the log. Each verdict can be told as a line. Only want of memory is refused, after
+/// any ticks.
 pub fn check<L: Ledger>(
     alloc: Global,
     program: &Program,
@@ -56,11 +58,11 @@ fn judge<L: Ledger>(
         let line = log.stage_line;
         return Ok(Verdict::Refused { line, cause });
     }
-    let mut walk = Walk::start(alloc, program)?;
-    if let Some(refused) = steps_refused(alloc, program, log, &mut walk, steps)? {
-        return Ok(refused);
+    let start = Spot::start(alloc, program)?;
+    match last_spot(alloc, program, log, start, steps)? {
+        Ok(last) => finish(alloc, program, log, &last, steps),
+        Err((line, cause)) => Ok(Verdict::Refused { line, cause }),
     }
-    finish(alloc, program, log, &walk, steps)
 }
 
 // Why the header or the start listing is not the program's.
@@ -87,28 +89,30 @@ fn start_cause(alloc: Global, program: &Program, log: &Log) -> Result<Option<Cau
     }
 }
 
-// Does all steps, up to the first that is not legal, and says then why it is not.
-fn steps_refused<L: Ledger>(
+// Where all steps lead, or the line of the first that is not legal, and why it is not.
+fn last_spot<L: Ledger>(
     alloc: Global,
     program: &Program,
     log: &Log,
-    walk: &mut Walk,
+    start: Spot,
     steps: &mut Steps<L>,
-) -> Result<Option<Verdict>, AllocError>
+) -> Result<Result<Spot, (u32, Cause)>, AllocError>
     requires of_program { IsLogOf program.now log.now }
-    requires walk { IsWalkOf program.now walk.old }
-    ensures done { IfOk result (AreStepsDone program.now log.now (stands_at walk.old) (stands_at walk.new)) }
-    ensures walk { IfOk result (λ refused. MatchOption refused (IsWalkOf program.now walk.new) (λ _. Unit {0})) }
+    requires spot { IsSpotOf program.now start }
+    ensures done { IfOk result (λ done. MatchResult done
+        (λ last. AreLegalSteps program.now log.now.height log.now.steps start last × IsSpotOf program.now last)
+        (λ refused. IsRefusedFrom program.now log.now start log.now.steps refused.0 refused.1)) }
     ensures never_falls { steps.old ≤ steps.new }
 {
+    let mut spot = start;
     for i in 0..log.steps.len() {
         let step = log.steps.get(i);
-        if let Some(cause) = advance(alloc, program, log.height, step, walk, steps)? {
-            let line = cause_line(step, &cause);
-            return Ok(Some(Verdict::Refused { line, cause }));
-        }
+        spot = match advance(alloc, program, log.height, step, spot, steps)? {
+            Ok(next) => next,
+            Err(cause) => return Ok(Err((cause_line(step, &cause), cause))),
+        };
     }
-    Ok(None)
+    Ok(Ok(spot))
 }
 
 // The line of a cause that comes at the step.
@@ -126,15 +130,15 @@ fn finish<L: Ledger>(
     alloc: Global,
     program: &Program,
     log: &Log,
-    walk: &Walk,
+    last: &Spot,
     steps: &mut Steps<L>,
 ) -> Result<Verdict, AllocError>
     requires of_program { IsLogOf program.now log.now }
-    requires walk { IsWalkOf program.now walk.now }
-    ensures verdict { IfOk result (IsEndVerdict program.now log.now (stands_at walk.now)) }
+    requires last { IsSpotOf program.now last.now }
+    ensures verdict { IfOk result (IsEndVerdict program.now log.now last.now) }
     ensures never_falls { steps.old ≤ steps.new }
 {
-    match end_cause(alloc, program, log, walk, steps)? {
+    match end_cause(alloc, program, log, last, steps)? {
         None => Ok(Verdict::Accepted {
             steps: log.steps.len() as u32,
         }),

@@ -41,8 +41,8 @@ pub fn one_cause()
     offers_have_one_order();
 }
 
-/// What checking a log of the program comes to can be told: the stages and rules of the cause are the
-/// program's, and its atoms and its offer have a text.
+/// What checking a log of the program comes to can be told: the stages and rules of the cause are
+/// the program's, and its atoms and its offer have a text.
 pub fn verdicts_can_be_told(program: &Program)
     ensures { (log : Log) (verdict : Verdict)
         → IsLogOf program.now log

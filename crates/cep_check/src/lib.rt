@@ -1,9 +1,10 @@
-//! The checker of transcripts: whether a log is legal for a program, and if not, the first cause.
+//! The checker of transcripts: whether a log is legal for a program, and if not, the first cause;
+//! and legal logs renewed, as their text in version 2.
 //!
-//! The steps of the log are done one after another, on one state that is edited in place. The offers of
-//! a group are looked for only where the log claims that there is none: at a rule that leaves its stage,
-//! and at an end that says `quiet`. They are matched from scratch, so that the checker stands on nothing
-//! that keeps matches.
+//! The steps of the log are done one after another, on one state that is edited in place. The
+//! offers of a group are looked for only where the log claims that there is none: at a rule that
+//! leaves its stage, and at an end that says `quiet`. They are matched from scratch, so that the
+//! checker stands on nothing that keeps matches.
 #![tactic(auto)]
 
 mod cause;
@@ -13,10 +14,11 @@ mod ending;
 pub mod laws;
 mod needed;
 mod premises;
+mod renewing;
 mod step;
 mod telling;
-mod walk;
 
 pub use cause::{Cause, Verdict};
 pub use checking::check;
+pub use renewing::renew;
 pub use telling::{put_fault, put_verdict};

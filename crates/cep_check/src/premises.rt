@@ -42,8 +42,8 @@ pub(crate) fn first_failure(
     Ok(None)
 }
 
-// Whether this derivation, at this place, does not prove the instance of the premise, or is too high.
-// An instance that is not fit is not built: nothing proves it.
+// Whether this derivation, at this place, does not prove the instance of the premise, or is too
+// high. An instance that is not fit is not built: nothing proves it.
 fn failure(
     alloc: Global,
     program: &Program,

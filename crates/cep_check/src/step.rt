@@ -1,57 +1,55 @@
-ghost use Rattle.std.specs.Prelude.{◌≡◌, ◌↔◌, ◌≤◌, length, IfOk, IfSome, MatchOption, IsSome, Some};
+ghost use Rattle.std.specs.Prelude.{◌≡◌, ◌↔◌, ◌≤◌, length, IfOk, IfSome, MatchOption, MatchResult, IsSome, Some};
 ghost use Rattle.std.specs.FinMap as finite;
 ghost use Rattle.std.specs.List.{AllByRecursion};
 ghost use Rattle.cep_base.specs.declared.limits.TheConstants.{MOST_PREMISES};
 ghost use Rattle.cep_term.specs.Tree.{IsAtomInRange, IsGroundAtom};
-ghost use Rattle.cep_term.specs.Multiset.{nodes_in_all, IsContained};
+ghost use Rattle.cep_term.specs.Multiset.{IsContained};
 ghost use Rattle.cep_rule.specs.Binding.{needed_of};
 ghost use Rattle.cep_rule.specs.Instances.{full_instances, left_of};
 ghost use Rattle.cep_rule.specs.declared.signature.Signature.{Signature};
 ghost use Rattle.cep_rule.specs.Limits.{IsHeight};
 ghost use Rattle.cep_rule.specs.Stages.{HasOffer, own_group, leaving_group};
 ghost use Rattle.cep_log.specs.Legal.{IsListing, IsStepOf, IsLegalStep};
-ghost use Rattle.cep_step.specs.Changes.{CanStep, IsWeighed};
+ghost use Rattle.cep_step.specs.Spots.{IsSpotOf};
 ghost use Rattle.cep_check.specs.Causes.{IsOfStage, IsInTurn, IsStepCause};
-ghost use Rattle.cep_check.specs.Walking.{stands_at, IsWalkOf, IsReadyStep, IsLackCause, IsQuietCause, IsStageCause, IsDoneStep, IsMidCause, IsStepCauseOf};
+ghost use Rattle.cep_check.specs.Walking.{IsReadyStep, IsLackCause, IsQuietCause, IsStageCause, IsDoneStep, IsMidCause, IsStepCauseOf};
 
 use crate::cause::Cause;
 use crate::counts::{first_difference, first_lack};
 use crate::needed::needed_atoms;
 use crate::premises::first_failure;
-use crate::walk::Walk;
 use cep_base::Steps;
 use cep_log::{LogMid, LogStep};
 use cep_rule::laws::types_are_lawful;
 use cep_rule::{Program, Rule, Terms, gained};
 use cep_scratch::applies_any;
-use cep_step::{Weighed, weigh};
+use cep_step::{Spot, Weighed};
 use cep_term::laws::bags_are_lawful;
 use cep_term::{Bag, copy};
 use std::alloc::{AllocError, Global};
 use std::sync::ledger::Ledger;
 
-// Does the step, or says why it is not legal. Where it is not, the walk may stand anywhere.
+// Where the step leads, or why it is not legal.
 pub(crate) fn advance<L: Ledger>(
     alloc: Global,
     program: &Program,
     height: u32,
     step: &LogStep,
-    walk: &mut Walk,
+    spot: Spot,
     steps: &mut Steps<L>,
-) -> Result<Option<Cause>, AllocError>
+) -> Result<Result<Spot, Cause>, AllocError>
     requires height { IsHeight height }
     requires of_program { IsStepOf program.now step.now }
-    requires walk { IsWalkOf program.now walk.old }
-    ensures cause { IfOk result (λ cause. MatchOption cause
-        (IsLegalStep program.now height (stands_at walk.old) (stands_at walk.new) step.now)
-        (IsStepCauseOf program.now height (stands_at walk.old) step.now)) }
-    ensures walk { IfOk result (λ cause. MatchOption cause (IsWalkOf program.now walk.new) (λ _. Unit {0})) }
+    requires spot { IsSpotOf program.now spot }
+    ensures done { IfOk result (λ done. MatchResult done
+        (λ new. IsLegalStep program.now height spot new step.now × IsSpotOf program.now new)
+        (IsStepCauseOf program.now height spot step.now)) }
     ensures never_falls { steps.old ≤ steps.new }
 {
     let rule = program.parts().rules.get(step.offer.rule as usize);
-    match cause_before(alloc, program, height, rule, step, walk, steps)? {
-        Some(cause) => Ok(Some(cause)),
-        None => change(alloc, program, height, rule, step, walk),
+    match cause_before(alloc, program, height, rule, step, &spot, steps)? {
+        Some(cause) => Ok(Err(cause)),
+        None => change(alloc, program, height, rule, step, spot),
     }
 }
 
@@ -62,30 +60,30 @@ fn cause_before<L: Ledger>(
     height: u32,
     rule: &Rule,
     step: &LogStep,
-    walk: &Walk,
+    spot: &Spot,
     steps: &mut Steps<L>,
 ) -> Result<Option<Cause>, AllocError>
     requires height { IsHeight height }
     requires ready { IsReadyStep program.now rule.now step.now }
-    requires walk { IsWalkOf program.now walk.now }
+    requires spot { IsSpotOf program.now spot.now }
     ensures cause { IfOk result (λ cause. MatchOption cause
-        (IsInTurn program.now height (stands_at walk.now) rule.now step.now)
-        (IsStepCause program.now height (stands_at walk.now) rule.now step.now)) }
+        (IsInTurn program.now height spot.now rule.now step.now)
+        (IsStepCause program.now height spot.now rule.now step.now)) }
     ensures never_falls { steps.old ≤ steps.new }
 {
     types_are_lawful();
     let offer = &step.offer;
-    if rule.group / 2 != walk.stage {
+    if rule.group / 2 != spot.stage() {
         return Ok(Some(Cause::OtherStage { rule: offer.rule }));
     }
-    if let Some(cause) = not_contained(alloc, program, rule, &offer.values, &walk.state)? {
+    if let Some(cause) = not_contained(alloc, program, rule, &offer.values, spot.state())? {
         return Ok(Some(cause));
     }
     let (values, proofs) = (&offer.values, &step.proofs);
     if let Some(cause) = first_failure(alloc, program, height, &rule.backs, values, proofs)? {
         return Ok(Some(cause));
     }
-    not_quiet(alloc, program, height, rule, walk, steps)
+    not_quiet(alloc, program, height, rule, spot, steps)
 }
 
 // The first atom of the rule's left side of which the state has too few copies.
@@ -125,93 +123,77 @@ fn not_quiet<L: Ledger>(
     program: &Program,
     height: u32,
     rule: &Rule,
-    walk: &Walk,
+    spot: &Spot,
     steps: &mut Steps<L>,
 ) -> Result<Option<Cause>, AllocError>
     requires height { IsHeight height }
-    requires walk { IsWalkOf program.now walk.now }
-    requires of_stage { IsOfStage walk.now.stage rule.now }
+    requires spot { IsSpotOf program.now spot.now }
+    requires of_stage { IsOfStage spot.now.stage rule.now }
     ensures cause { IfOk result (λ cause. MatchOption cause
-        (rule.now.group ≡ leaving_group walk.now.stage → ¬ HasOffer program.now height walk.now.state (own_group walk.now.stage))
-        (IsQuietCause program.now height (stands_at walk.now) rule.now)) }
+        (rule.now.group ≡ leaving_group spot.now.stage
+        → ¬ HasOffer program.now height spot.now.state (own_group spot.now.stage))
+        (IsQuietCause program.now height spot.now rule.now)) }
     ensures never_falls { steps.old ≤ steps.new }
 {
     if rule.group % 2 == 0 {
         return Ok(None);
     }
-    let own = 2 * walk.stage;
-    let first = applies_any(alloc, program, &walk.state, own, height, steps)?;
+    let own = 2 * spot.stage();
+    let first = applies_any(alloc, program, spot.state(), own, height, steps)?;
     Ok(first.map(|offer| Cause::NotQuiet { offer }))
 }
 
-// Goes on by a step that is in turn, where it passes no limit, its stage is the rule's, and a listing
-// behind it is that of the new state.
+// Goes on by a step that is in turn, where it passes no limit, its stage is the rule's, and a
+// listing after it is that of the new state.
 fn change(
     alloc: Global,
     program: &Program,
     height: u32,
     rule: &Rule,
     step: &LogStep,
-    walk: &mut Walk,
-) -> Result<Option<Cause>, AllocError>
-    requires in_turn { IsInTurn program.now height (stands_at walk.old) rule.now step.now }
+    spot: Spot,
+) -> Result<Result<Spot, Cause>, AllocError>
+    requires in_turn { IsInTurn program.now height spot rule.now step.now }
     requires ready { IsReadyStep program.now rule.now step.now }
-    requires walk { IsWalkOf program.now walk.old }
-    ensures cause { IfOk result (λ cause. MatchOption cause
-        (IsLegalStep program.now height (stands_at walk.old) (stands_at walk.new) step.now)
-        (IsStepCause program.now height (stands_at walk.old) rule.now step.now)) }
-    ensures walk { IfOk result (λ cause. MatchOption cause (IsWalkOf program.now walk.new) (λ _. Unit {0})) }
+    requires spot { IsSpotOf program.now spot }
+    ensures { IfOk result (λ done. MatchResult done
+        (λ new. IsLegalStep program.now height spot new step.now × IsSpotOf program.now new)
+        (IsStepCause program.now height spot rule.now step.now)) }
 {
-    if let Some(cause) = go_on(alloc, program, height, rule, step, walk)? {
-        return Ok(Some(cause));
+    let new = match go_on(alloc, program, height, rule, step, spot)? {
+        Ok(new) => new,
+        Err(cause) => return Ok(Err(cause)),
+    };
+    match mid_cause(alloc, &step.mid, new.state())? {
+        None => Ok(Ok(new)),
+        Some(cause) => Ok(Err(cause)),
     }
-    mid_cause(alloc, &step.mid, &walk.state)
 }
 
-// Goes on by a step that is in turn, whatever is listed behind it.
+// Goes on by a step that is in turn, whatever is listed after it.
 fn go_on(
     alloc: Global,
     program: &Program,
     height: u32,
     rule: &Rule,
     step: &LogStep,
-    walk: &mut Walk,
-) -> Result<Option<Cause>, AllocError>
-    requires in_turn { IsInTurn program.now height (stands_at walk.old) rule.now step.now }
+    spot: Spot,
+) -> Result<Result<Spot, Cause>, AllocError>
+    requires in_turn { IsInTurn program.now height spot rule.now step.now }
     requires ready { IsReadyStep program.now rule.now step.now }
-    requires walk { IsWalkOf program.now walk.old }
-    ensures cause { IfOk result (λ cause. MatchOption cause
-        (IsDoneStep program.now height (stands_at walk.old) (stands_at walk.new) rule.now step.now)
-        (IsStepCause program.now height (stands_at walk.old) rule.now step.now)) }
-    ensures walk { IfOk result (λ cause. MatchOption cause (IsWalkOf program.now walk.new) (λ _. Unit {0})) }
+    requires spot { IsSpotOf program.now spot }
+    ensures { IfOk result (λ done. MatchResult done
+        (λ new. IsDoneStep program.now height spot new rule.now step.now × IsSpotOf program.now new)
+        (IsStepCause program.now height spot rule.now step.now)) }
 {
-    let change = match weighed(alloc, program, rule, &step.offer.values, walk)? {
-        Weighed::Passes(limit, _) => return Ok(Some(Cause::OverLimit { limit })),
+    let change = match spot.weigh(alloc, program, rule, &step.offer.values)? {
+        Weighed::Passes(limit, _) => return Ok(Err(Cause::OverLimit { limit })),
         Weighed::Within(change) => change,
     };
     if let Some(cause) = stage_cause(step.stage, rule.next) {
-        return Ok(Some(cause));
+        return Ok(Err(cause));
     }
-    change.edit(&mut walk.state)?;
-    walk.stage = rule.next.unwrap_or(walk.stage);
-    walk.nodes = change.nodes;
-    Ok(None)
-}
-
-// What a step by the rule comes to from where the walk stands.
-fn weighed(
-    alloc: Global,
-    program: &Program,
-    rule: &Rule,
-    values: &Terms,
-    walk: &Walk,
-) -> Result<Weighed, AllocError>
-    requires can { CanStep program.now.signature rule.now values.now walk.now.state }
-    requires counted { walk.now.nodes ≡ nodes_in_all walk.now.state }
-    ensures { IfOk result (IsWeighed program.now.signature rule.now values.now walk.now.state) }
-{
-    let signature = &program.parts().signature;
-    weigh(alloc, signature, rule, values, &walk.state, walk.nodes)
+    Ok(Ok(spot.go(&change)?))
 }
 
 // Whether the stage that is said is another than the one that the rule names.

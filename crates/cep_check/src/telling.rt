@@ -16,13 +16,14 @@ use cep_term::Atom;
 use cep_text::{put_atom, put_offer};
 use std::alloc::AllocError;
 
-/// The line of a verdict: `accepted N`, N the number of steps, or `refused LINE TEXT`, where TEXT is
-/// the name of the cause and what there is to say of it. After `AllocError` a front of the line was
-/// added, as with every writer here. The words are this profile's.
+/// The line of a verdict: `accepted N`, N the number of steps, or `refused LINE TEXT`, where TEXT
+/// is the name of the cause and what there is to say of it. After `AllocError` a front of the line
+/// was added, as with every writer here. The words are this profile's.
 pub fn put_verdict(program: &Program, verdict: &Verdict, out: &mut Text) -> Result<(), AllocError>
     requires { IsTellable program.now verdict.now }
     ensures ok { OnOk result (out.new ≡ out.old ++ line (verdict_text program.now verdict.now)) }
-    ensures err { OnErr result (IsBegun out.old (line (verdict_text program.now verdict.now)) out.new) }
+    ensures err { OnErr result (IsBegun out.old
+        (line (verdict_text program.now verdict.now)) out.new) }
 {
     match verdict {
         Verdict::Accepted { steps } => put_accepted(*steps, out),
@@ -30,8 +31,8 @@ pub fn put_verdict(program: &Program, verdict: &Verdict, out: &mut Text) -> Resu
     }
 }
 
-/// The line of bytes that are no transcript: `refused LINE Line` or `refused LINE NoRule`. The words
-/// are this profile's.
+/// The line of bytes that are no transcript: `refused LINE Line` or `refused LINE NoRule`. The
+/// words are this profile's.
 #[tactic(auto, using(std::proofs::Common::append_assoc), unfolding(crate::specs::Telling::refused_text))]
 pub fn put_fault(fault: LogFault, out: &mut Text) -> Result<(), AllocError>
     ensures ok { OnOk result (out.new ≡ out.old ++ line (fault_text fault)) }
@@ -55,7 +56,8 @@ pub fn put_fault(fault: LogFault, out: &mut Text) -> Result<(), AllocError>
 #[tactic(auto, using(std::proofs::Common::append_assoc))]
 fn put_accepted(steps: u32, out: &mut Text) -> Result<(), AllocError>
     ensures ok { OnOk result (out.new ≡ out.old ++ line (codes "accepted " ++ decimal steps)) }
-    ensures err { OnErr result (IsBegun out.old (line (codes "accepted " ++ decimal steps)) out.new) }
+    ensures err { OnErr result (IsBegun out.old
+        (line (codes "accepted " ++ decimal steps)) out.new) }
 {
     out.append(b"accepted ")?;
     out.number(u64::from(steps))?;
@@ -71,8 +73,10 @@ fn put_refused(
     out: &mut Text,
 ) -> Result<(), AllocError>
     requires { IsTellableCause program.now cause.now }
-    ensures ok { OnOk result (out.new ≡ out.old ++ line (refused_text number (cause_text program.now cause.now))) }
-    ensures err { OnErr result (IsBegun out.old (line (refused_text number (cause_text program.now cause.now))) out.new) }
+    ensures ok { OnOk result (out.new
+        ≡ out.old ++ line (refused_text number (cause_text program.now cause.now))) }
+    ensures err { OnErr result (IsBegun out.old
+        (line (refused_text number (cause_text program.now cause.now))) out.new) }
 {
     out.append(b"refused ")?;
     out.number(u64::from(number))?;
@@ -134,7 +138,8 @@ fn put_stages(
     requires said { said < length program.now.stages }
     requires is { is < length program.now.stages }
     ensures ok { OnOk result (out.new ≡ out.old ++ stages_text program.now words.now said is) }
-    ensures err { OnErr result (IsBegun out.old (stages_text program.now words.now said is) out.new) }
+    ensures err { OnErr result (IsBegun out.old
+        (stages_text program.now words.now said is) out.new) }
 {
     out.append(words)?;
     put_stage_name(program, said, out)?;
@@ -145,7 +150,8 @@ fn put_stages(
 // The name of a stage.
 fn put_stage_name(program: &Program, stage: u32, out: &mut Text) -> Result<(), AllocError>
     requires { stage < length program.now.stages }
-    ensures ok { OnOk result (out.new ≡ out.old ++ stage_name (slice_get program.now.stages stage)) }
+    ensures ok { OnOk result (out.new
+        ≡ out.old ++ stage_name (slice_get program.now.stages stage)) }
     ensures err { OnErr result (out.new ≡ out.old) }
 {
     let stages = &program.parts().stages;
@@ -166,8 +172,10 @@ fn put_rule_name(program: &Program, rule: u32, out: &mut Text) -> Result<(), All
 #[tactic(auto, using(std::proofs::Common::append_assoc), unfolding(crate::specs::Telling::copies_text))]
 fn put_copies(program: &Program, count: u32, atom: &Atom, out: &mut Text) -> Result<(), AllocError>
     requires { IsTypedGround program.now.signature (atom_of atom.now) }
-    ensures ok { OnOk result (out.new ≡ out.old ++ copies_text program.now.signature count (atom_of atom.now)) }
-    ensures err { OnErr result (IsBegun out.old (copies_text program.now.signature count (atom_of atom.now)) out.new) }
+    ensures ok { OnOk result (out.new
+        ≡ out.old ++ copies_text program.now.signature count (atom_of atom.now)) }
+    ensures err { OnErr result (IsBegun out.old
+        (copies_text program.now.signature count (atom_of atom.now)) out.new) }
 {
     out.number(u64::from(count))?;
     out.append(b" ")?;
@@ -186,8 +194,10 @@ fn put_counts(
     out: &mut Text,
 ) -> Result<(), AllocError>
     requires { IsTypedGround program.now.signature (atom_of atom.now) }
-    ensures ok { OnOk result (out.new ≡ out.old ++ counts_text program.now.signature words.now one between.now other (atom_of atom.now)) }
-    ensures err { OnErr result (IsBegun out.old (counts_text program.now.signature words.now one between.now other (atom_of atom.now)) out.new) }
+    ensures ok { OnOk result (out.new
+        ≡ out.old ++ counts_text program.now.signature words.now one between.now other (atom_of atom.now)) }
+    ensures err { OnErr result (IsBegun out.old
+        (counts_text program.now.signature words.now one between.now other (atom_of atom.now)) out.new) }
 {
     out.append(words)?;
     out.number(u64::from(one))?;
@@ -204,8 +214,10 @@ fn put_other_stage(
     out: &mut Text,
 ) -> Result<(), AllocError>
     requires { rule < length program.now.rules }
-    ensures ok { OnOk result (out.new ≡ out.old ++ (name.now ++ offer_name (slice_get program.now.rules rule))) }
-    ensures err { OnErr result (IsBegun out.old (name.now ++ offer_name (slice_get program.now.rules rule)) out.new) }
+    ensures ok { OnOk result (out.new
+        ≡ out.old ++ (name.now ++ offer_name (slice_get program.now.rules rule))) }
+    ensures err { OnErr result (IsBegun out.old
+        (name.now ++ offer_name (slice_get program.now.rules rule)) out.new) }
 {
     out.append(name)?;
     put_rule_name(program, rule, out)
@@ -224,8 +236,10 @@ fn put_not_proved(premise: u32, out: &mut Text) -> Result<(), AllocError>
 // The premise whose derivation is too high, and how high that is.
 #[tactic(auto, using(std::proofs::Common::append_assoc))]
 fn put_too_high(premise: u32, height: u64, out: &mut Text) -> Result<(), AllocError>
-    ensures ok { OnOk result (out.new ≡ out.old ++ (codes "TooHigh " ++ decimal premise ++ codes " " ++ decimal height)) }
-    ensures err { OnErr result (IsBegun out.old (codes "TooHigh " ++ decimal premise ++ codes " " ++ decimal height) out.new) }
+    ensures ok { OnOk result (out.new
+        ≡ out.old ++ (codes "TooHigh " ++ decimal premise ++ codes " " ++ decimal height)) }
+    ensures err { OnErr result (IsBegun out.old
+        (codes "TooHigh " ++ decimal premise ++ codes " " ++ decimal height) out.new) }
 {
     out.append(b"TooHigh ")?;
     out.number(u64::from(premise))?;
@@ -237,8 +251,10 @@ fn put_too_high(premise: u32, height: u64, out: &mut Text) -> Result<(), AllocEr
 #[tactic(auto, using(std::proofs::Common::append_assoc))]
 fn put_not_quiet(program: &Program, offer: &Offer, out: &mut Text) -> Result<(), AllocError>
     requires { IsOfferOf program.now offer.now }
-    ensures ok { OnOk result (out.new ≡ out.old ++ (codes "NotQuiet " ++ offer_text program.now offer.now)) }
-    ensures err { OnErr result (IsBegun out.old (codes "NotQuiet " ++ offer_text program.now offer.now) out.new) }
+    ensures ok { OnOk result (out.new
+        ≡ out.old ++ (codes "NotQuiet " ++ offer_text program.now offer.now)) }
+    ensures err { OnErr result (IsBegun out.old
+        (codes "NotQuiet " ++ offer_text program.now offer.now) out.new) }
 {
     out.append(b"NotQuiet ")?;
     put_offer(program, offer, out)

@@ -1,12 +1,13 @@
 -- Which group a stage asks, by the lists of a matcher.
-use Rattle.std.proofs.Common.{◌≡◌, inl, inr, ℕ, ◌<◌, true, false, List, [], ◌∷◌, length, Some, None, refl, subst, arith}
-use Rattle.std.specs.Prelude.{◌↔◌, IsNone}
+use Rattle.std.proofs.Common.{◌≡◌, inl, inr, ℕ, ◌<◌, true, false, List, [], ◌∷◌, length, Some, None, refl, ap, subst, arith}
+use Rattle.std.specs.Prelude.{◌↔◌, ◌*◌, IsNone, IfSome, MatchOption, Option}
 use Rattle.cep_term.specs.Multiset.{Multiset}
 use Rattle.cep_rule.specs.declared.parts.Parts.{Parts}
 use Rattle.cep_rule.specs.declared.offer.Offer.{Offer}
 use Rattle.cep_rule.specs.Offers.{AreOffers}
 use Rattle.cep_rule.specs.Stages.{own_group, leaving_group, HasOffer, IsAsked, IsQuiet}
 use Rattle.cep_rule.specs.Matching.{offers_of, AreListed}
+use Rattle.cep_machine.specs.Asking.{unless_none, asked_offers, IsAskedIn}
 
 true_false : {A : Type 0} → true ≡ false → A
 true_false e = cc
@@ -18,40 +19,35 @@ some_offer program height state group (offer ∷ offers) are some = (offer, (are
 no_offer : (program : Parts) (height : ℕ) (state : Multiset) (group : ℕ) (offers : List Offer) → AreOffers program height state group offers → length offers ≡ 0 → HasOffer program height state group → ⊥
 no_offer program height state group offers are none has = let there = are.each has.0 has.1 in let within = there.1 in omega arith
 
-module _ (program : Parts) (height : ℕ) (held state : Multiset) (lists : List (List Offer)) (stage : ℕ) (are : AreListed program height held lists) (same : held ≡ state) (in_range : stage < length program.stages) where
-  own_offers : AreOffers program height state (own_group stage) (offers_of lists (own_group stage))
-  own_offers = let groups = are.groups in subst (λ s. AreOffers program height s (own_group stage) (offers_of lists (own_group stage))) same (are.each (own_group stage) (omega arith))
+-- what the lists say of the group that a stage asks
+module _ (program : Parts) (height : ℕ) (held state : Multiset) (lists : List (List Offer)) (stage : ℕ) (are : AreListed program height held lists) (same : held ≡ state) (here : stage < length program.stages) where
+  listed : (group : ℕ) → group < 2 * length program.stages → AreOffers program height state group (offers_of lists group)
+  listed group few = subst (λ s. AreOffers program height s group (offers_of lists group)) same (are.each group (omega (arith, few, are.groups)))
 
-  leaving_offers : AreOffers program height state (leaving_group stage) (offers_of lists (leaving_group stage))
-  leaving_offers = let groups = are.groups in subst (λ s. AreOffers program height s (leaving_group stage) (offers_of lists (leaving_group stage))) same (are.each (leaving_group stage) (omega arith))
+  has : (group : ℕ) → group < 2 * length program.stages → 0 < length (offers_of lists group) → HasOffer program height state group
+  has group few = some_offer program height state group (offers_of lists group) (listed group few)
 
-  has_own : 0 < length (offers_of lists (own_group stage)) → HasOffer program height state (own_group stage)
-  has_own some = some_offer program height state (own_group stage) (offers_of lists (own_group stage)) own_offers some
+  has_none : (group : ℕ) → group < 2 * length program.stages → length (offers_of lists group) ≡ 0 → ¬ HasOffer program height state group
+  has_none group few = no_offer program height state group (offers_of lists group) (listed group few)
 
-  has_leaving : 0 < length (offers_of lists (leaving_group stage)) → HasOffer program height state (leaving_group stage)
-  has_leaving some = some_offer program height state (leaving_group stage) (offers_of lists (leaving_group stage)) leaving_offers some
+  asks_one : (group : ℕ) → IsAskedIn lists stage group → IsAsked program height state stage group
+  asks_one group (inl own) = inl (own.0, has group (omega (arith, own.0, here)) own.1)
+  asks_one group (inr leaving) = inr (leaving.0, has_none (own_group stage) (omega (arith, here)) leaving.1, has group (omega (arith, leaving.0, here)) leaving.2)
 
-  has_no_own : length (offers_of lists (own_group stage)) ≡ 0 → HasOffer program height state (own_group stage) → ⊥
-  has_no_own none = no_offer program height state (own_group stage) (offers_of lists (own_group stage)) own_offers none
+  not_quiet : (group : ℕ) → IsAsked program height state stage group → ¬ IsQuiet program height state stage
+  not_quiet group (inl own) = λ quiet. quiet.0 (subst (HasOffer program height state) own.0 own.1)
+  not_quiet group (inr leaving) = λ quiet. quiet.1 (subst (HasOffer program height state) leaving.0 leaving.2)
 
-  pub asks_own : 0 < length (offers_of lists (own_group stage)) → IsAsked program height state stage (own_group stage)
-  asks_own some = inl (refl, (has_own some))
+  both_empty : (own leaving : List Offer) → unless_none own leaving ≡ [] → (length own ≡ 0) × (length leaving ≡ 0)
+  both_empty [] leaving none = (refl, ap length none)
+  both_empty (offer ∷ own) leaving none = cc
 
-  pub asks_leaving : length (offers_of lists (own_group stage)) ≡ 0 → 0 < length (offers_of lists (leaving_group stage)) → IsAsked program height state stage (leaving_group stage)
-  asks_leaving none some = inr (refl, (has_no_own none), (has_leaving some))
+  pub asks : (asked : Option ℕ) → MatchOption asked (asked_offers lists stage ≡ []) (IsAskedIn lists stage) → IfSome asked (IsAsked program height state stage)
+  asks None none = tt
+  asks (Some group) is = asks_one group is
 
-  pub own_not_quiet : 0 < length (offers_of lists (own_group stage)) → IsQuiet program height state stage → ⊥
-  own_not_quiet some quiet = quiet.0 (has_own some)
-
-  pub leaving_not_quiet : 0 < length (offers_of lists (leaving_group stage)) → IsQuiet program height state stage → ⊥
-  leaving_not_quiet some quiet = quiet.1 (has_leaving some)
-
-  pub is_quiet : length (offers_of lists (own_group stage)) ≡ 0 → length (offers_of lists (leaving_group stage)) ≡ 0 → IsQuiet program height state stage
-  is_quiet none none' = ((has_no_own none), (no_offer program height state (leaving_group stage) (offers_of lists (leaving_group stage)) leaving_offers none'))
-
--- what an answer says of being quiet
-pub some_asked : {X Q : Type 0} (x : X) → (Q → ⊥) → IsNone (Some x) ↔ Q
-some_asked x not_so = ((λ e. true_false e), (λ q. absurd (not_so q)))
-
-pub none_asked : {Q : Type 0} → Q → IsNone {T = ℕ} None ↔ Q
-none_asked q = ((λ e. q), (λ q. refl))
+  pub is_quiet : (asked : Option ℕ) → MatchOption asked (asked_offers lists stage ≡ []) (IsAskedIn lists stage) → IsNone asked ↔ IsQuiet program height state stage
+  is_quiet None none =
+      let empty = both_empty (offers_of lists (own_group stage)) (offers_of lists (leaving_group stage)) none in
+      ((λ e. (has_none (own_group stage) (omega (arith, here)) empty.0, has_none (leaving_group stage) (omega (arith, here)) empty.1)), (λ q. refl))
+  is_quiet (Some group) is = ((λ e. true_false e), (λ q. absurd (not_quiet group (asks_one group is) q)))

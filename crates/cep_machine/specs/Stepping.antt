@@ -12,19 +12,25 @@ use Rattle.cep_machine.specs.Configuration.{Configuration, spot_of}
 use Rattle.cep_machine.specs.Asking.{asked_offers}
 use Rattle.cep_step.specs.Passing.{Passes, IsExcess}
 
--- The offer at this place among those that a stage asks is of this rule, with these values for its variables.
-pub record IsAskedAt (program : Parts) (lists : List (List Offer)) (stage place : ℕ) (rule : Rule) (values : List Tree) : Type 0 where
+-- The offer at this place among those that a stage asks is of this rule, with these values for its
+-- variables.
+pub record IsAskedAt (program : Parts) (lists : List (List Offer)) (stage place : ℕ) (rule : Rule)
+    (values : List Tree) : Type 0 where
   pub number : ℕ
-  pub offered : slice_get (asked_offers lists stage) place ≡ Some (record { rule = number; values = values })
+  pub offered : slice_get (asked_offers lists stage) place
+      ≡ Some (record { rule = number; values = values })
   pub numbered : slice_get program.rules number ≡ Some rule
 
 -- The configuration after a step: the step leads to where it stands, and one more turn is done.
-pub record IsNext {M : Type 0} (program : Parts) (rule : Rule) (values : List Tree) (old new : Configuration M) : Type 0 where
+pub record IsNext {M : Type 0} (program : Parts) (rule : Rule) (values : List Tree)
+    (old new : Configuration M) : Type 0 where
   pub steps : StepsTo program rule values (spot_of old) (spot_of new)
   pub turns : new.turns ≡ old.turns + 1
 
--- What a step comes to: the configuration after it, or the old one with the limit that the step would pass, and the number that would pass it.
-abbrev pub IsStepped : {M : Type 0} → Parts → Rule → List Tree → Configuration M → Stepped M → Type 0
+-- What a step comes to: the configuration after it, or the old one with the limit that the step
+-- would pass, and the number that would pass it.
+abbrev pub IsStepped : {M : Type 0} → Parts → Rule → List Tree → Configuration M → Stepped M
+    → Type 0
 IsStepped program rule values old (stepped.Done new) = IsNext program rule values old new
 IsStepped program rule values old (stepped.Passes config limit number) =
     (config ≡ old) × Passes program.signature rule values old.state limit

@@ -6,13 +6,14 @@ ghost use Rattle.cep_machine.specs.Configuration.{IsConfigurationOf};
 use crate::config::Config;
 use cep_base::Steps;
 use cep_rule::{Matcher, Program};
-use cep_step::nodes_in_state;
+use cep_step::Spot;
 use std::alloc::{AllocError, Global};
 use std::sync::ledger::Ledger;
 
 impl<M: Matcher> Config<M> {
-    /// The configuration in which a run of the program begins: its start stage and its start state, no
-    /// turn done, and a matcher within this height, from 1 to 512. Only want of memory is refused.
+    /// The configuration in which a run of the program begins: its start stage and its start state,
+    /// no turn done, and a matcher within this height, from 1 to 512. Only want of memory is
+    /// refused.
     pub fn begin<L: Ledger>(
         alloc: Global,
         program: &Program,
@@ -25,18 +26,15 @@ impl<M: Matcher> Config<M> {
         ensures state { IfOk result (λ config. config.state ≡ program.now.start) }
         ensures turns { IfOk result (λ config. config.turns ≡ 0) }
         ensures height { IfOk result (λ config. M.height_held config.matcher ≡ height) }
-        ensures ticked { IfOk result (λ _. RoseBy (M.may_begin program.now program.now.start height) steps.old steps.new) }
+        ensures ticked { IfOk result
+            (λ _. RoseBy (M.may_begin program.now program.now.start height) steps.old steps.new) }
         ensures never_falls { steps.old ≤ steps.new }
     {
-        let parts = program.parts();
-        let state = parts.start.copy(alloc)?;
-        let nodes = nodes_in_state(&state);
-        let matcher = M::begin(alloc, program, &state, height, steps)?;
+        let spot = Spot::start(alloc, program)?;
+        let matcher = M::begin(alloc, program, spot.state(), height, steps)?;
         Ok(Config {
-            stage: parts.start_stage,
-            state,
+            spot,
             turns: 0,
-            nodes,
             matcher,
         })
     }

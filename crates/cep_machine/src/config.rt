@@ -2,19 +2,17 @@ ghost use Rattle.std.specs.Prelude.{◌≡◌, ℕ, ◌*◌, ◌+◌, ◌<◌, l
 ghost use Rattle.cep_base.specs.declared.limits.TheConstants.{MOST_STAGES};
 
 use cep_rule::Matcher;
+use cep_step::Spot;
 use cep_term::Bag;
 use std::marker::Model;
 
-/// A configuration of a program: a stage by its number, a state, and how many turns are done, with the
-/// matcher of that state. Ceptre's semantics goes from one to the next; the matcher and the turns are
-/// this profile's. It keeps no program: that it is of one is said of the two.
+/// A configuration of a program: a stage by its number, a state, and how many turns are done, with
+/// the matcher of that state. Ceptre's semantics goes from one to the next; the matcher and the
+/// turns are this profile's. It keeps no program: that it is of one is said of the two.
 #[derive(Drop)]
 pub struct Config<M: Matcher> {
-    pub(crate) stage: u32,
-    pub(crate) state: Bag,
+    pub(crate) spot: Spot,
     pub(crate) turns: u32,
-    // the nodes of the state, so that a step costs nothing that grows with the state
-    pub(crate) nodes: u64,
     pub(crate) matcher: M,
 }
 
@@ -28,9 +26,15 @@ impl<M: Matcher> Model for Config<M> {
 
     ghost coded = { configuration_code M.code };
 
-    ghost view = { λ config. record { stage = config.stage; state = config.state; turns = config.turns; matcher = config.matcher } };
+    ghost view = { λ config. record {
+      stage = config.spot.stage;
+      state = config.spot.state;
+      turns = config.turns;
+      matcher = config.matcher;
+    } };
 
-    ghost invariant = { λ config. IsKept config.stage config.state config.nodes (M.state_held config.matcher) (length (M.offers_held config.matcher)) };
+    ghost invariant = { λ config. IsKept config.spot (M.state_held config.matcher)
+        (length (M.offers_held config.matcher)) };
 }
 
 impl<M: Matcher> Config<M> {
@@ -38,14 +42,14 @@ impl<M: Matcher> Config<M> {
     pub fn stage(&self) -> u32
         ensures { result ≡ self.now.stage }
     {
-        self.stage
+        self.spot.stage()
     }
 
     /// The state.
     pub fn state(&self) -> &Bag
         ensures { result.now ≡ self.now.state }
     {
-        &self.state
+        self.spot.state()
     }
 
     /// How many turns are done.

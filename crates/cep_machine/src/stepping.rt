@@ -14,16 +14,16 @@ use crate::stepped::Stepped;
 use cep_base::Steps;
 use cep_rule::laws::values_are_small;
 use cep_rule::{Matcher, Program};
-use cep_step::{Weighed, weigh};
+use cep_step::Weighed;
 use std::alloc::{AllocError, Global};
 use std::sync::ledger::Ledger;
 
 impl<M: Matcher> Config<M> {
-    /// Does a step by the offer at this place of the group that is asked, counted from 0, or says which
-    /// limit it would pass. A step is Ceptre's; the limits are this profile's. Fewer than 1,000,000
-    /// turns may be done before. The matcher is told of all linear premises as taken, kept ones included,
-    /// and as added of the right atoms in written order and then of the linear premises that are kept. Only want
-    /// of memory is refused, and then the configuration is gone.
+    /// Does a step by the offer at this place of the group that is asked, counted from 0, or says
+    /// which limit it would pass. A step is Ceptre's; the limits are this profile's. Fewer than
+    /// 1,000,000 turns may be done before. The matcher is told of all linear premises as taken,
+    /// kept ones included, and as added of the right atoms in written order and then of the linear
+    /// premises that are kept. Only want of memory is refused, and then the configuration is gone.
     pub fn step<L: Ledger>(
         self,
         alloc: Global,
@@ -39,32 +39,29 @@ impl<M: Matcher> Config<M> {
             → IfOk result (IsStepped program.now rule values self) }
         ensures ticked { (rule : Rule) (values : List Tree)
             → IsAskedAt program.now (M.offers_held self.matcher) self.stage i rule values
-            → IfOk result (λ stepped. RoseIfDone (M.may_edit program.now self.state (M.height_held self.matcher) (gathered (taken_by program.now.signature rule values)) (added_by program.now.signature rule values)) stepped steps.old steps.new) }
-        ensures of_program { IfOk result (λ stepped. IsConfigurationOf M.is_of program.now (config_after stepped)) }
-        ensures same_height { IfOk result (λ stepped. M.height_held (config_after stepped).matcher ≡ M.height_held self.matcher) }
+            → IfOk result (λ stepped. RoseIfDone
+            (M.may_edit program.now self.state (M.height_held self.matcher)
+            (gathered (taken_by program.now.signature rule values))
+            (added_by program.now.signature rule values))
+            stepped steps.old steps.new) }
+        ensures of_program { IfOk result
+            (λ stepped. IsConfigurationOf M.is_of program.now (config_after stepped)) }
+        ensures same_height { IfOk result (λ stepped. M.height_held (config_after stepped).matcher
+            ≡ M.height_held self.matcher) }
         ensures never_falls { steps.old ≤ steps.new }
     {
         values_are_small();
         let group = self.asked().unwrap();
         let offer = self.matcher.offer(group, i);
-        let parts = program.parts();
-        let rule = parts.rules.get(offer.rule as usize);
-        match weigh(
-            alloc,
-            &parts.signature,
-            rule,
-            &offer.values,
-            &self.state,
-            self.nodes,
-        )? {
+        let rule = program.parts().rules.get(offer.rule as usize);
+        match self.spot.weigh(alloc, program, rule, &offer.values)? {
             Weighed::Passes(limit, number) => Ok(Stepped::Passes {
                 config: self,
                 limit,
                 number,
             }),
             Weighed::Within(change) => {
-                let stage = rule.next.unwrap_or(self.stage);
-                Ok(Stepped::Done(self.changed(alloc, program, stage, &change, steps)?))
+                Ok(Stepped::Done(self.changed(alloc, program, &change, steps)?))
             }
         }
     }

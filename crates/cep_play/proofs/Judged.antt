@@ -29,7 +29,7 @@ use Rattle.cep_play.specs.declared.loading.NoProgram.{NoProgram}
 use Rattle.cep_play.specs.declared.loading.NoProgram.TheVariants as none
 use Rattle.cep_play.specs.Command.{IsSpelledBy, refusal_text}
 use Rattle.cep_play.specs.Check.{Rejects, too_long_text}
-use Rattle.cep_renew.specs.Renewed.{IsTooLongRenewed}
+use Rattle.cep_check.specs.Renewed.{IsTooLongRenewed}
 use Rattle.cep_play.specs.Renew.{Renews}
 use Rattle.cep_play.specs.Examined.{Succeeds, ComesToNothing}
 use Rattle.cep_play.specs.Outcome.{Wrote, Refuses, IsProgramIn, HasNoProgram, accepts, IsWrittenAnew, IsLogRenewed, TellsOf, code_without, CountsBy}

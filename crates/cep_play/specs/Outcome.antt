@@ -38,7 +38,7 @@ use Rattle.cep_log.specs.Legal.{IsLegal}
 use Rattle.cep_check.specs.Causes.{IsVerdict}
 use Rattle.cep_check.specs.Telling.{verdict_text}
 use Rattle.cep_words.specs.declared.request.Task.{Task}
-use Rattle.cep_renew.specs.Renewed.{IsRenewedText, IsTooLongRenewed}
+use Rattle.cep_check.specs.Renewed.{IsRenewedText, IsTooLongRenewed}
 use Rattle.cep_play.specs.Renew.{new_too_long_text}
 use Rattle.cep_play.specs.Examined.{Succeeds, ComesToNothing}
 use Rattle.cep_play.specs.World.{summary, IsTallied}

@@ -1,5 +1,5 @@
 -- Atoms of a rule that are gone through one by one.
-use Rattle.std.proofs.Common.{◌≡◌, ℕ, ◌+◌, ◌≤◌, Bool, true, false, cond, not, ◌&&◌, ◌||◌, List, [], ◌∷◌, ◌++◌, length, take, Some, append_assoc, refl, sym, ap, ◌∙◌}
+use Rattle.std.proofs.Common.{◌≡◌, ℕ, ◌+◌, ◌≤◌, Bool, true, false, cond, not, ◌&&◌, ◌||◌, List, [], ◌∷◌, ◌++◌, length, map, take, Some, append_assoc, refl, sym, ap, ◌∙◌}
 use Rattle.std.specs.Prelude.{slice_get, filter}
 use Rattle.std.specs.List.{AllByRecursion}
 use Rattle.std.proofs.lemmas.List.{map-append, take_all}
@@ -10,8 +10,17 @@ use Rattle.cep_rule.specs.Instances.{full_instance, full_instances}
 use Rattle.cep_term.specs.Multiset.{without}
 use Rattle.cep_rule.specs.declared.signature.Signature.{Signature}
 use Rattle.cep_rule.specs.Typing.{is_fact}
-use Rattle.cep_step.specs.Weighing.{premise_atoms, linear_among, linear_kept_among}
 use Rattle.cep_base.proofs.Lists.{take_next, map_last, holds_at_mapped}
+
+-- the atoms of premises, of the linear ones among them, and of those that are kept
+abbrev pub premise_atoms : List PremiseTree → List AtomTree
+premise_atoms premises = map (λ premise. premise.atom) premises
+
+abbrev pub linear_among : Signature → List PremiseTree → List AtomTree
+linear_among signature premises = without (is_fact signature) (premise_atoms premises)
+
+abbrev pub linear_kept_among : Signature → List PremiseTree → List AtomTree
+linear_kept_among signature premises = without (is_fact signature) (premise_atoms (filter (λ premise. premise.kept || is_fact signature premise.atom) premises))
 
 -- one atom more
 pub next_instances : (values : List Tree) (atoms : List AtomTree) (n : ℕ) (a : AtomTree) → slice_get atoms n ≡ Some a → full_instances values (take (n + 1) atoms) ≡ full_instances values (take n atoms) ++ full_instance values a ∷ []

@@ -1,29 +1,33 @@
 -- What is known of a rule with values by which there is a step.
 use Rattle.std.proofs.Common.{ℕ, ◌+◌, ◌<◌, ◌≤◌, ◌^◌, Bool, true, false, cond, not, ◌||◌, List, [], ◌∷◌, ◌++◌, length, sym, subst, arith}
-use Rattle.std.specs.Prelude.{filter}
+use Rattle.std.specs.Prelude.{filter, IfSome}
 use Rattle.std.specs.List.{AllByRecursion}
 use Rattle.std.proofs.lemmas.List.{map-append, length-map, length-append}
 use Rattle.cep_base.specs.declared.limits.TheConstants.{MOST_NODES, MOST_PREMISES, MOST_RIGHT}
 use Rattle.cep_term.specs.Tree.{Tree, AtomTree, atom_nodes, IsFit}
-use Rattle.cep_term.specs.Multiset.{Multiset, without}
+use Rattle.cep_term.specs.Multiset.{without}
 use Rattle.cep_rule.specs.declared.signature.Signature.{Signature}
 use Rattle.cep_rule.specs.declared.rule.Rule.{Rule}
 use Rattle.cep_rule.specs.Typing.{is_fact}
-use Rattle.cep_rule.specs.Limits.{IsSmallPattern}
+use Rattle.cep_rule.specs.Limits.{IsSmallPattern, IsSmallRule}
 use Rattle.cep_rule.specs.Binding.{needed_of}
-use Rattle.cep_rule.specs.Steps.{MakesFit}
+use Rattle.cep_rule.specs.Steps.{Spot, MakesFit}
+use Rattle.cep_rule.specs.Program.{IsTypedRule, IsDividedRule, IsProgram}
+use Rattle.cep_rule.specs.declared.parts.Parts.{Parts}
 use Rattle.cep_rule.specs.Instances.{full_instance, full_instances, kept_of, taken_by, added_by}
 use Rattle.cep_rule.specs.Patterns.{PremiseTree}
 use Rattle.cep_rule.specs.Shapes.{IsSmallTerm}
 use Rattle.cep_step.specs.declared.limit.Limit.TheVariants.{Atom}
 use Rattle.cep_step.specs.Passing.{IsFirstUnfit, IsExcess}
 use Rattle.cep_step.specs.Sizes.{IsBeyond}
+use Rattle.cep_step.specs.Spots.{IsSpotOf}
 use Rattle.cep_step.specs.Changes.{CanStep}
-use Rattle.cep_step.specs.Weighing.{premise_atoms}
+use Rattle.cep_step.specs.Weighing.{IsReady}
 use Rattle.cep_step.specs.StepLaws.{StepLaws}
 use Rattle.cep_base.proofs.Elements.{both_all, all_of}
-use Rattle.cep_base.proofs.Lists.{all_weaker, all_mapped}
+use Rattle.cep_base.proofs.Lists.{all_weaker, all_mapped, holds_at}
 use Rattle.cep_step.proofs.SizesOf.{IsBelow, instance_bounded}
+use Rattle.cep_step.proofs.Premises.{premise_atoms}
 use Rattle.cep_step.proofs.Weights.{exact}
 
 -- what holds of the instances of all atoms holds of those of the linear ones
@@ -53,39 +57,52 @@ few_nodes values small atoms patterns =
     omega arith)
     patterns
 
-module _ (laws : StepLaws) (signature : Signature) (rule : Rule) (values : List Tree) (state : Multiset) (can : CanStep signature rule values state) where
+-- what is known of a step that can be done
+pub ready : (program : Parts) (rule : Rule) (values : List Tree) (spot : Spot) → IsProgram program → IsSpotOf program spot → CanStep program rule values spot.state → IsReady program rule values spot
+ready program rule values spot kept here can = record {
+  typed = holds_at (IsTypedRule program.signature) program.rules can.number rule kept.typed_rules can.numbered;
+  divided = holds_at (IsDividedRule program.signature) program.rules can.number rule kept.divided_rules can.numbered;
+  small = holds_at IsSmallRule program.rules can.number rule kept.small.each_rule can.numbered;
+  next = holds_at (λ (r : Rule). IfSome r.next (λ stage. stage < length program.stages)) program.rules can.number rule kept.in_range.next_stages can.numbered;
+  few_stages = kept.small.stages;
+  are = can.are;
+  contained = can.contained;
+  here = here;
+}
+
+module _ (laws : StepLaws) (program : Parts) (rule : Rule) (values : List Tree) (spot : Spot) (is : IsReady program rule values spot) where
   needed_fit : AllByRecursion IsFit (full_instances values (needed_of rule))
   needed_fit = all_of IsFit (full_instances values (needed_of rule))
-      (λ a there. (can.is_state.each a (laws.there signature rule values state a can.contained there)).fit)
+      (λ a there. (is.here.is_state.each a (laws.there program.signature rule values spot.state a is.contained there)).fit)
 
   -- the number by which an atom is not fit is exact where the values are small
-  pub exact_number : (number : ℕ) → IsFirstUnfit IsBeyond (full_instances values rule.right) number → AllByRecursion IsSmallTerm values → IsExcess signature rule values state Atom number
-  exact_number number first small = exact (full_instances values rule.right) number (few_nodes values small rule.right can.small.right_nodes) first
+  pub exact_number : (number : ℕ) → IsFirstUnfit IsBeyond (full_instances values rule.right) number → AllByRecursion IsSmallTerm values → IsExcess program.signature rule values spot.state Atom number
+  exact_number number first small = exact (full_instances values rule.right) number (few_nodes values small rule.right is.small.right_nodes) first
 
-  pub taken_fit : AllByRecursion IsFit (taken_by signature rule values)
-  taken_fit = all_linear IsFit signature values (needed_of rule) needed_fit
+  pub taken_fit : AllByRecursion IsFit (taken_by program.signature rule values)
+  taken_fit = all_linear IsFit program.signature values (needed_of rule) needed_fit
 
-  pub added_fit : MakesFit rule values → AllByRecursion IsFit (added_by signature rule values)
+  pub added_fit : MakesFit rule values → AllByRecursion IsFit (added_by program.signature rule values)
   added_fit fit =
-      subst (AllByRecursion IsFit) (sym (map-append (full_instance values) rule.right (without (is_fact signature) (kept_of signature rule))))
-      (both_all IsFit (full_instances values rule.right) (full_instances values (without (is_fact signature) (kept_of signature rule))) fit
-      (all_linear IsFit signature values (kept_of signature rule) (all_passing IsFit (λ premise. premise.kept || is_fact signature premise.atom) values rule.premises needed_fit)))
+      subst (AllByRecursion IsFit) (sym (map-append (full_instance values) rule.right (without (is_fact program.signature) (kept_of program.signature rule))))
+      (both_all IsFit (full_instances values rule.right) (full_instances values (without (is_fact program.signature) (kept_of program.signature rule))) fit
+      (all_linear IsFit program.signature values (kept_of program.signature rule) (all_passing IsFit (λ premise. premise.kept || is_fact program.signature premise.atom) values rule.premises needed_fit)))
 
-  pub few_taken : length (taken_by signature rule values) ≤ MOST_PREMISES
+  pub few_taken : length (taken_by program.signature rule values) ≤ MOST_PREMISES
   few_taken =
-      let most = can.small.premises in
-      let many = length-map (without (is_fact signature) (needed_of rule)) (full_instance values) in
-      let few = few_pass (λ a. not (is_fact signature a)) (needed_of rule) in
+      let most = is.small.premises in
+      let many = length-map (without (is_fact program.signature) (needed_of rule)) (full_instance values) in
+      let few = few_pass (λ a. not (is_fact program.signature a)) (needed_of rule) in
       let all = length-map rule.premises (λ premise. premise.atom) in
       omega arith
 
-  pub few_added : length (added_by signature rule values) ≤ MOST_PREMISES + MOST_RIGHT
+  pub few_added : length (added_by program.signature rule values) ≤ MOST_PREMISES + MOST_RIGHT
   few_added =
-      let most = can.small.premises in
-      let most' = can.small.right in
-      let many = length-map (rule.right ++ without (is_fact signature) (kept_of signature rule)) (full_instance values) in
-      let both = length-append rule.right (without (is_fact signature) (kept_of signature rule)) in
-      let few = few_pass (λ a. not (is_fact signature a)) (kept_of signature rule) in
-      let kept = length-map (filter (λ premise. premise.kept || is_fact signature premise.atom) rule.premises) (λ premise. premise.atom) in
-      let few' = few_pass (λ (premise : PremiseTree). premise.kept || is_fact signature premise.atom) rule.premises in
+      let most = is.small.premises in
+      let most' = is.small.right in
+      let many = length-map (rule.right ++ without (is_fact program.signature) (kept_of program.signature rule)) (full_instance values) in
+      let both = length-append rule.right (without (is_fact program.signature) (kept_of program.signature rule)) in
+      let few = few_pass (λ a. not (is_fact program.signature a)) (kept_of program.signature rule) in
+      let kept = length-map (filter (λ premise. premise.kept || is_fact program.signature premise.atom) rule.premises) (λ premise. premise.atom) in
+      let few' = few_pass (λ (premise : PremiseTree). premise.kept || is_fact program.signature premise.atom) rule.premises in
       omega arith

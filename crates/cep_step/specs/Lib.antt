@@ -1,4 +1,5 @@
 pub mod Passing
+pub mod Spots
 pub mod Changes
 pub mod Deeds
 pub mod Sizes

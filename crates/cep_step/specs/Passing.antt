@@ -13,27 +13,31 @@ use Rattle.cep_rule.specs.Steps.{MakesFit}
 use Rattle.cep_step.specs.declared.limit.Limit.{Limit}
 use Rattle.cep_step.specs.declared.limit.Limit.TheVariants.{Atom, State}
 
--- A step by a rule with values passes a limit: that of an atom where an atom that it makes is not fit;
--- that of a state where all are fit, and the state after it does not fit.
+-- A step by a rule with values passes a limit: that of an atom where an atom that it makes is not
+-- fit; that of a state where all are fit, and the state after it does not fit.
 abbrev pub Passes : Signature → Rule → List Tree → Multiset → Limit → Type 0
 Passes signature rule values state Atom = ¬ MakesFit rule values
 Passes signature rule values state State =
     MakesFit rule values × ((new : Multiset) × Step signature rule values state new × ¬ Fits new)
 
--- An atom is too large by a number: its nodes where they pass their limit, and else its levels where these pass theirs.
+-- An atom is too large by a number: its nodes where they pass their limit, and else its levels
+-- where these pass theirs.
 abbrev pub IsTooLarge : AtomTree → ℕ → Type 0
 IsTooLarge a number =
     ((MOST_NODES < atom_nodes a) × (number ≡ atom_nodes a))
     ⊎ ((atom_nodes a ≤ MOST_NODES) × (MOST_DEPTH < atom_depth a) × (number ≡ atom_depth a))
 
--- A state is too full by a number: its copies where they pass their limit, and else its nodes where these pass theirs.
+-- A state is too full by a number: its copies where they pass their limit, and else its nodes where
+-- these pass theirs.
 abbrev pub IsTooFull : Multiset → ℕ → Type 0
 IsTooFull state number =
     ((MOST_COPIES < copies_in state) × (number ≡ copies_in state))
-    ⊎ ((copies_in state ≤ MOST_COPIES) × (MOST_STATE_NODES < nodes_in_all state) × (number ≡ nodes_in_all state))
+    ⊎ ((copies_in state ≤ MOST_COPIES) × (MOST_STATE_NODES < nodes_in_all state)
+    × (number ≡ nodes_in_all state))
 
 -- The first of the atoms that is not fit exceeds a limit by a number.
-pub record IsFirstUnfit (exceeds : AtomTree → ℕ → Type 0) (atoms : List AtomTree) (number : ℕ) : Type 0 where
+pub record IsFirstUnfit (exceeds : AtomTree → ℕ → Type 0) (atoms : List AtomTree) (number : ℕ)
+    : Type 0 where
   pub place : ℕ
   pub atom : AtomTree
   pub there : slice_get atoms place ≡ Some atom

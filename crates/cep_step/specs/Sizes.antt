@@ -30,7 +30,10 @@ abbrev mutual
   pub size_among : List Size → Trees → Size
   size_among sizes none = record { nodes = 0; depth = 0 }
   size_among sizes (more t rest) =
-      record { nodes = capped ((size_by sizes t).nodes + (size_among sizes rest).nodes); depth = max (size_by sizes t).depth (size_among sizes rest).depth }
+      record {
+        nodes = capped ((size_by sizes t).nodes + (size_among sizes rest).nodes);
+        depth = max (size_by sizes t).depth (size_among sizes rest).depth;
+      }
 
 -- An atom is too large by a number, as far as this is counted.
 abbrev pub IsBeyond : AtomTree → ℕ → Type 0

@@ -4,8 +4,8 @@ ghost use Rattle.cep_rule.specs.State.{Fits};
 
 use cep_term::{Bag, nodes};
 
-/// How many nodes a state that fits has, each copy counted. It takes no memory.
-pub fn nodes_in_state(state: &Bag) -> u64
+// How many nodes a state that fits has, each copy counted. It takes no memory.
+pub(crate) fn nodes_in_state(state: &Bag) -> u64
     requires { Fits state.now }
     ensures { result ≡ nodes_in_all state.now }
 {

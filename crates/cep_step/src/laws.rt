@@ -7,7 +7,8 @@ use cep_rule::laws::{
 };
 use cep_term::laws::bags_are_lawful;
 
-// What instances of rules are, that edits are steps and what they gain, and that steps lead to states.
+// What instances of rules are, that edits are steps and what they gain, and that steps lead to
+// states.
 pub(crate) fn steps_are_lawful()
     ensures { StepLaws }
 {

@@ -13,10 +13,11 @@ mod limit;
 mod measured;
 mod sides;
 mod size;
+mod spot;
 mod weighing;
 
 pub use change::Change;
-pub use counting::nodes_in_state;
 pub use fitting::fit_instance;
 pub use limit::Limit;
-pub use weighing::{Weighed, weigh};
+pub use spot::Spot;
+pub use weighing::Weighed;

@@ -1,5 +1,5 @@
-/// A limit that a step can pass: that of the atoms that it makes, or that of the state after it. Both
-/// are this profile's.
+/// A limit that a step can pass: that of the atoms that it makes, or that of the state after it.
+/// Both are this profile's.
 #[derive(Clone, Copy, Debug, PartialEq, Eq)]
 pub enum Limit {
     Atom,

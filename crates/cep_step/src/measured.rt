@@ -8,8 +8,8 @@ use cep_rule::Terms;
 use cep_term::Atom;
 use std::alloc::{AllocError, Global};
 
-// The values of a rule's variables with their sizes, so that a value is measured once, however often
-// its variable occurs.
+// The values of a rule's variables with their sizes, so that a value is measured once, however
+// often its variable occurs.
 #[derive(Drop)]
 pub(crate) struct Measured<'a> {
     pub(crate) values: &'a Terms,
@@ -28,8 +28,10 @@ impl<'a> Measured<'a> {
 
     // The size of the atom's instance by these values.
     pub(crate) fn size(&self, atom: &Atom) -> Size
-        ensures nodes { result.nodes ≡ capped (atom_nodes (full_instance self.now.values.now (atom_of atom.now))) }
-        ensures depth { result.depth ≡ capped (atom_depth (full_instance self.now.values.now (atom_of atom.now))) }
+        ensures nodes { result.nodes
+            ≡ capped (atom_nodes (full_instance self.now.values.now (atom_of atom.now))) }
+        ensures depth { result.depth
+            ≡ capped (atom_depth (full_instance self.now.values.now (atom_of atom.now))) }
     {
         args_size(&atom.args, &self.sizes).under_one()
     }

@@ -59,7 +59,8 @@ fn push_kept(
     atoms: &mut AtomList,
 ) -> Result<(), AllocError>
     requires { AllByRecursion (IsAtomInRange (length values.now)) (needed_of rule.now) }
-    ensures { OnOk result (atoms.new ≡ atoms.old ++ full_instances values.now (without (is_fact signature.now) (kept_of signature.now rule.now))) }
+    ensures { OnOk result (atoms.new ≡ atoms.old
+        ++ full_instances values.now (without (is_fact signature.now) (kept_of signature.now rule.now))) }
 {
     for i in 0..rule.premises.len() {
         let premise = rule.premises.get(i);
@@ -78,7 +79,8 @@ fn is_linear(signature: &Signature, premise: &Premise) -> bool
 
 // Whether the premise is linear and kept.
 fn is_linear_kept(signature: &Signature, premise: &Premise) -> bool
-    ensures { result ≡ (premise.now.kept && not (is_fact signature.now (atom_of premise.now.atom))) }
+    ensures { result
+        ≡ (premise.now.kept && not (is_fact signature.now (atom_of premise.now.atom))) }
 {
     premise.kept && is_linear(signature, premise)
 }
@@ -92,7 +94,8 @@ fn push_if(
     atoms: &mut AtomList,
 ) -> Result<(), AllocError>
     requires { IsAtomInRange (length values.now) (atom_of atom.now) }
-    ensures { OnOk result (atoms.new ≡ atoms.old ++ full_instances values.now (if wanted then atom_of atom.now ∷ [] else [])) }
+    ensures { OnOk result (atoms.new ≡ atoms.old
+        ++ full_instances values.now (if wanted then atom_of atom.now ∷ [] else [])) }
 {
     if wanted {
         push_instance(alloc, atom, values, atoms)?;
@@ -108,7 +111,8 @@ fn push_instance(
     atoms: &mut AtomList,
 ) -> Result<(), AllocError>
     requires { IsAtomInRange (length values.now) (atom_of atom.now) }
-    ensures { OnOk result (atoms.new ≡ atoms.old ++ full_instance values.now (atom_of atom.now) ∷ []) }
+    ensures { OnOk result (atoms.new ≡ atoms.old
+        ++ full_instance values.now (atom_of atom.now) ∷ []) }
 {
     atoms.push(instance(alloc, atom, values)?)
 }

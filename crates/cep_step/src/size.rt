@@ -29,7 +29,8 @@ impl Size {
     // The number by which an atom of this size is not fit, if it is not.
     pub(crate) fn excess(self) -> Option<u64>
         ensures { MatchOption result ((self.nodes ≤ MOST_NODES) × (self.depth ≤ MOST_DEPTH))
-            (λ number. ((MOST_NODES < self.nodes) × (number ≡ self.nodes)) ⊎ ((self.nodes ≤ MOST_NODES) × (MOST_DEPTH < self.depth) × (number ≡ self.depth))) }
+            (λ number. ((MOST_NODES < self.nodes) × (number ≡ self.nodes))
+            ⊎ ((self.nodes ≤ MOST_NODES) × (MOST_DEPTH < self.depth) × (number ≡ self.depth))) }
     {
         if self.nodes > MOST_NODES {
             Some(self.nodes)

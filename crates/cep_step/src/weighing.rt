@@ -4,8 +4,8 @@ ghost use Rattle.cep_base.specs.declared.limits.TheConstants.{MOST_NODES, MOST_P
 ghost use Rattle.std.specs.List.{AllByRecursion};
 ghost use Rattle.cep_term.specs.Tree.{atom_nodes, IsFit};
 ghost use Rattle.cep_term.specs.Multiset.{gathered, sum_of, difference_of, nodes_in_all};
-ghost use Rattle.cep_step.specs.Changes.{CanStep, IsWeighed};
-ghost use Rattle.cep_step.specs.Weighing.{CanWeigh, IsWeight};
+ghost use Rattle.cep_step.specs.Changes.{IsWeighed};
+ghost use Rattle.cep_step.specs.Weighing.{IsReady, CanWeigh, IsWeight};
 
 use crate::change::Change;
 use crate::fitting::first_too_large;
@@ -14,7 +14,7 @@ use crate::limit::Limit;
 use crate::measured::Measured;
 use crate::sides::{added_atoms, taken_atoms};
 use cep_base::limits::{MOST_COPIES, MOST_STATE_NODES};
-use cep_rule::{AtomList, Rule, Signature, Terms, gained};
+use cep_rule::{AtomList, Parts, Rule, Terms, gained};
 use cep_term::laws::bags_are_lawful;
 use cep_term::{Bag, nodes};
 use std::alloc::{AllocError, Global};
@@ -23,10 +23,10 @@ use std::alloc::{AllocError, Global};
 /// profile's.
 #[derive(Drop)]
 pub enum Weighed {
-    /// The step passes the limit, and this is the number that passes it. Of the first right atom that
-    /// is not fit it is the nodes, or, where these are within their limit, the levels; nodes are
-    /// counted up to 2^64 - 1. Of a state after the step that does not fit it is the copies, or, where
-    /// these are within their limit, the nodes.
+    /// The step passes the limit, and this is the number that passes it. Of the first right atom
+    /// that is not fit it is the nodes, or, where these are within their limit, the levels; nodes
+    /// are counted up to 2^64 - 1. Of a state after the step that does not fit it is the copies,
+    /// or, where these are within their limit, the nodes.
     Passes(Limit, u64),
     /// The step is within the limits, and does this.
     Within(Change),
@@ -39,21 +39,24 @@ enum Weight {
     Fits(u64),
 }
 
-/// Weighs a step by the rule with these values from the state, which has so many nodes. Only want of
-/// memory is refused.
-pub fn weigh(
+// Weighs a step by the rule with these values from a stage and a state that has so many nodes.
+pub(crate) fn weigh(
     alloc: Global,
-    signature: &Signature,
+    parts: &Parts,
     rule: &Rule,
     values: &Terms,
+    stage: u32,
     state: &Bag,
     nodes: u64,
 ) -> Result<Weighed, AllocError>
-    requires can { CanStep signature.now rule.now values.now state.now }
+    requires ready { IsReady parts.now rule.now values.now
+        (record { stage = stage; state = state.now }) }
     requires nodes { nodes ≡ nodes_in_all state.now }
-    ensures { IfOk result (IsWeighed signature.now rule.now values.now state.now) }
+    ensures { IfOk result (IsWeighed parts.now rule.now values.now
+        (record { stage = stage; state = state.now })) }
 {
     steps_are_lawful();
+    let signature = &parts.signature;
     let measured = Measured::new(alloc, values)?;
     if let Some(number) = first_too_large(&rule.right, &measured) {
         return Ok(Weighed::Passes(Limit::Atom, number));
@@ -68,6 +71,7 @@ pub fn weigh(
             added,
             gains,
             nodes,
+            stage: rule.next.unwrap_or(stage),
         })),
     }
 }
@@ -76,7 +80,8 @@ pub fn weigh(
 fn weigh_edit(state: &Bag, nodes: u64, taken: &AtomList, gains: &AtomList) -> Weight
     requires can { CanWeigh state.now taken.now gains.now }
     requires nodes { nodes ≡ nodes_in_all state.now }
-    ensures { IsWeight (sum_of (difference_of state.now (gathered taken.now)) (gathered gains.now)) result }
+    ensures { IsWeight
+        (sum_of (difference_of state.now (gathered taken.now)) (gathered gains.now)) result }
 {
     bags_are_lawful();
     let copies = state.copies() - taken.len() as u64 + gains.len() as u64;

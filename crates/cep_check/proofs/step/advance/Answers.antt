@@ -1,7 +1,7 @@
 use Rattle.std.proofs.Common.{◌≡◌, rules}
 use Rattle.std.specs.Prelude.{slice_get, Some}
 use Rattle.std.proofs.lemmas.Result.{IfOk-weaker}
-use Rattle.cep_check.proofs.Options.{in_either}
+use Rattle.cep_check.proofs.Options.{of_either}
 use Rattle.cep_check.proofs.Steps.{ready}
 use Rattle.cep_check.proofs.step.advance.Goals as goal
 
@@ -18,14 +18,14 @@ change-requires-clause-ready g c =
     let numbered : slice_get c.args.program.now.rules c.args.step.now.offer.rule ≡ Some c.get-rule.result.now = search rules in
     ready c.args.program.now c.get-rule.result.now c.args.step.now c.parts.ensures.kept c.requires.of_program numbered
 
-pub returns-in-Some-clause-cause : goal.returns-in-Some-clause-cause
-returns-in-Some-clause-cause g c =
+pub returns-in-Some-clause-done : goal.returns-in-Some-clause-done
+returns-in-Some-clause-done g c =
     let numbered : slice_get c.args.program.now.rules c.args.step.now.offer.rule ≡ Some c.get-rule.result.now = search rules in
     (c.get-rule.result.now, numbered, rw c.in-Some.is at c.in_ok-cause.ensures.cause)
 
-pub returns-in-None-clause-cause : goal.returns-in-None-clause-cause
-returns-in-None-clause-cause g c =
+pub returns-in-None-clause-done : goal.returns-in-None-clause-done
+returns-in-None-clause-done g c =
     let numbered : slice_get c.args.program.now.rules c.args.step.now.offer.rule ≡ Some c.get-rule.result.now = search rules in
     IfOk-weaker c.change.result _ _
-    (λ cause is. in_either (λ done. done) (λ one comes. (c.get-rule.result.now, numbered, comes)) cause is)
-    c.change.ensures.cause
+    (λ done is. of_either (λ new legal. legal) (λ cause comes. (c.get-rule.result.now, numbered, comes)) done is)
+    c.change.ensures

@@ -86,7 +86,7 @@ tell_deed-requires-clause-proofs g c =
 
 pub tell_deed-requires-clause-state : goal.tell_deed-requires-clause-state
 tell_deed-requires-clause-state g c =
-    (subst (λ s. IsConfigurationOf g.M.Matcher.is_of c.args.program.now (config_after s)) c.in-Done.is c.in_ok-config.ensures.of_program).is_state
+    (subst (λ s. IsConfigurationOf g.M.Matcher.is_of c.args.program.now (config_after s)) c.in-Done.is c.in_ok-config.ensures.of_program).spot.is_state
 
 pub returns-in_err-offer-clause-begun : goal.returns-in_err-offer-clause-begun
 returns-in_err-offer-clause-begun g c = on_err c.from_residual.result _ (did_map g.C.Console.talk g.C.Console.left c.args.console.now c.args.console.now _ _ (λ come events rest same. inl same) (did_same g.C.Console.talk g.C.Console.left c.args.console.now c.args.console.now refl refl))

@@ -84,7 +84,7 @@ returns-in_err-place-clause-begun g c =
     (g.met.M.Matcher.exact c.args.program.now c.args.config.matcher c.requires.played.of_program.matcher) c.matcher.ensures.same_state c.matcher.ensures.listed c.in-Some.ensures.listed (c.in-Some.ensures.asked c.args.program.now c.requires.played.of_program) _ c.in-Some.ensures.offers
     c.requires.remain g.C.Console.talk g.C.Console.left c.args.console.now c.args.spent.now c.decide.new.console c.decide.new.spent c.matcher.result.now c.matcher.ensures.matcher
     (c.len_ok.ensures.0 c.if-not-len_ok.false)
-    c.runs_go_on.ensures.questions c.parts.ensures.kept c.requires.played.of_program.is_state c.in_err-place.ensures.begun)
+    c.runs_go_on.ensures.questions c.parts.ensures.kept c.requires.played.of_program.spot.is_state c.in_err-place.ensures.begun)
 
 pub returns-in-Place-clause-begun : goal.returns-in-Place-clause-begun
 returns-in-Place-clause-begun g c =
@@ -93,5 +93,5 @@ returns-in-Place-clause-begun g c =
     (g.met.M.Matcher.exact c.args.program.now c.args.config.matcher c.requires.played.of_program.matcher) c.matcher.ensures.same_state c.matcher.ensures.listed c.in-Some.ensures.listed (c.in-Some.ensures.asked c.args.program.now c.requires.played.of_program) _ c.in-Some.ensures.offers
     c.requires.remain g.C.Console.talk g.C.Console.left c.args.console.now c.args.spent.now c.decide.new.console c.decide.new.spent c.matcher.result.now c.matcher.ensures.matcher
     (c.len_ok.ensures.0 c.if-not-len_ok.false)
-    c.runs_go_on.ensures.questions c.parts.ensures.kept c.requires.played.of_program.is_state c.runs_go_on.ensures.turns (c.in-Place.place - 1) _ (next_place c.in-Place.place _ c.in-Place.is _ c.in_ok-place.ensures.place) c.in_ok-place.ensures.settled c.act.new.console)
+    c.runs_go_on.ensures.questions c.parts.ensures.kept c.requires.played.of_program.spot.is_state c.runs_go_on.ensures.turns (c.in-Place.place - 1) _ (next_place c.in-Place.place _ c.in-Place.is _ c.in_ok-place.ensures.place) c.in_ok-place.ensures.settled c.act.new.console)
     c.act.ensures.begun

@@ -2,6 +2,7 @@ use Rattle.std.proofs.Common.{List, refl, subst, arith}
 use Rattle.std.specs.List.{AllByRecursion}
 use Rattle.cep_term.specs.Tree.{Tree, IsFit}
 use Rattle.cep_rule.specs.Instances.{full_instances}
+use Rattle.cep_rule.specs.Steps.{Spot}
 use Rattle.cep_step.specs.Passing.{IsFirstUnfit}
 use Rattle.cep_step.specs.Sizes.{IsBeyond}
 use Rattle.cep_step.proofs.Weights.{not_all_fit}
@@ -11,29 +12,33 @@ use Rattle.cep_step.proofs.weighing.weigh.Goals as goal
 
 pub returns-in-Some : goal.returns-in-Some
 returns-in-Some c =
+    let spot : Spot = record { stage = c.args.stage; state = c.args.state.now } in
     let first = subst (λ (values : List Tree). IsFirstUnfit IsBeyond (full_instances values c.args.rule.now.right) c.in-Some.number) c.in_ok-measured.ensures c.in-Some.ensures in (
       not_all_fit (full_instances c.args.values.now c.args.rule.now.right) c.in-Some.number first,
-      λ small. exact_number c.steps_are_lawful.ensures c.args.signature.now c.args.rule.now c.args.values.now c.args.state.now c.requires.can c.in-Some.number first (small refl),
+      λ small. exact_number c.steps_are_lawful.ensures c.args.parts.now c.args.rule.now c.args.values.now spot c.requires.ready c.in-Some.number first (small refl),
     )
 
 pub weigh_edit-requires-clause-can : goal.weigh_edit-requires-clause-can
 weigh_edit-requires-clause-can c =
-    can_weigh c.steps_are_lawful.ensures c.args.signature.now c.args.rule.now c.args.values.now c.args.state.now c.requires.can c.in_ok-taken.taken c.in_ok-added.added c.in_ok-gains.gains c.in_ok-taken.ensures c.in_ok-added.ensures c.in_ok-gains.ensures
+    let spot : Spot = record { stage = c.args.stage; state = c.args.state.now } in
+    can_weigh c.steps_are_lawful.ensures c.args.parts.now c.args.rule.now c.args.values.now spot c.requires.ready c.in_ok-taken.taken c.in_ok-added.added c.in_ok-gains.gains c.in_ok-taken.ensures c.in_ok-added.ensures c.in_ok-gains.ensures
     (subst (λ (values : List Tree). AllByRecursion IsFit (full_instances values c.args.rule.now.right)) c.in_ok-measured.ensures c.in_default.ensures)
 
 pub of-requires-clause-few : goal.of-requires-clause-few
 of-requires-clause-few c =
-    let few = taken_few c.steps_are_lawful.ensures c.args.signature.now c.args.rule.now c.args.values.now c.args.state.now c.requires.can c.in_ok-taken.taken c.in_ok-taken.ensures in
-    omega arith
+    let spot : Spot = record { stage = c.args.stage; state = c.args.state.now } in
+    omega (arith, taken_few c.steps_are_lawful.ensures c.args.parts.now c.args.rule.now c.args.values.now spot c.requires.ready c.in_ok-taken.taken c.in_ok-taken.ensures)
 
 pub returns-in-TooFull : goal.returns-in-TooFull
 returns-in-TooFull c =
-    too_full c.steps_are_lawful.ensures c.args.signature.now c.args.rule.now c.args.values.now c.args.state.now c.requires.can c.in_ok-taken.taken c.in_ok-added.added c.in_ok-gains.gains c.in_ok-taken.ensures c.in_ok-added.ensures c.in_ok-gains.ensures
+    let spot : Spot = record { stage = c.args.stage; state = c.args.state.now } in
+    too_full c.steps_are_lawful.ensures c.args.parts.now c.args.rule.now c.args.values.now spot c.requires.ready c.in_ok-taken.taken c.in_ok-added.added c.in_ok-gains.gains c.in_ok-taken.ensures c.in_ok-added.ensures c.in_ok-gains.ensures
     (subst (λ (values : List Tree). AllByRecursion IsFit (full_instances values c.args.rule.now.right)) c.in_ok-measured.ensures c.in_default.ensures)
     c.in-TooFull.number c.in-TooFull.ensures
 
 pub returns : goal.returns
 returns c =
-    within c.steps_are_lawful.ensures c.args.signature.now c.args.rule.now c.args.values.now c.args.state.now c.requires.can c.in_ok-taken.taken c.in_ok-added.added c.in_ok-gains.gains c.in_ok-taken.ensures c.in_ok-added.ensures c.in_ok-gains.ensures
+    let spot : Spot = record { stage = c.args.stage; state = c.args.state.now } in
+    within c.steps_are_lawful.ensures c.args.parts.now c.args.rule.now c.args.values.now spot c.requires.ready c.in_ok-taken.taken c.in_ok-added.added c.in_ok-gains.gains c.in_ok-taken.ensures c.in_ok-added.ensures c.in_ok-gains.ensures
     (subst (λ (values : List Tree). AllByRecursion IsFit (full_instances values c.args.rule.now.right)) c.in_ok-measured.ensures c.in_default.ensures)
-    c.in_ok-of-in-Fits.field-0 c.in-Fits.nodes c.in_ok-of-in-Fits.ensures c.in-Fits.ensures
+    c.in_ok-of-in-Fits.field-0 c.in-Fits.nodes c.unwrap_or.result c.in_ok-of-in-Fits.ensures c.unwrap_or.ensures c.in-Fits.ensures

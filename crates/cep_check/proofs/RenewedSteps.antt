@@ -1,0 +1,230 @@
+-- The steps of a legal log are renewed one after another.
+use Rattle.std.proofs.Common.{◌≡◌, ℕ, zero, suc, ◌+◌, ◌<◌, ◌≤◌, cond, List, [], ◌∷◌, ◌++◌, length, length-append, drop, append_assoc, append-nil, Bool, true, false, Option, Some, None, refl, sym, ap, ◌∙◌, subst, arith, add-one}
+use Rattle.std.specs.Prelude.{slice_get, is_some, IfSome, IsSomeAnd}
+use Rattle.std.specs.List.{AllByRecursion, flat_map}
+use Rattle.std.specs.FinMap as finite
+use Rattle.std.proofs.lemmas.Grind.{flat_map-append}
+use Rattle.cep_base.specs.declared.limits.TheConstants.{MOST_LOG}
+use Rattle.cep_base.proofs.Lists.{none_some, some_same, holds_at}
+use Rattle.cep_term.specs.Tree.{AtomTree}
+use Rattle.cep_term.specs.Multiset.{Multiset}
+use Rattle.cep_rule.specs.declared.rule.Rule.{Rule}
+use Rattle.cep_rule.specs.declared.parts.Parts.{Parts}
+use Rattle.cep_rule.specs.Typing.{AreValues}
+use Rattle.cep_rule.specs.State.{IsState, Fits}
+use Rattle.cep_step.specs.declared.limit.Limit.{Limit}
+use Rattle.cep_step.specs.declared.limit.Limit.TheVariants.{Atom, State}
+use Rattle.cep_step.specs.Passing.{Passes}
+use Rattle.cep_step.specs.Spots.{IsSpotOf}
+use Rattle.cep_rule.specs.Instances.{full_instances}
+use Rattle.cep_rule.specs.Derivations.{ProofTree}
+use Rattle.cep_rule.specs.Shapes.{IsProofOf}
+use Rattle.cep_rule.specs.Step.{Step}
+use Rattle.cep_rule.specs.Steps.{Spot, StepsTo, AreProofs}
+use Rattle.cep_rule.specs.Program.{IsTypedRule, IsDividedRule, IsProgram}
+use Rattle.cep_lines.specs.declared.version.Version.TheVariants.{Two}
+use Rattle.cep_lines.specs.Lines.{line, has_listing}
+use Rattle.cep_log.specs.declared.log.Log.{Log}
+use Rattle.cep_log.specs.declared.log.LogStep.{LogStep}
+use Rattle.cep_log.specs.Legal.{IsListing, IsStepOf, IsLegalStep, AreLegalSteps, start_spot, IsLegalEnd, IsLegal}
+use Rattle.cep_log.specs.Written.{step_texts, steps_texts}
+use Rattle.cep_check.specs.RenewLaws.{RenewLaws}
+use Rattle.cep_check.specs.Renewing.{CanBePut, CanBeDone, LeadsTo, PassesAt, renewed_lines, AreRenewedLines, AreAllRenewed, AreRenewedOrLong}
+use Rattle.cep_check.proofs.RenewedBytes.{listed, due_mid, step_written}
+
+-- Places
+
+left_one : {A : Type 0} (xs : List A) (i : ℕ) (x : A) → slice_get xs i ≡ Some x → drop i xs ≡ x ∷ drop (suc i) xs
+left_one [] i x at = none_some x at
+left_one (first ∷ xs) zero x at = ap (λ it. it ∷ xs) (some_same first x at)
+left_one (first ∷ xs) (suc i) x at = left_one xs i x at
+
+-- what is left from a place on is what is there, and all behind it
+pub left_at : {A : Type 0} (xs : List A) (i : ℕ) (x : A) → slice_get xs i ≡ Some x → drop i xs ≡ x ∷ drop (i + 1) xs
+left_at xs i x at = left_one xs i x at ∙ ap (λ n. x ∷ drop n xs) (sym (add-one i))
+
+-- nothing is left from the end on
+pub none_left : {A : Type 0} (xs : List A) (i : ℕ) → length xs ≤ i → drop i xs ≡ []
+none_left [] zero all = refl
+none_left [] (suc i) all = refl
+none_left (x ∷ xs) zero all = absurd (omega arith)
+none_left (x ∷ xs) (suc i) all = none_left xs i (omega arith)
+
+module _ (laws : RenewLaws) (program : Parts) (is : IsProgram program) (height : ℕ) where
+  -- Single steps
+
+  all_of_shape : (proofs : List ProofTree) (atoms : List AtomTree) → AreProofs program height proofs atoms → AllByRecursion (IsProofOf program) proofs
+  all_of_shape [] atoms are = tt
+  all_of_shape (proof ∷ proofs) [] are = absurd are
+  all_of_shape (proof ∷ proofs) (a ∷ atoms) are = (laws.shapes program proof a are.0, all_of_shape proofs atoms are.2)
+
+  -- a legal step can be put
+  pub legal_put : (old new : Spot) (step : LogStep) → IsStepOf program step → IsLegalStep program height old new step → CanBePut program step
+  legal_put old new step of legal = record {
+    offer = subst (λ (found : Option Rule). IsSomeAnd found (λ rule. AreValues program.signature.cons rule.kinds step.offer.values)) (sym legal.machine.numbered) legal.machine.values;
+    proofs = all_of_shape step.proofs (full_instances step.offer.values legal.rule.backs) legal.machine.proved;
+    stage = of.in_range;
+  }
+
+  -- and can be done
+  legal_can : (old new : Spot) (step : LogStep) → IsLegalStep program height old new step → CanBeDone program step old
+  legal_can old new step legal = record {
+    rule = legal.rule;
+    numbered = legal.machine.numbered;
+    can = record {
+      number = step.offer.rule;
+      numbered = legal.machine.numbered;
+      are = legal.machine.values;
+      contained = laws.needs program.signature legal.rule step.offer.values old.state new.state legal.machine.steps.step;
+    };
+  }
+
+  -- and passes no limit
+  legal_fits : (old new : Spot) (step : LogStep) (limit : Limit) → IsLegalStep program height old new step → PassesAt program step old.state limit → ⊥
+  legal_fits old new step limit legal passes = by limit (subst (λ (rule : Rule). Passes program.signature rule step.offer.values old.state limit) (cc (legal.machine.numbered, passes.numbered)) passes.over) where
+    by : (limit : Limit) → Passes program.signature legal.rule step.offer.values old.state limit → ⊥
+    by Atom over = over legal.machine.steps.fit
+    by State over = over.1.2 (subst Fits (laws.one_state program.signature legal.rule step.offer.values old.state new.state over.1.0 legal.machine.steps.step over.1.1) legal.machine.steps.fits)
+
+  -- it leads to one spot
+  legal_leads : (old one other : Spot) (step : LogStep) → IsLegalStep program height old one step → LeadsTo program step old other → one ≡ other
+  legal_leads old one other step legal leads =
+      let rule : legal.rule ≡ leads.rule = cc (legal.machine.numbered, leads.numbered) in
+      let steps = subst (λ (rule : Rule). StepsTo program rule step.offer.values old one) rule legal.machine.steps in
+      let state = laws.one_state program.signature leads.rule step.offer.values old.state one.state other.state steps.step leads.steps.step in
+      let stage = steps.stage ∙ sym leads.steps.stage in
+      λ i. record { stage = stage i; state = state i }
+
+  state_after : (old new : Spot) (step : LogStep) → IsState program.signature old.state → IsLegalStep program height old new step → IsState program.signature new.state
+  state_after old new step before legal =
+      let machine = legal.machine in
+      let rule = legal.rule in
+      laws.lead program.signature rule step.offer.values old.state new.state (holds_at (IsTypedRule program.signature) program.rules step.offer.rule rule is.typed_rules machine.numbered)
+      (holds_at (IsDividedRule program.signature) program.rules step.offer.rule rule is.divided_rules machine.numbered) machine.values before machine.steps.fit machine.steps.step
+
+  -- Listings
+
+  due_holds : (P : List (AtomTree × ℕ) → Type 0) (number : ℕ) (state : Multiset) → P (finite.entries state) → IfSome (due_mid number state) (λ mid. P mid.state)
+  due_holds P number state holds = cases (has_listing Two number) where
+    cases : (is : Bool) → IfSome (cond is (Some (listed state)) None) (λ mid. P mid.state)
+    cases true = holds
+    cases false = tt
+
+  due_wanted : (number : ℕ) (state : Multiset) → is_some (due_mid number state) ≡ has_listing Two number
+  due_wanted number state = cases (has_listing Two number) where
+    cases : (is : Bool) → is_some (cond is (Some (listed state)) None) ≡ is
+    cases true = refl
+    cases false = refl
+
+  -- Steps
+
+  -- one step more in front
+  lines_more : (number : ℕ) (step : LogStep) (steps : List LogStep) (old new last : Spot) → IsStepOf program step → IsLegalStep program height old new step → IsState program.signature new.state
+      → (rest : List ℕ) → AreRenewedLines program height (number + 1) steps new last rest → AreRenewedLines program height number (step ∷ steps) old last (renewed_lines program number step new.state ++ rest)
+  lines_more number step steps old new last of legal after rest are =
+      let mid = due_mid number new.state in
+      let renewed : LogStep = record step { mid = mid } in
+      record {
+        new = renewed ∷ are.new;
+        does = (record { offer = refl; proofs = refl; stage = refl }, are.does);
+        of_program = (
+          record {
+            rule = of.rule;
+            numbered = of.numbered;
+            values = of.values;
+            as_many = of.as_many;
+            low = of.low;
+            stage = of.stage;
+            in_range = of.in_range;
+            listing = due_holds (IsListing program.signature) number new.state (laws.listing program.signature new.state after legal.machine.steps.fits);
+          },
+          are.of_program,
+        );
+        listed = (due_wanted number new.state, are.listed);
+        legal = (new, record { rule = legal.rule; machine = legal.machine; stage = legal.stage; mid = due_holds (λ entries. entries ≡ finite.entries new.state) number new.state refl }, are.legal);
+        written = ap (λ front. front ++ rest) (step_written program number step new.state) ∙ ap (λ behind. flat_map line (step_texts program number renewed) ++ behind) are.written
+            ∙ sym (flat_map-append line (step_texts program number renewed) (steps_texts program (number + 1) are.new));
+      }
+
+  -- all legal steps have lines
+  lines_there : (number : ℕ) (steps : List LogStep) (old last : Spot) → IsState program.signature old.state → AllByRecursion (IsStepOf program) steps → AreLegalSteps program height steps old last
+      → (bytes : List ℕ) × AreRenewedLines program height number steps old last bytes
+  lines_there number [] old last before of legal = ([], record { new = []; does = tt; of_program = tt; listed = tt; legal = legal; written = refl })
+  lines_there number (step ∷ steps) old last before of legal =
+      let after = state_after old legal.0 step before legal.1 in
+      let later = lines_there (number + 1) steps legal.0 last after of.1 legal.2 in
+      (renewed_lines program number step legal.0.state ++ later.0, lines_more number step steps old legal.0 last of.0 legal.1 after later.0 later.1)
+
+-- A log is being renewed after a text: these steps are left, of which the first has this number; they are legal from this spot on; and whatever their lines are, with those so far they are the lines of all steps.
+pub record IsRenewingAt (program : Parts) (log : Log) (number : ℕ) (left : List LogStep) (before text : List ℕ) (spot : Spot) : Type 0 where
+  pub here : IsSpotOf program spot
+  pub last : Spot
+  pub of_program : AllByRecursion (IsStepOf program) left
+  pub legal : AreLegalSteps program log.height left spot last
+  pub ending : IsSomeAnd log.end (IsLegalEnd program log.height last)
+  pub whole : (rest : List ℕ) → AreRenewedLines program log.height number left spot last rest
+      → (bytes : List ℕ) × AreRenewedLines program log.height 1 log.steps (start_spot program) last bytes × (before ++ bytes ≡ text ++ rest)
+
+module _ (laws : RenewLaws) (program : Parts) (is : IsProgram program) (log : Log) where
+  -- Nothing is renewed yet.
+  pub renewing_begins : (before : List ℕ) (spot : Spot) → IsLegal program log → spot ≡ start_spot program → IsSpotOf program spot → IsRenewingAt program log 1 log.steps before before spot
+  renewing_begins before spot legal starts here = record {
+    here = here;
+    last = legal.last;
+    of_program = legal.of_program.steps;
+    legal = rw starts legal.steps;
+    ending = legal.ending;
+    whole = λ rest are. (rest, subst (λ (at : Spot). AreRenewedLines program log.height 1 log.steps at legal.last rest) starts are, refl);
+  }
+
+  module _ (number : ℕ) (before text : List ℕ) (spot : Spot) where
+    module _ (steps : List LogStep) (i : ℕ) (step : LogStep) (there : slice_get steps i ≡ Some step) (at : IsRenewingAt program log number (drop i steps) before text spot) where
+      -- The step at a place is the first of those that are left.
+      next : IsRenewingAt program log number (step ∷ drop (i + 1) steps) before text spot
+      next = subst (λ (left : List LogStep). IsRenewingAt program log number left before text spot) (left_at steps i step there) at
+
+      -- It can be put, and done, and passes no limit.
+      pub next_put : CanBePut program step
+      next_put = legal_put laws program is log.height spot next.legal.0 step next.of_program.0 next.legal.1
+
+      pub next_can : CanBeDone program step spot
+      next_can = legal_can laws program is log.height spot next.legal.0 step next.legal.1
+
+      pub next_fits : (limit : Limit) → PassesAt program step spot.state limit → ⊥
+      next_fits limit passes = legal_fits laws program is log.height spot next.legal.0 step limit next.legal.1 passes
+
+      -- One step more is renewed.
+      pub renewing_goes_on : (new : Spot) (longer : List ℕ) → LeadsTo program step spot new × IsSpotOf program new × (longer ≡ text ++ renewed_lines program number step new.state)
+          → IsRenewingAt program log (number + 1) (drop (i + 1) steps) before longer new
+      unfolding next
+      renewing_goes_on new longer done =
+          let same : next.legal.0 ≡ new = legal_leads laws program is log.height spot next.legal.0 new step next.legal.1 done.0 in
+          let legal = subst (λ (at : Spot). IsLegalStep program log.height spot at step) same next.legal.1 in
+          let lines = renewed_lines program number step new.state in
+          record {
+            here = done.1;
+            last = next.last;
+            of_program = next.of_program.1;
+            legal = subst (λ (at : Spot). AreLegalSteps program log.height (drop (i + 1) steps) at next.last) same next.legal.2;
+            ending = next.ending;
+            whole = λ rest are.
+                let more = next.whole (lines ++ rest) (lines_more laws program is log.height number step (drop (i + 1) steps) spot new next.last next.of_program.0 legal done.1.is_state rest are) in
+                (more.0, more.1, more.2 ∙ sym (append_assoc text lines rest) ∙ ap (λ front. front ++ rest) (sym done.2));
+          }
+
+    -- All steps are renewed.
+    pub renewing_ends : (left : List LogStep) → left ≡ [] → IsRenewingAt program log number left before text spot → AreRenewedOrLong program log before text (Some spot)
+    renewing_ends [] none at =
+        let more = at.whole [] (record { new = []; does = tt; of_program = tt; listed = tt; legal = at.legal; written = refl }) in
+        let same : at.last ≡ spot = at.legal in (
+          at.here,
+          (more.0, subst (λ (last : Spot). AreAllRenewed program log last more.0) same (record { ending = at.ending; lines = more.1 }), sym (more.2 ∙ append-nil text)),
+        )
+    renewing_ends (step ∷ left) none at = absurd cc
+
+    -- A text that is too long so far is too long with all steps.
+    pub renewing_too_long : (left : List LogStep) → IsRenewingAt program log number left before text spot → MOST_LOG < length text → AreRenewedOrLong program log before text None
+    renewing_too_long left at long =
+        let rest = lines_there laws program is log.height number left spot at.last at.here.is_state at.of_program at.legal in
+        let more = at.whole rest.0 rest.1 in
+        (at.last, more.0, record { ending = at.ending; lines = more.1 }, omega (arith, long, ap length more.2, length-append text rest.0))

@@ -1,4 +1,0 @@
-pub mod Bytes
-pub mod Steps
-pub mod Changes
-pub mod Logs

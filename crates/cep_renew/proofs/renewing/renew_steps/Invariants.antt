@@ -1,6 +1,0 @@
-use Rattle.std.proofs.Common.{◌+◌, drop}
-use Rattle.cep_renew.specs.Renewing.{IsRenewingAt}
-use Rattle.cep_renew.proofs.renewing.renew_steps.Given as goal
-
-abbrev pub invariant-loop-i : goal.invariant-loop-i
-invariant-loop-i l = IsRenewingAt l.program l.log (l.i + 1) (drop l.i l.log.steps) l.fn.walk.text l.walk

@@ -1,3 +1,0 @@
-pub mod Renewed
-pub mod Renewing
-pub mod RenewLaws
