@@ -202,7 +202,7 @@ class Strange(Folder):
         self.assertTrue(row["text"].startswith("ceptre 2\\x0dheight 128\\x0d"))
 
     def test_control_bytes(self):
-        self.assertEqual(self.row("a\x1b[2J\x07\u009b\0")["text"], "a\\x1b[2J\\x07\\x9b\\x00")
+        self.assertEqual(self.row("a\x1b[2J\x07\u009b\0")["text"], "a\\x1b[2J\\x07\\u009b\\x00")
 
     def test_the_height_is_that_of_its_line(self):
         self.assertEqual(self.row("ceptre 2\n=cmd()\n")["height"], "")
