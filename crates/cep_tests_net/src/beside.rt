@@ -76,7 +76,7 @@ pub fn turned<M: Matcher, L: Ledger>(
     }
     match config.step(alloc, program, place, steps)? {
         Stepped::Done(next) => Ok(next),
-        Stepped::Limit { .. } => Err(Fail::from("a limit")),
+        Stepped::Passes { .. } => Err(Fail::from("a limit")),
     }
 }
 

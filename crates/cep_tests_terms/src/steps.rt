@@ -60,7 +60,7 @@ fn done<M: Matcher>(stepped: Stepped<M>) -> Result<Config<M>, Fail>
 {
     match stepped {
         Stepped::Done(config) => Ok(config),
-        Stepped::Limit { .. } => Err(Fail::from("limit")),
+        Stepped::Passes { .. } => Err(Fail::from("limit")),
     }
 }
 
