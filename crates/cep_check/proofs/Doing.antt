@@ -1,25 +1,22 @@
 -- What a step of a log does to where the steps have led.
-use Rattle.std.proofs.Common.{◌≡◌, inl, inr, ⊎_elim, ℕ, List, length, sym, subst, arith}
+use Rattle.std.proofs.Common.{◌≡◌, inl, inr, ⊎_elim, ℕ, List, length, sym, subst}
 use Rattle.std.specs.List.{AllByRecursion}
 use Rattle.cep_base.proofs.Lists.{all_weaker, all_mapped}
-use Rattle.cep_term.specs.Tree.{Tree, AtomTree, IsGroundAtom, IsAtomInRange, atom_of}
-use Rattle.cep_term.specs.Multiset.{Multiset}
+use Rattle.cep_term.specs.Tree.{Tree, AtomTree, IsGroundAtom, IsAtomInRange}
 use Rattle.cep_rule.specs.declared.signature.Signature.{Signature}
 use Rattle.cep_rule.specs.declared.rule.Rule.{Rule}
 use Rattle.cep_rule.specs.declared.parts.Parts.{Parts}
 use Rattle.cep_rule.specs.Typing.{IsTyped, AreValues}
 use Rattle.cep_rule.specs.TypeLaws.{TypeLaws}
-use Rattle.cep_rule.specs.State.{IsState, Fits}
 use Rattle.cep_rule.specs.Instances.{full_instance, full_instances}
-use Rattle.cep_rule.specs.Step.{Step}
-use Rattle.cep_rule.specs.Steps.{Spot, stage_after}
+use Rattle.cep_rule.specs.Steps.{Spot}
 use Rattle.cep_log.specs.declared.log.LogStep.{LogStep}
 use Rattle.cep_step.specs.declared.change.Change.{Change}
 use Rattle.cep_step.specs.Changes.{edited, changed, IsChangeOf}
 use Rattle.cep_step.specs.Spots.{IsSpotOf}
 use Rattle.cep_check.specs.declared.cause.Cause.{Cause}
-use Rattle.cep_check.specs.declared.cause.Cause.TheVariants.{StartStage, StartState, OtherStage, NotContained, NotProved, TooHigh, NotQuiet, OverLimit, StageLine, MidState, NotEnded, EndState}
-use Rattle.cep_check.specs.Causes.{IsFirstDifference, IsInTurn, IsWithinLimits, IsStepCause}
+use Rattle.cep_check.specs.declared.cause.Cause.TheVariants.{StageLine, MidState}
+use Rattle.cep_check.specs.Causes.{IsInTurn, IsWithinLimits, IsStepCause}
 use Rattle.cep_check.specs.Walking.{IsStageCause, IsDoneStep, IsMidCause, IsReadyStep}
 
 -- the instances of typed atoms by values of the right types

@@ -19,7 +19,6 @@ use Rattle.cep_step.specs.Spots.{IsSpotOf}
 use Rattle.cep_rule.specs.Instances.{full_instances}
 use Rattle.cep_rule.specs.Derivations.{ProofTree}
 use Rattle.cep_rule.specs.Shapes.{IsProofOf}
-use Rattle.cep_rule.specs.Step.{Step}
 use Rattle.cep_rule.specs.Steps.{Spot, StepsTo, AreProofs}
 use Rattle.cep_rule.specs.Program.{IsTypedRule, IsDividedRule, IsProgram}
 use Rattle.cep_lines.specs.declared.version.Version.TheVariants.{Two}

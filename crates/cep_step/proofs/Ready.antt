@@ -46,7 +46,7 @@ all_passing P test values (premise ∷ premises) all =
 
 few_pass : {A : Type 0} (test : A → Bool) (xs : List A) → length (filter test xs) ≤ length xs
 few_pass test [] = omega arith
-few_pass {A} test (x ∷ xs) = let rest = few_pass test xs in elim (test x) as (λ t. length {A = A} (cond t (x ∷ filter test xs) (filter test xs)) ≤ length (x ∷ xs)) [ true ↦ omega arith | false ↦ omega arith ]
+few_pass test (x ∷ xs) = grind (arith, few_pass test xs)
 
 -- instances by small values have so few nodes that they can be counted
 few_nodes : (values : List Tree) → AllByRecursion IsSmallTerm values → (atoms : List AtomTree) → AllByRecursion IsSmallPattern atoms → AllByRecursion (λ a. atom_nodes a < 2 ^ 64) (full_instances values atoms)
@@ -90,19 +90,26 @@ module _ (laws : StepLaws) (program : Parts) (rule : Rule) (values : List Tree) 
 
   pub few_taken : length (taken_by program.signature rule values) ≤ MOST_PREMISES
   few_taken =
-      let most = is.small.premises in
-      let many = length-map (without (is_fact program.signature) (needed_of rule)) (full_instance values) in
-      let few = few_pass (λ a. not (is_fact program.signature a)) (needed_of rule) in
-      let all = length-map rule.premises (λ premise. premise.atom) in
-      omega arith
+      let linear : AtomTree → Bool = λ a. not (is_fact program.signature a) in
+      omega (
+        arith,
+        is.small.premises,
+        few_pass linear (needed_of rule),
+        length-map rule.premises (λ premise. premise.atom),
+        length-map (without (is_fact program.signature) (needed_of rule)) (full_instance values),
+      )
 
   pub few_added : length (added_by program.signature rule values) ≤ MOST_PREMISES + MOST_RIGHT
   few_added =
-      let most = is.small.premises in
-      let most' = is.small.right in
-      let many = length-map (rule.right ++ without (is_fact program.signature) (kept_of program.signature rule)) (full_instance values) in
-      let both = length-append rule.right (without (is_fact program.signature) (kept_of program.signature rule)) in
-      let few = few_pass (λ a. not (is_fact program.signature a)) (kept_of program.signature rule) in
-      let kept = length-map (filter (λ premise. premise.kept || is_fact program.signature premise.atom) rule.premises) (λ premise. premise.atom) in
-      let few' = few_pass (λ (premise : PremiseTree). premise.kept || is_fact program.signature premise.atom) rule.premises in
-      omega arith
+      let stays : PremiseTree → Bool = λ premise. premise.kept || is_fact program.signature premise.atom in
+      let kept = without (is_fact program.signature) (kept_of program.signature rule) in
+      omega (
+        arith,
+        is.small.premises,
+        is.small.right,
+        few_pass (λ a. not (is_fact program.signature a)) (kept_of program.signature rule),
+        few_pass stays rule.premises,
+        length-map (filter stays rule.premises) (λ premise. premise.atom),
+        length-append rule.right kept,
+        length-map (rule.right ++ kept) (full_instance values),
+      )

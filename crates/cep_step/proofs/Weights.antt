@@ -18,13 +18,11 @@ use Rattle.cep_step.proofs.SizesOf.{depth_of_atom}
 -- one atom more
 pub nodes_next : (atoms : List AtomTree) (n : ℕ) (a : AtomTree) (sum nodes : ℕ) → sum ≡ sum_by atom_nodes (take n atoms) → slice_get atoms n ≡ Some a → nodes ≡ atom_nodes a → sum + nodes ≡ sum_by atom_nodes (take (n + 1) atoms)
 nodes_next atoms n a sum nodes so_far is same =
-    let next : sum_by atom_nodes (take (n + 1) atoms) ≡ sum_by atom_nodes (take n atoms ++ a ∷ []) = ap (sum_by atom_nodes) (take_next atoms n a is) in
-    let last = sum_by_push atom_nodes (take n atoms) a in
-    omega arith
+    omega (arith, ap (sum_by atom_nodes) (take_next atoms n a is), sum_by_push atom_nodes (take n atoms) a)
 
 -- what is counted is fit where the number is
 fit_by_size : (a : AtomTree) (size : Size) → size.nodes ≡ capped (atom_nodes a) → size.depth ≡ capped (atom_depth a) → (size.nodes ≤ MOST_NODES) × (size.depth ≤ MOST_DEPTH) → IsFit a
-fit_by_size a size nodes depth fit = let few = fit.0 in let low = fit.1 in record { nodes = omega arith; depth = omega arith }
+fit_by_size a size nodes depth fit = grind (arith, nodes, depth, fit)
 
 -- one atom more is fit
 pub fit_next : (atoms : List AtomTree) (n : ℕ) (a : AtomTree) (size : Size) → AllByRecursion IsFit (take n atoms) → slice_get atoms n ≡ Some a → size.nodes ≡ capped (atom_nodes a) → size.depth ≡ capped (atom_depth a) → (size.nodes ≤ MOST_NODES) × (size.depth ≤ MOST_DEPTH) → AllByRecursion IsFit (take (n + 1) atoms)
@@ -33,23 +31,18 @@ fit_next atoms n a size so_far is nodes depth fit =
 
 -- a size that is too large is that of an atom that is
 pub beyond : (a : AtomTree) (size : Size) (number : ℕ) → size.nodes ≡ capped (atom_nodes a) → size.depth ≡ capped (atom_depth a) → ((MOST_NODES < size.nodes) × (number ≡ size.nodes)) ⊎ ((size.nodes ≤ MOST_NODES) × (MOST_DEPTH < size.depth) × (number ≡ size.depth)) → IsBeyond a number
-beyond a size number nodes depth over =
-    let low = depth_of_atom a in
-    ⊎_elim
-    (λ many. let more' = many.0 in let is = many.1 in inl ((omega arith), (omega arith)))
-    (λ high. let few = high.0 in let more' = high.1 in let is = high.2 in inr ((omega arith), (omega arith), (omega arith)))
-    over
+beyond a size number nodes depth over = grind (arith, nodes, depth, depth_of_atom a, over)
 
 -- what is beyond a limit is not fit
 not_fit : (a : AtomTree) (number : ℕ) → IsBeyond a number → ¬ IsFit a
-not_fit a number over = λ fit. let few = fit.nodes in let low = fit.depth in ⊎_elim (λ many. let more' = many.0 in absurd (omega arith)) (λ high. let more' = high.1 in absurd (omega arith)) over
+not_fit a number over = λ fit. grind (arith, over, fit)
 
 pub not_all_fit : (atoms : List AtomTree) (number : ℕ) → IsFirstUnfit IsBeyond atoms number → ¬ AllByRecursion IsFit atoms
 not_all_fit atoms number first = λ fit. not_fit first.atom number first.over (holds_at IsFit atoms first.place first.atom fit first.there)
 
 -- where all nodes can be counted, the number is exact
 too_large : (a : AtomTree) (number : ℕ) → atom_nodes a < 2 ^ 64 → IsBeyond a number → IsTooLarge a number
-too_large a number few over = ⊎_elim (λ many. let is = many.1 in inl (many.0, omega arith)) (λ high. inr high) over
+too_large a number few over = grind (arith, few, over)
 
 pub exact : (atoms : List AtomTree) (number : ℕ) → AllByRecursion (λ a. atom_nodes a < 2 ^ 64) atoms → IsFirstUnfit IsBeyond atoms number → IsFirstUnfit IsTooLarge atoms number
 exact atoms number all first = record {
@@ -67,18 +60,14 @@ module _ (laws : BagLaws) (state : Multiset) (taken gains : List AtomTree) (can 
   -- copies and nodes that go and come
   pub edit_copies : (copies_in (sum_of (difference_of state (gathered taken)) (gathered gains)) + length taken ≡ copies_in state + length gains) × (length taken ≤ copies_in state)
   edit_copies =
-      let before = ap (λ (bag : Multiset). copies_in bag) (sym (laws.taken_and_added state (gathered taken) can.bag taken_bag can.contained)) in
-      let parted = laws.sum_copies (difference_of state (gathered taken)) (gathered taken) in
-      let many = laws.gathered_copies taken in
-      let more = laws.gathered_copies gains in
-      let after = laws.sum_copies (difference_of state (gathered taken)) (gathered gains) in
-      ((omega arith), (omega arith))
+      let left = difference_of state (gathered taken) in
+      let before = ap copies_in (laws.taken_and_added state (gathered taken) can.bag taken_bag can.contained) in
+      let parted = laws.sum_copies left (gathered taken) in
+      (omega (arith, before, parted, laws.gathered_copies taken, laws.gathered_copies gains, laws.sum_copies left (gathered gains)), omega (arith, before, parted, laws.gathered_copies taken))
 
   pub edit_nodes : (nodes_in_all (sum_of (difference_of state (gathered taken)) (gathered gains)) + sum_by atom_nodes taken ≡ nodes_in_all state + sum_by atom_nodes gains) × (sum_by atom_nodes taken ≤ nodes_in_all state)
   edit_nodes =
-      let before = ap (λ (bag : Multiset). nodes_in_all bag) (sym (laws.taken_and_added state (gathered taken) can.bag taken_bag can.contained)) in
-      let parted = laws.sum_nodes (difference_of state (gathered taken)) (gathered taken) in
-      let many = laws.gathered_nodes taken in
-      let more = laws.gathered_nodes gains in
-      let after = laws.sum_nodes (difference_of state (gathered taken)) (gathered gains) in
-      ((omega arith), (omega arith))
+      let left = difference_of state (gathered taken) in
+      let before = ap nodes_in_all (laws.taken_and_added state (gathered taken) can.bag taken_bag can.contained) in
+      let parted = laws.sum_nodes left (gathered taken) in
+      (omega (arith, before, parted, laws.gathered_nodes taken, laws.gathered_nodes gains, laws.sum_nodes left (gathered gains)), omega (arith, before, parted, laws.gathered_nodes taken))

@@ -5,6 +5,7 @@ use Rattle.cep_rule.specs.declared.parts.Parts.{Parts}
 use Rattle.cep_rule.specs.declared.offer.Offer.{Offer}
 use Rattle.cep_rule.specs.Derivations.{ProofTree}
 use Rattle.cep_rule.specs.Steps.{Spot, IsMachineStep}
+use Rattle.cep_step.specs.Spots.{start_spot}
 
 -- Where a run stands: where the machine stands, and how many turns are done.
 pub record Position : Type 0 where
@@ -13,7 +14,7 @@ pub record Position : Type 0 where
 
 -- where a run of the program begins
 abbrev pub start_of : Parts → Position
-start_of program = record { spot = record { stage = program.start_stage; state = program.start }; turns = 0 }
+start_of program = record { spot = start_spot program; turns = 0 }
 
 -- A deed: where it begins, the offer that is done with its rule, what proves the rule's backward
 -- premises, and where it leads.
