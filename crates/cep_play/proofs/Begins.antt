@@ -152,7 +152,7 @@ module _ {C : Type 0} (talk : C → Option (List Event)) (left : C → Option (L
       let said = front.0.whole in
       record {
         due = record { events = events ++ front.0.more; rest = front.0.left; code = code_told said.ending.word; names = file ∷ [] };
-        is = inl (inr (Play file options, ask, (is_in.0, is_in.1, inr (program, is_in.2, (record { turns = said.turns; ending = said.ending; dialogue = said.dialogue; holds = refl; deeds = said.deeds; counted = said.counted; only = said.only; logged = said.logged; to_the_byte = said.to_the_byte }, refl)))));
+        is = inl (inr (Play file options, ask, (is_in.0, is_in.1, inr (program, is_in.2, (record { turns = said.turns; ending = said.ending; dialogue = said.dialogue; holds = refl }, refl)))));
         missing = front.0.more;
         said = refl;
         left = front.1;

@@ -22,6 +22,7 @@ use Rattle.cep_term.specs.Multiset.{copies_in}
 use Rattle.cep_run.specs.declared.settings.Settings.{Settings}
 use Rattle.cep_run.specs.declared.tally.Tally.{Tally}
 use Rattle.cep_run.specs.Run.{Turn, Ending, unproved, offers_listed}
+use Rattle.cep_run.specs.Dialogue.{Dialogue}
 use Rattle.cep_run.specs.Said.{IsSaid, Says, IsTally}
 use Rattle.cep_play.specs.declared.loading.NoProgram.TheVariants as none
 use Rattle.cep_play.specs.declared.play.Played.{Played}
@@ -68,7 +69,7 @@ told_not_7 word e = ⊎_elim (λ ended. absurd (omega (arith, e, ended))) (λ li
 -- less may be said of the turns and the end
 pub said_less : (program : Parts) (settings : Settings) (P Q : List Turn → Ending → Type 0) → ((turns : List Turn) (ending : Ending) → P turns ending → Q turns ending) → (come : List ℕ) (events : List Event) (rest : List ℕ) → IsSaid program settings P come events rest → IsSaid program settings Q come events rest
 said_less program settings P Q less come events rest said =
-    record { turns = said.turns; ending = said.ending; dialogue = said.dialogue; holds = less said.turns said.ending said.holds; deeds = said.deeds; counted = said.counted; logged = said.logged; only = said.only; to_the_byte = said.to_the_byte }
+    record { turns = said.turns; ending = said.ending; dialogue = said.dialogue; holds = less said.turns said.ending said.holds }
 
 module _ {C : Type 0} (talk : C → Option (List Event)) (left : C → Option (List ℕ)) (old new : C) where
   pub says_less : (program : Parts) (settings : Settings) (P Q : List Turn → Ending → Type 0) → ((turns : List Turn) (ending : Ending) → P turns ending → Q turns ending) → Says talk left old new program settings P → Says talk left old new program settings Q
@@ -93,16 +94,23 @@ one_tally tally turns turns' ending ending' same end is = record {
   copies = is.copies ∙ ap (λ (e : Ending). copies_in e.state) (sym end);
 }
 
+-- that what is typed allows one dialogue, but for derivations, told for any two
+abbrev pub IsOneDialogue : Type 0
+IsOneDialogue =
+    (program : Parts) (settings : Settings) (come : List ℕ) (turns turns' : List Turn) (ending ending' : Ending) (events events' : List Event) (rest rest' : List ℕ)
+    → Dialogue program settings come turns ending events rest → Dialogue program settings come turns' ending' events' rest'
+    → (map unproved turns ≡ map unproved turns') × (ending ≡ ending') × (rest ≡ rest')
+
 -- the tally of a run with nothing typed is that of each other
-pub tallied : (program : Parts) (options : Options) (tally : Tally) (settings : Settings) (events : List Event) (rest : List ℕ) → settings ≡ settings_of program options
+pub tallied : IsOneDialogue → (program : Parts) (options : Options) (tally : Tally) (settings : Settings) (events : List Event) (rest : List ℕ) → settings ≡ settings_of program options
     → IsSaid program settings (λ turns ending. IsTally turns ending tally) [] events rest → IsTallied program options tally
-tallied program options tally settings events rest same said =
+tallied one program options tally settings events rest same said =
     let said' = subst (λ (s : Settings). IsSaid program s (λ turns ending. IsTally turns ending tally) [] events rest) same said in
     record {
       events = events;
       rest = rest;
       said = said';
-      alone = λ turns ending events' rest' other. let only = said'.only turns ending events' rest' other in one_tally tally said'.turns turns said'.ending ending only.0 only.1 said'.holds;
+      alone = λ turns ending events' rest' other. let only = one program (settings_of program options) [] turns said'.turns ending said'.ending events' events rest' rest other said'.dialogue in one_tally tally said'.turns turns said'.ending ending only.0 only.1 said'.holds;
     }
 
 -- nothing is asked of the shelf for a generated world, nor for words without a form
@@ -155,7 +163,7 @@ module _ {C : Type 0} (talk : C → Option (List Event)) (left : C → Option (L
   dialogue_done one file options program word ask is_in says adds same = record {
     answered = did_map talk left old new _ _ (λ come events rest said. record {
       due = record { events = events; rest = rest; code = code_told word; names = file ∷ [] };
-      is = inl (inr (Play file options, ask, (is_in.0, is_in.1, inr (program, is_in.2, (record { turns = said.turns; ending = said.ending; dialogue = said.dialogue; holds = ap code_told (sym said.holds); deeds = said.deeds; counted = said.counted; only = said.only; logged = said.logged; to_the_byte = said.to_the_byte }, refl)))));
+      is = inl (inr (Play file options, ask, (is_in.0, is_in.1, inr (program, is_in.2, (record { turns = said.turns; ending = said.ending; dialogue = said.dialogue; holds = ap code_told (sym said.holds) }, refl)))));
       said = refl;
       left = refl;
       names = adds;

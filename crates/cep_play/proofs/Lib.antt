@@ -4,3 +4,4 @@ pub mod Counting
 pub mod Telling
 pub mod OneDue
 pub mod Begins
+pub mod Logged

@@ -17,7 +17,7 @@ use Rattle.cep_play.specs.Examined.{IsVerdictDue}
 use Rattle.cep_play.proofs.Judged.{fails_alone}
 use Rattle.cep_play.specs.World.{IsTallied, IsSummaryDue}
 use Rattle.cep_play.specs.Due.{IsDueOf, IsDue}
-use Rattle.cep_play.proofs.Done.{IsOneRequest}
+use Rattle.cep_play.proofs.Done.{IsOneRequest, IsOneDialogue}
 
 -- two that are due have one status, one rest and the same names
 abbrev pub AreOne : Due → Due → Type 0
@@ -35,7 +35,7 @@ of_text text text' names come P Q due other same (inl one) (inr two) spelled = a
 of_text text text' names come P Q due other same (inr one) (inl two) spelled = absurd (two.no_program one.0 (subst (λ t. Spells t one.0) same one.1.0))
 of_text text text' names come P Q due other same (inr one) (inr two) spelled = spelled one.0 two.0 (sym (one.1.1 two.0 (subst (λ t. Spells t two.0) (sym same) two.1.0))) one.2 two.2
 
-module _ (files : Files) (come : List ℕ) where
+module _ (only_one : IsOneDialogue) (files : Files) (come : List ℕ) where
   abbrev over : Outside
   over = record { files = Some files; come = come }
 
@@ -47,7 +47,7 @@ module _ (files : Files) (come : List ℕ) where
       (λ program program' same one two.
       let said : IsSaid program (settings_of program options) (λ turns ending. other.code ≡ code_told ending.word) come other.events other.rest =
       subst (λ (p : Parts). IsSaid p (settings_of p options) (λ turns ending. other.code ≡ code_told ending.word) come other.events other.rest) (sym same) two.0 in
-      let only = said.only one.0.turns one.0.ending due.events due.rest one.0.dialogue in
+      let only = only_one program (settings_of program options) come one.0.turns said.turns one.0.ending said.ending due.events other.events due.rest other.rest one.0.dialogue said.dialogue in
       (one.0.holds ∙ ap (λ (e : Ending). code_told e.word) only.1 ∙ sym said.holds, only.2, one.1 ∙ sym two.1))
 
   verdicts_are_one : (task : Task) (program : Parts) (bytes : List ℕ) (names : List (List ℕ)) (due other : Due) → IsVerdictDue task program bytes names come due → IsVerdictDue task program bytes names come other → AreOne due other

@@ -6,6 +6,7 @@ ghost use Rattle.cep_words.specs.Words.{HaveNoForm};
 ghost use Rattle.cep_play.specs.Command.{OfRequest, AsksFor, AsksUpTo, Adds};
 ghost use Rattle.cep_play.specs.Answered.{DoesWhatIsDue, IsNoDialogue, IsSpelled, IsWritten, TellsAllThatIsDue};
 ghost use Rattle.cep_play.specs.Counted.{RoseByAll};
+ghost use Rattle.cep_play.specs.Logged.{WritesLegalLog};
 ghost use Rattle.cep_play.specs.Begun.{BeginsWhatIsDue, AsksFrontOfAll};
 ghost use Rattle.cep_play.specs.Outcome.{CommandDid, AskedInVain};
 ghost use Rattle.cep_play.specs.CutShort.{InVain, BeginsCommand};
@@ -16,7 +17,7 @@ use crate::play::play_file;
 use crate::world::run_world;
 use cep_base::{Console, ConsoleFault, Shelf, Steps};
 use cep_ground::laws::clean_parts_are_a_program;
-use cep_run::laws::dialogues_are_there;
+use cep_run::laws::{dialogues_are_there, what_follows_of_dialogues};
 use cep_words::Request;
 use cep_words::laws::one_request;
 use std::alloc::Global;
@@ -130,9 +131,14 @@ pub fn ceptre<C: Console, H: Shelf, L: Ledger>(
     // The counter of matching steps rises by no more than what the network may tick for the turns that were done, and one for each backward premise of what was done in them. It never falls.
     ensures ticked { (result ≡ 0) ⊎ (result ≡ 4) → RoseByAll C.talk C.left console.old console.new (H.files shelf.old) steps.old steps.new (map string_bytes words.now) }
     ensures counted { steps.old ≤ steps.new }
+
+    // What is written where a program is played has a legal log of it, so that a check accepts it.
+    ensures logged { (result ≡ 0) ⊎ (result ≡ 4)
+        → WritesLegalLog C.talk C.left console.old console.new (H.files shelf.old) (map string_bytes words.now) }
 {
     one_request();
     one_due();
+    what_follows_of_dialogues();
     dialogues_are_there();
     clean_parts_are_a_program();
     match command(alloc, words, console, shelf, steps) {

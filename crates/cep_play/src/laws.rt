@@ -4,11 +4,12 @@ ghost use Rattle.cep_base.specs.Files.{Files};
 ghost use Rattle.cep_play.specs.Outside.{Due};
 ghost use Rattle.cep_play.specs.Due.{IsDue};
 
+use cep_run::laws::what_follows_of_dialogues;
 use cep_words::laws::one_request;
 
 /// Where the shelf tells its files, what is due of words is one but for what is written: one status,
-/// one rest of what is to be typed, and the same names are asked. A dialogue that is due says by
-/// itself how far it is one.
+/// one rest of what is to be typed, and the same names are asked. A dialogue that is due is one but
+/// for its derivations.
 pub fn one_due()
     ensures { (words : List (List ℕ)) (files : Files) (come : List ℕ) (one other : Due)
         → IsDue words (record { files = Some files; come = come }) one
@@ -16,4 +17,5 @@ pub fn one_due()
         → (one.code ≡ other.code) × (one.rest ≡ other.rest) × (one.names ≡ other.names) }
 {
     one_request();
+    what_follows_of_dialogues();
 }

@@ -20,6 +20,7 @@ use cep_base::limits::DEFAULT_SEED;
 use cep_base::{Console, ConsoleFault, Steps, Text};
 use cep_net::Net;
 use cep_rule::Program;
+use cep_run::laws::what_follows_of_dialogues;
 use cep_run::{Tally, play};
 use cep_words::Options;
 use cep_world::world_text;
@@ -64,6 +65,7 @@ fn tour_program<C: Console, L: Ledger>(
     ensures counted { steps.old ≤ steps.new }
     ensures cause { ConsoleCause (C.faults console.old) (C.faults console.new) result }
 {
+    what_follows_of_dialogues();
     let mut silence = Silence;
     let settings = settings_of(program, options);
     let tally = play::<Net, Silence, L>(alloc, program, settings, &mut silence, steps)?;

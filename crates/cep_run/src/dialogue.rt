@@ -15,9 +15,7 @@ ghost use Rattle.cep_run.specs.Turn.{position_of, IsPlayed, IsWholeRun};
 ghost use Rattle.cep_run.specs.Said.{Says, IsTally, IsSomeSaid};
 
 use crate::deciding::Spent;
-use crate::laws::{
-    deeds_are_counted, dialogues_are_there, dialogues_have_logs, one_dialogue, turns_are_deeds,
-};
+use crate::laws::{dialogues_are_there, what_follows_of_dialogues};
 use crate::settings::Settings;
 use crate::tally::Tally;
 use crate::turn::{Turned, turn};
@@ -161,10 +159,7 @@ pub fn play<M: Matcher, C: Console, L: Ledger>(
     ensures counted { steps.old ≤ steps.new }
     ensures cause { ConsoleCause (C.faults console.old) (C.faults console.new) result }
 {
-    one_dialogue();
-    turns_are_deeds();
-    deeds_are_counted();
-    dialogues_have_logs();
+    what_follows_of_dialogues();
     dialogues_are_there();
     program.parts();
     let config = Config::<M>::begin(alloc, program, settings.height, steps)?;

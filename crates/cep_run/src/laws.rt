@@ -13,7 +13,7 @@ ghost use Rattle.cep_log.specs.Transcript.{HasLog};
 ghost use Rattle.cep_log.specs.Holding.{HoldsDeeds};
 ghost use Rattle.cep_run.specs.declared.settings.Settings.{Settings};
 ghost use Rattle.cep_run.specs.Deciding.{Supply};
-ghost use Rattle.cep_step.specs.Deeds.{Position, Deed, AreDeeds};
+ghost use Rattle.cep_step.specs.Deeds.{Position, start_of, AreDeeds};
 ghost use Rattle.cep_run.specs.Run.{Question, Turn, Ending, IsQuestion, IsTurn, AreTurns, Run, deeds_of, unproved};
 ghost use Rattle.cep_run.specs.Dialogue.{question_events, turn_events, written_bytes, Dialogue};
 ghost use Rattle.cep_run.specs.Fronts.{BeginsSome, IsRunOf};
@@ -37,42 +37,6 @@ pub fn one_run()
     one_list_of_offers();
     one_state_after_a_step();
 }
-
-/// What is typed determines the whole dialogue but for the derivations of its turns, how it ends, and
-/// what is left; and where no rule has a backward premise, event by event.
-pub fn one_dialogue()
-    ensures but_for_proofs { (program : Parts) (settings : Settings) (come : List ℕ)
-        (turns turns' : List Turn) (ending ending' : Ending) (events events' : List Event)
-        (rest rest' : List ℕ)
-        → Dialogue program settings come turns ending events rest
-        → Dialogue program settings come turns' ending' events' rest'
-        → (map unproved turns ≡ map unproved turns') × (ending ≡ ending') × (rest ≡ rest') }
-    ensures to_the_byte { (program : Parts) (settings : Settings) (come : List ℕ)
-        (turns turns' : List Turn) (ending ending' : Ending) (events events' : List Event)
-        (rest rest' : List ℕ)
-        → AllByRecursion (λ rule. rule.backs ≡ []) program.rules
-        → Dialogue program settings come turns ending events rest
-        → Dialogue program settings come turns' ending' events' rest'
-        → events ≡ events' }
-{
-    one_run();
-}
-
-/// What was done in the turns of a run are lawful deeds, one after another, which can be checked
-/// without what was typed.
-pub fn turns_are_deeds()
-    ensures { (program : Parts) (settings : Settings) (at : Position) (from : Supply)
-        (turns : List Turn) (last : Position) (to : Supply)
-        → AreTurns program settings at from turns last to
-        → AreDeeds program settings.height at (deeds_of turns) last }
-{}
-
-/// As many deeds are done as the last position counts more turns than the first.
-pub fn deeds_are_counted()
-    ensures { (program : Parts) (height : ℕ) (at : Position) (deeds : List Deed) (last : Position)
-        → AreDeeds program height at deeds last
-        → last.turns ≡ at.turns + length deeds }
-{}
 
 /// From each position at which turns remain or just ended, a run is there, whatever is typed: in each
 /// state of a program some turn can be done, or the run ends for a named reason.
@@ -123,10 +87,34 @@ pub fn dialogues_are_there()
     runs_are_there();
 }
 
-/// What is written of a dialogue is a transcript, if it is not too long: its log holds what was
-/// done, is legal, and has as many steps as turns were done. So a check accepts what play wrote.
-pub fn dialogues_have_logs()
-    ensures { (program : Parts) (settings : Settings) (come : List ℕ) (turns : List Turn)
+/// What follows of a dialogue. What was done in its turns are lawful deeds, from the start to where it
+/// ended, as many as were done then. What is typed allows no other but for the derivations of its turns,
+/// and no other at all if no rule has a backward premise. What is written of it is a transcript, if it is
+/// not too long: its log holds what was done, is legal, and has as many steps as turns were done. So a
+/// check accepts what play wrote.
+pub fn what_follows_of_dialogues()
+    ensures deeds { (program : Parts) (settings : Settings) (come : List ℕ) (turns : List Turn)
+        (ending : Ending) (events : List Event) (rest : List ℕ)
+        → (said : Dialogue program settings come turns ending events rest)
+        → AreDeeds program settings.height (start_of program) (deeds_of turns) said.run.last }
+    ensures counted { (program : Parts) (settings : Settings) (come : List ℕ) (turns : List Turn)
+        (ending : Ending) (events : List Event) (rest : List ℕ)
+        → (said : Dialogue program settings come turns ending events rest)
+        → said.run.last.turns ≡ length turns }
+    ensures only { (program : Parts) (settings : Settings) (come : List ℕ)
+        (turns turns' : List Turn) (ending ending' : Ending) (events events' : List Event)
+        (rest rest' : List ℕ)
+        → Dialogue program settings come turns ending events rest
+        → Dialogue program settings come turns' ending' events' rest'
+        → (map unproved turns ≡ map unproved turns') × (ending ≡ ending') × (rest ≡ rest') }
+    ensures to_the_byte { (program : Parts) (settings : Settings) (come : List ℕ)
+        (turns turns' : List Turn) (ending ending' : Ending) (events events' : List Event)
+        (rest rest' : List ℕ)
+        → AllByRecursion (λ rule. rule.backs ≡ []) program.rules
+        → Dialogue program settings come turns ending events rest
+        → Dialogue program settings come turns' ending' events' rest'
+        → events ≡ events' }
+    ensures logged { (program : Parts) (settings : Settings) (come : List ℕ) (turns : List Turn)
         (ending : Ending) (events : List Event) (rest : List ℕ)
         → IsProgram program
         → IsHeight settings.height
@@ -138,7 +126,7 @@ pub fn dialogues_have_logs()
         × IsLegal program log
         × (length log.steps ≡ length turns) }
 {
-    turns_are_deeds();
+    one_run();
     lines_are_read_as_written();
     deeds_have_legal_logs();
 }

@@ -6,6 +6,7 @@ use Rattle.cep_play.specs.Outcome.{AskedInVain}
 use Rattle.cep_play.specs.CutShort.{InVain, BeginsCommand}
 use Rattle.cep_play.proofs.Telling.{tells_what_is_due, tells_anyway, among_all, fails_by, is_no_fault}
 use Rattle.cep_play.proofs.Begins.{fronts_asked}
+use Rattle.cep_play.proofs.Logged.{writes_log}
 use Rattle.cep_play.proofs.command.ceptre.Goals as goal
 
 pub returns-in-Ok-clause-answered : goal.returns-in-Ok-clause-answered
@@ -22,6 +23,11 @@ returns-in-Ok-clause-due g c = λ request ask.
     tells_what_is_due c.one_request.ensures c.dialogues_are_there.ensures (λ text program spells. c.clean_parts_are_a_program.ensures.program spells.source program spells.clean spells.bound spells.declared spells.grounded)
     (map string_bytes c.args.words.now) (g.H.Shelf.files c.args.shelf.now) g.C.Console.talk g.C.Console.left c.args.console.now c.command.new.console (g.H.Shelf.faults c.args.shelf.now) (g.H.Shelf.faults c.command.new.shelf) (g.H.Shelf.asked c.args.shelf.now) (g.H.Shelf.asked c.command.new.shelf)
     request ask c.in-Ok.code c.in-Ok.ensures.done
+
+pub returns-in-Ok-clause-logged : goal.returns-in-Ok-clause-logged
+returns-in-Ok-clause-logged g c = λ ran.
+    writes_log c.what_follows_of_dialogues.ensures.logged (λ text program spells. c.clean_parts_are_a_program.ensures.program spells.source program spells.clean spells.bound spells.declared spells.grounded)
+    g.C.Console.talk g.C.Console.left c.args.console.now c.command.new.console (g.H.Shelf.files c.args.shelf.now) c.args.steps.now c.command.new.steps (map string_bytes c.args.words.now) (c.in-Ok.ensures.ticked ran)
 
 pub returns-in-Ok-clause-no_other : goal.returns-in-Ok-clause-no_other
 returns-in-Ok-clause-no_other g c = among_all c.in-Ok.code c.in-Ok.ensures.done.among

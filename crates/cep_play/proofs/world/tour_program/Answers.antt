@@ -13,7 +13,7 @@ use Rattle.cep_play.proofs.world.tour_program.Goals as goal
 pub returns-clause-tallied : goal.returns-clause-tallied
 returns-clause-tallied g c =
     let did = c.in_ok-tally.ensures.said [] refl in
-    tallied c.args.program.now c.args.options c.in_ok-tally.tally c.settings_of-settings.result did.0 did.1 c.settings_of-settings.ensures.settings (said_less _ _ _ _ (λ turns ending is. is.0) _ _ _ did.4)
+    tallied c.what_follows_of_dialogues.ensures.only c.args.program.now c.args.options c.in_ok-tally.tally c.settings_of-settings.result did.0 did.1 c.settings_of-settings.ensures.settings (said_less _ _ _ _ (λ turns ending is. is.0) _ _ _ did.4)
 
 pub returns-clause-ticked : goal.returns-clause-ticked
 returns-clause-ticked g c =
@@ -36,7 +36,7 @@ returns-in_err-put-clause-begun g c =
     let seed = unwrap_or c.args.options.seed DEFAULT_SEED in
     let text = summary c.args.rooms seed tally in
     let did = c.in_ok-tally.ensures.said [] refl in
-    let tallies = tallied c.args.program.now c.args.options tally c.settings_of-settings.result did.0 did.1 c.settings_of-settings.ensures.settings (said_less _ _ _ _ (λ turns ending is. is.0) _ _ _ did.4) in
+    let tallies = tallied c.what_follows_of_dialogues.ensures.only c.args.program.now c.args.options tally c.settings_of-settings.result did.0 did.1 c.settings_of-settings.ensures.settings (said_less _ _ _ _ (λ turns ending is. is.0) _ _ _ did.4) in
     let same = c.bytes.ensures ∙ c.in_ok-put_summary.ensures ∙ ap (λ xs. xs ++ summary c.args.rooms c.unwrap_or-seed.result tally) c.new-lines.ensures ∙ ap (λ s. summary c.args.rooms s tally) c.unwrap_or-seed.ensures in
     let failed = err_from_is_err_and c.from_residual-in_err-put.result c.from_residual-in_err-put.ensures.1 in
     raised c.from_residual-in_err-put.result _ _ _ failed.0 failed.1 refl (begun_in_vain failed.0 _ _

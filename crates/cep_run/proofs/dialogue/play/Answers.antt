@@ -49,7 +49,7 @@ returns-clause-said g c =
     (λ come second late third rest turns ends. run_ends program settings counts end.word start last end.offers come late rest second third turns ends)
     c.in_ok-end.ensures.said told) in
     let tally : Tally = record { word = end.word; turns = c.turns.result; offers = end.offers; copies = c.copies.result } in
-    did_map talk left c.args.console.now c.finish.new.console _ _ (λ come events rest is. is_said program settings (λ deeds. RoseBy (IsRunCost g.M.Matcher.may_begin g.M.Matcher.may_edit program settings.height deeds) c.args.steps.now c.all_turns.new.steps) tally last c.one_dialogue.ensures.but_for_proofs c.one_dialogue.ensures.to_the_byte c.turns_are_deeds.ensures c.deeds_are_counted.ensures c.dialogues_have_logs.ensures c.parts.ensures.kept c.requires.height
+    did_map talk left c.args.console.now c.finish.new.console _ _ (λ come events rest is. is_said program settings (λ deeds. RoseBy (IsRunCost g.M.Matcher.may_begin g.M.Matcher.may_edit program settings.height deeds) c.args.steps.now c.all_turns.new.steps) tally last c.what_follows_of_dialogues.ensures.counted
     c.turns.ensures (c.copies.ensures.value ∙ ap copies_in c.state-2.ensures) come events rest
     (told_otherwise program settings counts (λ deeds. RoseBy (IsRunCost g.M.Matcher.may_begin g.M.Matcher.may_edit program settings.height deeds) c.args.steps.now c.all_turns.new.steps) end.word last end.offers
     (λ deeds done. run_counted g.M.Matcher.may_edit program settings.height g.M.Matcher.may_begin deeds c.args.steps.now c.begin.new.steps c.all_turns.new.steps begun.ticked done) come events rest is)) whole
@@ -62,7 +62,7 @@ returns-in_err-config-clause-begun g c =
     on_err c.from_residual.result _
     (did_map g.C.Console.talk g.C.Console.left console console _ _
     (λ come events rest put. (
-      some_said program settings c.one_dialogue.ensures.but_for_proofs c.one_dialogue.ensures.to_the_byte c.turns_are_deeds.ensures c.deeds_are_counted.ensures c.dialogues_have_logs.ensures c.parts.ensures.kept c.requires.height come events
+      some_said program settings come events
           (header_begins program settings come events rest (c.dialogues_are_there.ensures program settings come c.parts.ensures.kept) put),
       put_left (header program settings.height) come events rest put,
     ))
@@ -75,7 +75,7 @@ returns-in_err-begin-clause-begun g c =
     on_err c.from_residual-in_err-begin.result _
     (did_map g.C.Console.talk g.C.Console.left c.args.console.now c.begin-2.new.console _ _
     (λ come events rest put. (
-      some_said program settings c.one_dialogue.ensures.but_for_proofs c.one_dialogue.ensures.to_the_byte c.turns_are_deeds.ensures c.deeds_are_counted.ensures c.dialogues_have_logs.ensures c.parts.ensures.kept c.requires.height come events
+      some_said program settings come events
           (header_begins program settings come events rest (c.dialogues_are_there.ensures program settings come c.parts.ensures.kept) put),
       put_left (header program settings.height) come events rest put,
     ))
@@ -91,7 +91,7 @@ returns-in_err-end-clause-begun g c =
     on_err c.from_residual-in_err-end.result _
     (did_then g.C.Console.talk g.C.Console.left c.args.console.now c.begin-2.new.console c.all_turns.new.console _ _ _
     (λ come first middle others rest begins front. (
-      some_said program settings c.one_dialogue.ensures.but_for_proofs c.one_dialogue.ensures.to_the_byte c.turns_are_deeds.ensures c.deeds_are_counted.ensures c.dialogues_have_logs.ensures c.parts.ensures.kept c.requires.height come (first ++ others)
+      some_said program settings come (first ++ others)
           (run_begins_dialogue program settings start started come middle first begins others front.0),
       run_leaves program settings start started come middle first begins others rest front.1,
     ))
@@ -113,7 +113,7 @@ returns-in_err-finish-clause-begun g c =
     on_err c.from_residual-in_err-finish.result _
     (did_then talk left c.args.console.now c.begin-2.new.console c.finish.new.console _ _ _
     (λ come first middle others rest begins ends. subst (λ es. BeginsSome (IsSomeSaid program settings) come (first ++ es) × LeavesUnheard come (first ++ es) rest) (sym ends.whole) (
-      some_said program settings c.one_dialogue.ensures.but_for_proofs c.one_dialogue.ensures.to_the_byte c.turns_are_deeds.ensures c.deeds_are_counted.ensures c.dialogues_have_logs.ensures c.parts.ensures.kept c.requires.height come (first ++ (ends.turns ++ ends.end))
+      some_said program settings come (first ++ (ends.turns ++ ends.end))
           (end_begins_dialogue program settings start started come middle first begins _ end.word last end.offers ends.turns ends.end ends.late rest ends.runs ends.put),
       end_leaves program settings start started come middle first begins _ end.word last end.offers ends.turns ends.end ends.late rest ends.runs ends.put,
     ))

@@ -1,4 +1,5 @@
-use Rattle.std.proofs.Common.{◌≡◌, length, subst, sym, length-map, ◌∙◌, arith}
+use Rattle.std.proofs.Common.{subst, sym, ◌∙◌, arith}
+use Rattle.std.proofs.lemmas.List.{length-map}
 use Rattle.cep_term.specs.Multiset.{Multiset}
 use Rattle.cep_log.specs.Holding.{HoldsDeeds}
 use Rattle.cep_step.specs.Deeds.{start_of}
