@@ -20,12 +20,12 @@ use Rattle.cep_source.specs.Items.{Source, RuleItem, ClauseItem, said}
 use Rattle.cep_parse.specs.Raw.{atoms_of, raw_nodes}
 use Rattle.cep_source.specs.Variables.{Occurrence, occurrence_at, blanks_behind, occurrences_from, occurrences_of, firsts_beside, variables_of, blanks_after}
 use Rattle.cep_types.specs.Sites.{rule_scope, clause_scope}
-use Rattle.cep_types.specs.Heads.{var, variable_of, head_at, heads_from}
+use Rattle.cep_infer.specs.Numbers.{var, variable_of, head_at, heads_from}
 use Rattle.cep_infer.specs.Heads.{IsAtomBy, AreAtomsBy}
 use Rattle.cep_infer.specs.Meaning.{names_of, is_back, ArePremisesBy, IsRuleBy, IsClauseBy}
 use Rattle.cep_infer.specs.Places.{unbound_of}
 use Rattle.cep_base.proofs.Elements.{contains_none, contains_first, contains_behind, contains_cases, contains_either, contains_left, contains_right, contains_map, contains_at}
-use Rattle.cep_ground.proofs.Finds.{IsFound}
+use Rattle.cep_infer.proofs.Finds.{IsFound}
 use Rattle.cep_ground.proofs.Limits.{filter_keeps}
 use Rattle.cep_ground.proofs.HeadLaws.{terms_occur}
 use Rattle.cep_ground.proofs.FirstPlaces.{firsts_append, variable_at}

@@ -27,12 +27,12 @@ use Rattle.cep_source.specs.Starts.{start_atoms, turns_said}
 use Rattle.cep_refusal.specs.First.{wrong}
 use Rattle.cep_faults.specs.Misnamed.Misnamed.{no_trace}
 use Rattle.cep_types.specs.Sites.{rule_scope, clause_scope}
-use Rattle.cep_types.specs.Heads.{Head, var, con, number_of, variable_of, head_at, heads_from}
+use Rattle.cep_infer.specs.Numbers.{Head, var, con, number_of, variable_of, head_at, heads_from}
 use Rattle.cep_infer.specs.Heads.{argument_count, heads_of, heads_among, IsAtomBy, AreAtomsBy}
 use Rattle.cep_infer.specs.Meaning.{signature_of, stage_by, names_of, kinds_of, is_back, is_fact_by, ArePremisesBy, group_of, next_of, IsRuleBy, IsClauseBy, AreParts}
 use Rattle.cep_ground.specs.Texts.{IsClean}
 use Rattle.cep_base.proofs.Elements.{contains_first, contains_behind}
-use Rattle.cep_ground.proofs.Known.{state_atom_here}
+use Rattle.cep_infer.proofs.Known.{state_atom_here}
 use Rattle.cep_ground.proofs.RuleScopes.{AtomsMade, left_here, right_here, clause_here, atom_of_tokens}
 use Rattle.cep_ground.proofs.StartState.{StartLaws}
 

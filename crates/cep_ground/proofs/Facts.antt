@@ -19,7 +19,7 @@ use Rattle.cep_source.specs.declared.space.Space.TheVariants as space
 use Rattle.cep_source.specs.Items.{Source, PredItem, preds_of, said}
 use Rattle.cep_source.specs.Starts.{is_node_alike, are_nodes_alike, is_written_alike}
 use Rattle.cep_source.specs.Variables.{blanks_behind}
-use Rattle.cep_types.specs.Heads.{con, number_of, head_at, heads_from}
+use Rattle.cep_infer.specs.Numbers.{con, number_of, head_at, heads_from}
 use Rattle.cep_infer.specs.Heads.{IsAtomBy}
 use Rattle.cep_infer.specs.Meaning.{pred_by, signature_of, is_fact_by}
 use Rattle.cep_infer.specs.States.{AreClosed}

@@ -4,7 +4,7 @@ use Rattle.std.specs.Prelude.{Some, slice_get, cond}
 use Rattle.std.specs.Str.{bytes_eq}
 use Rattle.std.specs.List.{list_any}
 use Rattle.cep_source.specs.Variables.{Occurrence, firsts_beside}
-use Rattle.cep_types.specs.Heads.{variable_of}
+use Rattle.cep_infer.specs.Numbers.{variable_of}
 use Rattle.cep_base.proofs.Elements.{contains_none, contains_first, contains_behind, contains_cases, contains_map, contains_at}
 use Rattle.cep_ground.proofs.Located.{place, position_there, place_within}
 use Rattle.cep_ground.proofs.Wanted.{same_bytes, bytes_same, is_any}

@@ -19,7 +19,7 @@ use Rattle.cep_source.specs.Uses.{stages_named, uses_in}
 use Rattle.cep_refusal.specs.First.{wrong}
 use Rattle.cep_faults.specs.Misnamed.{IsQuiRule}
 use Rattle.cep_faults.specs.Misnamed.Misnamed.{bad_qui}
-use Rattle.cep_types.specs.Heads.{number_of}
+use Rattle.cep_infer.specs.Numbers.{number_of}
 use Rattle.cep_infer.specs.Meaning.{stage_named, group_of, next_of, IsRuleBy}
 use Rattle.cep_rule.specs.declared.rule.Rule.{Rule}
 use Rattle.cep_rule.specs.Program.{IsGroupedRule}
@@ -27,7 +27,7 @@ use Rattle.cep_ground.specs.Texts.{IsClean}
 use Rattle.cep_base.proofs.Bytes.{any_map}
 use Rattle.cep_base.proofs.Lists.{none_some, some_same}
 use Rattle.cep_base.proofs.Elements.{contains_none, contains_first, contains_cases, contains_same, contains_left, contains_right, contains_map, contains_flat, flat_cases, map_cases}
-use Rattle.cep_ground.proofs.Known.{known}
+use Rattle.cep_infer.proofs.Known.{known}
 use Rattle.cep_ground.proofs.Located.{number_within}
 use Rattle.cep_ground.proofs.Wanted.{is_any}
 

@@ -1,7 +1,7 @@
 -- What the nodes of terms in prefix order say of them.
 use Rattle.std.proofs.Common.{◌≡◌, inl, inr, ⊎_elim, ℕ, List, [], ◌++◌, length, refl, sym, ◌∙◌, arith, append_assoc, length-append, Contains}
 use Rattle.cep_term.specs.Tree.{Tree, Trees, variable, node, none, more, term_nodes, argument_nodes, Occurs, OccursAmong}
-use Rattle.cep_types.specs.Heads.{Head, var, con}
+use Rattle.cep_infer.specs.Numbers.{Head, var, con}
 use Rattle.cep_infer.specs.Heads.{argument_count, heads_of, heads_among}
 use Rattle.cep_base.proofs.Elements.{contains_cases, contains_none, contains_either}
 

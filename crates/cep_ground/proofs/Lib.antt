@@ -1,6 +1,4 @@
 pub mod Distinct
-pub mod Finds
-pub mod Known
 pub mod Wanted
 pub mod FirstPlaces
 pub mod Limits

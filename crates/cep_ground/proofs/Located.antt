@@ -9,7 +9,7 @@ use Rattle.std.specs.Str.{bytes_eq}
 use Rattle.cep_source.specs.declared.space.Space.{Space}
 use Rattle.cep_source.specs.Items.{Source}
 use Rattle.cep_source.specs.Spaces.{Named, names_in, is_in}
-use Rattle.cep_types.specs.Heads.{number_of}
+use Rattle.cep_infer.specs.Numbers.{number_of}
 
 -- how many stand before the first that passes
 abbrev pub place : {X : Type 0} → (X → Bool) → List X → ℕ

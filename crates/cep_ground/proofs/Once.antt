@@ -17,7 +17,7 @@ use Rattle.cep_rule.specs.Patterns.{PremiseTree, ClauseTree}
 use Rattle.cep_source.specs.Items.{Source, ClauseItem, RuleItem, TraceItem, said}
 use Rattle.cep_parse.specs.Raw.{atoms_of, raw_nodes}
 use Rattle.cep_types.specs.Sites.{clause_scope}
-use Rattle.cep_types.specs.Heads.{number_of}
+use Rattle.cep_infer.specs.Numbers.{number_of}
 use Rattle.cep_infer.specs.Heads.{heads_among, IsAtomBy, AreAtomsBy}
 use Rattle.cep_infer.specs.Meaning.{is_back, is_fact_by, ArePremisesBy, IsRuleBy, IsClauseBy, IsStartBy, AreParts}
 use Rattle.cep_ground.proofs.HeadLaws.{terms_once}

@@ -40,7 +40,7 @@ use Rattle.cep_source.specs.Starts.{turns_said}
 use Rattle.cep_faults.specs.Misnamed.Misnamed.{over}
 use Rattle.cep_faults.specs.Limits.{IsOver as overs}
 use Rattle.cep_types.specs.Sites.{rule_scope, clause_scope}
-use Rattle.cep_types.specs.Heads.{number_of, sorts_said}
+use Rattle.cep_infer.specs.Numbers.{number_of, sorts_said}
 use Rattle.cep_infer.specs.Meaning.{con_by, pred_by, signature_of, stage_by, names_of, is_back, IsRuleBy, IsClauseBy, AreParts}
 use Rattle.cep_infer.specs.Places.{backs_at, unbound_of}
 use Rattle.cep_faults.specs.Premises.{backward_of}

@@ -32,12 +32,12 @@ use Rattle.cep_source.specs.Variables.{blanks_behind, variables_of, Occurrence, 
 use Rattle.cep_refusal.specs.First.{wrong}
 use Rattle.cep_faults.specs.Misnamed.Misnamed.{backward_in_state, linear_in_clause}
 use Rattle.cep_types.specs.Sites.{sites_of, wanted_from, type_of, rule_scope, clause_scope}
-use Rattle.cep_types.specs.Heads.{number_of, heads_from}
+use Rattle.cep_infer.specs.Numbers.{number_of, heads_from}
 use Rattle.cep_infer.specs.Heads.{IsAtomBy, AreAtomsBy}
 use Rattle.cep_infer.specs.Meaning.{pred_by, is_fact_by, signature_of, names_of, kinds_of, is_back, ArePremisesBy, IsRuleBy, IsClauseBy}
 use Rattle.cep_ground.specs.Texts.{IsClean}
 use Rattle.cep_base.proofs.Elements.{contains_first, contains_behind, contains_left, contains_right}
-use Rattle.cep_ground.proofs.Known.{pred_known}
+use Rattle.cep_infer.proofs.Known.{pred_known}
 use Rattle.cep_ground.proofs.Facts.{fact_by}
 use Rattle.cep_ground.proofs.Located.{located}
 use Rattle.cep_ground.proofs.Limits.{all_filter, all_map, all_pass}

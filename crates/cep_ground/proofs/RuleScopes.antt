@@ -29,7 +29,7 @@ use Rattle.cep_types.specs.Sites.{Site, sites_of, IsScope, rule_scope, clause_sc
 use Rattle.cep_infer.specs.Shapes.{IsSource}
 use Rattle.cep_ground.specs.Texts.{IsClean}
 use Rattle.cep_base.proofs.Elements.{contains_either, contains_map, flat_cases, all_at}
-use Rattle.cep_ground.proofs.Known.{pred_known, needed_here, made_there, made_here, clause_there, clause_atom_here}
+use Rattle.cep_infer.proofs.Known.{pred_known, needed_here, made_there, made_here, clause_there, clause_atom_here}
 use Rattle.cep_ground.proofs.Limits.{at_most, filters_cover, nodes_few}
 use Rattle.cep_ground.proofs.Spelled.{variable_word, tokens_few}
 use Rattle.cep_ground.proofs.Wanted.{AreWords}

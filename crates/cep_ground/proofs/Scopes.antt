@@ -29,15 +29,16 @@ use Rattle.cep_source.specs.Variables.{Occurrence, occurrence_at, blanks_behind,
 use Rattle.cep_refusal.specs.First.{wrong}
 use Rattle.cep_types.specs.Sites.{Site, Wanted, pred_types, node_types, sites_from, sites_in, sites_of, wanted_from, type_of, IsScope, Mistyped}
 use Rattle.cep_types.specs.Sites.Mistyped.{constructor, variable}
-use Rattle.cep_types.specs.Heads.{number_of, variable_of, sorts_said}
+use Rattle.cep_infer.specs.Numbers.{number_of, variable_of, sorts_said}
 use Rattle.cep_infer.specs.Heads.{heads_among, IsAtomBy, AreAtomsBy}
 use Rattle.cep_infer.specs.Meaning.{ArePremisesBy, con_by, pred_by, signature_of, names_of, kinds_of}
 use Rattle.cep_base.proofs.Elements.{contains_none, contains_first, contains_behind, contains_left, contains_right, contains_map}
-use Rattle.cep_ground.proofs.Finds.{IsFound, any_found, found_in}
-use Rattle.cep_ground.proofs.Known.{AreNamesClean, IsPredKnown, pred_known, IsConKnown, con_known}
+use Rattle.cep_infer.proofs.Finds.{IsFound, any_found, found_in}
+use Rattle.cep_infer.proofs.Known.{AreNamesClean, IsPredKnown, pred_known, IsConKnown, con_known}
 use Rattle.cep_ground.proofs.Located.{located}
 use Rattle.cep_ground.proofs.TypedTerms.{IsGoodCon, IsGood, AreGood, typed_args}
-use Rattle.cep_ground.proofs.Wanted.{nodes_at, pred_types_are, con_types_are, sites_whole, wanted_both, wanted_names, same_bytes, bytes_same, is_any, first_there, IsFirstIn, AreWords, first_wanted}
+use Rattle.cep_infer.proofs.Readable.{pred_types_are, con_types_are, sites_whole}
+use Rattle.cep_ground.proofs.Wanted.{nodes_at, wanted_both, wanted_names, same_bytes, bytes_same, is_any, first_there, IsFirstIn, AreWords, first_wanted}
 use Rattle.cep_ground.proofs.Wanted.IsFirstIn.{written, blank}
 
 -- An atom stands in the file, and its nodes are its arguments.

@@ -33,14 +33,14 @@ use Rattle.cep_refusal.specs.First.{wrong}
 use Rattle.cep_faults.specs.Misnamed.Misnamed.{over}
 use Rattle.cep_faults.specs.Limits.IsOver.{unfit, copies, nodes}
 use Rattle.cep_types.specs.Sites.{type_of, IsScope as scopes}
-use Rattle.cep_types.specs.Heads.{number_of}
+use Rattle.cep_infer.specs.Numbers.{number_of}
 use Rattle.cep_infer.specs.Heads.{IsAtomBy, AreAtomsBy}
 use Rattle.cep_infer.specs.Meaning.{signature_of, names_of, kinds_of, is_fact_by, IsStartBy}
 use Rattle.cep_infer.specs.Resolved.{IsWellNamed}
 use Rattle.cep_infer.specs.States.{AreClosed}
 use Rattle.cep_ground.specs.Texts.{IsClean}
 use Rattle.cep_base.proofs.Elements.{contains_none, contains_first, contains_behind, contains_cases, contains_right, all_at}
-use Rattle.cep_ground.proofs.Known.{state_atom_here}
+use Rattle.cep_infer.proofs.Known.{state_atom_here}
 use Rattle.cep_ground.proofs.Facts.{fact_by, alike_atoms}
 use Rattle.cep_ground.proofs.Scopes.{IsHere, typed_atoms}
 use Rattle.cep_ground.proofs.RuleScopes.{AtomsMade, AreHere, here_at, words, short}

@@ -13,7 +13,7 @@ use Rattle.cep_term.specs.Tree.{Tree, Trees, AtomTree, variable, node, none, mor
 use Rattle.cep_source.specs.Items.{Source}
 use Rattle.cep_source.specs.Variables.{blanks_behind}
 use Rattle.cep_source.specs.Starts.{levels, greatest, depth_written}
-use Rattle.cep_types.specs.Heads.{Head, var, con, head_at, heads_from}
+use Rattle.cep_infer.specs.Numbers.{Head, var, con, head_at, heads_from}
 use Rattle.cep_infer.specs.Heads.{argument_count, heads_of, heads_among, IsAtomBy}
 use Rattle.cep_infer.specs.States.{AreClosed}
 

@@ -12,7 +12,7 @@ use Rattle.cep_source.specs.declared.space.Space.TheVariants as space
 use Rattle.cep_source.specs.Items.{Source, said}
 use Rattle.cep_source.specs.Variables.{blanks_behind}
 use Rattle.cep_types.specs.Sites.{node_types}
-use Rattle.cep_types.specs.Heads.{Head, var, con, number_of, variable_of, head_at, heads_from}
+use Rattle.cep_infer.specs.Numbers.{Head, var, con, number_of, variable_of, head_at, heads_from}
 use Rattle.cep_infer.specs.Heads.{argument_count, heads_of, heads_among}
 
 module _ (source : Source) (vars : List (List ℕ)) (kinds : List ℕ) (cons : List Con) where

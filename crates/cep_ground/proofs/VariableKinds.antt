@@ -19,12 +19,12 @@ use Rattle.cep_source.specs.Spaces.{named, is_in, con_named, pred_named}
 use Rattle.cep_parse.specs.Raw.{raw_nodes}
 use Rattle.cep_source.specs.Variables.{Occurrence, occurrence_at, blanks_behind, occurrences_from, occurrences_of, variables_of}
 use Rattle.cep_types.specs.Sites.{Site, Wanted, pred_types, node_types, sites_from, sites_in, sites_of, wanted_from, type_of}
-use Rattle.cep_types.specs.Heads.{number_of}
+use Rattle.cep_infer.specs.Numbers.{number_of}
 use Rattle.cep_infer.specs.Meaning.{names_of, kinds_of}
 use Rattle.cep_ground.specs.Texts.{IsClean}
 use Rattle.cep_base.proofs.Elements.{contains_none, contains_first, contains_behind, contains_cases, contains_either, contains_left, contains_right, contains_map, contains_flat, map_cases, flat_cases, all_at, all_of}
-use Rattle.cep_ground.proofs.Finds.{any_found, found_in}
-use Rattle.cep_ground.proofs.Known.{known}
+use Rattle.cep_infer.proofs.Finds.{any_found, found_in}
+use Rattle.cep_infer.proofs.Known.{known}
 use Rattle.cep_ground.proofs.Located.{number_within}
 use Rattle.cep_ground.proofs.Limits.{all_map}
 use Rattle.cep_ground.proofs.Spelled.{variable_is}

@@ -19,37 +19,10 @@ use Rattle.cep_source.specs.Spaces.{pred_named, con_named}
 use Rattle.cep_source.specs.Variables.{Occurrence, occurrence_at, blanks_behind, occurrences_from, firsts_beside, blanks_after}
 use Rattle.cep_types.specs.Sites.{Site, Wanted, pred_types, node_types, sites_from, wanted_from}
 use Rattle.cep_base.proofs.Elements.{contains_none, contains_first, contains_behind, contains_cases}
-use Rattle.cep_ground.proofs.Known.{IsConKnown}
 
 -- the nodes of terms
 abbrev pub nodes_at : List Site → List RawNode
 nodes_at sites = map (λ site. site.node) sites
-
--- the types that a predicate, and a constructor, wants of its arguments
-pub pred_types_are : (source : Source) (name : List ℕ) (pred : PredItem) → pred_named source name ≡ Some pred → pred_types source name ≡ map (said source) pred.args
-pred_types_are source name pred found = ap (λ (is : Option PredItem). map (said source) (unwrap_or (option_map (λ (one : PredItem). one.args) is) [])) found
-
-pub con_types_are : (source : Source) (at : Span) (con : ConItem) → con_named source (said source at) ≡ Some con → node_types source kind.App at ≡ map (said source) con.args
-con_types_are source at con found = ap (λ (is : Option ConItem). map (said source) (unwrap_or (option_map (λ (one : ConItem). one.args) is) [])) found
-
--- a constructor wants as many types as there are arguments, and a variable none
-types_count : (source : Source) (shape : RawKind) (at : Span) (args : ℕ) → IsCount shape args → (shape ≡ kind.App → IsConKnown source at args) → length (node_types source shape at) ≡ args
-types_count source kind.App at args count known =
-    let is = known refl in
-    ap length (con_types_are source at is.con is.found) ∙ length-map is.con.args (said source) ∙ sym is.count
-types_count source kind.Var at args count known = sym count
-types_count source kind.Blank at args count known = sym count
-
--- each node of terms that are so many stands at a place of its own
-pub sites_whole : (source : Source) (types : List (List ℕ)) (nodes : List RawNode) → Fill (length types) nodes → ((node : RawNode) → Contains nodes node → node.kind ≡ kind.App → IsConKnown source node.at node.args) → nodes_at (sites_from source types nodes) ≡ nodes
-sites_whole source [] [] fill known = refl
-sites_whole source [] (first ∷ nodes) fill known = absurd fill
-sites_whole source (wants ∷ next) [] fill known = absurd fill
-sites_whole source (wants ∷ next) (first ∷ nodes) fill known =
-    let count = types_count source first.kind first.at first.args fill.0 (known first (contains_first first nodes)) in
-    let size : first.args + length next ≡ length (node_types source first.kind first.at ++ next) = omega (arith, count, length-append (node_types source first.kind first.at) next) in
-    let rest = sites_whole source (node_types source first.kind first.at ++ next) nodes (subst (λ n. Fill n nodes) size fill.1) (λ node there. known node (contains_behind first nodes node there)) in
-    ap (λ ns. first ∷ ns) rest
 
 -- the terms of two lists of types, one behind the other
 pub wanted_both : (source : Source) (blanks : ℕ) (sites others : List Site) → wanted_from source blanks (sites ++ others) ≡ wanted_from source blanks sites ++ wanted_from source (blanks_after blanks (nodes_at sites)) others

@@ -14,10 +14,12 @@ use Rattle.cep_parse.specs.Raw.{atoms_in, atoms_of, raw_nodes}
 use Rattle.cep_source.specs.Uses.{stands_for_context}
 use Rattle.cep_source.specs.Starts.{listed_in, start_atoms}
 use Rattle.cep_infer.specs.Heads.{IsAtomBy, AreAtomsBy}
-use Rattle.cep_types.specs.Met.{AreMet, kinds_met}
+use Rattle.cep_types.specs.Met.{AreMet}
+use Rattle.cep_infer.specs.Built.{kinds_met}
 use Rattle.cep_infer.specs.declared.left.LeftSide.{LeftSide}
 use Rattle.cep_infer.specs.Meaning.{ArePremisesBy, is_back, is_fact_by, IsClauseBy}
 use Rattle.cep_infer.specs.Built.{AreBuilt, IsLeftBuilt}
+use Rattle.cep_infer.specs.Readable.{AreReadable}
 use Rattle.cep_infer.proofs.Meeting.{blanks_both}
 use Rattle.cep_infer.proofs.FirstOccurrences.{names_met, kinds_are_met}
 use Rattle.cep_source.specs.declared.variables.Variables.{Variables}
@@ -139,12 +141,12 @@ module _ (source : Source) (vars : List (List ℕ)) where
 
 -- a clause is built
 pub clause_built : (source : Source) (head : RawAtom) (goals : List RawAtom) (variables : Variables) (names : List (List ℕ)) (kinds : List ℕ) (behind : ℕ) (tree : AtomTree) (atoms : List AtomTree)
-    → AreMet source (head ∷ goals) none_met variables → names ≡ names_among variables.firsts → kinds ≡ kinds_met source variables.firsts
+    → AreMet source (head ∷ goals) none_met variables → AreReadable source (head ∷ goals) → names ≡ names_among variables.firsts → kinds ≡ kinds_met source variables.firsts
     → IsAtomBy source (names_among variables.firsts) 0 head tree → behind ≡ blanks_after 0 head.nodes → AreAtomsBy source (names_among variables.firsts) behind goals atoms
     → IsClauseBy source (record { head = head; goals = goals }) (record { vars = names; kinds = kinds; head = tree; goals = atoms })
-clause_built source head goals variables names kinds behind tree atoms met names_are kinds_are first blanks_are others = record {
-  vars_are = names_are ∙ names_met source (head ∷ goals) variables met;
-  kinds_are = kinds_are ∙ kinds_are_met source (head ∷ goals) variables met;
+clause_built source head goals variables names kinds behind tree atoms met readable names_are kinds_are first blanks_are others = record {
+  vars_are = names_are ∙ names_met source (head ∷ goals) variables met readable.typed;
+  kinds_are = kinds_are ∙ kinds_are_met source (head ∷ goals) variables met readable.typed;
   atoms_are = (
     subst (λ (vs : List (List ℕ)). IsAtomBy source vs 0 head tree) (sym names_are) first,
     subst (λ (vs : List (List ℕ)). AreAtomsBy source vs (blanks_after 0 head.nodes) goals atoms) (sym names_are)

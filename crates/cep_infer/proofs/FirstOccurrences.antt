@@ -16,8 +16,9 @@ use Rattle.cep_source.specs.Items.{Source, said}
 use Rattle.cep_parse.specs.Raw.{raw_nodes}
 use Rattle.cep_source.specs.Variables.{Occurrence, occurrence_at, blanks_behind, occurrences_from, firsts_beside, variables_of}
 use Rattle.cep_types.specs.Sites.{Site, Wanted, sites_of, wanted_from, type_of}
-use Rattle.cep_types.specs.Heads.{number_of}
-use Rattle.cep_types.specs.Met.{kinds_met, further, AreMet}
+use Rattle.cep_infer.specs.Numbers.{number_of}
+use Rattle.cep_types.specs.Met.{further, AreMet}
+use Rattle.cep_infer.specs.Built.{kinds_met}
 use Rattle.cep_infer.specs.Meaning.{names_of, kinds_of}
 use Rattle.cep_base.proofs.Bytes.{bytes_eq_sym}
 use Rattle.cep_base.proofs.FirstNamed.{found, or_found, found_both, found_kept}
@@ -129,7 +130,7 @@ all_found acc (w ∷ ws) are = cases (has_wanted acc w.name) refl (all_found acc
 
 -- ---- what is met of a scope
 
-module _ (source : Source) (atoms : List RawAtom) (variables : Variables) (met : AreMet source atoms none_met variables) where
+module _ (source : Source) (atoms : List RawAtom) (variables : Variables) (met : AreMet source atoms none_met variables) (typed : nodes_at (sites_of source atoms) ≡ raw_nodes atoms) where
   abbrev all : List Wanted
   all = wanted_from source 0 (sites_of source atoms)
 
@@ -140,7 +141,7 @@ module _ (source : Source) (atoms : List RawAtom) (variables : Variables) (met :
   names_met =
       sym (map-map (λ (w : Wanted). w.name) (λ (e : List ℕ × Span). record { name = e.0; wants = said source e.1 }) variables.firsts)
       ∙ ap wanted_names_of met.firsts ∙ met_names [] [] all (λ name. refl)
-      ∙ ap (new_names []) (wanted_names source 0 (sites_of source atoms) ∙ ap (λ nodes. occurring (occurrences_from source 0 nodes)) met.covered)
+      ∙ ap (new_names []) (wanted_names source 0 (sites_of source atoms) ∙ ap (λ nodes. occurring (occurrences_from source 0 nodes)) typed)
       ∙ sym (firsts_names [] (occurrences_from source 0 (raw_nodes atoms)))
 
   abbrev kind_of : Option (List ℕ) → ℕ
@@ -163,5 +164,5 @@ module _ (source : Source) (atoms : List RawAtom) (variables : Variables) (met :
       ∙ map-map kind_found (λ (w : Wanted). found name_of firsts w.name) firsts
       ∙ sym (each_kind firsts)
       ∙ ap (map (λ (name : List ℕ). kind_of (type_of source atoms name)))
-      (met_names [] [] all (λ name. refl) ∙ ap (new_names []) (wanted_names source 0 (sites_of source atoms) ∙ ap (λ nodes. occurring (occurrences_from source 0 nodes)) met.covered) ∙ sym (firsts_names [] (occurrences_from source 0 (raw_nodes atoms))))
+      (met_names [] [] all (λ name. refl) ∙ ap (new_names []) (wanted_names source 0 (sites_of source atoms) ∙ ap (λ nodes. occurring (occurrences_from source 0 nodes)) typed) ∙ sym (firsts_names [] (occurrences_from source 0 (raw_nodes atoms))))
       ∙ map-map (λ (name : List ℕ). kind_of (type_of source atoms name)) (λ (o : Occurrence). o.name) (variables_of source atoms)

@@ -21,11 +21,12 @@ use Rattle.cep_source.specs.Uses.{state_atoms, stands_for_context}
 use Rattle.cep_source.specs.Variables.{blanks_behind, blanks_after}
 use Rattle.cep_source.specs.Starts.{listed_in, start_atoms}
 use Rattle.cep_faults.specs.Misnamed.Misnamed.{variable_in_state}
-use Rattle.cep_types.specs.Heads.{Head, var, con, head_at, heads_from}
+use Rattle.cep_infer.specs.Numbers.{Head, var, con, head_at, heads_from}
 use Rattle.cep_infer.specs.Heads.{heads_of, heads_among, IsAtomBy, AreAtomsBy}
 use Rattle.cep_infer.specs.Resolved.{IsWellNamed}
 use Rattle.cep_infer.specs.States.{AreClosed}
 use Rattle.cep_base.proofs.Elements.{contains_none, contains_first, contains_behind, contains_cases, contains_left, contains_right, contains_flat, flat_cases, all_of}
+use Rattle.cep_infer.proofs.Finds.{found_in}
 
 -- a constructor is no variable
 abbrev IsClosed : Head → Type 0
@@ -72,17 +73,6 @@ atoms_ground source vars blanks (raw ∷ raws) (atom ∷ atoms) closed by = (
   atoms_ground source vars (blanks_after blanks raw.nodes) raws atoms (λ other there. closed other (contains_behind raw raws other there)) by.1,
 )
 
--- what is found stands in the list
-found_first : {Y : Type 0} (p : Y → Bool) (b : Bool) (z y : Y) (ys : List Y) (further : Option Y) → cond b (Some z) further ≡ Some y → (further ≡ Some y → Contains ys y) → Contains (z ∷ ys) y
-found_first p true z y ys further found later =
-    let same : z ≡ y = cc in
-    subst (λ w. Contains (z ∷ ys) w) same (contains_first z ys)
-found_first p false z y ys further found later = contains_behind z ys y (later found)
-
-found_there : {Y : Type 0} (p : Y → Bool) (ys : List Y) (y : Y) → find p ys ≡ Some y → Contains ys y
-found_there p [] y found = absurd cc
-found_there p (z ∷ ys) y found = found_first p (p z) z y ys (find p ys) found (λ later. found_there p ys y later)
-
 -- what passes is kept
 kept_by : {Y : Type 0} (b : Bool) (z y : Y) (ys : List Y) → (z ≡ y) ⊎ Contains ys y → (z ≡ y → b ≡ true) → Contains (cond b (z ∷ ys) ys) y
 kept_by true z y ys there passes = ⊎_elim (λ (same : z ≡ y). subst (Contains (z ∷ ys)) same (contains_first z ys)) (λ later. contains_behind z ys y later) there
@@ -104,7 +94,7 @@ module _ (source : Source) where
   of_context : (found : Option ContextItem) (name : List ℕ) (raw : RawAtom) → context_named source name ≡ found → Contains (unwrap_or (option_map (λ (context : ContextItem). context.atoms) found) []) raw → Contains (state_atoms source) raw
   of_context None name raw is there = absurd (contains_none raw there)
   of_context (Some context) name raw is there =
-      let found = found_there (λ (c : ContextItem). bytes_eq (said source c.name) name) (contexts_of source) context is in
+      let found = (found_in (λ (c : ContextItem). bytes_eq (said source c.name) name) (contexts_of source) context is).there in
       contains_left (flat_map listed_by (contexts_of source)) _ raw (contains_flat listed_by (contexts_of source) context raw found there)
 
   of_braces : (trace : TraceItem) (raw : RawAtom) → Contains (traces_of source) trace → Contains (start_listed trace.start) raw → stands_for_context source raw ≡ false → Contains (state_atoms source) raw

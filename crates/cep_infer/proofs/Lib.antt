@@ -9,3 +9,6 @@ pub mod GroundStates
 pub mod Drafting
 pub mod Reordered
 pub mod HeldOnce
+pub mod Finds
+pub mod Known
+pub mod Readable

@@ -19,26 +19,28 @@ use Rattle.cep_source.specs.Kept.{rule_item}
 use Rattle.cep_source.specs.Met.{none_met}
 use Rattle.cep_base.specs.FirstNames.{names_among}
 use Rattle.cep_types.specs.Sites.{rule_scope}
-use Rattle.cep_types.specs.Heads.{number_of}
-use Rattle.cep_types.specs.Met.{AreMet, kinds_met}
+use Rattle.cep_infer.specs.Numbers.{number_of}
+use Rattle.cep_types.specs.Met.{AreMet}
+use Rattle.cep_infer.specs.Built.{kinds_met}
 use Rattle.cep_infer.specs.declared.left.LeftSide.{LeftSide}
 use Rattle.cep_infer.specs.Heads.{AreAtomsBy}
 use Rattle.cep_infer.specs.Meaning.{IsRuleBy, ArePremisesBy, group_of, next_of, stage_named}
 use Rattle.cep_infer.specs.Built.{IsLeftBuilt}
+use Rattle.cep_infer.specs.Readable.{AreReadable}
 use Rattle.cep_infer.proofs.FirstOccurrences.{names_met, kinds_are_met}
 
 -- a rule is built
 pub rule_built : (source : Source) (item : RuleItem) (variables : Variables) (rule : Rule) (behind : ℕ) (left : LeftSide)
-    → AreMet source (rule_scope item) none_met variables → rule.vars ≡ names_among variables.firsts → rule.kinds ≡ kinds_met source variables.firsts
+    → AreMet source (rule_scope item) none_met variables → AreReadable source (rule_scope item) → rule.vars ≡ names_among variables.firsts → rule.kinds ≡ kinds_met source variables.firsts
     → rule.group ≡ group_of source item.home item.raw.left → rule.next ≡ next_of source item.home item.raw.right
     → IsLeftBuilt source (names_among variables.firsts) item.raw.left 0 behind (record { premises = []; backs = [] }) left → rule.premises ≡ left.premises → rule.backs ≡ left.backs
     → AreAtomsBy source (names_among variables.firsts) behind (atoms_of item.raw.right) rule.right
     → IsRuleBy source item rule
-rule_built source item variables rule behind left met vars_are kinds_are group_is next_is left_is premises_are backs_are right_is = record {
+rule_built source item variables rule behind left met readable vars_are kinds_are group_is next_is left_is premises_are backs_are right_is = record {
   group_is = group_is;
   next_is = next_is;
-  vars_are = vars_are ∙ names_met source (rule_scope item) variables met;
-  kinds_are = kinds_are ∙ kinds_are_met source (rule_scope item) variables met;
+  vars_are = vars_are ∙ names_met source (rule_scope item) variables met readable.typed;
+  kinds_are = kinds_are ∙ kinds_are_met source (rule_scope item) variables met readable.typed;
   left = left_is.more;
   left_is = subst (λ (vs : List (List ℕ)). ArePremisesBy source vs 0 item.raw.left left_is.more) (sym vars_are) left_is.are;
   premises_are = premises_are ∙ left_is.premises_are;

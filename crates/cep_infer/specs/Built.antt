@@ -5,12 +5,17 @@ use Rattle.cep_parse.specs.declared.raw.RawAtom.{RawAtom}
 use Rattle.cep_parse.specs.declared.raw.RawElem.{RawElem}
 use Rattle.cep_term.specs.Tree.{AtomTree}
 use Rattle.cep_rule.specs.Patterns.{PremiseTree}
-use Rattle.cep_source.specs.Items.{Source}
+use Rattle.cep_source.specs.Items.{Source, said}
 use Rattle.cep_parse.specs.Raw.{atoms_of, raw_nodes}
 use Rattle.cep_infer.specs.Heads.{AreAtomsBy}
 use Rattle.cep_infer.specs.declared.left.LeftSide.{LeftSide}
 use Rattle.cep_infer.specs.Meaning.{ArePremisesBy, is_back}
 use Rattle.cep_source.specs.Variables.{blanks_after}
+use Rattle.cep_parse.specs.declared.raw.Span.{Span}
+use Rattle.cep_parse.specs.declared.raw.RawKind.{RawKind}
+use Rattle.cep_parse.specs.declared.raw.RawKind.TheVariants as kind
+use Rattle.cep_source.specs.declared.space.Space.TheVariants as space
+use Rattle.cep_infer.specs.Numbers.{Head, con, var, number_of}
 
 -- Behind the old atoms stand those that are written; so many blanks stand before these, and so many behind them.
 pub record AreBuilt (source : Source) (vars : List (List ℕ)) (raws : List RawAtom) (before behind : ℕ) (old new : List AtomTree) : Type 0 where
@@ -26,3 +31,13 @@ pub record IsLeftBuilt (source : Source) (vars : List (List ℕ)) (side : List R
   pub premises_are : new.premises ≡ old.premises ++ filter (λ premise. not (is_back source premise.atom)) more
   pub backs_are : new.backs ≡ old.backs ++ map (λ premise. premise.atom) (filter (λ premise. is_back source premise.atom) more)
   pub behind_is : behind ≡ blanks_after before (raw_nodes (atoms_of side))
+
+-- the numbers of the types of all names
+abbrev pub kinds_met : Source → List (List ℕ × Span) → List ℕ
+kinds_met source firsts = map (λ entry. number_of source space.Sorts (said source entry.1)) firsts
+
+-- the head of a node by its number
+abbrev pub head_by : RawKind → ℕ → ℕ → Head
+head_by kind.App number args = con number args
+head_by kind.Var number args = var number
+head_by kind.Blank number args = var number

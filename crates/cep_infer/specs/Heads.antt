@@ -4,7 +4,7 @@ use Rattle.cep_parse.specs.declared.raw.RawAtom.{RawAtom}
 use Rattle.cep_term.specs.Tree.{Tree, Trees, AtomTree, variable, node, none, more}
 use Rattle.cep_source.specs.declared.space.Space.TheVariants as space
 use Rattle.cep_source.specs.Items.{Source, said}
-use Rattle.cep_types.specs.Heads.{Head, var, con, number_of, heads_from}
+use Rattle.cep_infer.specs.Numbers.{Head, var, con, number_of, heads_from}
 use Rattle.cep_source.specs.Variables.{blanks_after}
 
 -- how many arguments there are

@@ -1,4 +1,6 @@
 pub mod Shapes
+pub mod Readable
+pub mod Numbers
 pub mod Heads
 pub mod Meaning
 pub mod Places

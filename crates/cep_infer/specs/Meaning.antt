@@ -24,7 +24,7 @@ use Rattle.cep_source.specs.Variables.{variables_of, blanks_after}
 use Rattle.cep_source.specs.Uses.{stages_named}
 use Rattle.cep_source.specs.Starts.{start_atoms, turns_said}
 use Rattle.cep_types.specs.Sites.{type_of, rule_scope, clause_scope}
-use Rattle.cep_types.specs.Heads.{number_of, sorts_said}
+use Rattle.cep_infer.specs.Numbers.{number_of, sorts_said}
 use Rattle.cep_infer.specs.Heads.{IsAtomBy, AreAtomsBy}
 
 -- a constructor and a predicate

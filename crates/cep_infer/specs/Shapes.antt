@@ -17,6 +17,9 @@ pub record IsSource (source : Source) : Type 0 where
   pub parsed : File (symbols_of source.text tokens) source.file
   pub shallow : IsShallow (symbols_of source.text tokens)
 
--- The nodes of each atom are its arguments.
+-- The nodes of an atom are its arguments, and so of each atom that is written.
+abbrev pub IsFilled : RawAtom → Type 0
+IsFilled atom = Fill atom.args atom.nodes
+
 abbrev pub AreFilled : Source → Type 0
-AreFilled source = (atom : RawAtom) → Contains (atoms_written source) atom → Fill atom.args atom.nodes
+AreFilled source = (atom : RawAtom) → Contains (atoms_written source) atom → IsFilled atom

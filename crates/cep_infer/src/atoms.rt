@@ -1,7 +1,9 @@
 // Atoms of one side, one clause or one state, one after another.
 ghost use Rattle.std.specs.Prelude.{◌≡◌, ◌∷◌, [], IfOk, OnOk};
+ghost use Rattle.std.specs.List.{AllByRecursion};
 ghost use Rattle.cep_parse.specs.Raw.{atoms_of};
 ghost use Rattle.cep_base.specs.FirstNames.{names_among};
+ghost use Rattle.cep_infer.specs.Shapes.{IsFilled};
 ghost use Rattle.cep_infer.specs.Heads.{AreAtomsBy};
 ghost use Rattle.cep_infer.specs.Built.{AreBuilt};
 
@@ -19,6 +21,7 @@ pub(crate) fn push_atom(
     blanks: &mut u64,
     atoms: &mut AtomList,
 ) -> Result<(), AllocError>
+    requires { IsFilled raw.now }
     ensures { OnOk result (AreBuilt source.now (names_among variables.now.firsts) (raw.now ∷ []) blanks.old blanks.new atoms.old atoms.new) }
 {
     let atom = read_atom(source, variables, blanks, AtomRef::of_raw(raw))?;
@@ -33,6 +36,7 @@ pub(crate) fn push_atoms(
     blanks: &mut u64,
     atoms: &mut AtomList,
 ) -> Result<(), AllocError>
+    requires { AllByRecursion IsFilled raws.now }
     ensures { OnOk result (AreBuilt source.now (names_among variables.now.firsts) raws.now blanks.old blanks.new atoms.old atoms.new) }
 {
     for raw in raws {
@@ -48,6 +52,7 @@ pub(crate) fn read_atoms(
     raws: &[RawAtom],
     blanks: u64,
 ) -> Result<AtomList, AllocError>
+    requires { AllByRecursion IsFilled raws.now }
     ensures { IfOk result (λ atoms. AreAtomsBy source.now (names_among variables.now.firsts) blanks raws.now atoms) }
 {
     let mut behind = blanks;
@@ -63,6 +68,7 @@ pub(crate) fn read_side(
     side: &[RawElem],
     blanks: u64,
 ) -> Result<AtomList, AllocError>
+    requires { AllByRecursion IsFilled (atoms_of side.now) }
     ensures { IfOk result (λ atoms. AreAtomsBy source.now (names_among variables.now.firsts) blanks (atoms_of side.now) atoms) }
 {
     let mut behind = blanks;

@@ -1,19 +1,23 @@
 // The clauses of a text.
 ghost use Rattle.std.specs.Prelude.{◌∷◌, IfOk};
-ghost use Rattle.std.specs.List.{AllZip};
+ghost use Rattle.std.specs.List.{AllByRecursion, AllZip};
 ghost use Rattle.cep_rule.specs.Patterns.{clause_of};
 ghost use Rattle.cep_source.specs.Items.{clauses_of};
 ghost use Rattle.cep_source.specs.Kept.{clause_item};
+ghost use Rattle.cep_types.specs.Sites.{clause_scope};
+ghost use Rattle.cep_infer.specs.Readable.{AreReadable};
 ghost use Rattle.cep_infer.specs.Meaning.{IsClauseBy};
 
 use crate::atoms::read_atoms;
 use crate::terms::read_atom;
 use cep_rule::{Clause, Clauses};
 use cep_source::{ClauseRef, Source};
-use cep_types::{clause_variables, variable_kinds};
+use crate::heads::variable_kinds;
+use cep_types::clause_variables;
 use std::alloc::AllocError;
 
 fn clause(source: &Source, item: &ClauseRef) -> Result<Clause, AllocError>
+    requires { AreReadable source.now (clause_scope (clause_item item.now)) }
     ensures { IfOk result (λ clause. IsClauseBy source.now (clause_item item.now) (clause_of clause)) }
 {
     let variables = clause_variables(source, item)?;
@@ -28,6 +32,7 @@ fn clause(source: &Source, item: &ClauseRef) -> Result<Clause, AllocError>
 
 // The clauses in written order, those with a label too.
 pub(crate) fn read_clauses(source: &Source) -> Result<Clauses, AllocError>
+    requires { AllByRecursion (λ item. AreReadable source.now (clause_scope item)) (clauses_of source.now) }
     ensures { IfOk result (λ clauses. AllZip (IsClauseBy source.now) (clauses_of source.now) clauses) }
 {
     let mut clauses = Clauses::new(source.alloc());

@@ -1,10 +1,13 @@
 // The left sides of rules.
 ghost use Rattle.std.specs.Prelude.{◌≡◌, ◌||◌, ◌∷◌, [], slice_get, IfOk, OnOk};
 ghost use Rattle.std.specs.Option.{option_map};
+ghost use Rattle.std.specs.List.{AllByRecursion};
 ghost use Rattle.cep_term.specs.Tree.{atom_of};
+ghost use Rattle.cep_parse.specs.Raw.{atoms_of};
 ghost use Rattle.cep_source.specs.Items.{preds_of};
 ghost use Rattle.cep_base.specs.FirstNames.{names_among};
 ghost use Rattle.cep_infer.specs.Meaning.{is_back, is_fact_by};
+ghost use Rattle.cep_infer.specs.Shapes.{IsFilled};
 ghost use Rattle.cep_infer.specs.Built.{IsLeftBuilt};
 
 use crate::terms::read_atom;
@@ -58,6 +61,7 @@ fn push_premise(
     blanks: &mut u64,
     left: &mut LeftSide,
 ) -> Result<(), AllocError>
+    requires { AllByRecursion IsFilled (atoms_of (elem.now ∷ [])) }
     ensures { OnOk result (IsLeftBuilt source.now (names_among variables.now.firsts) (elem.now ∷ []) blanks.old blanks.new left.old left.new) }
 {
     let RawElem::Atom { kept, atom } = elem else {
@@ -78,6 +82,7 @@ pub(crate) fn read_left(
     side: &[RawElem],
     blanks: &mut u64,
 ) -> Result<LeftSide, AllocError>
+    requires { AllByRecursion IsFilled (atoms_of side.now) }
     ensures { IfOk result (IsLeftBuilt source.now (names_among variables.now.firsts) side.now blanks.old blanks.new (record { premises = []; backs = [] })) }
 {
     let mut left = LeftSide {

@@ -1,5 +1,5 @@
 // The lines and columns of many places.
-ghost use Rattle.std.specs.Prelude.{◌≡◌, ◌<◌, ◌≤◌, ◌+◌, ◌^◌, ◌++◌, ℕ, List, length, take, not, map, filter, IfOk, OnOk};
+ghost use Rattle.std.specs.Prelude.{◌≡◌, ◌≤◌, ◌++◌, length, take, not, map, filter, IfOk, OnOk};
 ghost use Rattle.cep_base.specs.declared.limits.TheConstants.{MOST_TEXT};
 ghost use Rattle.cep_lex.specs.Places.{IsPlaceAfter};
 ghost use Rattle.cep_source.specs.Items.{rules_of};
@@ -10,20 +10,21 @@ ghost use Rattle.cep_infer.specs.Places.{IsReached, ArePlaces, ArePlaceLists, ba
 
 use crate::draft::{PlaceLists, Places};
 use cep_base::{Pos, PredKind};
+use cep_lex::{START, place_after};
 use cep_parse::RawNode;
 use cep_source::{RuleRef, Source, Variables, blanks_behind, variable_at};
 use std::alloc::AllocError;
 
-/// A place in a text, in bytes from the front, and its line and column.
+/// A place in a text, in bytes from its start, and its line and column.
 #[derive(Clone, Copy, Drop)]
 pub(crate) struct Reached {
     pub at: usize,
     pub pos: Pos,
 }
 
-const FRONT: Reached = Reached {
+const BEGINNING: Reached = Reached {
     at: 0,
-    pos: Pos { line: 1, col: 1 },
+    pos: START,
 };
 
 /// For each rule the places of its backward premises, and of what is unbound on its right side.
@@ -33,26 +34,8 @@ pub(crate) struct RulePlaces {
     pub unbound: PlaceLists,
 }
 
-// Some bytes further.
-fn passed(pos: Pos, bytes: &[u8]) -> Pos
-    requires line { pos.line + length bytes.now < 2 ^ 32 }
-    requires col { pos.col + length bytes.now < 2 ^ 32 }
-    ensures { (before : List ℕ) → IsPlaceAfter before pos → IsPlaceAfter (before ++ bytes.now) result }
-{
-    let mut behind = pos;
-    for byte in bytes {
-        if *byte != b'\n' {
-            behind.col += 1;
-            continue;
-        }
-        behind.line += 1;
-        behind.col = 1;
-    }
-    behind
-}
-
-// The line and column of a place, from one that was reached, or from the front where it lies
-// before.
+// The line and column of a place, from one that was reached, or from the start of the text where it
+// lies before.
 fn reach(text: &[u8], from: Reached, at: u32) -> Reached
     requires short { length text.now ≤ MOST_TEXT }
     requires reached { IsReached text.now from }
@@ -60,8 +43,8 @@ fn reach(text: &[u8], from: Reached, at: u32) -> Reached
     ensures there { IsPlaceAfter (take at text.now) result.pos }
 {
     let to = (at as usize).min(text.len());
-    let start = if from.at <= to { from } else { FRONT };
-    let pos = passed(start.pos, &text[start.at..to]);
+    let start = if from.at <= to { from } else { BEGINNING };
+    let pos = place_after(start.pos, &text[start.at..to]);
     Reached { at: to, pos }
 }
 
@@ -137,7 +120,7 @@ pub(crate) fn rule_places(source: &Source) -> Result<RulePlaces, AllocError>
     ensures backs { IfOk result (λ places. ArePlaceLists source.now.text (map (backs_at source.now) (rules_of source.now)) places.backs) }
     ensures unbound { IfOk result (λ places. ArePlaceLists source.now.text (map (unbound_at source.now) (rules_of source.now)) places.unbound) }
 {
-    let mut reached = FRONT;
+    let mut reached = BEGINNING;
     let mut backs = PlaceLists::new(source.alloc());
     let mut unbound = PlaceLists::new(source.alloc());
     for rule in source.rules() {

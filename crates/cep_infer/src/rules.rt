@@ -1,10 +1,12 @@
 // The rules of a text.
 ghost use Rattle.std.specs.Prelude.{◌≡◌, map, IfOk};
-ghost use Rattle.std.specs.List.{AllZip};
+ghost use Rattle.std.specs.List.{AllByRecursion, AllZip};
 ghost use Rattle.cep_source.specs.declared.space.Space.TheVariants as space;
 ghost use Rattle.cep_source.specs.Items.{rules_of};
 ghost use Rattle.cep_source.specs.Spaces.{names_in};
 ghost use Rattle.cep_source.specs.Kept.{rule_item};
+ghost use Rattle.cep_types.specs.Sites.{rule_scope};
+ghost use Rattle.cep_infer.specs.Readable.{AreReadable};
 ghost use Rattle.cep_infer.specs.Meaning.{IsRuleBy, stage_named, group_of, next_of};
 
 use crate::atoms::read_side;
@@ -13,7 +15,9 @@ use cep_base::Name;
 use cep_parse::{RawElem, Span};
 use cep_rule::{Rule, Rules};
 use cep_source::{RuleRef, Source, Space};
-use cep_types::{number, rule_variables, variable_kinds};
+use crate::heads::variable_kinds;
+use crate::numbers::number;
+use cep_types::rule_variables;
 use std::alloc::AllocError;
 
 // The number of the first stage that a side names, and 0 where it names none.
@@ -55,6 +59,7 @@ fn next(source: &Source, home: Option<Span>, right: &[RawElem]) -> Result<Option
 }
 
 fn rule(source: &Source, name: &[u8], item: &RuleRef) -> Result<Rule, AllocError>
+    requires { AreReadable source.now (rule_scope (rule_item item.now)) }
     ensures rule { IfOk result (λ rule. IsRuleBy source.now (rule_item item.now) rule) }
     ensures name { IfOk result (λ rule. rule.name ≡ name.now) }
 {
@@ -76,6 +81,7 @@ fn rule(source: &Source, name: &[u8], item: &RuleRef) -> Result<Rule, AllocError
 
 // The rules in written order.
 pub(crate) fn read_rules(source: &Source) -> Result<Rules, AllocError>
+    requires { AllByRecursion (λ item. AreReadable source.now (rule_scope item)) (rules_of source.now) }
     ensures rules { IfOk result (λ rules. AllZip (IsRuleBy source.now) (rules_of source.now) rules) }
     ensures names { IfOk result (λ rules. map (λ rule. rule.name) rules ≡ map (λ named. named.name) (names_in source.now space.Rules)) }
 {

@@ -7,7 +7,7 @@ use cep_base::Name;
 use cep_parse::Span;
 use cep_rule::{Con, Cons, Names, PredDecl, Preds, Signature, Stage, Stages};
 use cep_source::{Source, Space};
-use cep_types::{kinds, number};
+use crate::numbers::{kinds, number};
 use std::alloc::AllocError;
 
 // The name that the text says at a span.

@@ -9,6 +9,7 @@ ghost use Rattle.cep_source.specs.Items.{traces_of};
 ghost use Rattle.cep_source.specs.Starts.{start_atoms};
 ghost use Rattle.cep_source.specs.Kept.{trace_item};
 ghost use Rattle.cep_base.specs.FirstNames.{names_among};
+ghost use Rattle.cep_infer.specs.Shapes.{IsFilled, AreFilled};
 ghost use Rattle.cep_infer.specs.Heads.{AreAtomsBy};
 ghost use Rattle.cep_infer.specs.Meaning.{IsStartBy, is_fact_by};
 ghost use Rattle.cep_infer.specs.Resolved.{IsWellNamed};
@@ -24,6 +25,7 @@ use std::alloc::{AllocError, Global};
 
 // The atoms in braces, and those of the contexts for which they stand, each a copy.
 fn read_listed(source: &Source, none: &Variables, raws: &[RawAtom]) -> Result<AtomList, AllocError>
+    requires { AllByRecursion IsFilled (start_atoms source.now (start.Listed raws.now)) }
     ensures { IfOk result (λ atoms. AreAtomsBy source.now (names_among none.now.firsts) 0 (start_atoms source.now (start.Listed raws.now)) atoms) }
 {
     let mut blanks = 0;
@@ -41,6 +43,7 @@ fn read_listed(source: &Source, none: &Variables, raws: &[RawAtom]) -> Result<At
 
 // The atoms of a start state, each a copy. They have no variables.
 fn start_atoms(source: &Source, start: &RawStart) -> Result<AtomList, AllocError>
+    requires { AllByRecursion IsFilled (start_atoms source.now start.now) }
     ensures { IfOk result (λ atoms. AreAtomsBy source.now [] 0 (start_atoms source.now start.now) atoms) }
 {
     let none = Variables::unmet(source.alloc());
@@ -53,6 +56,7 @@ fn start_atoms(source: &Source, start: &RawStart) -> Result<AtomList, AllocError
 // The start state of a trace.
 pub(crate) fn read_start(source: &Source, trace: &TraceRef) -> Result<Bag, AllocError>
     requires named { IsWellNamed source.now }
+    requires filled { AreFilled source.now }
     requires there { Contains (traces_of source.now) (trace_item trace.now) }
     ensures { IfOk result (λ start. IsStartBy source.now (trace_item trace.now) start) }
 {

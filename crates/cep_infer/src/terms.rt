@@ -1,16 +1,19 @@
 // From the nodes of an atom, which stand in prefix order, to its tree.
-ghost use Rattle.std.specs.Prelude.{◌≡◌, ◌++◌, ◌≤◌, ◌<◌, length, drop, IfOk, OnOk};
+ghost use Rattle.std.specs.Prelude.{◌≡◌, ◌++◌, ◌≤◌, ◌<◌, ◌+◌, ℕ, suc, length, drop, IfOk, OnOk};
+ghost use Rattle.cep_parse.specs.Written.{Fill};
 ghost use Rattle.cep_term.specs.Tree.{atom_of, tree_of, trees_of};
 ghost use Rattle.cep_source.specs.Kept.{atom_at};
 ghost use Rattle.cep_source.specs.Variables.{blanks_after};
 ghost use Rattle.cep_base.specs.FirstNames.{names_among};
-ghost use Rattle.cep_types.specs.Heads.{heads_from};
+ghost use Rattle.cep_infer.specs.Numbers.{heads_from};
+ghost use Rattle.cep_infer.specs.Shapes.{IsFilled};
 ghost use Rattle.cep_infer.specs.Heads.{IsAtomBy, heads_of, heads_among, argument_count};
 
 use cep_parse::{RawKind, RawNode};
 use cep_source::{AtomRef, Source, Space, Variables, blanks_behind};
 use cep_term::{Args, Atom, Term};
-use cep_types::{head, number};
+use crate::heads::head;
+use crate::numbers::number;
 use std::alloc::AllocError;
 
 /// Where the nodes of an atom are read: the place of the next node, and how many blanks stand
@@ -21,7 +24,7 @@ pub(crate) struct Cursor {
     pub blanks: u64,
 }
 
-// The next term.
+// The next term. The nodes from there on are some terms, and so are those after it.
 #[cycle(terms)]
 fn read_term(
     source: &Source,
@@ -29,13 +32,16 @@ fn read_term(
     nodes: &[RawNode],
     cursor: &mut Cursor,
 ) -> Result<Term, AllocError>
+    requires { (more : ℕ) × Fill (suc more) (drop cursor.old.at nodes.now) }
     ensures heads { IfOk result (λ term. heads_from source.now (names_among variables.now.firsts) cursor.old.blanks (drop cursor.old.at nodes.now) ≡ heads_of (tree_of term) ++ heads_from source.now (names_among variables.now.firsts) cursor.new.blanks (drop cursor.new.at nodes.now)) }
     ensures blanks { OnOk result (blanks_after cursor.old.blanks (drop cursor.old.at nodes.now) ≡ blanks_after cursor.new.blanks (drop cursor.new.at nodes.now)) }
+    ensures filled { (more : ℕ)
+        → Fill (suc more) (drop cursor.old.at nodes.now)
+        → OnOk result (Fill more (drop cursor.new.at nodes.now)) }
     ensures further { OnOk result (cursor.old.at < cursor.new.at) }
     ensures within { OnOk result (cursor.new.at ≤ length nodes.now) }
 {
-    // In a text without wrong names the nodes do not run out.
-    let node = nodes.get(cursor.at).ok_or(AllocError)?;
+    let node = &nodes[cursor.at];
     let number = head(source, variables, cursor.blanks, node)?;
     cursor.blanks = blanks_behind(cursor.blanks, node.kind)?;
     cursor.at += 1;
@@ -57,9 +63,13 @@ fn read_args(
     cursor: &mut Cursor,
     count: u32,
 ) -> Result<Args, AllocError>
+    requires { (more : ℕ) × Fill (count + more) (drop cursor.old.at nodes.now) }
     ensures heads { IfOk result (λ args. heads_from source.now (names_among variables.now.firsts) cursor.old.blanks (drop cursor.old.at nodes.now) ≡ heads_among (trees_of args) ++ heads_from source.now (names_among variables.now.firsts) cursor.new.blanks (drop cursor.new.at nodes.now)) }
     ensures count { IfOk result (λ args. argument_count (trees_of args) ≡ count) }
     ensures blanks { OnOk result (blanks_after cursor.old.blanks (drop cursor.old.at nodes.now) ≡ blanks_after cursor.new.blanks (drop cursor.new.at nodes.now)) }
+    ensures filled { (more : ℕ)
+        → Fill (count + more) (drop cursor.old.at nodes.now)
+        → OnOk result (Fill more (drop cursor.new.at nodes.now)) }
     ensures further { OnOk result (cursor.old.at ≤ cursor.new.at) }
     ensures within { cursor.old.at ≤ length nodes.now → OnOk result (cursor.new.at ≤ length nodes.now) }
 {
@@ -78,6 +88,7 @@ pub(crate) fn read_atom(
     blanks: &mut u64,
     raw: AtomRef,
 ) -> Result<Atom, AllocError>
+    requires { IsFilled (atom_at raw.entry) }
     ensures atom { IfOk result (λ atom. IsAtomBy source.now (names_among variables.now.firsts) blanks.old (atom_at raw.entry) (atom_of atom)) }
     ensures blanks { OnOk result (blanks.new ≡ blanks_after blanks.old (atom_at raw.entry).nodes) }
 {
@@ -87,10 +98,6 @@ pub(crate) fn read_atom(
         blanks: *blanks,
     };
     let args = read_args(source, variables, raw.nodes, &mut cursor, raw.args)?;
-    if cursor.at < raw.nodes.len() {
-        // In a text without wrong names no node is left.
-        return Err(AllocError);
-    }
     *blanks = cursor.blanks;
     Ok(Atom { pred, args })
 }

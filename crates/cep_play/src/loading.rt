@@ -11,7 +11,9 @@ ghost use Rattle.cep_play.specs.CutShort.{InVain, WroteFront, BeginsRefusal, Beg
 
 use cep_base::limits::MOST_TEXT;
 use cep_base::{Console, ConsoleFault, Shelf, ShelfFault, Text};
-use cep_ground::laws::{no_program_is_refused, one_program};
+use cep_ground::laws::{
+    a_text_with_nothing_wrong_is_a_program, no_program_is_refused, one_program, one_refusal,
+};
 use cep_ground::{accept, too_long};
 use cep_refusal::Refusal;
 use cep_rule::Program;
@@ -79,6 +81,8 @@ pub(crate) fn program_of<C: Console>(
 {
     one_program();
     no_program_is_refused();
+    a_text_with_nothing_wrong_is_a_program();
+    one_refusal();
     match accept(alloc, text)? {
         Ok(program) => Ok(Ok(program)),
         Err(refusal) => {

@@ -46,6 +46,11 @@ pub clash_over : (source : Source) (f : Site → List Fault) (all : Option Fault
 clash_over source f all nodes i next old h was =
     sym (was ∙ ap (λ ns. first_of old (first_in (flat_map f (sites_from source next ns)))) (drop_all i nodes h) ∙ ap (λ ss. first_of old (first_in (flat_map f ss))) (no_sites source next) ∙ first_none old)
 
+-- where no more terms are wanted
+pub clash_full : (source : Source) (f : Site → List Fault) (all : Option Fault) (nodes : List RawNode) (next : List (List ℕ)) (old : Option Fault) → next ≡ []
+    → all ≡ first_of old (first_in (flat_map f (sites_from source next nodes))) → old ≡ all
+clash_full source f all nodes next old full was = sym (was ∙ ap (λ ts. first_of old (first_in (flat_map f (sites_from source ts nodes)))) full ∙ first_none old)
+
 -- the types may be told otherwise
 module _ (source : Source) (f g : List ℕ → Option (List ℕ)) (same : (name : List ℕ) → f name ≡ g name) where
   type_same : (kind : RawKind) (at : Span) → type_at source f kind at ≡ type_at source g kind at

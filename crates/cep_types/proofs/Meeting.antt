@@ -12,7 +12,6 @@ use Rattle.cep_parse.specs.declared.raw.RawKind.TheVariants as kind
 use Rattle.cep_parse.specs.declared.raw.RawNode.{RawNode}
 use Rattle.cep_parse.specs.declared.raw.RawAtom.{RawAtom}
 use Rattle.cep_source.specs.Items.{Source, said}
-use Rattle.cep_parse.specs.Raw.{raw_nodes}
 use Rattle.cep_source.specs.Variables.{occurrence_at, blanks_behind, blanks_after}
 use Rattle.cep_types.specs.Sites.{Site, Wanted, sites_from, sites_in, sites_of, wanted_from}
 use Rattle.cep_types.specs.Met.{wanted_in, further, AreMet}
@@ -53,25 +52,23 @@ module _ (source : Source) where
   met_blanks old kind.Blank at wants = refl
 
 -- From the start so much was met; the rest of the nodes are still to be met, where the next terms are to be of these types.
-pub record IsMeeting (source : Source) (sites : List Site) (nodes : List RawNode) (start now : Variables) (next : List (List ℕ)) (rest : List RawNode) : Type 0 where
+pub record IsMeeting (source : Source) (sites : List Site) (start now : Variables) (next : List (List ℕ)) (rest : List RawNode) : Type 0 where
   pub firsts : fold further (wanted_in source start.firsts) (wanted_from source start.blanks sites) ≡ fold further (wanted_in source now.firsts) (wanted_from source now.blanks (sites_from source next rest))
-  pub blanks : blanks_after start.blanks nodes ≡ blanks_after now.blanks rest
-  pub covered : nodes_at (sites_from source next rest) ≡ rest → nodes_at sites ≡ nodes
+  pub blanks : blanks_after start.blanks (nodes_at sites) ≡ blanks_after now.blanks (nodes_at (sites_from source next rest))
 
-pub meeting_begins : (source : Source) (start : Variables) (next : List (List ℕ)) (nodes : List RawNode) → IsMeeting source (sites_from source next nodes) nodes start start next nodes
-meeting_begins source start next nodes = record { firsts = refl; blanks = refl; covered = λ h. h }
+pub meeting_begins : (source : Source) (start : Variables) (next : List (List ℕ)) (nodes : List RawNode) → IsMeeting source (sites_from source next nodes) start start next nodes
+meeting_begins source start next nodes = record { firsts = refl; blanks = refl }
 
-pub meeting_goes_on : (source : Source) (sites : List Site) (nodes : List RawNode) (start old new : Variables) (next later : List (List ℕ)) (node : RawNode) (rest : List RawNode) (wants : Span)
+pub meeting_goes_on : (source : Source) (sites : List Site) (start old new : Variables) (next later : List (List ℕ)) (node : RawNode) (rest : List RawNode) (wants : Span)
     → sites_from source next (node ∷ rest) ≡ record { node = node; wants = said source wants } ∷ sites_from source later rest
     → new ≡ met_site source old node.kind node.at wants
-    → IsMeeting source sites nodes start old next (node ∷ rest) → IsMeeting source sites nodes start new later rest
-meeting_goes_on source sites nodes start old new next later node rest wants site is was = record {
+    → IsMeeting source sites start old next (node ∷ rest) → IsMeeting source sites start new later rest
+meeting_goes_on source sites start old new next later node rest wants site is was = record {
   firsts = was.firsts ∙ ap (λ ss. fold further (wanted_in source old.firsts) (wanted_from source old.blanks ss)) site
       ∙ fold-append further (wanted_in source old.firsts) (wanted_at source old.blanks node.kind node.at (said source wants)) (wanted_from source (blanks_behind old.blanks node.kind) (sites_from source later rest))
       ∙ ap (λ ws. fold further ws (wanted_from source (blanks_behind old.blanks node.kind) (sites_from source later rest))) (sym (ap (λ (v : Variables). wanted_in source v.firsts) is ∙ met_firsts source old node.kind node.at wants))
       ∙ ap (λ n. fold further (wanted_in source new.firsts) (wanted_from source n (sites_from source later rest))) (sym blanks_are);
-  blanks = was.blanks ∙ ap (λ n. blanks_after n rest) (sym blanks_are);
-  covered = λ h. was.covered (ap nodes_at site ∙ ap (λ ns. node ∷ ns) h);
+  blanks = was.blanks ∙ ap (λ ss. blanks_after old.blanks (nodes_at ss)) site ∙ ap (λ n. blanks_after n (nodes_at (sites_from source later rest))) (sym blanks_are);
 } where
   blanks_are : new.blanks ≡ blanks_behind old.blanks node.kind
   blanks_are = ap (λ (v : Variables). v.blanks) is ∙ met_blanks source old node.kind node.at wants
@@ -79,35 +76,40 @@ meeting_goes_on source sites nodes start old new next later node rest wants site
 pub meeting_more : (source : Source) (sites : List Site) (nodes : List RawNode) (start old new : Variables) (next later : List (List ℕ)) (i : ℕ) (d : RawNode) (wants : Span) → i < length nodes
     → sites_from source next (get_or nodes i d ∷ drop (i + 1) nodes) ≡ record { node = get_or nodes i d; wants = said source wants } ∷ sites_from source later (drop (i + 1) nodes)
     → new ≡ met_site source old (get_or nodes i d).kind (get_or nodes i d).at wants
-    → IsMeeting source sites nodes start old next (drop i nodes) → IsMeeting source sites nodes start new later (drop (i + 1) nodes)
+    → IsMeeting source sites start old next (drop i nodes) → IsMeeting source sites start new later (drop (i + 1) nodes)
 meeting_more source sites nodes start old new next later i d wants h site is was =
-    meeting_goes_on source sites nodes start old new next later (get_or nodes i d) (drop (i + 1) nodes) wants site is
-    (subst (λ (ns : List RawNode). IsMeeting source sites nodes start old next ns) (drop_more nodes i d h) was)
+    meeting_goes_on source sites start old new next later (get_or nodes i d) (drop (i + 1) nodes) wants site is
+    (subst (λ (ns : List RawNode). IsMeeting source sites start old next ns) (drop_more nodes i d h) was)
 
 pub no_sites : (source : Source) (next : List (List ℕ)) → sites_from source next [] ≡ []
 no_sites source [] = refl
 no_sites source (wants ∷ next) = refl
 
--- all nodes of an atom were met
-pub meeting_ends : (source : Source) (atom : RawAtom) (sites : List Site) (nodes : List RawNode) (start now : Variables) (next : List (List ℕ)) → sites ≡ sites_in source atom → nodes ≡ atom.nodes
-    → IsMeeting source sites nodes start now next [] → AreMet source (atom ∷ []) start now
-meeting_ends source atom sites nodes start now next sites_are nodes_are was = record {
-  firsts = sym (ap (λ ss. fold further (wanted_in source start.firsts) (wanted_from source start.blanks ss)) (append-nil (sites_in source atom) ∙ sym sites_are) ∙ was.firsts
-      ∙ ap (λ ss. fold further (wanted_in source now.firsts) (wanted_from source now.blanks ss)) (no_sites source next));
-  blanks = sym (ap (blanks_after start.blanks) (append-nil atom.nodes ∙ sym nodes_are) ∙ was.blanks);
-  covered = ap nodes_at (append-nil (sites_in source atom) ∙ sym sites_are) ∙ was.covered (ap nodes_at (no_sites source next)) ∙ nodes_are ∙ sym (append-nil atom.nodes);
-}
+-- all terms of an atom were met
+meeting_ends : (source : Source) (atom : RawAtom) (types : List (List ℕ)) (start now : Variables) (next : List (List ℕ)) (rest : List RawNode) → sites_from source types atom.nodes ≡ sites_in source atom → sites_from source next rest ≡ []
+    → IsMeeting source (sites_from source types atom.nodes) start now next rest → AreMet source (atom ∷ []) start now
+meeting_ends source atom types start now next rest types_are none was =
+    let sites : sites_of source (atom ∷ []) ≡ sites_from source types atom.nodes = append-nil (sites_in source atom) ∙ sym types_are in
+    record {
+      firsts = sym (ap (λ ss. fold further (wanted_in source start.firsts) (wanted_from source start.blanks ss)) sites ∙ was.firsts
+          ∙ ap (λ ss. fold further (wanted_in source now.firsts) (wanted_from source now.blanks ss)) none);
+      blanks = sym (ap (λ ss. blanks_after start.blanks (nodes_at ss)) sites ∙ was.blanks ∙ ap (λ ss. blanks_after now.blanks (nodes_at ss)) none);
+    }
 
-pub meeting_over : (source : Source) (atom : RawAtom) (types : List (List ℕ)) (nodes : List RawNode) (start now : Variables) (next : List (List ℕ)) (i : ℕ) → sites_from source types atom.nodes ≡ sites_in source atom → nodes ≡ atom.nodes → length nodes ≤ i
-    → IsMeeting source (sites_from source types nodes) nodes start now next (drop i nodes) → AreMet source (atom ∷ []) start now
-meeting_over source atom types nodes start now next i types_are nodes_are h was =
-    meeting_ends source atom (sites_from source types nodes) nodes start now next (ap (sites_from source types) nodes_are ∙ types_are) nodes_are
-    (subst (λ (ns : List RawNode). IsMeeting source (sites_from source types nodes) nodes start now next ns) (drop_all i nodes h) was)
+-- at the last node, and where no more terms are wanted
+pub meeting_over : (source : Source) (atom : RawAtom) (types : List (List ℕ)) (start now : Variables) (next : List (List ℕ)) (i : ℕ) → sites_from source types atom.nodes ≡ sites_in source atom → length atom.nodes ≤ i
+    → IsMeeting source (sites_from source types atom.nodes) start now next (drop i atom.nodes) → AreMet source (atom ∷ []) start now
+meeting_over source atom types start now next i types_are h was =
+    meeting_ends source atom types start now next (drop i atom.nodes) types_are (ap (sites_from source next) (drop_all i atom.nodes h) ∙ no_sites source next) was
+
+pub meeting_full : (source : Source) (atom : RawAtom) (types : List (List ℕ)) (start now : Variables) (next : List (List ℕ)) (rest : List RawNode) → sites_from source types atom.nodes ≡ sites_in source atom → next ≡ []
+    → IsMeeting source (sites_from source types atom.nodes) start now next rest → AreMet source (atom ∷ []) start now
+meeting_full source atom types start now next rest types_are full was = meeting_ends source atom types start now next rest types_are (ap (λ ts. sites_from source ts rest) full) was
 
 -- ---- atoms are met one after another
 
 pub none_are_met : (source : Source) (now : Variables) → AreMet source [] now now
-none_are_met source now = record { firsts = refl; blanks = refl; covered = refl }
+none_are_met source now = record { firsts = refl; blanks = refl }
 
 pub wanted_both : (source : Source) (blanks : ℕ) (sites others : List Site) → wanted_from source blanks (sites ++ others) ≡ wanted_from source blanks sites ++ wanted_from source (blanks_after blanks (nodes_at sites)) others
 wanted_both source blanks [] others = refl
@@ -121,19 +123,20 @@ blanks_both blanks [] others = refl
 blanks_both blanks (node ∷ nodes) others = blanks_both (blanks_behind blanks node.kind) nodes others
 
 pub both_are_met : (source : Source) (one two : List RawAtom) (start middle now : Variables) → AreMet source one start middle → AreMet source two middle now → AreMet source (one ++ two) start now
-both_are_met source one two start middle now first second = record {
-  firsts = second.firsts ∙ ap (λ ws. fold further ws (wanted_from source middle.blanks (sites_of source two))) first.firsts
-      ∙ sym (ap (λ ss. fold further (wanted_in source start.firsts) (wanted_from source start.blanks ss)) (flat_map-append (sites_in source) one two)
-      ∙ ap (fold further (wanted_in source start.firsts)) (wanted_both source start.blanks (sites_of source one) (sites_of source two))
-      ∙ fold-append further (wanted_in source start.firsts) (wanted_from source start.blanks (sites_of source one)) (wanted_from source (blanks_after start.blanks (nodes_at (sites_of source one))) (sites_of source two))
-      ∙ ap (λ n. fold further (fold further (wanted_in source start.firsts) (wanted_from source start.blanks (sites_of source one))) (wanted_from source n (sites_of source two)))
-      (ap (blanks_after start.blanks) first.covered ∙ sym first.blanks));
-  blanks = second.blanks ∙ ap (λ n. blanks_after n (raw_nodes two)) first.blanks
-      ∙ sym (ap (blanks_after start.blanks) (flat_map-append (λ (atom : RawAtom). atom.nodes) one two) ∙ blanks_both start.blanks (raw_nodes one) (raw_nodes two));
-  covered = ap nodes_at (flat_map-append (sites_in source) one two) ∙ map-append (λ (site : Site). site.node) (sites_of source one) (sites_of source two)
-      ∙ ap (λ ns. ns ++ nodes_at (sites_of source two)) first.covered ∙ ap (λ ns. raw_nodes one ++ ns) second.covered
-      ∙ sym (flat_map-append (λ (atom : RawAtom). atom.nodes) one two);
-}
+both_are_met source one two start middle now first second =
+    let sites = flat_map-append (sites_in source) one two in
+    let was = fold further (wanted_in source start.firsts) (wanted_from source start.blanks (sites_of source one)) in
+    record {
+      firsts = second.firsts ∙ ap (λ ws. fold further ws (wanted_from source middle.blanks (sites_of source two))) first.firsts
+          ∙ ap (λ n. fold further was (wanted_from source n (sites_of source two))) first.blanks
+          ∙ sym (ap (λ ss. fold further (wanted_in source start.firsts) (wanted_from source start.blanks ss)) sites
+          ∙ ap (fold further (wanted_in source start.firsts)) (wanted_both source start.blanks (sites_of source one) (sites_of source two))
+          ∙ fold-append further (wanted_in source start.firsts) (wanted_from source start.blanks (sites_of source one)) (wanted_from source (blanks_after start.blanks (nodes_at (sites_of source one))) (sites_of source two)));
+      blanks = second.blanks ∙ ap (λ n. blanks_after n (nodes_at (sites_of source two))) first.blanks
+          ∙ sym (ap (λ ss. blanks_after start.blanks (nodes_at ss)) sites
+          ∙ ap (blanks_after start.blanks) (map-append (λ (site : Site). site.node) (sites_of source one) (sites_of source two))
+          ∙ blanks_both start.blanks (nodes_at (sites_of source one)) (nodes_at (sites_of source two)));
+    }
 
 -- one more part of a loop
 pub part_is_met : {X : Type 0} (source : Source) (g : X → List RawAtom) (xs : List X) (i : ℕ) (x : X) (start old new : Variables) → i < length xs → x ≡ get_or xs i x

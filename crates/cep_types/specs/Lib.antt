@@ -1,4 +1,3 @@
 pub mod Sites
-pub mod Heads
 pub mod Met
 pub mod Clashes

@@ -53,7 +53,9 @@ fn atom_clash(
     let mut first = FirstFault::none();
     let mut pending = pending(source, atom.name)?;
     for node in atom.nodes {
-        let wants = site(source, &mut pending, node)?;
+        let Some(wants) = site(source, &mut pending, node)? else {
+            return Ok(first.found());
+        };
         first.note(clash(source, variables, node, wants));
     }
     Ok(first.found())

@@ -2,10 +2,8 @@
 #![tactic(auto)]
 
 mod clashes;
-mod numbers;
 mod sites;
 mod variables;
 
 pub use clashes::type_fault;
-pub use numbers::{kinds, number};
-pub use variables::{clause_variables, head, rule_variables, variable_kinds};
+pub use variables::{clause_variables, rule_variables};

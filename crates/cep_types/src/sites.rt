@@ -1,5 +1,5 @@
 // Which type is wanted of each term of an atom.
-ghost use Rattle.std.specs.Prelude.{◌≡◌, ◌∷◌, List, map, IfOk};
+ghost use Rattle.std.specs.Prelude.{◌≡◌, ◌∷◌, [], List, map, IfOk, IfSome, IfNone};
 ghost use Rattle.cep_parse.specs.declared.raw.RawNode.{RawNode};
 ghost use Rattle.cep_source.specs.Items.{said};
 ghost use Rattle.cep_types.specs.Sites.{node_types, pred_types, sites_from};
@@ -41,16 +41,21 @@ pub(crate) fn pending(source: &Source, name: Span) -> Result<Stack<Span>, AllocE
     Ok(pending)
 }
 
-// The type that is wanted of the next node.
+// The type that is wanted of the next node, or none where the node is one too many.
 pub(crate) fn site(
     source: &Source,
     pending: &mut Stack<Span>,
     node: &RawNode,
-) -> Result<Span, AllocError>
-    ensures { (nodes : List RawNode) → IfOk result (λ wants. sites_from source.now (map (said source.now) pending.old) (node.now ∷ nodes) ≡ record { node = node.now; wants = said source.now wants } ∷ sites_from source.now (map (said source.now) pending.new) nodes) }
+) -> Result<Option<Span>, AllocError>
+    ensures none { IfOk result (λ wants. IfNone wants (map (said source.now) pending.old ≡ [])) }
+    ensures next { IfOk result (λ wants. IfSome wants (λ wants. (nodes : List RawNode)
+        → sites_from source.now (map (said source.now) pending.old) (node.now ∷ nodes)
+        ≡ record { node = node.now; wants = said source.now wants }
+        ∷ sites_from source.now (map (said source.now) pending.new) nodes)) }
 {
-    // In a text without wrong names no node is one too many.
-    let wants = pending.pop().ok_or(AllocError)?;
+    let Some(wants) = pending.pop() else {
+        return Ok(None);
+    };
     pending.push_all(node_types(source, node))?;
-    Ok(wants)
+    Ok(Some(wants))
 }

@@ -1,17 +1,13 @@
 // The variables of atoms that share them, each with the type that is wanted where it occurs first.
-ghost use Rattle.std.specs.Prelude.{◌≡◌, ◌∷◌, ◌++◌, [], IfOk, OnOk};
+ghost use Rattle.std.specs.Prelude.{◌∷◌, ◌++◌, [], IfOk, OnOk};
 ghost use Rattle.cep_parse.specs.Raw.{atoms_of};
-ghost use Rattle.cep_base.specs.FirstNames.{names_among};
 ghost use Rattle.cep_source.specs.Met.{none_met};
 ghost use Rattle.cep_source.specs.Kept.{atom_at, clause_item};
-ghost use Rattle.cep_types.specs.Heads.{variable_of, head_at};
-ghost use Rattle.cep_types.specs.Met.{AreMet, kinds_met, head_by};
+ghost use Rattle.cep_types.specs.Met.{AreMet};
 
-use crate::numbers::{kinds, number, number_at};
 use crate::sites::{pending, site};
-use cep_base::List;
-use cep_parse::{RawElem, RawNode, RawRule};
-use cep_source::{AtomRef, ClauseRef, Source, Space, Variables, variable_at};
+use cep_parse::{RawElem, RawRule};
+use cep_source::{AtomRef, ClauseRef, Source, Variables};
 use std::alloc::AllocError;
 
 // Meets the variables of an atom.
@@ -24,7 +20,9 @@ pub(crate) fn meet_atom(
 {
     let mut pending = pending(source, atom.name)?;
     for node in atom.nodes {
-        let wants = site(source, &mut pending, node)?;
+        let Some(wants) = site(source, &mut pending, node)? else {
+            return Ok(());
+        };
         variables.meet(source, node, wants)?;
     }
     Ok(())
@@ -63,35 +61,4 @@ pub fn clause_variables(source: &Source, clause: &ClauseRef) -> Result<Variables
         meet_atom(source, &mut variables, AtomRef::of_raw(goal))?;
     }
     Ok(variables)
-}
-
-// The number of a variable, from 0.
-fn variable_number(variables: &Variables, name: &[u8]) -> Result<u32, AllocError>
-    ensures { IfOk result (λ number. number ≡ variable_of (names_among variables.now.firsts) name.now) }
-{
-    number_at(variables.firsts.number(name).unwrap_or(0))
-}
-
-/// The number of what stands at a node, a constructor or a variable, where so many blanks stand
-/// before it.
-pub fn head(
-    source: &Source,
-    variables: &Variables,
-    blanks: u64,
-    node: &RawNode,
-) -> Result<u32, AllocError>
-    ensures { IfOk result (λ number. head_by node.now.kind number node.now.args ≡ head_at source.now (names_among variables.now.firsts) blanks node.now.kind node.now.at node.now.args) }
-{
-    match variable_at(source, blanks, node)? {
-        Some(name) => variable_number(variables, name.bytes()),
-        None => number(source, Space::Constructors, node.at),
-    }
-}
-
-/// The types of variables, by their numbers.
-pub fn variable_kinds(source: &Source, variables: &Variables) -> Result<List<u32>, AllocError>
-    ensures { IfOk result (λ kinds. kinds ≡ kinds_met source.now variables.now.firsts) }
-{
-    let types = variables.firsts.values(source.alloc())?;
-    kinds(source, &types)
 }

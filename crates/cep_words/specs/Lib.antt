@@ -1,4 +1,3 @@
 pub mod Words
-pub mod Numerals
 pub mod Adding
 pub mod Requests

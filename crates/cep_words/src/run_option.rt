@@ -2,7 +2,8 @@ ghost use Rattle.std.specs.Prelude.{◌≡◌, ℕ, ◌^◌, ◌<◌, ◌++◌, 
 ghost use Rattle.cep_words.specs.Words.{option_text, IsInBounds, IsUpTo};
 ghost use Rattle.cep_words.specs.declared.run_option.RunOption.{RunOption};
 
-use crate::number::{number_of, number_within};
+use crate::number::number_within;
+use cep_base::decimal;
 use cep_base::limits::{MOST_HEIGHT, MOST_TURNS};
 
 /// One thing that a word may ask of a run.
@@ -42,7 +43,7 @@ fn seed_in(word: &[u8]) -> Option<u64>
         ((seed : ℕ) → seed < 2 ^ 64 → word.now ≡ codes "seed=" ++ decimal seed → ⊥)
         (λ seed. word.now ≡ codes "seed=" ++ decimal seed) }
 {
-    number_of(word.strip_prefix(b"seed=")?)
+    decimal(word.strip_prefix(b"seed=")?)
 }
 
 fn height_in(word: &[u8]) -> Option<u32>

@@ -18,6 +18,7 @@ unwrap-trace-requires c =
 
 pub parts_from-requires : goal.parts_from-requires
 parts_from-requires c = record {
+  filled = c.requires.filled;
   named = subst (IsFirstOrNone (Misnamed c.args.source.now)) c.in_default.is c.in_ok-misnamed.ensures;
   first = first_trace c.args.source.now c.traces.result.now c.unwrap-trace.result c.item_at.result c.traces.ensures c.item_at.ensures c.unwrap-trace.ensures;
 }

@@ -6,8 +6,12 @@ use Rattle.cep_term.specs.Multiset.{once}
 use Rattle.cep_source.specs.Kept.{trace_item}
 use Rattle.cep_infer.specs.Meaning.{is_fact_by}
 use Rattle.cep_infer.proofs.GroundStates.{start_ground}
+use Rattle.cep_infer.proofs.Readable.{start_filled}
 use Rattle.cep_infer.proofs.Reordered.{all_reordered, same_gathered}
 use Rattle.cep_infer.proofs.start.read_start.Goals as goal
+
+pub start_atoms-atoms-requires : goal.start_atoms-atoms-requires
+start_atoms-atoms-requires c = start_filled c.args.source.now c.requires.filled (trace_item c.args.trace.now) c.requires.there
 
 pub add_all-requires : goal.add_all-requires
 add_all-requires c =

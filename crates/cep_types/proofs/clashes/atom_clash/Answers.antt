@@ -5,7 +5,7 @@ use Rattle.cep_source.specs.Items.{said}
 use Rattle.cep_types.specs.Sites.{sites_from}
 use Rattle.cep_types.specs.Clashes.{clash_of}
 use Rattle.cep_types.specs.Met.{type_met}
-use Rattle.cep_types.proofs.Clashing.{clash_more, clash_over}
+use Rattle.cep_types.proofs.Clashing.{clash_more, clash_full, clash_over}
 use Rattle.cep_types.proofs.clashes.atom_clash.Goals as goal
 
 pub loop-node-preserved : goal.loop-node-preserved
@@ -13,13 +13,21 @@ loop-node-preserved c =
     let source = c.args.source.now in
     let f = clash_of source (type_met source c.args.variables.now.firsts) in
     let nodes = c.args.atom.nodes.now in
-    clash_more source f _ nodes c.loop-node.node-index _ (map (said source) c.loop-node.pending) (map (said source) c.site.new.pending) (said source c.in_ok-wants.wants) c.loop-node.first c.clash.result c.note.new.self c.loop-node-test.true
-    (c.in_ok-wants.ensures (drop (c.loop-node.node-index + 1) nodes)) c.loop-node.invariant c.clash.ensures c.note.ensures
+    clash_more source f _ nodes c.loop-node.node-index _ (map (said source) c.loop-node.pending) (map (said source) c.site.new.pending) (said source c.in-Some.wants) c.loop-node.first c.clash.result c.note.new.self c.loop-node-test.true
+    ((rw c.in-Some.is at c.in_ok-site.ensures.next) (drop (c.loop-node.node-index + 1) nodes)) c.loop-node.invariant c.clash.ensures c.note.ensures
+
+pub returns-in_default : goal.returns-in_default
+returns-in_default c =
+    let source = c.args.source.now in
+    let f = clash_of source (type_met source c.args.variables.now.firsts) in
+    let nodes = c.args.atom.nodes.now in
+    c.found.ensures ∙ clash_full source f (first_in (flat_map f (sites_from source (map (said source) c.in_ok-pending.pending) nodes))) (drop c.loop-node.node-index nodes) (map (said source) c.loop-node.pending) c.loop-node.first (rw c.in_default.is at c.in_ok-site.ensures.none) c.loop-node.invariant
+    ∙ ap (λ types. first_in (flat_map f (sites_from source types nodes))) c.in_ok-pending.ensures
 
 pub returns : goal.returns
 returns c =
     let source = c.args.source.now in
     let f = clash_of source (type_met source c.args.variables.now.firsts) in
     let nodes = c.args.atom.nodes.now in
-    c.found.ensures ∙ clash_over source f (first_in (flat_map f (sites_from source (map (said source) c.in_ok-pending.pending) nodes))) nodes c.loop-node.node-index (map (said source) c.loop-node.pending) c.loop-node.first c.loop-node-test.false c.loop-node.invariant
+    c.found-2.ensures ∙ clash_over source f (first_in (flat_map f (sites_from source (map (said source) c.in_ok-pending.pending) nodes))) nodes c.loop-node.node-index (map (said source) c.loop-node.pending) c.loop-node.first c.loop-node-test.false c.loop-node.invariant
     ∙ ap (λ types. first_in (flat_map f (sites_from source types nodes))) c.in_ok-pending.ensures

@@ -1,8 +1,8 @@
-use Rattle.std.proofs.Common.{List, ℕ, ◌+◌, map, drop, ap, refl}
+use Rattle.std.proofs.Common.{List, ℕ, ◌+◌, map, drop, ap}
 use Rattle.cep_source.specs.Items.{said}
 use Rattle.cep_source.specs.Kept.{atom_at}
 use Rattle.cep_types.specs.Sites.{sites_from}
-use Rattle.cep_types.proofs.Meeting.{meeting_more, meeting_over}
+use Rattle.cep_types.proofs.Meeting.{meeting_more, meeting_over, meeting_full}
 use Rattle.cep_types.proofs.variables.meet_atom.Goals as goal
 
 pub loop-node-preserved : goal.loop-node-preserved
@@ -10,11 +10,17 @@ loop-node-preserved c =
     let source = c.args.source.now in
     let nodes = c.args.atom.nodes.now in
     meeting_more source (sites_from source (map (said source) c.in_ok-pending.pending) nodes) nodes c.args.variables.now c.loop-node.variables c.meet.new.self
-    (map (said source) c.loop-node.pending) (map (said source) c.site.new.pending) c.loop-node.node-index _ c.in_ok-wants.wants c.loop-node-test.true
-    (c.in_ok-wants.ensures (drop (c.loop-node.node-index + 1) nodes)) c.in_ok-meet.ensures c.loop-node.invariant
+    (map (said source) c.loop-node.pending) (map (said source) c.site.new.pending) c.loop-node.node-index _ c.in-Some.wants c.loop-node-test.true
+    ((rw c.in-Some.is at c.in_ok-site.ensures.next) (drop (c.loop-node.node-index + 1) nodes)) c.in_ok-meet.ensures c.loop-node.invariant
+
+pub returns-in_default : goal.returns-in_default
+returns-in_default c =
+    let source = c.args.source.now in
+    meeting_full source (atom_at c.args.atom) (map (said source) c.in_ok-pending.pending) c.args.variables.now c.loop-node.variables (map (said source) c.loop-node.pending) (drop c.loop-node.node-index c.args.atom.nodes.now)
+    (ap (λ (types : List (List ℕ)). sites_from source types c.args.atom.nodes.now) c.in_ok-pending.ensures) (rw c.in_default.is at c.in_ok-site.ensures.none) c.loop-node.invariant
 
 pub returns : goal.returns
 returns c =
     let source = c.args.source.now in
-    meeting_over source (atom_at c.args.atom) (map (said source) c.in_ok-pending.pending) c.args.atom.nodes.now c.args.variables.now c.loop-node.variables (map (said source) c.loop-node.pending) c.loop-node.node-index
-    (ap (λ (types : List (List ℕ)). sites_from source types c.args.atom.nodes.now) c.in_ok-pending.ensures) refl c.loop-node-test.false c.loop-node.invariant
+    meeting_over source (atom_at c.args.atom) (map (said source) c.in_ok-pending.pending) c.args.variables.now c.loop-node.variables (map (said source) c.loop-node.pending) c.loop-node.node-index
+    (ap (λ (types : List (List ℕ)). sites_from source types c.args.atom.nodes.now) c.in_ok-pending.ensures) c.loop-node-test.false c.loop-node.invariant

@@ -1,7 +1,7 @@
 // The numbers of names in their spaces.
 ghost use Rattle.std.specs.Prelude.{◌≡◌, IfOk};
 ghost use Rattle.cep_source.specs.Items.{said};
-ghost use Rattle.cep_types.specs.Heads.{number_of, sorts_said};
+ghost use Rattle.cep_infer.specs.Numbers.{number_of, sorts_said};
 
 use cep_base::List;
 use cep_parse::Span;
@@ -18,15 +18,15 @@ pub(crate) fn number_at(place: usize) -> Result<u32, AllocError>
     }
 }
 
-/// The number of a name in its space, from 0.
-pub fn number(source: &Source, space: Space, name: Span) -> Result<u32, AllocError>
+// The number of a name in its space, from 0.
+pub(crate) fn number(source: &Source, space: Space, name: Span) -> Result<u32, AllocError>
     ensures { IfOk result (λ number. number ≡ number_of source.now space (said source.now name)) }
 {
     number_at(source.place(space, source.said(name)).unwrap_or(0))
 }
 
-/// The numbers of types by their names.
-pub fn kinds(source: &Source, names: &[Span]) -> Result<List<u32>, AllocError>
+// The numbers of types by their names.
+pub(crate) fn kinds(source: &Source, names: &[Span]) -> Result<List<u32>, AllocError>
     ensures { IfOk result (λ kinds. kinds ≡ sorts_said source.now names.now) }
 {
     let mut kinds = List::new(source.alloc());

@@ -1,7 +1,7 @@
 use Rattle.std.proofs.Common.{◌∙◌, ap, unwrap_or}
 use Rattle.std.proofs.lemmas.Result.{IfOk-weaker}
 use Rattle.cep_source.proofs.Lookups.{number_among}
-use Rattle.cep_types.proofs.variables.variable_number.Goals as goal
+use Rattle.cep_infer.proofs.heads.variable_number.Goals as goal
 
 pub returns : goal.returns
 returns c =

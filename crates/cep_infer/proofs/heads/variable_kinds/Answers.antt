@@ -2,9 +2,9 @@ use Rattle.std.proofs.Common.{List, ℕ, ◌≡◌, ◌∙◌, ap, subst}
 use Rattle.std.specs.Prelude.{IfOk}
 use Rattle.std.proofs.lemmas.Simd.{map-map}
 use Rattle.cep_parse.specs.declared.raw.Span.{Span}
-use Rattle.cep_types.specs.Heads.{sorts_said}
-use Rattle.cep_types.specs.Met.{kinds_met}
-use Rattle.cep_types.proofs.variables.variable_kinds.Goals as goal
+use Rattle.cep_infer.specs.Numbers.{sorts_said}
+use Rattle.cep_infer.specs.Built.{kinds_met}
+use Rattle.cep_infer.proofs.heads.variable_kinds.Goals as goal
 
 pub returns : goal.returns
 returns c =
