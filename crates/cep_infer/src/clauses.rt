@@ -9,10 +9,10 @@ ghost use Rattle.cep_infer.specs.Readable.{AreReadable};
 ghost use Rattle.cep_infer.specs.Meaning.{IsClauseBy};
 
 use crate::atoms::read_atoms;
+use crate::heads::variable_kinds;
 use crate::terms::read_atom;
 use cep_rule::{Clause, Clauses};
 use cep_source::{ClauseRef, Source};
-use crate::heads::variable_kinds;
 use cep_types::clause_variables;
 use std::alloc::AllocError;
 

@@ -34,7 +34,10 @@ pub(crate) fn head(
 }
 
 // The types of variables, by their numbers.
-pub(crate) fn variable_kinds(source: &Source, variables: &Variables) -> Result<List<u32>, AllocError>
+pub(crate) fn variable_kinds(
+    source: &Source,
+    variables: &Variables,
+) -> Result<List<u32>, AllocError>
     ensures { IfOk result (λ kinds. kinds ≡ kinds_met source.now variables.now.firsts) }
 {
     let types = variables.firsts.values(source.alloc())?;

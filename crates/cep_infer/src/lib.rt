@@ -5,8 +5,8 @@
 mod atoms;
 mod clauses;
 mod draft;
-pub mod laws;
 mod heads;
+pub mod laws;
 mod left;
 mod numbers;
 mod places;

@@ -22,10 +22,7 @@ pub(crate) struct Reached {
     pub pos: Pos,
 }
 
-const BEGINNING: Reached = Reached {
-    at: 0,
-    pos: START,
-};
+const BEGINNING: Reached = Reached { at: 0, pos: START };
 
 /// For each rule the places of its backward premises, and of what is unbound on its right side.
 #[derive(Drop)]

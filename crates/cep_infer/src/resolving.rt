@@ -11,6 +11,7 @@ ghost use Rattle.cep_infer.specs.Resolved.{IsWellNamed, IsFirstFault, IsResolved
 use crate::clauses::read_clauses;
 use crate::draft::Draft;
 use crate::laws::atoms_are_made_of_tokens;
+use crate::numbers::number;
 use crate::places::rule_places;
 use crate::rules::read_rules;
 use crate::signature::{read_signature, read_stages};
@@ -20,7 +21,6 @@ use cep_parse::{RawFile, Span};
 use cep_refusal::{Fault, Refusal};
 use cep_rule::Parts;
 use cep_source::{Source, Space, TraceRef, item_at, turns_said};
-use crate::numbers::number;
 use cep_types::type_fault;
 use std::alloc::{AllocError, Global};
 

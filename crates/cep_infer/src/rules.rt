@@ -10,13 +10,13 @@ ghost use Rattle.cep_infer.specs.Readable.{AreReadable};
 ghost use Rattle.cep_infer.specs.Meaning.{IsRuleBy, stage_named, group_of, next_of};
 
 use crate::atoms::read_side;
+use crate::heads::variable_kinds;
 use crate::left::read_left;
+use crate::numbers::number;
 use cep_base::Name;
 use cep_parse::{RawElem, Span};
 use cep_rule::{Rule, Rules};
 use cep_source::{RuleRef, Source, Space};
-use crate::heads::variable_kinds;
-use crate::numbers::number;
 use cep_types::rule_variables;
 use std::alloc::AllocError;
 

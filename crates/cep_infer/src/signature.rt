@@ -3,11 +3,11 @@ ghost use Rattle.std.specs.Prelude.{◌≡◌, map, IfOk};
 ghost use Rattle.cep_source.specs.Items.{said, sorts_of, stages_of, cons_of, preds_of};
 ghost use Rattle.cep_infer.specs.Meaning.{con_by, pred_by, signature_of, stage_by};
 
+use crate::numbers::{kinds, number};
 use cep_base::Name;
 use cep_parse::Span;
 use cep_rule::{Con, Cons, Names, PredDecl, Preds, Signature, Stage, Stages};
 use cep_source::{Source, Space};
-use crate::numbers::{kinds, number};
 use std::alloc::AllocError;
 
 // The name that the text says at a span.

@@ -9,11 +9,11 @@ ghost use Rattle.cep_infer.specs.Numbers.{heads_from};
 ghost use Rattle.cep_infer.specs.Shapes.{IsFilled};
 ghost use Rattle.cep_infer.specs.Heads.{IsAtomBy, heads_of, heads_among, argument_count};
 
+use crate::heads::head;
+use crate::numbers::number;
 use cep_parse::{RawKind, RawNode};
 use cep_source::{AtomRef, Source, Space, Variables, blanks_behind};
 use cep_term::{Args, Atom, Term};
-use crate::heads::head;
-use crate::numbers::number;
 use std::alloc::AllocError;
 
 /// Where the nodes of an atom are read: the place of the next node, and how many blanks stand

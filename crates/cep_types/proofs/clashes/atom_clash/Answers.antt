@@ -14,14 +14,14 @@ loop-node-preserved c =
     let f = clash_of source (type_met source c.args.variables.now.firsts) in
     let nodes = c.args.atom.nodes.now in
     clash_more source f _ nodes c.loop-node.node-index _ (map (said source) c.loop-node.pending) (map (said source) c.site.new.pending) (said source c.in-Some.wants) c.loop-node.first c.clash.result c.note.new.self c.loop-node-test.true
-    ((rw c.in-Some.is at c.in_ok-site.ensures.next) (drop (c.loop-node.node-index + 1) nodes)) c.loop-node.invariant c.clash.ensures c.note.ensures
+    ((rw c.in-Some.is at c.in_ok-wants.ensures.next) (drop (c.loop-node.node-index + 1) nodes)) c.loop-node.invariant c.clash.ensures c.note.ensures
 
 pub returns-in_default : goal.returns-in_default
 returns-in_default c =
     let source = c.args.source.now in
     let f = clash_of source (type_met source c.args.variables.now.firsts) in
     let nodes = c.args.atom.nodes.now in
-    c.found.ensures ∙ clash_full source f (first_in (flat_map f (sites_from source (map (said source) c.in_ok-pending.pending) nodes))) (drop c.loop-node.node-index nodes) (map (said source) c.loop-node.pending) c.loop-node.first (rw c.in_default.is at c.in_ok-site.ensures.none) c.loop-node.invariant
+    c.found.ensures ∙ clash_full source f (first_in (flat_map f (sites_from source (map (said source) c.in_ok-pending.pending) nodes))) (drop c.loop-node.node-index nodes) (map (said source) c.loop-node.pending) c.loop-node.first (rw c.in_default.is at c.in_ok-wants.ensures.none) c.loop-node.invariant
     ∙ ap (λ types. first_in (flat_map f (sites_from source types nodes))) c.in_ok-pending.ensures
 
 pub returns : goal.returns

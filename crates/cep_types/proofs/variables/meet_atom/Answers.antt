@@ -11,13 +11,13 @@ loop-node-preserved c =
     let nodes = c.args.atom.nodes.now in
     meeting_more source (sites_from source (map (said source) c.in_ok-pending.pending) nodes) nodes c.args.variables.now c.loop-node.variables c.meet.new.self
     (map (said source) c.loop-node.pending) (map (said source) c.site.new.pending) c.loop-node.node-index _ c.in-Some.wants c.loop-node-test.true
-    ((rw c.in-Some.is at c.in_ok-site.ensures.next) (drop (c.loop-node.node-index + 1) nodes)) c.in_ok-meet.ensures c.loop-node.invariant
+    ((rw c.in-Some.is at c.in_ok-wants.ensures.next) (drop (c.loop-node.node-index + 1) nodes)) c.in_ok-meet.ensures c.loop-node.invariant
 
 pub returns-in_default : goal.returns-in_default
 returns-in_default c =
     let source = c.args.source.now in
     meeting_full source (atom_at c.args.atom) (map (said source) c.in_ok-pending.pending) c.args.variables.now c.loop-node.variables (map (said source) c.loop-node.pending) (drop c.loop-node.node-index c.args.atom.nodes.now)
-    (ap (λ (types : List (List ℕ)). sites_from source types c.args.atom.nodes.now) c.in_ok-pending.ensures) (rw c.in_default.is at c.in_ok-site.ensures.none) c.loop-node.invariant
+    (ap (λ (types : List (List ℕ)). sites_from source types c.args.atom.nodes.now) c.in_ok-pending.ensures) (rw c.in_default.is at c.in_ok-wants.ensures.none) c.loop-node.invariant
 
 pub returns : goal.returns
 returns c =
