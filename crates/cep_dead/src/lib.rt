@@ -8,7 +8,13 @@
 //! tables, rounds and why a rule is dead; no code is named there.
 #![tactic(auto)]
 
+mod bits;
+mod closing;
 mod dead_rule;
+mod finding;
 pub mod laws;
+mod passing;
+mod table;
 
 pub use dead_rule::{DeadRule, DeadWhy, Deads};
+pub use finding::dead;
