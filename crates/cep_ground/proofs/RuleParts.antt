@@ -36,6 +36,8 @@ use Rattle.cep_types.specs.Heads.{number_of, heads_from}
 use Rattle.cep_infer.specs.Heads.{IsAtomBy, AreAtomsBy}
 use Rattle.cep_infer.specs.Meaning.{pred_by, is_fact_by, signature_of, names_of, kinds_of, is_back, ArePremisesBy, IsRuleBy, IsClauseBy}
 use Rattle.cep_ground.specs.Texts.{IsClean}
+use Rattle.std.proofs.lemmas.Bool.{not-true, true_from_ne_false}
+use Rattle.cep_base.proofs.Lists.{all_weaker}
 use Rattle.cep_base.proofs.Elements.{contains_first, contains_behind, contains_left, contains_right}
 use Rattle.cep_ground.proofs.Known.{pred_known}
 use Rattle.cep_ground.proofs.Facts.{fact_by}
@@ -62,8 +64,7 @@ all_both P Q (x ∷ xs) one other = ((one.0, other.0), all_both P Q xs one.1 oth
 
 -- what follows from what holds of all holds of all
 pub all_follow : {X : Type 0} (P Q : X → Type 0) (xs : List X) → ((x : X) → P x → Q x) → AllByRecursion P xs → AllByRecursion Q xs
-all_follow P Q [] follows all = tt
-all_follow P Q (x ∷ xs) follows all = (follows x all.0, all_follow P Q xs follows all.1)
+all_follow P Q xs follows all = all_weaker P Q xs follows all
 
 -- The predicate of an atom is this one.
 pub record IsOfPred (source : Source) (atom : AtomTree) (back : Bool) : Type 0 where
@@ -72,10 +73,6 @@ pub record IsOfPred (source : Source) (atom : AtomTree) (back : Bool) : Type 0 w
   pub back_is : is_backward pred.kind ≡ back
   pub judged : is_back source atom ≡ back
   pub fact_is : is_fact_by source atom ≡ is_of_facts pred.kind
-
-not_true : (b : Bool) → not b ≡ true → b ≡ false
-not_true true e = absurd cc
-not_true false e = refl
 
 module _ (source : Source) (clean : IsClean source) (atoms_made : AtomsMade source) where
   pub pred_at : (vars : List (List ℕ)) (blanks : ℕ) (raw : RawAtom) (atom : AtomTree) (here : IsHere source raw) → IsAtomBy source vars blanks raw atom → IsOfPred source atom (is_backward (pred_known source raw clean.names here.there).pred.kind)
@@ -96,8 +93,7 @@ module _ (source : Source) (clean : IsClean source) (atoms_made : AtomsMade sour
   fact_at vars blanks raw atom here by =
       let known = pred_known source raw clean.names here.there in
       let spot = located (λ (pred : PredItem). named source pred.name) (λ other. bytes_eq other.name (said source raw.name)) (preds_of source) known.pred known.found in
-      ap (λ f. unwrap_or (option_map (λ (pred : PredItem). is_of_facts pred.kind) f) false) (ap (slice_get (preds_of source)) by.pred ∙ spot.here)
-      ∙ sym (ap (λ (its : Option PredKind). unwrap_or (option_map is_of_facts its) false) (kind_known source clean atoms_made raw here))
+      rw (by.pred, spot.here, kind_known source clean atoms_made raw here) refl
 
   -- A premise is judged as its predicate is declared, and it is small.
   pub record IsJudged (atom : AtomTree) : Type 0 where
@@ -114,35 +110,27 @@ module _ (source : Source) (clean : IsClean source) (atoms_made : AtomsMade sour
 
   pub judged_premises : (vars : List (List ℕ)) (blanks : ℕ) (elems : List RawElem) (list : List PremiseTree) → ((raw : RawAtom) → Contains (atoms_of elems) raw → IsHere source raw) → ArePremisesBy source vars blanks elems list → AllByRecursion (λ p. IsJudged p.atom) list
   judged_premises vars blanks [] [] here by = tt
-  judged_premises vars blanks [] (p ∷ list) here by = absurd by
   judged_premises vars blanks (elem.Qui span ∷ elems) list here by = judged_premises vars blanks elems list here by
   judged_premises vars blanks (elem.Stage span ∷ elems) list here by = judged_premises vars blanks elems list here by
-  judged_premises vars blanks (elem.Atom kept raw ∷ elems) [] here by = absurd by
   judged_premises vars blanks (elem.Atom kept raw ∷ elems) (p ∷ list) here by = (
     judged_at vars blanks raw p.atom (here raw (contains_first raw (atoms_of elems))) by.1,
     judged_premises vars (blanks_after blanks raw.nodes) elems list (λ other there. here other (contains_behind raw (atoms_of elems) other there)) by.2,
   )
+  judged_premises vars blanks _ _ here by = absurd by
 
   pub judged_atoms : (vars : List (List ℕ)) (blanks : ℕ) (raws : List RawAtom) (list : List AtomTree) → ((raw : RawAtom) → Contains raws raw → IsHere source raw) → AreAtomsBy source vars blanks raws list → AllByRecursion IsJudged list
   judged_atoms vars blanks [] [] here by = tt
-  judged_atoms vars blanks [] (atom ∷ list) here by = absurd by
-  judged_atoms vars blanks (raw ∷ raws) [] here by = absurd by
   judged_atoms vars blanks (raw ∷ raws) (atom ∷ list) here by = (
     judged_at vars blanks raw atom (here raw (contains_first raw raws)) by.0,
     judged_atoms vars (blanks_after blanks raw.nodes) raws list (λ other there. here other (contains_behind raw raws other there)) by.1,
   )
+  judged_atoms vars blanks _ _ here by = absurd by
 
   of_state : (atom : AtomTree) (j : IsJudged atom) → is_back source atom ≡ false → HasStatePredicate (signature_of source) atom
-  of_state atom j linear =
-      let is = j.of_pred in
-      let e : is_backward is.pred.kind ≡ false = is.back_is ∙ sym is.judged ∙ linear in
-      subst (λ f. IsSomeAnd f (λ (pred : PredDecl). is_backward pred.kind ≡ false)) (sym is.found) e
+  of_state atom j linear = let is = j.of_pred in rw is.found (grind arith)
 
   backward_is : (atom : AtomTree) (j : IsJudged atom) → is_back source atom ≡ true → IsBackward (signature_of source) atom
-  backward_is atom j yes_ =
-      let is = j.of_pred in
-      let e : is_backward is.pred.kind ≡ true = is.back_is ∙ sym is.judged ∙ yes_ in
-      subst (λ f. IsSomeAnd f (λ (pred : PredDecl). is_backward pred.kind ≡ true)) (sym is.found) e
+  backward_is atom j yes_ = let is = j.of_pred in rw is.found (grind arith)
 
   -- the linear premises of those that are judged
   pub linear_part : (P : AtomTree → Type 0) (list : List PremiseTree) → AllByRecursion (λ p. P p.atom) list → AllByRecursion P (map (λ p. p.atom) (filter (λ p. not (is_back source p.atom)) list))
@@ -155,7 +143,7 @@ module _ (source : Source) (clean : IsClean source) (atoms_made : AtomsMade sour
   divided_premises list all =
       let some = filter (λ (p : PremiseTree). not (is_back source p.atom)) list in
       all_map (HasStatePredicate (signature_of source)) (λ (p : PremiseTree). p.atom) some
-      (all_follow (λ (p : PremiseTree). IsJudged p.atom × (not (is_back source p.atom) ≡ true)) (λ p. HasStatePredicate (signature_of source) p.atom) some (λ p h. of_state p.atom h.0 (not_true (is_back source p.atom) h.1))
+      (all_follow (λ (p : PremiseTree). IsJudged p.atom × (not (is_back source p.atom) ≡ true)) (λ p. HasStatePredicate (signature_of source) p.atom) some (λ p h. of_state p.atom h.0 (not-true (is_back source p.atom) h.1))
       (all_both (λ (p : PremiseTree). IsJudged p.atom) (λ p. not (is_back source p.atom) ≡ true) some (all_filter (λ (p : PremiseTree). IsJudged p.atom) (λ p. not (is_back source p.atom)) list all) (all_pass (λ p. not (is_back source p.atom)) list)))
 
   pub divided_backs : (list : List PremiseTree) → AllByRecursion (λ p. IsJudged p.atom) list → AllByRecursion (IsBackward (signature_of source)) (map (λ p. p.atom) (filter (λ p. is_back source p.atom) list))
@@ -166,105 +154,73 @@ module _ (source : Source) (clean : IsClean source) (atoms_made : AtomsMade sour
       (all_both (λ (p : PremiseTree). IsJudged p.atom) (λ p. is_back source p.atom ≡ true) some (all_filter (λ (p : PremiseTree). IsJudged p.atom) (λ p. is_back source p.atom) list all) (all_pass (λ p. is_back source p.atom) list)))
 
   -- the premises of a rule are divided as they are counted
-  count_step : (b : Bool) (x : PremiseTree) (y : RawAtom) (xs : List PremiseTree) (ys : List RawAtom) (p : Bool) (q : Bool) → p ≡ q → length xs ≡ length ys → length (cond p (x ∷ xs) xs) ≡ length (cond q (y ∷ ys) ys)
-  count_step b x y xs ys true true same size = ap suc size
-  count_step b x y xs ys true false same size = absurd cc
-  count_step b x y xs ys false true same size = absurd cc
-  count_step b x y xs ys false false same size = size
-
   pub linear_count : (vars : List (List ℕ)) (blanks : ℕ) (elems : List RawElem) (list : List PremiseTree) → ((raw : RawAtom) → Contains (atoms_of elems) raw → IsHere source raw) → ArePremisesBy source vars blanks elems list
       → length (filter (λ p. not (is_back source p.atom)) list) ≡ length (filter (λ atom. may_be_state (kind_of source atom)) (atoms_of elems))
   linear_count vars blanks [] [] here by = refl
-  linear_count vars blanks [] (p ∷ list) here by = absurd by
   linear_count vars blanks (elem.Qui span ∷ elems) list here by = linear_count vars blanks elems list here by
   linear_count vars blanks (elem.Stage span ∷ elems) list here by = linear_count vars blanks elems list here by
-  linear_count vars blanks (elem.Atom kept raw ∷ elems) [] here by = absurd by
   linear_count vars blanks (elem.Atom kept raw ∷ elems) (p ∷ list) here by =
       let is = here raw (contains_first raw (atoms_of elems)) in
-      let known = kind_known source clean atoms_made raw is in
-      let judged = (pred_at vars blanks raw p.atom is by.1).judged in
-      count_step true p raw _ _ (not (is_back source p.atom)) (may_be_state (kind_of source raw)) (ap not judged ∙ ap may_be_state (sym known))
-      (linear_count vars (blanks_after blanks raw.nodes) elems list (λ other there. here other (contains_behind raw (atoms_of elems) other there)) by.2)
+      let rest = linear_count vars (blanks_after blanks raw.nodes) elems list (λ other there. here other (contains_behind raw (atoms_of elems) other there)) by.2 in
+      grind (arith, kind_known source clean atoms_made raw is, (pred_at vars blanks raw p.atom is by.1).judged)
+  linear_count vars blanks _ _ here by = absurd by
 
   pub back_count : (vars : List (List ℕ)) (blanks : ℕ) (elems : List RawElem) (list : List PremiseTree) → ((raw : RawAtom) → Contains (atoms_of elems) raw → IsHere source raw) → ArePremisesBy source vars blanks elems list
       → length (filter (λ p. is_back source p.atom) list) ≡ length (filter (λ atom. may_be_backward (kind_of source atom)) (atoms_of elems))
   back_count vars blanks [] [] here by = refl
-  back_count vars blanks [] (p ∷ list) here by = absurd by
   back_count vars blanks (elem.Qui span ∷ elems) list here by = back_count vars blanks elems list here by
   back_count vars blanks (elem.Stage span ∷ elems) list here by = back_count vars blanks elems list here by
-  back_count vars blanks (elem.Atom kept raw ∷ elems) [] here by = absurd by
   back_count vars blanks (elem.Atom kept raw ∷ elems) (p ∷ list) here by =
       let is = here raw (contains_first raw (atoms_of elems)) in
-      let known = kind_known source clean atoms_made raw is in
-      let judged = (pred_at vars blanks raw p.atom is by.1).judged in
-      count_step true p raw _ _ (is_back source p.atom) (may_be_backward (kind_of source raw)) (judged ∙ ap may_be_backward (sym known))
-      (back_count vars (blanks_after blanks raw.nodes) elems list (λ other there. here other (contains_behind raw (atoms_of elems) other there)) by.2)
+      let rest = back_count vars (blanks_after blanks raw.nodes) elems list (λ other there. here other (contains_behind raw (atoms_of elems) other there)) by.2 in
+      grind (arith, kind_known source clean atoms_made raw is, (pred_at vars blanks raw p.atom is by.1).judged)
+  back_count vars blanks _ _ here by = absurd by
 
   -- as many atoms are made as are written
   pub atoms_count : (vars : List (List ℕ)) (blanks : ℕ) (raws : List RawAtom) (list : List AtomTree) → AreAtomsBy source vars blanks raws list → length list ≡ length raws
   atoms_count vars blanks [] [] by = refl
-  atoms_count vars blanks [] (atom ∷ list) by = absurd by
-  atoms_count vars blanks (raw ∷ raws) [] by = absurd by
   atoms_count vars blanks (raw ∷ raws) (atom ∷ list) by = ap suc (atoms_count vars (blanks_after blanks raw.nodes) raws list by.1)
+  atoms_count vars blanks _ _ by = absurd by
 
   -- what becomes part of a state is of a predicate that states may have
   pub is_of_state : (raw : RawAtom) (here : IsHere source raw) → Contains (made_atoms source ++ state_atoms source) raw → is_backward (pred_known source raw clean.names here.there).pred.kind ≡ false
   is_of_state raw here there =
-      no_back (pred_known source raw clean.names here.there).pred.kind
-      (λ (e : (pred_known source raw clean.names here.there).pred.kind ≡ Back). clean.names (wrong BwdInState raw.name.from) (backward_in_state raw there (kind_known source clean atoms_made raw here ∙ ap Some e) refl))
-    where
-      no_back : (its : PredKind) → (its ≡ Back → ⊥) → is_backward its ≡ false
-      no_back Linear never = refl
-      no_back Back never = absurd (never refl)
-      no_back Fact never = refl
+      let never = λ (e : (pred_known source raw clean.names here.there).pred.kind ≡ Back). clean.names (wrong BwdInState raw.name.from) (backward_in_state raw there (kind_known source clean atoms_made raw here ∙ ap Some e) refl) in
+      grind arith
 
   -- so are the atoms of a right side
   pub right_of_state : (vars : List (List ℕ)) (blanks : ℕ) (raws : List RawAtom) (list : List AtomTree) → ((raw : RawAtom) → Contains raws raw → Contains (made_atoms source) raw) → ((raw : RawAtom) → Contains raws raw → IsHere source raw) → AreAtomsBy source vars blanks raws list → AllByRecursion (HasStatePredicate (signature_of source)) list
   right_of_state vars blanks [] [] at here by = tt
-  right_of_state vars blanks [] (atom ∷ list) at here by = absurd by
-  right_of_state vars blanks (raw ∷ raws) [] at here by = absurd by
   right_of_state vars blanks (raw ∷ raws) (atom ∷ list) at here by =
       let is = here raw (contains_first raw raws) in
       let linear = is_of_state raw is (contains_left (made_atoms source) (state_atoms source) raw (at raw (contains_first raw raws))) in (
         of_state atom (judged_at vars blanks raw atom is by.0) ((pred_at vars blanks raw atom is by.0).judged ∙ linear),
         right_of_state vars (blanks_after blanks raw.nodes) raws list (λ other there. at other (contains_behind raw raws other there)) (λ other there. here other (contains_behind raw raws other there)) by.1,
       )
+  right_of_state vars blanks _ _ at here by = absurd by
 
   -- those of a clause are of backward ones
   pub clause_backward : (vars : List (List ℕ)) (blanks : ℕ) (raws : List RawAtom) (list : List AtomTree) → ((raw : RawAtom) → Contains raws raw → Contains (clause_atoms source) raw) → ((raw : RawAtom) → Contains raws raw → IsHere source raw) → AreAtomsBy source vars blanks raws list → AllByRecursion (IsBackward (signature_of source)) list
   clause_backward vars blanks [] [] at here by = tt
-  clause_backward vars blanks [] (atom ∷ list) at here by = absurd by
-  clause_backward vars blanks (raw ∷ raws) [] at here by = absurd by
   clause_backward vars blanks (raw ∷ raws) (atom ∷ list) at here by =
       let is = here raw (contains_first raw raws) in
       let its = (pred_known source raw clean.names is.there).pred.kind in
-      let yes_ = not_false (is_backward its) (λ (e : is_backward its ≡ false). clean.names (wrong LinearInClause raw.name.from) (linear_in_clause raw its (at raw (contains_first raw raws)) (kind_known source clean atoms_made raw is) e refl)) in (
+      let yes_ = true_from_ne_false (is_backward its) (λ (e : is_backward its ≡ false). clean.names (wrong LinearInClause raw.name.from) (linear_in_clause raw its (at raw (contains_first raw raws)) (kind_known source clean atoms_made raw is) e refl)) in (
         backward_is atom (judged_at vars blanks raw atom is by.0) ((pred_at vars blanks raw atom is by.0).judged ∙ yes_),
         clause_backward vars (blanks_after blanks raw.nodes) raws list (λ other there. at other (contains_behind raw raws other there)) (λ other there. here other (contains_behind raw raws other there)) by.1,
       )
-    where
-      not_false : (b : Bool) → (b ≡ false → ⊥) → b ≡ true
-      not_false true never = refl
-      not_false false never = absurd (never refl)
+  clause_backward vars blanks _ _ at here by = absurd by
 
   -- a premise that is a fact is kept
-  kept_by : (marked fact : Bool) → fact ≡ true → (marked || fact) ≡ true
-  kept_by true fact is = refl
-  kept_by false fact is = is
-
   kept_facts : (vars : List (List ℕ)) (blanks : ℕ) (elems : List RawElem) (list : List PremiseTree) → ArePremisesBy source vars blanks elems list → AllByRecursion (λ p. is_fact (signature_of source) p.atom ≡ true → p.kept ≡ true) list
   kept_facts vars blanks [] [] by = tt
-  kept_facts vars blanks [] (p ∷ list) by = absurd by
   kept_facts vars blanks (elem.Qui span ∷ elems) list by = kept_facts vars blanks elems list by
   kept_facts vars blanks (elem.Stage span ∷ elems) list by = kept_facts vars blanks elems list by
-  kept_facts vars blanks (elem.Atom kept raw ∷ elems) [] by = absurd by
-  kept_facts vars blanks (elem.Atom kept raw ∷ elems) (p ∷ list) by = (
-    (λ fact. by.0 ∙ kept_by kept (is_fact_by source p.atom) (sym (fact_by source p.atom) ∙ fact)),
-    kept_facts vars (blanks_after blanks raw.nodes) elems list by.2,
-  )
+  kept_facts vars blanks (elem.Atom kept raw ∷ elems) (p ∷ list) by = ((λ fact. grind (arith, by.0, fact_by source p.atom)), kept_facts vars (blanks_after blanks raw.nodes) elems list by.2)
+  kept_facts vars blanks _ _ by = absurd by
 
   kinds_size : (scope : List RawAtom) → length (kinds_of source scope) ≡ length (names_of source scope)
-  kinds_size scope = length-map (variables_of source scope) (λ (o : Occurrence). number_of source space.Sorts (unwrap_or (type_of source scope o.name) [])) ∙ sym (length-map (variables_of source scope) (λ (o : Occurrence). o.name))
+  kinds_size scope = simp length-map
 
   -- a rule is well typed
   pub rule_typed : (item : RuleItem) (rule : Rule) → Contains (rules_of source) item → IsRuleBy source item rule → IsTypedRule (signature_of source) rule
@@ -290,11 +246,9 @@ module _ (source : Source) (clean : IsClean source) (atoms_made : AtomsMade sour
       let typed : List AtomTree → Type 0 = λ list. AllByRecursion (IsTyped (signature_of source) (kinds_of source scope)) list in
       record {
         kinds = ap length by.kinds_are ∙ kinds_size scope ∙ ap length (sym by.vars_are);
-        premises = subst (λ ks. AllByRecursion (IsTyped (signature_of source) ks) (needed_of rule)) (sym by.kinds_are)
-            (subst (λ (ps : List PremiseTree). AllByRecursion (IsTyped (signature_of source) (kinds_of source scope)) (map (λ p. p.atom) ps)) (sym by.premises_are) (linear_part (IsTyped (signature_of source) (kinds_of source scope)) by.left list_typed));
-        backs = subst (λ ks. AllByRecursion (IsTyped (signature_of source) ks) rule.backs) (sym by.kinds_are)
-            (subst (AllByRecursion (IsTyped (signature_of source) (kinds_of source scope))) (sym by.backs_are) (back_part (IsTyped (signature_of source) (kinds_of source scope)) by.left list_typed));
-        right = subst (λ ks. AllByRecursion (IsTyped (signature_of source) ks) rule.right) (sym by.kinds_are) right_typed;
+        premises = rw (by.kinds_are, by.premises_are) (linear_part (IsTyped (signature_of source) (kinds_of source scope)) by.left list_typed);
+        backs = rw (by.kinds_are, by.backs_are) (back_part (IsTyped (signature_of source) (kinds_of source scope)) by.left list_typed);
+        right = rw by.kinds_are right_typed;
       }
 
   -- its predicates stand where they may
@@ -302,10 +256,9 @@ module _ (source : Source) (clean : IsClean source) (atoms_made : AtomsMade sour
   rule_divided item rule there by =
       let judged = judged_premises rule.vars 0 item.raw.left by.left (left_here source clean atoms_made item there) by.left_is in
       record {
-        premises = subst (λ (ps : List PremiseTree). AllByRecursion (HasStatePredicate (signature_of source)) (map (λ p. p.atom) ps)) (sym by.premises_are) (divided_premises by.left judged);
-        facts = subst (AllByRecursion (λ (p : PremiseTree). is_fact (signature_of source) p.atom ≡ true → p.kept ≡ true)) (sym by.premises_are)
-            (all_filter (λ (p : PremiseTree). is_fact (signature_of source) p.atom ≡ true → p.kept ≡ true) (λ p. not (is_back source p.atom)) by.left (kept_facts rule.vars 0 item.raw.left by.left by.left_is));
-        backs = subst (AllByRecursion (IsBackward (signature_of source))) (sym by.backs_are) (divided_backs by.left judged);
+        premises = rw by.premises_are (divided_premises by.left judged);
+        facts = rw by.premises_are (all_filter (λ (p : PremiseTree). is_fact (signature_of source) p.atom ≡ true → p.kept ≡ true) (λ p. not (is_back source p.atom)) by.left (kept_facts rule.vars 0 item.raw.left by.left by.left_is));
+        backs = rw by.backs_are (divided_backs by.left judged);
         right = right_of_state rule.vars _ (atoms_of item.raw.right) rule.right (right_at source clean atoms_made item there) (right_here source clean atoms_made item there) by.right_is;
       }
 
@@ -319,8 +272,8 @@ module _ (source : Source) (clean : IsClean source) (atoms_made : AtomsMade sour
       (subst (λ vars. AreAtomsBy source vars 0 scope (clause.head ∷ clause.goals)) by.vars_are by.atoms_are) in
       record {
         kinds = ap length by.kinds_are ∙ kinds_size scope ∙ ap length (sym by.vars_are);
-        head = subst (λ ks. IsTyped (signature_of source) ks clause.head) (sym by.kinds_are) typed.0;
-        goals = subst (λ ks. AllByRecursion (IsTyped (signature_of source) ks) clause.goals) (sym by.kinds_are) typed.1;
+        head = rw by.kinds_are typed.0;
+        goals = rw by.kinds_are typed.1;
       }
 
   pub clause_divided : (item : ClauseItem) (clause : ClauseTree) → Contains (clauses_of source) item → IsClauseBy source item clause → IsDividedClause (signature_of source) clause

@@ -5,6 +5,7 @@ use Rattle.std.specs.List.{AllByRecursion, AllZip, flat_map}
 use Rattle.std.proofs.lemmas.List.{append-nil}
 use Rattle.std.proofs.lemmas.Slice.Zip.{AllZip-long}
 use Rattle.cep_base.specs.declared.limits.TheConstants.{MOST_LOG}
+use Rattle.cep_base.proofs.Lists.{all_weaker}
 use Rattle.cep_base.proofs.Elements.{both_all}
 use Rattle.cep_rule.specs.declared.parts.Parts.{Parts}
 use Rattle.cep_rule.specs.Limits.{IsHeight}
@@ -33,17 +34,13 @@ use Rattle.cep_log.proofs.SameLogs.{legal_too}
 -- each line has its LF
 pub few_lines : (lines : List (List ℕ)) → length lines ≤ length (flat_map line lines)
 few_lines [] = omega arith
-few_lines (text ∷ lines) = let later = few_lines lines in omega (arith, later, length-append (text ++ 10 ∷ []) (flat_map line lines), length-append text (10 ∷ []))
+few_lines (text ∷ lines) = grind (arith, few_lines lines, length-append)
 
 steps_long : (program : Parts) (number : ℕ) (steps : List LogStep) (lines : List (List ℕ)) → TellSteps program number steps lines → length steps ≤ length lines
 steps_long program number [] lines told = omega arith
 steps_long program number (step ∷ steps) lines told =
-    let remarks = told.0 in
-    let own = step_texts program number step in
-    let rest = map (by_text program) step.proofs ++ (stage_texts program step.stage ++ mid_texts program number step.mid) in
-    let some : length own ≡ 1 + length rest = omega arith in
     let later = steps_long program (number + 1) steps told.1 told.3 in
-    omega (arith, later, some, ap length told.4, length-append remarks (own ++ told.1), length-append own told.1)
+    omega (arith, ap length told.4, length-append told.0 (step_texts program number step ++ told.1), length-append (step_texts program number step) told.1)
 
 -- Each step has a line of its own.
 pub log_long : (program : Parts) (log : Log) (lines : List (List ℕ)) → TellLog program lines log → length log.steps ≤ length lines
@@ -58,8 +55,7 @@ remarks_over program number [] so_far all = refl
 remarks_over program number (remark ∷ lines) so_far all = (so_far, inl (all.0.passed, refl), remarks_over program (number + 1) lines so_far all.1)
 
 remarks_one : (lines : List (List ℕ)) → AllByRecursion IsRemark lines → AllByRecursion IsOneLine lines
-remarks_one [] all = tt
-remarks_one (remark ∷ lines) all = (all.0.one, remarks_one lines all.1)
+remarks_one lines all = all_weaker IsRemark IsOneLine lines (λ text remark. remark.one) all
 
 -- Listings behind steps
 
@@ -77,8 +73,8 @@ mid_told program number log own None unlisted listing wants = record {
   read = None;
   lists = tt;
   front = Whole (log_with log own);
-  whole = ap (λ (mid : Option LogMid). Some (log_with log (record own { mid = mid }))) unlisted;
-  leads = ap (λ (is : Bool). cond is (Unlisted log own) (Whole (log_with log own))) wants;
+  whole = grind arith;
+  leads = grind arith;
 }
 mid_told program number log own (Some mid) unlisted listing wants =
     let front = Listed log own (record { line = number; state = mid.state }) in
@@ -139,8 +135,8 @@ module _ (program : Parts) where
     read = [];
     say = tt;
     front = old;
-    whole = subst (λ read. whole_log old ≡ Some (record log { steps = read })) (sym (append-nil log.steps)) whole;
-    leads = subst (λ lines. Leads program number lines old old) (sym told) refl;
+    whole = rw append-nil whole;
+    leads = rw told refl;
   }
   steps_told number old log whole (step ∷ steps) lines are listed told =
       let remarks = told.0 in
@@ -148,34 +144,27 @@ module _ (program : Parts) where
       let own = step_texts program (next_number log) step in
       let n = number + length remarks in
       let first = step_told n old log whole step are.0 listed.0 in
-      let more = length-append log.steps (first.read ∷ []) in
-      let numbered : next_number log + 1 ≡ next_number (log_with log first.read) = omega (arith, more) in
-      let rest = steps_told (n + length own) first.front (log_with log first.read) first.whole steps later are.1
-      (subst (λ (k : ℕ). HaveListings log.version k steps) numbered listed.1) (subst (λ (k : ℕ). TellSteps program k steps later) numbered told.3) in
+      let numbered : next_number log + 1 ≡ next_number (log_with log first.read) = omega (arith, length-append log.steps (first.read ∷ [])) in
+      let rest = steps_told (n + length own) first.front (log_with log first.read) first.whole steps later are.1 (rw numbered at listed.1) (rw numbered at told.3) in
       record {
         read = first.read ∷ rest.read;
         say = (first.says, rest.say);
         front = rest.front;
-        whole = subst (λ read. whole_log rest.front ≡ Some (record log { steps = read })) (append_assoc log.steps (first.read ∷ []) rest.read) rest.whole;
-        leads = subst (λ lines. Leads program number lines old rest.front) (sym told.4)
+        whole = rw append_assoc at rest.whole;
+        leads = rw told.4
             (ways_join program number remarks (own ++ later) old old rest.front (remarks_over program number remarks old told.2)
             (ways_join program n own later old first.front rest.front first.leads rest.leads));
       }
 
   steps_one : IsProgram program → (number : ℕ) (steps : List LogStep) (lines : List (List ℕ)) → AllByRecursion (IsWritable program) steps → TellSteps program number steps lines → AllByRecursion IsOneLine lines
-  steps_one is number [] lines are told = subst (AllByRecursion IsOneLine) (sym told) tt
+  steps_one is number [] lines are told = rw told tt
   steps_one is number (step ∷ steps) lines are told =
-      let bys = map (by_text program) step.proofs in
-      let stages = stage_texts program step.stage in
-      let mids = mid_texts program number step.mid in
-      let own : AllByRecursion IsOneLine (step_texts program number step) = (
-        step_text_one program is step.offer are.0.of_rule,
-        both_all IsOneLine bys (stages ++ mids) (bys_one program is step.proofs are.0.readable)
-            (both_all IsOneLine stages mids (stages_one program is step.stage are.0.in_range) (mids_one program is number step.mid are.0.listing)),
-      ) in
-      subst (AllByRecursion IsOneLine) (sym told.4)
-      (both_all IsOneLine told.0 (step_texts program number step ++ told.1) (remarks_one told.0 told.2)
-      (both_all IsOneLine (step_texts program number step) told.1 own (steps_one is (number + 1) steps told.1 are.1 told.3)))
+      let rest = steps_one is (number + 1) steps told.1 are.1 told.3 in
+      let bys = bys_one program is step.proofs are.0.readable in
+      let stages = stages_one program is step.stage are.0.in_range in
+      let mids = mids_one program is number step.mid are.0.listing in
+      let own : AllByRecursion IsOneLine (step_texts program number step) = (step_text_one program is step.offer are.0.of_rule, search both_all) in
+      rw told.4 (both_all IsOneLine told.0 (step_texts program number step ++ told.1) (remarks_one told.0 told.2) (both_all IsOneLine (step_texts program number step) told.1 own rest))
 
 -- The header and the end
 
@@ -228,10 +217,10 @@ module _ (laws : StepLaws) (program : Parts) (is : IsProgram program) where
       let of = legal.of_program in
       let ends = end_texts program log.end in
       let start : AllByRecursion IsOneLine (start_texts program log) = (version_one log.version, (height_one log.height, (stage_text_one program is log.stage of.stage, haves_one program is log.start of.start.each))) in
-      subst (AllByRecursion IsOneLine) (sym tells.whole)
-      (both_all IsOneLine (start_texts program log) (tells.steps ++ (tells.remarks ++ ends)) start
-      (both_all IsOneLine tells.steps (tells.remarks ++ ends) (steps_one program is 1 log.steps tells.steps are tells.tell)
-      (both_all IsOneLine tells.remarks ends (remarks_one tells.remarks tells.passed) (ends_one program is log.end of.ending))))
+      let steps = steps_one program is 1 log.steps tells.steps are tells.tell in
+      let remarks = remarks_one tells.remarks tells.passed in
+      let end = ends_one program is log.end of.ending in
+      rw tells.whole (search both_all)
 
   read_ended : (log : Log) (lines : List (List ℕ)) (end : LogEnd) → log.end ≡ Some end → IsLegal program log → TellLog program lines log → length (flat_map line lines) ≤ MOST_LOG → IsReadBack program log lines
   read_ended log lines end ended legal tells short =
@@ -245,11 +234,11 @@ module _ (laws : StepLaws) (program : Parts) (is : IsProgram program) where
       let second = steps_told program n (Whole begun) begun refl log.steps tells.steps are of.listed tells.tell in
       let m = n + length tells.steps in
       let over = remarks_over program m tells.remarks second.front tells.passed in
-      let listing : IsListing program.signature end.state = subst (λ (end : Option LogEnd). IfSome end (λ end. IsListing program.signature end.state)) ended of.ending in
+      let listing : IsListing program.signature end.state = rw ended at of.ending in
       let last = end_told program (m + length tells.remarks) second.front (record begun { steps = second.read }) second.whole end listing in
       let new = Ended (record begun { steps = second.read }) last.read in
-      let whole : lines ≡ head ++ (tells.steps ++ (tells.remarks ++ ends)) = tells.whole ∙ ap (λ (end : Option LogEnd). head ++ (tells.steps ++ (tells.remarks ++ end_texts program end))) ended in
-      let leads : Leads program 1 lines Nothing new = subst (λ lines. Leads program 1 lines Nothing new) (sym whole)
+      let whole : lines ≡ head ++ (tells.steps ++ (tells.remarks ++ ends)) = tells.whole ∙ rw ended in
+      let leads : Leads program 1 lines Nothing new = rw whole
       (ways_join program 1 head (tells.steps ++ (tells.remarks ++ ends)) Nothing (Whole begun) new first
       (ways_join program n tells.steps (tells.remarks ++ ends) (Whole begun) second.front new second.leads
       (ways_join program m tells.remarks ends second.front second.front new over last.leads))) in
@@ -259,7 +248,7 @@ module _ (laws : StepLaws) (program : Parts) (is : IsProgram program) where
         stage = refl;
         start = refl;
         steps = second.say;
-        ends = subst (λ (one : Option LogEnd). EndTheSame one (Some last.read)) (sym ended) (last.word, last.state);
+        ends = rw ended (last.word, last.state);
       } in
       let few : length lines ≤ MOST_LOG = omega (arith, short, few_lines lines) in
       let long : length second.read ≤ length lines = omega (arith, AllZip-long SayTheSame log.steps second.read second.say, log_long program log lines tells) in (
