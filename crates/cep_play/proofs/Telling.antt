@@ -3,7 +3,6 @@ use Rattle.std.proofs.Common.{◌≡◌, ◌⊎◌, ◌==◌, inl, inr, ⊎_elim
 use Rattle.std.proofs.lemmas.Bool.{eqb-true, eqb-false}
 use Rattle.cep_base.specs.declared.console.Event.{Event}
 use Rattle.cep_base.specs.Files.{Files, HasFile}
-use Rattle.cep_base.specs.Faults.{Rose}
 use Rattle.cep_base.proofs.Elements.{contains_none, contains_cases, contains_behind, contains_same, all_at}
 use Rattle.cep_base.proofs.Lists.{some_same}
 use Rattle.cep_rule.specs.declared.parts.Parts.{Parts}
@@ -16,13 +15,14 @@ use Rattle.cep_words.specs.Words.{Request, Play, Examine, World, AskFor}
 use Rattle.cep_run.specs.declared.settings.Settings.{Settings}
 use Rattle.cep_run.specs.Run.{Turn, Ending}
 use Rattle.cep_run.specs.Dialogue.{Dialogue}
-use Rattle.cep_play.specs.Command.{OfRequest, Adds, settings_of}
-use Rattle.cep_play.specs.Outside.{Due, code_told}
-use Rattle.cep_play.specs.Examined.{Succeeds}
-use Rattle.cep_play.proofs.Judged.{fails_alone}
-use Rattle.cep_play.specs.Due.{IsDueOf, IsDue, IsDueUnreadOf, IsDueUnread}
-use Rattle.cep_play.specs.Answered.{IsOnShelf, EndsBy, TellsWhatIsDue}
-use Rattle.cep_play.proofs.Done.{IsOneRequest}
+use Rattle.cep_play.specs.Exchange.{Talked, Loaded, IsUnread}
+use Rattle.cep_play.specs.Command.{OfRequest, settings_of}
+use Rattle.cep_play.specs.Outside.{Due, Report, code_told}
+use Rattle.cep_play.specs.Reports.{Reports}
+use Rattle.cep_play.proofs.Reporting.{code, one_code}
+use Rattle.cep_play.specs.Due.{IsDueOf, IsDueAtAll, IsDueUnreadOf}
+use Rattle.cep_play.specs.Answered.{IsOnShelf, EndsBy, ReportsBy, TellsWhatIsDue}
+use Rattle.cep_play.proofs.Reported.{IsOneRequest}
 use Rattle.cep_play.specs.Outcome.{CountsBy, CommandDid}
 
 -- where the files are told, a file has one text
@@ -52,11 +52,11 @@ is_no_fault code among =
     none n six nine is = ⊎_elim six nine is
 
 -- where the shelf failed, the status says so
-pub fails_by : (was is code : ℕ) → CountsBy was is code → was < is → Contains (6 ∷ 7 ∷ 9 ∷ []) code
-fails_by was is code counts rose = by (code == 7) refl where
-  by : (t : Bool) → (code == 7) ≡ t → Contains (6 ∷ 7 ∷ 9 ∷ []) code
-  by true e = subst (Contains (6 ∷ 7 ∷ 9 ∷ [])) (sym (eqb-true code 7 e)) (1, lit< tt, refl)
-  by false e = let same = counts.1 (eqb-false code 7 e) in absurd (omega (arith, same, rose))
+pub fails_by : (loads : Loaded) (status : ℕ) → CountsBy loads status → loads.faults_before < loads.faults_after → Contains (6 ∷ 7 ∷ 9 ∷ []) status
+fails_by loads status counts rose = by (status == 7) refl where
+  by : (t : Bool) → (status == 7) ≡ t → Contains (6 ∷ 7 ∷ 9 ∷ []) status
+  by true e = subst (Contains (6 ∷ 7 ∷ 9 ∷ [])) (sym (eqb-true status 7 e)) (1, lit< tt, refl)
+  by false e = let same = counts.1 (eqb-false status 7 e) in absurd (omega (arith, same, rose))
 
 unread_among : (others : List ℕ) (code : ℕ) → Contains others 7 → code ≡ 7 → Contains others code
 unread_among others code has is = subst (Contains others) (sym is) has
@@ -75,24 +75,24 @@ module _ (one : IsOneRequest)
       let due = there program settings come (is_program text program spells) in
       (due.0, due.1, due.2, due.3, due.4, contains_behind (code_told due.1.word) others status among)
 
+  reports_anyway : (P : Report → Type 0) (others : List ℕ) (status : ℕ) → Contains others status → ReportsBy P others status
+  reports_anyway P others status among = ((λ report is. contains_behind report.code others status among), inl among)
+
   -- these statuses may come whatever is due
   pub tells_anyway : (left : Option (List ℕ)) (request : Request) (status : ℕ) → Contains (6 ∷ 9 ∷ []) status → TellsWhatIsDue request files left status
   tells_anyway left (Play file options) status among = λ text program come told spells coming. ends_anyway text program (settings_of program options) come (6 ∷ 7 ∷ 9 ∷ []) status spells (with_unread status among)
-  tells_anyway left (Examine task file log) status among = λ text program bytes told spells there'. (
-    (λ written is. contains_behind 0 (6 ∷ 7 ∷ 9 ∷ []) status (with_unread status among)),
-    (λ none. contains_behind 1 (6 ∷ 7 ∷ 9 ∷ []) status (with_unread status among)),
-  )
+  tells_anyway left (Examine task file log) status among = λ text program bytes told spells there'. reports_anyway (Reports task program bytes) (6 ∷ 7 ∷ 9 ∷ []) status (with_unread status among)
   tells_anyway left (World rooms options) status among = λ program spells. ends_anyway (world rooms) program (settings_of program options) [] (6 ∷ 9 ∷ []) status spells among
 
-  module _ (unread : Type 0) (asked : List (List ℕ) → Type 0) (code : ℕ) where
+  module _ (unread : Type 0) (status : ℕ) where
     -- a dialogue that is due
     plays : (file : List ℕ) (options : Options) (text : List ℕ) (program : Parts) (come : List ℕ) → AskFor words (Play file options) → IsOnShelf files file text → Spells text program
-        → (due : Due) → code ≡ due.code → IsDue words (record { files = files; come = come }) due ⊎ (unread × IsDueUnread words (record { files = files; come = come }) due)
-        → EndsBy program (settings_of program options) come (6 ∷ 7 ∷ 9 ∷ []) code
-    plays file options text program come ask told spells due status (inl (inl none)) = absurd (none.0 (Play file options) ask)
-    plays file options text program come ask told spells due status (inl (inr of)) = by (asked_due one words (Play file options) ask (λ r. IsDueOf r (record { files = files; come = come }) due) of) where
-      by : IsDueOf (Play file options) (record { files = files; come = come }) due → EndsBy program (settings_of program options) come (6 ∷ 7 ∷ 9 ∷ []) code
-      by (other, has, inl refused) = absurd (refused.no_program program (subst (λ t. Spells t program) (sym (one_text files file file other text refl has told)) spells))
+        → (due : Due) → status ≡ due.code → IsDueAtAll words unread (record { files = files; come = come }) due
+        → EndsBy program (settings_of program options) come (6 ∷ 7 ∷ 9 ∷ []) status
+    plays file options text program come ask told spells due same (inl (inl none)) = absurd (none.0 (Play file options) ask)
+    plays file options text program come ask told spells due same (inl (inr of)) = by (asked_due one words (Play file options) ask (λ r. IsDueOf r (record { files = files; come = come }) due) of) where
+      by : IsDueOf (Play file options) (record { files = files; come = come }) due → EndsBy program (settings_of program options) come (6 ∷ 7 ∷ 9 ∷ []) status
+      by (other, has, inl (report, refused, is)) = absurd (refused.no_program program (subst (λ t. Spells t program) (sym (one_text files file file other text refl has told)) spells))
       by (other, has, inr (spelled, is, said)) =
           let programs : program ≡ spelled = is.1 program (subst (λ t. Spells t program) (sym (one_text files file file other text refl has told)) spells) in (
             said.0.turns,
@@ -100,51 +100,42 @@ module _ (one : IsOneRequest)
             due.events,
             due.rest,
             subst (λ (p : Parts). Dialogue p (settings_of p options) come said.0.turns said.0.ending due.events due.rest) (sym programs) said.0.dialogue,
-            contains_same (code_told said.0.ending.word) (6 ∷ 7 ∷ 9 ∷ []) code (sym (status ∙ said.0.holds)),
+            contains_same (code_told said.0.ending.word) (6 ∷ 7 ∷ 9 ∷ []) status (sym (same ∙ said.0.holds)),
           )
-    plays file options text program come ask told spells due status (inr (_, of)) =
+    plays file options text program come ask told spells due same (inr (_, of)) =
         let is = asked_due one words (Play file options) ask (λ r. IsDueUnreadOf r (record { files = files; come = come }) due) of in
-        ends_anyway text program (settings_of program options) come (6 ∷ 7 ∷ 9 ∷ []) code spells (unread_among (6 ∷ 7 ∷ 9 ∷ []) code (1, lit< tt, refl) (status ∙ ap (λ (d : Due). d.code) is))
+        ends_anyway text program (settings_of program options) come (6 ∷ 7 ∷ 9 ∷ []) status spells (unread_among (6 ∷ 7 ∷ 9 ∷ []) status (1, lit< tt, refl) (same ∙ ap (λ (d : Due). d.code) is))
 
-    abbrev TellsOfDone : Task → Parts → List ℕ → Type 0
-    TellsOfDone task program bytes =
-        ((written : List ℕ) → Succeeds task program bytes written → Contains (0 ∷ 6 ∷ 7 ∷ 9 ∷ []) code) × (((written : List ℕ) → ¬ (Succeeds task program bytes written)) → Contains (1 ∷ 6 ∷ 7 ∷ 9 ∷ []) code)
-
-    -- a verdict that is due
-    checks : (task : Task) (file log : List ℕ) (text : List ℕ) (program : Parts) (bytes : List ℕ) → AskFor words (Examine task file log) → IsOnShelf files file text → Spells text program → IsOnShelf files log bytes
-        → (due : Due) → code ≡ due.code → IsDue words (record { files = files; come = [] }) due ⊎ (unread × IsDueUnread words (record { files = files; come = [] }) due) → TellsOfDone task program bytes
-    checks task file log text program bytes ask told spells there' due status (inl (inl none)) = absurd (none.0 (Examine task file log) ask)
-    checks task file log text program bytes ask told spells there' due status (inl (inr of)) = by (asked_due one words (Examine task file log) ask (λ r. IsDueOf r (record { files = files; come = [] }) due) of) where
-      by : IsDueOf (Examine task file log) (record { files = files; come = [] }) due → TellsOfDone task program bytes
-      by (other, has, inl refused) = absurd (refused.no_program program (subst (λ t. Spells t program) (sym (one_text files file file other text refl has told)) spells))
-      by (other, has, inr (spelled, is, (others, has', (written, inl (done, e))))) =
+    -- a report on a transcript
+    examines : (task : Task) (file log : List ℕ) (text : List ℕ) (program : Parts) (bytes : List ℕ) → AskFor words (Examine task file log) → IsOnShelf files file text → Spells text program → IsOnShelf files log bytes
+        → (due : Due) → status ≡ due.code → IsDueAtAll words unread (record { files = files; come = [] }) due → ReportsBy (Reports task program bytes) (6 ∷ 7 ∷ 9 ∷ []) status
+    examines task file log text program bytes ask told spells there' due same (inl (inl none)) = absurd (none.0 (Examine task file log) ask)
+    examines task file log text program bytes ask told spells there' due same (inl (inr of)) = by (asked_due one words (Examine task file log) ask (λ r. IsDueOf r (record { files = files; come = [] }) due) of) where
+      by : IsDueOf (Examine task file log) (record { files = files; come = [] }) due → ReportsBy (Reports task program bytes) (6 ∷ 7 ∷ 9 ∷ []) status
+      by (other, has, inl (report, refused, is)) = absurd (refused.no_program program (subst (λ t. Spells t program) (sym (one_text files file file other text refl has told)) spells))
+      by (other, has, inr (spelled, is, (others, has', (report, reports, e)))) =
           let programs : program ≡ spelled = is.1 program (subst (λ t. Spells t program) (sym (one_text files file file other text refl has told)) spells) in
-          let same : others ≡ bytes = one_text files log log others bytes refl has' there' in (
-            (λ other it. contains_same 0 (6 ∷ 7 ∷ 9 ∷ []) code (sym (status ∙ ap (λ (d : Due). d.code) e))),
-            (λ none. absurd (none written (subst (λ (p : Parts). Succeeds task p bytes written) (sym programs) (subst (λ b. Succeeds task spelled b written) same done)))),
+          let reported : Reports task program bytes report = subst (λ (p : Parts). Reports task p bytes report) (sym programs) (subst (λ b. Reports task spelled b report) (one_text files log log others bytes refl has' there') reports) in
+          let told_so : status ≡ report.code = same ∙ ap (λ (d : Due). d.code) e in (
+            (λ other it. contains_same other.code (6 ∷ 7 ∷ 9 ∷ []) status (one_code task program bytes other report it reported ∙ sym told_so)),
+            inr (report, reported, told_so),
           )
-      by (other, has, inr (spelled, is, (others, has', (written, inr (failed, e))))) =
-          let programs : program ≡ spelled = is.1 program (subst (λ t. Spells t program) (sym (one_text files file file other text refl has told)) spells) in
-          let same : others ≡ bytes = one_text files log log others bytes refl has' there' in (
-            (λ other it. absurd (fails_alone task spelled others written other failed (subst (λ b. Succeeds task spelled b other) (sym same) (subst (λ (p : Parts). Succeeds task p bytes other) programs it)))),
-            (λ none. contains_same 1 (6 ∷ 7 ∷ 9 ∷ []) code (sym (status ∙ ap (λ (d : Due). d.code) e))),
-          )
-    checks task file log text program bytes ask told spells there' due status (inr (_, of)) = by (asked_due one words (Examine task file log) ask (λ r. IsDueUnreadOf r (record { files = files; come = [] }) due) of) where
-      both : code ≡ 7 → TellsOfDone task program bytes
-      both is = ((λ other it. unread_among (0 ∷ 6 ∷ 7 ∷ 9 ∷ []) code (2, lit< tt, refl) is), (λ none. unread_among (1 ∷ 6 ∷ 7 ∷ 9 ∷ []) code (2, lit< tt, refl) is))
+    examines task file log text program bytes ask told spells there' due same (inr (_, of)) = by (asked_due one words (Examine task file log) ask (λ r. IsDueUnreadOf r (record { files = files; come = [] }) due) of) where
+      unread_report : status ≡ 7 → ReportsBy (Reports task program bytes) (6 ∷ 7 ∷ 9 ∷ []) status
+      unread_report is = reports_anyway (Reports task program bytes) (6 ∷ 7 ∷ 9 ∷ []) status (unread_among (6 ∷ 7 ∷ 9 ∷ []) status (1, lit< tt, refl) is)
 
-      by : IsDueUnreadOf (Examine task file log) (record { files = files; come = [] }) due → TellsOfDone task program bytes
-      by (inl is) = both (status ∙ ap (λ (d : Due). d.code) is)
-      by (inr (_, is)) = both (status ∙ ap (λ (d : Due). d.code) is)
+      by : IsDueUnreadOf (Examine task file log) (record { files = files; come = [] }) due → ReportsBy (Reports task program bytes) (6 ∷ 7 ∷ 9 ∷ []) status
+      by (inl is) = unread_report (same ∙ ap (λ (d : Due). d.code) is)
+      by (inr (_, is)) = unread_report (same ∙ ap (λ (d : Due). d.code) is)
 
     -- a summary that is due
     tours : (rooms : ℕ) (options : Options) (program : Parts) → AskFor words (World rooms options) → Spells (world rooms) program
-        → (due : Due) → code ≡ due.code → IsDue words (record { files = files; come = [] }) due ⊎ (unread × IsDueUnread words (record { files = files; come = [] }) due) → EndsBy program (settings_of program options) [] (6 ∷ 9 ∷ []) code
-    tours rooms options program ask spells due status (inl (inl none)) = absurd (none.0 (World rooms options) ask)
-    tours rooms options program ask spells due status (inl (inr of)) = by (asked_due one words (World rooms options) ask (λ r. IsDueOf r (record { files = files; come = [] }) due) of) where
-      by : IsDueOf (World rooms options) (record { files = files; come = [] }) due → EndsBy program (settings_of program options) [] (6 ∷ 9 ∷ []) code
-      by (inl refused) = absurd (refused.no_program program spells)
-      by (inr (spelled, is, (tally, tallied, e))) =
+        → (due : Due) → status ≡ due.code → IsDueAtAll words unread (record { files = files; come = [] }) due → EndsBy program (settings_of program options) [] (6 ∷ 9 ∷ []) status
+    tours rooms options program ask spells due same (inl (inl none)) = absurd (none.0 (World rooms options) ask)
+    tours rooms options program ask spells due same (inl (inr of)) = by (asked_due one words (World rooms options) ask (λ r. IsDueOf r (record { files = files; come = [] }) due) of) where
+      by : IsDueOf (World rooms options) (record { files = files; come = [] }) due → EndsBy program (settings_of program options) [] (6 ∷ 9 ∷ []) status
+      by (inl (report, refused, is)) = absurd (refused.no_program program spells)
+      by (inr (spelled, is, (report, (tally, tallied, e), e'))) =
           let programs : program ≡ spelled = is.1 program spells in
           let said = tallied.said in (
             said.turns,
@@ -152,18 +143,24 @@ module _ (one : IsOneRequest)
             tallied.events,
             tallied.rest,
             subst (λ (p : Parts). Dialogue p (settings_of p options) [] said.turns said.ending tallied.events tallied.rest) (sym programs) said.dialogue,
-            contains_same (code_told said.ending.word) (6 ∷ 9 ∷ []) code (ap code_told (sym said.holds.word) ∙ sym (status ∙ ap (λ (d : Due). d.code) e)),
+            contains_same (code_told said.ending.word) (6 ∷ 9 ∷ []) status (ap code_told (sym said.holds.word) ∙ sym (same ∙ ap (λ (d : Due). d.code) e' ∙ ap code e)),
           )
-    tours rooms options program ask spells due status (inr (_, of)) = absurd (asked_due one words (World rooms options) ask (λ r. IsDueUnreadOf r (record { files = files; come = [] }) due) of)
+    tours rooms options program ask spells due same (inr (_, of)) = absurd (asked_due one words (World rooms options) ask (λ r. IsDueUnreadOf r (record { files = files; come = [] }) due) of)
 
-  module _ {C : Type 0} (talk : C → Option (List Event)) (left : C → Option (List ℕ)) (old new : C) (was is : ℕ) (before after : Option (List (List ℕ))) where
-    pub tells_what_is_due : (request : Request) → AskFor words request → (code : ℕ) → CommandDid talk left old new files was is before after words code → TellsWhatIsDue request files (left old) code
-    tells_what_is_due (Play file options) ask code done = λ text program come told spells coming.
+  module _ (talk : Talked) (loads : Loaded) (here : loads.files ≡ files) where
+    abbrev files_here : List ℕ → Due → Type 0
+    files_here come due = IsDueAtAll words (IsUnread loads) (record { files = files; come = come }) due
+
+    over_files : (come : List ℕ) (due : Due) → IsDueAtAll words (IsUnread loads) (record { files = loads.files; come = come }) due → files_here come due
+    over_files come due is = subst (λ (f : Option Files). IsDueAtAll words (IsUnread loads) (record { files = f; come = come }) due) here is
+
+    pub tells_what_is_due : (request : Request) → AskFor words request → (status : ℕ) → CommandDid words talk loads status → TellsWhatIsDue request files talk.left_before status
+    tells_what_is_due (Play file options) ask status done = λ text program come told spells coming.
         let did = done.answered come coming in
-        plays (Rose was is) (Adds before after) code file options text program come ask told spells did.4.due did.4.status did.4.is
-    tells_what_is_due (Examine task file log) ask code done = λ text program bytes told spells there'.
+        plays (IsUnread loads) status file options text program come ask told spells did.4.due did.4.status (over_files come did.4.due did.4.is)
+    tells_what_is_due (Examine task file log) ask status done = λ text program bytes told spells there'.
         let wrote = done.written (λ other options ask'. let same : Examine task file log ≡ Play other options = one words (Examine task file log) (Play other options) ask ask' in absurd (cc)) [] in
-        checks (Rose was is) (Adds before after) code task file log text program bytes ask told spells there' wrote.3.due wrote.3.status wrote.3.is
-    tells_what_is_due (World rooms options) ask code done = λ program spells.
+        examines (IsUnread loads) status task file log text program bytes ask told spells there' wrote.3.due wrote.3.status (over_files [] wrote.3.due wrote.3.is)
+    tells_what_is_due (World rooms options) ask status done = λ program spells.
         let wrote = done.written (λ other options' ask'. let same : World rooms options ≡ Play other options' = one words (World rooms options) (Play other options') ask ask' in absurd (cc)) [] in
-        tours (Rose was is) (Adds before after) code rooms options program ask spells wrote.3.due wrote.3.status wrote.3.is
+        tours (IsUnread loads) status rooms options program ask spells wrote.3.due wrote.3.status (over_files [] wrote.3.due wrote.3.is)
