@@ -166,8 +166,7 @@ class Terminal(Player):
         shown = self.until(terminal, b"> ")
         os.write(terminal, b"1\n")
         shown += self.until(terminal, b"> ")
-        os.write(terminal, b"un\x03")
-        self.assertIn(b"leaves the game", self.until(terminal, b"> "))
+        self.assertIn(b"leaves the game", self.interrupted(terminal))
         os.write(terminal, b"2\n")
         self.assertIn(b"The game has ended: quiet", self.until(terminal, b"> "))
         os.write(terminal, b"undo\n")
@@ -178,9 +177,19 @@ class Terminal(Player):
         os.close(terminal)
         self.assertEqual(self.checked(APPLE, log), "accepted 1\n")
 
-    def until(self, terminal, prompt):
-        """What comes from the terminal up to a prompt, or up to the end."""
-        said, last = b"", time.monotonic() + 60
+    def interrupted(self, terminal):
+        """What comes after Ctrl-C, which is typed again where readline shows its prompt and does not wait yet."""
+        for _ in range(6):
+            time.sleep(0.2)
+            os.write(terminal, b"un\x03")
+            said = self.until(terminal, b"> ", 10)
+            if b"leaves the game" in said:
+                return said
+        return b""
+
+    def until(self, terminal, prompt, seconds=60):
+        """What comes from the terminal up to a prompt, or up to the end, within so many seconds."""
+        said, last = b"", time.monotonic() + seconds
         while time.monotonic() < last and not (prompt and said.endswith(prompt)):
             if not select.select([terminal], [], [], 1)[0]:
                 continue
