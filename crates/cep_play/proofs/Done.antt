@@ -1,79 +1,33 @@
 -- What a command came to is what is due of its words.
-use Rattle.std.proofs.Common.{◌≡◌, ◌⊎◌, inl, inr, ⊎_elim, ℕ, suc, ◌+◌, List, [], ◌∷◌, ◌++◌, length, map, refl, sym, ap, ◌∙◌, subst, arith, append_assoc, lit<, Contains, Option, None, Some}
-use Rattle.std.specs.Prelude.{◌≢◌, Ok, Err, unwrap_or}
-use Rattle.std.specs.Option.{option_map}
-use Rattle.std.proofs.lemmas.List.{append-nil}
+use Rattle.std.proofs.Common.{◌≡◌, ◌⊎◌, inl, inr, ⊎_elim, ℕ, suc, ◌+◌, List, [], ◌∷◌, length, map, refl, sym, ap, ◌∙◌, subst}
+use Rattle.std.specs.Prelude.{unwrap_or}
 use Rattle.cep_base.specs.declared.limits.TheConstants.{DEFAULT_SEED}
 use Rattle.cep_base.specs.declared.console.Event.{Event}
-use Rattle.cep_base.specs.declared.console.ConsoleFault.{ConsoleFault}
-use Rattle.cep_base.specs.declared.console.ConsoleFault.TheVariants as faults
-use Rattle.cep_base.specs.Files.{Files}
-use Rattle.cep_base.specs.Faults.{Rose}
 use Rattle.cep_base.specs.Talk.{outs}
-use Rattle.cep_base.proofs.Did.{did_put, did_map}
 use Rattle.cep_rule.specs.declared.parts.Parts.{Parts}
-use Rattle.cep_lines.specs.declared.end_word.EndWord.{EndWord}
-use Rattle.cep_lines.specs.declared.end_word.EndWord.TheVariants.{Quiet, Input, Turns, Offers, Typed, Atom, State}
-use Rattle.cep_lines.specs.Lines.{line}
-use Rattle.cep_words.specs.declared.request.Task.{Task}
 use Rattle.cep_words.specs.declared.options.Options.{Options}
-use Rattle.cep_words.specs.Words.{Request, Play, Examine, World, AskFor, HaveNoForm}
+use Rattle.cep_words.specs.Words.{Request, Play, Examine, World}
 use Rattle.cep_term.specs.Multiset.{copies_in}
 use Rattle.cep_run.specs.declared.settings.Settings.{Settings}
 use Rattle.cep_run.specs.declared.tally.Tally.{Tally}
 use Rattle.cep_run.specs.Run.{Turn, Ending, unproved, offers_listed}
-use Rattle.cep_run.specs.Said.{IsSaid, Says, IsTally}
-use Rattle.cep_play.specs.declared.loading.NoProgram.TheVariants as none
-use Rattle.cep_play.specs.declared.play.Played.{Played}
-use Rattle.cep_play.specs.declared.play.Played.TheVariants as played
-use Rattle.cep_play.specs.declared.check.Found.{Found}
-use Rattle.cep_play.specs.declared.check.Found.TheVariants as found
-use Rattle.cep_play.specs.declared.check.Checked.{Checked}
-use Rattle.cep_play.specs.declared.check.Checked.TheVariants as checked
-use Rattle.cep_play.specs.declared.world.Toured.{Toured}
-use Rattle.cep_play.specs.declared.world.Toured.TheVariants as toured
-use Rattle.cep_play.specs.Command.{OfFile, IsSpelledBy, Adds, refusal_text, usage, no_program, no_transcript, settings_of}
-use Rattle.cep_play.specs.Outside.{Outside, text_due, code_told}
+use Rattle.cep_run.specs.Said.{IsSaid, IsTally}
+use Rattle.cep_play.specs.Exchange.{Talked, Loaded, Went, Wrote}
+use Rattle.cep_play.specs.Command.{OfFile, IsSpelledBy, settings_of}
+use Rattle.cep_play.specs.Outside.{Report, report_due, code_told}
 use Rattle.cep_play.specs.World.{summary, IsTallied}
-use Rattle.cep_play.specs.Due.{IsDue, IsDueUnread}
-use Rattle.cep_play.specs.Answered.{IsNoDialogue}
-use Rattle.cep_play.specs.Outcome.{Wrote, IsProgramIn, NoneIsRead, PlaysFile, ChecksFile, RunsWorld, code_played, code_checked, code_toured, CountsBy, AsksFile, AsksFiles, AskedAsSaid, AskedInVain, CommandDid}
+use Rattle.cep_play.specs.Answered.{DoesWhatIsDue}
+use Rattle.cep_play.specs.Outcome.{all_read, IsRunSaid, IsSilentRun, ReportsRun, IsReportOn, IsToPlay, CommandDid}
+use Rattle.cep_play.proofs.Reported.{IsOneRequest, told_is, told_low, rose_by_all}
 
--- words ask for one thing at most
-abbrev pub IsOneRequest : Type 0
-IsOneRequest = (words : List (List ℕ)) (request other : Request) → AskFor words request → AskFor words other → request ≡ other
-
--- the status of a run is 0 or 4
-pub told_is : (word : EndWord) → (code_told word ≡ 0) ⊎ (code_told word ≡ 4)
-told_is Quiet = inl refl
-told_is Input = inl refl
-told_is Turns = inr refl
-told_is Offers = inr refl
-told_is Typed = inr refl
-told_is Atom = inr refl
-told_is State = inr refl
-
-pub told_among : (word : EndWord) → Contains (0 ∷ 1 ∷ 2 ∷ 3 ∷ 4 ∷ 7 ∷ []) (code_told word)
-told_among Quiet = (0, lit< tt, refl)
-told_among Input = (0, lit< tt, refl)
-told_among Turns = (4, lit< tt, refl)
-told_among Offers = (4, lit< tt, refl)
-told_among Typed = (4, lit< tt, refl)
-told_among Atom = (4, lit< tt, refl)
-told_among State = (4, lit< tt, refl)
-
-pub told_not_7 : (word : EndWord) → code_told word ≢ 7
-told_not_7 word e = ⊎_elim (λ ended. absurd (omega (arith, e, ended))) (λ limited. absurd (omega (arith, e, limited))) (told_is word)
+-- what holds may be told by a weaker predicate
+pub went_map : (talk : Talked) (P Q : List ℕ → List Event → List ℕ → Type 0) → ((come : List ℕ) (events : List Event) (rest : List ℕ) → P come events rest → Q come events rest) → Went talk P → Went talk Q
+went_map talk P Q weaker went come coming = let it = went come coming in (it.0, it.1, it.2, it.3, weaker come it.0 it.1 it.4)
 
 -- less may be said of the turns and the end
 pub said_less : (program : Parts) (settings : Settings) (P Q : List Turn → Ending → Type 0) → ((turns : List Turn) (ending : Ending) → P turns ending → Q turns ending) → (come : List ℕ) (events : List Event) (rest : List ℕ) → IsSaid program settings P come events rest → IsSaid program settings Q come events rest
 said_less program settings P Q less come events rest said =
     record { turns = said.turns; ending = said.ending; dialogue = said.dialogue; holds = less said.turns said.ending said.holds; deeds = said.deeds; counted = said.counted; logged = said.logged; only = said.only; to_the_byte = said.to_the_byte }
-
-module _ {C : Type 0} (talk : C → Option (List Event)) (left : C → Option (List ℕ)) (old new : C) where
-  pub says_less : (program : Parts) (settings : Settings) (P Q : List Turn → Ending → Type 0) → ((turns : List Turn) (ending : Ending) → P turns ending → Q turns ending) → Says talk left old new program settings P → Says talk left old new program settings Q
-  says_less program settings P Q less says =
-      did_map talk left old new _ _ (said_less program settings P Q less) says
 
 -- derivations do not count
 turns_counted : (turns : List Turn) → length (map unproved turns) ≡ length turns
@@ -94,158 +48,65 @@ one_tally tally turns turns' ending ending' same end is = record {
 }
 
 -- the tally of a run with nothing typed is that of each other
-pub tallied : (program : Parts) (options : Options) (tally : Tally) (settings : Settings) (events : List Event) (rest : List ℕ) → settings ≡ settings_of program options
-    → IsSaid program settings (λ turns ending. IsTally turns ending tally) [] events rest → IsTallied program options tally
-tallied program options tally settings events rest same said =
-    let said' = subst (λ (s : Settings). IsSaid program s (λ turns ending. IsTally turns ending tally) [] events rest) same said in
-    record {
-      events = events;
-      rest = rest;
-      said = said';
-      alone = λ turns ending events' rest' other. let only = said'.only turns ending events' rest' other in one_tally tally said'.turns turns said'.ending ending only.0 only.1 said'.holds;
-    }
+pub tallied : (program : Parts) (options : Options) (tally : Tally) (events : List Event) (rest : List ℕ)
+    → IsSaid program (settings_of program options) (λ turns ending. IsTally turns ending tally) [] events rest → IsTallied program options tally
+tallied program options tally events rest said = record {
+  events = events;
+  rest = rest;
+  said = said;
+  alone = λ turns ending events' rest' other. let only = said.only turns ending events' rest' other in one_tally tally said.turns turns said.ending ending only.0 only.1 said.holds;
+}
 
--- nothing is asked of the shelf for a generated world, nor for words without a form
-pub adds_none : (told : Option (List (List ℕ))) → Adds told told []
-adds_none None = refl
-adds_none (Some asked) = ap Some (sym (append-nil asked))
+abbrev made : List ℕ → ℕ → Report
+made written code = record { written = written; code = code }
 
--- two names that are asked for one after the other
-pub adds_twice : (before between after : Option (List (List ℕ))) (one other : List ℕ) → Adds before between (one ∷ []) → Adds between after (other ∷ []) → Adds before after (one ∷ other ∷ [])
-adds_twice before between after one other first second = second ∙ ap (option_map (λ asked. asked ++ other ∷ [])) first ∙ joined before where
-  joined : (told : Option (List (List ℕ))) → option_map (λ asked. asked ++ other ∷ []) (option_map (λ asked. asked ++ one ∷ []) told) ≡ option_map (λ asked. asked ++ one ∷ other ∷ []) told
-  joined None = refl
-  joined (Some asked) = ap Some (append_assoc asked (one ∷ []) (other ∷ []))
-
--- words that ask for a transcript to be examined or for a world ask for no program to be played
-checks_alone : IsOneRequest → (words : List (List ℕ)) (task : Task) (name log : List ℕ) (code : ℕ) → AskFor words (Examine task name log) → IsNoDialogue words code
-checks_alone one words task name log code ask file options other = let same : Examine task name log ≡ Play file options = one words (Examine task name log) (Play file options) ask other in absurd (cc)
-
-tours_alone : IsOneRequest → (words : List (List ℕ)) (rooms : ℕ) (asked : Options) (code : ℕ) → AskFor words (World rooms asked) → IsNoDialogue words code
-tours_alone one words rooms asked code ask file options other = let same : World rooms asked ≡ Play file options = one words (World rooms asked) (Play file options) ask other in absurd (cc)
+-- its report
+pub toured : (program : Parts) (rooms : ℕ) (options : Options) (ticks ticks' : ℕ) (tally : Tally) (written : List ℕ) (code : ℕ) (report : Report) → IsSilentRun program (settings_of program options) ticks ticks' tally
+    → report ≡ record { written = written; code = code } → written ≡ summary rooms (unwrap_or options.seed DEFAULT_SEED) tally → code ≡ code_told tally.word → ReportsRun rooms options program ticks ticks' report
+toured program rooms options ticks ticks' tally written code report (events, rest, said) is text status = (
+  (tally, tallied program options tally events rest (said_less program (settings_of program options) _ _ (λ turns ending holds. holds.0) [] events rest said), is ∙ ap (λ (w : List ℕ). made w code) text ∙ ap (made _) status),
+  (said.turns, said.ending, events, rest, said.dialogue, said.holds.1),
+)
 
 abbrev file_played : Request → List ℕ
 file_played (Play file options) = file
 file_played (Examine task file log) = file
 file_played (World rooms options) = []
 
-module _ {C : Type 0} (talk : C → Option (List Event)) (left : C → Option (List ℕ)) (old new : C) (files : Option Files) (was is : ℕ) (before after : Option (List (List ℕ))) (words : List (List ℕ)) where
-  abbrev Done : ℕ → Type 0
-  Done code = CommandDid talk left old new files was is before after words code
-
-  abbrev over : List ℕ → Outside
-  over come = record { files = files; come = come }
-
-  -- a text that is due was written
-  text_done : (bytes : List ℕ) (code : ℕ) (names : List (List ℕ)) → Wrote talk left old new bytes → Adds before after names
-      → ((come : List ℕ) → IsDue words (over come) (text_due bytes code names come) ⊎ (Rose was is × IsDueUnread words (over come) (text_due bytes code names come)))
-      → IsNoDialogue words code → AskedAsSaid files (Rose was is) before words after → CountsBy was is code → Contains (0 ∷ 1 ∷ 2 ∷ 3 ∷ 4 ∷ 7 ∷ []) code → Done code
-  text_done bytes code names wrote adds due alone asked counts among = record {
-    answered = did_map talk left old new _ _ (λ come events rest it. record { due = text_due bytes code names come; is = due come; said = it.0; left = it.1; names = adds; status = refl }) (did_put talk left old new bytes wrote.0 wrote.1);
-    written = λ _ come. (outs bytes, wrote.0, wrote.1, record { due = text_due bytes code names come; is = due come; said = refl; left = refl; names = adds; status = refl });
-    spelled = λ file options ask ran. let not = alone file options ask in absurd (⊎_elim (λ e. not.0 e) (λ e. not.1 e) ran);
-    asked_for = asked;
-    counts = counts;
-    among = among;
-  }
+module _ (words : List (List ℕ)) (talk : Talked) (loads : Loaded) (ticks ticks' : ℕ) where
+  -- a report that is due was written
+  pub report_done : (report : Report) (code : ℕ) → IsReportOn words loads ticks ticks' report → Wrote talk report.written → code ≡ report.code → CommandDid words talk loads ticks ticks' code
+  report_done report code is wrote same = subst (CommandDid words talk loads ticks ticks') (sym same) (record {
+    answered = λ come coming. (outs report.written, come, wrote.0, wrote.1 ∙ coming, does come);
+    written = λ _ come. (outs report.written, wrote.0, wrote.1, does come);
+    spelled = λ file options ask ran. let not = is.alone file options ask in absurd (⊎_elim (λ e. not.0 e) (λ e. not.1 e) ran);
+    as_said = is.as_said;
+    comes = is.comes;
+    rose = is.rose talk;
+  }) where
+    does : (come : List ℕ) → DoesWhatIsDue words loads report.code come (outs report.written) come
+    does come = record { due = report_due report is.names come; is = is.due come; said = refl; left = refl; names = is.asked; status = refl }
 
   -- a dialogue that is due was said
-  dialogue_done : IsOneRequest → (file : List ℕ) (options : Options) (program : Parts) (word : EndWord) → AskFor words (Play file options) → IsProgramIn files file program
-      → Says talk left old new program (settings_of program options) (λ turns ending. ending.word ≡ word) → Adds before after (file ∷ []) → is ≡ was → Done (code_told word)
-  dialogue_done one file options program word ask is_in says adds same = record {
-    answered = did_map talk left old new _ _ (λ come events rest said. record {
-      due = record { events = events; rest = rest; code = code_told word; names = file ∷ [] };
-      is = inl (inr (Play file options, ask, (is_in.0, is_in.1, inr (program, is_in.2, (record { turns = said.turns; ending = said.ending; dialogue = said.dialogue; holds = ap code_told (sym said.holds); deeds = said.deeds; counted = said.counted; only = said.only; logged = said.logged; to_the_byte = said.to_the_byte }, refl)))));
-      said = refl;
-      left = refl;
-      names = adds;
-      status = refl;
-    }) says;
-    written = λ alone. let not = alone file options ask in absurd (⊎_elim (λ e. not.0 e) (λ e. not.1 e) (told_is word));
-    spelled = λ other options' ask' ran. subst (λ name. OfFile files name (λ text. (program : Parts) × IsSpelledBy program text)) (ap file_played (one words (Play file options) (Play other options') ask ask')) (is_in.0, is_in.1, (program, is_in.2));
-    asked_for = inl (Play file options, ask, adds);
-    counts = ((λ e. absurd (told_not_7 word e)), (λ _. same));
-    among = told_among word;
-  }
-
-  pub play_done : IsOneRequest → (file : List ℕ) (options : Options) (what : Played) → AskFor words (Play file options) → PlaysFile talk left old new files file options what → Adds before after (file ∷ []) → CountsBy was is (code_played what) → Done (code_played what)
-  play_done one file options (played.Ended word) ask it adds counts = dialogue_done one file options it.0 word ask it.1 it.2 adds (counts.1 (told_not_7 word))
-  play_done one file options (played.Without none.Refused) ask it adds counts =
-      text_done (line (refusal_text it.2.refusal)) 3 (file ∷ []) it.2.writes adds
-      (λ come. inl (inr (Play file options, ask, (it.0, it.1, inl (record { fault = it.2.fault; refusal = it.2.refusal; refused = it.2.refused; tells = it.2.tells; no_program = it.2.no_program; is = refl })))))
-      (λ _ _ _. ((λ e. absurd (omega arith)), (λ e. absurd (omega arith)))) (inl (Play file options, ask, adds)) counts (3, lit< tt, refl)
-  play_done one file options (played.Without none.Unread) ask it adds counts =
-      text_done (line no_program) 7 (file ∷ []) it adds (λ come. inr (counts.0 refl, (Play file options, ask, refl)))
-      (λ _ _ _. ((λ e. absurd (omega arith)), (λ e. absurd (omega arith)))) (inl (Play file options, ask, adds)) counts (5, lit< tt, refl)
-
-  pub check_done : IsOneRequest → (task : Task) (file log : List ℕ) (what : Checked) → AskFor words (Examine task file log) → ChecksFile talk left old new files task file log what → AsksFiles task files (Rose was is) before file log after (Ok what) → CountsBy was is (code_checked what) → Done (code_checked what)
-  check_done one task file log (checked.Against found.Accepted) ask it adds counts =
-      let text = it.1 in
-      let bytes = it.2 in
-      text_done bytes.2.0 0 (file ∷ log ∷ []) bytes.2.2 adds (λ come. inl (inr (Examine task file log, ask, (text.0, text.1, inr (it.0, text.2, (bytes.0, bytes.1, (bytes.2.0, inl (bytes.2.1, refl))))))))
-      (checks_alone one words task file log 0 ask) (inl (Examine task file log, ask, inl ((text.0, text.1, (it.0, text.2.0)), adds))) counts (0, lit< tt, refl)
-  check_done one task file log (checked.Against found.Rejected) ask it adds counts =
-      let text = it.1 in
-      let bytes = it.2 in
-      text_done bytes.2.0 1 (file ∷ log ∷ []) bytes.2.2 adds (λ come. inl (inr (Examine task file log, ask, (text.0, text.1, inr (it.0, text.2, (bytes.0, bytes.1, (bytes.2.0, inr (bytes.2.1, refl))))))))
-      (checks_alone one words task file log 1 ask) (inl (Examine task file log, ask, inl ((text.0, text.1, (it.0, text.2.0)), adds))) counts (1, lit< tt, refl)
-  check_done one task file log (checked.Against found.Unread) ask it adds counts =
-      let text = it.1 in
-      text_done (line no_transcript) 7 (file ∷ log ∷ []) it.2 adds (λ come. inr (counts.0 refl, (Examine task file log, ask, inr ((text.0, text.1, (it.0, text.2.0)), refl))))
-      (checks_alone one words task file log 7 ask) (inl (Examine task file log, ask, inl ((text.0, text.1, (it.0, text.2.0)), adds))) counts (5, lit< tt, refl)
-  check_done one task file log (checked.Without none.Refused) ask it adds counts =
-      text_done (line (refusal_text it.2.refusal)) 3 (file ∷ []) it.2.writes adds
-      (λ come. inl (inr (Examine task file log, ask, (it.0, it.1, inl (record { fault = it.2.fault; refusal = it.2.refusal; refused = it.2.refused; tells = it.2.tells; no_program = it.2.no_program; is = refl })))))
-      (checks_alone one words task file log 3 ask) (inl (Examine task file log, ask, inr (inl (it.0, it.1, λ some. it.2.no_program some.0 some.1), adds))) counts (3, lit< tt, refl)
-  check_done one task file log (checked.Without none.Unread) ask it adds counts =
-      text_done (line no_program) 7 (file ∷ []) it adds (λ come. inr (counts.0 refl, (Examine task file log, ask, inl refl)))
-      (checks_alone one words task file log 7 ask) (inl (Examine task file log, ask, inr (inr (counts.0 refl), adds))) counts (5, lit< tt, refl)
-
-  pub tour_done : IsOneRequest → (rooms : ℕ) (options : Options) (what : Toured) → AskFor words (World rooms options) → RunsWorld talk left old new rooms options what → Adds before after [] → is ≡ was → Done (code_toured what)
-  tour_done one rooms options (toured.Ended tally) ask it adds same =
-      text_done (summary rooms (unwrap_or options.seed DEFAULT_SEED) tally) (code_told tally.word) [] it.3 adds (λ come. inl (inr (World rooms options, ask, inr (it.0, it.1, (tally, it.2, refl)))))
-      (tours_alone one words rooms options (code_told tally.word) ask) (inl (World rooms options, ask, adds)) ((λ e. absurd (told_not_7 tally.word e)), (λ _. same)) (told_among tally.word)
-  tour_done one rooms options toured.Refused ask it adds same =
-      text_done (line (refusal_text it.refusal)) 3 [] it.writes adds
-      (λ come. inl (inr (World rooms options, ask, inl (record { fault = it.fault; refusal = it.refusal; refused = it.refused; tells = it.tells; no_program = it.no_program; is = refl }))))
-      (tours_alone one words rooms options 3 ask) (inl (World rooms options, ask, adds)) ((λ e. absurd (omega arith)), (λ _. same)) (3, lit< tt, refl)
-
-  pub usage_done : HaveNoForm words → Wrote talk left old new (line usage) → Adds before after [] → is ≡ was → Done 2
-  usage_done none wrote adds same =
-      text_done (line usage) 2 [] wrote adds (λ come. inl (inl (none, refl))) (λ file options ask. absurd (none (Play file options) ask)) (inr (none, adds)) ((λ e. absurd (omega arith)), (λ _. same)) (2, lit< tt, refl)
-
--- What was asked where a command was cut short
-
-pub played_in_vain : (files : Option Files) (unread : Type 0) (before : Option (List (List ℕ))) (words : List (List ℕ)) (name : List ℕ) (options : Options) (after : Option (List (List ℕ))) (fault : ConsoleFault)
-    → AskFor words (Play name options) → AsksFile {T = Played} before name after (Err fault) → AskedInVain files unread before words after (Err fault)
-played_in_vain files unread before words name options after faults.Failed ask adds = inl (Play name options, ask, adds)
-played_in_vain files unread before words name options after (faults.Memory error) ask (inl adds) = inl (Play name options, ask, adds)
-played_in_vain files unread before words name options after (faults.Memory error) ask (inr same) = inr same
-
-pub checked_in_vain : (files : Option Files) (unread : Type 0) (before : Option (List (List ℕ))) (words : List (List ℕ)) (task : Task) (name log : List ℕ) (after : Option (List (List ℕ))) (fault : ConsoleFault)
-    → AskFor words (Examine task name log) → AsksFiles task files unread before name log after (Err fault) → AskedInVain files unread before words after (Err fault)
-checked_in_vain files unread before words task name log after faults.Failed ask adds = inl (Examine task name log, ask, adds)
-checked_in_vain files unread before words task name log after (faults.Memory error) ask (inl adds) = inl (Examine task name log, ask, adds)
-checked_in_vain files unread before words task name log after (faults.Memory error) ask (inr same) = inr same
-
-pub toured_in_vain : (files : Option Files) (unread : Type 0) (asked : Option (List (List ℕ))) (words : List (List ℕ)) (rooms : ℕ) (options : Options) (fault : ConsoleFault)
-    → AskFor words (World rooms options) → AskedInVain files unread asked words asked (Err fault)
-toured_in_vain files unread asked words rooms options faults.Failed ask = inl (World rooms options, ask, adds_none asked)
-toured_in_vain files unread asked words rooms options (faults.Memory error) ask = inr refl
-
-pub unasked_in_vain : (files : Option Files) (unread : Type 0) (asked : Option (List (List ℕ))) (words : List (List ℕ)) (fault : ConsoleFault) → HaveNoForm words → AskedInVain files unread asked words asked (Err fault)
-unasked_in_vain files unread asked words faults.Failed none = inr (none, adds_none asked)
-unasked_in_vain files unread asked words (faults.Memory error) none = inr refl
-
--- what is asked for a transcript: its file behind a program that was read, and else the program alone
-pub both_in_vain : (task : Task) (files : Option Files) (unread : Type 0) (before between : Option (List (List ℕ))) (name log : List ℕ) (after : Option (List (List ℕ))) (fault : ConsoleFault) (program : Parts)
-    → IsProgramIn files name program → Adds before between (name ∷ []) → AsksFile {T = Found} between log after (Err fault) → AsksFiles task files unread before name log after (Err fault)
-both_in_vain task files unread before between name log after faults.Failed program is_in first second = inl ((is_in.0, is_in.1, (program, is_in.2.0)), adds_twice before between after name log first second)
-both_in_vain task files unread before between name log after (faults.Memory error) program is_in first (inl second) = inl (inl ((is_in.0, is_in.1, (program, is_in.2.0)), adds_twice before between after name log first second))
-both_in_vain task files unread before between name log after (faults.Memory error) program is_in first (inr same) = inl (inr (subst (λ asked. Adds before asked (name ∷ [])) (sym same) first))
-
-pub one_in_vain : (task : Task) (files : Option Files) (unread : Type 0) (before : Option (List (List ℕ))) (name log : List ℕ) (after : Option (List (List ℕ))) (fault : ConsoleFault)
-    → (fault ≡ faults.Failed → NoneIsRead files unread name) → AsksFile {T = Checked} before name after (Err fault) → AsksFiles task files unread before name log after (Err fault)
-one_in_vain task files unread before name log after faults.Failed none adds = inr (none refl, adds)
-one_in_vain task files unread before name log after (faults.Memory error) none (inl adds) = inl (inr adds)
-one_in_vain task files unread before name log after (faults.Memory error) none (inr same) = inr same
+  pub dialogue_done : IsOneRequest → (program : Parts) (options : Options) (tally : Tally) (code : ℕ) → code ≡ code_told tally.word → IsToPlay words loads program options
+      → Went talk (IsRunSaid program (settings_of program options) ticks ticks' tally) → CommandDid words talk loads ticks ticks' code
+  dialogue_done one program options tally code is play says =
+      let settings = settings_of program options in
+      let run : (code ≡ 0) ⊎ (code ≡ 4) = subst (λ n. (n ≡ 0) ⊎ (n ≡ 4)) (sym is) (told_is tally.word) in
+      let spelled = play.is_in in
+      record {
+        answered = went_map talk _ _ (λ come events rest said. record {
+          due = record { events = events; rest = rest; code = code; names = play.file ∷ [] };
+          is = inl (inr (Play play.file options, play.ask, (spelled.0, spelled.1, inr (program, spelled.2, (said_less program settings _ _ (λ turns ending holds. is ∙ ap code_told holds.0.word) come events rest said, refl)))));
+          said = refl;
+          left = refl;
+          names = play.asked;
+          status = refl;
+        }) says;
+        written = λ alone. let not = alone play.file options play.ask in absurd (⊎_elim (λ e. not.0 e) (λ e. not.1 e) run);
+        spelled = λ other options' ask' ran. subst (λ name. OfFile loads.files name (λ text. (program : Parts) × IsSpelledBy program text)) (ap file_played (one words (Play play.file options) (Play other options') play.ask ask')) (spelled.0, spelled.1, (program, spelled.2));
+        as_said = inl (Play play.file options, play.ask, play.asked);
+        comes = all_read (told_low tally.word code is) play.read;
+        rose = λ _. rose_by_all talk loads.files ticks ticks' words one (Play play.file options) play.ask
+            (program, spelled, went_map talk _ _ (λ come events rest said. said_less program settings _ _ (λ turns ending holds. holds.1) come events rest said) says);
+      }

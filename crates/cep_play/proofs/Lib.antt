@@ -1,6 +1,6 @@
-pub mod Judged
+pub mod Reporting
+pub mod Reported
 pub mod Done
-pub mod Counting
-pub mod Telling
-pub mod OneDue
 pub mod Begins
+pub mod OneDue
+pub mod Telling

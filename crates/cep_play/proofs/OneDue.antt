@@ -11,13 +11,13 @@ use Rattle.cep_words.specs.Words.{Request, Play, Examine, World}
 use Rattle.cep_run.specs.Run.{Ending}
 use Rattle.cep_run.specs.Said.{IsSaid}
 use Rattle.cep_play.specs.Command.{OfFile, settings_of}
-use Rattle.cep_play.specs.Outside.{Outside, Due, OfText, code_told}
+use Rattle.cep_play.specs.Outside.{Outside, Due, Report, IsReportDue, OfText, code_told}
 use Rattle.cep_play.specs.Play.{IsDialogueDue}
-use Rattle.cep_play.specs.Examined.{IsVerdictDue}
-use Rattle.cep_play.proofs.Judged.{fails_alone}
-use Rattle.cep_play.specs.World.{IsTallied, IsSummaryDue}
+use Rattle.cep_play.specs.Reports.{Reports}
+use Rattle.cep_play.specs.World.{ReportsWorld}
 use Rattle.cep_play.specs.Due.{IsDueOf, IsDue}
-use Rattle.cep_play.proofs.Done.{IsOneRequest}
+use Rattle.cep_play.proofs.Reporting.{code, one_code}
+use Rattle.cep_play.proofs.Reported.{IsOneRequest}
 
 -- two that are due have one status, one rest and the same names
 abbrev pub AreOne : Due → Due → Type 0
@@ -30,9 +30,9 @@ both_told due other one two is is' are = (ap (λ (d : Due). d.code) is ∙ are.0
 -- a text is refused, or spells a program, and then what is due goes by that
 of_text : (text text' : List ℕ) (names : List (List ℕ)) (come : List ℕ) (P Q : Parts → Type 0) (due other : Due) → text ≡ text' → OfText text names come P due → OfText text' names come Q other
     → ((program program' : Parts) → program ≡ program' → P program → Q program' → AreOne due other) → AreOne due other
-of_text text text' names come P Q due other same (inl one) (inl two) spelled = both_told due other _ _ one.is two.is (refl, refl, refl)
-of_text text text' names come P Q due other same (inl one) (inr two) spelled = absurd (one.no_program two.0 (subst (λ t. Spells t two.0) (sym same) two.1.0))
-of_text text text' names come P Q due other same (inr one) (inl two) spelled = absurd (two.no_program one.0 (subst (λ t. Spells t one.0) same one.1.0))
+of_text text text' names come P Q due other same (inl (one, refused, e)) (inl (two, refused', e')) spelled = both_told due other _ _ e e' (ap code refused.is ∙ sym (ap code refused'.is), refl, refl)
+of_text text text' names come P Q due other same (inl (one, refused, e)) (inr two) spelled = absurd (refused.no_program two.0 (subst (λ t. Spells t two.0) (sym same) two.1.0))
+of_text text text' names come P Q due other same (inr one) (inl (two, refused, e)) spelled = absurd (refused.no_program one.0 (subst (λ t. Spells t one.0) same one.1.0))
 of_text text text' names come P Q due other same (inr one) (inr two) spelled = spelled one.0 two.0 (sym (one.1.1 two.0 (subst (λ t. Spells t two.0) (sym same) two.1.0))) one.2 two.2
 
 module _ (files : Files) (come : List ℕ) where
@@ -50,26 +50,26 @@ module _ (files : Files) (come : List ℕ) where
       let only = said.only one.0.turns one.0.ending due.events due.rest one.0.dialogue in
       (one.0.holds ∙ ap (λ (e : Ending). code_told e.word) only.1 ∙ sym said.holds, only.2, one.1 ∙ sym two.1))
 
-  verdicts_are_one : (task : Task) (program : Parts) (bytes : List ℕ) (names : List (List ℕ)) (due other : Due) → IsVerdictDue task program bytes names come due → IsVerdictDue task program bytes names come other → AreOne due other
-  verdicts_are_one task program bytes names due other (written, inl (done, is)) (written', inl (done', is')) = both_told due other _ _ is is' (refl, refl, refl)
-  verdicts_are_one task program bytes names due other (written, inr (failed, is)) (written', inr (failed', is')) = both_told due other _ _ is is' (refl, refl, refl)
-  verdicts_are_one task program bytes names due other (written, inl (done, is)) (written', inr (failed, is')) = absurd (fails_alone task program bytes written' written failed done)
-  verdicts_are_one task program bytes names due other (written, inr (failed, is)) (written', inl (done, is')) = absurd (fails_alone task program bytes written written' failed done)
+  reports_are_one : (P : Report → Type 0) (names : List (List ℕ)) (due other : Due) → ((one two : Report) → P one → P two → one.code ≡ two.code) → IsReportDue P names come due → IsReportDue P names come other → AreOne due other
+  reports_are_one P names due other same (one, is, e) (two, is', e') = both_told due other _ _ e e' (same one two is is', refl, refl)
 
   checks_are_one : (task : Task) (file log : List ℕ) (due other : Due) → IsDueOf (Examine task file log) over due → IsDueOf (Examine task file log) over other → AreOne due other
   checks_are_one task file log due other (text, has, is) (text', has', is') = of_text text text' (file ∷ []) come
-      (λ program. OfFile (Some files) log (λ bytes. IsVerdictDue task program bytes (file ∷ log ∷ []) come due)) (λ program. OfFile (Some files) log (λ bytes. IsVerdictDue task program bytes (file ∷ log ∷ []) come other)) due other (one_file file text text' has has') is is'
-      (λ program program' same one two. verdicts_are_one task program one.0 (file ∷ log ∷ []) due other one.2
-      (subst (λ bytes. IsVerdictDue task program bytes (file ∷ log ∷ []) come other) (sym (one_file log one.0 two.0 one.1 two.1)) (subst (λ (p : Parts). IsVerdictDue task p two.0 (file ∷ log ∷ []) come other) (sym same) two.2)))
+      (λ program. OfFile (Some files) log (λ bytes. IsReportDue (Reports task program bytes) (file ∷ log ∷ []) come due)) (λ program. OfFile (Some files) log (λ bytes. IsReportDue (Reports task program bytes) (file ∷ log ∷ []) come other)) due other (one_file file text text' has has') is is'
+      (λ program program' same one two. reports_are_one (Reports task program one.0) (file ∷ log ∷ []) due other (one_code task program one.0) one.2
+      (subst (λ bytes. IsReportDue (Reports task program bytes) (file ∷ log ∷ []) come other) (sym (one_file log one.0 two.0 one.1 two.1)) (subst (λ (p : Parts). IsReportDue (Reports task p two.0) (file ∷ log ∷ []) come other) (sym same) two.2)))
+
+  one_summary : (rooms : ℕ) (options : Options) (program : Parts) (one two : Report) → ReportsWorld rooms options program one → ReportsWorld rooms options program two → one.code ≡ two.code
+  one_summary rooms options program one two (tally, tallied, is) (tally', tallied', is') =
+      let said = tallied'.said in
+      let same = tallied.alone said.turns said.ending tallied'.events tallied'.rest said.dialogue in
+      let words : tally.word ≡ tally'.word = same.word ∙ sym said.holds.word in
+      ap code is ∙ ap code_told words ∙ sym (ap code is')
 
   tours_are_one : (rooms : ℕ) (options : Options) (due other : Due) → IsDueOf (World rooms options) over due → IsDueOf (World rooms options) over other → AreOne due other
-  tours_are_one rooms options due other is is' = of_text (world rooms) (world rooms) [] come (λ program. IsSummaryDue rooms options program come due) (λ program. IsSummaryDue rooms options program come other) due other refl is is'
-      (λ program program' same one two.
-      let tallied : IsTallied program options two.0 = subst (λ (p : Parts). IsTallied p options two.0) (sym same) two.1 in
-      let said = tallied.said in
-      let tally = one.1.alone said.turns said.ending tallied.events tallied.rest said.dialogue in
-      let words : one.0.word ≡ two.0.word = tally.word ∙ sym said.holds.word in
-      both_told due other _ _ one.2 two.2 (ap code_told words, refl, refl))
+  tours_are_one rooms options due other is is' = of_text (world rooms) (world rooms) [] come (λ program. IsReportDue (ReportsWorld rooms options program) [] come due) (λ program. IsReportDue (ReportsWorld rooms options program) [] come other) due other refl is is'
+      (λ program program' same one two. reports_are_one (ReportsWorld rooms options program) [] due other (one_summary rooms options program) one
+      (subst (λ (p : Parts). IsReportDue (ReportsWorld rooms options p) [] come other) (sym same) two))
 
   of_request : (request : Request) (due other : Due) → IsDueOf request over due → IsDueOf request over other → AreOne due other
   of_request (Play file options) due other = plays_are_one file options due other

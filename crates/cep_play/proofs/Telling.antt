@@ -1,10 +1,8 @@
 -- The status tells what is due.
-use Rattle.std.proofs.Common.{◌≡◌, ◌⊎◌, ◌==◌, inl, inr, ⊎_elim, ℕ, ◌<◌, Bool, true, false, List, [], ◌∷◌, refl, sym, ap, ◌∙◌, subst, lit<, arith, Contains, Option, None, Some}
-use Rattle.std.proofs.lemmas.Bool.{eqb-true, eqb-false}
+use Rattle.std.proofs.Common.{◌≡◌, ◌⊎◌, inl, inr, ⊎_elim, ℕ, zero, suc, ◌<◌, ◌≤◌, List, [], ◌∷◌, refl, sym, ap, ◌∙◌, subst, lit<, arith, Contains, Option, None, Some}
 use Rattle.cep_base.specs.declared.console.Event.{Event}
 use Rattle.cep_base.specs.Files.{Files, HasFile}
-use Rattle.cep_base.specs.Faults.{Rose}
-use Rattle.cep_base.proofs.Elements.{contains_none, contains_cases, contains_behind, contains_same, all_at}
+use Rattle.cep_base.proofs.Elements.{contains_none, contains_cases, contains_behind, contains_same}
 use Rattle.cep_base.proofs.Lists.{some_same}
 use Rattle.cep_rule.specs.declared.parts.Parts.{Parts}
 use Rattle.cep_rule.specs.Program.{IsProgram}
@@ -16,154 +14,140 @@ use Rattle.cep_words.specs.Words.{Request, Play, Examine, World, AskFor}
 use Rattle.cep_run.specs.declared.settings.Settings.{Settings}
 use Rattle.cep_run.specs.Run.{Turn, Ending}
 use Rattle.cep_run.specs.Dialogue.{Dialogue}
-use Rattle.cep_play.specs.Command.{OfRequest, Adds, settings_of}
-use Rattle.cep_play.specs.Outside.{Due, code_told}
-use Rattle.cep_play.specs.Examined.{Succeeds}
-use Rattle.cep_play.proofs.Judged.{fails_alone}
-use Rattle.cep_play.specs.Due.{IsDueOf, IsDue, IsDueUnreadOf, IsDueUnread}
-use Rattle.cep_play.specs.Answered.{IsOnShelf, EndsBy, TellsWhatIsDue}
-use Rattle.cep_play.proofs.Done.{IsOneRequest}
-use Rattle.cep_play.specs.Outcome.{CountsBy, CommandDid}
+use Rattle.cep_play.specs.Exchange.{Talked, Loaded, IsUnread}
+use Rattle.cep_play.specs.Command.{settings_of}
+use Rattle.cep_play.specs.Outside.{Outside, Due, Report, code_told}
+use Rattle.cep_play.specs.Reports.{Reports}
+use Rattle.cep_play.specs.Due.{IsDueOf, IsDueAtAll, IsDueUnreadOf}
+use Rattle.cep_play.specs.Answered.{IsOnShelf, EndsBy, ReportsBy, TellsWhatIsDue}
+use Rattle.cep_play.specs.Outcome.{ComesWith, all_read, one_unread, CommandDid}
+use Rattle.cep_play.proofs.Reporting.{code, one_code}
+use Rattle.cep_play.proofs.Reported.{IsOneRequest, asked_due}
 
--- where the files are told, a file has one text
-one_text : (files : Option Files) (name other text text' : List ℕ) → name ≡ other → HasFile files name text → IsOnShelf files other text' → text ≡ text'
-one_text None name other text text' same has told = absurd told
-one_text (Some file) name other text text' same has told = some_same text text' (sym has ∙ ap file same ∙ told)
+-- Statuses
 
--- a status that comes for want of memory or a fault of the console
+abbrev pub all_statuses : List ℕ
+all_statuses = 0 ∷ 1 ∷ 2 ∷ 3 ∷ 4 ∷ 6 ∷ 7 ∷ 9 ∷ []
+
+low_among : (n : ℕ) → n ≤ 4 → Contains all_statuses n
+low_among zero low = (0, lit< tt, refl)
+low_among (suc zero) low = (1, lit< tt, refl)
+low_among (suc (suc zero)) low = (2, lit< tt, refl)
+low_among (suc (suc (suc zero))) low = (3, lit< tt, refl)
+low_among (suc (suc (suc (suc zero)))) low = (4, lit< tt, refl)
+low_among (suc (suc (suc (suc (suc n))))) low = absurd (omega (arith, low))
+
+pub among_all : {loads : Loaded} {status : ℕ} → ComesWith loads status → Contains all_statuses status
+among_all {status} (all_read low same) = low_among status low
+among_all (one_unread seven unread) = subst (Contains all_statuses) (sym seven) (6, lit< tt, refl)
+
+pub no_fault : {loads : Loaded} {status : ℕ} → ComesWith loads status → (status ≡ 6) ⊎ (status ≡ 9) → ⊥
+no_fault (all_read low same) = ⊎_elim (λ e. omega (arith, low, e)) (λ e. omega (arith, low, e))
+no_fault (one_unread seven unread) = ⊎_elim (λ e. omega (arith, seven, e)) (λ e. omega (arith, seven, e))
+
+pub failed_by : {loads : Loaded} {status : ℕ} → ComesWith loads status → status ≡ 7 → IsUnread loads
+failed_by (all_read low same) seven = absurd (omega (arith, low, seven))
+failed_by (one_unread seven unread) _ = unread
+
+pub fails_by : {loads : Loaded} {status : ℕ} → ComesWith loads status → loads.faults_before < loads.faults_after → Contains (6 ∷ 7 ∷ 9 ∷ []) status
+fails_by (all_read low same) rose = absurd (omega (arith, same, rose))
+fails_by (one_unread seven unread) rose = subst (Contains (6 ∷ 7 ∷ 9 ∷ [])) (sym seven) (1, lit< tt, refl)
+
+-- a status that comes by out of memory or a fault of the console
 with_unread : (status : ℕ) → Contains (6 ∷ 9 ∷ []) status → Contains (6 ∷ 7 ∷ 9 ∷ []) status
 with_unread status among =
     ⊎_elim (λ six. contains_same 6 (7 ∷ 9 ∷ []) status six)
     (λ later. ⊎_elim (λ nine. contains_behind 6 (7 ∷ 9 ∷ []) status (contains_behind 7 (9 ∷ []) status (contains_same 9 [] status nine))) (λ none. absurd (contains_none status none)) (contains_cases 9 [] status later))
     (contains_cases 6 (9 ∷ []) status among)
 
--- a status that a command answers is one of all, and none that a fault has
-pub among_all : (code : ℕ) → Contains (0 ∷ 1 ∷ 2 ∷ 3 ∷ 4 ∷ 7 ∷ []) code → Contains (0 ∷ 1 ∷ 2 ∷ 3 ∷ 4 ∷ 6 ∷ 7 ∷ 9 ∷ []) code
-among_all code among =
-    all_at (λ n. Contains (0 ∷ 1 ∷ 2 ∷ 3 ∷ 4 ∷ 6 ∷ 7 ∷ 9 ∷ []) n) (0 ∷ 1 ∷ 2 ∷ 3 ∷ 4 ∷ 7 ∷ []) code
-    ((0, lit< tt, refl), ((1, lit< tt, refl), ((2, lit< tt, refl), ((3, lit< tt, refl), ((4, lit< tt, refl), ((6, lit< tt, refl), tt)))))) among
-
-pub is_no_fault : (code : ℕ) → Contains (0 ∷ 1 ∷ 2 ∷ 3 ∷ 4 ∷ 7 ∷ []) code → (code ≡ 6) ⊎ (code ≡ 9) → ⊥
-is_no_fault code among =
-    all_at (λ n. (n ≡ 6) ⊎ (n ≡ 9) → ⊥) (0 ∷ 1 ∷ 2 ∷ 3 ∷ 4 ∷ 7 ∷ []) code
-    (none 0 (λ e. absurd (omega arith)) (λ e. absurd (omega arith)), (none 1 (λ e. absurd (omega arith)) (λ e. absurd (omega arith)), (none 2 (λ e. absurd (omega arith)) (λ e. absurd (omega arith)), (none 3 (λ e. absurd (omega arith)) (λ e. absurd (omega arith)), (none 4 (λ e. absurd (omega arith)) (λ e. absurd (omega arith)), (none 7 (λ e. absurd (omega arith)) (λ e. absurd (omega arith)), tt)))))) among
-  where
-    none : (n : ℕ) → (n ≡ 6 → ⊥) → (n ≡ 9 → ⊥) → (n ≡ 6) ⊎ (n ≡ 9) → ⊥
-    none n six nine is = ⊎_elim six nine is
-
--- where the shelf failed, the status says so
-pub fails_by : (was is code : ℕ) → CountsBy was is code → was < is → Contains (6 ∷ 7 ∷ 9 ∷ []) code
-fails_by was is code counts rose = by (code == 7) refl where
-  by : (t : Bool) → (code == 7) ≡ t → Contains (6 ∷ 7 ∷ 9 ∷ []) code
-  by true e = subst (Contains (6 ∷ 7 ∷ 9 ∷ [])) (sym (eqb-true code 7 e)) (1, lit< tt, refl)
-  by false e = let same = counts.1 (eqb-false code 7 e) in absurd (omega (arith, same, rose))
-
-unread_among : (others : List ℕ) (code : ℕ) → Contains others 7 → code ≡ 7 → Contains others code
-unread_among others code has is = subst (Contains others) (sym is) has
-
--- what is due of words is due of what they ask for
-pub asked_due : IsOneRequest → (words : List (List ℕ)) (request : Request) → AskFor words request → (P : Request → Type 0) → OfRequest words P → P request
-asked_due one words request ask P of = subst P (one words of.0 request of.1 ask) of.2
+-- where the files are told, a file has one text
+told_text : (files : Option Files) (name text other : List ℕ) → IsOnShelf files name text → HasFile files name other → text ≡ other
+told_text None name text other told has = absurd told
+told_text (Some file) name text other told has = some_same text other (sym told ∙ has)
 
 module _ (one : IsOneRequest)
     (there : (program : Parts) (settings : Settings) (come : List ℕ) → IsProgram program → (turns : List Turn) × (ending : Ending) × (events : List Event) × (rest : List ℕ) × Dialogue program settings come turns ending events rest)
     (is_program : (text : List ℕ) (program : Parts) → Spells text program → IsProgram program)
-    (words : List (List ℕ)) (files : Option Files) where
+    (words : List (List ℕ)) (loads : Loaded) where
   -- these statuses may come however a run ends
   ends_anyway : (text : List ℕ) (program : Parts) (settings : Settings) (come others : List ℕ) (status : ℕ) → Spells text program → Contains others status → EndsBy program settings come others status
   ends_anyway text program settings come others status spells among =
       let due = there program settings come (is_program text program spells) in
       (due.0, due.1, due.2, due.3, due.4, contains_behind (code_told due.1.word) others status among)
 
+  reports_anyway : (P : Report → Type 0) (others : List ℕ) (status : ℕ) → Contains others status → ReportsBy P others status
+  reports_anyway P others status among = ((λ report is. contains_behind report.code others status among), inl among)
+
   -- these statuses may come whatever is due
-  pub tells_anyway : (left : Option (List ℕ)) (request : Request) (status : ℕ) → Contains (6 ∷ 9 ∷ []) status → TellsWhatIsDue request files left status
+  pub tells_anyway : (left : Option (List ℕ)) (request : Request) (status : ℕ) → Contains (6 ∷ 9 ∷ []) status → TellsWhatIsDue request loads.files left status
   tells_anyway left (Play file options) status among = λ text program come told spells coming. ends_anyway text program (settings_of program options) come (6 ∷ 7 ∷ 9 ∷ []) status spells (with_unread status among)
-  tells_anyway left (Examine task file log) status among = λ text program bytes told spells there'. (
-    (λ written is. contains_behind 0 (6 ∷ 7 ∷ 9 ∷ []) status (with_unread status among)),
-    (λ none. contains_behind 1 (6 ∷ 7 ∷ 9 ∷ []) status (with_unread status among)),
-  )
+  tells_anyway left (Examine task file log) status among = λ text program bytes told spells there'. reports_anyway (Reports task program bytes) (6 ∷ 7 ∷ 9 ∷ []) status (with_unread status among)
   tells_anyway left (World rooms options) status among = λ program spells. ends_anyway (world rooms) program (settings_of program options) [] (6 ∷ 9 ∷ []) status spells among
 
-  module _ (unread : Type 0) (asked : List (List ℕ) → Type 0) (code : ℕ) where
+  abbrev over : List ℕ → Outside
+  over come = record { files = loads.files; come = come }
+
+  -- what is due of words is due of what they ask for
+  due_of : (unread : Type 0) (request : Request) (come : List ℕ) (due : Due) → AskFor words request → IsDueAtAll words unread (over come) due → IsDueOf request (over come) due ⊎ IsDueUnreadOf request (over come) due
+  due_of unread request come due ask (inl (inl none)) = absurd (none.0 request ask)
+  due_of unread request come due ask (inl (inr of)) = inl (asked_due one words request ask (λ r. IsDueOf r (over come) due) of)
+  due_of unread request come due ask (inr (_, of)) = inr (asked_due one words request ask (λ r. IsDueUnreadOf r (over come) due) of)
+
+  module _ (due : Due) (status : ℕ) (same : status ≡ due.code) where
+    unread_among : (other : Due) → other.code ≡ 7 → due ≡ other → Contains (6 ∷ 7 ∷ 9 ∷ []) status
+    unread_among other seven is = subst (Contains (6 ∷ 7 ∷ 9 ∷ [])) (sym (same ∙ ap (λ (d : Due). d.code) is ∙ seven)) (1, lit< tt, refl)
+
     -- a dialogue that is due
-    plays : (file : List ℕ) (options : Options) (text : List ℕ) (program : Parts) (come : List ℕ) → AskFor words (Play file options) → IsOnShelf files file text → Spells text program
-        → (due : Due) → code ≡ due.code → IsDue words (record { files = files; come = come }) due ⊎ (unread × IsDueUnread words (record { files = files; come = come }) due)
-        → EndsBy program (settings_of program options) come (6 ∷ 7 ∷ 9 ∷ []) code
-    plays file options text program come ask told spells due status (inl (inl none)) = absurd (none.0 (Play file options) ask)
-    plays file options text program come ask told spells due status (inl (inr of)) = by (asked_due one words (Play file options) ask (λ r. IsDueOf r (record { files = files; come = come }) due) of) where
-      by : IsDueOf (Play file options) (record { files = files; come = come }) due → EndsBy program (settings_of program options) come (6 ∷ 7 ∷ 9 ∷ []) code
-      by (other, has, inl refused) = absurd (refused.no_program program (subst (λ t. Spells t program) (sym (one_text files file file other text refl has told)) spells))
-      by (other, has, inr (spelled, is, said)) =
-          let programs : program ≡ spelled = is.1 program (subst (λ t. Spells t program) (sym (one_text files file file other text refl has told)) spells) in (
-            said.0.turns,
-            said.0.ending,
-            due.events,
-            due.rest,
-            subst (λ (p : Parts). Dialogue p (settings_of p options) come said.0.turns said.0.ending due.events due.rest) (sym programs) said.0.dialogue,
-            contains_same (code_told said.0.ending.word) (6 ∷ 7 ∷ 9 ∷ []) code (sym (status ∙ said.0.holds)),
-          )
-    plays file options text program come ask told spells due status (inr (_, of)) =
-        let is = asked_due one words (Play file options) ask (λ r. IsDueUnreadOf r (record { files = files; come = come }) due) of in
-        ends_anyway text program (settings_of program options) come (6 ∷ 7 ∷ 9 ∷ []) code spells (unread_among (6 ∷ 7 ∷ 9 ∷ []) code (1, lit< tt, refl) (status ∙ ap (λ (d : Due). d.code) is))
+    plays : (file : List ℕ) (options : Options) (text : List ℕ) (program : Parts) (come : List ℕ) → IsOnShelf loads.files file text → Spells text program
+        → IsDueOf (Play file options) (over come) due ⊎ IsDueUnreadOf (Play file options) (over come) due → EndsBy program (settings_of program options) come (6 ∷ 7 ∷ 9 ∷ []) status
+    plays file options text program come told spells (inl (other, has, inl (report, refused, is))) = absurd (refused.no_program program (subst (λ t. Spells t program) (told_text loads.files file text other told has) spells))
+    plays file options text program come told spells (inl (other, has, inr (spelled, is, said))) =
+        let programs = is.1 program (subst (λ t. Spells t program) (told_text loads.files file text other told has) spells) in (
+          said.0.turns,
+          said.0.ending,
+          due.events,
+          due.rest,
+          subst (λ (p : Parts). Dialogue p (settings_of p options) come said.0.turns said.0.ending due.events due.rest) (sym programs) said.0.dialogue,
+          contains_same (code_told said.0.ending.word) (6 ∷ 7 ∷ 9 ∷ []) status (sym (same ∙ said.0.holds)),
+        )
+    plays file options text program come told spells (inr is) = ends_anyway text program (settings_of program options) come (6 ∷ 7 ∷ 9 ∷ []) status spells (unread_among _ refl is)
 
-    abbrev TellsOfDone : Task → Parts → List ℕ → Type 0
-    TellsOfDone task program bytes =
-        ((written : List ℕ) → Succeeds task program bytes written → Contains (0 ∷ 6 ∷ 7 ∷ 9 ∷ []) code) × (((written : List ℕ) → ¬ (Succeeds task program bytes written)) → Contains (1 ∷ 6 ∷ 7 ∷ 9 ∷ []) code)
-
-    -- a verdict that is due
-    checks : (task : Task) (file log : List ℕ) (text : List ℕ) (program : Parts) (bytes : List ℕ) → AskFor words (Examine task file log) → IsOnShelf files file text → Spells text program → IsOnShelf files log bytes
-        → (due : Due) → code ≡ due.code → IsDue words (record { files = files; come = [] }) due ⊎ (unread × IsDueUnread words (record { files = files; come = [] }) due) → TellsOfDone task program bytes
-    checks task file log text program bytes ask told spells there' due status (inl (inl none)) = absurd (none.0 (Examine task file log) ask)
-    checks task file log text program bytes ask told spells there' due status (inl (inr of)) = by (asked_due one words (Examine task file log) ask (λ r. IsDueOf r (record { files = files; come = [] }) due) of) where
-      by : IsDueOf (Examine task file log) (record { files = files; come = [] }) due → TellsOfDone task program bytes
-      by (other, has, inl refused) = absurd (refused.no_program program (subst (λ t. Spells t program) (sym (one_text files file file other text refl has told)) spells))
-      by (other, has, inr (spelled, is, (others, has', (written, inl (done, e))))) =
-          let programs : program ≡ spelled = is.1 program (subst (λ t. Spells t program) (sym (one_text files file file other text refl has told)) spells) in
-          let same : others ≡ bytes = one_text files log log others bytes refl has' there' in (
-            (λ other it. contains_same 0 (6 ∷ 7 ∷ 9 ∷ []) code (sym (status ∙ ap (λ (d : Due). d.code) e))),
-            (λ none. absurd (none written (subst (λ (p : Parts). Succeeds task p bytes written) (sym programs) (subst (λ b. Succeeds task spelled b written) same done)))),
-          )
-      by (other, has, inr (spelled, is, (others, has', (written, inr (failed, e))))) =
-          let programs : program ≡ spelled = is.1 program (subst (λ t. Spells t program) (sym (one_text files file file other text refl has told)) spells) in
-          let same : others ≡ bytes = one_text files log log others bytes refl has' there' in (
-            (λ other it. absurd (fails_alone task spelled others written other failed (subst (λ b. Succeeds task spelled b other) (sym same) (subst (λ (p : Parts). Succeeds task p bytes other) programs it)))),
-            (λ none. contains_same 1 (6 ∷ 7 ∷ 9 ∷ []) code (sym (status ∙ ap (λ (d : Due). d.code) e))),
-          )
-    checks task file log text program bytes ask told spells there' due status (inr (_, of)) = by (asked_due one words (Examine task file log) ask (λ r. IsDueUnreadOf r (record { files = files; come = [] }) due) of) where
-      both : code ≡ 7 → TellsOfDone task program bytes
-      both is = ((λ other it. unread_among (0 ∷ 6 ∷ 7 ∷ 9 ∷ []) code (2, lit< tt, refl) is), (λ none. unread_among (1 ∷ 6 ∷ 7 ∷ 9 ∷ []) code (2, lit< tt, refl) is))
-
-      by : IsDueUnreadOf (Examine task file log) (record { files = files; come = [] }) due → TellsOfDone task program bytes
-      by (inl is) = both (status ∙ ap (λ (d : Due). d.code) is)
-      by (inr (_, is)) = both (status ∙ ap (λ (d : Due). d.code) is)
+    -- a report on a transcript
+    examines : (task : Task) (file log text : List ℕ) (program : Parts) (bytes : List ℕ) → IsOnShelf loads.files file text → Spells text program → IsOnShelf loads.files log bytes
+        → IsDueOf (Examine task file log) (over []) due ⊎ IsDueUnreadOf (Examine task file log) (over []) due → ReportsBy (Reports task program bytes) (6 ∷ 7 ∷ 9 ∷ []) status
+    examines task file log text program bytes told spells there' (inl (other, has, inl (report, refused, is))) = absurd (refused.no_program program (subst (λ t. Spells t program) (told_text loads.files file text other told has) spells))
+    examines task file log text program bytes told spells there' (inl (other, has, inr (spelled, is, (others, has', (report, reports, e))))) =
+        let programs = is.1 program (subst (λ t. Spells t program) (told_text loads.files file text other told has) spells) in
+        let reported : Reports task program bytes report = subst (λ (p : Parts). Reports task p bytes report) (sym programs) (subst (λ b. Reports task spelled b report) (sym (told_text loads.files log bytes others there' has')) reports) in
+        let told_so : status ≡ report.code = same ∙ ap (λ (d : Due). d.code) e in
+        ((λ other it. contains_same other.code (6 ∷ 7 ∷ 9 ∷ []) status (one_code task program bytes other report it reported ∙ sym told_so)), inr (report, reported, told_so))
+    examines task file log text program bytes told spells there' (inr (inl is)) = reports_anyway (Reports task program bytes) (6 ∷ 7 ∷ 9 ∷ []) status (unread_among _ refl is)
+    examines task file log text program bytes told spells there' (inr (inr (_, is))) = reports_anyway (Reports task program bytes) (6 ∷ 7 ∷ 9 ∷ []) status (unread_among _ refl is)
 
     -- a summary that is due
-    tours : (rooms : ℕ) (options : Options) (program : Parts) → AskFor words (World rooms options) → Spells (world rooms) program
-        → (due : Due) → code ≡ due.code → IsDue words (record { files = files; come = [] }) due ⊎ (unread × IsDueUnread words (record { files = files; come = [] }) due) → EndsBy program (settings_of program options) [] (6 ∷ 9 ∷ []) code
-    tours rooms options program ask spells due status (inl (inl none)) = absurd (none.0 (World rooms options) ask)
-    tours rooms options program ask spells due status (inl (inr of)) = by (asked_due one words (World rooms options) ask (λ r. IsDueOf r (record { files = files; come = [] }) due) of) where
-      by : IsDueOf (World rooms options) (record { files = files; come = [] }) due → EndsBy program (settings_of program options) [] (6 ∷ 9 ∷ []) code
-      by (inl refused) = absurd (refused.no_program program spells)
-      by (inr (spelled, is, (tally, tallied, e))) =
-          let programs : program ≡ spelled = is.1 program spells in
-          let said = tallied.said in (
-            said.turns,
-            said.ending,
-            tallied.events,
-            tallied.rest,
-            subst (λ (p : Parts). Dialogue p (settings_of p options) [] said.turns said.ending tallied.events tallied.rest) (sym programs) said.dialogue,
-            contains_same (code_told said.ending.word) (6 ∷ 9 ∷ []) code (ap code_told (sym said.holds.word) ∙ sym (status ∙ ap (λ (d : Due). d.code) e)),
-          )
-    tours rooms options program ask spells due status (inr (_, of)) = absurd (asked_due one words (World rooms options) ask (λ r. IsDueUnreadOf r (record { files = files; come = [] }) due) of)
+    tours : (rooms : ℕ) (options : Options) (program : Parts) → Spells (world rooms) program
+        → IsDueOf (World rooms options) (over []) due ⊎ IsDueUnreadOf (World rooms options) (over []) due → EndsBy program (settings_of program options) [] (6 ∷ 9 ∷ []) status
+    tours rooms options program spells (inl (inl (report, refused, is))) = absurd (refused.no_program program spells)
+    tours rooms options program spells (inl (inr (spelled, is, (report, (tally, tallied, e), e')))) =
+        let programs = is.1 program spells in
+        let said = tallied.said in (
+          said.turns,
+          said.ending,
+          tallied.events,
+          tallied.rest,
+          subst (λ (p : Parts). Dialogue p (settings_of p options) [] said.turns said.ending tallied.events tallied.rest) (sym programs) said.dialogue,
+          contains_same (code_told said.ending.word) (6 ∷ 9 ∷ []) status (ap code_told (sym said.holds.word) ∙ sym (same ∙ ap (λ (d : Due). d.code) e' ∙ ap code e)),
+        )
+    tours rooms options program spells (inr none) = absurd none
 
-  module _ {C : Type 0} (talk : C → Option (List Event)) (left : C → Option (List ℕ)) (old new : C) (was is : ℕ) (before after : Option (List (List ℕ))) where
-    pub tells_what_is_due : (request : Request) → AskFor words request → (code : ℕ) → CommandDid talk left old new files was is before after words code → TellsWhatIsDue request files (left old) code
-    tells_what_is_due (Play file options) ask code done = λ text program come told spells coming.
-        let did = done.answered come coming in
-        plays (Rose was is) (Adds before after) code file options text program come ask told spells did.4.due did.4.status did.4.is
-    tells_what_is_due (Examine task file log) ask code done = λ text program bytes told spells there'.
-        let wrote = done.written (λ other options ask'. let same : Examine task file log ≡ Play other options = one words (Examine task file log) (Play other options) ask ask' in absurd (cc)) [] in
-        checks (Rose was is) (Adds before after) code task file log text program bytes ask told spells there' wrote.3.due wrote.3.status wrote.3.is
-    tells_what_is_due (World rooms options) ask code done = λ program spells.
-        let wrote = done.written (λ other options' ask'. let same : World rooms options ≡ Play other options' = one words (World rooms options) (Play other options') ask ask' in absurd (cc)) [] in
-        tours (Rose was is) (Adds before after) code rooms options program ask spells wrote.3.due wrote.3.status wrote.3.is
+  module _ (talk : Talked) (ticks ticks' status : ℕ) (done : CommandDid words talk loads ticks ticks' status) where
+    pub tells_what_is_due : (request : Request) → AskFor words request → TellsWhatIsDue request loads.files talk.left_before status
+    tells_what_is_due (Play file options) ask = λ text program come told spells coming.
+        let did = (done.answered come coming).4 in
+        plays did.due status did.status file options text program come told spells (due_of (IsUnread loads) (Play file options) come did.due ask did.is)
+    tells_what_is_due (Examine task file log) ask = λ text program bytes told spells there'.
+        let did = (done.written (λ other options ask'. let same : Examine task file log ≡ Play other options = one words (Examine task file log) (Play other options) ask ask' in absurd (cc)) []).3 in
+        examines did.due status did.status task file log text program bytes told spells there' (due_of (IsUnread loads) (Examine task file log) [] did.due ask did.is)
+    tells_what_is_due (World rooms options) ask = λ program spells.
+        let did = (done.written (λ other options' ask'. let same : World rooms options ≡ Play other options' = one words (World rooms options) (Play other options') ask ask' in absurd (cc)) []).3 in
+        tours did.due status did.status rooms options program spells (due_of (IsUnread loads) (World rooms options) [] did.due ask did.is)

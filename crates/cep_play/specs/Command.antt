@@ -1,6 +1,5 @@
 -- The words of the command: what they speak of, what is asked of the shelf for them, and the lines that it writes of its own.
 use Rattle.std.specs.Prelude.{◌≡◌, ◌⊎◌, ℕ, List, [], ◌∷◌, ◌++◌, codes, decimal, Option, unwrap_or}
-use Rattle.std.specs.Option.{option_map}
 use Rattle.cep_base.specs.declared.limits.TheConstants.{DEFAULT_HEIGHT, DEFAULT_SEED, DEFAULT_TURNS}
 use Rattle.cep_base.specs.Files.{Files, HasFile}
 use Rattle.cep_rule.specs.declared.parts.Parts.{Parts}
@@ -10,6 +9,7 @@ use Rattle.cep_ground.specs.Texts.{Spells}
 use Rattle.cep_words.specs.declared.options.Options.{Options}
 use Rattle.cep_words.specs.Words.{Request, Play, Examine, World, AskFor}
 use Rattle.cep_run.specs.declared.settings.Settings.{Settings}
+use Rattle.cep_play.specs.Exchange.{Loaded, IsUnread, Asked}
 
 -- P holds of what the words ask for
 abbrev pub OfRequest : List (List ℕ) → (Request → Type 0) → Type 0
@@ -27,21 +27,20 @@ IsProgramText text = (program : Parts) × Spells text program
 abbrev pub IsSpelledBy : Parts → List ℕ → Type 0
 IsSpelledBy program text = Spells text program × ((other : Parts) → Spells text other → other ≡ program)
 
--- The names that are asked of the shelf for a request have P: the program's file; where a transcript is examined, the transcript's behind it where the program's was read and spells one; and none for a generated world.
-abbrev pub AsksFor : Option Files → (unread : Type 0) → (List (List ℕ) → Type 0) → Request → Type 0
-AsksFor files unread P (Play file options) = P (file ∷ [])
-AsksFor files unread P (Examine task file log) = (OfFile files file IsProgramText × P (file ∷ log ∷ [])) ⊎ ((OfFile files file (λ text. ¬ (IsProgramText text)) ⊎ unread) × P (file ∷ []))
-AsksFor files unread P (World rooms options) = P []
+-- The names that are asked of the shelf for a request: the program's file; where a transcript is examined, the transcript's after it if the program's was read and spells one; and none for a generated world.
+abbrev pub AsksFor : Loaded → Request → Type 0
+AsksFor loads (Play file options) = Asked loads (file ∷ [])
+AsksFor loads (Examine task file log) =
+    (OfFile loads.files file IsProgramText × Asked loads (file ∷ log ∷ []))
+    ⊎ ((OfFile loads.files file (λ text. ¬ (IsProgramText text)) ⊎ IsUnread loads) × Asked loads (file ∷ []))
+AsksFor loads (World rooms options) = Asked loads []
 
--- Where memory ran out, the names that were asked of the shelf have P: not more than are asked for the request.
-abbrev pub AsksUpTo : Option Files → (List (List ℕ) → Type 0) → Request → Type 0
-AsksUpTo files P (Play file options) = P (file ∷ [])
-AsksUpTo files P (Examine task file log) = (OfFile files file IsProgramText × P (file ∷ log ∷ [])) ⊎ P (file ∷ [])
-AsksUpTo files P (World rooms options) = P []
-
--- where the names asked for are told, these were added
-abbrev pub Adds : Option (List (List ℕ)) → Option (List (List ℕ)) → List (List ℕ) → Type 0
-Adds before after names = after ≡ option_map (λ asked. asked ++ names) before
+-- Where memory ran out after names were asked of the shelf: these are not more than are asked for the request.
+abbrev pub AsksUpTo : Loaded → Request → Type 0
+AsksUpTo loads (Play file options) = Asked loads (file ∷ [])
+AsksUpTo loads (Examine task file log) =
+    (OfFile loads.files file IsProgramText × Asked loads (file ∷ log ∷ [])) ⊎ Asked loads (file ∷ [])
+AsksUpTo loads (World rooms options) = Asked loads []
 
 abbrev pub usage : List ℕ
 usage = codes "usage: play FILE [seed=N] [height=N] [turns=N] | check FILE LOG | world N [seed=N] [height=N] [turns=N] | renew FILE LOG"

@@ -10,8 +10,9 @@ use Rattle.cep_run.specs.declared.settings.Settings.{Settings}
 use Rattle.cep_run.specs.Costs.{Beginnings, Edits, IsRunCost}
 use Rattle.cep_run.specs.Run.{Turn, Ending, deeds_of}
 use Rattle.cep_run.specs.Dialogue.{Dialogue}
-use Rattle.cep_run.specs.Said.{Says}
+use Rattle.cep_run.specs.Said.{IsSaid}
 use Rattle.cep_net.specs.Cost.{IsFirstCost, IsCost}
+use Rattle.cep_play.specs.Exchange.{Talked, Went}
 use Rattle.cep_play.specs.Command.{OfFile, IsSpelledBy, settings_of}
 
 -- what the network may tick to begin, and for an edit
@@ -27,16 +28,20 @@ RoseByRun program settings old new turns ending = RoseBy (IsRunCost NetBegins Ne
 
 -- P holds of the turns and the end of a dialogue of the program with nothing typed
 abbrev pub OfTour : Parts → Settings → (List Turn → Ending → Type 0) → Type 0
-OfTour program settings P = (turns : List Turn) × (ending : Ending) × (events : List Event) × (rest : List ℕ) × Dialogue program settings [] turns ending events rest × P turns ending
+OfTour program settings P =
+    (turns : List Turn) × (ending : Ending) × (events : List Event) × (rest : List ℕ)
+    × Dialogue program settings [] turns ending events rest × P turns ending
 
 -- The counter rose by what was done of a request: where a program was to be played, by the run whose dialogue was said; where a world was to be run, by its run; and where a transcript was to be examined nothing is said.
-abbrev pub RoseByRequest : {C : Type 0} → (C → Option (List Event)) → (C → Option (List ℕ)) → C → C → Option Files → ℕ → ℕ → Request → Type 0
-RoseByRequest talk left old new files ticks ticks' (Play file options) =
-    (program : Parts) × OfFile files file (IsSpelledBy program) × Says talk left old new program (settings_of program options) (RoseByRun program (settings_of program options) ticks ticks')
-RoseByRequest talk left old new files ticks ticks' (Examine task file log) = Unit {0}
-RoseByRequest talk left old new files ticks ticks' (World rooms options) =
-    (program : Parts) × IsSpelledBy program (world rooms) × OfTour program (settings_of program options) (RoseByRun program (settings_of program options) ticks ticks')
+abbrev pub RoseByRequest : Talked → Option Files → ℕ → ℕ → Request → Type 0
+RoseByRequest talk files ticks ticks' (Play file options) =
+    (program : Parts) × OfFile files file (IsSpelledBy program)
+    × Went talk (IsSaid program (settings_of program options) (RoseByRun program (settings_of program options) ticks ticks'))
+RoseByRequest talk files ticks ticks' (Examine task file log) = Unit {0}
+RoseByRequest talk files ticks ticks' (World rooms options) =
+    (program : Parts) × IsSpelledBy program (world rooms)
+    × OfTour program (settings_of program options) (RoseByRun program (settings_of program options) ticks ticks')
 
 -- whatever the words ask for, the counter rose by what was done of it
-abbrev pub RoseByAll : {C : Type 0} → (C → Option (List Event)) → (C → Option (List ℕ)) → C → C → Option Files → ℕ → ℕ → List (List ℕ) → Type 0
-RoseByAll talk left old new files ticks ticks' words = (request : Request) → AskFor words request → RoseByRequest talk left old new files ticks ticks' request
+abbrev pub RoseByAll : Talked → Option Files → ℕ → ℕ → List (List ℕ) → Type 0
+RoseByAll talk files ticks ticks' words = (request : Request) → AskFor words request → RoseByRequest talk files ticks ticks' request

@@ -2,9 +2,9 @@
 use Rattle.std.specs.Prelude.{◌≡◌, ◌⊎◌, ℕ, List, [], ◌∷◌}
 use Rattle.cep_words.specs.Words.{Request, Play, Examine, World, HaveNoForm}
 use Rattle.cep_play.specs.Command.{OfRequest, OfFile, IsProgramText, usage, no_program, no_transcript}
-use Rattle.cep_play.specs.Outside.{Outside, Due, line_due}
+use Rattle.cep_play.specs.Outside.{Outside, Due, line_report, report_due}
 use Rattle.cep_play.specs.Play.{IsPlayDue}
-use Rattle.cep_play.specs.Examined.{IsExaminationDue}
+use Rattle.cep_play.specs.Reports.{IsExaminationDue}
 use Rattle.cep_play.specs.World.{IsWorldDue}
 
 -- this is due of a request
@@ -15,13 +15,14 @@ IsDueOf (World rooms options) outside due = IsWorldDue rooms options outside due
 
 -- this is due of words: the usage line where they have no form, and else what is due of what they ask for
 abbrev pub IsDue : List (List ℕ) → Outside → Due → Type 0
-IsDue words outside due = (HaveNoForm words × (due ≡ line_due usage 2 [] outside.come)) ⊎ OfRequest words (λ request. IsDueOf request outside due)
+IsDue words outside due = (HaveNoForm words × (due ≡ report_due (line_report usage 2) [] outside.come)) ⊎ OfRequest words (λ request. IsDueOf request outside due)
 
--- this is due of a request where a file could not be read: the program's, or, behind a program that was read, the transcript's
+-- this is due of a request where a file could not be read: the program's, or, after a program that was read, the transcript's
 abbrev pub IsDueUnreadOf : Request → Outside → Due → Type 0
-IsDueUnreadOf (Play file options) outside due = due ≡ line_due no_program 7 (file ∷ []) outside.come
+IsDueUnreadOf (Play file options) outside due = due ≡ report_due (line_report no_program 7) (file ∷ []) outside.come
 IsDueUnreadOf (Examine task file log) outside due =
-    (due ≡ line_due no_program 7 (file ∷ []) outside.come) ⊎ (OfFile outside.files file IsProgramText × (due ≡ line_due no_transcript 7 (file ∷ log ∷ []) outside.come))
+    (due ≡ report_due (line_report no_program 7) (file ∷ []) outside.come)
+    ⊎ (OfFile outside.files file IsProgramText × (due ≡ report_due (line_report no_transcript 7) (file ∷ log ∷ []) outside.come))
 IsDueUnreadOf (World rooms options) outside due = ⊥
 
 -- this is due of words where a file could not be read

@@ -1,13 +1,13 @@
+pub mod Exchange
 pub mod Command
 pub mod Outside
-pub mod Play
 pub mod Check
 pub mod Renew
-pub mod Examined
+pub mod Reports
 pub mod World
+pub mod Play
 pub mod Due
-pub mod Answered
 pub mod Counted
+pub mod Answered
 pub mod Begun
 pub mod Outcome
-pub mod CutShort

@@ -1,190 +1,200 @@
 -- Private.
--- What the commands come to, and what the shelf was asked and counted meanwhile.
-use Rattle.std.specs.Prelude.{◌≡◌, ◌≢◌, ◌⊎◌, ℕ, Bool, true, false, List, [], ◌∷◌, Option, Result, Ok, Err, Contains, unwrap_or}
-use Rattle.cep_base.specs.declared.limits.TheConstants.{DEFAULT_SEED}
-use Rattle.cep_base.specs.declared.console.Event.{Event}
+-- What the parts of the command come to.
+use Rattle.std.specs.Prelude.{◌≡◌, ◌≢◌, ◌⊎◌, ℕ, ◌≤◌, List, [], ◌∷◌, take, Option, Result, Ok, Err}
 use Rattle.cep_base.specs.declared.console.ConsoleFault.{ConsoleFault}
 use Rattle.cep_base.specs.declared.console.ConsoleFault.TheVariants as faults
 use Rattle.cep_base.specs.Files.{Files}
-use Rattle.cep_base.specs.Faults.{Rose}
-use Rattle.cep_base.specs.Talk.{outs, GoesOn, Did}
 use Rattle.cep_rule.specs.declared.parts.Parts.{Parts}
-use Rattle.cep_refusal.specs.declared.fault.Fault.{Fault}
-use Rattle.cep_refusal.specs.declared.refusal.Refusal.{Refusal}
-use Rattle.cep_refusal.specs.Told.{Tells}
-use Rattle.cep_ground.specs.Texts.{Spells}
-use Rattle.cep_ground.specs.Refusals.{IsRefusedFor}
 use Rattle.cep_lines.specs.Lines.{line}
-use Rattle.cep_check.specs.declared.cause.Verdict.{Verdict}
-use Rattle.cep_check.specs.declared.cause.Verdict.TheVariants as verdicts
 use Rattle.cep_world.specs.World.{world}
 use Rattle.cep_words.specs.declared.options.Options.{Options}
-use Rattle.cep_words.specs.Words.{Play, Examine, HaveNoForm}
-use Rattle.cep_run.specs.Said.{Says}
-use Rattle.cep_play.specs.declared.loading.NoProgram.{NoProgram}
-use Rattle.cep_play.specs.declared.loading.NoProgram.TheVariants as none
-use Rattle.cep_play.specs.declared.play.Played.{Played}
-use Rattle.cep_play.specs.declared.play.Played.TheVariants as played
-use Rattle.cep_play.specs.declared.check.Found.{Found}
-use Rattle.cep_play.specs.declared.check.Found.TheVariants as found
-use Rattle.cep_play.specs.declared.check.Checked.{Checked}
-use Rattle.cep_play.specs.declared.check.Checked.TheVariants as checked
-use Rattle.cep_play.specs.declared.world.Toured.{Toured}
-use Rattle.cep_play.specs.declared.world.Toured.TheVariants as toured
-use Rattle.cep_play.specs.Command.{OfRequest, OfFile, IsProgramText, IsSpelledBy, AsksFor, AsksUpTo, Adds, refusal_text, no_program, no_transcript, settings_of}
-use Rattle.cep_play.specs.Outside.{code_told}
+use Rattle.cep_words.specs.declared.request.Task.{Task}
+use Rattle.cep_words.specs.declared.request.Task.TheVariants.{Check, Renew}
 use Rattle.cep_log.specs.declared.log.Log.{Log}
 use Rattle.cep_log.specs.Legal.{IsLegal}
+use Rattle.cep_check.specs.declared.cause.Verdict.{Verdict}
+use Rattle.cep_check.specs.declared.cause.Verdict.TheVariants as verdicts
 use Rattle.cep_check.specs.Causes.{IsVerdict}
 use Rattle.cep_check.specs.Telling.{verdict_text}
-use Rattle.cep_words.specs.declared.request.Task.{Task}
 use Rattle.cep_check.specs.Renewed.{IsRenewedText, IsTooLongRenewed}
+use Rattle.cep_words.specs.Words.{Request, Play, AskFor}
+use Rattle.cep_base.specs.declared.console.Event.{Event}
+use Rattle.cep_run.specs.declared.settings.Settings.{Settings}
+use Rattle.cep_run.specs.declared.tally.Tally.{Tally}
+use Rattle.cep_run.specs.Said.{IsSaid, IsTally}
+use Rattle.cep_play.specs.Counted.{RoseByRun, RoseByRequest, RoseByAll, OfTour}
+use Rattle.cep_play.specs.declared.reply.Reply.{Reply}
+use Rattle.cep_play.specs.declared.reply.Reply.TheVariants as reply
+use Rattle.cep_play.specs.declared.report.Status.{Status}
+use Rattle.cep_play.specs.declared.report.Status.TheVariants as status
+use Rattle.cep_play.specs.declared.report.Lines.{Lines}
+use Rattle.cep_play.specs.declared.report.Lines.TheVariants as lines
+use Rattle.cep_play.specs.declared.report.Report as made
+use Rattle.cep_play.specs.Exchange.{Talked, Loaded, IsUnread, Asked, Went, Wrote}
+use Rattle.cep_play.specs.Command.{OfFile, IsSpelledBy, AsksFor, no_program, no_transcript, settings_of}
+use Rattle.cep_play.specs.Outside.{Report, line_report, report_due, IsRefusal}
 use Rattle.cep_play.specs.Renew.{new_too_long_text}
-use Rattle.cep_play.specs.Examined.{Succeeds, ComesToNothing}
-use Rattle.cep_play.specs.World.{summary, IsTallied}
-use Rattle.cep_play.specs.Counted.{RoseByRun, OfTour, RoseByRequest}
-use Rattle.cep_play.specs.Answered.{DoesWhatIsDue, IsNoDialogue, IsSpelled, IsWritten}
+use Rattle.cep_play.specs.Reports.{Reports}
+use Rattle.cep_play.specs.World.{ReportsWorld}
+use Rattle.cep_play.specs.Due.{IsDueOf, IsDueAtAll, IsDueUnreadOf}
+use Rattle.cep_play.specs.Answered.{DoesWhatIsDue, IsNoDialogue, IsSpelled, IsWritten, AsksAsSaid}
 
--- these bytes are written, and nothing is read
-abbrev pub Wrote : {C : Type 0} → (C → Option (List Event)) → (C → Option (List ℕ)) → C → C → List ℕ → Type 0
-Wrote talk left old new bytes = GoesOn (talk old) (outs bytes) (talk new) × (left new ≡ left old)
+-- the number of a status
+abbrev pub code_of : Status → ℕ
+code_of status.Done = 0
+code_of status.Rejected = 1
+code_of status.Malformed = 2
+code_of status.Refused = 3
+code_of status.Limited = 4
+code_of status.Unread = 7
 
--- The text spells no program, and the line is written that tells of the fault which is told first.
-pub record Refuses {C : Type 0} (talk : C → Option (List Event)) (left : C → Option (List ℕ)) (old new : C) (text : List ℕ) : Type 0 where
-  pub fault : Fault
-  pub refusal : Refusal
-  pub refused : IsRefusedFor text fault
-  pub tells : Tells text fault refusal
-  pub no_program : (program : Parts) → Spells text program → ⊥
-  pub writes : Wrote talk left old new (line (refusal_text refusal))
+-- the bytes of what is written
+abbrev pub bytes_of : Lines → List ℕ
+bytes_of (lines.Fixed line) = line.now
+bytes_of (lines.Text bytes) = bytes
+
+-- the report that the code makes
+abbrev pub report_of : made.Report → Report
+report_of report = record { written = bytes_of report.lines; code = code_of report.status }
+
+-- the status and the report of a verdict
+abbrev pub verdict_code : Verdict → ℕ
+verdict_code (verdicts.Accepted steps) = 0
+verdict_code (verdicts.Refused at cause) = 1
+
+abbrev pub verdict_report : Parts → Verdict → Report
+verdict_report program verdict = record { written = line (verdict_text program verdict); code = verdict_code verdict }
+
+-- what is reported of a legal log that is renewed: its new text, or that this is too long
+abbrev pub IsRenewalReport : Parts → Log → Report → Type 0
+IsRenewalReport program log report =
+    ((text : List ℕ) × IsRenewedText program log text × (report ≡ record { written = text; code = 0 }))
+    ⊎ (IsTooLongRenewed program log × (report ≡ line_report new_too_long_text 1))
+
+-- What is reported of a log: its verdict, or, if it is to be renewed and is legal, the report of that.
+abbrev pub IsLogReport : Task → Parts → Log → Report → Type 0
+IsLogReport Check program log report = (verdict : Verdict) × IsVerdict program log verdict × (report ≡ verdict_report program verdict)
+IsLogReport Renew program log report =
+    (IsLegal program log × IsRenewalReport program log report)
+    ⊎ ((verdict : Verdict) × IsVerdict program log verdict × (verdict_code verdict ≡ 1) × (report ≡ verdict_report program verdict))
+
+-- a prefix of these bytes was written, and nothing was read
+abbrev pub WrotePrefix : Talked → List ℕ → Type 0
+WrotePrefix talk bytes = (size : ℕ) × Wrote talk (take size bytes)
+
+-- Something was begun before this fault; or, if memory ran out, nothing was done.
+abbrev pub InVain : ConsoleFault → (begun nothing : Type 0) → Type 0
+InVain faults.Failed begun nothing = begun
+InVain (faults.Memory error) begun nothing = begun ⊎ nothing
+
+-- all that was asked of the shelf was read: its count of faults stays
+abbrev pub IsRead : Loaded → Type 0
+IsRead loads = loads.faults_after ≡ loads.faults_before
+
+-- The status is 7 if a file could not be read, and else 4 or less.
+pub data ComesWith (loads : Loaded) (code : ℕ) : Type 0 where
+  all_read : code ≤ 4 → IsRead loads → ComesWith loads code
+  one_unread : code ≡ 7 → IsUnread loads → ComesWith loads code
 
 -- the text of a file spells this program, and no other
 abbrev pub IsProgramIn : Option Files → List ℕ → Parts → Type 0
 IsProgramIn files name program = OfFile files name (IsSpelledBy program)
 
--- no program was read: the file's text spells none, or the file was not read
-abbrev pub NoneIsRead : Option Files → Type 0 → List ℕ → Type 0
-NoneIsRead files unread name = OfFile files name (λ text. ¬ (IsProgramText text)) ⊎ unread
+-- no program is in a file, and this is reported: its text is refused, or it could not be read
+abbrev pub ReportsNone : Loaded → List ℕ → Report → Type 0
+ReportsNone loads file report =
+    (OfFile loads.files file (λ text. IsRefusal text report) × IsRead loads)
+    ⊎ (IsUnread loads × (report ≡ line_report no_program 7))
 
--- no program is in a file, and the line is written that tells why
-abbrev pub HasNoProgram : {C : Type 0} → (C → Option (List Event)) → (C → Option (List ℕ)) → C → C → Option Files → List ℕ → NoProgram → Type 0
-HasNoProgram talk left old new files name none.Refused = OfFile files name (Refuses talk left old new)
-HasNoProgram talk left old new files name none.Unread = Wrote talk left old new (line no_program)
+-- what is found in a text: the program that it spells, or the report of its refusal
+abbrev pub IsFound : List ℕ → Result Parts made.Report → Type 0
+IsFound text (Ok program) = IsSpelledBy program text
+IsFound text (Err report) = IsRefusal text (report_of report)
 
--- the file of a program was played with options
-abbrev pub PlaysFile : {C : Type 0} → (C → Option (List Event)) → (C → Option (List ℕ)) → C → C → Option Files → List ℕ → Options → Played → Type 0
-PlaysFile talk left old new files name options (played.Ended word) =
-    (program : Parts) × IsProgramIn files name program × Says talk left old new program (settings_of program options) (λ turns ending. ending.word ≡ word)
-PlaysFile talk left old new files name options (played.Without why) = HasNoProgram talk left old new files name why
+-- what is found in a file: the program in it, or the report why there is none
+abbrev pub IsFoundIn : Loaded → List ℕ → Result Parts made.Report → Type 0
+IsFoundIn loads file (Ok program) = IsProgramIn loads.files file program × IsRead loads
+IsFoundIn loads file (Err report) = ReportsNone loads file (report_of report)
 
--- whether a verdict accepts
-abbrev pub accepts : Verdict → Bool
-accepts (verdicts.Accepted steps) = true
-accepts (verdicts.Refused at cause) = false
+-- this is reported of the transcript in a file, which may be one that could not be read
+abbrev pub ReportsTranscript : Loaded → Task → Parts → List ℕ → Report → Type 0
+ReportsTranscript loads task program log report =
+    (OfFile loads.files log (λ bytes. Reports task program bytes report) × IsRead loads)
+    ⊎ (IsUnread loads × (report ≡ line_report no_transcript 7))
 
--- this is written of a log that was renewed, or whose new text is too long
-abbrev pub IsWrittenAnew : Parts → Log → List ℕ → Bool → Type 0
-IsWrittenAnew program log written true = IsRenewedText program log written
-IsWrittenAnew program log written false = IsTooLongRenewed program log × (written ≡ line new_too_long_text)
+-- the file was asked for, or, if memory ran out, perhaps not
+abbrev pub AsksFile : {T E : Type 0} → Loaded → List ℕ → Result T E → Type 0
+AsksFile loads name (Ok found) = Asked loads (name ∷ [])
+AsksFile loads name (Err error) = Asked loads (name ∷ []) ⊎ (loads.asked_after ≡ loads.asked_before)
 
--- a log is legal, and this was written anew of it; or the line was written of a verdict that refuses it
-abbrev pub IsLogRenewed : Parts → Log → List ℕ → Bool → Type 0
-IsLogRenewed program log written renewed =
-    (IsLegal program log × IsWrittenAnew program log written renewed)
-    ⊎ ((verdict : Verdict) × IsVerdict program log verdict × (accepts verdict ≡ false) × (renewed ≡ false) × (written ≡ line (verdict_text program verdict)))
+-- what is said is a dialogue of the program with this tally, and the counter rose by its run
+abbrev pub IsRunSaid : Parts → Settings → ℕ → ℕ → Tally → List ℕ → List Event → List ℕ → Type 0
+IsRunSaid program settings ticks ticks' tally =
+    IsSaid program settings
+    (λ turns ending. IsTally turns ending tally × RoseByRun program settings ticks ticks' turns ending)
 
--- this is written of bytes, with which the task succeeds or fails
-abbrev pub TellsOf : Task → Parts → List ℕ → List ℕ → Bool → Type 0
-TellsOf task program bytes written true = Succeeds task program bytes written
-TellsOf task program bytes written false = ComesToNothing task program bytes written
+-- the same with nothing typed and nothing heard
+abbrev pub IsSilentRun : Parts → Settings → ℕ → ℕ → Tally → Type 0
+IsSilentRun program settings ticks ticks' tally =
+    (events : List Event) × (rest : List ℕ) × IsRunSaid program settings ticks ticks' tally [] events rest
 
--- bytes were examined: it is written what was found
-abbrev pub AreChecked : {C : Type 0} → (C → Option (List Event)) → (C → Option (List ℕ)) → C → C → Task → Parts → List ℕ → Bool → Type 0
-AreChecked talk left old new task program bytes done = (written : List ℕ) × TellsOf task program bytes written done × Wrote talk left old new written
+-- this is reported of the program of the world of so many rooms, and the counter rose by its run
+abbrev pub ReportsRun : ℕ → Options → Parts → ℕ → ℕ → Report → Type 0
+ReportsRun rooms options program ticks ticks' report =
+    ReportsWorld rooms options program report
+    × OfTour program (settings_of program options)
+    (RoseByRun program (settings_of program options) ticks ticks')
 
--- what was found of a transcript in a file
-abbrev pub FindsTranscript : {C : Type 0} → (C → Option (List Event)) → (C → Option (List ℕ)) → C → C → Option Files → Task → Parts → List ℕ → Found → Type 0
-FindsTranscript talk left old new files task program log found.Accepted = OfFile files log (λ bytes. AreChecked talk left old new task program bytes true)
-FindsTranscript talk left old new files task program log found.Rejected = OfFile files log (λ bytes. AreChecked talk left old new task program bytes false)
-FindsTranscript talk left old new files task program log found.Unread = Wrote talk left old new (line no_transcript)
+-- this is reported of the world of so many rooms
+abbrev pub ReportsTour : ℕ → Options → ℕ → ℕ → Report → Type 0
+ReportsTour rooms options ticks ticks' report =
+    IsRefusal (world rooms) report
+    ⊎ ((program : Parts) × IsSpelledBy program (world rooms) × ReportsRun rooms options program ticks ticks' report)
 
--- the transcript in a file was examined against the program in another
-abbrev pub ChecksFile : {C : Type 0} → (C → Option (List Event)) → (C → Option (List ℕ)) → C → C → Option Files → Task → List ℕ → List ℕ → Checked → Type 0
-ChecksFile talk left old new files task name log (checked.Against what) = (program : Parts) × IsProgramIn files name program × FindsTranscript talk left old new files task program log what
-ChecksFile talk left old new files task name log (checked.Without why) = HasNoProgram talk left old new files name why
+-- a report is due of a request, whatever is to be typed, with these names asked
+abbrev pub IsDueAnyway : Request → Loaded → List (List ℕ) → Report → Type 0
+IsDueAnyway request loads names report =
+    (come : List ℕ) → IsDueOf request (record { files = loads.files; come = come }) (report_due report names come)
+    ⊎ (IsUnread loads × IsDueUnreadOf request (record { files = loads.files; come = come }) (report_due report names come))
 
--- the world of so many rooms was run with options
-abbrev pub RunsWorld : {C : Type 0} → (C → Option (List Event)) → (C → Option (List ℕ)) → C → C → ℕ → Options → Toured → Type 0
-RunsWorld talk left old new rooms options (toured.Ended tally) =
-    (program : Parts) × IsSpelledBy program (world rooms) × IsTallied program options tally × Wrote talk left old new (summary rooms (unwrap_or options.seed DEFAULT_SEED) tally)
-RunsWorld talk left old new rooms options toured.Refused = Refuses talk left old new (world rooms)
+-- A report is due of a request, its status is that of no dialogue, and the counter rose so.
+pub record IsReportOf (request : Request) (loads : Loaded) (ticks ticks' : ℕ) (report : Report) : Type 0 where
+  pub names : List (List ℕ)
+  pub due : IsDueAnyway request loads names report
+  pub asked : Asked loads names
+  pub as_said : AsksFor loads request
+  pub comes : ComesWith loads report.code
+  pub alone : (file : List ℕ) (options : Options) → request ≡ Play file options → (report.code ≢ 0) × (report.code ≢ 4)
+  pub rose : (talk : Talked) → (report.code ≡ 0) ⊎ (report.code ≡ 4) → RoseByRequest talk loads.files ticks ticks' request
 
--- How the counter rose where a program was played to an end, or a world was run to one
+-- The same of words.
+pub record IsReportOn (words : List (List ℕ)) (loads : Loaded) (ticks ticks' : ℕ) (report : Report) : Type 0 where
+  pub names : List (List ℕ)
+  pub due : (come : List ℕ) → IsDueAtAll words (IsUnread loads) (record { files = loads.files; come = come }) (report_due report names come)
+  pub asked : Asked loads names
+  pub as_said : AsksAsSaid words loads
+  pub comes : ComesWith loads report.code
+  pub alone : IsNoDialogue words report.code
+  pub rose : (talk : Talked) → (report.code ≡ 0) ⊎ (report.code ≡ 4) → RoseByAll talk loads.files ticks ticks' words
 
-abbrev pub PlayRose : {C : Type 0} → (C → Option (List Event)) → (C → Option (List ℕ)) → C → C → Option Files → List ℕ → Options → ℕ → ℕ → Played → Type 0
-PlayRose talk left old new files name options ticks ticks' (played.Ended word) = RoseByRequest talk left old new files ticks ticks' (Play name options)
-PlayRose talk left old new files name options ticks ticks' (played.Without why) = Unit {0}
+-- The words ask for this program to be played with these options.
+pub record IsToPlay (words : List (List ℕ)) (loads : Loaded) (program : Parts) (options : Options) : Type 0 where
+  pub file : List ℕ
+  pub ask : AskFor words (Play file options)
+  pub is_in : IsProgramIn loads.files file program
+  pub asked : Asked loads (file ∷ [])
+  pub read : IsRead loads
 
-abbrev pub TourRose : ℕ → Options → ℕ → ℕ → Toured → Type 0
-TourRose rooms options ticks ticks' (toured.Ended tally) =
-    (program : Parts) × IsSpelledBy program (world rooms) × OfTour program (settings_of program options) (RoseByRun program (settings_of program options) ticks ticks')
-TourRose rooms options ticks ticks' toured.Refused = Unit {0}
+-- what words come to before anything is written
+abbrev pub IsReply : List (List ℕ) → Loaded → ℕ → ℕ → Reply → Type 0
+IsReply words loads ticks ticks' (reply.Report report) = IsReportOn words loads ticks ticks' (report_of report)
+IsReply words loads ticks ticks' (reply.Dialogue program options) = IsToPlay words loads program options × (ticks' ≡ ticks)
 
--- Their statuses
-
-abbrev pub code_without : NoProgram → ℕ
-code_without none.Refused = 3
-code_without none.Unread = 7
-
-abbrev pub code_played : Played → ℕ
-code_played (played.Ended word) = code_told word
-code_played (played.Without why) = code_without why
-
-abbrev pub code_found : Found → ℕ
-code_found found.Accepted = 0
-code_found found.Rejected = 1
-code_found found.Unread = 7
-
-abbrev pub code_checked : Checked → ℕ
-code_checked (checked.Against what) = code_found what
-code_checked (checked.Without why) = code_without why
-
-abbrev pub code_toured : Toured → ℕ
-code_toured (toured.Ended tally) = code_told tally.word
-code_toured toured.Refused = 3
-
--- The shelf's count of faults rose where the status says so, and else it stays.
-abbrev pub CountsBy : ℕ → ℕ → ℕ → Type 0
-CountsBy before after code = (code ≡ 7 → Rose before after) × (code ≢ 7 → after ≡ before)
-
--- the file was asked for, but for want of memory perhaps
-abbrev pub AsksFile : {T : Type 0} → Option (List (List ℕ)) → List ℕ → Option (List (List ℕ)) → Result T ConsoleFault → Type 0
-AsksFile before name after (Ok found) = Adds before after (name ∷ [])
-AsksFile before name after (Err faults.Failed) = Adds before after (name ∷ [])
-AsksFile before name after (Err (faults.Memory error)) = Adds before after (name ∷ []) ⊎ (after ≡ before)
-
--- what is asked for a transcript was asked for, but for want of memory perhaps
-abbrev pub AsksFiles : Task → Option Files → Type 0 → Option (List (List ℕ)) → List ℕ → List ℕ → Option (List (List ℕ)) → Result Checked ConsoleFault → Type 0
-AsksFiles task files unread before name log after (Ok (checked.Against what)) = Adds before after (name ∷ log ∷ [])
-AsksFiles task files unread before name log after (Ok (checked.Without why)) = Adds before after (name ∷ [])
-AsksFiles task files unread before name log after (Err faults.Failed) = AsksFor files unread (Adds before after) (Examine task name log)
-AsksFiles task files unread before name log after (Err (faults.Memory error)) = AsksUpTo files (Adds before after) (Examine task name log) ⊎ (after ≡ before)
-
--- what the words ask for was asked for
-abbrev pub AskedAsSaid : Option Files → Type 0 → Option (List (List ℕ)) → List (List ℕ) → Option (List (List ℕ)) → Type 0
-AskedAsSaid files unread before words after = OfRequest words (AsksFor files unread (Adds before after)) ⊎ (HaveNoForm words × Adds before after [])
-
--- the same where the command was cut short, but for want of memory perhaps
-abbrev pub AskedInVain : Option Files → Type 0 → Option (List (List ℕ)) → List (List ℕ) → Option (List (List ℕ)) → Result ℕ ConsoleFault → Type 0
-AskedInVain files unread before words after (Ok code) = Unit {0}
-AskedInVain files unread before words after (Err faults.Failed) = AskedAsSaid files unread before words after
-AskedInVain files unread before words after (Err (faults.Memory error)) = OfRequest words (AsksUpTo files (Adds before after)) ⊎ (after ≡ before)
-
--- The command did what is due of its words, with a status that tells it.
-pub record CommandDid {C : Type 0} (talk : C → Option (List Event)) (left : C → Option (List ℕ)) (old new : C) (files : Option Files) (faults faults' : ℕ) (asked asked' : Option (List (List ℕ))) (words : List (List ℕ)) (code : ℕ) : Type 0 where
-  pub answered : Did talk left old new (DoesWhatIsDue words files (Rose faults faults') (Adds asked asked') code)
-  pub written : IsNoDialogue words code → IsWritten talk left old new words files (Rose faults faults') (Adds asked asked') code
-  pub spelled : IsSpelled words files code
-  pub asked_for : AskedAsSaid files (Rose faults faults') asked words asked'
-  pub counts : CountsBy faults faults' code
-  pub among : Contains (0 ∷ 1 ∷ 2 ∷ 3 ∷ 4 ∷ 7 ∷ []) code
+-- The command did what is due of its words, with a status that says so, and the counter rose so.
+pub record CommandDid (words : List (List ℕ)) (talk : Talked) (loads : Loaded) (ticks ticks' : ℕ) (code : ℕ) : Type 0 where
+  pub answered : Went talk (DoesWhatIsDue words loads code)
+  pub written : IsNoDialogue words code → IsWritten words talk loads code
+  pub spelled : IsSpelled words loads.files code
+  pub as_said : AsksAsSaid words loads
+  pub comes : ComesWith loads code
+  pub rose : (code ≡ 0) ⊎ (code ≡ 4) → RoseByAll talk loads.files ticks ticks' words

@@ -26,26 +26,36 @@ pub record Due : Type 0 where
   pub code : ℕ
   pub names : List (List ℕ)
 
--- that these bytes are written, and nothing is read
-abbrev pub text_due : List ℕ → ℕ → List (List ℕ) → List ℕ → Due
-text_due bytes code names come = record { events = outs bytes; rest = come; code = code; names = names }
+-- a report: what is written, with nothing read, and the status
+pub record Report : Type 0 where
+  pub written : List ℕ
+  pub code : ℕ
 
--- that this line is
-abbrev pub line_due : List ℕ → ℕ → List (List ℕ) → List ℕ → Due
-line_due text code names come = text_due (line text) code names come
+-- the report of one line
+abbrev pub line_report : List ℕ → ℕ → Report
+line_report text code = record { written = line text; code = code }
 
--- The text spells no program: due is the line that tells of the fault which is told first of all that is wrong with it.
-pub record IsRefusalDue (text : List ℕ) (names : List (List ℕ)) (come : List ℕ) (due : Due) : Type 0 where
+-- that this is reported
+abbrev pub report_due : Report → List (List ℕ) → List ℕ → Due
+report_due report names come = record { events = outs report.written; rest = come; code = report.code; names = names }
+
+-- what is due is a report that has P
+abbrev pub IsReportDue : (Report → Type 0) → List (List ℕ) → List ℕ → Due → Type 0
+IsReportDue P names come due = (report : Report) × P report × (due ≡ report_due report names come)
+
+-- The text spells no program, and the report is the line of the fault that is reported first of all that is wrong with it, and of no other.
+pub record IsRefusal (text : List ℕ) (report : Report) : Type 0 where
   pub fault : Fault
   pub refusal : Refusal
   pub refused : IsRefusedFor text fault
   pub tells : Tells text fault refusal
+  pub alone : (other : Fault) (told : Refusal) → IsRefusedFor text other → Tells text other told → told ≡ refusal
   pub no_program : (program : Parts) → Spells text program → ⊥
-  pub is : due ≡ line_due (refusal_text refusal) 3 names come
+  pub is : report ≡ line_report (refusal_text refusal) 3
 
--- due of the text of a program: the line of its refusal, or what has P, of the program that it spells
+-- due of the text of a program: the report of its refusal, or what has P, of the program that it spells
 abbrev pub OfText : List ℕ → List (List ℕ) → List ℕ → (Parts → Type 0) → Due → Type 0
-OfText text names come P due = IsRefusalDue text names come due ⊎ ((program : Parts) × IsSpelledBy program text × P program)
+OfText text names come P due = IsReportDue (IsRefusal text) names come due ⊎ ((program : Parts) × IsSpelledBy program text × P program)
 
 -- the status that tells how a run ended
 abbrev pub code_told : EndWord → ℕ

@@ -11,7 +11,7 @@ use Rattle.cep_run.specs.Run.{Turn, Ending}
 use Rattle.cep_run.specs.Dialogue.{Dialogue}
 use Rattle.cep_run.specs.Said.{IsSaid, IsTally}
 use Rattle.cep_play.specs.Command.{settings_of}
-use Rattle.cep_play.specs.Outside.{Outside, Due, text_due, OfText, code_told}
+use Rattle.cep_play.specs.Outside.{Outside, Due, Report, IsReportDue, OfText, code_told}
 
 -- the line of a count, as `turns 10`
 abbrev pub count_line : List ℕ → ℕ → List ℕ
@@ -34,10 +34,13 @@ pub record IsTallied (program : Parts) (options : Options) (tally : Tally) : Typ
   pub said : IsSaid program (settings_of program options) (λ turns ending. IsTally turns ending tally) [] events rest
   pub alone : (turns : List Turn) (ending : Ending) (events' : List Event) (rest' : List ℕ) → Dialogue program (settings_of program options) [] turns ending events' rest' → IsTally turns ending tally
 
--- the summary of the run of the world of so many rooms, with the status that tells how the run ended
-abbrev pub IsSummaryDue : ℕ → Options → Parts → List ℕ → Due → Type 0
-IsSummaryDue rooms options program come due = (tally : Tally) × IsTallied program options tally × (due ≡ text_due (summary rooms (unwrap_or options.seed DEFAULT_SEED) tally) (code_told tally.word) [] come)
+-- the report of the run of the world of so many rooms: its summary, with the status that says how it ended
+abbrev pub ReportsWorld : ℕ → Options → Parts → Report → Type 0
+ReportsWorld rooms options program report =
+    (tally : Tally) × IsTallied program options tally
+    × (report ≡ record { written = summary rooms (unwrap_or options.seed DEFAULT_SEED) tally; code = code_told tally.word })
 
 -- this is due where the world of so many rooms is to be run with options
 abbrev pub IsWorldDue : ℕ → Options → Outside → Due → Type 0
-IsWorldDue rooms options outside due = OfText (world rooms) [] outside.come (λ program. IsSummaryDue rooms options program outside.come due) due
+IsWorldDue rooms options outside due =
+    OfText (world rooms) [] outside.come (λ program. IsReportDue (ReportsWorld rooms options program) [] outside.come due) due

@@ -1,29 +1,23 @@
 // The whole command: its words, and what they ask for.
 ghost use Rattle.std.specs.Prelude.{◌≡◌, ◌≢◌, ◌⊎◌, ◌<◌, ◌≤◌, [], ◌∷◌, map, string_bytes, IfOk, IfErr, Contains};
-ghost use Rattle.cep_base.specs.Talk.{Did, ConsoleCause};
+ghost use Rattle.cep_base.specs.Talk.{ConsoleCause};
 ghost use Rattle.cep_base.specs.Faults.{Rose};
-ghost use Rattle.cep_words.specs.Words.{HaveNoForm};
-ghost use Rattle.cep_play.specs.Command.{OfRequest, AsksFor, AsksUpTo, Adds};
-ghost use Rattle.cep_play.specs.Answered.{DoesWhatIsDue, IsNoDialogue, IsSpelled, IsWritten, TellsAllThatIsDue};
+ghost use Rattle.cep_play.specs.Exchange.{talked, loaded, Went};
+ghost use Rattle.cep_play.specs.Answered.{DoesWhatIsDue, IsNoDialogue, IsSpelled, IsWritten, TellsAllThatIsDue, AsksAsSaid, AsksAtMost};
 ghost use Rattle.cep_play.specs.Counted.{RoseByAll};
-ghost use Rattle.cep_play.specs.Begun.{BeginsWhatIsDue, AsksFrontOfAll};
-ghost use Rattle.cep_play.specs.Outcome.{CommandDid, AskedInVain};
-ghost use Rattle.cep_play.specs.CutShort.{InVain, BeginsCommand};
+ghost use Rattle.cep_play.specs.Begun.{BeginsWhatIsDue, AsksPrefixOfAll};
+ghost use Rattle.cep_play.specs.Outcome.{CommandDid, InVain};
 
-use crate::check::check_file;
 use crate::laws::one_due;
-use crate::play::play_file;
-use crate::world::run_world;
+use crate::play::run;
+use crate::reply::{Reply, reply_to};
+use crate::report::Status;
 use cep_base::{Console, ConsoleFault, Shelf, Steps};
 use cep_ground::laws::clean_parts_are_a_program;
 use cep_run::laws::dialogues_are_there;
-use cep_words::Request;
 use cep_words::laws::one_request;
 use std::alloc::Global;
 use std::sync::ledger::Ledger;
-
-const USAGE: &[u8] =
-    b"usage: play FILE [seed=N] [height=N] [turns=N] | check FILE LOG | world N [seed=N] [height=N] [turns=N] | renew FILE LOG\n";
 
 /// Does what the words ask for, and answers the status of the process.
 fn command<C: Console, H: Shelf, L: Ledger>(
@@ -33,51 +27,39 @@ fn command<C: Console, H: Shelf, L: Ledger>(
     shelf: &mut H,
     steps: &mut Steps<L>,
 ) -> Result<u8, ConsoleFault>
-    ensures done { IfOk result (CommandDid C.talk C.left console.old console.new (H.files shelf.old) (H.faults shelf.old) (H.faults shelf.new) (H.asked shelf.old) (H.asked shelf.new) (map string_bytes words.now)) }
-    ensures begun { IfErr result (λ fault. InVain fault (BeginsCommand C.talk C.left console.old console.new (map string_bytes words.now) (H.files shelf.old) (Rose (H.faults shelf.old) (H.faults shelf.new)) (H.asked shelf.old) (H.asked shelf.new)) (console.new ≡ console.old)) }
+    ensures done { IfOk result (CommandDid (map string_bytes words.now)
+        (talked C.talk C.left console.old console.new)
+        (loaded H.files H.asked H.faults shelf.old shelf.new) steps.old steps.new) }
+    ensures cut_short { IfErr result (λ fault. InVain fault
+        (Went (talked C.talk C.left console.old console.new)
+        (BeginsWhatIsDue (map string_bytes words.now)
+        (loaded H.files H.asked H.faults shelf.old shelf.new))
+        × AsksAsSaid (map string_bytes words.now)
+        (loaded H.files H.asked H.faults shelf.old shelf.new))
+        ((console.new ≡ console.old) × AsksAtMost (map string_bytes words.now)
+        (loaded H.files H.asked H.faults shelf.old shelf.new))) }
     ensures cause { ConsoleCause (C.faults console.old) (C.faults console.new) result }
-    ensures asked { AskedInVain (H.files shelf.old) (Rose (H.faults shelf.old) (H.faults shelf.new)) (H.asked shelf.old) (map string_bytes words.now) (H.asked shelf.new) result }
     ensures files { H.files shelf.new ≡ H.files shelf.old }
-    ensures ticked { IfOk result (λ code. (code ≡ 0) ⊎ (code ≡ 4) → RoseByAll C.talk C.left console.old console.new (H.files shelf.old) steps.old steps.new (map string_bytes words.now)) }
     ensures counted { steps.old ≤ steps.new }
 {
     one_request();
-    match Request::of(words) {
-        Some(Request::Play { file, options }) => {
-            let file = file.as_str();
-            match play_file(alloc, file, options, console, shelf, steps) {
-                Ok(played) => Ok(played.code()),
-                Err(fault) => Err(fault),
-            }
-        }
-        Some(Request::Examine { task, file, log }) => {
-            let (file, log) = (file.as_str(), log.as_str());
-            match check_file(alloc, task, file, log, console, shelf, steps) {
-                Ok(checked) => Ok(checked.code()),
-                Err(fault) => Err(fault),
-            }
-        }
-        Some(Request::World { rooms, options }) => {
-            match run_world(alloc, rooms, options, console, steps) {
-                Ok(toured) => Ok(toured.code()),
-                Err(fault) => Err(fault),
-            }
-        }
-        None => {
-            console.put(USAGE)?;
-            Ok(2)
+    match reply_to(alloc, words, shelf, steps)? {
+        Reply::Report(report) => report.put(console),
+        Reply::Dialogue { program, options } => {
+            let tally = run(alloc, &program, options, console, steps)?;
+            Ok(Status::of_run(tally.word).code())
         }
     }
 }
 
 /// Does all that the program does: reads the program that the words name from the shelf, plays it
-/// with the person at the console or checks a transcript against it, which it may write anew, or runs a
+/// with the person at the console or checks a transcript against it, which it may renew, or runs a
 /// generated world, and answers the status that the process ends with.
 ///
 /// | status | comes |
 /// |---|---|
-/// | 0 | the run ended in quiet, or at the end of the input; or the transcript is accepted, or written anew |
-/// | 1 | the transcript is too long, none, or not legal, or too long anew; the line that says so was written |
+/// | 0 | the run ended in quiet or at the end of the input, or the transcript is accepted or renewed |
+/// | 1 | the transcript is not accepted, or its new text is too long; the line that says so was written |
 /// | 2 | the words have no form; the usage line was written |
 /// | 3 | the program's text is refused; the line that says so was written |
 /// | 4 | the run ended by a limit |
@@ -85,9 +67,9 @@ fn command<C: Console, H: Shelf, L: Ledger>(
 /// | 7 | a file could not be read; the line that says which was written |
 /// | 9 | memory ran out |
 ///
-/// After 6 what was said and heard is a front of something that is due, and after 9 too, or nothing was
-/// said and heard. `steps` counts matching steps: attempts to extend a match, and backward premises that
-/// are asked.
+/// After 6 what was said and heard is a prefix of something that is due, and after 9 too, or nothing
+/// was said and heard. `steps` counts matching steps: attempts to extend a match, and backward
+/// premises that are asked.
 pub fn ceptre<C: Console, H: Shelf, L: Ledger>(
     alloc: Global,
     words: &[String],
@@ -95,40 +77,56 @@ pub fn ceptre<C: Console, H: Shelf, L: Ledger>(
     shelf: &mut H,
     steps: &mut Steps<L>,
 ) -> u8
-    // Where the console and memory hold, what is due of the words was done, or what is due where a file could not be read; and the status is its code.
-    ensures answered { result ≢ 6 → result ≢ 9 → Did C.talk C.left console.old console.new
-        (DoesWhatIsDue (map string_bytes words.now) (H.files shelf.old) (Rose (H.faults shelf.old) (H.faults shelf.new)) (Adds (H.asked shelf.old) (H.asked shelf.new)) result) }
+    // Where the console and memory hold, what is due of the words was done, or what is due where a
+    // file could not be read; and the status is its code.
+    ensures answered { result ≢ 6 → result ≢ 9 → Went (talked C.talk C.left console.old console.new)
+        (DoesWhatIsDue (map string_bytes words.now)
+        (loaded H.files H.asked H.faults shelf.old shelf.new) result) }
 
-    // What is no dialogue was written so whether or not the console tells what is to be typed, and nothing was read.
-    ensures written { result ≢ 6 → result ≢ 9 → IsNoDialogue (map string_bytes words.now) result → IsWritten C.talk C.left console.old console.new
-        (map string_bytes words.now) (H.files shelf.old) (Rose (H.faults shelf.old) (H.faults shelf.new)) (Adds (H.asked shelf.old) (H.asked shelf.new)) result }
+    // What is no dialogue was written so whether or not the console tells what is to be typed, and
+    // nothing was read.
+    ensures written { result ≢ 6 → result ≢ 9 → IsNoDialogue (map string_bytes words.now) result
+        → IsWritten (map string_bytes words.now) (talked C.talk C.left console.old console.new)
+        (loaded H.files H.asked H.faults shelf.old shelf.new) result }
     ensures spelled { IsSpelled (map string_bytes words.now) (H.files shelf.old) result }
 
-    // Where the console failed, what was said and heard begins something that is due; and where memory ran out too, or else nothing was done with the console.
-    ensures begun { result ≡ 6 → Did C.talk C.left console.old console.new
-        (BeginsWhatIsDue (map string_bytes words.now) (H.files shelf.old) (Rose (H.faults shelf.old) (H.faults shelf.new)) (Adds (H.asked shelf.old) (H.asked shelf.new))) }
-    ensures begun_or_silent { result ≡ 9 → Did C.talk C.left console.old console.new
-        (BeginsWhatIsDue (map string_bytes words.now) (H.files shelf.old) (Rose (H.faults shelf.old) (H.faults shelf.new)) (Adds (H.asked shelf.old) (H.asked shelf.new)))
-        ⊎ ((console.new ≡ console.old) × AsksFrontOfAll (map string_bytes words.now) (H.files shelf.old) (Adds (H.asked shelf.old) (H.asked shelf.new))) }
+    // Where the console failed, what was said and heard is the beginning of something that is due;
+    // and where memory ran out too, or else nothing was done with the console.
+    ensures begun { result ≡ 6 → Went (talked C.talk C.left console.old console.new)
+        (BeginsWhatIsDue (map string_bytes words.now)
+        (loaded H.files H.asked H.faults shelf.old shelf.new)) }
+    ensures begun_or_silent { result ≡ 9 → Went (talked C.talk C.left console.old console.new)
+        (BeginsWhatIsDue (map string_bytes words.now)
+        (loaded H.files H.asked H.faults shelf.old shelf.new))
+        ⊎ ((console.new ≡ console.old) × AsksPrefixOfAll (map string_bytes words.now)
+        (loaded H.files H.asked H.faults shelf.old shelf.new)) }
 
-    // Whatever comes, the status tells what is due: a run is there whatever is typed, and the status tells how it ends, or whether a transcript is legal.
-    ensures due { TellsAllThatIsDue (map string_bytes words.now) (H.files shelf.old) (C.left console.old) result }
+    // Whatever comes, the status says what is due: a run is there whatever is typed, and the status
+    // says how it ends, or what is reported of a transcript.
+    ensures due { TellsAllThatIsDue
+        (map string_bytes words.now) (H.files shelf.old) (C.left console.old) result }
     ensures no_other { Contains (0 ∷ 1 ∷ 2 ∷ 3 ∷ 4 ∷ 6 ∷ 7 ∷ 9 ∷ []) result }
 
     // Faults of the outside have their statuses, and these come for nothing else.
     ensures shelf_failed { result ≡ 7 → Rose (H.faults shelf.old) (H.faults shelf.new) }
-    ensures shelf_fails { H.faults shelf.old < H.faults shelf.new → Contains (6 ∷ 7 ∷ 9 ∷ []) result }
+    ensures shelf_fails { H.faults shelf.old < H.faults shelf.new
+        → Contains (6 ∷ 7 ∷ 9 ∷ []) result }
     ensures console_failed { result ≡ 6 → Rose (C.faults console.old) (C.faults console.new) }
     ensures console_fails { C.faults console.old < C.faults console.new → result ≡ 6 }
 
-    // The shelf is asked for the program once, for the transcript once where one is checked against a program, and for nothing else: for a generated world it is not asked.
-    ensures asked { result ≢ 9 → OfRequest (map string_bytes words.now) (AsksFor (H.files shelf.old) (Rose (H.faults shelf.old) (H.faults shelf.new)) (Adds (H.asked shelf.old) (H.asked shelf.new)))
-        ⊎ (HaveNoForm (map string_bytes words.now) × Adds (H.asked shelf.old) (H.asked shelf.new) []) }
-    ensures asked_at_most { result ≡ 9 → OfRequest (map string_bytes words.now) (AsksUpTo (H.files shelf.old) (Adds (H.asked shelf.old) (H.asked shelf.new))) ⊎ (H.asked shelf.new ≡ H.asked shelf.old) }
+    // The shelf is asked for the program once, for the transcript once where one is checked against
+    // a program, and for nothing else: for a generated world it is not asked.
+    ensures asked { result ≢ 9 → AsksAsSaid (map string_bytes words.now)
+        (loaded H.files H.asked H.faults shelf.old shelf.new) }
+    ensures asked_at_most { result ≡ 9 → AsksAtMost (map string_bytes words.now)
+        (loaded H.files H.asked H.faults shelf.old shelf.new) }
     ensures files { H.files shelf.new ≡ H.files shelf.old }
 
-    // The counter of matching steps rises by no more than what the network may tick for the turns that were done, and one for each backward premise of what was done in them. It never falls.
-    ensures ticked { (result ≡ 0) ⊎ (result ≡ 4) → RoseByAll C.talk C.left console.old console.new (H.files shelf.old) steps.old steps.new (map string_bytes words.now) }
+    // The counter of matching steps rises by no more than what the network may tick for the turns
+    // that were done, and one for each backward premise of what was done in them. It never falls.
+    ensures ticked { (result ≡ 0) ⊎ (result ≡ 4)
+        → RoseByAll (talked C.talk C.left console.old console.new) (H.files shelf.old)
+        steps.old steps.new (map string_bytes words.now) }
     ensures counted { steps.old ≤ steps.new }
 {
     one_request();

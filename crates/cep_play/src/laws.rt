@@ -6,9 +6,9 @@ ghost use Rattle.cep_play.specs.Due.{IsDue};
 
 use cep_words::laws::one_request;
 
-/// Where the shelf tells its files, what is due of words is one but for what is written: one status,
-/// one rest of what is to be typed, and the same names are asked. A dialogue that is due says by
-/// itself how far it is one.
+/// Where the shelf tells its files, what is due of words is one but for what is written: one
+/// status, one rest of what is to be typed, and the same names are asked. A dialogue that is due
+/// says by itself how far it is one.
 pub fn one_due()
     ensures { (words : List (List ℕ)) (files : Files) (come : List ℕ) (one other : Due)
         → IsDue words (record { files = Some files; come = come }) one

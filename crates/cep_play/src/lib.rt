@@ -3,11 +3,13 @@
 //! process ends with. A module for each command, and a file of definitions for what is due of it.
 #![tactic(auto)]
 
-mod check;
 mod command;
+mod examine;
 pub mod laws;
 mod loading;
 mod play;
+mod reply;
+mod report;
 mod settings;
 mod silence;
 mod summary;

@@ -1,0 +1,200 @@
+-- What is reported is due of a request, and so of words that ask for it.
+use Rattle.std.proofs.Common.{◌≡◌, ◌⊎◌, inl, inr, ⊎_elim, ℕ, ◌≤◌, List, [], ◌∷◌, ◌++◌, refl, sym, ap, ◌∙◌, subst, arith, append_assoc, Option, None, Some}
+use Rattle.std.specs.Prelude.{◌≢◌, Result, Ok, Err, IfOk, OnErr}
+use Rattle.std.specs.Option.{option_map}
+use Rattle.std.proofs.lemmas.List.{append-nil}
+use Rattle.cep_base.specs.Files.{Files, HasFile}
+use Rattle.cep_lines.specs.declared.end_word.EndWord.{EndWord}
+use Rattle.cep_lines.specs.declared.end_word.EndWord.TheVariants.{Quiet, Input, Turns, Offers, Typed, Atom, State}
+use Rattle.cep_rule.specs.declared.parts.Parts.{Parts}
+use Rattle.cep_world.specs.World.{world}
+use Rattle.cep_words.specs.declared.request.Task.{Task}
+use Rattle.cep_words.specs.declared.options.Options.{Options}
+use Rattle.cep_words.specs.Words.{Request, Play, Examine, World, AskFor, HaveNoForm}
+use Rattle.cep_play.specs.Exchange.{Talked, Loaded, loaded, IsUnread, Asked}
+use Rattle.cep_play.specs.Command.{OfRequest, OfFile, IsProgramText, AsksFor, AsksUpTo, usage, no_program, no_transcript}
+use Rattle.cep_play.specs.Outside.{Report, IsRefusal, line_report, report_due, code_told}
+use Rattle.cep_play.specs.Counted.{RoseByRequest, RoseByAll}
+use Rattle.cep_play.specs.Answered.{AsksAsSaid, AsksAtMost}
+use Rattle.cep_play.specs.declared.report.Report as made
+use Rattle.cep_play.specs.Outcome.{report_of, IsRead, IsFound, IsFoundIn, all_read, one_unread, IsProgramIn, ReportsNone, ReportsTranscript, AsksFile, ReportsTour, IsDueAnyway, IsReportOf, IsReportOn}
+use Rattle.cep_play.proofs.Reporting.{code, low_code}
+
+-- words ask for one thing at most
+abbrev pub IsOneRequest : Type 0
+IsOneRequest = (words : List (List ℕ)) (request other : Request) → AskFor words request → AskFor words other → request ≡ other
+
+-- what is said of some request of words is said of each
+pub asked_due : IsOneRequest → (words : List (List ℕ)) (request : Request) → AskFor words request → (P : Request → Type 0) → OfRequest words P → P request
+asked_due one words request ask P of = subst P (one words of.0 request of.1 ask) of.2
+
+-- the status of a run is 0 or 4
+pub told_is : (word : EndWord) → (code_told word ≡ 0) ⊎ (code_told word ≡ 4)
+told_is Quiet = inl refl
+told_is Input = inl refl
+told_is Turns = inr refl
+told_is Offers = inr refl
+told_is Typed = inr refl
+told_is Atom = inr refl
+told_is State = inr refl
+
+pub told_low : (word : EndWord) (code : ℕ) → code ≡ code_told word → code ≤ 4
+told_low word code is = ⊎_elim (λ zero. omega (arith, is, zero)) (λ four. omega (arith, is, four)) (told_is word)
+
+-- Names
+
+pub adds_none : (told : Option (List (List ℕ))) → told ≡ option_map (λ asked. asked ++ []) told
+adds_none None = refl
+adds_none (Some asked) = ap Some (sym (append-nil asked))
+
+-- two names that are asked for one after the other
+adds_twice : (before between after : Option (List (List ℕ))) (one other : List ℕ) → between ≡ option_map (λ asked. asked ++ one ∷ []) before → after ≡ option_map (λ asked. asked ++ other ∷ []) between → after ≡ option_map (λ asked. asked ++ one ∷ other ∷ []) before
+adds_twice before between after one other first second = second ∙ ap (option_map (λ asked. asked ++ other ∷ [])) first ∙ joined before where
+  joined : (told : Option (List (List ℕ))) → option_map (λ asked. asked ++ other ∷ []) (option_map (λ asked. asked ++ one ∷ []) told) ≡ option_map (λ asked. asked ++ one ∷ other ∷ []) told
+  joined None = refl
+  joined (Some asked) = ap Some (append_assoc asked (one ∷ []) (other ∷ []))
+
+-- Texts
+
+-- what is found in a text is found in a file that has it
+pub found_in : {E : Type 0} (loads : Loaded) (file text : List ℕ) (answer : Result (Result Parts made.Report) E) → HasFile loads.files file text → IsRead loads → IfOk answer (IsFound text) → IfOk answer (IsFoundIn loads file)
+found_in loads file text (Ok (Ok program)) has read found = ((text, has, found), read)
+found_in loads file text (Ok (Err report)) has read found = inl ((text, has, found), read)
+found_in loads file text (Err error) has read found = tt
+
+-- Requests
+
+module _ (loads : Loaded) (ticks ticks' : ℕ) (report : Report) where
+  -- a text is refused
+  refused_of : (request : Request) (names : List (List ℕ)) (text : List ℕ) → IsRefusal text report → IsRead loads → IsDueAnyway request loads names report → Asked loads names → AsksFor loads request → IsReportOf request loads ticks ticks' report
+  refused_of request names text refused read due asked said =
+      let is = ap code refused.is in
+      record {
+        names = names;
+        due = due;
+        asked = asked;
+        as_said = said;
+        comes = all_read (omega (arith, is)) read;
+        alone = λ _ _ _. ((λ e. absurd (omega (arith, is, e))), (λ e. absurd (omega (arith, is, e))));
+        rose = λ _ ran. absurd (⊎_elim (λ e. absurd (omega (arith, is, e))) (λ e. absurd (omega (arith, is, e))) ran);
+      }
+
+  -- a file could not be read
+  unread_of : (request : Request) (names : List (List ℕ)) (text : List ℕ) → report ≡ line_report text 7 → IsUnread loads → IsDueAnyway request loads names report → Asked loads names → AsksFor loads request → IsReportOf request loads ticks ticks' report
+  unread_of request names text same unread due asked said =
+      let is = ap code same in
+      record {
+        names = names;
+        due = due;
+        asked = asked;
+        as_said = said;
+        comes = one_unread is unread;
+        alone = λ _ _ _. ((λ e. absurd (omega (arith, is, e))), (λ e. absurd (omega (arith, is, e))));
+        rose = λ _ ran. absurd (⊎_elim (λ e. absurd (omega (arith, is, e))) (λ e. absurd (omega (arith, is, e))) ran);
+      }
+
+  -- the program of a request to play could not be had
+  pub none_to_play : (file : List ℕ) (options : Options) → Asked loads (file ∷ []) → ReportsNone loads file report → IsReportOf (Play file options) loads ticks ticks' report
+  none_to_play file options asked (inl ((text, has, refused), read)) = refused_of (Play file options) (file ∷ []) text refused read (λ come. inl (text, has, inl (report, refused, refl))) asked asked
+  none_to_play file options asked (inr (unread, is)) = unread_of (Play file options) (file ∷ []) no_program is unread (λ come. inr (unread, ap (λ r. report_due r (file ∷ []) come) is)) asked asked
+
+  -- that of a request to examine a transcript
+  pub none_to_examine : (task : Task) (file log : List ℕ) → Asked loads (file ∷ []) → ReportsNone loads file report → IsReportOf (Examine task file log) loads ticks ticks' report
+  none_to_examine task file log asked (inl ((text, has, refused), read)) =
+      refused_of (Examine task file log) (file ∷ []) text refused read (λ come. inl (text, has, inl (report, refused, refl))) asked (inr (inl (text, has, λ some. refused.no_program some.0 some.1), asked))
+  none_to_examine task file log asked (inr (unread, is)) =
+      unread_of (Examine task file log) (file ∷ []) no_program is unread (λ come. inr (unread, inl (ap (λ r. report_due r (file ∷ []) come) is))) asked (inr (inr unread, asked))
+
+  -- its transcript was reported on
+  transcript_of : (task : Task) (file log : List ℕ) (program : Parts) → IsProgramIn loads.files file program → Asked loads (file ∷ log ∷ []) → ReportsTranscript loads task program log report → IsReportOf (Examine task file log) loads ticks ticks' report
+  transcript_of task file log program (text, has, spelled) asked (inl ((bytes, has', reports), read)) = record {
+    names = file ∷ log ∷ [];
+    due = λ come. inl (text, has, inr (program, spelled, (bytes, has', (report, reports, refl))));
+    asked = asked;
+    as_said = inl ((text, has, (program, spelled.0)), asked);
+    comes = all_read (omega (arith, low_code task program bytes report reports)) read;
+    alone = λ other options same. absurd cc;
+    rose = λ _ _. tt;
+  }
+  transcript_of task file log program (text, has, spelled) asked (inr (unread, is)) =
+      let there : OfFile loads.files file IsProgramText = (text, has, (program, spelled.0)) in
+      unread_of (Examine task file log) (file ∷ log ∷ []) no_transcript is unread (λ come. inr (unread, inr (there, ap (λ r. report_due r (file ∷ log ∷ []) come) is))) asked (inl (there, asked))
+
+  -- a world was reported on
+  pub tour_of : (rooms : ℕ) (options : Options) → Asked loads [] → IsRead loads → ReportsTour rooms options ticks ticks' report → IsReportOf (World rooms options) loads ticks ticks' report
+  tour_of rooms options asked read (inl refused) = refused_of (World rooms options) [] (world rooms) refused read (λ come. inl (inl (report, refused, refl))) asked asked
+  tour_of rooms options asked read (inr (program, spelled, ((tally, tallied, is), toured))) = record {
+    names = [];
+    due = λ come. inl (inr (program, spelled, (report, (tally, tallied, is), refl)));
+    asked = asked;
+    as_said = asked;
+    comes = all_read (told_low tally.word report.code (ap code is)) read;
+    alone = λ other options same. absurd cc;
+    rose = λ _ _. (program, spelled, toured);
+  }
+
+-- The program was read, and after it the transcript was asked for.
+module _ {H : Type 0} (files : H → Option Files) (asked : H → Option (List (List ℕ))) (faults : H → ℕ) (old mid new : H) (task : Task) (file log : List ℕ) (program : Parts)
+    (same : files mid ≡ files old) (read : faults mid ≡ faults old) (is_in : IsProgramIn (files old) file program) (first : Asked (loaded files asked faults old mid) (file ∷ [])) where
+  abbrev whole : Loaded
+  whole = loaded files asked faults old new
+
+  both : Asked (loaded files asked faults mid new) (log ∷ []) → Asked whole (file ∷ log ∷ [])
+  both second = adds_twice (asked old) (asked mid) (asked new) file log first second
+
+  found_so : (report : Report) → ReportsTranscript (loaded files asked faults mid new) task program log report → ReportsTranscript whole task program log report
+  found_so report found =
+      subst (λ n. ReportsTranscript (record { files = files old; asked_before = asked old; asked_after = asked new; faults_before = n; faults_after = faults new }) task program log report) read
+      (subst (λ (f : Option Files). ReportsTranscript (record { files = f; asked_before = asked old; asked_after = asked new; faults_before = faults mid; faults_after = faults new }) task program log report) same found)
+
+  pub examined : {E : Type 0} (ticks ticks' : ℕ) (answer : Result made.Report E) → AsksFile (loaded files asked faults mid new) log answer → IfOk answer (λ report. ReportsTranscript (loaded files asked faults mid new) task program log (report_of report))
+      → IfOk answer (λ report. IsReportOf (Examine task file log) whole ticks ticks' (report_of report))
+  examined ticks ticks' (Ok report) second found = transcript_of whole ticks ticks' (report_of report) task file log program is_in (both second) (found_so (report_of report) found)
+  examined ticks ticks' (Err error) second found = tt
+
+  -- the transcript could not be had for want of memory
+  pub examined_in_vain : {T E : Type 0} (answer : Result T E) → AsksFile (loaded files asked faults mid new) log answer → OnErr answer (AsksUpTo whole (Examine task file log) ⊎ (asked new ≡ asked old))
+  examined_in_vain (Ok report) second = tt
+  examined_in_vain (Err error) (inl second) = inl (inl ((is_in.0, is_in.1, (program, is_in.2.0)), both second))
+  examined_in_vain (Err error) (inr none) = inl (inr (none ∙ first))
+
+-- Words
+
+-- what is said of one request is said of all that the words ask for
+pub rose_by_all : (talk : Talked) (files : Option Files) (ticks ticks' : ℕ) (words : List (List ℕ)) → IsOneRequest → (request : Request) → AskFor words request → RoseByRequest talk files ticks ticks' request → RoseByAll talk files ticks ticks' words
+rose_by_all talk files ticks ticks' words one request ask rose other asks = subst (RoseByRequest talk files ticks ticks') (one words request other ask asks) rose
+
+module _ (words : List (List ℕ)) (loads : Loaded) (ticks ticks' : ℕ) where
+  pub report_on : IsOneRequest → (request : Request) (report : Report) → AskFor words request → IsReportOf request loads ticks ticks' report → IsReportOn words loads ticks ticks' report
+  report_on one request report ask is = record {
+    names = is.names;
+    due = λ come. ⊎_elim (λ of. inl (inr (request, ask, of))) (λ unread. inr (unread.0, (request, ask, unread.1))) (is.due come);
+    asked = is.asked;
+    as_said = inl (request, ask, is.as_said);
+    comes = is.comes;
+    alone = λ file options ask'. is.alone file options (one words request (Play file options) ask ask');
+    rose = λ talk ran. rose_by_all talk loads.files ticks ticks' words one request ask (is.rose talk ran);
+  }
+
+  pub usage_on : (report : Report) → report ≡ line_report usage 2 → HaveNoForm words → Asked loads [] → IsRead loads → IsReportOn words loads ticks ticks' report
+  usage_on report is none asked read = record {
+    names = [];
+    due = λ come. inl (inl (none, ap (λ r. report_due r [] come) is));
+    asked = asked;
+    as_said = inr (none, asked);
+    comes = all_read (omega (arith, ap code is)) read;
+    alone = λ file options ask. absurd (none (Play file options) ask);
+    rose = λ _ _ request ask. absurd (none request ask);
+  }
+
+-- What was asked where the command was cut short
+
+pub asks_up_to : (loads : Loaded) (request : Request) → AsksFor loads request → AsksUpTo loads request
+asks_up_to loads (Play file options) asks = asks
+asks_up_to loads (Examine task file log) (inl asks) = inl asks
+asks_up_to loads (Examine task file log) (inr asks) = inr asks.1
+asks_up_to loads (World rooms options) asks = asks
+
+pub at_most : (words : List (List ℕ)) (loads : Loaded) → AsksAsSaid words loads → AsksAtMost words loads
+at_most words loads (inl (request, ask, asks)) = inl (request, ask, asks_up_to loads request asks)
+at_most words loads (inr (none, asked)) = inr (asked ∙ sym (adds_none loads.asked_before))

@@ -1,0 +1,139 @@
+-- What is reported of a transcript, and what a shelf gives.
+use Rattle.std.proofs.Common.{◌≡◌, ◌⊎◌, inl, inr, ℕ, ◌+◌, ◌<◌, ◌≤◌, List, ◌++◌, length, refl, sym, ap, ◌∙◌, subst, arith, Option, None, Some}
+use Rattle.std.specs.Prelude.{codes, decimal, replicate, Err}
+use Rattle.std.specs.Option.{IsSomeAnd}
+use Rattle.std.proofs.lemmas.List.{length-replicate}
+use Rattle.cep_base.specs.declared.limits.TheConstants.{MOST_LOG}
+use Rattle.cep_base.specs.Files.{Files, HasFile, HasLongerFile}
+use Rattle.cep_rule.specs.declared.parts.Parts.{Parts}
+use Rattle.cep_refusal.specs.declared.fault.Fault.{Fault}
+use Rattle.cep_refusal.specs.declared.refusal.Refusal.{Refusal}
+use Rattle.cep_refusal.specs.Told.{Tells}
+use Rattle.cep_ground.specs.Texts.{Spells}
+use Rattle.cep_ground.specs.Refusals.{IsWrong, IsRefusedFor, IsAccepted}
+use Rattle.cep_log.specs.declared.log.Log.{Log}
+use Rattle.cep_log.specs.declared.fault.LogFault.{LogFault}
+use Rattle.cep_log.specs.Legal.{IsLegal}
+use Rattle.cep_log.specs.Transcript.{HasLog, HasMisfit}
+use Rattle.cep_log.specs.Written.{text_of, IsRenewal}
+use Rattle.cep_check.specs.declared.cause.Cause.{Cause}
+use Rattle.cep_check.specs.declared.cause.Verdict.{Verdict}
+use Rattle.cep_check.specs.declared.cause.Verdict.TheVariants as verdicts
+use Rattle.cep_check.specs.Causes.{IsLogRefused, IsVerdict}
+use Rattle.cep_check.specs.Telling.{verdict_text, fault_text}
+use Rattle.cep_check.specs.Renewed.{IsTooLongRenewed}
+use Rattle.cep_words.specs.declared.request.Task.{Task}
+use Rattle.cep_words.specs.declared.request.Task.TheVariants.{Check, Renew}
+use Rattle.cep_play.specs.Command.{refusal_text}
+use Rattle.cep_play.specs.Outside.{Report, line_report, IsRefusal}
+use Rattle.cep_play.specs.Check.{Rejects, too_long_text}
+use Rattle.cep_play.specs.Renew.{Renews}
+use Rattle.cep_play.specs.Reports.{ReportsWhy, Reports}
+use Rattle.cep_play.specs.Outcome.{verdict_code, verdict_report, IsRenewalReport, IsLogReport}
+
+abbrev pub code : Report → ℕ
+code report = report.code
+
+-- the report of a refusal
+pub text_refused : (text : List ℕ) (refusal : Refusal) (report : Report) → ((text : List ℕ) (parts : Parts) (fault : Fault) → Spells text parts → ¬ (IsWrong text fault))
+    → ((text : List ℕ) (one other : Fault) → IsRefusedFor text one → IsRefusedFor text other → one ≡ other) → ((text : List ℕ) (fault : Fault) (one other : Refusal) → Tells text fault one → Tells text fault other → one ≡ other)
+    → IsAccepted text (Err refusal) → report ≡ line_report (refusal_text refusal) 3 → IsRefusal text report
+text_refused text refusal report never one_fault one_told (fault, refused, tells) is = record {
+  fault = fault;
+  refusal = refusal;
+  refused = refused;
+  tells = tells;
+  alone = λ other told refused' tells'. one_told text fault told refusal (subst (λ f. Tells text f told) (one_fault text other fault refused' refused) tells') tells;
+  no_program = λ program spells. never text program fault spells refused.holds;
+  is = is;
+}
+
+-- Two reports on the bytes of a transcript have one status.
+
+pub one_code : (task : Task) (program : Parts) (bytes : List ℕ) (one other : Report) → Reports task program bytes one → Reports task program bytes other → one.code ≡ other.code
+one_code Check program bytes one other (inl (text, accepts, same)) (inl (text', accepts', same')) = ap code same ∙ sym (ap code same')
+one_code Check program bytes one other (inl (text, (log, legal, is), same)) (inr (text', rejects, same')) = absurd (rejects.no_legal log legal)
+one_code Check program bytes one other (inr (text, rejects, same)) (inl (text', (log, legal, is), same')) = absurd (rejects.no_legal log legal)
+one_code Check program bytes one other (inr (text, rejects, same)) (inr (text', rejects', same')) = ap code same ∙ sym (ap code same')
+one_code Renew program bytes one other (inl (text, renews, same)) (inl (text', renews', same')) = ap code same ∙ sym (ap code same')
+one_code Renew program bytes one other (inl (text, (log, legal, is), same)) (inr (inl (text', rejects, same'))) = absurd (rejects.no_legal log legal)
+one_code Renew program bytes one other (inl (text, renews, same)) (inr (inr (long, same'))) = absurd (long.no_text text renews)
+one_code Renew program bytes one other (inr (inl (text, rejects, same))) (inl (text', (log, legal, is), same')) = absurd (rejects.no_legal log legal)
+one_code Renew program bytes one other (inr (inr (long, same))) (inl (text', renews, same')) = absurd (long.no_text text' renews)
+one_code Renew program bytes one other (inr (inl (text, rejects, same))) (inr (inl (text', rejects', same'))) = ap code same ∙ sym (ap code same')
+one_code Renew program bytes one other (inr (inl (text, rejects, same))) (inr (inr (long, same'))) = ap code same ∙ sym (ap code same')
+one_code Renew program bytes one other (inr (inr (long, same))) (inr (inl (text, rejects, same'))) = ap code same ∙ sym (ap code same')
+one_code Renew program bytes one other (inr (inr (long, same))) (inr (inr (long', same'))) = ap code same ∙ sym (ap code same')
+
+-- that status is 0 or 1
+pub low_code : (task : Task) (program : Parts) (bytes : List ℕ) (report : Report) → Reports task program bytes report → report.code ≤ 1
+low_code Check program bytes report (inl (text, accepts, same)) = omega (arith, ap code same)
+low_code Check program bytes report (inr (text, rejects, same)) = omega (arith, ap code same)
+low_code Renew program bytes report (inl (text, renews, same)) = omega (arith, ap code same)
+low_code Renew program bytes report (inr (inl (text, rejects, same))) = omega (arith, ap code same)
+low_code Renew program bytes report (inr (inr (long, same))) = omega (arith, ap code same)
+
+-- bytes that are rejected, for any task
+pub rejected : (task : Task) (program : Parts) (bytes text : List ℕ) → Rejects program bytes text → Reports task program bytes (line_report text 1)
+rejected Check program bytes text is = inr (text, is, refl)
+rejected Renew program bytes text is = inr (inl (text, is, refl))
+
+module _ (program : Parts) (bytes : List ℕ) (log : Log) (short : length bytes ≤ MOST_LOG) (has : HasLog program bytes log) (once : (one other : Log) → HasLog program bytes one → HasLog program bytes other → one ≡ other)
+    (never : (line : ℕ) (cause : Cause) → IsLogRefused program log line cause → ¬ (IsLegal program log)) where
+  -- a log that is refused
+  refused_log : (at : ℕ) (cause : Cause) → IsLogRefused program log at cause → Rejects program bytes (verdict_text program (verdicts.Refused at cause))
+  refused_log at cause is = record { no_legal = λ other legal. never at cause is (subst (IsLegal program) (once other log legal.1 has) legal.2); why = inr (inr (log, at, cause, has, is, refl)) }
+
+  -- a verdict on a log that was read
+  verdict_reported : (verdict : Verdict) → IsVerdict program log verdict → Reports Check program bytes (verdict_report program verdict)
+  verdict_reported (verdicts.Accepted steps) is = inl (codes "accepted " ++ decimal steps, (log, (short, has, is.0), ap (λ n. codes "accepted " ++ decimal n) is.1), refl)
+  verdict_reported (verdicts.Refused at cause) is = inr (verdict_text program (verdicts.Refused at cause), refused_log at cause is, refl)
+
+  refusal_reported : (verdict : Verdict) → IsVerdict program log verdict → verdict_code verdict ≡ 1 → ReportsWhy program bytes (verdict_report program verdict)
+  refusal_reported (verdicts.Accepted steps) is same = let no : 0 ≡ 1 = same in absurd (omega (arith, no))
+  refusal_reported (verdicts.Refused at cause) is same = (verdict_text program (verdicts.Refused at cause), refused_log at cause is, refl)
+
+  module _ (one_text : (old one other : Log) → IsRenewal program old one → IsRenewal program old other → text_of program one ≡ text_of program other) where
+    -- no text is that of a log whose new text is too long
+    no_renewed : IsTooLongRenewed program log → (text : List ℕ) → ¬ (Renews program bytes text)
+    no_renewed too text (other, legal, is) =
+        let same : other ≡ log = once other log legal.1 has in
+        let texts = one_text log too.new is.new too.renews (subst (λ (old : Log). IsRenewal program old is.new) same is.renews) in
+        let long = too.long in
+        let few = is.read.short in
+        absurd (omega (arith, long, few, ap length texts, ap length is.written))
+
+    renewal_reported : (report : Report) → IsLegal program log → IsRenewalReport program log report → Reports Renew program bytes report
+    renewal_reported report legal (inl (text, is, same)) = inl (text, (log, (short, has, legal), is), same)
+    renewal_reported report legal (inr (long, same)) = inr (inr (record { log = log; legal = (short, has, legal); long = long; no_text = no_renewed long }, same))
+
+    -- the report of a log that was read
+    pub log_reported : (task : Task) (report : Report) → IsLogReport task program log report → Reports task program bytes report
+    log_reported Check report (verdict, is, same) = subst (Reports Check program bytes) (sym same) (verdict_reported verdict is)
+    log_reported Renew report (inl (legal, is)) = renewal_reported report legal is
+    log_reported Renew report (inr (verdict, is, refused, same)) = subst (Reports Renew program bytes) (sym same) (inr (inl (refusal_reported verdict is refused)))
+
+-- bytes that are no transcript
+pub misfit_reported : (task : Task) (program : Parts) (bytes : List ℕ) (fault : LogFault) (report : Report) → length bytes ≤ MOST_LOG → HasMisfit program bytes fault
+    → ((log : Log) → HasLog program bytes log → ¬ (HasMisfit program bytes fault)) → report ≡ line_report (fault_text fault) 1 → Reports task program bytes report
+misfit_reported task program bytes fault report short misfit apart same =
+    subst (Reports task program bytes) (sym same)
+    (rejected task program bytes (fault_text fault) (record { no_legal = λ log legal. apart log legal.1 misfit; why = inr (inl (fault, short, misfit, refl)) }))
+
+-- bytes that are too many
+pub long_reported : (task : Task) (program : Parts) (bytes : List ℕ) → MOST_LOG < length bytes → Reports task program bytes (line_report too_long_text 1)
+long_reported task program bytes long =
+    rejected task program bytes too_long_text (record { no_legal = λ log legal. (let short = legal.0 in absurd (omega (arith, long, short))); why = inl (long, refl) })
+
+-- a text that is too long, for a shelf that tells none
+long_text : (n : ℕ) → (text : List ℕ) × (n < length text)
+long_text n = (replicate (n + 1) 0, simp length-replicate (omega arith))
+
+long_there : (found : Option (List ℕ)) (most : ℕ) → IsSomeAnd found (λ bytes. most < length bytes) → (text : List ℕ) × (found ≡ Some text) × (most < length text)
+long_there None most is = absurd is
+long_there (Some text) most is = (text, refl, is)
+
+-- some text of the file is too long: the one that is there, where the files are told
+pub longer_file : (files : Option Files) (name : List ℕ) (most : ℕ) → HasLongerFile files name most → (text : List ℕ) × HasFile files name text × (most < length text)
+longer_file None name most has = let some = long_text most in (some.0, tt, some.1)
+longer_file (Some file) name most has = long_there (file name) most has

@@ -1,0 +1,157 @@
+// Examines a transcript against a program: reports whether it is legal, or its new text.
+ghost use Rattle.std.specs.Prelude.{◌≡◌, ◌⊎◌, ◌≤◌, length, IfOk, OnErr};
+ghost use Rattle.cep_base.specs.declared.limits.TheConstants.{MOST_LOG};
+ghost use Rattle.cep_log.specs.Legal.{IsLogOf, IsLegal};
+ghost use Rattle.cep_check.specs.Telling.{fault_text, IsTellable};
+ghost use Rattle.cep_words.specs.Words.{Examine};
+ghost use Rattle.cep_play.specs.Exchange.{loaded};
+ghost use Rattle.cep_play.specs.Command.{AsksUpTo};
+ghost use Rattle.cep_play.specs.Outside.{line_report};
+ghost use Rattle.cep_play.specs.Reports.{Reports};
+ghost use Rattle.cep_play.specs.Outcome.{report_of, verdict_code, verdict_report, code_of, IsRenewalReport, IsLogReport, ReportsTranscript, AsksFile, IsReportOf};
+
+use crate::loading::program_in;
+use crate::report::{Report, Status};
+use cep_base::limits::MOST_LOG;
+use cep_base::{Shelf, ShelfFault, Steps, Text};
+use cep_check::laws::refused_logs_are_not_legal;
+use cep_check::{Verdict, check, put_fault, put_verdict, renew};
+use cep_log::laws::{one_log, renewals_have_one_text};
+use cep_log::{Log, LogFault, read_log};
+use cep_rule::Program;
+use cep_words::Task;
+use std::alloc::{AllocError, Global};
+use std::sync::ledger::Ledger;
+
+/// The status of a verdict.
+fn status_of(verdict: &Verdict) -> Status
+    ensures { code_of result ≡ verdict_code verdict.now }
+{
+    match verdict {
+        Verdict::Accepted { .. } => Status::Done,
+        Verdict::Refused { .. } => Status::Rejected,
+    }
+}
+
+/// The report of a verdict.
+fn report_verdict(alloc: Global, program: &Program, verdict: &Verdict) -> Result<Report, AllocError>
+    requires { IsTellable program.now verdict.now }
+    ensures { IfOk result (λ report. report_of report ≡ verdict_report program.now verdict.now) }
+{
+    let mut text = Text::new(alloc);
+    put_verdict(program, verdict, &mut text)?;
+    Ok(Report::text(text, status_of(verdict)))
+}
+
+/// The report of a legal log that is renewed.
+fn report_renewal(alloc: Global, program: &Program, log: &Log) -> Result<Report, AllocError>
+    requires { IsLegal program.now log.now }
+    ensures { IfOk result (λ report. IsRenewalReport program.now log.now (report_of report)) }
+{
+    match renew(alloc, program, log)? {
+        Some(text) => Ok(Report::text(text, Status::Done)),
+        None => Ok(Report::line(b"refused 0 NewTooLong\n", Status::Rejected)),
+    }
+}
+
+/// The report of a log.
+fn report_log<L: Ledger>(
+    alloc: Global,
+    program: &Program,
+    task: Task,
+    log: &Log,
+    steps: &mut Steps<L>,
+) -> Result<Report, AllocError>
+    requires { IsLogOf program.now log.now }
+    ensures judged { IfOk result
+        (λ report. IsLogReport task program.now log.now (report_of report)) }
+    ensures counted { steps.old ≤ steps.new }
+{
+    let verdict = check(alloc, program, log, steps)?;
+    match task {
+        Task::Check => report_verdict(alloc, program, &verdict),
+        Task::Renew => match verdict {
+            Verdict::Accepted { .. } => report_renewal(alloc, program, log),
+            Verdict::Refused { .. } => report_verdict(alloc, program, &verdict),
+        },
+    }
+}
+
+/// The report of the first line that does not fit.
+fn report_fault(alloc: Global, fault: LogFault) -> Result<Report, AllocError>
+    ensures { IfOk result (λ report. report_of report ≡ line_report (fault_text fault) 1) }
+{
+    let mut text = Text::new(alloc);
+    put_fault(fault, &mut text)?;
+    Ok(Report::text(text, Status::Rejected))
+}
+
+/// The report of the bytes of a transcript.
+fn report_bytes<L: Ledger>(
+    alloc: Global,
+    program: &Program,
+    task: Task,
+    bytes: &[u8],
+    steps: &mut Steps<L>,
+) -> Result<Report, AllocError>
+    requires { length bytes.now ≤ MOST_LOG }
+    ensures judged { IfOk result (λ report. Reports task program.now bytes.now (report_of report)) }
+    ensures counted { steps.old ≤ steps.new }
+{
+    one_log();
+    refused_logs_are_not_legal();
+    renewals_have_one_text();
+    program.parts();
+    match read_log(alloc, program, bytes)? {
+        Ok(log) => report_log(alloc, program, task, &log, steps),
+        Err(fault) => report_fault(alloc, fault),
+    }
+}
+
+/// The report of the transcript in a file of the shelf.
+fn report_transcript<H: Shelf, L: Ledger>(
+    alloc: Global,
+    program: &Program,
+    task: Task,
+    log: &str,
+    shelf: &mut H,
+    steps: &mut Steps<L>,
+) -> Result<Report, AllocError>
+    ensures reported { IfOk result (λ report.
+        ReportsTranscript (loaded H.files H.asked H.faults shelf.old shelf.new) task program.now
+        log.now (report_of report)) }
+    ensures asked { AsksFile (loaded H.files H.asked H.faults shelf.old shelf.new) log.now result }
+    ensures files { H.files shelf.new ≡ H.files shelf.old }
+    ensures counted { steps.old ≤ steps.new }
+{
+    match shelf.load(alloc, log, MOST_LOG) {
+        Ok(bytes) => report_bytes(alloc, program, task, &bytes, steps),
+        Err(ShelfFault::TooLong) => Ok(Report::line(b"refused 0 TooLong\n", Status::Rejected)),
+        Err(ShelfFault::Failed) => Ok(Report::line(b"cannot read transcript\n", Status::Unread)),
+        Err(ShelfFault::Memory(error)) => Err(error),
+    }
+}
+
+/// The report of the transcript in one file of the shelf, against the program in another: whether it
+/// is legal, or its new text if the task is to renew it.
+pub(crate) fn examine<H: Shelf, L: Ledger>(
+    alloc: Global,
+    task: Task,
+    file: &str,
+    log: &str,
+    shelf: &mut H,
+    steps: &mut Steps<L>,
+) -> Result<Report, AllocError>
+    ensures reported { IfOk result (λ report. IsReportOf (Examine task file.now log.now)
+        (loaded H.files H.asked H.faults shelf.old shelf.new) steps.old steps.new
+        (report_of report)) }
+    ensures asked { OnErr result (AsksUpTo (loaded H.files H.asked H.faults shelf.old shelf.new)
+        (Examine task file.now log.now) ⊎ (H.asked shelf.new ≡ H.asked shelf.old)) }
+    ensures files { H.files shelf.new ≡ H.files shelf.old }
+    ensures counted { steps.old ≤ steps.new }
+{
+    match program_in(alloc, file, shelf)? {
+        Ok(program) => report_transcript(alloc, &program, task, log, shelf, steps),
+        Err(report) => Ok(report),
+    }
+}

@@ -1,0 +1,110 @@
+// Reports: what is written at once, with nothing read, and the status that goes with it.
+ghost use Rattle.std.specs.Prelude.{◌≡◌, OnErr, IfOk};
+ghost use Rattle.cep_base.specs.Talk.{ConsoleCause};
+ghost use Rattle.cep_play.specs.Exchange.{talked, Wrote};
+ghost use Rattle.cep_play.specs.Outside.{code_told};
+ghost use Rattle.cep_play.specs.Outcome.{code_of, bytes_of, report_of, WrotePrefix};
+
+use cep_base::{Console, ConsoleFault, Text};
+use cep_lines::EndWord;
+
+/// How a command came out: a case for each status of its own.
+#[derive(Clone, Copy)]
+pub(crate) enum Status {
+    /// The run ended in quiet or at the end of the input, or the transcript is accepted or renewed.
+    Done,
+    /// The transcript is not accepted, or its new text is too long.
+    Rejected,
+    /// The words have no form.
+    Malformed,
+    /// The program's text is refused.
+    Refused,
+    /// The run ended by a limit.
+    Limited,
+    /// A file could not be read.
+    Unread,
+}
+
+impl Status {
+    /// The status of a run that ended with this word.
+    pub(crate) fn of_run(word: EndWord) -> Status
+        ensures { code_of result ≡ code_told word }
+    {
+        match word {
+            EndWord::Quiet | EndWord::Input => Status::Done,
+            EndWord::Turns | EndWord::Offers | EndWord::Typed | EndWord::Atom | EndWord::State =>
+                Status::Limited,
+        }
+    }
+
+    /// Its number.
+    pub(crate) fn code(self) -> u8
+        ensures { result ≡ code_of self }
+    {
+        match self {
+            Status::Done => 0,
+            Status::Rejected => 1,
+            Status::Malformed => 2,
+            Status::Refused => 3,
+            Status::Limited => 4,
+            Status::Unread => 7,
+        }
+    }
+}
+
+/// What is written.
+#[derive(Drop)]
+pub(crate) enum Lines {
+    /// A line that is always the same, so that it needs no memory.
+    Fixed(&'static [u8]),
+    Text(Text),
+}
+
+impl Lines {
+    fn bytes(&self) -> &[u8]
+        ensures { result.now ≡ bytes_of self.now }
+    {
+        match self {
+            Lines::Fixed(line) => line,
+            Lines::Text(text) => text.bytes(),
+        }
+    }
+}
+
+/// A report.
+#[derive(Drop)]
+pub(crate) struct Report {
+    pub(crate) lines: Lines,
+    pub(crate) status: Status,
+}
+
+impl Report {
+    /// The report of a line that is always the same.
+    pub(crate) fn line(line: &'static [u8], status: Status) -> Report
+        ensures { report_of result ≡ record { written = line.now; code = code_of status } }
+    {
+        let lines = Lines::Fixed(line);
+        Report { lines, status }
+    }
+
+    /// The report of a text.
+    pub(crate) fn text(text: Text, status: Status) -> Report
+        ensures { report_of result ≡ record { written = text; code = code_of status } }
+    {
+        let lines = Lines::Text(text);
+        Report { lines, status }
+    }
+
+    /// Writes what is reported, and answers the number of the status.
+    pub(crate) fn put<C: Console>(&self, console: &mut C) -> Result<u8, ConsoleFault>
+        ensures told { IfOk result (λ code.
+            Wrote (talked C.talk C.left console.old console.new) (report_of self.now).written
+            × (code ≡ (report_of self.now).code)) }
+        ensures begun { OnErr result (WrotePrefix (talked C.talk C.left console.old console.new)
+            (report_of self.now).written) }
+        ensures cause { ConsoleCause (C.faults console.old) (C.faults console.new) result }
+    {
+        console.put(self.lines.bytes())?;
+        Ok(self.status.code())
+    }
+}
