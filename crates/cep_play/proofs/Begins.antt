@@ -1,10 +1,9 @@
 -- What a command had begun where it was cut short is the beginning of something that is due of its words.
-use Rattle.std.proofs.Common.{◌≡◌, ◌⊎◌, inl, inr, ℕ, List, [], ◌∷◌, ◌++◌, length, take, refl, sym, ap, ◌∙◌, subst, Option, Some}
+use Rattle.std.proofs.Common.{◌≡◌, inl, inr, ℕ, List, [], ◌∷◌, ◌++◌, length, take, refl, sym, ap, ◌∙◌, subst, Some}
 use Rattle.std.specs.Prelude.{Result, Ok, Err, IfErr, OnErr, drop}
 use Rattle.std.specs.Result.{IsErrAnd}
 use Rattle.std.specs.declared.alloc.AllocError.{AllocError}
 use Rattle.std.proofs.Math.Seq.{take-length}
-use Rattle.cep_base.specs.declared.console.Event.{Event}
 use Rattle.cep_base.specs.declared.console.ConsoleFault.{ConsoleFault}
 use Rattle.cep_base.specs.declared.console.ConsoleFault.TheVariants as faults
 use Rattle.cep_base.specs.Files.{Files, HasFile}
@@ -17,7 +16,7 @@ use Rattle.cep_words.specs.declared.options.Options.{Options}
 use Rattle.cep_words.specs.Words.{Request, Play, Examine, World}
 use Rattle.cep_run.specs.Fronts.{BeginsSome, LeavesUnheard, heard_bytes}
 use Rattle.cep_run.specs.Said.{IsSomeSaid}
-use Rattle.cep_play.specs.Exchange.{Talked, Loaded, Asked, Went}
+use Rattle.cep_play.specs.Exchange.{Talked, Loaded, AskedFor, Went}
 use Rattle.cep_play.specs.Command.{AsksUpTo, settings_of}
 use Rattle.cep_play.specs.Outside.{Due, Report, report_due, code_told}
 use Rattle.cep_play.specs.Due.{IsDueOf}
@@ -59,7 +58,7 @@ module _ (words : List (List ℕ)) (talk : Talked) (loads : Loaded) where
       said = outs_cut wrote.0 report.written;
       left = ap (λ heard. heard ++ come) (sym (outs_unheard (take wrote.0 report.written)));
       size = length is.names;
-      names = subst (Asked loads) (sym (take-length is.names)) is.asked;
+      names = subst (AskedFor loads) (sym (take-length is.names)) is.asked;
     },
   )
 
@@ -85,15 +84,15 @@ module _ (words : List (List ℕ)) (talk : Talked) (loads : Loaded) where
 
 module _ (loads : Loaded) (held : Files) (told : loads.files ≡ Some held) (come : List ℕ) (due : Due) where
   abbrev AsksPrefix : Type 0
-  AsksPrefix = (size : ℕ) × Asked loads (take size due.names)
+  AsksPrefix = (size : ℕ) × AskedFor loads (take size due.names)
 
   one_text : (name text other : List ℕ) → HasFile loads.files name text → HasFile loads.files name other → text ≡ other
   one_text name text other has has' = some_same text other (sym (subst (λ f. HasFile f name text) told has) ∙ subst (λ f. HasFile f name other) told has')
 
-  prefix_of : (size : ℕ) (names : List (List ℕ)) → due.names ≡ names → Asked loads (take size names) → AsksPrefix
-  prefix_of size names same adds = (size, subst (λ all. Asked loads (take size all)) (sym same) adds)
+  prefix_of : (size : ℕ) (names : List (List ℕ)) → due.names ≡ names → AskedFor loads (take size names) → AsksPrefix
+  prefix_of size names same adds = (size, subst (λ all. AskedFor loads (take size all)) (sym same) adds)
 
-  due_prefix : (size : ℕ) (other : Due) → due ≡ other → Asked loads (take size other.names) → AsksPrefix
+  due_prefix : (size : ℕ) (other : Due) → due ≡ other → AskedFor loads (take size other.names) → AsksPrefix
   due_prefix size other same adds = prefix_of size other.names (ap (λ (d : Due). d.names) same) adds
 
   asks_prefix : (request : Request) → AsksUpTo loads request → IsDueOf request (record { files = loads.files; come = come }) due → AsksPrefix

@@ -1,6 +1,6 @@
 -- What is reported is due of a request, and so of words that ask for it.
 use Rattle.std.proofs.Common.{◌≡◌, ◌⊎◌, inl, inr, ⊎_elim, ℕ, ◌≤◌, List, [], ◌∷◌, ◌++◌, refl, sym, ap, ◌∙◌, subst, arith, append_assoc, Option, None, Some}
-use Rattle.std.specs.Prelude.{◌≢◌, Result, Ok, Err, IfOk, OnErr}
+use Rattle.std.specs.Prelude.{Result, Ok, Err, IfOk, OnErr}
 use Rattle.std.specs.Option.{option_map}
 use Rattle.std.proofs.lemmas.List.{append-nil}
 use Rattle.cep_base.specs.Files.{Files, HasFile}
@@ -11,13 +11,13 @@ use Rattle.cep_world.specs.World.{world}
 use Rattle.cep_words.specs.declared.request.Task.{Task}
 use Rattle.cep_words.specs.declared.options.Options.{Options}
 use Rattle.cep_words.specs.Words.{Request, Play, Examine, World, AskFor, HaveNoForm}
-use Rattle.cep_play.specs.Exchange.{Talked, Loaded, loaded, IsUnread, Asked}
-use Rattle.cep_play.specs.Command.{OfRequest, OfFile, IsProgramText, AsksFor, AsksUpTo, usage, no_program, no_transcript}
+use Rattle.cep_play.specs.Exchange.{Talked, Loaded, loaded, IsUnread, AskedFor}
+use Rattle.cep_play.specs.Command.{OfRequest, OfFile, IsProgramText, IsSpelledBy, AsksFor, AsksUpTo, usage, no_program, no_transcript}
 use Rattle.cep_play.specs.Outside.{Report, IsRefusal, line_report, report_due, code_told}
 use Rattle.cep_play.specs.Counted.{RoseByRequest, RoseByAll}
 use Rattle.cep_play.specs.Answered.{AsksAsSaid, AsksAtMost}
 use Rattle.cep_play.specs.declared.report.Report as made
-use Rattle.cep_play.specs.Outcome.{report_of, IsRead, IsFound, IsFoundIn, all_read, one_unread, IsProgramIn, ReportsNone, ReportsTranscript, AsksFile, ReportsTour, IsDueAnyway, IsReportOf, IsReportOn}
+use Rattle.cep_play.specs.Outcome.{report_of, IsRead, IsFoundInText, IsFoundInFile, all_read, one_unread, ReportsNone, ReportsTranscript, AsksFile, ReportsTour, IsDueAnyway, IsReportOf, IsReportOn}
 use Rattle.cep_play.proofs.Reporting.{code, low_code}
 
 -- words ask for one thing at most
@@ -57,7 +57,7 @@ adds_twice before between after one other first second = second ∙ ap (option_m
 -- Texts
 
 -- what is found in a text is found in a file that has it
-pub found_in : {E : Type 0} (loads : Loaded) (file text : List ℕ) (answer : Result (Result Parts made.Report) E) → HasFile loads.files file text → IsRead loads → IfOk answer (IsFound text) → IfOk answer (IsFoundIn loads file)
+pub found_in : {E : Type 0} (loads : Loaded) (file text : List ℕ) (answer : Result (Result Parts made.Report) E) → HasFile loads.files file text → IsRead loads → IfOk answer (IsFoundInText text) → IfOk answer (IsFoundInFile loads file)
 found_in loads file text (Ok (Ok program)) has read found = ((text, has, found), read)
 found_in loads file text (Ok (Err report)) has read found = inl ((text, has, found), read)
 found_in loads file text (Err error) has read found = tt
@@ -66,7 +66,7 @@ found_in loads file text (Err error) has read found = tt
 
 module _ (loads : Loaded) (ticks ticks' : ℕ) (report : Report) where
   -- a text is refused
-  refused_of : (request : Request) (names : List (List ℕ)) (text : List ℕ) → IsRefusal text report → IsRead loads → IsDueAnyway request loads names report → Asked loads names → AsksFor loads request → IsReportOf request loads ticks ticks' report
+  refused_of : (request : Request) (names : List (List ℕ)) (text : List ℕ) → IsRefusal text report → IsRead loads → IsDueAnyway request loads names report → AskedFor loads names → AsksFor loads request → IsReportOf request loads ticks ticks' report
   refused_of request names text refused read due asked said =
       let is = ap code refused.is in
       record {
@@ -80,7 +80,7 @@ module _ (loads : Loaded) (ticks ticks' : ℕ) (report : Report) where
       }
 
   -- a file could not be read
-  unread_of : (request : Request) (names : List (List ℕ)) (text : List ℕ) → report ≡ line_report text 7 → IsUnread loads → IsDueAnyway request loads names report → Asked loads names → AsksFor loads request → IsReportOf request loads ticks ticks' report
+  unread_of : (request : Request) (names : List (List ℕ)) (text : List ℕ) → report ≡ line_report text 7 → IsUnread loads → IsDueAnyway request loads names report → AskedFor loads names → AsksFor loads request → IsReportOf request loads ticks ticks' report
   unread_of request names text same unread due asked said =
       let is = ap code same in
       record {
@@ -94,19 +94,19 @@ module _ (loads : Loaded) (ticks ticks' : ℕ) (report : Report) where
       }
 
   -- the program of a request to play could not be had
-  pub none_to_play : (file : List ℕ) (options : Options) → Asked loads (file ∷ []) → ReportsNone loads file report → IsReportOf (Play file options) loads ticks ticks' report
+  pub none_to_play : (file : List ℕ) (options : Options) → AskedFor loads (file ∷ []) → ReportsNone loads file report → IsReportOf (Play file options) loads ticks ticks' report
   none_to_play file options asked (inl ((text, has, refused), read)) = refused_of (Play file options) (file ∷ []) text refused read (λ come. inl (text, has, inl (report, refused, refl))) asked asked
   none_to_play file options asked (inr (unread, is)) = unread_of (Play file options) (file ∷ []) no_program is unread (λ come. inr (unread, ap (λ r. report_due r (file ∷ []) come) is)) asked asked
 
   -- that of a request to examine a transcript
-  pub none_to_examine : (task : Task) (file log : List ℕ) → Asked loads (file ∷ []) → ReportsNone loads file report → IsReportOf (Examine task file log) loads ticks ticks' report
+  pub none_to_examine : (task : Task) (file log : List ℕ) → AskedFor loads (file ∷ []) → ReportsNone loads file report → IsReportOf (Examine task file log) loads ticks ticks' report
   none_to_examine task file log asked (inl ((text, has, refused), read)) =
       refused_of (Examine task file log) (file ∷ []) text refused read (λ come. inl (text, has, inl (report, refused, refl))) asked (inr (inl (text, has, λ some. refused.no_program some.0 some.1), asked))
   none_to_examine task file log asked (inr (unread, is)) =
       unread_of (Examine task file log) (file ∷ []) no_program is unread (λ come. inr (unread, inl (ap (λ r. report_due r (file ∷ []) come) is))) asked (inr (inr unread, asked))
 
   -- its transcript was reported on
-  transcript_of : (task : Task) (file log : List ℕ) (program : Parts) → IsProgramIn loads.files file program → Asked loads (file ∷ log ∷ []) → ReportsTranscript loads task program log report → IsReportOf (Examine task file log) loads ticks ticks' report
+  transcript_of : (task : Task) (file log : List ℕ) (program : Parts) → OfFile loads.files file (IsSpelledBy program) → AskedFor loads (file ∷ log ∷ []) → ReportsTranscript loads task program log report → IsReportOf (Examine task file log) loads ticks ticks' report
   transcript_of task file log program (text, has, spelled) asked (inl ((bytes, has', reports), read)) = record {
     names = file ∷ log ∷ [];
     due = λ come. inl (text, has, inr (program, spelled, (bytes, has', (report, reports, refl))));
@@ -121,7 +121,7 @@ module _ (loads : Loaded) (ticks ticks' : ℕ) (report : Report) where
       unread_of (Examine task file log) (file ∷ log ∷ []) no_transcript is unread (λ come. inr (unread, inr (there, ap (λ r. report_due r (file ∷ log ∷ []) come) is))) asked (inl (there, asked))
 
   -- a world was reported on
-  pub tour_of : (rooms : ℕ) (options : Options) → Asked loads [] → IsRead loads → ReportsTour rooms options ticks ticks' report → IsReportOf (World rooms options) loads ticks ticks' report
+  pub tour_of : (rooms : ℕ) (options : Options) → AskedFor loads [] → IsRead loads → ReportsTour rooms options ticks ticks' report → IsReportOf (World rooms options) loads ticks ticks' report
   tour_of rooms options asked read (inl refused) = refused_of (World rooms options) [] (world rooms) refused read (λ come. inl (inl (report, refused, refl))) asked asked
   tour_of rooms options asked read (inr (program, spelled, ((tally, tallied, is), toured))) = record {
     names = [];
@@ -135,11 +135,11 @@ module _ (loads : Loaded) (ticks ticks' : ℕ) (report : Report) where
 
 -- The program was read, and after it the transcript was asked for.
 module _ {H : Type 0} (files : H → Option Files) (asked : H → Option (List (List ℕ))) (faults : H → ℕ) (old mid new : H) (task : Task) (file log : List ℕ) (program : Parts)
-    (same : files mid ≡ files old) (read : faults mid ≡ faults old) (is_in : IsProgramIn (files old) file program) (first : Asked (loaded files asked faults old mid) (file ∷ [])) where
+    (same : files mid ≡ files old) (read : faults mid ≡ faults old) (is_in : OfFile (files old) file (IsSpelledBy program)) (first : AskedFor (loaded files asked faults old mid) (file ∷ [])) where
   abbrev whole : Loaded
   whole = loaded files asked faults old new
 
-  both : Asked (loaded files asked faults mid new) (log ∷ []) → Asked whole (file ∷ log ∷ [])
+  both : AskedFor (loaded files asked faults mid new) (log ∷ []) → AskedFor whole (file ∷ log ∷ [])
   both second = adds_twice (asked old) (asked mid) (asked new) file log first second
 
   found_so : (report : Report) → ReportsTranscript (loaded files asked faults mid new) task program log report → ReportsTranscript whole task program log report
@@ -176,7 +176,7 @@ module _ (words : List (List ℕ)) (loads : Loaded) (ticks ticks' : ℕ) where
     rose = λ talk ran. rose_by_all talk loads.files ticks ticks' words one request ask (is.rose talk ran);
   }
 
-  pub usage_on : (report : Report) → report ≡ line_report usage 2 → HaveNoForm words → Asked loads [] → IsRead loads → IsReportOn words loads ticks ticks' report
+  pub usage_on : (report : Report) → report ≡ line_report usage 2 → HaveNoForm words → AskedFor loads [] → IsRead loads → IsReportOn words loads ticks ticks' report
   usage_on report is none asked read = record {
     names = [];
     due = λ come. inl (inl (none, ap (λ r. report_due r [] come) is));

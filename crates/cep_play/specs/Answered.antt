@@ -12,7 +12,7 @@ use Rattle.cep_words.specs.Words.{Request, Play, Examine, World, AskFor, HaveNoF
 use Rattle.cep_run.specs.declared.settings.Settings.{Settings}
 use Rattle.cep_run.specs.Run.{Turn, Ending}
 use Rattle.cep_run.specs.Dialogue.{Dialogue}
-use Rattle.cep_play.specs.Exchange.{Talked, Loaded, IsUnread, Asked}
+use Rattle.cep_play.specs.Exchange.{Talked, Loaded, IsUnread, AskedFor}
 use Rattle.cep_play.specs.Command.{OfRequest, OfFile, AsksFor, AsksUpTo, IsSpelledBy, settings_of}
 use Rattle.cep_play.specs.Outside.{Due, Report, code_told}
 use Rattle.cep_play.specs.Reports.{Reports}
@@ -24,7 +24,7 @@ pub record DoesWhatIsDue (words : List (List ℕ)) (loads : Loaded) (code : ℕ)
   pub is : IsDueAtAll words (IsUnread loads) (record { files = loads.files; come = come }) due
   pub said : events ≡ due.events
   pub left : rest ≡ due.rest
-  pub names : Asked loads due.names
+  pub names : AskedFor loads due.names
   pub status : code ≡ due.code
 
 -- The status is that of no dialogue: the words ask for no program to be played, or none was.
@@ -78,7 +78,7 @@ TellsAllThatIsDue words files left status = (request : Request) → AskFor words
 
 -- The shelf was asked for what the words ask for, and for nothing else.
 abbrev pub AsksAsSaid : List (List ℕ) → Loaded → Type 0
-AsksAsSaid words loads = OfRequest words (AsksFor loads) ⊎ (HaveNoForm words × Asked loads [])
+AsksAsSaid words loads = OfRequest words (AsksFor loads) ⊎ (HaveNoForm words × AskedFor loads [])
 
 -- Where memory ran out it was asked for no more than that, or for nothing.
 abbrev pub AsksAtMost : List (List ℕ) → Loaded → Type 0

@@ -1,9 +1,9 @@
 -- What the command promises where the console failed or memory ran out: what was said and heard until then is the beginning of something that is due.
-use Rattle.std.specs.Prelude.{◌≡◌, ◌⊎◌, ℕ, List, ◌++◌, take, Option, Some}
+use Rattle.std.specs.Prelude.{◌≡◌, ℕ, List, ◌++◌, take, Some}
 use Rattle.cep_base.specs.declared.console.Event.{Event}
 use Rattle.cep_base.specs.Files.{Files}
 use Rattle.cep_run.specs.Fronts.{LeavesUnheard}
-use Rattle.cep_play.specs.Exchange.{Loaded, IsUnread, Asked}
+use Rattle.cep_play.specs.Exchange.{Loaded, IsUnread, AskedFor}
 use Rattle.cep_play.specs.Outside.{Due}
 use Rattle.cep_play.specs.Due.{IsDue, IsDueAtAll}
 
@@ -15,10 +15,10 @@ pub record BeginsWhatIsDue (words : List (List ℕ)) (loads : Loaded) (come : Li
   pub said : events ++ missing ≡ due.events
   pub left : LeavesUnheard come events rest
   pub size : ℕ
-  pub names : Asked loads (take size due.names)
+  pub names : AskedFor loads (take size due.names)
 
 -- Where the files are told, the names that were asked are a prefix of the names of whatever is due of the words.
 abbrev pub AsksPrefixOfAll : List (List ℕ) → Loaded → Type 0
 AsksPrefixOfAll words loads =
     (held : Files) → loads.files ≡ Some held → (come : List ℕ) (due : Due)
-    → IsDue words (record { files = loads.files; come = come }) due → (size : ℕ) × Asked loads (take size due.names)
+    → IsDue words (record { files = loads.files; come = come }) due → (size : ℕ) × AskedFor loads (take size due.names)

@@ -9,7 +9,7 @@ use Rattle.cep_ground.specs.Texts.{Spells}
 use Rattle.cep_words.specs.declared.options.Options.{Options}
 use Rattle.cep_words.specs.Words.{Request, Play, Examine, World, AskFor}
 use Rattle.cep_run.specs.declared.settings.Settings.{Settings}
-use Rattle.cep_play.specs.Exchange.{Loaded, IsUnread, Asked}
+use Rattle.cep_play.specs.Exchange.{Loaded, IsUnread, AskedFor}
 
 -- P holds of what the words ask for
 abbrev pub OfRequest : List (List ℕ) → (Request → Type 0) → Type 0
@@ -29,18 +29,18 @@ IsSpelledBy program text = Spells text program × ((other : Parts) → Spells te
 
 -- The names that are asked of the shelf for a request: the program's file; where a transcript is examined, the transcript's after it if the program's was read and spells one; and none for a generated world.
 abbrev pub AsksFor : Loaded → Request → Type 0
-AsksFor loads (Play file options) = Asked loads (file ∷ [])
+AsksFor loads (Play file options) = AskedFor loads (file ∷ [])
 AsksFor loads (Examine task file log) =
-    (OfFile loads.files file IsProgramText × Asked loads (file ∷ log ∷ []))
-    ⊎ ((OfFile loads.files file (λ text. ¬ (IsProgramText text)) ⊎ IsUnread loads) × Asked loads (file ∷ []))
-AsksFor loads (World rooms options) = Asked loads []
+    (OfFile loads.files file IsProgramText × AskedFor loads (file ∷ log ∷ []))
+    ⊎ ((OfFile loads.files file (λ text. ¬ (IsProgramText text)) ⊎ IsUnread loads) × AskedFor loads (file ∷ []))
+AsksFor loads (World rooms options) = AskedFor loads []
 
 -- Where memory ran out after names were asked of the shelf: these are not more than are asked for the request.
 abbrev pub AsksUpTo : Loaded → Request → Type 0
-AsksUpTo loads (Play file options) = Asked loads (file ∷ [])
+AsksUpTo loads (Play file options) = AskedFor loads (file ∷ [])
 AsksUpTo loads (Examine task file log) =
-    (OfFile loads.files file IsProgramText × Asked loads (file ∷ log ∷ [])) ⊎ Asked loads (file ∷ [])
-AsksUpTo loads (World rooms options) = Asked loads []
+    (OfFile loads.files file IsProgramText × AskedFor loads (file ∷ log ∷ [])) ⊎ AskedFor loads (file ∷ [])
+AsksUpTo loads (World rooms options) = AskedFor loads []
 
 abbrev pub usage : List ℕ
 usage = codes "usage: play FILE [seed=N] [height=N] [turns=N] | check FILE LOG | world N [seed=N] [height=N] [turns=N] | renew FILE LOG"

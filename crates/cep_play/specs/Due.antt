@@ -25,10 +25,6 @@ IsDueUnreadOf (Examine task file log) outside due =
     ⊎ (OfFile outside.files file IsProgramText × (due ≡ report_due (line_report no_transcript 7) (file ∷ log ∷ []) outside.come))
 IsDueUnreadOf (World rooms options) outside due = ⊥
 
--- this is due of words where a file could not be read
-abbrev pub IsDueUnread : List (List ℕ) → Outside → Due → Type 0
-IsDueUnread words outside due = OfRequest words (λ request. IsDueUnreadOf request outside due)
-
 -- this is due of words, whether all files could be read or one could not
 abbrev pub IsDueAtAll : List (List ℕ) → (unread : Type 0) → Outside → Due → Type 0
-IsDueAtAll words unread outside due = IsDue words outside due ⊎ (unread × IsDueUnread words outside due)
+IsDueAtAll words unread outside due = IsDue words outside due ⊎ (unread × OfRequest words (λ request. IsDueUnreadOf request outside due))

@@ -40,8 +40,8 @@ abbrev pub IsUnread : Loaded → Type 0
 IsUnread loads = Rose loads.faults_before loads.faults_after
 
 -- where the names asked for are told, these were added
-abbrev pub Asked : Loaded → List (List ℕ) → Type 0
-Asked loads names = loads.asked_after ≡ option_map (λ asked. asked ++ names) loads.asked_before
+abbrev pub AskedFor : Loaded → List (List ℕ) → Type 0
+AskedFor loads names = loads.asked_after ≡ option_map (λ asked. asked ++ names) loads.asked_before
 
 -- Where the bytes to come are told: from these, some events came, which were added to the talk where that is told, some bytes are left, and P holds of the three.
 abbrev pub Went : Talked → (List ℕ → List Event → List ℕ → Type 0) → Type 0

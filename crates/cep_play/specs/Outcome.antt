@@ -1,9 +1,8 @@
 -- Private.
 -- What the parts of the command come to.
-use Rattle.std.specs.Prelude.{◌≡◌, ◌≢◌, ◌⊎◌, ℕ, ◌≤◌, List, [], ◌∷◌, take, Option, Result, Ok, Err}
+use Rattle.std.specs.Prelude.{◌≡◌, ◌≢◌, ◌⊎◌, ℕ, ◌≤◌, List, [], ◌∷◌, take, Result, Ok, Err}
 use Rattle.cep_base.specs.declared.console.ConsoleFault.{ConsoleFault}
 use Rattle.cep_base.specs.declared.console.ConsoleFault.TheVariants as faults
-use Rattle.cep_base.specs.Files.{Files}
 use Rattle.cep_rule.specs.declared.parts.Parts.{Parts}
 use Rattle.cep_lines.specs.Lines.{line}
 use Rattle.cep_world.specs.World.{world}
@@ -30,7 +29,7 @@ use Rattle.cep_play.specs.declared.report.Status.TheVariants as status
 use Rattle.cep_play.specs.declared.report.Lines.{Lines}
 use Rattle.cep_play.specs.declared.report.Lines.TheVariants as lines
 use Rattle.cep_play.specs.declared.report.Report as made
-use Rattle.cep_play.specs.Exchange.{Talked, Loaded, IsUnread, Asked, Went, Wrote}
+use Rattle.cep_play.specs.Exchange.{Talked, Loaded, IsUnread, AskedFor, Went, Wrote}
 use Rattle.cep_play.specs.Command.{OfFile, IsSpelledBy, AsksFor, no_program, no_transcript, settings_of}
 use Rattle.cep_play.specs.Outside.{Report, line_report, report_due, IsRefusal}
 use Rattle.cep_play.specs.Renew.{new_too_long_text}
@@ -96,10 +95,6 @@ pub data ComesWith (loads : Loaded) (code : ℕ) : Type 0 where
   all_read : code ≤ 4 → IsRead loads → ComesWith loads code
   one_unread : code ≡ 7 → IsUnread loads → ComesWith loads code
 
--- the text of a file spells this program, and no other
-abbrev pub IsProgramIn : Option Files → List ℕ → Parts → Type 0
-IsProgramIn files name program = OfFile files name (IsSpelledBy program)
-
 -- no program is in a file, and this is reported: its text is refused, or it could not be read
 abbrev pub ReportsNone : Loaded → List ℕ → Report → Type 0
 ReportsNone loads file report =
@@ -107,14 +102,14 @@ ReportsNone loads file report =
     ⊎ (IsUnread loads × (report ≡ line_report no_program 7))
 
 -- what is found in a text: the program that it spells, or the report of its refusal
-abbrev pub IsFound : List ℕ → Result Parts made.Report → Type 0
-IsFound text (Ok program) = IsSpelledBy program text
-IsFound text (Err report) = IsRefusal text (report_of report)
+abbrev pub IsFoundInText : List ℕ → Result Parts made.Report → Type 0
+IsFoundInText text (Ok program) = IsSpelledBy program text
+IsFoundInText text (Err report) = IsRefusal text (report_of report)
 
 -- what is found in a file: the program in it, or the report why there is none
-abbrev pub IsFoundIn : Loaded → List ℕ → Result Parts made.Report → Type 0
-IsFoundIn loads file (Ok program) = IsProgramIn loads.files file program × IsRead loads
-IsFoundIn loads file (Err report) = ReportsNone loads file (report_of report)
+abbrev pub IsFoundInFile : Loaded → List ℕ → Result Parts made.Report → Type 0
+IsFoundInFile loads file (Ok program) = OfFile loads.files file (IsSpelledBy program) × IsRead loads
+IsFoundInFile loads file (Err report) = ReportsNone loads file (report_of report)
 
 -- this is reported of the transcript in a file, which may be one that could not be read
 abbrev pub ReportsTranscript : Loaded → Task → Parts → List ℕ → Report → Type 0
@@ -124,8 +119,8 @@ ReportsTranscript loads task program log report =
 
 -- the file was asked for, or, if memory ran out, perhaps not
 abbrev pub AsksFile : {T E : Type 0} → Loaded → List ℕ → Result T E → Type 0
-AsksFile loads name (Ok found) = Asked loads (name ∷ [])
-AsksFile loads name (Err error) = Asked loads (name ∷ []) ⊎ (loads.asked_after ≡ loads.asked_before)
+AsksFile loads name (Ok found) = AskedFor loads (name ∷ [])
+AsksFile loads name (Err error) = AskedFor loads (name ∷ []) ⊎ (loads.asked_after ≡ loads.asked_before)
 
 -- what is said is a dialogue of the program with this tally, and the counter rose by its run
 abbrev pub IsRunSaid : Parts → Settings → ℕ → ℕ → Tally → List ℕ → List Event → List ℕ → Type 0
@@ -161,7 +156,7 @@ IsDueAnyway request loads names report =
 pub record IsReportOf (request : Request) (loads : Loaded) (ticks ticks' : ℕ) (report : Report) : Type 0 where
   pub names : List (List ℕ)
   pub due : IsDueAnyway request loads names report
-  pub asked : Asked loads names
+  pub asked : AskedFor loads names
   pub as_said : AsksFor loads request
   pub comes : ComesWith loads report.code
   pub alone : (file : List ℕ) (options : Options) → request ≡ Play file options → (report.code ≢ 0) × (report.code ≢ 4)
@@ -171,7 +166,7 @@ pub record IsReportOf (request : Request) (loads : Loaded) (ticks ticks' : ℕ) 
 pub record IsReportOn (words : List (List ℕ)) (loads : Loaded) (ticks ticks' : ℕ) (report : Report) : Type 0 where
   pub names : List (List ℕ)
   pub due : (come : List ℕ) → IsDueAtAll words (IsUnread loads) (record { files = loads.files; come = come }) (report_due report names come)
-  pub asked : Asked loads names
+  pub asked : AskedFor loads names
   pub as_said : AsksAsSaid words loads
   pub comes : ComesWith loads report.code
   pub alone : IsNoDialogue words report.code
@@ -181,8 +176,8 @@ pub record IsReportOn (words : List (List ℕ)) (loads : Loaded) (ticks ticks' :
 pub record IsToPlay (words : List (List ℕ)) (loads : Loaded) (program : Parts) (options : Options) : Type 0 where
   pub file : List ℕ
   pub ask : AskFor words (Play file options)
-  pub is_in : IsProgramIn loads.files file program
-  pub asked : Asked loads (file ∷ [])
+  pub is_in : OfFile loads.files file (IsSpelledBy program)
+  pub asked : AskedFor loads (file ∷ [])
   pub read : IsRead loads
 
 -- what words come to before anything is written

@@ -58,8 +58,8 @@ fn command<C: Console, H: Shelf, L: Ledger>(
 ///
 /// | status | comes |
 /// |---|---|
-/// | 0 | the run ended in quiet or at the end of the input, or the transcript is accepted or renewed |
-/// | 1 | the transcript is not accepted, or its new text is too long; the line that says so was written |
+/// | 0 | the run ended in quiet or at the end of the input; the transcript is accepted or renewed |
+/// | 1 | the transcript is not accepted, or its new text is too long; the line says which |
 /// | 2 | the words have no form; the usage line was written |
 /// | 3 | the program's text is refused; the line that says so was written |
 /// | 4 | the run ended by a limit |
@@ -67,9 +67,9 @@ fn command<C: Console, H: Shelf, L: Ledger>(
 /// | 7 | a file could not be read; the line that says which was written |
 /// | 9 | memory ran out |
 ///
-/// After 6 what was said and heard is a prefix of something that is due, and after 9 too, or nothing
-/// was said and heard. `steps` counts matching steps: attempts to extend a match, and backward
-/// premises that are asked.
+/// After 6 what was said and heard is a prefix of something that is due, and after 9 too, or
+/// nothing was said and heard. `steps` counts matching steps: attempts to extend a match, and
+/// backward premises that are asked.
 pub fn ceptre<C: Console, H: Shelf, L: Ledger>(
     alloc: Global,
     words: &[String],

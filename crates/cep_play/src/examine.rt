@@ -132,8 +132,8 @@ fn report_transcript<H: Shelf, L: Ledger>(
     }
 }
 
-/// The report of the transcript in one file of the shelf, against the program in another: whether it
-/// is legal, or its new text if the task is to renew it.
+/// The report of the transcript in one file of the shelf, against the program in another: whether
+/// it is legal, or its new text if the task is to renew it.
 pub(crate) fn examine<H: Shelf, L: Ledger>(
     alloc: Global,
     task: Task,

@@ -4,7 +4,7 @@ ghost use Rattle.cep_lines.specs.Lines.{line};
 ghost use Rattle.cep_play.specs.Exchange.{loaded};
 ghost use Rattle.cep_play.specs.Command.{refusal_text};
 ghost use Rattle.cep_play.specs.Outside.{line_report};
-ghost use Rattle.cep_play.specs.Outcome.{report_of, IsFound, IsFoundIn, AsksFile};
+ghost use Rattle.cep_play.specs.Outcome.{report_of, IsFoundInText, IsFoundInFile, AsksFile};
 
 use crate::report::{Report, Status};
 use cep_base::limits::MOST_TEXT;
@@ -44,7 +44,7 @@ fn report_refusal(alloc: Global, refusal: Refusal) -> Result<Report, AllocError>
 
 /// The program that a text spells, or else the report of its refusal.
 pub(crate) fn program_of(alloc: Global, text: &[u8]) -> Result<Result<Program, Report>, AllocError>
-    ensures { IfOk result (IsFound text.now) }
+    ensures { IfOk result (IsFoundInText text.now) }
 {
     one_program();
     no_program_is_refused();
@@ -63,7 +63,7 @@ pub(crate) fn program_in<H: Shelf>(
     shelf: &mut H,
 ) -> Result<Result<Program, Report>, AllocError>
     ensures found { IfOk result
-        (IsFoundIn (loaded H.files H.asked H.faults shelf.old shelf.new) file.now) }
+        (IsFoundInFile (loaded H.files H.asked H.faults shelf.old shelf.new) file.now) }
     ensures asked { AsksFile (loaded H.files H.asked H.faults shelf.old shelf.new) file.now result }
     ensures files { H.files shelf.new ≡ H.files shelf.old }
 {

@@ -1,10 +1,6 @@
-use Rattle.std.proofs.Common.{◌≡◌, map, refl, lit<, inl, inr, ⊎_elim, subst, arith}
+use Rattle.std.proofs.Common.{map, refl, lit<, inl, inr, ⊎_elim, arith}
 use Rattle.std.specs.Prelude.{string_bytes}
-use Rattle.cep_base.specs.declared.console.ConsoleFault.{ConsoleFault}
-use Rattle.cep_play.specs.Exchange.{talked, loaded, Went}
-use Rattle.cep_play.specs.Answered.{AsksAsSaid, AsksAtMost}
-use Rattle.cep_play.specs.Begun.{BeginsWhatIsDue}
-use Rattle.cep_play.specs.Outcome.{InVain}
+use Rattle.cep_play.specs.Exchange.{talked, loaded}
 use Rattle.cep_play.proofs.Reported.{at_most}
 use Rattle.cep_play.proofs.Telling.{tells_what_is_due, tells_anyway, among_all, failed_by, fails_by, no_fault}
 use Rattle.cep_play.proofs.Begins.{prefixes_asked}

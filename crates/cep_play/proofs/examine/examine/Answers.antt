@@ -1,4 +1,3 @@
-use Rattle.std.proofs.lemmas.Result.{err_from_is_err_and}
 use Rattle.std.proofs.Common.{inl, ⊎_elim, inr}
 use Rattle.cep_base.proofs.Outcomes.{on_err}
 use Rattle.cep_play.specs.Exchange.{loaded}
