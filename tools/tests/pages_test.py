@@ -12,7 +12,7 @@ FENCE = re.compile(r"^```.*?^```$", re.DOTALL | re.MULTILINE)
 WORD = re.compile(r"`([A-Za-z_][\w:]*)`")
 
 # The pages whose words in backquotes are names of the code, of its definitions or of what a program writes.
-OF_CODE = ["README.md", "docs/MODEL.md", "docs/INSIDE.md", "docs/MAP.md", "docs/PROVED.md", "docs/PROOFS.md", "docs/LIMITS.md"]
+OF_CODE = ["README.md", "docs/MODEL.md", "docs/MAP.md", "docs/PROVED.md", "docs/PROOFS.md", "docs/LIMITS.md"]
 
 
 def pages():
