@@ -173,9 +173,10 @@ class Unasked(Folder):
 class Refused(Folder):
     def test_what_check_refuses_is_told_with_its_step(self):
         text = read(WORLDS, "apple.log")
+        missing = "NotContained have 0 need 1 apple"
         for other, said in [
-            (text.replace("step eat P=ben", "step eat P=ann"), "step 2: refused 13 NotContained have 0 need 1 apple ann"),
-            (text.replace("step sell P=ann Q=ben", "step sell P=ben Q=ann"), "step 1: refused 9 NotContained have 0 need 1 apple ben"),
+            (text.replace("eat P=ben\ne", "eat P=ann\ne"), f"step 2: refused 13 {missing} ann"),
+            (text.replace("step sell P=ann Q=ben", "step sell P=ben Q=ann"), f"step 1: refused 9 {missing} ben"),
             (text.replace("step eat P=ben", "step fly"), "step 2: refused 13 NoRule"),
             (text.replace("have 1 apple", "have 2 apple"), "step 0: refused 3 StartState said 2 is 1 apple ann"),
             (text[: text.index("end ")], "step 2: refused 14 NotEnded"),
@@ -194,12 +195,13 @@ class Refused(Folder):
         """A legal step is offered at the transcript's height, so a lower one is asked of."""
         with self.assertRaises(Differs) as caught:
             again([os.path.join(WORLDS, "castle.cep"), "height=1"], os.path.join(WORLDS, "castle.log"))
-        self.assertRegex(str(caught.exception), r"castle.log: step \d+: the transcript has .*, and the run does not offer it$")
-        replay = Replay([os.path.join(TOP, APPLE)], "x", ["sell P=ann Q=ben", "fly"])
+        said = r"step \d+: the transcript has [^,]*, and the run does not offer it$"
+        self.assertRegex(str(caught.exception), "castle.log: " + said)
+        replay = Replay([os.path.join(TOP, APPLE)], "x.log", ["sell P=ann Q=ben", "fly"])
         with self.assertRaises(Differs) as caught:
             replay.do()
         replay.close()
-        self.assertEqual(str(caught.exception), "x: step 2: the transcript has fly, and the run does not offer it")
+        self.assertRegex(str(caught.exception), "^x.log: " + said.replace("\\d+", "2").replace("[^,]*", "fly"))
 
     def test_the_step_of_a_line(self):
         text = read(WORLDS, "apple.log")
