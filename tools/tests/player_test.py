@@ -97,8 +97,8 @@ class Choices(Player):
         self.assertIn("   1  sell  ann, ben\n", shown.split("> ")[1])
         self.assertEqual(read(log), read(WORLDS, "apple.log"))
         saved = self.path("saved")
-        self.play(f"2\nsave {saved}\n", "--from", begun, "--log", begun)
-        self.assertEqual((read(begun), read(saved)), (read(log), "1\n2\n"))
+        self.play(f"save {saved}\n2\n", "--from", begun, "--log", begun)
+        self.assertEqual((read(begun), read(saved)), (read(log), "1\n"))
 
     def test_from_a_transcript_of_a_height_and_a_seed(self):
         for name, words in [("dungeon", []), ("tictactoe", ["seed=9"])]:
@@ -113,7 +113,7 @@ class Choices(Player):
         for words, said in [
             ([APPLE, "--from", begun], f"{begun}: step 2: refused 13 NotContained have 0 need 1 apple ann"),
             ([APPLE, "--from", "README.md"], "README.md: step 0: refused 1 Line"),
-            ([castle + ".cep", "height=1", "--from", castle + ".log"], "and the run does not offer it"),
+            ([castle + ".cep", "height=1", "--from", castle + ".log"], "and the run ends there by quiet"),
             ([APPLE, "--from", "none.log"], "No such file"),
         ]:
             with self.subTest(words=words):

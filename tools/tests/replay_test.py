@@ -6,7 +6,7 @@ import tempfile
 import unittest
 
 from setting import HUNDRED, ROUNDS, TOOLS, TOP, WORLDS, called, read, tool, typed_and_words, world_names
-from replaying import Differs, Replay, again, step_at
+from replaying import Differs, again, step_at
 
 APPLE, NIM, WALK = ("worlds/apple.cep", "worlds/nim.cep", "worlds/walk.cep")
 
@@ -18,6 +18,16 @@ stage yours = { take : b -o left. keep : c -o up. }
 over : qui * stage seeds -o stage yours.
 #interactive yours.
 #trace _ seeds { a, a }.
+"""
+
+
+# A choice between two, of which one is derived by two levels.
+HEIGHTS = """\
+t : type. a : t. b : t.
+p t : bwd. p a. p b <- p a.
+q : pred. r t : pred.
+stage m = { s : q * p X -o r X. }
+#interactive m. #trace _ m { q }.
 """
 
 
@@ -142,11 +152,11 @@ class Unasked(Folder):
     def test_a_choice_among_several_ways_out(self):
         text = (
             "a : pred. b : pred. c : pred.\nstage m = { s : a -o b. } stage n = {} stage o = {}\n"
-            "qui * stage m * b -o stage n.\nqui * stage m * b -o stage o * c.\n#trace _ m { a }.\n"
+            "qui * stage m * b -o stage n.\nqui * stage m * b -o stage o * c.\n#interactive m. #trace _ m { a }.\n"
         )
         world = self.written(text, "w.cep")
-        log = self.written(played(world, typed="2\n"))
-        self.assertEqual(called("replay", world, log), (0, "2\n", ""))
+        log = self.written(played(world, typed="1\n2\n"))
+        self.assertEqual(called("replay", world, log), (0, "1\n2\n", ""))
 
     def test_a_seed_that_draws_another_step(self):
         world = self.written(ROUND, "w.cep")
@@ -193,15 +203,13 @@ class Refused(Folder):
 
     def test_a_step_that_is_not_offered(self):
         """A legal step is offered at the transcript's height, so a lower one is asked of."""
+        world = self.written(HEIGHTS, "w.cep")
+        log = self.written(played(world, typed="2\n"))
+        self.assertEqual(called("replay", world, log), (0, "2\n", ""))
         with self.assertRaises(Differs) as caught:
-            again([os.path.join(WORLDS, "castle.cep"), "height=1"], os.path.join(WORLDS, "castle.log"))
-        said = r"step \d+: the transcript has [^,]*, and the run does not offer it$"
-        self.assertRegex(str(caught.exception), "castle.log: " + said)
-        replay = Replay([os.path.join(TOP, APPLE)], "x.log", ["sell P=ann Q=ben", "fly"])
-        with self.assertRaises(Differs) as caught:
-            replay.do()
-        replay.close()
-        self.assertRegex(str(caught.exception), "^x.log: " + said.replace("\\d+", "2").replace("[^,]*", "fly"))
+            again([world, "height=1"], log)
+        said = f"{log}: step 1: the transcript has s X=b, and the run does not offer it"
+        self.assertEqual(str(caught.exception), said)
 
     def test_the_step_of_a_line(self):
         text = read(WORLDS, "apple.log")
