@@ -36,8 +36,8 @@ unfoldable pub turns_line : ℤ → List ℕ
 turns_line start = line (codes "turns " ++ signed_decimal start)
 
 -- `no NAME RULE LEFT RIGHT`: this rule breaks the claim, by these sums
-unfoldable pub no_line : Parts → Weight → Against → List ℕ
-no_line program weight against =
+unfoldable pub broken_line : Parts → Weight → Against → List ℕ
+broken_line program weight against =
     line (codes "no " ++ (weight.name ++ (codes " " ++ (offer_name (slice_get program.rules against.rule)
     ++ (codes " " ++ (signed_decimal against.left ++ (codes " " ++ signed_decimal against.right)))))))
 
@@ -63,7 +63,7 @@ kept_text program weight =
 pub data IsJudgedAs (program : Parts) (weight : Weight) : List ℕ → Bool → Type 0 where
   kept : IsKept program weight.claim weight.sum → IsJudgedAs program weight (kept_text program weight) true
   broken : (against : Against) → IsFirstAgainst program weight.claim weight.sum against
-      → IsJudgedAs program weight (no_line program weight against) false
+      → IsJudgedAs program weight (broken_line program weight against) false
 
 -- What is written of claims, one after another, and whether all are kept.
 abbrev pub AreJudgedAs : Parts → List Weight → List ℕ → Bool → Type 0

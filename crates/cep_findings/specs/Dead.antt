@@ -26,9 +26,9 @@ dead_line program dead =
     ++ (codes " " ++ why_text program dead dead.why)))
 
 -- `dead N`: how many there are
-unfoldable pub count_line : ℕ → List ℕ
-count_line count = line (codes "dead " ++ decimal count)
+unfoldable pub dead_count_line : ℕ → List ℕ
+dead_count_line count = line (codes "dead " ++ decimal count)
 
 -- the lines of dead rules, and last their number
 abbrev pub dead_text : Parts → List DeadRule → List ℕ
-dead_text program deads = flat_map (dead_line program) deads ++ count_line (length deads)
+dead_text program deads = flat_map (dead_line program) deads ++ dead_count_line (length deads)

@@ -3,7 +3,7 @@ ghost use Rattle.std.specs.Prelude.{◌≡◌, ◌++◌, true, all, OnOk, IfOk};
 ghost use Rattle.std.specs.List.{AllByRecursion, flat_map};
 ghost use Rattle.std.specs.Int.Signed.{unsigned_abs};
 ghost use Rattle.cep_weigh.specs.Weights.{weight_of, IsWeightOf, ArePositive};
-ghost use Rattle.cep_findings.specs.Claims.{yes_line, bound_line, turns_line, no_line, bound_lines, following_lines, kept_text, is_positive, fault_line, fault_name, keep_fault_line, IsJudgedAs, AreJudgedAs};
+ghost use Rattle.cep_findings.specs.Claims.{yes_line, bound_line, turns_line, broken_line, bound_lines, following_lines, kept_text, is_positive, fault_line, fault_name, keep_fault_line, IsJudgedAs, AreJudgedAs};
 ghost use Rattle.cep_findings.specs.Putting.{IsPut};
 
 use crate::names::{pred_name, put_signed, rule_name};
@@ -145,14 +145,14 @@ fn put_bound(program: &Program, part: &Part, start: i64, out: &mut Text) -> Resu
 }
 
 // The line of a claim that a rule breaks.
-#[tactic(auto, using(std::proofs::Common::append_assoc), unfolding(crate::specs::Claims::no_line))]
+#[tactic(auto, using(std::proofs::Common::append_assoc), unfolding(crate::specs::Claims::broken_line))]
 fn put_broken(
     program: &Program,
     weight: &Weight,
     against: Against,
     out: &mut Text,
 ) -> Result<(), AllocError>
-    ensures { OnOk result (out.new ≡ out.old ++ no_line program.now weight.now against) }
+    ensures { OnOk result (out.new ≡ out.old ++ broken_line program.now weight.now against) }
 {
     out.append(b"no ")?;
     out.append(weight.name.bytes())?;

@@ -1,7 +1,7 @@
 // Lists dead rules.
 ghost use Rattle.std.specs.Prelude.{◌≡◌, ◌++◌, OnOk, IfOk};
 ghost use Rattle.std.specs.List.{flat_map};
-ghost use Rattle.cep_findings.specs.Dead.{why_text, dead_line, count_line, dead_text};
+ghost use Rattle.cep_findings.specs.Dead.{why_text, dead_line, dead_count_line, dead_text};
 
 use crate::names::{rule_name, stage_name, var_name};
 use cep_base::Text;
@@ -55,9 +55,9 @@ fn put_why(program: &Program, dead: &DeadRule, out: &mut Text) -> Result<(), All
 }
 
 // How many there are.
-#[tactic(auto, using(std::proofs::Common::append_assoc), unfolding(crate::specs::Dead::count_line))]
+#[tactic(auto, using(std::proofs::Common::append_assoc), unfolding(crate::specs::Dead::dead_count_line))]
 fn put_count(count: usize, out: &mut Text) -> Result<(), AllocError>
-    ensures { OnOk result (out.new ≡ out.old ++ count_line count) }
+    ensures { OnOk result (out.new ≡ out.old ++ dead_count_line count) }
 {
     out.append(b"dead ")?;
     out.number(count as u64)?;

@@ -9,7 +9,7 @@ use Rattle.cep_term.specs.Tree.{Tree, AtomTree}
 use Rattle.cep_term.specs.Multiset.{Multiset, IsContained}
 use Rattle.cep_rule.specs.declared.signature.Signature.{Signature}
 use Rattle.cep_rule.specs.declared.rule.Rule.{Rule}
-use Rattle.cep_rule.specs.declared.stage.Stage.{Stage}
+use Rattle.cep_rule.specs.declared.parts.Stage.{Stage}
 use Rattle.cep_rule.specs.declared.parts.Parts.{Parts}
 use Rattle.cep_rule.specs.declared.offer.Offer.{Offer}
 use Rattle.cep_rule.specs.Typing.{AreValues}
@@ -25,7 +25,7 @@ use Rattle.cep_log.specs.declared.log.LogStep.{LogStep}
 use Rattle.cep_log.specs.Legal.{IsLegalStep, AreLegalSteps}
 use Rattle.cep_run.specs.declared.settings.Settings.{Settings}
 use Rattle.cep_run.specs.Deciding.{IsPlayers}
-use Rattle.cep_replay.specs.Playing.{typed_for, Decision, by_player, alone, IsPosed, IsAnswered, AreAnswered, AreInteractive, HasFewOffers, HaveFewOffers}
+use Rattle.cep_replay.specs.Playing.{typed_for, Decision, by_player, alone, IsPosed, IsTypedFor, AreTypedFor, AreInteractive, HasFewOffers, HaveFewOffers}
 
 -- what is proved is derivable
 derivable : (program : Parts) (height : ℕ) (proofs : List ProofTree) (atoms : List AtomTree) → AreProofs program height proofs atoms → AllByRecursion (IsDerivable program height) atoms
@@ -101,11 +101,11 @@ module _ (known : Known) (program : Parts) (is : IsProgram program) (interactive
   one_of stage group (inl own) = inl own
   one_of stage group (inr leaving) = inr leaving.0
 
-  record IsAnsweredSo (old : Spot) (step : LogStep) (drawn : ℕ) : Type 0 where
+  record IsTypedSo (old : Spot) (step : LogStep) (drawn : ℕ) : Type 0 where
     typed : List ℕ
-    answer : IsAnswered program settings old step.offer drawn typed drawn
+    answer : IsTypedFor program settings old step.offer drawn typed drawn
 
-  answer_there : (old new : Spot) (step : LogStep) (drawn : ℕ) → IsState program.signature old.state → IsLegalStep program settings.height old new step → HasFewOffers program settings.height old → IsAnsweredSo old step drawn
+  answer_there : (old new : Spot) (step : LogStep) (drawn : ℕ) → IsState program.signature old.state → IsLegalStep program settings.height old new step → HasFewOffers program settings.height old → IsTypedSo old step drawn
   answer_there old new step drawn state legal few = record {
     typed = decision.typed;
     answer = record {
@@ -140,12 +140,12 @@ module _ (known : Known) (program : Parts) (is : IsProgram program) (interactive
       decision = decided old.stage group (length offers.0) (found.0 + 1) drawn (in_stage old.stage group low at) at (let within = slice_get_within offers.0 found.0 step.offer found.1 in omega (arith, within))
 
   pub answered_there : (steps : List LogStep) (old last : Spot) (drawn : ℕ) → IsState program.signature old.state → AreLegalSteps program settings.height steps old last → HaveFewOffers program settings.height old steps
-      → (typed : List ℕ) × (end : Spot) × AreAnswered program settings old steps drawn typed end
-  answered_there [] old last drawn state legal few = ([], old, refl, refl)
+      → (typed : List ℕ) × (end : Spot) × AreTypedFor program settings old steps drawn typed end
+  answered_there [] old last drawn state legal few = ([], old, (refl, refl))
   answered_there (step ∷ steps) old last drawn state (new, legal, later) few =
       let first = answer_there old new step drawn state legal few.0 in
       let others = answered_there steps new last drawn (state_after old new step state legal) later (few.1 new legal) in
-      (first.typed ++ others.0, others.1, new, first.typed, others.0, drawn, legal, first.answer, others.2, refl)
+      (first.typed ++ others.0, others.1, (new, first.typed, others.0, drawn, legal, first.answer, others.2, refl))
     where
       state_after : (old new : Spot) (step : LogStep) → IsState program.signature old.state → IsLegalStep program settings.height old new step → IsState program.signature new.state
       state_after old new step state legal =

@@ -1,5 +1,5 @@
 -- A legal log is played by typing what answers its steps.
-use Rattle.std.proofs.Common.{◌≡◌, ℕ, ◌+◌, ◌-◌, ◌<◌, ◌≤◌, List, [], ◌∷◌, ◌++◌, length, inl, inr, refl, sym, ap, ◌∙◌, subst, arith, Option, None, Some, IsSomeAnd, slice_get}
+use Rattle.std.proofs.Common.{◌≡◌, ◌≢◌, ℕ, ◌+◌, ◌-◌, ◌<◌, ◌≤◌, List, [], ◌∷◌, ◌++◌, length, inl, inr, refl, sym, ap, ◌∙◌, subst, arith, Option, None, Some, IsSomeAnd, slice_get}
 use Rattle.std.specs.Prelude.{decimal, map}
 use Rattle.std.specs.List.{AllByRecursion, AllZip}
 use Rattle.std.specs.FinMap as finite
@@ -37,13 +37,20 @@ use Rattle.cep_run.specs.Choice.{Hears, chosen, no_more, room_after}
 use Rattle.cep_run.specs.Deciding.{Supply, How, Heard, Lone, Drawn, Decides}
 use Rattle.cep_run.specs.Run.{Question, Turn, Ending, IsQuestion, IsTurn, AreTurns, EndsAt, quiet_end, turns_end, input_end, Run, whole_supply, deeds_of, unproved}
 use Rattle.cep_run.specs.Dialogue.{Dialogue, events_of}
-use Rattle.cep_replay.specs.Playing.{typed_for, Decision, by_player, alone, by_seed, IsPosed, IsAnswered, AreAnswered, CanEnd, CanBePlayed, IsPlayed}
+use Rattle.cep_replay.specs.Playing.{typed_for, Decision, by_player, alone, by_seed, IsPosed, IsTypedFor, AreTypedFor, CanEnd, CanBePlayed, IsReplayed}
 
 -- Decisions
 
 -- no LF stands in a line
 unbroken_line : (bytes : List ℕ) → IsOneLine bytes → IsUnbroken bytes
 unbroken_line bytes is = all_weaker (λ byte. (byte ≢ 10) × (byte ≢ 13)) (λ byte. byte ≢ 10) bytes (λ byte both. both.0) is
+
+-- a supply by its parts
+abbrev supply : List ℕ → ℕ → ℕ → Supply
+supply come taken drawn = record { come = come; taken = taken; drawn = drawn }
+
+same_supply : (come come' : List ℕ) (taken taken' drawn drawn' : ℕ) → come ≡ come' → taken ≡ taken' → drawn ≡ drawn' → supply come taken drawn ≡ supply come' taken' drawn'
+same_supply come come' taken taken' drawn drawn' here there more = rw (here, there, more) refl
 
 -- what was decided of a place: how, with the supply that it leaves
 record IsSettled (program : Parts) (seed stage group n place : ℕ) (from to : Supply) : Type 0 where
@@ -80,11 +87,11 @@ module _ (numbers : (number : ℕ) → IsOneLine (decimal number)) (program : Pa
       })
   settled typed drawn' room (alone nobody one none same) = record {
     how = Lone;
-    decides = (nobody, one, (ap Place (let few = one in omega (arith, some, within, few))), (rw (none, same) arith));
+    decides = (nobody, one, (ap Place (omega (arith, some, within, one))), same_supply others (typed ++ others) (taken + length typed) taken drawn' drawn (rw none refl) (let size = ap length none in omega (arith, size)) same);
   }
   settled typed drawn' room (by_seed nobody several is none more) = record {
     how = Drawn;
-    decides = (nobody, several, (ap Place is), (rw (none, more) arith));
+    decides = (nobody, several, (ap Place is), same_supply others (typed ++ others) (taken + length typed) taken drawn' (drawn + 1) (rw none refl) (let size = ap length none in omega (arith, size)) more);
   }
 
 -- Turns
@@ -99,7 +106,7 @@ turn_by at new rule step group offers place how left = record {
 
 module _ (numbers : (number : ℕ) → IsOneLine (decimal number)) (program : Parts) (settings : Settings) where
   turn_is : (at : Position) (step : LogStep) (new : Spot) (legal : IsLegalStep program settings.height at.spot new step) (from to : Supply) (drawn drawn' : ℕ) (typed : List ℕ)
-      (answer : IsAnswered program settings at.spot step.offer drawn typed drawn') → at.turns < settings.limit
+      (answer : IsTypedFor program settings at.spot step.offer drawn typed drawn') → at.turns < settings.limit
       → (settled_so : IsSettled program settings.seed at.spot.stage answer.group (length answer.offers) (answer.place + 1) from to)
       → IsTurn program settings at from (turn_by at new legal.rule step answer.group answer.offers answer.place settled_so.how to)
   turn_is at step new legal from to drawn drawn' typed answer remain settled_so = record {
@@ -121,9 +128,33 @@ module _ (numbers : (number : ℕ) → IsOneLine (decimal number)) (program : Pa
     pub none : left.come ≡ []
     pub taken_is : left.taken ≡ taken + length typed
 
+  one_more_turn : (at : Position) (step : LogStep) (steps : List LogStep) (new last : Spot) (first others : List ℕ) (taken drawn drawn' : ℕ)
+      → at.turns < settings.limit → taken + length (first ++ others) ≤ MOST_TYPED
+      → IsLegalStep program settings.height at.spot new step
+      → IsTypedFor program settings at.spot step.offer drawn first drawn'
+      → HaveTurns (record { spot = new; turns = at.turns + 1 }) steps last (taken + length first) drawn' others
+      → HaveTurns at (step ∷ steps) last taken drawn (first ++ others)
+  one_more_turn at step steps new last first others taken drawn drawn' remain fits legal answer rest =
+      let within = slice_get_within answer.offers answer.place step.offer answer.there in
+      let sizes = length-append first others in
+      let from : Supply = supply (first ++ others) taken drawn in
+      let to : Supply = supply others (taken + length first) drawn' in
+      let settled_so = settled numbers program settings.seed at.spot.stage answer.group (length answer.offers) (answer.place + 1) (omega arith) (omega (arith, within)) others taken drawn first drawn' fits answer.decided in
+      record {
+        turns = turn_by at new legal.rule step answer.group answer.offers answer.place settled_so.how to ∷ rest.turns;
+        to = rest.to;
+        left = rest.left;
+        done = (turn_is at step new legal from to drawn drawn' first answer remain settled_so, rest.done);
+        hold = (record { offer = refl; proofs = refl; stage = legal.stage; mid = legal.mid }, rest.hold);
+        spot = rest.spot;
+        counted = (let later = rest.counted in omega (arith, later));
+        none = rest.none;
+        taken_is = (let later = rest.taken_is in omega (arith, later, sizes));
+      }
+
   pub turns_there : (at : Position) (steps : List LogStep) (last : Spot) (typed : List ℕ) (taken drawn : ℕ)
       → at.turns + length steps ≤ settings.limit → taken + length typed ≤ MOST_TYPED
-      → AreAnswered program settings at.spot steps drawn typed last
+      → AreTypedFor program settings at.spot steps drawn typed last
       → HaveTurns at steps last taken drawn typed
   turns_there at [] last typed taken drawn few room answered = record {
     turns = [];
@@ -137,34 +168,11 @@ module _ (numbers : (number : ℕ) → IsOneLine (decimal number)) (program : Pa
     taken_is = (let size = ap length answered.0 in omega (arith, size));
   }
   turns_there at (step ∷ steps) last typed taken drawn few room (new, first, others, drawn', legal, answer, later, whole) =
-      subst (HaveTurns at (step ∷ steps) last taken drawn) (sym whole) all
-    where
-      fits : taken + length (first ++ others) ≤ MOST_TYPED
-      fits = subst (λ (typed : List ℕ). taken + length typed ≤ MOST_TYPED) whole room
-
-      sizes : length (first ++ others) ≡ length first + length others
-      sizes = length-append first others
-
-      settled_so : IsSettled program settings.seed at.spot.stage answer.group (length answer.offers) (answer.place + 1) (record { come = first ++ others; taken = taken; drawn = drawn }) (record { come = others; taken = taken + length first; drawn = drawn' })
-      settled_so =
-          let within = slice_get_within answer.offers answer.place step.offer answer.there in
-          settled numbers program settings.seed at.spot.stage answer.group (length answer.offers) (answer.place + 1) (omega arith) (omega (arith, within)) others taken drawn first drawn' fits answer.decided
-
-      rest : HaveTurns (record { spot = new; turns = at.turns + 1 }) steps last (taken + length first) drawn' others
-      rest = turns_there (record { spot = new; turns = at.turns + 1 }) steps last others (taken + length first) drawn' (omega (arith, few)) (omega (arith, fits, sizes)) later
-
-      all : HaveTurns at (step ∷ steps) last taken drawn (first ++ others)
-      all = record {
-        turns = turn_by at new legal.rule step answer.group answer.offers answer.place settled_so.how (record { come = others; taken = taken + length first; drawn = drawn' }) ∷ rest.turns;
-        to = rest.to;
-        left = rest.left;
-        done = (turn_is at step new legal (record { come = first ++ others; taken = taken; drawn = drawn }) (record { come = others; taken = taken + length first; drawn = drawn' }) drawn drawn' first answer (omega (arith, few)) settled_so, rest.done);
-        hold = (record { offer = refl; proofs = refl; stage = legal.stage; mid = legal.mid }, rest.hold);
-        spot = rest.spot;
-        counted = (let later = rest.counted in omega (arith, later));
-        none = rest.none;
-        taken_is = (let later = rest.taken_is in omega (arith, later, sizes));
-      }
+      let fits : taken + length (first ++ others) ≤ MOST_TYPED = subst (λ (typed : List ℕ). taken + length typed ≤ MOST_TYPED) whole room in
+      let sizes = length-append first others in
+      let after : Position = record { spot = new; turns = at.turns + 1 } in
+      let rest = turns_there after steps last others (taken + length first) drawn' (omega (arith, few)) (omega (arith, fits, sizes)) later in
+      subst (HaveTurns at (step ∷ steps) last taken drawn) (sym whole) (one_more_turn at step steps new last first others taken drawn drawn' (omega (arith, few)) fits legal answer rest)
 
 -- One last spot
 
@@ -178,10 +186,10 @@ module _ (lead : LeadToOne) (program : Parts) (settings : Settings) where
       let same : is.rule ≡ is'.rule = cc (is.machine.numbered, is'.machine.numbered) in
       let stages : one.stage ≡ other.stage = is.machine.steps.stage ∙ (ap (λ (rule : Rule). stage_after rule old.stage) same ∙ sym is'.machine.steps.stage) in
       let states : one.state ≡ other.state = lead program.signature is'.rule step.offer.values old.state one.state other.state
-          (subst (λ (rule : Rule). Step program.signature rule step.offer.values old.state one.state) same is.machine.steps.step) is'.machine.steps.step in
+      (subst (λ (rule : Rule). Step program.signature rule step.offer.values old.state one.state) same is.machine.steps.step) is'.machine.steps.step in
       rw (stages, states) refl
 
-  pub one_last : (steps : List LogStep) (old one other : Spot) (drawn : ℕ) (typed : List ℕ) → AreLegalSteps program settings.height steps old one → AreAnswered program settings old steps drawn typed other → one ≡ other
+  pub one_last : (steps : List LogStep) (old one other : Spot) (drawn : ℕ) (typed : List ℕ) → AreLegalSteps program settings.height steps old one → AreTypedFor program settings old steps drawn typed other → one ≡ other
   one_last [] old one other drawn typed legal answered = legal ∙ sym answered.1
   one_last (step ∷ steps) old one other drawn typed (next, legal, later) (new, first, others, drawn', legal', answer, answered, whole) =
       one_last steps new one other drawn' others (subst (λ (next : Spot). AreLegalSteps program settings.height steps next one) (one_spot old next new step legal legal') later) answered
@@ -204,8 +212,8 @@ module _ (program : Parts) (settings : Settings) (at : Position) (from : Supply)
   end_there Quiet turns typed counted taken can quiet = record { asked = None; to = from; ends = quiet_end (quiet refl) refl }
   end_there Input turns typed counted taken (asked, remain, room) quiet =
       let posed = asked.posed in
-      let question = record { group = asked.group; offers = asked.offers; how = Heard (End ∷ []); choice = NoMore } in
-      let to = record { come = []; taken = from.taken; drawn = from.drawn } in
+      let question : Question = record { group = asked.group; offers = asked.offers; how = Heard (End ∷ []); choice = NoMore } in
+      let to : Supply = record { come = []; taken = from.taken; drawn = from.drawn } in
       record {
         asked = Some question;
         to = to;
@@ -217,7 +225,7 @@ module _ (program : Parts) (settings : Settings) (at : Position) (from : Supply)
           decided = (asked.players, hears_none (length asked.offers) (omega (arith, room, taken)), refl);
         }) refl;
       }
-  end_there Turns turns typed counted taken (all, group, asked) quiet = record { asked = None; to = from; ends = turns_end asked (counted ∙ all) refl }
+  end_there Turns turns typed counted taken (all, some) quiet = record { asked = None; to = from; ends = turns_end some.1 (counted ∙ all) refl }
   end_there Offers turns typed counted taken can quiet = absurd can
   end_there Typed turns typed counted taken can quiet = absurd can
   end_there Atom turns typed counted taken can quiet = absurd can
@@ -228,15 +236,15 @@ both_of : {P Q : LogEnd → Type 0} (found : Option LogEnd) → IsSomeAnd found 
 both_of None is is' = absurd is
 both_of (Some end) is is' = (end, refl, is, is')
 
-end_held : (found : Option LogEnd) (end : LogEnd) {P : LogEnd → Type 0} → found ≡ Some end → P end → IsSomeAnd found P
-end_held found end {P} same is = subst (λ (found : Option LogEnd). IsSomeAnd found P) (sym same) is
+end_held : (P : LogEnd → Type 0) (found : Option LogEnd) (end : LogEnd) → found ≡ Some end → P end → IsSomeAnd found P
+end_held P found end same is = subst (λ (found : Option LogEnd). IsSomeAnd found P) (sym same) is
 
 -- The log is played
 
 module _ (numbers : (number : ℕ) → IsOneLine (decimal number)) (lead : LeadToOne) (program : Parts) (settings : Settings) (log : Log) (typed : List ℕ)
     (one : (turns turns' : List Turn) (ending ending' : Ending) (events events' : List Event) (rest rest' : List ℕ) → Dialogue program settings typed turns ending events rest → Dialogue program settings typed turns' ending' events' rest'
     → (map unproved turns ≡ map unproved turns') × (ending ≡ ending') × (rest ≡ rest')) where
-  pub played : IsLegal program log → CanBePlayed program settings log typed → IsPlayed program settings log typed
+  pub played : IsLegal program log → CanBePlayed program settings log typed → IsReplayed program settings log typed
   played legal can = record {
     turns = have.turns;
     ending = ending;
@@ -249,7 +257,7 @@ module _ (numbers : (number : ℕ) → IsOneLine (decimal number)) (lead : LeadT
       start = legal.start;
       steps = have.hold;
       listed = legal.of_program.listed;
-      ended = end_held log.end end.0 end.1 (record { word_is = refl; state_is = end.2.state ∙ ap (λ (spot : Spot). finite.entries spot.state) (sym here) });
+      ended = end_held (HoldsEnd end.0.word have.to.spot.state) log.end end.0 end.1 (record { word_is = refl; state_is = end.2.state ∙ ap (λ (spot : Spot). finite.entries spot.state) (sym here) });
     };
     only = λ others ended said left is. one others have.turns ended ending said (outs (header program settings.height) ++ events_of program have.turns ending) left found.to.come is dialogue;
   }

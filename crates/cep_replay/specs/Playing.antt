@@ -41,15 +41,16 @@ pub data Decision (program : Parts) (seed stage group n place drawn : ℕ) : Lis
       → place ≡ place_drawn seed drawn n → typed ≡ [] → drawn' ≡ drawn + 1
       → Decision program seed stage group n place drawn typed drawn'
 
--- The offers that a spot asks about, and of which a run asks: they are not too many.
+-- A group is asked at a spot, these are its offers, and they are not too many for a run.
 pub record IsPosed (program : Parts) (height : ℕ) (spot : Spot) (group : ℕ) (offers : List Offer)
     : Type 0 where
   pub asked : IsAsked program height spot.state spot.stage group
   pub are : AreOffers program height spot.state group offers
   pub few : length offers ≤ MOST_OFFERS
 
--- An offer is done at a spot: it stands at a place among those that are asked about, and is decided on.
-pub record IsAnswered (program : Parts) (settings : Settings) (spot : Spot) (offer : Offer)
+-- These bytes are typed for an offer at a spot: it stands at a place among those that are asked
+-- about, and is decided on by them.
+pub record IsTypedFor (program : Parts) (settings : Settings) (spot : Spot) (offer : Offer)
     (drawn : ℕ) (typed : List ℕ) (drawn' : ℕ) : Type 0 where
   pub group : ℕ
   pub offers : List Offer
@@ -61,13 +62,13 @@ pub record IsAnswered (program : Parts) (settings : Settings) (spot : Spot) (off
 
 -- These bytes are typed for steps that are legal one after another, from a spot to the last one: the
 -- bytes of each, in order.
-abbrev pub AreAnswered : Parts → Settings → Spot → List LogStep → ℕ → List ℕ → Spot → Type 0
-AreAnswered program settings spot [] drawn typed last = (typed ≡ []) × (last ≡ spot)
-AreAnswered program settings spot (step ∷ steps) drawn typed last =
+abbrev pub AreTypedFor : Parts → Settings → Spot → List LogStep → ℕ → List ℕ → Spot → Type 0
+AreTypedFor program settings spot [] drawn typed last = (typed ≡ []) × (last ≡ spot)
+AreTypedFor program settings spot (step ∷ steps) drawn typed last =
     (new : Spot) × (first others : List ℕ) × (drawn' : ℕ)
     × IsLegalStep program settings.height spot new step
-    × IsAnswered program settings spot step.offer drawn first drawn'
-    × AreAnswered program settings new steps drawn' others last
+    × IsTypedFor program settings spot step.offer drawn first drawn'
+    × AreTypedFor program settings new steps drawn' others last
     × (typed ≡ first ++ others)
 
 -- The player is asked at a spot.
@@ -77,8 +78,9 @@ pub record IsPlayerAsked (program : Parts) (height : ℕ) (spot : Spot) : Type 0
   pub posed : IsPosed program height spot group offers
   pub players : IsPlayers program spot.stage group (length offers)
 
--- A run can end so at a spot, after so many turns and so many bytes typed: in quiet; for want of
--- input, where the player is asked and may type more; or since all turns are done and a group is asked.
+-- A run can end so at a spot, after so many turns and so many bytes typed: in quiet; at the end of
+-- what is typed, where the player is asked and may type more; or when all turns are done, where a
+-- group is asked.
 abbrev pub CanEnd : Parts → Settings → Spot → (turns typed : ℕ) → EndWord → Type 0
 CanEnd program settings last turns typed Quiet = Unit {0}
 CanEnd program settings last turns typed Input =
@@ -99,13 +101,13 @@ pub record CanBePlayed (program : Parts) (settings : Settings) (log : Log) (type
   pub turns : length log.steps ≤ settings.limit
   pub few : length typed ≤ MOST_TYPED
   pub last : Spot
-  pub answered : AreAnswered program settings (start_spot program) log.steps 0 typed last
+  pub answered : AreTypedFor program settings (start_spot program) log.steps 0 typed last
   pub ended : IsSomeAnd log.end (λ end.
       CanEnd program settings last (length log.steps) (length typed) end.word)
 
 -- A log is played by typing these bytes: some dialogue does what the log says, and each dialogue in
 -- which they are typed does the same, up to the derivations.
-pub record IsPlayed (program : Parts) (settings : Settings) (log : Log) (typed : List ℕ)
+pub record IsReplayed (program : Parts) (settings : Settings) (log : Log) (typed : List ℕ)
     : Type 0 where
   pub turns : List Turn
   pub ending : Ending

@@ -8,7 +8,11 @@ ghost use Rattle.cep_log.specs.declared.log.Log.{Log};
 ghost use Rattle.cep_log.specs.Legal.{start_spot, IsLegal};
 ghost use Rattle.cep_run.specs.declared.settings.Settings.{Settings};
 ghost use Rattle.cep_replay.specs.Playing.{
-    AreAnswered, CanBePlayed, IsPlayed, AreInteractive, HaveFewOffers,
+  AreTypedFor,
+  CanBePlayed,
+  IsReplayed,
+  AreInteractive,
+  HaveFewOffers,
 };
 
 use cep_log::laws::lines_are_read_as_written;
@@ -23,7 +27,7 @@ pub fn legal_logs_can_be_played()
     ensures { (program : Parts) (settings : Settings) (log : Log) (typed : List ℕ)
         → IsLegal program log
         → CanBePlayed program settings log typed
-        → IsPlayed program settings log typed }
+        → IsReplayed program settings log typed }
 {
     lines_are_read_as_written();
     one_state_after_a_step();
@@ -40,7 +44,7 @@ pub fn interactive_logs_are_answered()
         → settings.height ≡ log.height
         → HaveFewOffers program log.height (start_spot program) log.steps
         → (typed : List ℕ) × (last : Spot)
-        × AreAnswered program settings (start_spot program) log.steps 0 typed last }
+        × AreTypedFor program settings (start_spot program) log.steps 0 typed last }
 {
     offers_are_there();
     steps_lead_to_states();
