@@ -1,1 +1,3 @@
 pub mod Orders
+pub mod Flags
+pub mod Counts

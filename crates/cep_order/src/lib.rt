@@ -5,6 +5,7 @@
 #![tactic(auto)]
 
 mod ordering;
+mod ready;
 mod step_cause;
 
 pub use ordering::order_by;

@@ -1,0 +1,2 @@
+mod Flagging
+mod Trees
