@@ -1,2 +1,5 @@
 mod Flagging
 mod Trees
+mod Times
+mod Linking
+mod Releasing

@@ -111,7 +111,7 @@ module _ (flags : List Bool) (counts : List ℕ) (height k : ℕ) (tree : IsTree
         record { before = omega (arith, down.before, first, passed); within = omega (arith, down.within, sums) }
 
 -- Where nothing is set each node counts none.
-nothing_at : (n i : ℕ) → ◌≡◌ {A = ℕ} (get_or (replicate n 0) i 0) 0
+pub nothing_at : (n i : ℕ) → ◌≡◌ {A = ℕ} (get_or (replicate n 0) i 0) 0
 nothing_at n i =
     let none : ℕ = 0 in
     ⊎_elim (λ less. get_or-replicate n i none none less) (λ past. get_or_past (replicate n none) i none (omega (arith, length-replicate n none))) (cases_lt i n)

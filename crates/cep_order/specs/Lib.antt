@@ -1,3 +1,4 @@
 pub mod Orders
 pub mod Flags
 pub mod Counts
+pub mod Waits

@@ -7,6 +7,7 @@
 mod ordering;
 mod ready;
 mod step_cause;
+mod waits;
 
 pub use ordering::order_by;
 pub use step_cause::{Numbers, StepCause, StepCauses};
