@@ -2,3 +2,4 @@ pub mod Orders
 pub mod Flags
 pub mod Counts
 pub mod Waits
+pub mod Taking
