@@ -3,3 +3,7 @@ mod Trees
 mod Times
 mod Linking
 mod Releasing
+mod Parts
+mod Listed
+mod Untaken
+mod SoFar

@@ -11,7 +11,7 @@ use Rattle.cep_order.proofs.Times.{once_more, no_more, once_more_last, no_more_l
 use Rattle.cep_order.proofs.Trees.{nothing_at}
 
 -- what stands at a place
-found : {A : Type 0} (xs : List A) (n : ℕ) → n < length xs → (x : A) × (slice_get xs n ≡ Some x)
+pub found : {A : Type 0} (xs : List A) (n : ℕ) → n < length xs → (x : A) × (slice_get xs n ≡ Some x)
 found [] n less = absurd (omega arith)
 found (x ∷ xs) zero less = (x, refl)
 found (x ∷ xs) (suc n) less = found xs n (omega arith)

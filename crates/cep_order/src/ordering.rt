@@ -67,6 +67,7 @@ fn part_end(causes: &[StepCause], from: usize) -> usize
 
 // The steps of a part that wait for no other are ready.
 fn make_ready(waits: &Waits, from: usize, end: usize, ready: &mut Ready)
+    requires range { from ≤ end }
     requires within { end ≤ length waits.now.left.items }
     requires room { length ready.old ≡ length waits.now.left.items }
     requires apart { (step : ℕ) → from ≤ step → slice_index_or ready.old step false ≡ false }
