@@ -7,3 +7,4 @@ mod Parts
 mod Listed
 mod Untaken
 mod SoFar
+mod OneMore

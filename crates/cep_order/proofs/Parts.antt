@@ -8,19 +8,15 @@ use Rattle.cep_order.specs.declared.step_cause.StepCause.{StepCause}
 use Rattle.cep_order.specs.Waits.{entries_of, entry_at}
 use Rattle.cep_order.specs.Taking.{IsBarrierAt}
 
--- what is read at a place stands there
-pub stands_at : (causes : List StepCause) (place : ℕ) (cause : StepCause) → place < length causes → cause ≡ get_or causes place cause → slice_get causes place ≡ Some cause
-stands_at causes place cause within read = slice_get-get_or causes place cause within ∙ ap Some (sym read)
-
-pub barrier_read : (causes : List StepCause) (place : ℕ) (cause : StepCause) → slice_get causes place ≡ Some cause → IsBarrierAt causes place → cause.barrier ≡ true
+barrier_read : (causes : List StepCause) (place : ℕ) (cause : StepCause) → slice_get causes place ≡ Some cause → IsBarrierAt causes place → cause.barrier ≡ true
 barrier_read causes place cause there barrier = ap (λ (c : StepCause). c.barrier) (some_same cause barrier.0 (sym there ∙ barrier.1)) ∙ barrier.2
 
-pub no_barrier : (causes : List StepCause) (place other : ℕ) (cause : StepCause) → place < length causes → cause ≡ get_or causes place cause → cause.barrier ≡ false → other ≡ place → IsBarrierAt causes other → ⊥
-no_barrier causes place other cause within read none same barrier =
-    false≢true (sym none ∙ barrier_read causes place cause (stands_at causes place cause within read) (subst (λ n. IsBarrierAt causes n) same barrier))
+pub no_barrier : (causes : List StepCause) (place other : ℕ) (cause : StepCause) → place < length causes → (get_or causes place cause).barrier ≡ false → other ≡ place → IsBarrierAt causes other → ⊥
+no_barrier causes place other cause within none same barrier =
+    false≢true (sym none ∙ barrier_read causes place (get_or causes place cause) (slice_get-get_or causes place cause within) (subst (λ n. IsBarrierAt causes n) same barrier))
 
-pub barrier_there : (causes : List StepCause) (place : ℕ) (cause : StepCause) → place < length causes → cause ≡ get_or causes place cause → cause.barrier ≡ true → IsBarrierAt causes place
-barrier_there causes place cause within read is = (cause, stands_at causes place cause within read, is)
+pub barrier_there : (causes : List StepCause) (place : ℕ) (cause : StepCause) → place < length causes → (get_or causes place cause).barrier ≡ true → IsBarrierAt causes place
+barrier_there causes place cause within is = (get_or causes place cause, slice_get-get_or causes place cause within, is)
 
 -- the entry of a step
 pub entry_is : (causes : List StepCause) (place : ℕ) (cause : StepCause) → slice_get causes place ≡ Some cause → entry_at (entries_of causes) place ≡ cause.after

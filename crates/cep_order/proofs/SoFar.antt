@@ -27,7 +27,7 @@ on_or_off true = inl refl
 on_or_off false = inr refl
 
 module _ (seed : ℕ) (causes : List StepCause) (earlier : NamesEarlier causes) (waits : Waits) (flags : List Bool) (draw : Lcg) (order : List ℕ) (end : ℕ) (is : IsSoFar seed causes waits flags draw order end) where
-  was_taken : (place : ℕ) → Contains is.taken place → 0 < times (place + 1) order
+  pub was_taken : (place : ℕ) → Contains is.taken place → 0 < times (place + 1) order
   was_taken place there = omega (arith, some_times place is.taken there, times_of_places is.taken place, ap (times (place + 1)) is.numbers)
 
   is_taken : (place : ℕ) → 0 < times (place + 1) order → Contains is.taken place
@@ -47,7 +47,7 @@ module _ (seed : ℕ) (causes : List StepCause) (earlier : NamesEarlier causes) 
 
   -- A step that is flagged is ready.
   module _ (place : ℕ) (on : get_or flags place false ≡ true) where
-    known : (place < end) × (times (place + 1) order ≡ 0) × (get_or waits.left.items place 0 ≡ 0)
+    pub known : (place < end) × (times (place + 1) order ≡ 0) × (get_or waits.left.items place 0 ≡ 0)
     known = (is.ready place).0 on
 
     from_on : is.from ≤ place
