@@ -1,9 +1,9 @@
 -- One more step is taken, one more part is begun, and the end.
-use Rattle.std.proofs.Common.{◌≡◌, ◌≢◌, ◌↔◌, ◌⊎◌, inl, inr, ⊎_elim, ℕ, zero, suc, ◌+◌, ◌-◌, ◌<◌, ◌≤◌, Bool, true, false, List, [], ◌∷◌, ◌++◌, length, map, get_or, set, Some, refl, sym, ap, ◌∙◌, subst, arith, Contains, append_assoc, append-nil, length-set}
+use Rattle.std.proofs.Common.{◌≡◌, ◌≢◌, ◌↔◌, ◌⊎◌, inl, inr, ⊎_elim, ℕ, zero, suc, ◌+◌, ◌-◌, ◌<◌, ◌≤◌, Bool, true, false, List, [], ◌∷◌, ◌++◌, length, map, get_or, set, replicate, Some, refl, sym, ap, ◌∙◌, subst, arith, Contains, append_assoc, append-nil, length-set}
 use Rattle.std.specs.Prelude.{slice_get}
 use Rattle.std.specs.List.{AllPairs}
 use Rattle.std.proofs.lemmas.Bool.{cases_lt, cases_eq, false≢true}
-use Rattle.std.proofs.lemmas.List.{get_or-set_same, get_or-set_other, get_or_past, map-append, length-map}
+use Rattle.std.proofs.lemmas.List.{get_or-set_same, get_or-set_other, get_or_past, map-append, length-map, get_or-replicate, length-replicate}
 use Rattle.std.proofs.lemmas.List.Elements.{Contains-get_or}
 use Rattle.std.proofs.lemmas.List.Quantifiers.{all_pairs_push}
 use Rattle.rand_pcg.specs.Lcg.{Lcg}
@@ -14,13 +14,13 @@ use Rattle.cep_order.specs.declared.waits.Link.{Link}
 use Rattle.cep_order.specs.declared.waits.Waits.{Waits}
 use Rattle.cep_order.specs.Flags.{places_of}
 use Rattle.cep_order.specs.Orders.{NamesEarlier, IsReadyIn, IsTaken, AreTaken, IsOrderBy, IsEachOnce}
-use Rattle.cep_order.specs.Waits.{times, entries_of, entry_at, waiters_of, AreLinksFor, CanRelease, IsReleased}
+use Rattle.cep_order.specs.Waits.{times, entries_of, entry_at, waiters_of, AreLinksFor, AreWaitsOf, CanRelease, IsReleased}
 use Rattle.cep_order.specs.Taking.{IsPart, untaken, IsSoFar}
 use Rattle.cep_order.proofs.Flagging.{on_within}
 use Rattle.cep_order.proofs.Listed.{listed, set_there}
 use Rattle.cep_order.proofs.SoFar.{was_taken, known, are_ready, all_taken}
 use Rattle.cep_order.proofs.Times.{some_times, stands_there, once_more_last, no_more_last}
-use Rattle.cep_order.proofs.Untaken.{untaken_push, times_of_places}
+use Rattle.cep_order.proofs.Untaken.{untaken_push, untaken_at_first, times_of_places}
 
 on_or_off : (flag : Bool) → (flag ≡ true) ⊎ (flag ≡ false)
 on_or_off true = inl refl
@@ -225,3 +225,38 @@ module _ (seed : ℕ) (causes : List StepCause) (earlier : NamesEarlier causes) 
         );
         once = is.once;
       }
+
+-- No step is taken.
+left_at : (entries : List (List ℕ)) (step : ℕ) → get_or (map length entries) step 0 ≡ length (entry_at entries step)
+left_at [] step = refl
+left_at (entry ∷ entries) zero = refl
+left_at (entry ∷ entries) (suc step) = left_at entries step
+
+all_off : (n step : ℕ) → get_or (replicate n false) step false ≡ false
+all_off n step = ⊎_elim (λ less. get_or-replicate n step false false less) (λ past. get_or_past (replicate n false) step false (omega (arith, length-replicate n false))) (cases_lt step n)
+
+pub none_taken : (seed : ℕ) (causes : List StepCause) (waits : Waits) (flags : List Bool) (draw : Lcg) (order : List ℕ) → AreWaitsOf causes waits → flags ≡ replicate (length causes) false → draw ≡ generator_behind seed 0 → order ≡ []
+    → IsSoFar seed causes waits flags draw order 0
+none_taken seed causes waits flags draw order are is_flags is_draw is_order =
+    let none : (number : ℕ) → times number order ≡ 0 = λ number. ap (times number) is_order in
+    let off : (step : ℕ) → get_or flags step false ≡ false = λ step. ap (λ (fs : List Bool). get_or fs step false) is_flags ∙ all_off (length causes) step in
+    record {
+      from = 0;
+      drawn = 0;
+      taken = [];
+      numbers = is_order;
+      once = λ i j d less within. absurd (omega (arith, within, ap (λ (o : List ℕ). length o) is_order));
+      draws = is_draw;
+      goes_on = λ rest taken. taken;
+      links = are.links;
+      long_begins = are.long;
+      long_left = ap (λ (l : List ℕ). length l) are.left ∙ length-map (entries_of causes) length ∙ length-map causes (λ (c : StepCause). c.after);
+      room = ap (λ (fs : List Bool). length fs) is_flags ∙ length-replicate (length causes) false;
+      left = λ step. ap (λ (l : List ℕ). get_or l step 0) are.left ∙ left_at (entries_of causes) step ∙ sym (untaken_at_first (entry_at (entries_of causes) step)) ∙ ap (λ (o : List ℕ). untaken o (entry_at (entries_of causes) step)) (sym is_order);
+      ready = λ step. (λ set. absurd (false≢true (sym (off step) ∙ set)), λ free. absurd (omega (arith, free.0)));
+      closed = λ step some. absurd (omega (arith, some, none (step + 1)));
+      not_after = λ step some. absurd (omega (arith, some, none (step + 1)));
+      before = λ step early. absurd (omega (arith, early));
+      part = λ some. absurd (omega (arith, some));
+      within = omega arith;
+    }
