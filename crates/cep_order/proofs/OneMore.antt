@@ -15,12 +15,12 @@ use Rattle.cep_order.specs.declared.waits.Waits.{Waits}
 use Rattle.cep_order.specs.Flags.{places_of}
 use Rattle.cep_order.specs.Orders.{NamesEarlier, IsReadyIn, IsTaken, AreTaken, IsOrderBy, IsEachOnce}
 use Rattle.cep_order.specs.Waits.{times, entries_of, entry_at, waiters_of, AreLinksFor, AreWaitsOf, CanRelease, IsReleased}
-use Rattle.cep_order.specs.Taking.{IsPart, untaken, IsSoFar}
+use Rattle.cep_order.specs.Taking.{IsPart, untaken, missing, IsSoFar}
 use Rattle.cep_order.proofs.Flagging.{on_within}
 use Rattle.cep_order.proofs.Listed.{listed, set_there}
 use Rattle.cep_order.proofs.SoFar.{was_taken, known, are_ready, all_taken}
 use Rattle.cep_order.proofs.Times.{some_times, stands_there, once_more_last, no_more_last}
-use Rattle.cep_order.proofs.Untaken.{untaken_push, untaken_at_first, times_of_places}
+use Rattle.cep_order.proofs.Untaken.{untaken_push, untaken_at_first, missing_less, times_of_places}
 
 on_or_off : (flag : Bool) → (flag ≡ true) ⊎ (flag ≡ false)
 on_or_off true = inl refl
@@ -61,6 +61,10 @@ module _ (seed : ℕ) (causes : List StepCause) (earlier : NamesEarlier causes) 
           (λ other. as_before step other ∙ ⊎_elim (λ set. absurd (omega (arith, left_then step, some, ((is.ready step).0 set).2))) (λ off. off) (on_or_off (get_or flags step false)))
           (cases_eq step place);
     }
+
+    -- so one less is missing
+    pub fewer_missing : missing (length causes) (order ++ (place + 1) ∷ []) < missing (length causes) order
+    fewer_missing = omega (arith, missing_less (length causes) (place + 1) order (omega arith) (omega (arith, is_step)) facts.1)
 
     -- What is drawn.
     module _ (count drawn_place : ℕ) (draw' : Lcg) (is_count : count ≡ length (places_of flags)) (some : 0 < count) (is_place : k + 1 ≡ drawn_place)

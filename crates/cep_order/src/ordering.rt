@@ -25,9 +25,9 @@ pub fn order_by(alloc: Global, causes: &StepCauses, seed: u64) -> Result<Numbers
     ensures order { IfOk result (IsOrderBy seed causes.now) }
     ensures once { IfOk result (IsEachOnce (length causes.now)) }
 {
-    let causes = causes.as_slice();
-    let mut waits = Waits::of(alloc, causes)?;
-    let mut ready = Ready::new(alloc, causes.len())?;
+    let entries = causes.as_slice();
+    let mut waits = Waits::of(alloc, entries)?;
+    let mut ready = Ready::new(alloc, entries.len())?;
     let mut draw = Draw::new(seed);
     let mut order = List::new(alloc);
     // no barrier that is not taken holds the steps before this one
@@ -39,9 +39,9 @@ pub fn order_by(alloc: Global, causes: &StepCauses, seed: u64) -> Result<Numbers
             ready.remove(place);
             order.push(place as u32 + 1)?;
             waits.release(place, end, &mut ready);
-        } else if end < causes.len() {
+        } else if end < entries.len() {
             let from = end;
-            end = part_end(causes, from);
+            end = part_end(entries, from);
             make_ready(&waits, from, end, &mut ready);
         } else {
             return Ok(order);
