@@ -71,19 +71,18 @@ class Folder(unittest.TestCase):
 
 class Worlds(Folder):
     def test_each_world_is_played_again_from_its_transcripts(self):
-        """What is typed and the options give the same record, byte for byte; of version 1 too."""
+        """What is typed gives the same record, byte for byte, and of version 1 the same is typed."""
         for name in world_names():
             world, text = f"worlds/{name}.cep", read(WORLDS, f"{name}.log")
-            words = given(typed_and_words(name)[1])
-            for log in (f"worlds/{name}.log", f"worlds/version-1/{name}.log"):
-                if not os.path.exists(os.path.join(TOP, log)):
-                    continue
-                with self.subTest(log=log):
-                    status, typed, errors = called("replay", world, log, *words)
-                    self.assertEqual((status, errors), (0, ""))
-                    status, options, errors = called("replay", world, log, *words, "--words")
-                    self.assertEqual((status, errors), (0, ""))
-                    self.assertEqual(record(played(world, *options.split(), typed=typed)), record(text))
+            words, first = typed_and_words(name)[1], f"worlds/version-1/{name}.log"
+            height = text.split("\n")[1].replace(" ", "=")
+            with self.subTest(world=name):
+                status, typed, errors = called("replay", world, f"worlds/{name}.log", *given(words))
+                self.assertEqual((status, errors), (0, ""))
+                words = [height] + [word for word in words if not word.startswith("height=")]
+                self.assertEqual(record(played(world, *words, typed=typed)), record(text))
+                if os.path.exists(os.path.join(TOP, first)):
+                    self.assertEqual(called("replay", world, first, *given(words)), (0, typed, ""))
 
     def test_what_is_typed_is_what_was_typed(self):
         for name in ("apple", "nim", "hanoi"):
@@ -161,7 +160,7 @@ class Unasked(Folder):
     def test_a_seed_that_draws_another_step(self):
         world = self.written(ROUND, "w.cep")
         texts = {}
-        for seed in range(20):
+        for seed in range(12):
             texts.setdefault(record(played(world, f"seed={seed}", typed="1\n" * 2)), str(seed))
         self.assertGreater(len(texts), 1)
         for text, seed in texts.items():
@@ -169,15 +168,11 @@ class Unasked(Folder):
             status, typed, errors = called("replay", world, log, "--seed", seed)
             self.assertEqual((status, errors), (0, ""))
             self.assertEqual(record(played(world, f"seed={seed}", typed=typed)), text)
-            for other in texts.values():
-                if other != seed:
-                    status, output, errors = called("replay", world, log, "--seed", other)
-                    self.assertEqual((status, output), (1, ""))
-                    self.assertRegex(
-                        errors,
-                        r"^replay: .*x\.log: step [12]: the transcript has (one|other), "
-                        r"and by this seed the run does (one|other)\n$",
-                    )
+            other = next(other for other in texts.values() if other != seed)
+            status, output, errors = called("replay", world, log, "--seed", other)
+            self.assertEqual((status, output), (1, ""))
+            said = "the transcript has (one|other), and by this seed the run does (one|other)"
+            self.assertRegex(errors, rf"^replay: {log}: step [12]: {said}\n$")
 
 
 class Refused(Folder):
