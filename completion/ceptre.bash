@@ -43,9 +43,10 @@ _ceptre_script() {
     local word=${COMP_WORDS[COMP_CWORD]} options place=0 at
     case ${COMP_WORDS[0]##*/} in
     explain) options='--help --all --hints --format' ;;
-    follow) options='--help --at' ;;
+    follow) options='--help --at --causes --dot' ;;
     grade) options='--help --goal --height --end --typed --seed --turns --json' ;;
-    player) options='--help --log --load --rows --plain' ;;
+    player) options='--help --log --load --from --rows --plain' ;;
+    replay) options='--help --seed --turns --typed --words' ;;
     why) options='--help' ;;
     sample) options='--help --runs --seed --players-by-seed --height --turns --goal --csv' ;;
     esac
@@ -62,7 +63,11 @@ _ceptre_script() {
         compopt -o filenames 2>/dev/null
         return
         ;;
-    --at | --goal | --height | --seed | --turns | --rows | --runs) return ;;
+    --from)
+        _ceptre_files log "$word"
+        return
+        ;;
+    --at | --causes | --goal | --height | --seed | --turns | --rows | --runs) return ;;
     esac
     # The first word that is no option is the world.
     for ((at = 1; at < COMP_CWORD; at++)); do
@@ -72,11 +77,11 @@ _ceptre_script() {
         _ceptre_files cep "$word"
     else
         case ${COMP_WORDS[0]##*/} in
-        follow | grade | explain | why) _ceptre_files log "$word" ;;
+        follow | grade | explain | replay | why) _ceptre_files log "$word" ;;
         player) _ceptre_options "$word" ;;
         esac
     fi
 }
 
 complete -F _ceptre ceptre ./ceptre
-complete -F _ceptre_script {,./}tools/{explain,follow,grade,player,sample,why}
+complete -F _ceptre_script {,./}tools/{explain,follow,grade,player,replay,sample,why}

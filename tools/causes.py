@@ -1,8 +1,7 @@
 """Which cause is likely where a text is refused.
 
-Each cause has the name by which the table of docs/LANGUAGE.md tells how it is mended. A slip of a
-token is borne out by the program, which accepts the text once it is mended; else rules of thumb
-choose.
+Each cause has the name by which `causes.txt` says how it is mended. A slip of a token is borne out
+by the program, which accepts the text once it is mended; else rules of thumb choose.
 """
 
 from dataclasses import dataclass

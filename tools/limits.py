@@ -2,7 +2,7 @@
 
 from language import KINDS
 
-# What is limited, and the most, as docs/LANGUAGE.md has it.
+# What is limited, and the most, as docs/LIMITS.md has it.
 ARGUMENTS = "arguments of a predicate or a constructor: 8"
 PREMISES = "premises of states in a rule: 16"
 BACKWARD = "backward premises of a rule: 8"

@@ -11,6 +11,7 @@ from driver import Run
 from language import read_world, shown
 from program import CannotRun
 from prose import Prose
+from replaying import again
 from transcript import Transcript, listing
 
 try:
@@ -59,7 +60,7 @@ class Table:
     def sit(self):
         """Plays until the game ends or is left."""
         signal.signal(signal.SIGINT, self.interrupt)
-        self.begin(self.choices(self.options.load) if self.options.load else [])
+        self.begin(self.opening())
         while True:
             if not self.run.offers:
                 if not self.is_ended():
@@ -67,6 +68,17 @@ class Table:
             said = self.ask()
             if said is None or not self.do(said):
                 return 0
+
+    def opening(self):
+        """The choices that the game begins with: none, those of a file, or those of a transcript, whose
+        height is then the game's."""
+        if self.options.load:
+            return self.choices(self.options.load)
+        if not self.options.begun:
+            return []
+        replay = again(self.words, self.options.begun)
+        self.words = replay.words
+        return replay.typed
 
     def begin(self, typed):
         """Another run, with these choices made."""

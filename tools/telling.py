@@ -1,11 +1,10 @@
 """What is told of a refusal of the program: its line, what it means, what is likely, and the mend.
 
-The program decides; the words stand in the tables of docs/LANGUAGE.md.
+The program decides; the words stand in `reasons.txt` and `causes.txt` beside this file.
 """
 
 import functools
 import os
-import re
 from dataclasses import dataclass
 
 import clash
@@ -20,39 +19,23 @@ from program import TOP, refusal_of
 # How many columns of a line are shown.
 WIDTH = 100
 
-REASONS = "| refusal | in plain words | where | an example | what to do |"
-CAUSES = "| likely cause | such as | how it is mended |"
-
 
 @functools.lru_cache(maxsize=None)
-def rows(heading):
-    """The rows of the table of docs/LANGUAGE.md that begins with this heading."""
-    path = os.path.join(TOP, "docs", "LANGUAGE.md")
-    with open(path, encoding="utf-8") as file:
-        lines = file.read().splitlines()
-    found = []
-    for line in lines[lines.index(heading) + 2 :]:
-        if not line.startswith("| "):
-            break
-        found.append([cell.strip() for cell in re.split(r" \| ", line.strip("|"))])
-    return found
-
-
-def plain(cell):
-    """The text of a cell, with the links of the page as the files that they lead to."""
-    cell = re.sub(r" ?\(\[[^]]*\]\(#[^)]*\)\)", "", cell)
-    cell = re.sub(r"\[(\w+\.md)\]\(([^)]*)\)", r"docs/\2", cell)
-    return re.sub(r"\[([^]]*)\]\(([^)]*)\)", r"\1 (docs/\2)", cell)
+def paragraphs(name):
+    """The paragraphs of a file of this folder, each the texts of its lines by the words before their colons."""
+    with open(os.path.join(TOP, "tools", name), encoding="utf-8") as file:
+        parts = file.read().strip().split("\n\n")
+    return [dict(line.split(": ", 1) for line in part.splitlines()) for part in parts]
 
 
 def reasons():
     """What each refusal means in plain words, and what to do, by its name."""
-    return {row[0].split("`")[1]: (plain(row[1]), plain(row[4])) for row in rows(REASONS)}
+    return {part["reason"]: (part["meaning"], part["mend"]) for part in paragraphs("reasons.txt")}
 
 
 def mends():
     """How each likely cause is mended, by its name."""
-    return {row[0]: plain(row[2]) for row in rows(CAUSES)}
+    return {part["likely"]: part["mend"] for part in paragraphs("causes.txt")}
 
 
 @dataclass

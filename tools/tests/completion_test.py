@@ -110,6 +110,8 @@ class Bash(Shells, unittest.TestCase):
                 (("tools/grade", "a.cep", "--typed", "a.i"), ["a.in"]),
                 (("tools/grade", "a.cep", "--end", "q"), ["quiet"]),
                 (("tools/player", "a.cep", "s"), ["seed="]),
+                (("tools/player", "--from", ""), ["a.log", "worlds"]),
+                (("tools/replay", "a.cep", ""), ["a.log", "worlds"]),
                 (("tools/follow", "a.cep", "--at", ""), []),
             ]:
                 with self.subTest(words=words):

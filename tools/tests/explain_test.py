@@ -18,15 +18,15 @@ import limits
 import verdicts
 from language import read_text
 from program import MOST_LOG, MOST_WORLD, refusal, refusal_of
-from telling import CAUSES, REASONS
+from telling import mends, reasons
 
 FOLDER = os.path.join(TOP, "tools", "tests", "explain")
 APPLE = os.path.join(TOP, "worlds", "apple.cep")
 
 
-def column(heading, place):
-    """A column of the table of LANGUAGE.md with this heading."""
-    lines = read(TOP, "docs", "LANGUAGE.md").splitlines()
+def column(page, heading, place):
+    """A column of the table of a page with this heading."""
+    lines = read(TOP, "docs", page).splitlines()
     rows = []
     for line in lines[lines.index(heading) + 2 :]:
         if not line.startswith("| "):
@@ -76,14 +76,16 @@ class Explain(unittest.TestCase):
         answer = tool("explain", "number.cep", folder=FOLDER)
         self.assertEqual(answer, (1, read(FOLDER, "number.told"), ""))
 
-    def test_each_likely_cause_of_the_table_is_met(self):
-        causes = column(CAUSES, 0)
-        self.assertEqual(sorted(causes), sorted(told("likely: ")))
+    def test_each_likely_cause_of_the_file_is_met(self):
+        self.assertEqual(sorted(mends()), sorted(told("likely: ")))
 
     def test_each_reason_is_met_but_a_text_that_is_too_long(self):
-        reasons = column(REASONS, 0)
         met = {name.split(": ")[1] for name in told("") if ".cep:" in name}
-        self.assertEqual(met | {"TooLong"}, {reason.split("`")[1] for reason in reasons})
+        self.assertEqual(met | {"TooLong"}, set(reasons()))
+
+    def test_the_reasons_are_those_of_the_language_in_order(self):
+        table = [reason.split("`")[1] for reason in column("LANGUAGE.md", "| refusal | where | an example |", 0)]
+        self.assertEqual(list(reasons()), table)
 
     def test_a_text_that_is_too_long(self):
         path = self.written("% " + "a" * MOST_WORLD + "\n")
@@ -108,7 +110,8 @@ class Explain(unittest.TestCase):
         self.assertIn("usage: explain", output)
 
     def test_each_limit_has_its_number_in_the_table(self):
-        numbers = " ".join(column("| what is limited | the most | `OverLimit` stands at |", 1))
+        heading = "| what is limited | the most | one more is | it stands at |"
+        numbers = " ".join(column("LIMITS.md", heading, 1))
         for name, said in vars(limits).items():
             if name.isupper() and isinstance(said, str):
                 for number in re.findall(r"[0-9][0-9,]*", said.rsplit(": ", 1)[1]):

@@ -272,15 +272,6 @@ class Likely(Folder):
                 _, output, _ = called("grade", CASTLE, self.written(text))
                 self.assertEqual(rows(output)[0]["likely"], cause)
 
-    def test_each_cause_stands_in_the_table_with_its_mend(self):
-        table = read(TOP, "docs", "FORMATS.md").split("| likely cause | how it is mended |\n|---|---|\n")[1]
-        listed = dict(line.strip("| ").split(" | ", 1) for line in table.split("\n\n")[0].splitlines())
-        self.assertEqual(list(listed), list(MENDS))
-        for cause, mend in MENDS.items():
-            with self.subTest(cause=cause):
-                told = listed[cause].replace("`", "").replace("\\|", "|")
-                self.assertIn(told, (mend.replace("`", ""), "the same"))
-
     def test_the_lines_of_shell_mend_what_they_are_for(self):
         log = read(WORLDS, "apple.log")
         copied = log.replace("? choose\n", "? choose\n1\n")

@@ -90,6 +90,39 @@ class Choices(Player):
         self.path("long", "2\n2\n1\n1\n")
         self.assertIn("Only 1 of 4 choices", self.play(f"load {self.path('long')}\n"))
 
+    def test_from_a_transcript(self):
+        begun, log = self.path("begun.log"), self.path("x.log")
+        self.play("1\n", "--log", begun)
+        shown = self.play("history\nundo\n1\n2\n", "--from", begun, "--log", log)
+        self.assertIn("   1  sell  ann, ben\n", shown.split("> ")[1])
+        self.assertEqual(read(log), read(WORLDS, "apple.log"))
+        saved = self.path("saved")
+        self.play(f"save {saved}\n2\n", "--from", begun, "--log", begun)
+        self.assertEqual((read(begun), read(saved)), (read(log), "1\n"))
+
+    def test_from_a_transcript_of_a_height_and_a_seed(self):
+        for name, words in [("dungeon", []), ("tictactoe", ["seed=9"])]:
+            begun, log = os.path.join(WORLDS, name + ".log"), self.path("x.log")
+            self.play("", *words, "--from", begun, "--log", log, world=os.path.join(WORLDS, name + ".cep"))
+            own, other = ([line for line in read(path).splitlines() if line[:1] != "?"] for path in (log, begun))
+            self.assertEqual(own, other)
+
+    def test_a_transcript_that_cannot_be_done_again(self):
+        begun = self.path("begun.log", read(WORLDS, "apple.log").replace("step eat P=ben", "step eat P=ann"))
+        log, castle = self.path("x.log", "kept"), os.path.join(WORLDS, "castle")
+        for words, said in [
+            ([APPLE, "--from", begun], f"{begun}: step 2: refused 13 NotContained have 0 need 1 apple ann"),
+            ([APPLE, "--from", "README.md"], "README.md: step 0: refused 1 Line"),
+            ([castle + ".cep", "height=1", "--from", castle + ".log"], "and the run ends there by quiet"),
+            ([APPLE, "--from", "none.log"], "No such file"),
+        ]:
+            with self.subTest(words=words):
+                command = [PLAYER, *words, "--log", log]
+                done = subprocess.run(command, cwd=TOP, input="", capture_output=True, text=True, check=False)
+                self.assertEqual((done.returncode, done.stdout), (3, ""))
+                self.assertIn(said, done.stderr)
+                self.assertEqual((done.stderr.count("\n"), read(log)), (1, "kept"))
+
     def test_state_history_and_help(self):
         shown = self.play("1\nstate\nstate coin\nhistory\nhelp\nagain\nall\nquit\n1\n").split("> ")
         self.assertEqual(shown[2], "[market]\n  apple ben\n  coin ann\n")
@@ -227,6 +260,7 @@ class Terminal(Player):
             (["worlds/none.cep"], 3),
             ([APPLE, "seed=x"], 3),
             ([APPLE, "--load", "worlds/none.in"], 3),
+            ([APPLE, "--load", "worlds/apple.in", "--from", "worlds/apple.log"], 2),
             ([], 2),
             (["--help"], 0),
         ]:

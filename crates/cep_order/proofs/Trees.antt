@@ -1,0 +1,251 @@
+-- Trees of counts.
+use Rattle.std.proofs.Common.{◌≡◌, ◌≢◌, ◌⊎◌, inl, inr, ⊎_elim, ℕ, zero, suc, ◌+◌, ◌-◌, ◌*◌, ◌/◌, ◌^◌, ◌<◌, ◌≤◌, Bool, true, false, cond, eqb, List, length, get_or, set, replicate, refl, sym, ap, ◌∙◌, subst, arith, length-set, add-one}
+use Rattle.std.proofs.Math.Nat.{pow-succ', le-mul_of_pos_right}
+use Rattle.std.proofs.lemmas.Nat.{pow_pos}
+use Rattle.std.proofs.lemmas.Bool.{cases_lt, cases_eq}
+use Rattle.std.proofs.lemmas.Bool.Decides.{nat_tests}
+use Rattle.std.proofs.lemmas.List.{get_or-set_same, get_or-set_other, get_or-replicate, get_or_past, length-replicate}
+use Rattle.cep_order.specs.Flags.{set_before}
+use Rattle.cep_order.specs.Counts.{Counts, only_at, IsNearly, IsTree, IsLeafOf}
+use Rattle.cep_order.proofs.Flagging.{written_after, none_counted, counted_more, set_few, all_before}
+
+all_here : (here amount node : ℕ) → node ≡ here → only_at here amount node ≡ amount
+all_here here amount node same = grind (arith, nat_tests)
+
+none_elsewhere : (here amount node : ℕ) → node ≢ here → only_at here amount node ≡ 0
+none_elsewhere here amount node apart = grind (arith, nat_tests)
+
+module _ (flags : List Bool) (counts : List ℕ) (height : ℕ) (tree : IsTree flags counts height) where
+  inner : (node : ℕ) → 0 < node → node < 2 ^ height → get_or counts node 0 ≡ get_or counts (2 * node) 0 + get_or counts (2 * node + 1) 0
+  inner node some low = omega (arith, (tree.each node some (omega (arith, tree.size))).inner low, none_elsewhere 0 0 node (λ none. omega arith))
+
+  leaf : (node : ℕ) → 0 < node → 2 ^ height ≤ node → node < 2 * 2 ^ height → set_before flags ((node - 2 ^ height) * 64) + get_or counts node 0 ≡ set_before flags ((node - 2 ^ height + 1) * 64)
+  leaf node some low high = omega (arith, (tree.each node some (omega (arith, tree.size))).leaf low, none_elsewhere 0 0 node (λ none. omega arith))
+
+  -- A node counts the flags under it that are set.
+  pub counts_below : (levels node : ℕ) → 0 < node → 2 ^ height ≤ node * 2 ^ levels → (node + 1) * 2 ^ levels ≤ 2 * 2 ^ height
+      → set_before flags ((node * 2 ^ levels - 2 ^ height) * 64) + get_or counts node 0 ≡ set_before flags (((node + 1) * 2 ^ levels - 2 ^ height) * 64)
+  counts_below zero node some low high =
+      let first : (node * 2 ^ 0 - 2 ^ height) * 64 ≡ (node - 2 ^ height) * 64 = omega arith in
+      let last : ((node + 1) * 2 ^ 0 - 2 ^ height) * 64 ≡ (node - 2 ^ height + 1) * 64 = omega arith in
+      omega (arith, ap (set_before flags) first, ap (set_before flags) last, leaf node some (omega arith) (omega arith))
+  counts_below (suc levels) node some low high =
+      let twice = pow-succ' 2 levels in
+      let here = ap (λ n. node * n) twice in
+      let room = le-mul_of_pos_right (node + 1) (pow_pos levels) in
+      let one = counts_below levels (2 * node) (omega arith) (omega (arith, here)) (omega (arith, here, twice, pow_pos levels)) in
+      let other = counts_below levels (2 * node + 1) (omega arith) (omega (arith, here)) (omega (arith, here, twice)) in
+      let first : (node * 2 ^ suc levels - 2 ^ height) * 64 ≡ (2 * node * 2 ^ levels - 2 ^ height) * 64 = omega (arith, here) in
+      let last : ((node + 1) * 2 ^ suc levels - 2 ^ height) * 64 ≡ ((2 * node + 1 + 1) * 2 ^ levels - 2 ^ height) * 64 = omega (arith, here, twice) in
+      omega (arith, one, other, ap (set_before flags) first, ap (set_before flags) last, inner node some (omega (arith, here, twice, room)))
+
+  -- The root counts all.
+  pub root_counts : get_or counts 1 0 ≡ set_before flags (length flags)
+  root_counts =
+      let all = counts_below height 1 (omega arith) (omega arith) (omega arith) in
+      let none : (1 * 2 ^ height - 2 ^ height) * 64 ≡ 0 = omega arith in
+      let whole : ((1 + 1) * 2 ^ height - 2 ^ height) * 64 ≡ 2 ^ height * 64 = omega arith in
+      omega (arith, all, ap (set_before flags) none, ap (set_before flags) whole, all_before flags (2 ^ height * 64) tree.room)
+
+  few_by : (bound node : ℕ) → node < bound → 0 < node → node < 2 * 2 ^ height → get_or counts node 0 ≤ get_or counts 1 0
+  few_by zero node less some high = absurd (omega arith)
+  few_by (suc bound) node less some high =
+      ⊎_elim
+      (λ root. omega (arith, ap (λ n. get_or counts n 0) root))
+      (λ other.
+      let above = few_by bound (node / 2) (omega arith) (omega arith) (omega arith) in
+      let sums = inner (node / 2) (omega arith) (omega arith) in
+      ⊎_elim
+      (λ even. omega (arith, above, sums, ap (λ n. get_or counts n 0) even))
+      (λ apart. let odd : node ≡ 2 * (node / 2) + 1 = omega arith in omega (arith, above, sums, ap (λ n. get_or counts n 0) odd))
+      (cases_eq node (2 * (node / 2))))
+      (cases_eq node 1)
+
+  -- No node counts more than there may be flags.
+  pub counts_few : (node : ℕ) → 0 < node → node < length counts → get_or counts node 0 ≤ 67108864
+  counts_few node some high = omega (arith, few_by (suc node) node (omega arith) some (omega (arith, tree.size)), root_counts, set_few flags (length flags), tree.few)
+
+-- Levels of a tree by half of it.
+module _ (levels below node : ℕ) (one : levels ≡ below + 1) where
+  pub half : 2 ^ levels ≡ 2 * 2 ^ below
+  half = ap (λ n. 2 ^ n) (one ∙ add-one below) ∙ pow-succ' 2 below
+
+  pub halves : node * 2 ^ levels ≡ 2 * (node * 2 ^ below)
+  halves = ap (λ n. node * n) half ∙ omega arith
+
+-- Going down to the leaf of a flag: under this node, levels above the leaves, is the one with k before it.
+pub record IsDown (flags : List Bool) (counts : List ℕ) (height k levels node left : ℕ) : Type 0 where
+  pub before : set_before flags ((node * 2 ^ levels - 2 ^ height) * 64) + left ≡ k
+  pub within : left < get_or counts node 0
+
+module _ (flags : List Bool) (counts : List ℕ) (height k : ℕ) (tree : IsTree flags counts height) where
+  pub down_first : k < set_before flags (length flags) → IsDown flags counts height k height 1 k
+  down_first some =
+      let none : (1 * 2 ^ height - 2 ^ height) * 64 ≡ 0 = omega arith in
+      record {
+        before = omega (arith, ap (set_before flags) none);
+        within = omega (arith, root_counts flags counts height tree);
+      }
+
+  module _ (levels below node left : ℕ) (one : levels ≡ below + 1) (some : 0 < node) (low : 2 ^ height ≤ node * 2 ^ levels) (high : (node + 1) * 2 ^ levels ≤ 2 * 2 ^ height) where
+    twice : 2 ^ levels ≡ 2 * 2 ^ below
+    twice = half levels below node one
+
+    here : node * 2 ^ levels ≡ 2 * (node * 2 ^ below)
+    here = halves levels below node one
+
+    sums : get_or counts node 0 ≡ get_or counts (node * 2) 0 + get_or counts (node * 2 + 1) 0
+    sums =
+        let double : 2 * node ≡ node * 2 = omega arith in
+        omega (arith, inner flags counts height tree node some (omega (arith, here, twice, le-mul_of_pos_right (node + 1) (pow_pos below))), ap (λ n. get_or counts n 0) double, ap (λ n. get_or counts (n + 1) 0) double)
+
+    first : set_before flags ((node * 2 ^ levels - 2 ^ height) * 64) ≡ set_before flags ((node * 2 * 2 ^ below - 2 ^ height) * 64)
+    first = ap (set_before flags) (omega (arith, here))
+
+    pub down_left : IsDown flags counts height k levels node left → left < get_or counts (node * 2) 0 → IsDown flags counts height k below (node * 2) left
+    down_left down less = record { before = omega (arith, down.before, first); within = less }
+
+    pub down_right : IsDown flags counts height k levels node left → get_or counts (node * 2) 0 ≤ left → IsDown flags counts height k below (node * 2 + 1) (left - get_or counts (node * 2) 0)
+    down_right down more =
+        let passed = counts_below flags counts height tree below (node * 2) (omega arith) (omega (arith, here)) (omega (arith, here, twice, pow_pos below)) in
+        record { before = omega (arith, down.before, first, passed); within = omega (arith, down.within, sums) }
+
+-- Where nothing is set each node counts none.
+pub nothing_at : (n i : ℕ) → ◌≡◌ {A = ℕ} (get_or (replicate n 0) i 0) 0
+nothing_at n i =
+    let none : ℕ = 0 in
+    ⊎_elim (λ less. get_or-replicate n i none none less) (λ past. get_or_past (replicate n none) i none (omega (arith, length-replicate n none))) (cases_lt i n)
+
+pub empty_tree : (steps leaves height : ℕ) → leaves ≡ 2 ^ height → steps ≤ leaves * 64 → steps ≤ 67108864 → leaves ≤ 67108864 → IsTree (replicate steps false) (replicate (2 * leaves) 0) height
+empty_tree steps leaves height is room few low =
+    record {
+      size = omega (arith, length-replicate {A = ℕ} (2 * leaves) 0);
+      room = omega (arith, length-replicate steps false);
+      few = omega (arith, length-replicate steps false);
+      few_leaves = omega arith;
+      each = λ node some within.
+          let off = none_elsewhere 0 0 node (λ none. omega arith) in
+          record {
+            inner = λ below. omega (arith, off, nothing_at (2 * leaves) node, nothing_at (2 * leaves) (2 * node), nothing_at (2 * leaves) (2 * node + 1));
+            leaf = λ above. omega (arith, off, nothing_at (2 * leaves) node, none_counted steps ((node - 2 ^ height) * 64), none_counted steps ((node - 2 ^ height + 1) * 64));
+          };
+    }
+
+-- A flag is written: the leaf of its block is off by as many as the flags after it are.
+module _ (flags : List Bool) (counts : List ℕ) (height place lacks exceeds : ℕ) (flag : Bool) (tree : IsTree flags counts height)
+    (after : (x : ℕ) → place < x → set_before (set flags place flag) x + exceeds ≡ set_before flags x + lacks) where
+  before : (x : ℕ) → x ≤ place → set_before (set flags place flag) x ≡ set_before flags x
+  before x later = written_after flags place x flag later
+
+  pub off_at_leaf : (here : ℕ) → here ≡ 2 ^ height + place / 64 → IsNearly (set flags place flag) counts height here lacks exceeds
+  off_at_leaf here is = record {
+    size = tree.size;
+    room = omega (arith, tree.room, length-set flags place flag);
+    few = omega (arith, tree.few, length-set flags place flag);
+    few_leaves = tree.few_leaves;
+    each = λ node some below.
+        let block = node - 2 ^ height in
+        let off : node ≢ here → (only_at here lacks node ≡ 0) × (only_at here exceeds node ≡ 0) = λ apart. (none_elsewhere here lacks node apart, none_elsewhere here exceeds node apart) in
+        record {
+          inner = λ low. let none = off (λ same. omega arith) in omega (arith, none.0, none.1, inner flags counts height tree node some low);
+          leaf = λ high.
+              let was = leaf flags counts height tree node some high (omega (arith, tree.size)) in
+              ⊎_elim
+              (λ same. omega (arith, was, all_here here lacks node same, all_here here exceeds node same, before (block * 64) (omega arith), after ((block + 1) * 64) (omega arith)))
+              (λ apart. let none = off apart in
+              ⊎_elim
+              (λ early. omega (arith, was, none.0, none.1, before (block * 64) (omega arith), before ((block + 1) * 64) (omega arith)))
+              (λ late. omega (arith, was, none.0, none.1, after (block * 64) (omega arith), after ((block + 1) * 64) (omega arith)))
+              (cases_lt node here))
+              (cases_eq node here);
+        };
+  }
+
+-- A node is mended: now its parent is off.
+module _ (flags : List Bool) (counts : List ℕ) (height here lacks exceeds count : ℕ) (some : 0 < here) (within : here < length counts) (nearly : IsNearly flags counts height here lacks exceeds) (mends : count + exceeds ≡ get_or counts here 0 + lacks) where
+  at_node : (node : ℕ) → node ≡ here → (get_or (set counts here count) node 0 ≡ count) × (get_or counts node 0 ≡ get_or counts here 0)
+  at_node node same = (ap (λ n. get_or (set counts here count) n 0) same ∙ get_or-set_same counts here count 0 within, ap (λ n. get_or counts n 0) same)
+
+  elsewhere : (node : ℕ) → node ≢ here → get_or (set counts here count) node 0 ≡ get_or counts node 0
+  elsewhere node apart = get_or-set_other counts here node count 0 apart
+
+  above : (node : ℕ) → node ≡ here / 2 → (only_at (here / 2) lacks node ≡ lacks) × (only_at (here / 2) exceeds node ≡ exceeds)
+  above node is = (all_here (here / 2) lacks node is, all_here (here / 2) exceeds node is)
+
+  not_above : (node : ℕ) → node ≢ here / 2 → (only_at (here / 2) lacks node ≡ 0) × (only_at (here / 2) exceeds node ≡ 0)
+  not_above node apart = (none_elsewhere (here / 2) lacks node apart, none_elsewhere (here / 2) exceeds node apart)
+
+  mended : (node : ℕ) → node ≡ here → Counts flags counts (2 ^ height) node (only_at here lacks node) (only_at here exceeds node)
+      → Counts flags (set counts here count) (2 ^ height) node (only_at (here / 2) lacks node) (only_at (here / 2) exceeds node)
+  mended node same was =
+      let now = at_node node same in
+      let none = not_above node (λ e. omega arith) in
+      let lacked = all_here here lacks node same in
+      let exceeded = all_here here exceeds node same in
+      record {
+        inner = λ low. omega (arith, was.inner low, mends, now.0, now.1, none.0, none.1, lacked, exceeded, elsewhere (2 * node) (λ e. omega arith), elsewhere (2 * node + 1) (λ e. omega arith));
+        leaf = λ high. omega (arith, was.leaf high, mends, now.0, now.1, none.0, none.1, lacked, exceeded);
+      }
+
+  other : (node : ℕ) → node ≢ here → Counts flags counts (2 ^ height) node (only_at here lacks node) (only_at here exceeds node)
+      → Counts flags (set counts here count) (2 ^ height) node (only_at (here / 2) lacks node) (only_at (here / 2) exceeds node)
+  other node apart was =
+      let kept = elsewhere node apart in
+      let lacked = none_elsewhere here lacks node apart in
+      let exceeded = none_elsewhere here exceeds node apart in
+      record {
+        inner = λ low.
+            ⊎_elim
+            (λ even. let now = at_node (2 * node) even in let off = above node (omega arith) in
+            omega (arith, was.inner low, mends, kept, now.0, now.1, off.0, off.1, lacked, exceeded, elsewhere (2 * node + 1) (λ e. omega arith)))
+            (λ uneven.
+            ⊎_elim
+            (λ odd. let now = at_node (2 * node + 1) odd in let off = above node (omega arith) in
+            omega (arith, was.inner low, mends, kept, now.0, now.1, off.0, off.1, lacked, exceeded, elsewhere (2 * node) uneven))
+            (λ neither. let off = not_above node (λ e. omega arith) in
+            omega (arith, was.inner low, kept, off.0, off.1, lacked, exceeded, elsewhere (2 * node) uneven, elsewhere (2 * node + 1) neither))
+            (cases_eq (2 * node + 1) here))
+            (cases_eq (2 * node) here);
+        leaf = λ high. let off = not_above node (λ e. omega (arith, nearly.size)) in omega (arith, was.leaf high, kept, off.0, off.1, lacked, exceeded);
+      }
+
+  pub off_above : IsNearly flags (set counts here count) height (here / 2) lacks exceeds
+  off_above = record {
+    size = length-set counts here count ∙ nearly.size;
+    room = nearly.room;
+    few = nearly.few;
+    few_leaves = nearly.few_leaves;
+    each = λ node positive below.
+        let was = nearly.each node positive (omega (arith, length-set counts here count)) in
+        ⊎_elim (λ same. mended node same was) (λ apart. other node apart was) (cases_eq node here);
+  }
+
+  pub fewer : ((node : ℕ) → 0 < node → node ≤ here → get_or counts node 0 ≤ 67108864) → (node : ℕ) → 0 < node → node ≤ here / 2 → get_or (set counts here count) node 0 ≤ 67108864
+  fewer few node positive low = omega (arith, few node positive (omega arith), elsewhere node (λ e. omega arith))
+
+-- A node that counts too many counts some.
+pub some_too_many : (flags : List Bool) (counts : List ℕ) (height here : ℕ) → 0 < here → here < length counts → IsNearly flags counts height here 0 1 → 0 < get_or counts here 0
+some_too_many flags counts height here some within nearly =
+    let is = nearly.each here some within in
+    let none = all_here here 0 here refl in
+    let one = all_here here 1 here refl in
+    ⊎_elim
+    (λ low. omega (arith, is.inner low, none, one))
+    (λ high. omega (arith, is.leaf high, none, one, counted_more flags ((here - 2 ^ height) * 64) ((here - 2 ^ height + 1) * 64) (omega arith)))
+    (cases_lt here (2 ^ height))
+
+-- Where no node is off it is a tree.
+pub none_off : (flags : List Bool) (counts : List ℕ) (height here lacks exceeds : ℕ) → here ≡ 0 → IsNearly flags counts height here lacks exceeds → IsTree flags counts height
+none_off flags counts height here lacks exceeds is nearly = record {
+  size = nearly.size;
+  room = nearly.room;
+  few = nearly.few;
+  few_leaves = nearly.few_leaves;
+  each = λ node some within.
+      let was = nearly.each node some within in
+      let apart : node ≢ here = λ e. omega arith in
+      let none = none_elsewhere here lacks node apart in
+      let nor = none_elsewhere here exceeds node apart in
+      let exact = none_elsewhere 0 0 node (λ e. omega arith) in
+      record { inner = λ low. omega (arith, was.inner low, none, nor, exact); leaf = λ high. omega (arith, was.leaf high, none, nor, exact) };
+}

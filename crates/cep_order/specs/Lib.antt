@@ -1,0 +1,5 @@
+pub mod Orders
+pub mod Flags
+pub mod Counts
+pub mod Waits
+pub mod Taking
