@@ -4,3 +4,4 @@ pub mod Done
 pub mod Begins
 pub mod OneDue
 pub mod Telling
+pub mod Playable

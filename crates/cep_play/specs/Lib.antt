@@ -11,3 +11,4 @@ pub mod Counted
 pub mod Answered
 pub mod Begun
 pub mod Outcome
+pub mod Playable

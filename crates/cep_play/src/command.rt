@@ -4,6 +4,7 @@ ghost use Rattle.cep_base.specs.Talk.{ConsoleCause};
 ghost use Rattle.cep_base.specs.Faults.{Rose};
 ghost use Rattle.cep_play.specs.Exchange.{talked, loaded, Went};
 ghost use Rattle.cep_play.specs.Answered.{DoesWhatIsDue, IsNoDialogue, IsSpelled, IsWritten, TellsAllThatIsDue, AsksAsSaid, AsksAtMost};
+ghost use Rattle.cep_play.specs.Playable.{ChecksWhatCanHaveBeenPlayed};
 ghost use Rattle.cep_play.specs.Counted.{RoseByAll};
 ghost use Rattle.cep_play.specs.Begun.{BeginsWhatIsDue, AsksPrefixOfAll};
 ghost use Rattle.cep_play.specs.Outcome.{CommandDid, InVain};
@@ -14,6 +15,7 @@ use crate::reply::{Reply, reply_to};
 use crate::report::Status;
 use cep_base::{Console, ConsoleFault, Shelf, Steps};
 use cep_ground::laws::clean_parts_are_a_program;
+use cep_replay::laws::legal_logs_can_be_played;
 use cep_run::laws::dialogues_are_there;
 use cep_words::laws::one_request;
 use std::alloc::Global;
@@ -107,6 +109,10 @@ pub fn ceptre<C: Console, H: Shelf, L: Ledger>(
         (map string_bytes words.now) (H.files shelf.old) (C.left console.old) result }
     ensures no_other { Contains (0 ∷ 1 ∷ 2 ∷ 3 ∷ 4 ∷ 6 ∷ 7 ∷ 9 ∷ []) result }
 
+    // A transcript that is accepted can have been played.
+    ensures playable { result ≡ 0
+        → ChecksWhatCanHaveBeenPlayed (map string_bytes words.now) (H.files shelf.old) }
+
     // Faults of the outside have their statuses, and these come for nothing else.
     ensures shelf_failed { result ≡ 7 → Rose (H.faults shelf.old) (H.faults shelf.new) }
     ensures shelf_fails { H.faults shelf.old < H.faults shelf.new
@@ -133,6 +139,7 @@ pub fn ceptre<C: Console, H: Shelf, L: Ledger>(
     one_due();
     dialogues_are_there();
     clean_parts_are_a_program();
+    legal_logs_can_be_played();
     match command(alloc, words, console, shelf, steps) {
         Ok(code) => code,
         Err(ConsoleFault::Failed) => 6,

@@ -4,6 +4,7 @@ use Rattle.cep_play.specs.Exchange.{talked, loaded}
 use Rattle.cep_play.proofs.Reported.{at_most}
 use Rattle.cep_play.proofs.Telling.{tells_what_is_due, tells_anyway, among_all, failed_by, fails_by, no_fault}
 use Rattle.cep_play.proofs.Begins.{prefixes_asked}
+use Rattle.cep_play.proofs.Playable.{checked}
 use Rattle.cep_play.proofs.command.ceptre.Goals as goal
 
 pub returns-in-Ok-clause-answered : goal.returns-in-Ok-clause-answered
@@ -89,3 +90,7 @@ returns-in-Err-Memory-clause-shelf_fails g c = λ _. (2, lit< tt, refl)
 
 pub returns-in-Err-Memory-clause-ticked : goal.returns-in-Err-Memory-clause-ticked
 returns-in-Err-Memory-clause-ticked g c = λ ran. absurd (⊎_elim (λ e. absurd (omega (arith, e))) (λ e. absurd (omega (arith, e))) ran)
+
+pub returns-in-Ok-clause-playable : goal.returns-in-Ok-clause-playable
+returns-in-Ok-clause-playable g c =
+    checked (λ program settings log typed. c.legal_logs_can_be_played.ensures program settings log typed) (map string_bytes c.args.words.now) (g.H.Shelf.files c.args.shelf.now) (g.C.Console.left c.args.console.now) _ (returns-in-Ok-clause-due g c)
