@@ -81,9 +81,11 @@ fn expect_levels(
     (text, rule): (&str, u32),
     levels: &[[usize; 3]],
 ) -> Result<(), Fail> {
-    for (turns, wanted) in levels.iter().enumerate() {
-        let told = levels_after(alloc, text, turns as u32, rule)?;
+    let mut turns = 0u32;
+    for wanted in levels {
+        let told = levels_after(alloc, text, turns, rule)?;
         assert_eq!(rt; told, *wanted, "after {turns}");
+        turns = turns.saturating_add(1);
     }
     Ok(())
 }
