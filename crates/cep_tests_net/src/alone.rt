@@ -1,8 +1,7 @@
 // The network by itself: many edits by which nothing is found.
-ghost use Rattle.std.specs.Prelude.{◌≡◌, ◌<◌, IfOk};
-ghost use Rattle.cep_machine.specs.Configuration.{IsConfigurationOf};
+ghost use Rattle.std.specs.Prelude.{◌≡◌, ◌<◌};
 
-use crate::beside::{choices, turned};
+use crate::turns::after_turns;
 use cep_base::Steps;
 use cep_ground::accept;
 use cep_machine::Config;
@@ -10,7 +9,6 @@ use cep_net::Net;
 use cep_rule::{Matcher, Program};
 use std::alloc::{AllocError, Global};
 use std::marker::Brand;
-use std::process::Abort;
 use std::sync::ledger::{Blank, Ledger};
 use std::test::Fail;
 
@@ -43,27 +41,6 @@ fn switched(alloc: Global, many: u32, first: u32) -> Result<String, AllocError> 
     )
 }
 
-// The configuration after so many turns, of which each has one offer.
-pub fn after_turns<M: Matcher, L: Ledger>(
-    alloc: Global,
-    program: &Program,
-    start: Config<M>,
-    turns: u32,
-    steps: &mut Steps<L>,
-) -> Result<Config<M>, Fail>
-    requires { IsConfigurationOf M.is_of program.now start }
-    ensures { IfOk result (IsConfigurationOf M.is_of program.now) }
-{
-    let mut config = start;
-    for _done in 0..turns {
-        if choices(&config) != 1 {
-            return Err(Fail::from("other offers"));
-        }
-        config = turned(alloc, program, config, 0, steps)?;
-    }
-    Ok(config)
-}
-
 // How many turns are done over the network, counted by a ledger.
 fn turns_alone<L: Ledger>(
     alloc: Global,
@@ -88,12 +65,8 @@ fn turns_of_switch(alloc: Global, many: u32, turns: u32) -> Result<u32, Fail> {
     turns_alone::<Brand>(alloc, &program, turns, Blank::new(1))
 }
 
-fn expect_turns(rt: &impl Abort, alloc: Global, many: u32, turns: u32) -> Result<(), Fail> {
-    assert_eq!(rt; turns_of_switch(alloc, many, turns)?, turns);
-    Ok(())
-}
-
 #[test]
 fn a_switch_is_turned_500000_times_beside_10000_things(rt: HostRuntime) -> Result<(), Fail> {
-    expect_turns(&rt, rt.alloc(), 10_000, 500_000)
+    assert_eq!(rt; turns_of_switch(rt.alloc(), 10_000, 500_000)?, 500_000);
+    Ok(())
 }

@@ -1,11 +1,12 @@
-//! Tests of the network: beside the matcher from scratch, and by itself.
+//! Tests of configurations: how many partial matches stand in the network while atoms come and go, many turns by which nothing is found,
+//! and the numbers by which steps pass limits.
 #![tactic(auto)]
 
 #[cfg(test)]
 mod alone;
 #[cfg(test)]
-mod beside;
+mod numbers;
 #[cfg(test)]
 mod standing;
 #[cfg(test)]
-mod worlds;
+mod turns;

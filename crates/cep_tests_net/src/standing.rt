@@ -1,7 +1,7 @@
 // How many partial matches stand in the network, level by level.
 ghost use Rattle.std.specs.Prelude.{◌≡◌, ◌<◌};
 
-use crate::alone::after_turns;
+use crate::turns::after_turns;
 use cep_base::Steps;
 use cep_ground::accept;
 use cep_machine::Config;
@@ -21,6 +21,24 @@ fn coming() -> &'static str {
 // Two things in one place, and one of them in another too.
 fn placed() -> &'static str {
     "thing : type. place : type. x : thing. y : thing. p : place. q : place.\nat thing place : pred.\nstage main = {\n  meet : at X L * at Y L -o ().\n}\n#trace _ main { at x p, at y p, at x q }.\n"
+}
+
+// Atoms that come one by one, of which some go together: `p a`, `q b b`, `q a b`, `p b` and a second copy of `q a b`; at last both copies
+// of it go.
+fn joining() -> &'static str {
+    "t : type. a : t. b : t. p t : pred. q t t : pred. never : pred.
+k0 : pred. k1 : pred. k2 : pred. k3 : pred. k4 : pred. k5 : pred.
+stage main = {
+  one : k0 -o p a * k1.
+  two : k1 -o q b b * k2.
+  three : k2 -o q a b * k3.
+  four : k3 -o p b * k4.
+  five : k4 -o q a b * k5.
+  six : k5 * q a b * q a b -o ().
+  both : p X * q X Y * never -o ().
+}
+#trace _ main { k0 }.
+"
 }
 
 // How many matches of the rule's first premises, so many of them, stand after so many turns, counted by
@@ -56,32 +74,37 @@ fn levels_after(alloc: Global, text: &str, turns: u32, rule: u32) -> Result<[usi
     Ok([none, one, both])
 }
 
-#[test]
-fn one_match_stands_before_the_first_premise(rt: HostRuntime) -> Result<(), Fail> {
-    assert_eq!(rt; levels_after(rt.alloc(), coming(), 0, 1)?, [1, 0, 0]);
+// So many matches of the rule stand at these levels after no turn, after one, and so on.
+fn expect_levels(
+    rt: &impl Abort,
+    alloc: Global,
+    (text, rule): (&str, u32),
+    levels: &[[usize; 3]],
+) -> Result<(), Fail> {
+    let mut turns = 0u32;
+    for wanted in levels {
+        let told = levels_after(alloc, text, turns, rule)?;
+        assert_eq!(rt; told, *wanted, "after {turns}");
+        turns = turns.saturating_add(1);
+    }
     Ok(())
 }
 
+// Before the first premise one match stands. One copy is not taken twice, two are paired in one way, and a second copy of an atom
+// gives no match that the first has not given.
 #[test]
-fn one_copy_is_not_taken_twice(rt: HostRuntime) -> Result<(), Fail> {
-    assert_eq!(rt; levels_after(rt.alloc(), coming(), 1, 1)?, [1, 1, 0]);
-    Ok(())
-}
-
-#[test]
-fn two_copies_are_paired_in_one_way(rt: HostRuntime) -> Result<(), Fail> {
-    assert_eq!(rt; levels_after(rt.alloc(), coming(), 2, 1)?, [1, 1, 1]);
-    Ok(())
-}
-
-#[test]
-fn matches_go_with_the_copies_that_are_taken(rt: HostRuntime) -> Result<(), Fail> {
-    assert_eq!(rt; levels_after(rt.alloc(), coming(), 3, 1)?, [1, 0, 0]);
-    Ok(())
-}
-
-#[test]
-fn a_place_joins_two_things(rt: HostRuntime) -> Result<(), Fail> {
-    assert_eq!(rt; levels_after(rt.alloc(), placed(), 0, 0)?, [1, 3, 2]);
-    Ok(())
+fn matches_stand_while_their_atoms_are_there(rt: HostRuntime) -> Result<(), Fail> {
+    let paired = [[1, 0, 0], [1, 1, 0], [1, 1, 1], [1, 0, 0]];
+    expect_levels(&rt, rt.alloc(), (coming(), 1), &paired)?;
+    expect_levels(&rt, rt.alloc(), (placed(), 0), &[[1, 3, 2]])?;
+    let joined = [
+        [1, 0, 0],
+        [1, 1, 0],
+        [1, 1, 0],
+        [1, 1, 1],
+        [1, 2, 2],
+        [1, 2, 2],
+        [1, 2, 1],
+    ];
+    expect_levels(&rt, rt.alloc(), (joining(), 6), &joined)
 }

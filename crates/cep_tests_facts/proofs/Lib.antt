@@ -1,4 +1,0 @@
-mod Buying
-mod Held
-mod Sealing
-mod Spelled

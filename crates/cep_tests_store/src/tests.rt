@@ -1,8 +1,0 @@
-mod agendas;
-mod alphas;
-mod betas;
-mod columns;
-mod masks;
-mod partials;
-mod stores;
-mod worlds;

@@ -1,4 +1,0 @@
-mod Asked
-mod Bound
-mod Groups
-mod Plain
