@@ -8,6 +8,7 @@
 //! tables, rounds and why a rule is dead; no code is named there.
 #![tactic(auto)]
 
+mod bits;
 mod dead_rule;
 pub mod laws;
 
