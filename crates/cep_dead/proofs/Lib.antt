@@ -5,3 +5,5 @@ pub mod Reached
 pub mod Union
 pub mod OneWhy
 pub mod Words
+pub mod Grown
+pub mod Rows

@@ -4,3 +4,4 @@ pub mod Moves
 pub mod Whys
 pub mod Deads
 pub mod Sets
+pub mod Held

@@ -11,5 +11,6 @@
 mod bits;
 mod dead_rule;
 pub mod laws;
+mod table;
 
 pub use dead_rule::{DeadRule, DeadWhy, Deads};
