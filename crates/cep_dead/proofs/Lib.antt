@@ -7,3 +7,4 @@ pub mod OneWhy
 pub mod Words
 pub mod Grown
 pub mod Rows
+pub mod Gathered

@@ -1,5 +1,5 @@
 -- Private. What a table of bits holds, and the definitions as tests of what it holds.
-use Rattle.std.specs.Prelude.{◌≡◌, ◌⊎◌, ℕ, zero, suc, ◌+◌, ◌*◌, ◌<◌, ◌≤◌, ◌^◌, ◌==◌, nat_lt, Bool, true, false, not, ◌&&◌, ◌||◌, if◌then◌else◌, List, [], map, Option, Some, None, option_map, unwrap_or, slice_get, slice_index_or}
+use Rattle.std.specs.Prelude.{◌≡◌, ◌⊎◌, ℕ, zero, suc, ◌+◌, ◌*◌, ◌<◌, ◌≤◌, ◌^◌, ◌==◌, nat_lt, Bool, true, false, not, ◌&&◌, ◌||◌, if◌then◌else◌, List, [], map, Option, Some, None, option_map, unwrap_or, slice_get, slice_index_or, length}
 use Rattle.std.specs.List.{list_any, list_all}
 use Rattle.cep_base.specs.declared.limits.TheConstants.{MOST_ARGUMENTS}
 use Rattle.cep_term.specs.Tree.{Tree, Trees, AtomTree, variable, node, none, more}
@@ -131,3 +131,13 @@ pub record Growth (earlier later : Possibility → Bool) (Added : Possibility �
   pub only : (item : Possibility) → later item ≡ true → (earlier item ≡ true) ⊎ Added item
   pub grown : new ≡ true → HasGrown earlier later
   pub same : new ≡ false → (item : Possibility) → later item ≡ true → earlier item ≡ true
+
+-- whether the number is in the set, where no set stands for all numbers
+abbrev pub has_all : Option Bits → ℕ → Bool
+has_all None n = true
+has_all (Some set) n = has_bit set.words.items n
+
+-- The sets are those of the variables, in order.
+pub record AreSets (sets : List Bits) (signature : Signature) (has : Possibility → Bool) (kinds : List ℕ) (premises : List AtomTree) : Type 0 where
+  pub as_many : length sets ≡ length kinds
+  pub each : (v c : ℕ) → v < length kinds → is_in_set sets v c ≡ can_begin signature has kinds premises v c

@@ -11,6 +11,7 @@
 mod bits;
 mod dead_rule;
 pub mod laws;
+mod passing;
 mod table;
 
 pub use dead_rule::{DeadRule, DeadWhy, Deads};
