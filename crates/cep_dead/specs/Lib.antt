@@ -5,3 +5,5 @@ pub mod Whys
 pub mod Deads
 pub mod Sets
 pub mod Held
+pub mod Judged
+pub mod Adding
