@@ -1,29 +1,30 @@
 -- The dead rules by the last table, and their whys.
-use Rattle.std.proofs.Common.{◌≡◌, ◌⊎◌, ⊎_elim, inl, inr, ℕ, suc, ◌+◌, ◌<◌, ◌≤◌, Bool, true, List, [], ◌∷◌, ◌++◌, length, map, Contains, refl, sym, ap, subst, ◌∙◌, length-append, arith}
-use Rattle.std.specs.Prelude.{Option, Some, None, slice_get, MatchOption}
+use Rattle.std.proofs.Common.{◌≡◌, inl, inr, ℕ, ◌+◌, ◌<◌, ◌≤◌, Bool, true, List, [], ◌∷◌, ◌++◌, length, map, Contains, sym, ap, subst, ◌∙◌, arith}
+use Rattle.std.specs.Prelude.{Option, Some, None, slice_get, MatchOption, Result, Ok, Err, IfOk}
 use Rattle.std.specs.List.{AllByRecursion}
 use Rattle.std.proofs.lemmas.Bool.{cases_lt}
-use Rattle.std.proofs.lemmas.List.{length-map}
 use Rattle.cep_base.proofs.Lists.{some_same, map_last, all_pushed, all_weaker}
 use Rattle.cep_base.proofs.Options.{within_got}
-use Rattle.cep_base.proofs.Elements.{all_at, contains_left, contains_right, contains_first}
-use Rattle.cep_base.specs.declared.limits.TheConstants.{MOST_PREMISES, MOST_BACKS}
+use Rattle.cep_base.proofs.Elements.{contains_left, contains_right, contains_first}
 use Rattle.cep_term.specs.Tree.{AtomTree}
-use Rattle.cep_rule.specs.declared.signature.Signature.{Signature}
 use Rattle.cep_rule.specs.declared.rule.Rule.{Rule}
 use Rattle.cep_rule.specs.declared.parts.Parts.{Parts}
-use Rattle.cep_rule.specs.Limits.{IsSmallRule}
+use Rattle.cep_rule.specs.declared.offer.Offer.{Offer}
+use Rattle.cep_rule.specs.Offers.{Applies}
+use Rattle.cep_rule.specs.Steps.{Spot}
 use Rattle.cep_rule.specs.Program.{IsProgram}
 use Rattle.cep_dead.specs.declared.dead_rule.DeadRule.{DeadRule}
 use Rattle.cep_dead.specs.declared.dead_rule.DeadWhy.{DeadWhy}
 use Rattle.cep_dead.specs.declared.dead_rule.DeadWhy.TheVariants.{Stage, Premise, Var}
-use Rattle.cep_dead.specs.Tables.{Possibility, of_stage, IsOpen, CanBegin, PremisesPass}
+use Rattle.cep_dead.specs.Tables.{Possibility, of_stage, StandsAlone, IsOpen, CanBegin}
 use Rattle.cep_dead.specs.Rounds.{stage_of, premises_of, RulePasses, IsDead, IsInSomeRound}
+use Rattle.cep_dead.specs.Moves.{first_spot, AreMoves}
 use Rattle.cep_dead.specs.Whys.{IsFirstShut, IsFirstEmpty, IsWhy}
-use Rattle.cep_dead.specs.Deads.{AreStrictlyIncreasing, IsDeadFor, AreDeads}
+use Rattle.cep_dead.specs.Deads.{AreStrictlyIncreasing, NeverApplies, IsDeadFor, AreDeads}
 use Rattle.cep_dead.specs.Adding.{IsLastTable}
 use Rattle.cep_dead.proofs.Growing.{open_later, begin_later, rule_later}
-use Rattle.cep_dead.proofs.Union.{least, dead_in_all}
+use Rattle.cep_dead.proofs.Union.{least, dead_in_all, dead_from_all}
+use Rattle.cep_dead.proofs.OneWhy.{does_not_pass}
 
 -- a why by one table is one by another that has the same
 module _ (program : Parts) (table other : Possibility → Type 0) (there : (item : Possibility) → table item → other item) (back : (item : Possibility) → other item → table item) (rule : Rule) where
@@ -110,3 +111,47 @@ module _ (program : Parts) (has : Possibility → Bool) (last : IsLastTable prog
     each = are.each;
     all = λ number rule at dead. let low = within_got program.rules number rule at in are.all number rule (omega arith) at dead;
   }
+
+-- a rule with a why by all that is in some round is dead
+why_dead : (program : Parts) (rule : Rule) (why : DeadWhy) → IsWhy program (IsInSomeRound program) rule why → IsDead program rule
+why_dead program rule why is = dead_from_all program rule (does_not_pass (IsInSomeRound program) program rule why is)
+
+-- A dead rule never applies.
+abbrev DeadNeverApply : Type 0
+DeadNeverApply =
+    (program : Parts) (height : ℕ) (moves : List Spot) (last : Spot) (rule : Rule) (offer : Offer) → IsProgram program → AreMoves program height (first_spot program) moves last → IsDead program rule → slice_get program.rules offer.rule ≡ Some rule → stage_of rule ≡ last.stage → ¬ Applies program height last.state offer
+
+each_never : (program : Parts) → IsProgram program → DeadNeverApply → (deads : List DeadRule) → AllByRecursion (IsDeadFor program) deads → AllByRecursion (λ dead. NeverApplies program dead.rule) deads
+each_never program kept never [] each = tt
+each_never program kept never (dead ∷ deads) each = (one, each_never program kept never deads each.1)
+  where
+    one : NeverApplies program dead.rule
+    one height moves last rule offer are numbered offered in_stage =
+        let same : rule ≡ each.0.rule = some_same rule each.0.rule (sym numbered ∙ each.0.numbered) in
+        never program height moves last rule offer kept are (subst (IsDead program) (sym same) (why_dead program each.0.rule dead.why each.0.why)) (ap (slice_get program.rules) offered ∙ numbered) in_stage
+
+pub none_applies : {E : Type 0} (program parts : Parts) → parts ≡ program → IsProgram program → DeadNeverApply → (r : Result (List DeadRule) E) → IfOk r (AreDeads parts) → IfOk r (AllByRecursion (λ dead. NeverApplies program dead.rule))
+none_applies program parts same kept never (Err e) are = tt
+none_applies program parts same kept never (Ok deads) are = each_never program kept never deads (subst (λ p. AllByRecursion (IsDeadFor p) deads) same are.each)
+
+-- why a rule does not pass, from what was told of slices
+module _ (program : Parts) (table : Possibility → Type 0) (rule : Rule) (kinds : List ℕ) (same_kinds : kinds ≡ rule.kinds) where
+  pub empty_told : (premises : List AtomTree) (v : ℕ) → premises ≡ premises_of rule → IsFirstEmpty program.signature table kinds premises v → IsFirstEmpty program.signature table rule.kinds (premises_of rule) v
+  empty_told premises v same is = subst (λ ps. IsFirstEmpty program.signature table rule.kinds ps v) same (subst (λ ks. IsFirstEmpty program.signature table ks premises v) same_kinds is)
+
+  pub rule_passes : (opened possible : List AtomTree) → opened ≡ premises_of rule → possible ≡ premises_of rule → table (of_stage (stage_of rule)) → AllByRecursion (IsOpen table) opened → ((v : ℕ) → StandsAlone possible v → (c : ℕ) × CanBegin program.signature table kinds possible v c) → RulePasses program table rule
+  rule_passes opened possible same_opened same_possible stage are can = record {
+    stage = stage;
+    premises = record {
+      opened = subst (AllByRecursion (IsOpen table)) same_opened are;
+      possible = subst (λ ps. (v : ℕ) → StandsAlone ps v → (c : ℕ) × CanBegin program.signature table rule.kinds ps v c) same_possible
+          (subst (λ ks. (v : ℕ) → StandsAlone possible v → (c : ℕ) × CanBegin program.signature table ks possible v c) same_kinds can);
+    };
+  }
+
+-- what the search for a why came to
+pub why_told : (program : Parts) (table : Possibility → Type 0) (rule : Rule) (o : Option DeadWhy) (why : DeadWhy) → o ≡ Some why → MatchOption o (RulePasses program table rule) (IsWhy program table rule) → IsWhy program table rule why
+why_told program table rule o why is told = subst (λ p. MatchOption p (RulePasses program table rule) (IsWhy program table rule)) is told
+
+pub pass_told : (program : Parts) (table : Possibility → Type 0) (rule : Rule) (o : Option DeadWhy) → o ≡ None → MatchOption o (RulePasses program table rule) (IsWhy program table rule) → RulePasses program table rule
+pass_told program table rule o is told = subst (λ p. MatchOption p (RulePasses program table rule) (IsWhy program table rule)) is told

@@ -1,15 +1,14 @@
 -- The tests of what a table holds decide the definitions.
-use Rattle.std.proofs.Common.{◌≡◌, ◌⊎◌, ⊎_elim, inl, inr, ℕ, zero, suc, ◌+◌, ◌<◌, ◌≤◌, ◌==◌, Bool, true, false, not, ◌&&◌, ◌||◌, List, [], ◌∷◌, length, Contains, refl, sym, ap, subst, ◌∙◌, eqb-true, eq-eqb, zero-add, if◌then◌else◌, arith}
+use Rattle.std.proofs.Common.{◌≡◌, ◌⊎◌, ⊎_elim, inl, inr, ℕ, zero, suc, ◌+◌, ◌==◌, Bool, true, false, not, ◌&&◌, ◌||◌, List, [], ◌∷◌, Contains, refl, sym, ap, subst, ◌∙◌, eqb-true, eq-eqb, zero-add, if◌then◌else◌, arith}
 use Rattle.std.specs.Prelude.{Option, Some, None, slice_get, option_map, unwrap_or, IsSomeAnd}
-use Rattle.std.specs.List.{AllByRecursion, list_any, list_all}
-use Rattle.std.proofs.lemmas.Bool.{true≢false, false≢true}
+use Rattle.std.proofs.lemmas.Bool.{false≢true}
 use Rattle.cep_base.proofs.Lists.{none_some, some_same}
 use Rattle.cep_base.proofs.Elements.{contains_first, contains_behind, contains_cases, contains_none}
 use Rattle.cep_term.specs.Tree.{Tree, Trees, AtomTree, variable, node, none, more}
 use Rattle.cep_rule.specs.declared.signature.Con.{Con}
 use Rattle.cep_rule.specs.declared.signature.Signature.{Signature}
-use Rattle.cep_dead.specs.Tables.{Possibility, of_stage, of_pred, of_con, nth_argument, HasConAt, HasVarAt, StandsAlone, IsOpen, CanBegin, PremisesPass, AtomAdds}
-use Rattle.cep_dead.specs.Held.{is_term_open, are_args_open, is_open, is_variable, is_among, stands_alone, is_kept_among, is_kept, is_of_sort, can_begin, is_begun, is_added_at, is_added_among, is_pred, is_added}
+use Rattle.cep_dead.specs.Tables.{Possibility, of_stage, of_pred, of_con, nth_argument, HasConAt, HasVarAt, StandsAlone, IsOpen, CanBegin}
+use Rattle.cep_dead.specs.Held.{is_term_open, are_args_open, is_open, is_variable, is_among, stands_alone, is_kept_among, is_kept, is_of_sort, can_begin, is_begun, is_added_among, is_added}
 
 case_or : (a b : Bool) → (a || b) ≡ true → (a ≡ true) ⊎ (b ≡ true)
 case_or a b e = grind arith

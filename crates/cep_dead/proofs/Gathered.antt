@@ -1,14 +1,13 @@
 -- Lists that grow at their end, and what is told of each of their items.
-use Rattle.std.proofs.Common.{◌≡◌, ◌⊎◌, inl, inr, ℕ, zero, suc, ◌+◌, ◌<◌, ◌≤◌, ◌==◌, nat_lt, Bool, true, false, not, ◌&&◌, ◌||◌, List, [], ◌∷◌, ◌++◌, length, map, take, get_or, refl, sym, ap, subst, ◌∙◌, append_assoc, Bor, ◌≢◌, eq-eqb, eqb-true, length-append, arith}
+use Rattle.std.proofs.Common.{◌≡◌, ℕ, zero, suc, ◌+◌, ◌<◌, ◌≤◌, ◌==◌, nat_lt, Bool, true, false, ◌&&◌, ◌||◌, List, [], ◌∷◌, ◌++◌, length, map, take, get_or, refl, sym, ap, ◌∙◌, append_assoc, Bor, ◌≢◌, eq-eqb, eqb-true, length-append, arith}
 use Rattle.std.specs.Prelude.{Option, Some, None, slice_get, is_some, option_map, unwrap_or, Result, Ok, Err, IfOk}
-use Rattle.std.specs.List.{AllByRecursion, list_any, list_all}
-use Rattle.std.proofs.lemmas.List.{get_or-map, length-map}
+use Rattle.std.specs.List.{list_any, list_all}
+use Rattle.std.proofs.lemmas.List.{length-map}
 use Rattle.std.proofs.lemmas.Option.{slice_get-get_or}
 use Rattle.std.proofs.lemmas.Bool.{ltb-false, eqb-false}
 use Rattle.cep_base.proofs.Lists.{take_next, map_last, get_mapped}
-use Rattle.cep_base.specs.declared.limits.TheConstants.{MOST_ARGUMENTS}
 use Rattle.cep_term.specs.declared.term.Atom.{Atom}
-use Rattle.cep_term.specs.Tree.{Trees, AtomTree, atom_of}
+use Rattle.cep_term.specs.Tree.{AtomTree, atom_of}
 use Rattle.cep_rule.specs.declared.rule.Rule.{Rule}
 use Rattle.cep_rule.specs.Binding.{needed_of}
 use Rattle.cep_rule.specs.declared.signature.Con.{Con}
@@ -16,7 +15,7 @@ use Rattle.cep_rule.specs.declared.signature.Signature.{Signature}
 use Rattle.cep_dead.specs.declared.bits.Bits.{Bits}
 use Rattle.cep_dead.specs.Sets.{has_bit}
 use Rattle.cep_dead.specs.Tables.{Possibility}
-use Rattle.cep_dead.specs.Held.{words_at, is_in_set, has_all, is_among, stands_alone, is_kept_among, is_kept, is_of_sort, can_begin, AreSets}
+use Rattle.cep_dead.specs.Held.{words_at, is_in_set, has_all, is_among, stands_alone, is_kept_among, is_kept, is_of_sort, can_begin}
 
 pub pushed : {X A : Type 0} (at : X → A) (old : List A) (now : List X) (list : List A) (i : ℕ) (x : X) → slice_get list i ≡ Some (at x) → map at now ≡ old ++ take i list → map at (now ++ x ∷ []) ≡ old ++ take (i + 1) list
 pushed at old now list i x is e =

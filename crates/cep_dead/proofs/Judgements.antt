@@ -1,13 +1,13 @@
 -- Premises that are judged one after another, and variables.
-use Rattle.std.proofs.Common.{◌≡◌, ◌⊎◌, ⊎_elim, inl, inr, ℕ, zero, suc, ◌+◌, ◌<◌, ◌≤◌, ◌==◌, Bool, true, false, not, List, [], ◌∷◌, ◌++◌, length, take, Contains, refl, sym, ap, subst, ◌∙◌, eqb-true, arith}
+use Rattle.std.proofs.Common.{◌≡◌, inl, inr, ℕ, zero, suc, ◌+◌, ◌<◌, ◌≤◌, Bool, true, false, List, [], ◌∷◌, ◌++◌, length, take, refl, sym, ap, subst, ◌∙◌, arith}
 use Rattle.std.specs.Prelude.{Option, Some, None, slice_get, MatchOption, is_some}
 use Rattle.std.specs.List.{AllByRecursion}
-use Rattle.std.proofs.lemmas.Bool.{true≢false, false≢true, eqb-false, cases_lt}
+use Rattle.std.proofs.lemmas.Bool.{true≢false, false≢true, cases_lt}
 use Rattle.cep_base.proofs.Lists.{none_some, some_same, take_next, all_pushed, holds_at}
 use Rattle.cep_base.proofs.Options.{some_there, within_got}
 use Rattle.cep_base.proofs.Elements.{all_at}
 use Rattle.cep_base.specs.declared.limits.TheConstants.{MOST_ARGUMENTS}
-use Rattle.cep_term.specs.Tree.{Tree, Trees, AtomTree, variable, node, none, more}
+use Rattle.cep_term.specs.Tree.{Trees, AtomTree, variable, none, more}
 use Rattle.cep_rule.specs.declared.signature.Con.{Con}
 use Rattle.cep_rule.specs.declared.signature.Signature.{Signature}
 use Rattle.cep_rule.specs.Typing.{HasSort, HaveSorts, IsTyped}
@@ -16,9 +16,8 @@ use Rattle.cep_dead.specs.declared.bits.Bits.{Bits}
 use Rattle.cep_dead.specs.Sets.{has_bit}
 use Rattle.cep_dead.specs.Tables.{Possibility, nth_argument, HasVarAt, StandsAlone, IsOpen, CanBegin, PremisesPass}
 use Rattle.cep_dead.specs.Whys.{IsFirstShut, IsFirstEmpty}
-use Rattle.cep_dead.specs.Held.{words_at, is_in_set, argument_count, IsShort, is_open, stands_alone, can_begin, AreSets}
-use Rattle.cep_dead.specs.Judged.{ArePremises, PassWithSets}
-use Rattle.cep_dead.proofs.Deciding.{open_true, open_is, alone_true, alone_is, begin_true, begin_is}
+use Rattle.cep_dead.specs.Held.{words_at, argument_count, IsShort, is_open, stands_alone, can_begin, AreSets}
+use Rattle.cep_dead.proofs.Deciding.{open_true, open_is, alone_true, begin_true, begin_is}
 use Rattle.cep_dead.proofs.OneWhy.{shut_among}
 
 counted : (cons : List Con) (kinds sorts : List ℕ) (args : Trees) → HaveSorts cons kinds sorts args → argument_count args ≡ length sorts

@@ -1,11 +1,11 @@
 -- Private. What rules and clauses add to a table, and what a pass over all of them comes to.
-use Rattle.std.specs.Prelude.{◌≡◌, ◌⊎◌, ℕ, ◌<◌, Bool, true, false, List, Option, Some, slice_get, Contains}
+use Rattle.std.specs.Prelude.{◌≡◌, ℕ, Bool, true, false, List, Option, Some, Contains}
 use Rattle.cep_term.specs.Tree.{AtomTree}
 use Rattle.cep_rule.specs.declared.rule.Rule.{Rule}
 use Rattle.cep_rule.specs.declared.parts.Parts.{Parts}
 use Rattle.cep_rule.specs.Patterns.{ClauseTree}
 use Rattle.cep_dead.specs.Tables.{Possibility, of_stage, PremisesPass, AtomAdds}
-use Rattle.cep_dead.specs.Rounds.{RulePasses, IsMade, IsAddedByRule, IsAddedByClause, IsOfStart, IsInSomeRound, IsClosedTable}
+use Rattle.cep_dead.specs.Rounds.{RulePasses, IsMade, IsOfStart, IsInSomeRound, IsClosedTable}
 use Rattle.cep_dead.specs.Held.{is_added, HasGrown}
 
 -- Some atom of the list adds the possibility, where each variable has the set with its number.

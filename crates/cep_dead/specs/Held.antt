@@ -1,5 +1,5 @@
 -- Private. What a table of bits holds, and the definitions as tests of what it holds.
-use Rattle.std.specs.Prelude.{◌≡◌, ◌⊎◌, ℕ, zero, suc, ◌+◌, ◌*◌, ◌<◌, ◌≤◌, ◌^◌, ◌==◌, nat_lt, Bool, true, false, not, ◌&&◌, ◌||◌, if◌then◌else◌, List, [], map, Option, Some, None, option_map, unwrap_or, slice_get, slice_index_or, length}
+use Rattle.std.specs.Prelude.{◌≡◌, ◌⊎◌, ℕ, ◌+◌, ◌*◌, ◌<◌, ◌≤◌, ◌^◌, ◌==◌, nat_lt, Bool, true, false, not, ◌&&◌, ◌||◌, if◌then◌else◌, List, [], map, Option, Some, None, option_map, unwrap_or, slice_get, slice_index_or, length}
 use Rattle.std.specs.List.{list_any, list_all}
 use Rattle.cep_base.specs.declared.limits.TheConstants.{MOST_ARGUMENTS}
 use Rattle.cep_term.specs.Tree.{Tree, Trees, AtomTree, variable, node, none, more}
