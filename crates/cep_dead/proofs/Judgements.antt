@@ -16,17 +16,17 @@ use Rattle.cep_dead.specs.declared.bits.Bits.{Bits}
 use Rattle.cep_dead.specs.Sets.{has_bit}
 use Rattle.cep_dead.specs.Tables.{Possibility, nth_argument, HasVarAt, StandsAlone, IsOpen, CanBegin, PremisesPass}
 use Rattle.cep_dead.specs.Whys.{IsFirstShut, IsFirstEmpty}
-use Rattle.cep_dead.specs.Held.{words_at, argument_count, IsShort, is_open, stands_alone, can_begin, AreSets}
+use Rattle.cep_dead.specs.Held.{words_at, arguments_in, HasFewArguments, is_open, stands_alone, can_begin, AreSets}
 use Rattle.cep_dead.proofs.Deciding.{open_true, open_is, alone_true, begin_true, begin_is}
 use Rattle.cep_dead.proofs.OneWhy.{shut_among}
 
-counted : (cons : List Con) (kinds sorts : List ℕ) (args : Trees) → HaveSorts cons kinds sorts args → argument_count args ≡ length sorts
+counted : (cons : List Con) (kinds sorts : List ℕ) (args : Trees) → HaveSorts cons kinds sorts args → arguments_in args ≡ length sorts
 counted cons kinds [] none is = refl
 counted cons kinds [] (more t rest) is = absurd is
 counted cons kinds (sort ∷ sorts) none is = absurd is
 counted cons kinds (sort ∷ sorts) (more t rest) is = let others = counted cons kinds sorts rest is.1 in omega arith
 
-pub typed_short : (signature : Signature) (kinds : List ℕ) (a : AtomTree) → IsSmallSignature signature → IsTyped signature kinds a → IsShort a
+pub typed_short : (signature : Signature) (kinds : List ℕ) (a : AtomTree) → IsSmallSignature signature → IsTyped signature kinds a → HasFewArguments a
 typed_short signature kinds a small typed =
     let pred = some_there (slice_get signature.preds a.pred) (λ p. HaveSorts signature.cons kinds p.args a.args) typed in
     let few = holds_at (λ p. length p.args ≤ MOST_ARGUMENTS) signature.preds a.pred pred.0 small.pred_args pred.1 in

@@ -6,7 +6,7 @@ use Rattle.cep_rule.specs.declared.parts.Parts.{Parts}
 use Rattle.cep_rule.specs.Patterns.{ClauseTree}
 use Rattle.cep_dead.specs.Tables.{Possibility, of_stage, PremisesPass, AtomAdds}
 use Rattle.cep_dead.specs.Rounds.{RulePasses, IsMade, IsOfStart, IsInSomeRound, IsClosedTable}
-use Rattle.cep_dead.specs.Held.{is_added, HasGrown}
+use Rattle.cep_dead.specs.Held.{is_added, HasMoreNow}
 
 -- Some atom of the list adds the possibility, where each variable has the set with its number.
 abbrev pub IsAddedByAtom : (ℕ → ℕ → Bool) → List AtomTree → Possibility → Type 0
@@ -29,7 +29,7 @@ ClauseAdds program clause has item =
 pub record IsPass (program : Parts) (Added : Possibility → Type 0) (earlier later : Possibility → Bool) (new : Bool) : Type 0 where
   pub keeps : (item : Possibility) → earlier item ≡ true → later item ≡ true
   pub sound : ((item : Possibility) → earlier item ≡ true → IsInSomeRound program item) → (item : Possibility) → later item ≡ true → IsInSomeRound program item
-  pub grown : new ≡ true → HasGrown earlier later
+  pub grown : new ≡ true → HasMoreNow earlier later
   pub same : new ≡ false → (item : Possibility) → later item ≡ true → earlier item ≡ true
   pub closed : new ≡ false → (item : Possibility) → Added item → earlier item ≡ true
 

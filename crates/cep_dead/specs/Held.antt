@@ -19,19 +19,19 @@ abbrev pub is_in_set : List Bits → ℕ → ℕ → Bool
 is_in_set sets place n = has_bit (words_at sets place) n
 
 -- whether the possibility stands in the table
-abbrev pub holds : Table → Possibility → Bool
-holds table (of_stage k) = has_bit table.stages.words.items k
-holds table (of_pred p) = has_bit table.preds.words.items p
-holds table (of_con p i c) = nat_lt i MOST_ARGUMENTS && is_in_set table.rows.items (p * MOST_ARGUMENTS + i) c
+abbrev pub is_held : Table → Possibility → Bool
+is_held table (of_stage k) = has_bit table.stages.words.items k
+is_held table (of_pred p) = has_bit table.preds.words.items p
+is_held table (of_con p i c) = nat_lt i MOST_ARGUMENTS && is_in_set table.rows.items (p * MOST_ARGUMENTS + i) c
 
 -- how many arguments there are
-abbrev pub argument_count : Trees → ℕ
-argument_count none = 0
-argument_count (more t rest) = argument_count rest + 1
+abbrev pub arguments_in : Trees → ℕ
+arguments_in none = 0
+arguments_in (more t rest) = arguments_in rest + 1
 
 -- The atom has no more arguments than a predicate may have.
-abbrev pub IsShort : AtomTree → Type 0
-IsShort a = argument_count a.args ≤ MOST_ARGUMENTS
+abbrev pub HasFewArguments : AtomTree → Type 0
+HasFewArguments a = arguments_in a.args ≤ MOST_ARGUMENTS
 
 -- whether the constructor of the argument at the position, if it has one, is there
 abbrev pub is_term_open : (Possibility → Bool) → ℕ → ℕ → Tree → Bool
@@ -102,10 +102,10 @@ is_pred p (of_pred q) = q == p
 is_pred p (of_con q j c) = false
 
 -- whether the possibility is the stage
-abbrev pub is_stage : ℕ → Possibility → Bool
-is_stage stage (of_stage k) = k == stage
-is_stage stage (of_pred q) = false
-is_stage stage (of_con q j c) = false
+abbrev pub names_stage : ℕ → Possibility → Bool
+names_stage stage (of_stage k) = k == stage
+names_stage stage (of_pred q) = false
+names_stage stage (of_con q j c) = false
 
 -- whether the atom adds the possibility, where each variable has the set with its number
 abbrev pub is_added : (ℕ → ℕ → Bool) → AtomTree → Possibility → Bool
@@ -118,7 +118,7 @@ IsInMemory (of_pred p) = p < 2 ^ 70
 IsInMemory (of_con p i c) = (p < 2 ^ 70) × (i < MOST_ARGUMENTS) × (c < 2 ^ 70)
 
 -- Something stands in the later table that does not stand in the earlier one.
-pub record HasGrown (earlier later : Possibility → Bool) : Type 0 where
+pub record HasMoreNow (earlier later : Possibility → Bool) : Type 0 where
   pub item : Possibility
   pub in_memory : IsInMemory item
   pub not_before : earlier item ≡ false
@@ -129,7 +129,7 @@ pub record Growth (earlier later : Possibility → Bool) (Added : Possibility �
   pub keeps : (item : Possibility) → earlier item ≡ true → later item ≡ true
   pub has : (item : Possibility) → Added item → later item ≡ true
   pub only : (item : Possibility) → later item ≡ true → (earlier item ≡ true) ⊎ Added item
-  pub grown : new ≡ true → HasGrown earlier later
+  pub grown : new ≡ true → HasMoreNow earlier later
   pub same : new ≡ false → (item : Possibility) → later item ≡ true → earlier item ≡ true
 
 -- whether the number is in the set, where no set stands for all numbers

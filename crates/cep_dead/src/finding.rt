@@ -4,7 +4,7 @@ ghost use Rattle.cep_rule.specs.Program.{IsProgram};
 ghost use Rattle.cep_dead.specs.Rounds.{RulePasses};
 ghost use Rattle.cep_dead.specs.Whys.{IsWhy};
 ghost use Rattle.cep_dead.specs.Deads.{AreDeads, NeverApplies};
-ghost use Rattle.cep_dead.specs.Held.{holds};
+ghost use Rattle.cep_dead.specs.Held.{is_held};
 ghost use Rattle.cep_dead.specs.Adding.{IsLastTable};
 
 use crate::closing::last_table;
@@ -33,7 +33,7 @@ pub fn dead(alloc: Global, program: &Program) -> Result<Deads, AllocError>
 // The rules that do not pass the last table, in order, each with its why.
 fn dead_by(alloc: Global, program: &Parts, table: &Table) -> Result<Deads, AllocError>
     requires program { IsProgram program.now }
-    requires last { IsLastTable program.now (holds table.now) }
+    requires last { IsLastTable program.now (is_held table.now) }
     ensures { IfOk result (AreDeads program.now) }
 {
     closed_tables_tell_dead_rules();
@@ -57,8 +57,8 @@ fn why_not(
     requires program { IsProgram program.now }
     requires of_program { Contains program.now.rules rule.now }
     ensures { IfOk result (λ why. MatchOption why
-        (RulePasses program.now (λ item. holds table.now item ≡ true) rule.now)
-        (IsWhy program.now (λ item. holds table.now item ≡ true) rule.now)) }
+        (RulePasses program.now (λ item. is_held table.now item ≡ true) rule.now)
+        (IsWhy program.now (λ item. is_held table.now item ≡ true) rule.now)) }
 {
     let stage = rule.group / 2;
     if !table.has_stage(stage) {
