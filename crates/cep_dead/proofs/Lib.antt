@@ -4,3 +4,15 @@ pub mod Derived
 pub mod Reached
 pub mod Union
 pub mod OneWhy
+pub mod Words
+pub mod Grown
+pub mod Rows
+pub mod Gathered
+pub mod Deciding
+pub mod Judgements
+pub mod Told
+pub mod Additions
+pub mod Passes
+pub mod Ending
+pub mod Starting
+pub mod DeadRules

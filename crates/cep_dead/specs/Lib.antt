@@ -3,3 +3,7 @@ pub mod Rounds
 pub mod Moves
 pub mod Whys
 pub mod Deads
+pub mod Sets
+pub mod Held
+pub mod Judged
+pub mod Adding

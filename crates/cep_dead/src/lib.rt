@@ -8,7 +8,15 @@
 //! tables, rounds and why a rule is dead; no code is named there.
 #![tactic(auto)]
 
+mod adding;
+mod bits;
+mod closing;
 mod dead_rule;
+mod finding;
+mod judging;
 pub mod laws;
+mod passing;
+mod table;
 
 pub use dead_rule::{DeadRule, DeadWhy, Deads};
+pub use finding::dead;

@@ -1,0 +1,5 @@
+use Rattle.cep_dead.proofs.DeadRules.{AreDeadsBelow}
+use Rattle.cep_dead.proofs.finding.dead_by.Given as goal
+
+abbrev pub invariant-loop-i : goal.invariant-loop-i
+invariant-loop-i l = AreDeadsBelow l.program l.i l.deads
