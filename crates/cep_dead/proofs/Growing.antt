@@ -6,22 +6,22 @@ use Rattle.cep_term.specs.Tree.{AtomTree}
 use Rattle.cep_rule.specs.declared.signature.Signature.{Signature}
 use Rattle.cep_rule.specs.declared.rule.Rule.{Rule}
 use Rattle.cep_rule.specs.declared.parts.Parts.{Parts}
-use Rattle.cep_dead.specs.Tables.{Item, of_stage, of_pred, of_con, HasConAt, IsOpen, CanBegin, Pass, Adds}
+use Rattle.cep_dead.specs.Tables.{Possibility, of_stage, of_pred, of_con, HasConAt, IsOpen, CanBegin, PremisesPass, AtomAdds}
 use Rattle.cep_dead.specs.Rounds.{premises_of, RulePasses, IsAddedByRule, IsAddedByClause, IsInRound, IsDead}
 
-pub open_later : (table later : Item → Type 0) → ((item : Item) → table item → later item) → (a : AtomTree) → IsOpen table a → IsOpen later a
+pub open_later : (table later : Possibility → Type 0) → ((item : Possibility) → table item → later item) → (a : AtomTree) → IsOpen table a → IsOpen later a
 open_later table later grows a is = record { pred = grows _ is.pred; cons = λ i c has. grows _ (is.cons i c has) }
 
-pub begin_later : (table later : Item → Type 0) → ((item : Item) → table item → later item) → (signature : Signature) (kinds : List ℕ) (premises : List AtomTree) (v c : ℕ) → CanBegin signature table kinds premises v c → CanBegin signature later kinds premises v c
+pub begin_later : (table later : Possibility → Type 0) → ((item : Possibility) → table item → later item) → (signature : Signature) (kinds : List ℕ) (premises : List AtomTree) (v c : ℕ) → CanBegin signature table kinds premises v c → CanBegin signature later kinds premises v c
 begin_later table later grows signature kinds premises v c begin = record { at_each = λ a i there has. grows _ (begin.at_each a i there has); typed = begin.typed }
 
-pub adds_later : (table later : Item → Type 0) → ((item : Item) → table item → later item) → (signature : Signature) (kinds : List ℕ) (premises : List AtomTree) (a : AtomTree) (item : Item) → Adds signature table kinds premises a item → Adds signature later kinds premises a item
+pub adds_later : (table later : Possibility → Type 0) → ((item : Possibility) → table item → later item) → (signature : Signature) (kinds : List ℕ) (premises : List AtomTree) (a : AtomTree) (item : Possibility) → AtomAdds signature table kinds premises a item → AtomAdds signature later kinds premises a item
 adds_later table later grows signature kinds premises a (of_stage k) adds = adds
 adds_later table later grows signature kinds premises a (of_pred p) adds = adds
 adds_later table later grows signature kinds premises a (of_con p i c) adds =
     (adds.0, ⊎_elim (λ (here : HasConAt a i c). inl here) (λ by. inr (by.0, by.1, begin_later table later grows signature kinds premises by.0 c by.2)) adds.1)
 
-pub pass_later : (table later : Item → Type 0) → ((item : Item) → table item → later item) → (signature : Signature) (kinds : List ℕ) (premises : List AtomTree) → Pass signature table kinds premises → Pass signature later kinds premises
+pub pass_later : (table later : Possibility → Type 0) → ((item : Possibility) → table item → later item) → (signature : Signature) (kinds : List ℕ) (premises : List AtomTree) → PremisesPass signature table kinds premises → PremisesPass signature later kinds premises
 pass_later table later grows signature kinds premises pass = record {
   opened = all_weaker (IsOpen table) (IsOpen later) premises (open_later table later grows) pass.opened;
   possible = λ v alone.
@@ -30,7 +30,7 @@ pass_later table later grows signature kinds premises pass = record {
 }
 
 module _ (program : Parts) where
-  further : (n k m : ℕ) (item : Item) → m ≡ k + n → IsInRound program n item → IsInRound program m item
+  further : (n k m : ℕ) (item : Possibility) → m ≡ k + n → IsInRound program n item → IsInRound program m item
   further n zero m item e is = let same : n ≡ m = omega arith in subst (λ r. IsInRound program r item) same is
   further n (suc k) m item e is =
       let before = further n k (k + n) item refl is in
@@ -38,7 +38,7 @@ module _ (program : Parts) where
       let same : suc (k + n) ≡ m = omega arith in
       subst (λ r. IsInRound program r item) same next
 
-  pub later_item : (n m : ℕ) → n ≤ m → (item : Item) → IsInRound program n item → IsInRound program m item
+  pub later_item : (n m : ℕ) → n ≤ m → (item : Possibility) → IsInRound program n item → IsInRound program m item
   later_item n m within item is = further n (m - n) m item (omega arith) is
 
   pub later_open : (n m : ℕ) → n ≤ m → (a : AtomTree) → IsOpen (IsInRound program n) a → IsOpen (IsInRound program m) a
@@ -53,10 +53,10 @@ module _ (program : Parts) where
     premises = pass_later (IsInRound program n) (IsInRound program m) (later_item n m within) program.signature rule.kinds _ passes.premises;
   }
 
-  pub rule_later : (table later : Item → Type 0) → ((item : Item) → table item → later item) → (rule : Rule) → RulePasses program table rule → RulePasses program later rule
+  pub rule_later : (table later : Possibility → Type 0) → ((item : Possibility) → table item → later item) → (rule : Rule) → RulePasses program table rule → RulePasses program later rule
   rule_later table later grows rule passes = record { stage = grows _ passes.stage; premises = pass_later table later grows program.signature rule.kinds _ passes.premises }
 
-  pub by_rule_later : (table later : Item → Type 0) → ((item : Item) → table item → later item) → (item : Item) → IsAddedByRule program table item → IsAddedByRule program later item
+  pub by_rule_later : (table later : Possibility → Type 0) → ((item : Possibility) → table item → later item) → (item : Possibility) → IsAddedByRule program table item → IsAddedByRule program later item
   by_rule_later table later grows item added = record {
     rule = added.rule;
     of_program = added.of_program;
@@ -64,7 +64,7 @@ module _ (program : Parts) where
     made = ⊎_elim (λ by. inl (by.0, by.1, adds_later table later grows program.signature added.rule.kinds (premises_of added.rule) by.0 item by.2)) (λ next. inr next) added.made;
   }
 
-  pub by_clause_later : (table later : Item → Type 0) → ((item : Item) → table item → later item) → (item : Item) → IsAddedByClause program table item → IsAddedByClause program later item
+  pub by_clause_later : (table later : Possibility → Type 0) → ((item : Possibility) → table item → later item) → (item : Possibility) → IsAddedByClause program table item → IsAddedByClause program later item
   by_clause_later table later grows item added = record {
     clause = added.clause;
     of_program = added.of_program;
@@ -72,9 +72,9 @@ module _ (program : Parts) where
     made = adds_later table later grows program.signature added.clause.kinds added.clause.goals added.clause.head item added.made;
   }
 
-  -- a round behind which nothing is added is the last
-  module _ (n : ℕ) (closed : (item : Item) → IsInRound program (suc n) item → IsInRound program n item) where
-    pub in_last : (m : ℕ) (item : Item) → IsInRound program m item → IsInRound program n item
+  -- a round after which nothing is added is the last
+  module _ (n : ℕ) (closed : (item : Possibility) → IsInRound program (suc n) item → IsInRound program n item) where
+    pub in_last : (m : ℕ) (item : Possibility) → IsInRound program m item → IsInRound program n item
     in_last zero item is = later_item 0 n (omega arith) item is
     in_last (suc m) item is =
         let grows = in_last m in

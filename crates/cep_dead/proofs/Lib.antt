@@ -4,3 +4,4 @@ pub mod Derived
 pub mod Reached
 pub mod Union
 pub mod OneWhy
+pub mod Words

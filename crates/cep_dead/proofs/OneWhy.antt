@@ -8,11 +8,11 @@ use Rattle.cep_rule.specs.declared.rule.Rule.{Rule}
 use Rattle.cep_rule.specs.declared.parts.Parts.{Parts}
 use Rattle.cep_dead.specs.declared.dead_rule.DeadWhy.{DeadWhy}
 use Rattle.cep_dead.specs.declared.dead_rule.DeadWhy.TheVariants.{Stage, Premise, Var}
-use Rattle.cep_dead.specs.Tables.{Item, of_stage, IsOpen}
+use Rattle.cep_dead.specs.Tables.{Possibility, of_stage, IsOpen}
 use Rattle.cep_dead.specs.Rounds.{premises_of, RulePasses}
 use Rattle.cep_dead.specs.Whys.{IsFirstShut, IsFirstEmpty, IsWhy}
 
-module _ (table : Item → Type 0) where
+module _ (table : Possibility → Type 0) where
   -- a premise that is not open is not among those that are
   shut_among : (premises : List AtomTree) (place : ℕ) → IsFirstShut table premises place → AllByRecursion (IsOpen table) premises → ⊥
   shut_among premises place is all =

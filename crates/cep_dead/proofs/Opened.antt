@@ -10,7 +10,7 @@ use Rattle.cep_rule.specs.declared.signature.Con.{Con}
 use Rattle.cep_rule.specs.declared.signature.Signature.{Signature}
 use Rattle.cep_rule.specs.Typing.{HasSort, HaveSorts, IsTyped, IsValue, AreValues}
 use Rattle.cep_rule.specs.Instances.{given, full_instance, full_instances}
-use Rattle.cep_dead.specs.Tables.{Item, argument_at, HasConAt, HasVarAt, IsOpen, CanBegin, Pass, Adds}
+use Rattle.cep_dead.specs.Tables.{Possibility, nth_argument, HasConAt, HasVarAt, IsOpen, CanBegin, PremisesPass, AtomAdds}
 
 pub from_some : {X : Type 0} (found : Option X) (P : X → Type 0) (Q : Type 0) → ((x : X) → found ≡ Some x → P x → Q) → IsSomeAnd found P → Q
 from_some None P Q f h = absurd h
@@ -20,17 +20,17 @@ to_some : {X : Type 0} (found : Option X) (P : X → Type 0) (x : X) → found �
 to_some found P x is h = subst (λ o. IsSomeAnd o P) (sym is) h
 
 -- the argument of an instance is the instance of the argument
-instance_at : (values : Values) (args : Trees) (i : ℕ) (t : Tree) → argument_at args i ≡ Some t → argument_at (argument_instances values args) i ≡ Some (term_instance values t)
+instance_at : (values : Values) (args : Trees) (i : ℕ) (t : Tree) → nth_argument args i ≡ Some t → nth_argument (argument_instances values args) i ≡ Some (term_instance values t)
 instance_at values none i t is = none_some t is
 instance_at values (more u rest) zero t is = ap (λ x. Some (term_instance values x)) (some_same u t is)
 instance_at values (more u rest) (suc i) t is = instance_at values rest i t is
 
 record ArgumentOf (values : Values) (args : Trees) (i : ℕ) (u : Tree) : Type 0 where
   from : Tree
-  there : argument_at args i ≡ Some from
+  there : nth_argument args i ≡ Some from
   same : term_instance values from ≡ u
 
-argument_of : (values : Values) (args : Trees) (i : ℕ) (u : Tree) → argument_at (argument_instances values args) i ≡ Some u → ArgumentOf values args i u
+argument_of : (values : Values) (args : Trees) (i : ℕ) (u : Tree) → nth_argument (argument_instances values args) i ≡ Some u → ArgumentOf values args i u
 argument_of values none i u is = none_some u is
 argument_of values (more t rest) zero u is = record { from = t; there = refl; same = some_same _ _ is }
 argument_of values (more t rest) (suc i) u is =
@@ -38,18 +38,18 @@ argument_of values (more t rest) (suc i) u is =
     record { from = later.from; there = later.there; same = later.same }
 
 -- a pattern is open where an instance is
-pattern_open : (table : Item → Type 0) (values : List Tree) (a : AtomTree) → IsOpen table (full_instance values a) → IsOpen table a
+pattern_open : (table : Possibility → Type 0) (values : List Tree) (a : AtomTree) → IsOpen table (full_instance values a) → IsOpen table a
 pattern_open table values a is = record {
   pred = is.pred;
   cons = λ i c has. is.cons i c (argument_instances (given values) has.0, instance_at (given values) a.args i (node c has.0) has.1);
 }
 
-patterns_open : (table : Item → Type 0) (values : List Tree) (atoms : List AtomTree) → AllByRecursion (IsOpen table) (full_instances values atoms) → AllByRecursion (IsOpen table) atoms
+patterns_open : (table : Possibility → Type 0) (values : List Tree) (atoms : List AtomTree) → AllByRecursion (IsOpen table) (full_instances values atoms) → AllByRecursion (IsOpen table) atoms
 patterns_open table values [] all = tt
 patterns_open table values (a ∷ atoms) all = (pattern_open table values a all.0, patterns_open table values atoms all.1)
 
 -- the type of a variable that stands by itself
-argument_sort : (cons : List Con) (kinds sorts : List ℕ) (args : Trees) (i v : ℕ) → HaveSorts cons kinds sorts args → argument_at args i ≡ Some (variable v) → (sort : ℕ) × (slice_get kinds v ≡ Some sort)
+argument_sort : (cons : List Con) (kinds sorts : List ℕ) (args : Trees) (i v : ℕ) → HaveSorts cons kinds sorts args → nth_argument args i ≡ Some (variable v) → (sort : ℕ) × (slice_get kinds v ≡ Some sort)
 argument_sort cons kinds sorts none i v typed is = none_some (variable v) is
 argument_sort cons kinds [] (more t rest) i v typed is = absurd typed
 argument_sort cons kinds (sort ∷ sorts) (more t rest) zero v typed is = (sort, subst (HasSort cons kinds sort) (some_same t (variable v) is) typed.0)
@@ -80,7 +80,7 @@ value_at cons (kind ∷ kinds) [] v sort are is = absurd are
 value_at cons (kind ∷ kinds) (t ∷ values) zero sort are is = (t, (refl, subst (λ s. IsValue cons s t) (some_same kind sort is) are.0))
 value_at cons (kind ∷ kinds) (t ∷ values) (suc v) sort are is = value_at cons kinds values v sort are.1 is
 
-module _ (signature : Signature) (table : Item → Type 0) (kinds : List ℕ) (values : List Tree) (premises : List AtomTree) (are : AreValues signature.cons kinds values) (typed : AllByRecursion (IsTyped signature kinds) premises) (opened : AllByRecursion (IsOpen table) (full_instances values premises)) where
+module _ (signature : Signature) (table : Possibility → Type 0) (kinds : List ℕ) (values : List Tree) (premises : List AtomTree) (are : AreValues signature.cons kinds values) (typed : AllByRecursion (IsTyped signature kinds) premises) (opened : AllByRecursion (IsOpen table) (full_instances values premises)) where
   begins : (a : AtomTree) (i v : ℕ) → IsTyped signature kinds a → HasVarAt a i v → Begins signature.cons kinds values v
   begins a i v of_type has =
       let sort = variable_sort signature kinds a i v of_type has in
@@ -95,7 +95,7 @@ module _ (signature : Signature) (table : Item → Type 0) (kinds : List ℕ) (v
         is.cons i b.con (b.args, (instance_at (given values) a.args i (variable v) has ∙ ap (λ o. Some (unwrap_or o (variable v))) b.value));
   }
 
-  pub instances_pass : Pass signature table kinds premises
+  pub instances_pass : PremisesPass signature table kinds premises
   instances_pass = record {
     opened = patterns_open table values premises opened;
     possible = λ v alone.
@@ -104,7 +104,7 @@ module _ (signature : Signature) (table : Item → Type 0) (kinds : List ℕ) (v
   }
 
   -- what is added opens the instance of what is made
-  pub instance_opened : (a : AtomTree) → IsTyped signature kinds a → IsOpen (Adds signature table kinds premises a) (full_instance values a)
+  pub instance_opened : (a : AtomTree) → IsTyped signature kinds a → IsOpen (AtomAdds signature table kinds premises a) (full_instance values a)
   instance_opened a of_type = record {
     pred = refl;
     cons = λ i c has.
@@ -115,7 +115,7 @@ module _ (signature : Signature) (table : Item → Type 0) (kinds : List ℕ) (v
       same_con : (c d : ℕ) (args args' : Trees) → node c args ≡ node d args' → c ≡ d
       same_con c d args args' e = cc
 
-      by : (i c : ℕ) (args : Trees) (t : Tree) → argument_at a.args i ≡ Some t → term_instance (given values) t ≡ node c args → HasConAt a i c ⊎ ((v : ℕ) × HasVarAt a i v × CanBegin signature table kinds premises v c)
+      by : (i c : ℕ) (args : Trees) (t : Tree) → nth_argument a.args i ≡ Some t → term_instance (given values) t ≡ node c args → HasConAt a i c ⊎ ((v : ℕ) × HasVarAt a i v × CanBegin signature table kinds premises v c)
       by i c args (variable v) there same =
           let b = begins a i v of_type there in
           let is : node b.con b.args ≡ node c args = sym (ap (λ o. unwrap_or o (variable v)) b.value) ∙ same in

@@ -20,7 +20,7 @@ use Rattle.cep_rule.specs.Steps.{Spot}
 use Rattle.cep_rule.specs.Program.{IsTypedRule, IsProgram}
 use Rattle.cep_dead.specs.Tables.{of_stage, IsOpen}
 use Rattle.cep_dead.specs.Rounds.{stage_of, premises_of, RulePasses, IsInRound, IsDead}
-use Rattle.cep_dead.specs.Moves.{start_spot, Moves, AreMoves}
+use Rattle.cep_dead.specs.Moves.{first_spot, Moves, AreMoves}
 use Rattle.cep_dead.proofs.Opened.{instances_pass, instance_opened}
 use Rattle.cep_dead.proofs.Growing.{open_later, later_item, later_open, later_all}
 use Rattle.cep_dead.proofs.Derived.{all_derived_open}
@@ -40,7 +40,7 @@ kept_needed test (premise ∷ premises) a there = by (test premise) (kept_needed
     by true rest there = ⊎_elim (λ (same : premise.atom ≡ a). contains_same premise.atom _ a same) (λ later. contains_behind premise.atom _ a (rest later)) (contains_cases premise.atom _ a there)
     by false rest there = contains_behind premise.atom _ a (rest there)
 
-pub start_in_table : (program : Parts) → IsInTable program 0 (start_spot program)
+pub start_in_table : (program : Parts) → IsInTable program 0 (first_spot program)
 start_in_table program = record {
   stage = refl;
   atoms = λ a some. record { pred = (a, some, refl); cons = λ i c has. (a, some, refl, has) };

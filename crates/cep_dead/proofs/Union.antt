@@ -6,21 +6,21 @@ use Rattle.cep_base.proofs.Elements.{all_at, all_of, contains_none, contains_fir
 use Rattle.cep_term.specs.Tree.{Tree, Trees, AtomTree, variable, node, none, more}
 use Rattle.cep_rule.specs.declared.rule.Rule.{Rule}
 use Rattle.cep_rule.specs.declared.parts.Parts.{Parts}
-use Rattle.cep_dead.specs.Tables.{Item, of_stage, of_pred, of_con, argument_at, HasConAt, HasVarAt, IsOpen, CanBegin, Pass, Adds}
-use Rattle.cep_dead.specs.Rounds.{premises_of, RulePasses, IsMade, IsInRound, IsDead, IsInSomeRound, IsClosed}
+use Rattle.cep_dead.specs.Tables.{Possibility, of_stage, of_pred, of_con, nth_argument, HasConAt, HasVarAt, IsOpen, CanBegin, PremisesPass, AtomAdds}
+use Rattle.cep_dead.specs.Rounds.{premises_of, RulePasses, IsMade, IsInRound, IsDead, IsInSomeRound, IsClosedTable}
 use Rattle.cep_dead.proofs.Growing.{open_later, begin_later, pass_later, adds_later, later_item, rule_later, by_rule_later, by_clause_later}
 
 -- What holds of each argument from some round on holds of all from one round on.
 module _ (Q : ℕ → ℕ → Tree → Type 0) (grows : (n m i : ℕ) (t : Tree) → n ≤ m → Q n i t → Q m i t) where
   -- of the arguments that stand from a position on
-  all_arguments : (args : Trees) (from : ℕ → ℕ) → ((i : ℕ) (t : Tree) → argument_at args i ≡ Some t → (n : ℕ) × Q n (from i) t) → (n : ℕ) × ((i : ℕ) (t : Tree) → argument_at args i ≡ Some t → Q n (from i) t)
+  all_arguments : (args : Trees) (from : ℕ → ℕ) → ((i : ℕ) (t : Tree) → nth_argument args i ≡ Some t → (n : ℕ) × Q n (from i) t) → (n : ℕ) × ((i : ℕ) (t : Tree) → nth_argument args i ≡ Some t → Q n (from i) t)
   all_arguments none from each = (0, (λ i t is. none_some t is))
   all_arguments (more u rest) from each =
       let first = each zero u refl in
       let later = all_arguments rest (λ i. from (suc i)) (λ i t is. each (suc i) t is) in
       (max first.0 later.0, by first.0 later.0 first.1 later.1)
     where
-      by : (n m : ℕ) → Q n (from zero) u → ((i : ℕ) (t : Tree) → argument_at rest i ≡ Some t → Q m (from (suc i)) t) → (i : ℕ) (t : Tree) → argument_at (more u rest) i ≡ Some t → Q (max n m) (from i) t
+      by : (n m : ℕ) → Q n (from zero) u → ((i : ℕ) (t : Tree) → nth_argument rest i ≡ Some t → Q m (from (suc i)) t) → (i : ℕ) (t : Tree) → nth_argument (more u rest) i ≡ Some t → Q (max n m) (from i) t
       by n m here there zero t is = subst (λ x. Q (max n m) (from zero) x) (some_same u t is) (grows n (max n m) (from zero) u (omega arith) here)
       by n m here there (suc i) t is = grows m (max n m) (from (suc i)) t (omega arith) (there i t is)
 
@@ -40,10 +40,10 @@ module _ (Q : ℕ → AtomTree → Type 0) (grows : (n m : ℕ) (a : AtomTree) �
       )
 
 module _ (program : Parts) where
-  abbrev all_rounds : Item → Type 0
+  abbrev all_rounds : Possibility → Type 0
   all_rounds = IsInSomeRound program
 
-  abbrev in_round : ℕ → Item → Type 0
+  abbrev in_round : ℕ → Possibility → Type 0
   in_round n = IsInRound program n
 
   open_once : (a : AtomTree) → IsOpen all_rounds a → (n : ℕ) × IsOpen (in_round n) a
@@ -66,7 +66,7 @@ module _ (program : Parts) where
       no_con : (v c : ℕ) (args : Trees) → variable v ≡ node c args → ⊥
       no_con v c args e = cc
 
-      one : (i : ℕ) (t : Tree) → argument_at a.args i ≡ Some t → (n : ℕ) × ((c : ℕ) (args : Trees) → t ≡ node c args → in_round n (of_con a.pred i c))
+      one : (i : ℕ) (t : Tree) → nth_argument a.args i ≡ Some t → (n : ℕ) × ((c : ℕ) (args : Trees) → t ≡ node c args → in_round n (of_con a.pred i c))
       one i (variable v) there = (0, (λ c args e. absurd (no_con v c args e)))
       one i (node d args') there =
           let at = is.cons i d (args', there) in
@@ -85,7 +85,7 @@ module _ (program : Parts) where
         same_var : (w u : ℕ) → variable w ≡ variable u → w ≡ u
         same_var w u e = cc
 
-        of_argument : (a : AtomTree) → Contains premises a → (i : ℕ) (t : Tree) → argument_at a.args i ≡ Some t → (n : ℕ) × (t ≡ variable v → in_round n (of_con a.pred i c))
+        of_argument : (a : AtomTree) → Contains premises a → (i : ℕ) (t : Tree) → nth_argument a.args i ≡ Some t → (n : ℕ) × (t ≡ variable v → in_round n (of_con a.pred i c))
         of_argument a there i (node d args) is = (0, (λ e. absurd (other_var d v args e)))
         of_argument a there i (variable w) is =
             elim (w == v) as (λ t. (w == v) ≡ t → (n : ℕ) × (variable w ≡ variable v → in_round n (of_con a.pred i c))) [
@@ -98,7 +98,7 @@ module _ (program : Parts) where
             let all = all_arguments (λ (n i : ℕ) (t : Tree). t ≡ variable v → in_round n (of_con a.pred i c)) (λ n m i t within holds e. later_item program n m within _ (holds e)) a.args (λ i. i) (of_argument a there) in
             (all.0, (λ i has. all.1 i (variable v) has refl))
 
-    pass_once : Pass program.signature all_rounds kinds premises → (n : ℕ) × Pass program.signature (in_round n) kinds premises
+    pass_once : PremisesPass program.signature all_rounds kinds premises → (n : ℕ) × PremisesPass program.signature (in_round n) kinds premises
     pass_once pass =
         let opened = all_atoms (λ n a. IsOpen (in_round n) a) (λ n m a within is. open_later (in_round n) (in_round m) (later_item program n m within) a is) premises
         (λ a there. open_once a (all_at (IsOpen all_rounds) premises a pass.opened there)) in
@@ -123,7 +123,7 @@ module _ (program : Parts) where
         same_var : (w u : ℕ) → variable w ≡ variable u → w ≡ u
         same_var w u e = cc
 
-        of_argument : (a : AtomTree) → Contains premises a → (i : ℕ) (t : Tree) → argument_at a.args i ≡ Some t → (n : ℕ) × ((v : ℕ) → t ≡ variable v → (c : ℕ) × CanBegin program.signature (in_round n) kinds premises v c)
+        of_argument : (a : AtomTree) → Contains premises a → (i : ℕ) (t : Tree) → nth_argument a.args i ≡ Some t → (n : ℕ) × ((v : ℕ) → t ≡ variable v → (c : ℕ) × CanBegin program.signature (in_round n) kinds premises v c)
         of_argument a there i (node d args) is = (0, (λ v e. absurd (other_var d v args e)))
         of_argument a there i (variable w) is =
             let begin = pass.possible w (a, there, (i, is)) in
@@ -135,7 +135,7 @@ module _ (program : Parts) where
             let all = all_arguments (λ (n i : ℕ) (t : Tree). (v : ℕ) → t ≡ variable v → (c : ℕ) × CanBegin program.signature (in_round n) kinds premises v c) (λ n m i t within each v e. begin_from n m v within (each v e)) a.args (λ i. i) (of_argument a there) in
             (all.0, (λ i v has. all.1 i (variable v) has v refl))
 
-    adds_once : (a : AtomTree) (item : Item) → Adds program.signature all_rounds kinds premises a item → (n : ℕ) × Adds program.signature (in_round n) kinds premises a item
+    adds_once : (a : AtomTree) (item : Possibility) → AtomAdds program.signature all_rounds kinds premises a item → (n : ℕ) × AtomAdds program.signature (in_round n) kinds premises a item
     adds_once a (of_stage k) adds = (0, adds)
     adds_once a (of_pred p) adds = (0, adds)
     adds_once a (of_con p i c) adds =
@@ -156,21 +156,21 @@ module _ (program : Parts) where
         },
       )
 
-  made_once : (rule : Rule) (item : Item) → IsMade program all_rounds rule item → (n : ℕ) × IsMade program (in_round n) rule item
+  made_once : (rule : Rule) (item : Possibility) → IsMade program all_rounds rule item → (n : ℕ) × IsMade program (in_round n) rule item
   made_once rule item made =
       ⊎_elim
       (λ by. let sooner = adds_once rule.kinds (premises_of rule) by.0 item by.2 in (sooner.0, inl (by.0, by.1, sooner.1)))
       (λ next. (0, inr next))
       made
 
-  made_from : (n m : ℕ) → n ≤ m → (rule : Rule) (item : Item) → IsMade program (in_round n) rule item → IsMade program (in_round m) rule item
+  made_from : (n m : ℕ) → n ≤ m → (rule : Rule) (item : Possibility) → IsMade program (in_round n) rule item → IsMade program (in_round m) rule item
   made_from n m within rule item made =
       ⊎_elim
       (λ by. inl (by.0, by.1, adds_later (in_round n) (in_round m) (later_item program n m within) program.signature rule.kinds (premises_of rule) by.0 item by.2))
       (λ next. inr next)
       made
 
-  pub rounds_closed : IsClosed program all_rounds
+  pub rounds_closed : IsClosedTable program all_rounds
   rounds_closed = record {
     start = λ item is. (0, is);
     rules = λ item added.
@@ -200,7 +200,7 @@ module _ (program : Parts) where
         );
   }
 
-  pub least : (table : Item → Type 0) → IsClosed program table → (n : ℕ) (item : Item) → in_round n item → table item
+  pub least : (table : Possibility → Type 0) → IsClosedTable program table → (n : ℕ) (item : Possibility) → in_round n item → table item
   least table closed zero item is = closed.start item is
   least table closed (suc n) item is =
       let grows = least table closed n in
@@ -215,7 +215,7 @@ module _ (program : Parts) where
   pub dead_from_all : (rule : Rule) → ¬ RulePasses program all_rounds rule → IsDead program rule
   dead_from_all rule passes_not n passes = passes_not (rule_later program (in_round n) all_rounds (λ item is. (n, is)) rule passes)
 
-  pub dead_by_table : (table : Item → Type 0) (rule : Rule) → IsClosed program table → ((item : Item) → table item → all_rounds item) → IsDead program rule ↔ ¬ RulePasses program table rule
+  pub dead_by_table : (table : Possibility → Type 0) (rule : Rule) → IsClosedTable program table → ((item : Possibility) → table item → all_rounds item) → IsDead program rule ↔ ¬ RulePasses program table rule
   dead_by_table table rule closed within = (
     (λ dead passes. dead_in_all rule dead (rule_later program table all_rounds within rule passes)),
     (λ passes_not. dead_from_all rule (λ passes. passes_not (rule_later program all_rounds table (λ item is. least table closed is.0 item is.1) rule passes))),

@@ -8,18 +8,18 @@ use Rattle.cep_rule.specs.Offers.{Applies}
 use Rattle.cep_rule.specs.Steps.{Spot}
 use Rattle.cep_dead.specs.declared.dead_rule.DeadRule.{DeadRule}
 use Rattle.cep_dead.specs.Rounds.{stage_of, IsDead, IsInSomeRound}
-use Rattle.cep_dead.specs.Moves.{start_spot, AreMoves}
+use Rattle.cep_dead.specs.Moves.{first_spot, AreMoves}
 use Rattle.cep_dead.specs.Whys.{IsWhy}
 
 -- The numbers are strictly increasing.
-abbrev pub AreIncreasing : List ℕ → Type 0
-AreIncreasing [] = Unit {0}
-AreIncreasing (number ∷ numbers) = AllByRecursion (λ later. number < later) numbers × AreIncreasing numbers
+abbrev pub AreStrictlyIncreasing : List ℕ → Type 0
+AreStrictlyIncreasing [] = Unit {0}
+AreStrictlyIncreasing (number ∷ numbers) = AllByRecursion (λ later. number < later) numbers × AreStrictlyIncreasing numbers
 
 -- No instance of the rule with this number applies in its stage, wherever moves from the start lead.
 abbrev pub NeverApplies : Parts → ℕ → Type 0
 NeverApplies program number =
-    (height : ℕ) (moves : List Spot) (last : Spot) (rule : Rule) (offer : Offer) → AreMoves program height (start_spot program) moves last
+    (height : ℕ) (moves : List Spot) (last : Spot) (rule : Rule) (offer : Offer) → AreMoves program height (first_spot program) moves last
     → slice_get program.rules number ≡ Some rule → offer.rule ≡ number → stage_of rule ≡ last.stage → ¬ Applies program height last.state offer
 
 -- A rule is dead, and this is why: by all that is in some round.
@@ -30,6 +30,6 @@ pub record IsDeadFor (program : Parts) (dead : DeadRule) : Type 0 where
 
 -- These are the dead rules of the program, in order, each with its why.
 pub record AreDeads (program : Parts) (deads : List DeadRule) : Type 0 where
-  pub in_order : AreIncreasing (map (λ dead. dead.rule) deads)
+  pub in_order : AreStrictlyIncreasing (map (λ dead. dead.rule) deads)
   pub each : AllByRecursion (IsDeadFor program) deads
   pub all : (number : ℕ) (rule : Rule) → slice_get program.rules number ≡ Some rule → IsDead program rule → Contains (map (λ dead. dead.rule) deads) number

@@ -3,3 +3,4 @@ pub mod Rounds
 pub mod Moves
 pub mod Whys
 pub mod Deads
+pub mod Sets

@@ -8,8 +8,8 @@ use Rattle.cep_rule.specs.Steps.{Spot, stage_after}
 use Rattle.cep_dead.specs.Rounds.{stage_of}
 
 -- where a program begins
-abbrev pub start_spot : Parts → Spot
-start_spot program = record { stage = program.start_stage; state = program.start }
+abbrev pub first_spot : Parts → Spot
+first_spot program = record { stage = program.start_stage; state = program.start }
 
 -- A move: an instance applies of a rule of the stage, or of one that leaves it, and its step leads to the new state, and the rule to the new stage.
 pub record Moves (program : Parts) (height : ℕ) (old new : Spot) : Type 0 where

@@ -8,7 +8,10 @@
 //! tables, rounds and why a rule is dead; no code is named there.
 #![tactic(auto)]
 
+mod bits;
 mod dead_rule;
+mod finding;
 pub mod laws;
 
 pub use dead_rule::{DeadRule, DeadWhy, Deads};
+pub use finding::dead;
