@@ -1,6 +1,8 @@
+pub mod Added
 pub mod Reporting
 pub mod Reported
 pub mod Done
 pub mod Begins
 pub mod OneDue
 pub mod Telling
+pub mod Judging
