@@ -13,7 +13,7 @@ use Rattle.cep_base.proofs.Lists.{some_same}
 use Rattle.cep_rule.specs.declared.parts.Parts.{Parts}
 use Rattle.cep_ground.specs.Texts.{Spells}
 use Rattle.cep_words.specs.declared.options.Options.{Options}
-use Rattle.cep_words.specs.Words.{Request, Play, Examine, World}
+use Rattle.cep_words.specs.Words.{Request, Play, Examine, Dead, World}
 use Rattle.cep_run.specs.Fronts.{BeginsSome, LeavesUnheard, heard_bytes}
 use Rattle.cep_run.specs.Said.{IsSomeSaid}
 use Rattle.cep_play.specs.Exchange.{Talked, Loaded, AskedFor, Went}
@@ -102,6 +102,8 @@ module _ (loads : Loaded) (held : Files) (told : loads.files ≡ Some held) (com
   asks_prefix (Examine task file log) (inl (of, adds)) (text, has, inr (program, spelled, (bytes, has', (report, reports, is)))) = due_prefix 2 _ is adds
   asks_prefix (Examine task file log) (inr adds) (text, has, inl (report, refused, is)) = due_prefix 1 _ is adds
   asks_prefix (Examine task file log) (inr adds) (text, has, inr (program, spelled, (bytes, has', (report, reports, is)))) = due_prefix 1 _ is adds
+  asks_prefix (Dead file) adds (text, has, inl (report, refused, is)) = due_prefix 1 _ is adds
+  asks_prefix (Dead file) adds (text, has, inr (program, spelled, (report, reports, is))) = due_prefix 1 _ is adds
   asks_prefix (World rooms options) adds (inl (report, refused, is)) = due_prefix 0 _ is adds
   asks_prefix (World rooms options) adds (inr (program, spelled, (report, reports, is))) = due_prefix 0 _ is adds
 

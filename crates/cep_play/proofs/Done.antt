@@ -6,7 +6,7 @@ use Rattle.cep_base.specs.declared.console.Event.{Event}
 use Rattle.cep_base.specs.Talk.{outs}
 use Rattle.cep_rule.specs.declared.parts.Parts.{Parts}
 use Rattle.cep_words.specs.declared.options.Options.{Options}
-use Rattle.cep_words.specs.Words.{Request, Play, Examine, World}
+use Rattle.cep_words.specs.Words.{Request, Play, Examine, Dead, World}
 use Rattle.cep_term.specs.Multiset.{copies_in}
 use Rattle.cep_run.specs.declared.settings.Settings.{Settings}
 use Rattle.cep_run.specs.declared.tally.Tally.{Tally}
@@ -57,7 +57,7 @@ tallied program options tally events rest said = record {
   alone = λ turns ending events' rest' other. let only = said.only turns ending events' rest' other in one_tally tally said.turns turns said.ending ending only.0 only.1 said.holds;
 }
 
-abbrev made : List ℕ → ℕ → Report
+abbrev pub made : List ℕ → ℕ → Report
 made written code = record { written = written; code = code }
 
 -- its report
@@ -71,6 +71,7 @@ toured program rooms options ticks ticks' tally written code report (events, res
 abbrev file_played : Request → List ℕ
 file_played (Play file options) = file
 file_played (Examine task file log) = file
+file_played (Dead file) = file
 file_played (World rooms options) = []
 
 module _ (words : List (List ℕ)) (talk : Talked) (loads : Loaded) (ticks ticks' : ℕ) where

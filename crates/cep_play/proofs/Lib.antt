@@ -1,3 +1,4 @@
+pub mod Added
 pub mod Reporting
 pub mod Reported
 pub mod Done
@@ -5,3 +6,4 @@ pub mod Begins
 pub mod OneDue
 pub mod Telling
 pub mod Playable
+pub mod Judging

@@ -7,16 +7,17 @@ use Rattle.cep_ground.specs.Texts.{Spells}
 use Rattle.cep_world.specs.World.{world}
 use Rattle.cep_words.specs.declared.request.Task.{Task}
 use Rattle.cep_words.specs.declared.options.Options.{Options}
-use Rattle.cep_words.specs.Words.{Request, Play, Examine, World}
+use Rattle.cep_words.specs.Words.{Request, Play, Examine, Dead, World}
 use Rattle.cep_run.specs.Run.{Ending}
 use Rattle.cep_run.specs.Said.{IsSaid}
 use Rattle.cep_play.specs.Command.{OfFile, settings_of}
 use Rattle.cep_play.specs.Outside.{Outside, Due, Report, IsReportDue, OfText, code_told}
 use Rattle.cep_play.specs.Play.{IsDialogueDue}
 use Rattle.cep_play.specs.Reports.{Reports}
+use Rattle.cep_play.specs.DeadRules.{ReportsDead}
 use Rattle.cep_play.specs.World.{ReportsWorld}
 use Rattle.cep_play.specs.Due.{IsDueOf, IsDue}
-use Rattle.cep_play.proofs.Reporting.{code, one_code}
+use Rattle.cep_play.proofs.Reporting.{code, ReadsOnce, one_code}
 use Rattle.cep_play.proofs.Reported.{IsOneRequest}
 
 -- two that are due have one status, one rest and the same names
@@ -29,13 +30,13 @@ both_told due other one two is is' are = (ap (λ (d : Due). d.code) is ∙ are.0
 
 -- a text is refused, or spells a program, and then what is due goes by that
 of_text : (text text' : List ℕ) (names : List (List ℕ)) (come : List ℕ) (P Q : Parts → Type 0) (due other : Due) → text ≡ text' → OfText text names come P due → OfText text' names come Q other
-    → ((program program' : Parts) → program ≡ program' → P program → Q program' → AreOne due other) → AreOne due other
+    → ((program program' : Parts) → Spells text program → program ≡ program' → P program → Q program' → AreOne due other) → AreOne due other
 of_text text text' names come P Q due other same (inl (one, refused, e)) (inl (two, refused', e')) spelled = both_told due other _ _ e e' (ap code refused.is ∙ sym (ap code refused'.is), refl, refl)
 of_text text text' names come P Q due other same (inl (one, refused, e)) (inr two) spelled = absurd (refused.no_program two.0 (subst (λ t. Spells t two.0) (sym same) two.1.0))
 of_text text text' names come P Q due other same (inr one) (inl (two, refused, e)) spelled = absurd (refused.no_program one.0 (subst (λ t. Spells t one.0) same one.1.0))
-of_text text text' names come P Q due other same (inr one) (inr two) spelled = spelled one.0 two.0 (sym (one.1.1 two.0 (subst (λ t. Spells t two.0) (sym same) two.1.0))) one.2 two.2
+of_text text text' names come P Q due other same (inr one) (inr two) spelled = spelled one.0 two.0 one.1.0 (sym (one.1.1 two.0 (subst (λ t. Spells t two.0) (sym same) two.1.0))) one.2 two.2
 
-module _ (files : Files) (come : List ℕ) where
+module _ (reads : (text : List ℕ) (program : Parts) → Spells text program → ReadsOnce program) (files : Files) (come : List ℕ) where
   abbrev over : Outside
   over = record { files = Some files; come = come }
 
@@ -44,7 +45,7 @@ module _ (files : Files) (come : List ℕ) where
 
   plays_are_one : (file : List ℕ) (options : Options) (due other : Due) → IsDueOf (Play file options) over due → IsDueOf (Play file options) over other → AreOne due other
   plays_are_one file options due other (text, has, is) (text', has', is') = of_text text text' (file ∷ []) come (λ program. IsDialogueDue program options (file ∷ []) come due) (λ program. IsDialogueDue program options (file ∷ []) come other) due other (one_file file text text' has has') is is'
-      (λ program program' same one two.
+      (λ program program' spells same one two.
       let said : IsSaid program (settings_of program options) (λ turns ending. other.code ≡ code_told ending.word) come other.events other.rest =
       subst (λ (p : Parts). IsSaid p (settings_of p options) (λ turns ending. other.code ≡ code_told ending.word) come other.events other.rest) (sym same) two.0 in
       let only = said.only one.0.turns one.0.ending due.events due.rest one.0.dialogue in
@@ -56,8 +57,13 @@ module _ (files : Files) (come : List ℕ) where
   checks_are_one : (task : Task) (file log : List ℕ) (due other : Due) → IsDueOf (Examine task file log) over due → IsDueOf (Examine task file log) over other → AreOne due other
   checks_are_one task file log due other (text, has, is) (text', has', is') = of_text text text' (file ∷ []) come
       (λ program. OfFile (Some files) log (λ bytes. IsReportDue (Reports task program bytes) (file ∷ log ∷ []) come due)) (λ program. OfFile (Some files) log (λ bytes. IsReportDue (Reports task program bytes) (file ∷ log ∷ []) come other)) due other (one_file file text text' has has') is is'
-      (λ program program' same one two. reports_are_one (Reports task program one.0) (file ∷ log ∷ []) due other (one_code task program one.0) one.2
+      (λ program program' spells same one two. reports_are_one (Reports task program one.0) (file ∷ log ∷ []) due other (λ r r' is is'. one_code task program one.0 r r' (reads text program spells) is is') one.2
       (subst (λ bytes. IsReportDue (Reports task program bytes) (file ∷ log ∷ []) come other) (sym (one_file log one.0 two.0 one.1 two.1)) (subst (λ (p : Parts). IsReportDue (Reports task p two.0) (file ∷ log ∷ []) come other) (sym same) two.2)))
+
+  deads_are_one : (file : List ℕ) (due other : Due) → IsDueOf (Dead file) over due → IsDueOf (Dead file) over other → AreOne due other
+  deads_are_one file due other (text, has, is) (text', has', is') = of_text text text' (file ∷ []) come (λ program. IsReportDue (ReportsDead program) (file ∷ []) come due) (λ program. IsReportDue (ReportsDead program) (file ∷ []) come other) due other (one_file file text text' has has') is is'
+      (λ program program' spells same one two. reports_are_one (ReportsDead program) (file ∷ []) due other (λ r r' reports reports'. ap code reports.2 ∙ sym (ap code reports'.2)) one
+      (subst (λ (p : Parts). IsReportDue (ReportsDead p) (file ∷ []) come other) (sym same) two))
 
   one_summary : (rooms : ℕ) (options : Options) (program : Parts) (one two : Report) → ReportsWorld rooms options program one → ReportsWorld rooms options program two → one.code ≡ two.code
   one_summary rooms options program one two (tally, tallied, is) (tally', tallied', is') =
@@ -68,12 +74,13 @@ module _ (files : Files) (come : List ℕ) where
 
   tours_are_one : (rooms : ℕ) (options : Options) (due other : Due) → IsDueOf (World rooms options) over due → IsDueOf (World rooms options) over other → AreOne due other
   tours_are_one rooms options due other is is' = of_text (world rooms) (world rooms) [] come (λ program. IsReportDue (ReportsWorld rooms options program) [] come due) (λ program. IsReportDue (ReportsWorld rooms options program) [] come other) due other refl is is'
-      (λ program program' same one two. reports_are_one (ReportsWorld rooms options program) [] due other (one_summary rooms options program) one
+      (λ program program' spells same one two. reports_are_one (ReportsWorld rooms options program) [] due other (one_summary rooms options program) one
       (subst (λ (p : Parts). IsReportDue (ReportsWorld rooms options p) [] come other) (sym same) two))
 
   of_request : (request : Request) (due other : Due) → IsDueOf request over due → IsDueOf request over other → AreOne due other
   of_request (Play file options) due other = plays_are_one file options due other
   of_request (Examine task file log) due other = checks_are_one task file log due other
+  of_request (Dead file) due other = deads_are_one file due other
   of_request (World rooms options) due other = tours_are_one rooms options due other
 
   pub one_due : IsOneRequest → (words : List (List ℕ)) (due other : Due) → IsDue words over due → IsDue words over other → AreOne due other

@@ -10,14 +10,14 @@ use Rattle.cep_rule.specs.declared.parts.Parts.{Parts}
 use Rattle.cep_world.specs.World.{world}
 use Rattle.cep_words.specs.declared.request.Task.{Task}
 use Rattle.cep_words.specs.declared.options.Options.{Options}
-use Rattle.cep_words.specs.Words.{Request, Play, Examine, World, AskFor, HaveNoForm}
+use Rattle.cep_words.specs.Words.{Request, Play, Examine, Dead, World, AskFor, HaveNoForm}
 use Rattle.cep_play.specs.Exchange.{Talked, Loaded, loaded, IsUnread, AskedFor}
-use Rattle.cep_play.specs.Command.{OfRequest, OfFile, IsProgramText, IsSpelledBy, AsksFor, AsksUpTo, usage, no_program, no_transcript}
+use Rattle.cep_play.specs.Command.{OfRequest, OfFile, IsProgramText, IsSpelledBy, AsksFor, AsksUpTo, usage, no_program, no_second}
 use Rattle.cep_play.specs.Outside.{Report, IsRefusal, line_report, report_due, code_told}
 use Rattle.cep_play.specs.Counted.{RoseByRequest, RoseByAll}
 use Rattle.cep_play.specs.Answered.{AsksAsSaid, AsksAtMost}
 use Rattle.cep_play.specs.declared.report.Report as made
-use Rattle.cep_play.specs.Outcome.{report_of, IsRead, IsFoundInText, IsFoundInFile, all_read, one_unread, ReportsNone, ReportsTranscript, AsksFile, ReportsTour, IsDueAnyway, IsReportOf, IsReportOn}
+use Rattle.cep_play.specs.Outcome.{report_of, IsRead, IsFoundInText, IsFoundInFile, all_read, one_unread, ReportsNone, ReportsSecond, ReportsDeadIn, AsksFile, ReportsTour, IsDueAnyway, IsReportOf, IsReportOn}
 use Rattle.cep_play.proofs.Reporting.{code, low_code}
 
 -- words ask for one thing at most
@@ -38,7 +38,7 @@ told_is Typed = inr refl
 told_is Atom = inr refl
 told_is State = inr refl
 
-pub told_low : (word : EndWord) (code : ℕ) → code ≡ code_told word → code ≤ 4
+pub told_low : (word : EndWord) (code : ℕ) → code ≡ code_told word → code ≤ 5
 told_low word code is = ⊎_elim (λ zero. omega (arith, is, zero)) (λ four. omega (arith, is, four)) (told_is word)
 
 -- Names
@@ -106,7 +106,7 @@ module _ (loads : Loaded) (ticks ticks' : ℕ) (report : Report) where
       unread_of (Examine task file log) (file ∷ []) no_program is unread (λ come. inr (unread, inl (ap (λ r. report_due r (file ∷ []) come) is))) asked (inr (inr unread, asked))
 
   -- its transcript was reported on
-  transcript_of : (task : Task) (file log : List ℕ) (program : Parts) → OfFile loads.files file (IsSpelledBy program) → AskedFor loads (file ∷ log ∷ []) → ReportsTranscript loads task program log report → IsReportOf (Examine task file log) loads ticks ticks' report
+  transcript_of : (task : Task) (file log : List ℕ) (program : Parts) → OfFile loads.files file (IsSpelledBy program) → AskedFor loads (file ∷ log ∷ []) → ReportsSecond loads task program log report → IsReportOf (Examine task file log) loads ticks ticks' report
   transcript_of task file log program (text, has, spelled) asked (inl ((bytes, has', reports), read)) = record {
     names = file ∷ log ∷ [];
     due = λ come. inl (text, has, inr (program, spelled, (bytes, has', (report, reports, refl))));
@@ -118,7 +118,21 @@ module _ (loads : Loaded) (ticks ticks' : ℕ) (report : Report) where
   }
   transcript_of task file log program (text, has, spelled) asked (inr (unread, is)) =
       let there : OfFile loads.files file IsProgramText = (text, has, (program, spelled.0)) in
-      unread_of (Examine task file log) (file ∷ log ∷ []) no_transcript is unread (λ come. inr (unread, inr (there, ap (λ r. report_due r (file ∷ log ∷ []) come) is))) asked (inl (there, asked))
+      unread_of (Examine task file log) (file ∷ log ∷ []) (no_second task) is unread (λ come. inr (unread, inr (there, ap (λ r. report_due r (file ∷ log ∷ []) come) is))) asked (inl (there, asked))
+
+  -- dead rules were reported
+  pub dead_of : (file : List ℕ) → AskedFor loads (file ∷ []) → ReportsNone loads file report ⊎ ReportsDeadIn loads file report → IsReportOf (Dead file) loads ticks ticks' report
+  dead_of file asked (inl (inl ((text, has, refused), read))) = refused_of (Dead file) (file ∷ []) text refused read (λ come. inl (text, has, inl (report, refused, refl))) asked asked
+  dead_of file asked (inl (inr (unread, is))) = unread_of (Dead file) (file ∷ []) no_program is unread (λ come. inr (unread, ap (λ r. report_due r (file ∷ []) come) is)) asked asked
+  dead_of file asked (inr (program, (text, has, spelled), read, (deads, are, is))) = record {
+    names = file ∷ [];
+    due = λ come. inl (text, has, inr (program, spelled, (report, (deads, are, is), refl)));
+    asked = asked;
+    as_said = asked;
+    comes = all_read (omega (arith, ap code is)) read;
+    alone = λ other options same. absurd cc;
+    rose = λ _ _. tt;
+  }
 
   -- a world was reported on
   pub tour_of : (rooms : ℕ) (options : Options) → AskedFor loads [] → IsRead loads → ReportsTour rooms options ticks ticks' report → IsReportOf (World rooms options) loads ticks ticks' report
@@ -142,12 +156,12 @@ module _ {H : Type 0} (files : H → Option Files) (asked : H → Option (List (
   both : AskedFor (loaded files asked faults mid new) (log ∷ []) → AskedFor whole (file ∷ log ∷ [])
   both second = adds_twice (asked old) (asked mid) (asked new) file log first second
 
-  found_so : (report : Report) → ReportsTranscript (loaded files asked faults mid new) task program log report → ReportsTranscript whole task program log report
+  found_so : (report : Report) → ReportsSecond (loaded files asked faults mid new) task program log report → ReportsSecond whole task program log report
   found_so report found =
-      subst (λ n. ReportsTranscript (record { files = files old; asked_before = asked old; asked_after = asked new; faults_before = n; faults_after = faults new }) task program log report) read
-      (subst (λ (f : Option Files). ReportsTranscript (record { files = f; asked_before = asked old; asked_after = asked new; faults_before = faults mid; faults_after = faults new }) task program log report) same found)
+      subst (λ n. ReportsSecond (record { files = files old; asked_before = asked old; asked_after = asked new; faults_before = n; faults_after = faults new }) task program log report) read
+      (subst (λ (f : Option Files). ReportsSecond (record { files = f; asked_before = asked old; asked_after = asked new; faults_before = faults mid; faults_after = faults new }) task program log report) same found)
 
-  pub examined : {E : Type 0} (ticks ticks' : ℕ) (answer : Result made.Report E) → AsksFile (loaded files asked faults mid new) log answer → IfOk answer (λ report. ReportsTranscript (loaded files asked faults mid new) task program log (report_of report))
+  pub examined : {E : Type 0} (ticks ticks' : ℕ) (answer : Result made.Report E) → AsksFile (loaded files asked faults mid new) log answer → IfOk answer (λ report. ReportsSecond (loaded files asked faults mid new) task program log (report_of report))
       → IfOk answer (λ report. IsReportOf (Examine task file log) whole ticks ticks' (report_of report))
   examined ticks ticks' (Ok report) second found = transcript_of whole ticks ticks' (report_of report) task file log program is_in (both second) (found_so (report_of report) found)
   examined ticks ticks' (Err error) second found = tt
@@ -193,6 +207,7 @@ pub asks_up_to : (loads : Loaded) (request : Request) → AsksFor loads request 
 asks_up_to loads (Play file options) asks = asks
 asks_up_to loads (Examine task file log) (inl asks) = inl asks
 asks_up_to loads (Examine task file log) (inr asks) = inr asks.1
+asks_up_to loads (Dead file) asks = asks
 asks_up_to loads (World rooms options) asks = asks
 
 pub at_most : (words : List (List ℕ)) (loads : Loaded) → AsksAsSaid words loads → AsksAtMost words loads

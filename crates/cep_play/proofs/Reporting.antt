@@ -1,9 +1,11 @@
 -- What is reported of a transcript, and what a shelf gives.
-use Rattle.std.proofs.Common.{◌≡◌, inl, inr, ℕ, ◌+◌, ◌<◌, ◌≤◌, List, ◌++◌, length, refl, sym, ap, ◌∙◌, subst, arith, Option, None, Some}
+use Rattle.std.proofs.Common.{◌≡◌, inl, inr, ℕ, ◌+◌, ◌<◌, ◌≤◌, List, ◌++◌, length, refl, sym, ap, ◌∙◌, subst, arith, Option, None, Some, [], ◌∷◌, map}
 use Rattle.std.specs.Prelude.{codes, decimal, replicate, Err}
 use Rattle.std.specs.Option.{IsSomeAnd}
+use Rattle.std.specs.List.{AllByRecursion}
 use Rattle.std.proofs.lemmas.List.{length-replicate}
 use Rattle.cep_base.specs.declared.limits.TheConstants.{MOST_LOG}
+use Rattle.cep_base.proofs.Lists.{holds_at}
 use Rattle.cep_base.specs.Files.{Files, HasFile, HasLongerFile}
 use Rattle.cep_rule.specs.declared.parts.Parts.{Parts}
 use Rattle.cep_refusal.specs.declared.fault.Fault.{Fault}
@@ -22,14 +24,20 @@ use Rattle.cep_check.specs.declared.cause.Verdict.TheVariants as verdicts
 use Rattle.cep_check.specs.Causes.{IsLogRefused, IsVerdict}
 use Rattle.cep_check.specs.Telling.{verdict_text, fault_text}
 use Rattle.cep_check.specs.Renewed.{IsTooLongRenewed}
+use Rattle.cep_weigh.specs.declared.fault.KeepFault.{KeepFault}
+use Rattle.cep_weigh.specs.declared.weight.Weight.{Weight}
+use Rattle.cep_weigh.specs.declared.weight.Against.{Against}
+use Rattle.cep_weigh.specs.Weights.{KeepsTo, IsKept, IsFirstAgainst}
+use Rattle.cep_weigh.specs.Claims.{HasClaims, HasFault}
 use Rattle.cep_words.specs.declared.request.Task.{Task}
-use Rattle.cep_words.specs.declared.request.Task.TheVariants.{Check, Renew}
+use Rattle.cep_words.specs.declared.request.Task.TheVariants.{Check, Renew, Weigh}
 use Rattle.cep_play.specs.Command.{refusal_text}
 use Rattle.cep_play.specs.Outside.{Report, line_report, IsRefusal}
 use Rattle.cep_play.specs.Check.{Rejects, too_long_text}
 use Rattle.cep_play.specs.Renew.{Renews}
+use Rattle.cep_play.specs.Claims.{claims_code, IsJudged, ReportsWeighing}
 use Rattle.cep_play.specs.Reports.{ReportsWhy, Reports}
-use Rattle.cep_play.specs.Outcome.{verdict_code, verdict_report, IsRenewalReport, IsLogReport}
+use Rattle.cep_play.specs.Outcome.{most_of, verdict_code, verdict_report, IsRenewalReport, IsLogReport}
 
 abbrev pub code : Report → ℕ
 code report = report.code
@@ -48,35 +56,85 @@ text_refused text refusal report never one_fault one_told (fault, refused, tells
   is = is;
 }
 
--- Two reports on the bytes of a transcript have one status.
+-- Claims
 
-pub one_code : (task : Task) (program : Parts) (bytes : List ℕ) (one other : Report) → Reports task program bytes one → Reports task program bytes other → one.code ≡ other.code
-one_code Check program bytes one other (inl (text, accepts, same)) (inl (text', accepts', same')) = ap code same ∙ sym (ap code same')
-one_code Check program bytes one other (inl (text, (log, legal, is), same)) (inr (text', rejects, same')) = absurd (rejects.no_legal log legal)
-one_code Check program bytes one other (inr (text, rejects, same)) (inl (text', (log, legal, is), same')) = absurd (rejects.no_legal log legal)
-one_code Check program bytes one other (inr (text, rejects, same)) (inr (text', rejects', same')) = ap code same ∙ sym (ap code same')
-one_code Renew program bytes one other (inl (text, renews, same)) (inl (text', renews', same')) = ap code same ∙ sym (ap code same')
-one_code Renew program bytes one other (inl (text, (log, legal, is), same)) (inr (inl (text', rejects, same'))) = absurd (rejects.no_legal log legal)
-one_code Renew program bytes one other (inl (text, renews, same)) (inr (inr (long, same'))) = absurd (long.no_text text renews)
-one_code Renew program bytes one other (inr (inl (text, rejects, same))) (inl (text', (log, legal, is), same')) = absurd (rejects.no_legal log legal)
-one_code Renew program bytes one other (inr (inr (long, same))) (inl (text', renews, same')) = absurd (long.no_text text' renews)
-one_code Renew program bytes one other (inr (inl (text, rejects, same))) (inr (inl (text', rejects', same'))) = ap code same ∙ sym (ap code same')
-one_code Renew program bytes one other (inr (inl (text, rejects, same))) (inr (inr (long, same'))) = ap code same ∙ sym (ap code same')
-one_code Renew program bytes one other (inr (inr (long, same))) (inr (inl (text, rejects, same'))) = ap code same ∙ sym (ap code same')
-one_code Renew program bytes one other (inr (inr (long, same))) (inr (inr (long', same'))) = ap code same ∙ sym (ap code same')
+-- a file of claims says one list of claims, or has a fault
+abbrev pub ReadsOnce : Parts → Type 0
+ReadsOnce program =
+    ((bytes : List ℕ) (one other : List Weight) → HasClaims program bytes one → HasClaims program bytes other → one ≡ other)
+    × ((bytes : List ℕ) (weights : List Weight) (fault : KeepFault) → HasClaims program bytes weights → ¬ (HasFault program bytes fault))
 
--- that status is 0 or 1
-pub low_code : (task : Task) (program : Parts) (bytes : List ℕ) (report : Report) → Reports task program bytes report → report.code ≤ 1
+low_claims : (judged : List (Option Against)) → claims_code judged ≤ 5
+low_claims [] = omega arith
+low_claims (None ∷ later) = low_claims later
+low_claims (Some against ∷ later) = omega arith
+
+abbrev pub Judged : Type 0
+Judged = Weight × Option Against
+
+-- what each rule keeps, none breaks
+kept_unbroken : (program : Parts) (weight : Weight) (against : Against) → IsKept program weight.claim weight.sum → ¬ (IsFirstAgainst program weight.claim weight.sum against)
+kept_unbroken program weight against kept first = first.breaks (holds_at (KeepsTo weight.claim weight.sum) program.rules against.rule first.rule kept first.numbered)
+
+-- claims are judged in one way, as far as the status tells it
+same_codes : (program : Parts) (judged judged' : List Judged) → map (λ one. one.0) judged ≡ map (λ one. one.0) judged' → AllByRecursion (λ one. IsJudged program one.0 one.1) judged → AllByRecursion (λ one. IsJudged program one.0 one.1) judged'
+    → claims_code (map (λ one. one.1) judged) ≡ claims_code (map (λ one. one.1) judged')
+same_codes program [] [] same right right' = refl
+same_codes program [] (one ∷ later) same right right' = absurd (cc)
+same_codes program (one ∷ later) [] same right right' = absurd (cc)
+same_codes program ((weight, None) ∷ later) ((weight', None) ∷ later') same right right' = same_codes program later later' (let tails : map (λ one. one.0) later ≡ map (λ one. one.0) later' = cc in tails) right.1 right'.1
+same_codes program ((weight, Some against) ∷ later) ((weight', Some against') ∷ later') same right right' = refl
+same_codes program ((weight, None) ∷ later) ((weight', Some against) ∷ later') same right right' =
+    let weights : weight ≡ weight' = cc in absurd (kept_unbroken program weight' against (subst (λ (w : Weight). IsKept program w.claim w.sum) weights right.0) right'.0)
+same_codes program ((weight, Some against) ∷ later) ((weight', None) ∷ later') same right right' =
+    let weights : weight' ≡ weight = cc in absurd (kept_unbroken program weight against (subst (λ (w : Weight). IsKept program w.claim w.sum) weights right'.0) right.0)
+
+one_weighing : (program : Parts) (bytes : List ℕ) (one other : Report) → ReadsOnce program → ReportsWeighing program bytes one → ReportsWeighing program bytes other → one.code ≡ other.code
+one_weighing program bytes one other reads (inl (long, same)) (inl (long', same')) = ap code same ∙ sym (ap code same')
+one_weighing program bytes one other reads (inl (long, same)) (inr (inl (fault, short, has, same'))) = ap code same ∙ sym (ap code same')
+one_weighing program bytes one other reads (inl (long, same)) (inr (inr (weights, short, has, is))) = absurd (omega (arith, long, short))
+one_weighing program bytes one other reads (inr (inl (fault, short, has, same))) (inl (long, same')) = ap code same ∙ sym (ap code same')
+one_weighing program bytes one other reads (inr (inl (fault, short, has, same))) (inr (inl (fault', short', has', same'))) = ap code same ∙ sym (ap code same')
+one_weighing program bytes one other reads (inr (inl (fault, short, has, same))) (inr (inr (weights, short', says, is))) = absurd (reads.1 bytes weights fault says has)
+one_weighing program bytes one other reads (inr (inr (weights, short, says, is))) (inl (long, same)) = absurd (omega (arith, long, short))
+one_weighing program bytes one other reads (inr (inr (weights, short, says, is))) (inr (inl (fault, short', has, same))) = absurd (reads.1 bytes weights fault says has)
+one_weighing program bytes one other reads (inr (inr (weights, short, says, is))) (inr (inr (weights', short', says', is'))) =
+    ap code is.is ∙ same_codes program is.judged is'.judged (is.each ∙ reads.0 bytes weights weights' says says' ∙ sym is'.each) is.right is'.right ∙ sym (ap code is'.is)
+
+-- Two reports on the bytes of a second file have one status.
+
+pub one_code : (task : Task) (program : Parts) (bytes : List ℕ) (one other : Report) → ReadsOnce program → Reports task program bytes one → Reports task program bytes other → one.code ≡ other.code
+one_code Check program bytes one other reads (inl (text, accepts, same)) (inl (text', accepts', same')) = ap code same ∙ sym (ap code same')
+one_code Check program bytes one other reads (inl (text, (log, legal, is), same)) (inr (text', rejects, same')) = absurd (rejects.no_legal log legal)
+one_code Check program bytes one other reads (inr (text, rejects, same)) (inl (text', (log, legal, is), same')) = absurd (rejects.no_legal log legal)
+one_code Check program bytes one other reads (inr (text, rejects, same)) (inr (text', rejects', same')) = ap code same ∙ sym (ap code same')
+one_code Renew program bytes one other reads (inl (text, renews, same)) (inl (text', renews', same')) = ap code same ∙ sym (ap code same')
+one_code Renew program bytes one other reads (inl (text, (log, legal, is), same)) (inr (inl (text', rejects, same'))) = absurd (rejects.no_legal log legal)
+one_code Renew program bytes one other reads (inl (text, renews, same)) (inr (inr (long, same'))) = absurd (long.no_text text renews)
+one_code Renew program bytes one other reads (inr (inl (text, rejects, same))) (inl (text', (log, legal, is), same')) = absurd (rejects.no_legal log legal)
+one_code Renew program bytes one other reads (inr (inr (long, same))) (inl (text', renews, same')) = absurd (long.no_text text' renews)
+one_code Renew program bytes one other reads (inr (inl (text, rejects, same))) (inr (inl (text', rejects', same'))) = ap code same ∙ sym (ap code same')
+one_code Renew program bytes one other reads (inr (inl (text, rejects, same))) (inr (inr (long, same'))) = ap code same ∙ sym (ap code same')
+one_code Renew program bytes one other reads (inr (inr (long, same))) (inr (inl (text, rejects, same'))) = ap code same ∙ sym (ap code same')
+one_code Renew program bytes one other reads (inr (inr (long, same))) (inr (inr (long', same'))) = ap code same ∙ sym (ap code same')
+one_code Weigh program bytes one other reads is is' = one_weighing program bytes one other reads is is'
+
+-- that status is 0, 1 or 5
+pub low_code : (task : Task) (program : Parts) (bytes : List ℕ) (report : Report) → Reports task program bytes report → report.code ≤ 5
 low_code Check program bytes report (inl (text, accepts, same)) = omega (arith, ap code same)
 low_code Check program bytes report (inr (text, rejects, same)) = omega (arith, ap code same)
 low_code Renew program bytes report (inl (text, renews, same)) = omega (arith, ap code same)
 low_code Renew program bytes report (inr (inl (text, rejects, same))) = omega (arith, ap code same)
 low_code Renew program bytes report (inr (inr (long, same))) = omega (arith, ap code same)
+low_code Weigh program bytes report (inl (long, same)) = omega (arith, ap code same)
+low_code Weigh program bytes report (inr (inl (fault, short, has, same))) = omega (arith, ap code same)
+low_code Weigh program bytes report (inr (inr (weights, short, has, is))) = omega (arith, ap code is.is, low_claims (map (λ one. one.1) is.judged))
 
--- bytes that are rejected, for any task
-pub rejected : (task : Task) (program : Parts) (bytes text : List ℕ) → Rejects program bytes text → Reports task program bytes (line_report text 1)
-rejected Check program bytes text is = inr (text, is, refl)
-rejected Renew program bytes text is = inr (inl (text, is, refl))
+-- bytes that are rejected, for any task on a transcript
+rejected : (task : Task) (program : Parts) (bytes text : List ℕ) → ¬ (task ≡ Weigh) → Rejects program bytes text → Reports task program bytes (line_report text 1)
+rejected Check program bytes text of_log is = inr (text, is, refl)
+rejected Renew program bytes text of_log is = inr (inl (text, is, refl))
+rejected Weigh program bytes text of_log is = absurd (of_log refl)
 
 module _ (program : Parts) (bytes : List ℕ) (log : Log) (short : length bytes ≤ MOST_LOG) (has : HasLog program bytes log) (once : (one other : Log) → HasLog program bytes one → HasLog program bytes other → one ≡ other)
     (never : (line : ℕ) (cause : Cause) → IsLogRefused program log line cause → ¬ (IsLegal program log)) where
@@ -110,20 +168,25 @@ module _ (program : Parts) (bytes : List ℕ) (log : Log) (short : length bytes 
     -- the report of a log that was read
     pub log_reported : (task : Task) (report : Report) → IsLogReport task program log report → Reports task program bytes report
     log_reported Check report (verdict, is, same) = subst (Reports Check program bytes) (sym same) (verdict_reported verdict is)
+    log_reported Weigh report is = absurd is
     log_reported Renew report (inl (legal, is)) = renewal_reported report legal is
     log_reported Renew report (inr (verdict, is, refused, same)) = subst (Reports Renew program bytes) (sym same) (inr (inl (refusal_reported verdict is refused)))
 
 -- bytes that are no transcript
-pub misfit_reported : (task : Task) (program : Parts) (bytes : List ℕ) (fault : LogFault) (report : Report) → length bytes ≤ MOST_LOG → HasMisfit program bytes fault
+pub misfit_reported : (task : Task) (program : Parts) (bytes : List ℕ) (fault : LogFault) (report : Report) → ¬ (task ≡ Weigh) → length bytes ≤ MOST_LOG → HasMisfit program bytes fault
     → ((log : Log) → HasLog program bytes log → ¬ (HasMisfit program bytes fault)) → report ≡ line_report (fault_text fault) 1 → Reports task program bytes report
-misfit_reported task program bytes fault report short misfit apart same =
+misfit_reported task program bytes fault report of_log short misfit apart same =
     subst (Reports task program bytes) (sym same)
-    (rejected task program bytes (fault_text fault) (record { no_legal = λ log legal. apart log legal.1 misfit; why = inr (inl (fault, short, misfit, refl)) }))
+    (rejected task program bytes (fault_text fault) of_log (record { no_legal = λ log legal. apart log legal.1 misfit; why = inr (inl (fault, short, misfit, refl)) }))
 
 -- bytes that are too many
-pub long_reported : (task : Task) (program : Parts) (bytes : List ℕ) → MOST_LOG < length bytes → Reports task program bytes (line_report too_long_text 1)
-long_reported task program bytes long =
-    rejected task program bytes too_long_text (record { no_legal = λ log legal. (let short = legal.0 in absurd (omega (arith, long, short))); why = inl (long, refl) })
+too_many : (program : Parts) (bytes : List ℕ) → MOST_LOG < length bytes → Rejects program bytes too_long_text
+too_many program bytes long = record { no_legal = λ log legal. (let short = legal.0 in absurd (omega (arith, long, short))); why = inl (long, refl) }
+
+pub long_reported : (task : Task) (program : Parts) (bytes : List ℕ) → most_of task < length bytes → Reports task program bytes (line_report too_long_text 1)
+long_reported Check program bytes long = inr (too_long_text, too_many program bytes long, refl)
+long_reported Renew program bytes long = inr (inl (too_long_text, too_many program bytes long, refl))
+long_reported Weigh program bytes long = inl (long, refl)
 
 -- a text that is too long, for a shelf that tells none
 long_text : (n : ℕ) → (text : List ℕ) × (n < length text)

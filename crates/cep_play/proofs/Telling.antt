@@ -10,7 +10,7 @@ use Rattle.cep_ground.specs.Texts.{Spells}
 use Rattle.cep_world.specs.World.{world}
 use Rattle.cep_words.specs.declared.request.Task.{Task}
 use Rattle.cep_words.specs.declared.options.Options.{Options}
-use Rattle.cep_words.specs.Words.{Request, Play, Examine, World, AskFor}
+use Rattle.cep_words.specs.Words.{Request, Play, Examine, Dead, World, AskFor}
 use Rattle.cep_run.specs.declared.settings.Settings.{Settings}
 use Rattle.cep_run.specs.Run.{Turn, Ending}
 use Rattle.cep_run.specs.Dialogue.{Dialogue}
@@ -21,25 +21,26 @@ use Rattle.cep_play.specs.Reports.{Reports}
 use Rattle.cep_play.specs.Due.{IsDueOf, IsDueAtAll, IsDueUnreadOf}
 use Rattle.cep_play.specs.Answered.{IsOnShelf, EndsBy, ReportsBy, TellsWhatIsDue}
 use Rattle.cep_play.specs.Outcome.{ComesWith, all_read, one_unread, CommandDid}
-use Rattle.cep_play.proofs.Reporting.{code, one_code}
+use Rattle.cep_play.proofs.Reporting.{code, ReadsOnce, one_code}
 use Rattle.cep_play.proofs.Reported.{IsOneRequest, asked_due}
 
 -- Statuses
 
 abbrev pub all_statuses : List ℕ
-all_statuses = 0 ∷ 1 ∷ 2 ∷ 3 ∷ 4 ∷ 6 ∷ 7 ∷ 9 ∷ []
+all_statuses = 0 ∷ 1 ∷ 2 ∷ 3 ∷ 4 ∷ 5 ∷ 6 ∷ 7 ∷ 9 ∷ []
 
-low_among : (n : ℕ) → n ≤ 4 → Contains all_statuses n
+low_among : (n : ℕ) → n ≤ 5 → Contains all_statuses n
 low_among zero low = (0, lit< tt, refl)
 low_among (suc zero) low = (1, lit< tt, refl)
 low_among (suc (suc zero)) low = (2, lit< tt, refl)
 low_among (suc (suc (suc zero))) low = (3, lit< tt, refl)
 low_among (suc (suc (suc (suc zero)))) low = (4, lit< tt, refl)
-low_among (suc (suc (suc (suc (suc n))))) low = absurd (omega (arith, low))
+low_among (suc (suc (suc (suc (suc zero))))) low = (5, lit< tt, refl)
+low_among (suc (suc (suc (suc (suc (suc n)))))) low = absurd (omega (arith, low))
 
 pub among_all : {loads : Loaded} {status : ℕ} → ComesWith loads status → Contains all_statuses status
 among_all {status} (all_read low same) = low_among status low
-among_all (one_unread seven unread) = subst (Contains all_statuses) (sym seven) (6, lit< tt, refl)
+among_all (one_unread seven unread) = subst (Contains all_statuses) (sym seven) (7, lit< tt, refl)
 
 pub no_fault : {loads : Loaded} {status : ℕ} → ComesWith loads status → (status ≡ 6) ⊎ (status ≡ 9) → ⊥
 no_fault (all_read low same) = ⊎_elim (λ e. omega (arith, low, e)) (λ e. omega (arith, low, e))
@@ -68,6 +69,7 @@ told_text (Some file) name text other told has = some_same text other (sym told 
 module _ (one : IsOneRequest)
     (there : (program : Parts) (settings : Settings) (come : List ℕ) → IsProgram program → (turns : List Turn) × (ending : Ending) × (events : List Event) × (rest : List ℕ) × Dialogue program settings come turns ending events rest)
     (is_program : (text : List ℕ) (program : Parts) → Spells text program → IsProgram program)
+    (reads : (text : List ℕ) (program : Parts) → Spells text program → ReadsOnce program)
     (words : List (List ℕ)) (loads : Loaded) where
   -- these statuses may come however a run ends
   ends_anyway : (text : List ℕ) (program : Parts) (settings : Settings) (come others : List ℕ) (status : ℕ) → Spells text program → Contains others status → EndsBy program settings come others status
@@ -82,6 +84,7 @@ module _ (one : IsOneRequest)
   pub tells_anyway : (left : Option (List ℕ)) (request : Request) (status : ℕ) → Contains (6 ∷ 9 ∷ []) status → TellsWhatIsDue request loads.files left status
   tells_anyway left (Play file options) status among = λ text program come told spells coming. ends_anyway text program (settings_of program options) come (6 ∷ 7 ∷ 9 ∷ []) status spells (with_unread status among)
   tells_anyway left (Examine task file log) status among = λ text program bytes told spells there'. reports_anyway (Reports task program bytes) (6 ∷ 7 ∷ 9 ∷ []) status (with_unread status among)
+  tells_anyway left (Dead file) status among = λ text program told spells. contains_behind 0 (6 ∷ 7 ∷ 9 ∷ []) status (with_unread status among)
   tells_anyway left (World rooms options) status among = λ program spells. ends_anyway (world rooms) program (settings_of program options) [] (6 ∷ 9 ∷ []) status spells among
 
   abbrev over : List ℕ → Outside
@@ -120,9 +123,16 @@ module _ (one : IsOneRequest)
         let programs = is.1 program (subst (λ t. Spells t program) (told_text loads.files file text other told has) spells) in
         let reported : Reports task program bytes report = subst (λ (p : Parts). Reports task p bytes report) (sym programs) (subst (λ b. Reports task spelled b report) (sym (told_text loads.files log bytes others there' has')) reports) in
         let told_so : status ≡ report.code = same ∙ ap (λ (d : Due). d.code) e in
-        ((λ other it. contains_same other.code (6 ∷ 7 ∷ 9 ∷ []) status (one_code task program bytes other report it reported ∙ sym told_so)), inr (report, reported, told_so))
+        ((λ other it. contains_same other.code (6 ∷ 7 ∷ 9 ∷ []) status (one_code task program bytes other report (reads text program spells) it reported ∙ sym told_so)), inr (report, reported, told_so))
     examines task file log text program bytes told spells there' (inr (inl is)) = reports_anyway (Reports task program bytes) (6 ∷ 7 ∷ 9 ∷ []) status (unread_among _ refl is)
     examines task file log text program bytes told spells there' (inr (inr (_, is))) = reports_anyway (Reports task program bytes) (6 ∷ 7 ∷ 9 ∷ []) status (unread_among _ refl is)
+
+    -- a report on dead rules
+    deads : (file text : List ℕ) (program : Parts) → IsOnShelf loads.files file text → Spells text program
+        → IsDueOf (Dead file) (over []) due ⊎ IsDueUnreadOf (Dead file) (over []) due → Contains (0 ∷ 6 ∷ 7 ∷ 9 ∷ []) status
+    deads file text program told spells (inl (other, has, inl (report, refused, is))) = absurd (refused.no_program program (subst (λ t. Spells t program) (told_text loads.files file text other told has) spells))
+    deads file text program told spells (inl (other, has, inr (spelled, is, (report, reports, e)))) = contains_same 0 (6 ∷ 7 ∷ 9 ∷ []) status (sym (same ∙ ap (λ (d : Due). d.code) e ∙ ap code reports.2))
+    deads file text program told spells (inr is) = contains_behind 0 (6 ∷ 7 ∷ 9 ∷ []) status (unread_among _ refl is)
 
     -- a summary that is due
     tours : (rooms : ℕ) (options : Options) (program : Parts) → Spells (world rooms) program
@@ -148,6 +158,9 @@ module _ (one : IsOneRequest)
     tells_what_is_due (Examine task file log) ask = λ text program bytes told spells there'.
         let did = (done.written (λ other options ask'. let same : Examine task file log ≡ Play other options = one words (Examine task file log) (Play other options) ask ask' in absurd (cc)) []).3 in
         examines did.due status did.status task file log text program bytes told spells there' (due_of (IsUnread loads) (Examine task file log) [] did.due ask did.is)
+    tells_what_is_due (Dead file) ask = λ text program told spells.
+        let did = (done.written (λ other options ask'. let same : Dead file ≡ Play other options = one words (Dead file) (Play other options) ask ask' in absurd (cc)) []).3 in
+        deads did.due status did.status file text program told spells (due_of (IsUnread loads) (Dead file) [] did.due ask did.is)
     tells_what_is_due (World rooms options) ask = λ program spells.
         let did = (done.written (λ other options' ask'. let same : World rooms options ≡ Play other options' = one words (World rooms options) (Play other options') ask ask' in absurd (cc)) []).3 in
         tours did.due status did.status rooms options program spells (due_of (IsUnread loads) (World rooms options) [] did.due ask did.is)

@@ -8,7 +8,7 @@ use Rattle.cep_rule.specs.declared.parts.Parts.{Parts}
 use Rattle.cep_ground.specs.Texts.{Spells}
 use Rattle.cep_world.specs.World.{world}
 use Rattle.cep_words.specs.declared.options.Options.{Options}
-use Rattle.cep_words.specs.Words.{Request, Play, Examine, World, AskFor, HaveNoForm}
+use Rattle.cep_words.specs.Words.{Request, Play, Examine, Dead, World, AskFor, HaveNoForm}
 use Rattle.cep_run.specs.declared.settings.Settings.{Settings}
 use Rattle.cep_run.specs.Run.{Turn, Ending}
 use Rattle.cep_run.specs.Dialogue.{Dialogue}
@@ -59,7 +59,7 @@ ReportsBy P others status =
     ((report : Report) → P report → Contains (report.code ∷ others) status)
     × (Contains others status ⊎ ((report : Report) × P report × (status ≡ report.code)))
 
--- Where the program's text spells one, and what is read and typed is told: but for faults of the outside (6 and 7) and out of memory (9) the status says how a run ends, which is there whatever is typed; and it is that of the report on a transcript.
+-- Where the program's text spells one, and what is read and typed is told: but for faults of the outside (6 and 7) and out of memory (9) the status says how a run ends, which is there whatever is typed; and it is that of the report on a second file, and 0 if dead rules are reported.
 abbrev pub TellsWhatIsDue : Request → Option Files → Option (List ℕ) → ℕ → Type 0
 TellsWhatIsDue (Play file options) files left status =
     (text : List ℕ) (program : Parts) (come : List ℕ)
@@ -69,6 +69,8 @@ TellsWhatIsDue (Examine task file log) files left status =
     (text : List ℕ) (program : Parts) (bytes : List ℕ)
     → IsOnShelf files file text → Spells text program → IsOnShelf files log bytes
     → ReportsBy (Reports task program bytes) (6 ∷ 7 ∷ 9 ∷ []) status
+TellsWhatIsDue (Dead file) files left status =
+    (text : List ℕ) (program : Parts) → IsOnShelf files file text → Spells text program → Contains (0 ∷ 6 ∷ 7 ∷ 9 ∷ []) status
 TellsWhatIsDue (World rooms options) files left status =
     (program : Parts) → Spells (world rooms) program → EndsBy program (settings_of program options) [] (6 ∷ 9 ∷ []) status
 

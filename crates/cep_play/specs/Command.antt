@@ -6,8 +6,10 @@ use Rattle.cep_rule.specs.declared.parts.Parts.{Parts}
 use Rattle.cep_refusal.specs.Reasons.{number, reason_name}
 use Rattle.cep_refusal.specs.declared.refusal.Refusal.{Refusal}
 use Rattle.cep_ground.specs.Texts.{Spells}
+use Rattle.cep_words.specs.declared.request.Task.{Task}
+use Rattle.cep_words.specs.declared.request.Task.TheVariants.{Check, Renew, Weigh}
 use Rattle.cep_words.specs.declared.options.Options.{Options}
-use Rattle.cep_words.specs.Words.{Request, Play, Examine, World, AskFor}
+use Rattle.cep_words.specs.Words.{Request, Play, Examine, Dead, World, AskFor}
 use Rattle.cep_run.specs.declared.settings.Settings.{Settings}
 use Rattle.cep_play.specs.Exchange.{Loaded, IsUnread, AskedFor}
 
@@ -27,12 +29,13 @@ IsProgramText text = (program : Parts) × Spells text program
 abbrev pub IsSpelledBy : Parts → List ℕ → Type 0
 IsSpelledBy program text = Spells text program × ((other : Parts) → Spells text other → other ≡ program)
 
--- The names that are asked of the shelf for a request: the program's file; where a transcript is examined, the transcript's after it if the program's was read and spells one; and none for a generated world.
+-- The names that are asked of the shelf for a request: the program's file; where a second file is examined, that after it if the program's was read and spells one; and none for a generated world.
 abbrev pub AsksFor : Loaded → Request → Type 0
 AsksFor loads (Play file options) = AskedFor loads (file ∷ [])
 AsksFor loads (Examine task file log) =
     (OfFile loads.files file IsProgramText × AskedFor loads (file ∷ log ∷ []))
     ⊎ ((OfFile loads.files file (λ text. ¬ (IsProgramText text)) ⊎ IsUnread loads) × AskedFor loads (file ∷ []))
+AsksFor loads (Dead file) = AskedFor loads (file ∷ [])
 AsksFor loads (World rooms options) = AskedFor loads []
 
 -- Where memory ran out after names were asked of the shelf: these are not more than are asked for the request.
@@ -40,10 +43,11 @@ abbrev pub AsksUpTo : Loaded → Request → Type 0
 AsksUpTo loads (Play file options) = AskedFor loads (file ∷ [])
 AsksUpTo loads (Examine task file log) =
     (OfFile loads.files file IsProgramText × AskedFor loads (file ∷ log ∷ [])) ⊎ AskedFor loads (file ∷ [])
+AsksUpTo loads (Dead file) = AskedFor loads (file ∷ [])
 AsksUpTo loads (World rooms options) = AskedFor loads []
 
 abbrev pub usage : List ℕ
-usage = codes "usage: play FILE [seed=N] [height=N] [turns=N] | check FILE LOG | world N [seed=N] [height=N] [turns=N] | renew FILE LOG"
+usage = codes "usage: play FILE [seed=N] [height=N] [turns=N] | check FILE LOG | world N [seed=N] [height=N] [turns=N] | renew FILE LOG | weigh FILE KEEPS | dead FILE"
 
 -- `refused LINE:COL NUMBER NAME`
 unfoldable pub refusal_text : Refusal → List ℕ
@@ -55,6 +59,15 @@ no_program = codes "cannot read program"
 
 abbrev pub no_transcript : List ℕ
 no_transcript = codes "cannot read transcript"
+
+abbrev pub no_claims : List ℕ
+no_claims = codes "cannot read claims"
+
+-- that the second file of a task could not be read
+abbrev pub no_second : Task → List ℕ
+no_second Check = no_transcript
+no_second Renew = no_transcript
+no_second Weigh = no_claims
 
 -- what holds for a run of the program with these options: where they say nothing of the turns the program does, and where nothing is said there are defaults
 abbrev pub settings_of : Parts → Options → Settings

@@ -5,7 +5,7 @@ use Rattle.cep_base.specs.Files.{Files}
 use Rattle.cep_rule.specs.declared.parts.Parts.{Parts}
 use Rattle.cep_rule.specs.Matching.{RoseBy}
 use Rattle.cep_world.specs.World.{world}
-use Rattle.cep_words.specs.Words.{Request, Play, Examine, World, AskFor}
+use Rattle.cep_words.specs.Words.{Request, Play, Examine, Dead, World, AskFor}
 use Rattle.cep_run.specs.declared.settings.Settings.{Settings}
 use Rattle.cep_run.specs.Costs.{Beginnings, Edits, IsRunCost}
 use Rattle.cep_run.specs.Run.{Turn, Ending, deeds_of}
@@ -32,12 +32,13 @@ OfTour program settings P =
     (turns : List Turn) × (ending : Ending) × (events : List Event) × (rest : List ℕ)
     × Dialogue program settings [] turns ending events rest × P turns ending
 
--- The counter rose by what was done of a request: where a program was to be played, by the run whose dialogue was said; where a world was to be run, by its run; and where a transcript was to be examined nothing is said.
+-- The counter rose by what was done of a request: where a program was to be played, by the run whose dialogue was said; where a world was to be run, by its run; and of all others nothing is said.
 abbrev pub RoseByRequest : Talked → Option Files → ℕ → ℕ → Request → Type 0
 RoseByRequest talk files ticks ticks' (Play file options) =
     (program : Parts) × OfFile files file (IsSpelledBy program)
     × Went talk (IsSaid program (settings_of program options) (RoseByRun program (settings_of program options) ticks ticks'))
 RoseByRequest talk files ticks ticks' (Examine task file log) = Unit {0}
+RoseByRequest talk files ticks ticks' (Dead file) = Unit {0}
 RoseByRequest talk files ticks ticks' (World rooms options) =
     (program : Parts) × IsSpelledBy program (world rooms)
     × OfTour program (settings_of program options) (RoseByRun program (settings_of program options) ticks ticks')

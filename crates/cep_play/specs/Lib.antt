@@ -3,6 +3,8 @@ pub mod Command
 pub mod Outside
 pub mod Check
 pub mod Renew
+pub mod Claims
+pub mod DeadRules
 pub mod Reports
 pub mod World
 pub mod Play

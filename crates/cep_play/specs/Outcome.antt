@@ -1,6 +1,7 @@
 -- Private.
 -- What the parts of the command come to.
 use Rattle.std.specs.Prelude.{◌≡◌, ◌≢◌, ◌⊎◌, ℕ, ◌≤◌, List, [], ◌∷◌, take, Result, Ok, Err}
+use Rattle.cep_base.specs.declared.limits.TheConstants.{MOST_LOG}
 use Rattle.cep_base.specs.declared.console.ConsoleFault.{ConsoleFault}
 use Rattle.cep_base.specs.declared.console.ConsoleFault.TheVariants as faults
 use Rattle.cep_rule.specs.declared.parts.Parts.{Parts}
@@ -8,9 +9,10 @@ use Rattle.cep_lines.specs.Lines.{line}
 use Rattle.cep_world.specs.World.{world}
 use Rattle.cep_words.specs.declared.options.Options.{Options}
 use Rattle.cep_words.specs.declared.request.Task.{Task}
-use Rattle.cep_words.specs.declared.request.Task.TheVariants.{Check, Renew}
+use Rattle.cep_words.specs.declared.request.Task.TheVariants.{Check, Renew, Weigh}
 use Rattle.cep_log.specs.declared.log.Log.{Log}
 use Rattle.cep_log.specs.Legal.{IsLegal}
+use Rattle.cep_weigh.specs.declared.limits.TheConstants.{MOST_CLAIMS}
 use Rattle.cep_check.specs.declared.cause.Verdict.{Verdict}
 use Rattle.cep_check.specs.declared.cause.Verdict.TheVariants as verdicts
 use Rattle.cep_check.specs.Causes.{IsVerdict}
@@ -30,10 +32,11 @@ use Rattle.cep_play.specs.declared.report.Lines.{Lines}
 use Rattle.cep_play.specs.declared.report.Lines.TheVariants as lines
 use Rattle.cep_play.specs.declared.report.Report as made
 use Rattle.cep_play.specs.Exchange.{Talked, Loaded, IsUnread, AskedFor, Went, Wrote}
-use Rattle.cep_play.specs.Command.{OfFile, IsSpelledBy, AsksFor, no_program, no_transcript, settings_of}
+use Rattle.cep_play.specs.Command.{OfFile, IsSpelledBy, AsksFor, no_program, no_second, settings_of}
 use Rattle.cep_play.specs.Outside.{Report, line_report, report_due, IsRefusal}
 use Rattle.cep_play.specs.Renew.{new_too_long_text}
 use Rattle.cep_play.specs.Reports.{Reports}
+use Rattle.cep_play.specs.DeadRules.{ReportsDead}
 use Rattle.cep_play.specs.World.{ReportsWorld}
 use Rattle.cep_play.specs.Due.{IsDueOf, IsDueAtAll, IsDueUnreadOf}
 use Rattle.cep_play.specs.Answered.{DoesWhatIsDue, IsNoDialogue, IsSpelled, IsWritten, AsksAsSaid}
@@ -45,6 +48,7 @@ code_of status.Rejected = 1
 code_of status.Malformed = 2
 code_of status.Refused = 3
 code_of status.Limited = 4
+code_of status.Broken = 5
 code_of status.Unread = 7
 
 -- the bytes of what is written
@@ -76,6 +80,13 @@ IsLogReport Check program log report = (verdict : Verdict) × IsVerdict program 
 IsLogReport Renew program log report =
     (IsLegal program log × IsRenewalReport program log report)
     ⊎ ((verdict : Verdict) × IsVerdict program log verdict × (verdict_code verdict ≡ 1) × (report ≡ verdict_report program verdict))
+IsLogReport Weigh program log report = ⊥
+
+-- the most bytes of the second file of a task
+abbrev pub most_of : Task → ℕ
+most_of Check = MOST_LOG
+most_of Renew = MOST_LOG
+most_of Weigh = MOST_CLAIMS
 
 -- a prefix of these bytes was written, and nothing was read
 abbrev pub WrotePrefix : Talked → List ℕ → Type 0
@@ -90,9 +101,9 @@ InVain (faults.Memory error) begun nothing = begun ⊎ nothing
 abbrev pub IsRead : Loaded → Type 0
 IsRead loads = loads.faults_after ≡ loads.faults_before
 
--- The status is 7 if a file could not be read, and else 4 or less.
+-- The status is 7 if a file could not be read, and else 5 or less.
 pub data ComesWith (loads : Loaded) (code : ℕ) : Type 0 where
-  all_read : code ≤ 4 → IsRead loads → ComesWith loads code
+  all_read : code ≤ 5 → IsRead loads → ComesWith loads code
   one_unread : code ≡ 7 → IsUnread loads → ComesWith loads code
 
 -- no program is in a file, and this is reported: its text is refused, or it could not be read
@@ -111,11 +122,15 @@ abbrev pub IsFoundInFile : Loaded → List ℕ → Result Parts made.Report → 
 IsFoundInFile loads file (Ok program) = OfFile loads.files file (IsSpelledBy program) × IsRead loads
 IsFoundInFile loads file (Err report) = ReportsNone loads file (report_of report)
 
--- this is reported of the transcript in a file, which may be one that could not be read
-abbrev pub ReportsTranscript : Loaded → Task → Parts → List ℕ → Report → Type 0
-ReportsTranscript loads task program log report =
+-- this is reported of the second file, which may be one that could not be read
+abbrev pub ReportsSecond : Loaded → Task → Parts → List ℕ → Report → Type 0
+ReportsSecond loads task program log report =
     (OfFile loads.files log (λ bytes. Reports task program bytes report) × IsRead loads)
-    ⊎ (IsUnread loads × (report ≡ line_report no_transcript 7))
+    ⊎ (IsUnread loads × (report ≡ line_report (no_second task) 7))
+
+-- the dead rules of the program in a file are reported
+abbrev pub ReportsDeadIn : Loaded → List ℕ → Report → Type 0
+ReportsDeadIn loads file report = (program : Parts) × OfFile loads.files file (IsSpelledBy program) × IsRead loads × ReportsDead program report
 
 -- the file was asked for, or, if memory ran out, perhaps not
 abbrev pub AsksFile : {T E : Type 0} → Loaded → List ℕ → Result T E → Type 0

@@ -1,26 +1,28 @@
--- What is reported of a transcript in a file, against the program in another.
+-- What is reported of a file, against the program in another.
 use Rattle.std.specs.Prelude.{◌≡◌, ◌⊎◌, ℕ, List, [], ◌∷◌}
 use Rattle.cep_rule.specs.declared.parts.Parts.{Parts}
 use Rattle.cep_words.specs.declared.request.Task.{Task}
-use Rattle.cep_words.specs.declared.request.Task.TheVariants.{Check, Renew}
+use Rattle.cep_words.specs.declared.request.Task.TheVariants.{Check, Renew, Weigh}
 use Rattle.cep_play.specs.Command.{OfFile}
 use Rattle.cep_play.specs.Outside.{Outside, Due, Report, line_report, IsReportDue, OfText}
 use Rattle.cep_play.specs.Check.{Accepts, Rejects}
 use Rattle.cep_play.specs.Renew.{Renews, RenewsTooLong, new_too_long_text}
+use Rattle.cep_play.specs.Claims.{ReportsWeighing}
 
 -- the bytes are no legal transcript, and the report is the line that says why
 abbrev pub ReportsWhy : Parts → List ℕ → Report → Type 0
 ReportsWhy program bytes report = (text : List ℕ) × Rejects program bytes text × (report ≡ line_report text 1)
 
--- What is reported of the bytes of a transcript. Checked: how many steps it has, or why it is not accepted. Renewed: its new text, or why it is not accepted, or that the new text is too long.
+-- What is reported of the bytes of a second file. A transcript that is checked: how many steps it has, or why it is not accepted. One that is renewed: its new text, or why it is not accepted, or that the new text is too long. A file of claims: each claim judged, or why it is none.
 abbrev pub Reports : Task → Parts → List ℕ → Report → Type 0
 Reports Check program bytes report =
     ((text : List ℕ) × Accepts program bytes text × (report ≡ line_report text 0)) ⊎ ReportsWhy program bytes report
 Reports Renew program bytes report =
     ((text : List ℕ) × Renews program bytes text × (report ≡ record { written = text; code = 0 }))
     ⊎ (ReportsWhy program bytes report ⊎ (RenewsTooLong program bytes × (report ≡ line_report new_too_long_text 1)))
+Reports Weigh program bytes report = ReportsWeighing program bytes report
 
--- this is due where the transcript in a file is to be examined against the program in another
+-- this is due where one file is to be examined against the program in another
 abbrev pub IsExaminationDue : Task → List ℕ → List ℕ → Outside → Due → Type 0
 IsExaminationDue task file log outside due =
     OfFile outside.files file (λ text. OfText text (file ∷ []) outside.come

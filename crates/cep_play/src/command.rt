@@ -17,6 +17,7 @@ use cep_base::{Console, ConsoleFault, Shelf, Steps};
 use cep_ground::laws::clean_parts_are_a_program;
 use cep_replay::laws::legal_logs_can_be_played;
 use cep_run::laws::dialogues_are_there;
+use cep_weigh::laws::one_reading;
 use cep_words::laws::one_request;
 use std::alloc::Global;
 use std::sync::ledger::Ledger;
@@ -60,11 +61,12 @@ fn command<C: Console, H: Shelf, L: Ledger>(
 ///
 /// | status | comes |
 /// |---|---|
-/// | 0 | the run ended in quiet or at the end of the input; the transcript is accepted or renewed |
-/// | 1 | the transcript is not accepted, or its new text is too long; the line says which |
+/// | 0 | the run ended in quiet or at the end of the input; the transcript is accepted or renewed; no claim is broken; dead rules are reported |
+/// | 1 | the second file is not accepted, or the new text is too long; the line says which |
 /// | 2 | the words have no form; the usage line was written |
 /// | 3 | the program's text is refused; the line that says so was written |
 /// | 4 | the run ended by a limit |
+/// | 5 | some claim is broken; each claim has its line |
 /// | 6 | the console failed |
 /// | 7 | a file could not be read; the line that says which was written |
 /// | 9 | memory ran out |
@@ -107,7 +109,7 @@ pub fn ceptre<C: Console, H: Shelf, L: Ledger>(
     // says how it ends, or what is reported of a transcript.
     ensures due { TellsAllThatIsDue
         (map string_bytes words.now) (H.files shelf.old) (C.left console.old) result }
-    ensures no_other { Contains (0 ∷ 1 ∷ 2 ∷ 3 ∷ 4 ∷ 6 ∷ 7 ∷ 9 ∷ []) result }
+    ensures no_other { Contains (0 ∷ 1 ∷ 2 ∷ 3 ∷ 4 ∷ 5 ∷ 6 ∷ 7 ∷ 9 ∷ []) result }
 
     // A transcript that is accepted can have been played.
     ensures playable { result ≡ 0
@@ -140,6 +142,7 @@ pub fn ceptre<C: Console, H: Shelf, L: Ledger>(
     dialogues_are_there();
     clean_parts_are_a_program();
     legal_logs_can_be_played();
+    one_reading();
     match command(alloc, words, console, shelf, steps) {
         Ok(code) => code,
         Err(ConsoleFault::Failed) => 6,

@@ -1,15 +1,17 @@
-// Examines a transcript against a program: reports whether it is legal, or its new text.
-ghost use Rattle.std.specs.Prelude.{◌≡◌, ◌⊎◌, ◌≤◌, length, IfOk, OnErr};
+// Examines a second file against a program: a transcript, or a file of claims.
+ghost use Rattle.std.specs.Prelude.{◌≡◌, ◌≢◌, ◌⊎◌, ◌≤◌, length, IfOk, OnErr};
 ghost use Rattle.cep_base.specs.declared.limits.TheConstants.{MOST_LOG};
 ghost use Rattle.cep_log.specs.Legal.{IsLogOf, IsLegal};
 ghost use Rattle.cep_check.specs.Telling.{fault_text, IsTellable};
+ghost use Rattle.cep_words.specs.declared.request.Task.TheVariants.{Weigh};
 ghost use Rattle.cep_words.specs.Words.{Examine};
 ghost use Rattle.cep_play.specs.Exchange.{loaded};
-ghost use Rattle.cep_play.specs.Command.{AsksUpTo};
+ghost use Rattle.cep_play.specs.Command.{AsksUpTo, no_second};
 ghost use Rattle.cep_play.specs.Outside.{line_report};
 ghost use Rattle.cep_play.specs.Reports.{Reports};
-ghost use Rattle.cep_play.specs.Outcome.{report_of, verdict_code, verdict_report, code_of, IsRenewalReport, IsLogReport, ReportsTranscript, AsksFile, IsReportOf};
+ghost use Rattle.cep_play.specs.Outcome.{report_of, verdict_code, verdict_report, code_of, most_of, IsRenewalReport, IsLogReport, ReportsSecond, AsksFile, IsReportOf};
 
+use crate::claims::report_claims;
 use crate::loading::program_in;
 use crate::report::{Report, Status};
 use cep_base::limits::MOST_LOG;
@@ -19,6 +21,7 @@ use cep_check::{Verdict, check, put_fault, put_verdict, renew};
 use cep_log::laws::{one_log, renewals_have_one_text};
 use cep_log::{Log, LogFault, read_log};
 use cep_rule::Program;
+use cep_weigh::limits::MOST_CLAIMS;
 use cep_words::Task;
 use std::alloc::{AllocError, Global};
 use std::sync::ledger::Ledger;
@@ -62,7 +65,8 @@ fn report_log<L: Ledger>(
     log: &Log,
     steps: &mut Steps<L>,
 ) -> Result<Report, AllocError>
-    requires { IsLogOf program.now log.now }
+    requires of_program { IsLogOf program.now log.now }
+    requires of_log { task ≢ Weigh }
     ensures judged { IfOk result
         (λ report. IsLogReport task program.now log.now (report_of report)) }
     ensures counted { steps.old ≤ steps.new }
@@ -74,6 +78,7 @@ fn report_log<L: Ledger>(
             Verdict::Accepted { .. } => report_renewal(alloc, program, log),
             Verdict::Refused { .. } => report_verdict(alloc, program, &verdict),
         },
+        Task::Weigh => unreachable!(),
     }
 }
 
@@ -87,14 +92,15 @@ fn report_fault(alloc: Global, fault: LogFault) -> Result<Report, AllocError>
 }
 
 /// The report of the bytes of a transcript.
-fn report_bytes<L: Ledger>(
+fn report_transcript<L: Ledger>(
     alloc: Global,
     program: &Program,
     task: Task,
     bytes: &[u8],
     steps: &mut Steps<L>,
 ) -> Result<Report, AllocError>
-    requires { length bytes.now ≤ MOST_LOG }
+    requires short { length bytes.now ≤ MOST_LOG }
+    requires of_log { task ≢ Weigh }
     ensures judged { IfOk result (λ report. Reports task program.now bytes.now (report_of report)) }
     ensures counted { steps.old ≤ steps.new }
 {
@@ -108,50 +114,91 @@ fn report_bytes<L: Ledger>(
     }
 }
 
-/// The report of the transcript in a file of the shelf.
-fn report_transcript<H: Shelf, L: Ledger>(
+/// The report of the bytes of a second file.
+fn report_bytes<L: Ledger>(
     alloc: Global,
     program: &Program,
     task: Task,
-    log: &str,
+    bytes: &[u8],
+    steps: &mut Steps<L>,
+) -> Result<Report, AllocError>
+    requires { length bytes.now ≤ most_of task }
+    ensures judged { IfOk result (λ report. Reports task program.now bytes.now (report_of report)) }
+    ensures counted { steps.old ≤ steps.new }
+{
+    match task {
+        Task::Check => report_transcript(alloc, program, task, bytes, steps),
+        Task::Renew => report_transcript(alloc, program, task, bytes, steps),
+        Task::Weigh => report_claims(alloc, program, bytes),
+    }
+}
+
+// The most bytes of the second file of a task.
+fn most_of(task: Task) -> usize
+    ensures { result ≡ most_of task }
+{
+    match task {
+        Task::Check => MOST_LOG,
+        Task::Renew => MOST_LOG,
+        Task::Weigh => MOST_CLAIMS,
+    }
+}
+
+// The report that the second file could not be read.
+fn report_unread(task: Task) -> Report
+    ensures { report_of result ≡ line_report (no_second task) 7 }
+{
+    match task {
+        Task::Check => Report::line(b"cannot read transcript\n", Status::Unread),
+        Task::Renew => Report::line(b"cannot read transcript\n", Status::Unread),
+        Task::Weigh => Report::line(b"cannot read claims\n", Status::Unread),
+    }
+}
+
+/// The report of the second file, on the shelf.
+fn report_second<H: Shelf, L: Ledger>(
+    alloc: Global,
+    program: &Program,
+    task: Task,
+    second: &str,
     shelf: &mut H,
     steps: &mut Steps<L>,
 ) -> Result<Report, AllocError>
     ensures reported { IfOk result (λ report.
-        ReportsTranscript (loaded H.files H.asked H.faults shelf.old shelf.new) task program.now
-        log.now (report_of report)) }
-    ensures asked { AsksFile (loaded H.files H.asked H.faults shelf.old shelf.new) log.now result }
+        ReportsSecond (loaded H.files H.asked H.faults shelf.old shelf.new) task program.now
+        second.now (report_of report)) }
+    ensures asked { AsksFile (loaded H.files H.asked H.faults shelf.old shelf.new) second.now result }
     ensures files { H.files shelf.new ≡ H.files shelf.old }
     ensures counted { steps.old ≤ steps.new }
 {
-    match shelf.load(alloc, log, MOST_LOG) {
+    match shelf.load(alloc, second, most_of(task)) {
         Ok(bytes) => report_bytes(alloc, program, task, &bytes, steps),
         Err(ShelfFault::TooLong) => Ok(Report::line(b"refused 0 TooLong\n", Status::Rejected)),
-        Err(ShelfFault::Failed) => Ok(Report::line(b"cannot read transcript\n", Status::Unread)),
+        Err(ShelfFault::Failed) => Ok(report_unread(task)),
         Err(ShelfFault::Memory(error)) => Err(error),
     }
 }
 
-/// The report of the transcript in one file of the shelf, against the program in another: whether
-/// it is legal, or its new text if the task is to renew it.
+/// The report of the second file, against the program in the first, both on the shelf: whether a
+/// transcript is legal, or its new text if the task is to renew it, or what claims come to.
 pub(crate) fn examine<H: Shelf, L: Ledger>(
     alloc: Global,
     task: Task,
     file: &str,
-    log: &str,
+    second: &str,
     shelf: &mut H,
     steps: &mut Steps<L>,
 ) -> Result<Report, AllocError>
-    ensures reported { IfOk result (λ report. IsReportOf (Examine task file.now log.now)
+    ensures reported { IfOk result (λ report. IsReportOf (Examine task file.now second.now)
         (loaded H.files H.asked H.faults shelf.old shelf.new) steps.old steps.new
         (report_of report)) }
     ensures asked { OnErr result (AsksUpTo (loaded H.files H.asked H.faults shelf.old shelf.new)
-        (Examine task file.now log.now) ⊎ (H.asked shelf.new ≡ H.asked shelf.old)) }
+        (Examine task file.now second.now) ⊎ (H.asked shelf.new ≡ H.asked shelf.old)) }
     ensures files { H.files shelf.new ≡ H.files shelf.old }
     ensures counted { steps.old ≤ steps.new }
 {
     match program_in(alloc, file, shelf)? {
-        Ok(program) => report_transcript(alloc, &program, task, log, shelf, steps),
+        Ok(program) => report_second(alloc, &program, task, second, shelf, steps),
         Err(report) => Ok(report),
     }
 }

@@ -4,6 +4,8 @@ ghost use Rattle.cep_base.specs.Files.{Files};
 ghost use Rattle.cep_play.specs.Outside.{Due};
 ghost use Rattle.cep_play.specs.Due.{IsDue};
 
+use cep_ground::laws::clean_parts_are_a_program;
+use cep_weigh::laws::one_reading;
 use cep_words::laws::one_request;
 
 /// Where the shelf tells its files, what is due of words is one but for what is written: one
@@ -16,4 +18,6 @@ pub fn one_due()
         → (one.code ≡ other.code) × (one.rest ≡ other.rest) × (one.names ≡ other.names) }
 {
     one_request();
+    clean_parts_are_a_program();
+    one_reading();
 }

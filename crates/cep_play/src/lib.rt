@@ -3,7 +3,9 @@
 //! process ends with. A module for each command, and a file of definitions for what is due of it.
 #![tactic(auto)]
 
+mod claims;
 mod command;
+mod dead_rules;
 mod examine;
 pub mod laws;
 mod loading;

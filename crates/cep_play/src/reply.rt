@@ -4,6 +4,7 @@ ghost use Rattle.cep_play.specs.Exchange.{loaded};
 ghost use Rattle.cep_play.specs.Answered.{AsksAtMost};
 ghost use Rattle.cep_play.specs.Outcome.{IsReply};
 
+use crate::dead_rules::report_dead_in;
 use crate::examine::examine;
 use crate::loading::program_in;
 use crate::report::{Report, Status};
@@ -16,7 +17,7 @@ use std::alloc::{AllocError, Global};
 use std::sync::ledger::Ledger;
 
 const USAGE: &[u8] =
-    b"usage: play FILE [seed=N] [height=N] [turns=N] | check FILE LOG | world N [seed=N] [height=N] [turns=N] | renew FILE LOG\n";
+    b"usage: play FILE [seed=N] [height=N] [turns=N] | check FILE LOG | world N [seed=N] [height=N] [turns=N] | renew FILE LOG | weigh FILE KEEPS | dead FILE\n";
 
 /// What words come to.
 #[derive(Drop)]
@@ -46,8 +47,12 @@ pub(crate) fn reply_to<H: Shelf, L: Ledger>(
             Ok(program) => Ok(Reply::Dialogue { program, options }),
             Err(report) => Ok(Reply::Report(report)),
         },
-        Some(Request::Examine { task, file, log }) => {
-            let report = examine(alloc, task, file.as_str(), log.as_str(), shelf, steps)?;
+        Some(Request::Examine { task, file, second }) => {
+            let report = examine(alloc, task, file.as_str(), second.as_str(), shelf, steps)?;
+            Ok(Reply::Report(report))
+        }
+        Some(Request::Dead { file }) => {
+            let report = report_dead_in(alloc, file.as_str(), shelf)?;
             Ok(Reply::Report(report))
         }
         Some(Request::World { rooms, options }) => {

@@ -21,6 +21,8 @@ pub(crate) enum Status {
     Refused,
     /// The run ended by a limit.
     Limited,
+    /// Some claim is broken.
+    Broken,
     /// A file could not be read.
     Unread,
 }
@@ -47,6 +49,7 @@ impl Status {
             Status::Malformed => 2,
             Status::Refused => 3,
             Status::Limited => 4,
+            Status::Broken => 5,
             Status::Unread => 7,
         }
     }

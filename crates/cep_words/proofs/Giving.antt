@@ -12,7 +12,7 @@ use Rattle.cep_words.specs.declared.run_option.RunOption.{RunOption}
 use Rattle.cep_words.specs.declared.run_option.RunOption.TheVariants.{Seed, Height, Turns}
 use Rattle.cep_words.specs.declared.options.Options.{Options}
 use Rattle.cep_words.specs.declared.request.Task.{Task}
-use Rattle.cep_words.specs.Words.{option_text, IsInBounds, asked_if, all_asked, AreWithin, Give, Play, Examine, World, AskFor, HaveNoForm}
+use Rattle.cep_words.specs.Words.{option_text, IsInBounds, asked_if, all_asked, AreWithin, Give, Play, Examine, Dead, World, AskFor, HaveNoForm}
 use Rattle.cep_words.specs.Adding.{IsThere, AddsOne}
 
 -- How many words begin as those of a kind do
@@ -201,10 +201,11 @@ none_weaker None P P' Q less holds = less holds
 none_weaker (Some x) P P' Q less holds = holds
 
 -- words that ask for none of these have no form
-pub no_form : (words : List (List ℕ)) → ((file : List ℕ) (options : Options) → ¬ (AskFor words (Play file options))) → ((task : Task) (file log : List ℕ) → ¬ (AskFor words (Examine task file log))) → ((rooms : ℕ) (options : Options) → ¬ (AskFor words (World rooms options))) → HaveNoForm words
-no_form words unplayed unexamined unrun (Play file options) ask = unplayed file options ask
-no_form words unplayed unexamined unrun (Examine task file log) ask = unexamined task file log ask
-no_form words unplayed unexamined unrun (World rooms options) ask = unrun rooms options ask
+pub no_form : (words : List (List ℕ)) → ((file : List ℕ) (options : Options) → ¬ (AskFor words (Play file options))) → ((task : Task) (file second : List ℕ) → ¬ (AskFor words (Examine task file second))) → ((file : List ℕ) → ¬ (AskFor words (Dead file))) → ((rooms : ℕ) (options : Options) → ¬ (AskFor words (World rooms options))) → HaveNoForm words
+no_form words unplayed unexamined unreported unrun (Play file options) ask = unplayed file options ask
+no_form words unplayed unexamined unreported unrun (Examine task file second) ask = unexamined task file second ask
+no_form words unplayed unexamined unreported unrun (Dead file) ask = unreported file ask
+no_form words unplayed unexamined unreported unrun (World rooms options) ask = unrun rooms options ask
 
 -- three items
 pub three_items : {X : Type 0} (items : List X) (one other third : X) → length items ≡ 3 → one ≡ get_or items 0 one → other ≡ get_or items 1 other → third ≡ get_or items 2 third → items ≡ one ∷ other ∷ third ∷ []
@@ -213,3 +214,10 @@ three_items (a ∷ []) one other third size e f g = absurd (omega (arith, size))
 three_items (a ∷ b ∷ []) one other third size e f g = absurd (omega (arith, size))
 three_items (a ∷ b ∷ c ∷ []) one other third size e f g = cc
 three_items (a ∷ b ∷ c ∷ d ∷ more) one other third size e f g = absurd (omega (size, arith))
+
+-- and two
+pub only_two : {X : Type 0} (items : List X) (one other : X) → length items ≡ 2 → one ≡ get_or items 0 one → other ≡ get_or items 1 other → items ≡ one ∷ other ∷ []
+only_two [] one other size e f = absurd (omega (arith, size))
+only_two (a ∷ []) one other size e f = absurd (omega (arith, size))
+only_two (a ∷ b ∷ []) one other size e f = cc
+only_two (a ∷ b ∷ c ∷ more) one other size e f = absurd (omega (arith, size))

@@ -1,5 +1,5 @@
 -- Words ask for one thing at most.
-use Rattle.std.proofs.Common.{◌≡◌, ⊎_elim, ℕ, Option, None, Some, List, [], ◌∷◌, ◌++◌, map, refl, sym, ap, subst, ◌∙◌, arith, Contains}
+use Rattle.std.proofs.Common.{◌≡◌, ⊎_elim, ℕ, Option, None, Some, List, [], ◌∷◌, ◌++◌, ◌+◌, ◌*◌, ◌≤◌, map, refl, sym, ap, subst, ◌∙◌, arith, Contains}
 use Rattle.std.specs.Prelude.{codes, decimal}
 use Rattle.std.proofs.lemmas.Fmt.{decimal_injective}
 use Rattle.std.proofs.lemmas.List.Sorted.{IsPermutation-sym, Contains-permutation}
@@ -9,8 +9,8 @@ use Rattle.cep_words.specs.declared.run_option.RunOption.{RunOption}
 use Rattle.cep_words.specs.declared.run_option.RunOption.TheVariants.{Seed, Height, Turns}
 use Rattle.cep_words.specs.declared.options.Options.{Options}
 use Rattle.cep_words.specs.declared.request.Task.{Task}
-use Rattle.cep_words.specs.declared.request.Task.TheVariants.{Check, Renew}
-use Rattle.cep_words.specs.Words.{option_text, IsInBounds, asked_if, all_asked, Give, task_word, Request, Play, Examine, World, AskFor}
+use Rattle.cep_words.specs.declared.request.Task.TheVariants.{Check, Renew, Weigh}
+use Rattle.cep_words.specs.Words.{option_text, IsInBounds, asked_if, all_asked, Give, task_word, Request, Play, Examine, Dead, World, AskFor}
 
 abbrev head : List ℕ → ℕ
 head [] = 0
@@ -108,56 +108,73 @@ given_once words one other given given' =
     let turns = same_option one.turns other.turns (λ n. there (Turns n)) (λ n. back (Turns n)) in
     λ i. record { seed = seed i; height = height i; turns = turns i }
 
--- a word names one task at most
-one_task : (one other : Task) → task_word one ≡ task_word other → one ≡ other
+-- the fourth letter of a word, which tells requests apart
+abbrev fourth : List ℕ → ℕ
+fourth (a ∷ (b ∷ (c ∷ (letter ∷ rest)))) = letter
+fourth _ = 0
+
+abbrev task_letter : Task → ℕ
+task_letter Check = 99
+task_letter Renew = 101
+task_letter Weigh = 103
+
+abbrev letter_of : Request → ℕ
+letter_of (Play file options) = 121
+letter_of (Examine task file second) = task_letter task
+letter_of (Dead file) = 100
+letter_of (World rooms options) = 108
+
+word_letter : (task : Task) → fourth (task_word task) ≡ task_letter task
+word_letter Check = refl
+word_letter Renew = refl
+word_letter Weigh = refl
+
+tells_letter : (words : List (List ℕ)) (request : Request) → AskFor words request → fourth (first words) ≡ letter_of request
+tells_letter words (Play file options) ask = ap (λ ws. fourth (first ws)) ask.1
+tells_letter words (Examine task file second) ask = ap (λ ws. fourth (first ws)) ask ∙ word_letter task
+tells_letter words (Dead file) ask = ap (λ ws. fourth (first ws)) ask
+tells_letter words (World rooms options) ask = ap (λ ws. fourth (first ws)) ask.1.1
+
+-- a letter names one task at most
+task_letters : (task : Task) → (k : ℕ) × (k ≤ 2) × (task_letter task ≡ 2 * k + 99)
+task_letters Check = (0, omega arith, refl)
+task_letters Renew = (1, omega arith, refl)
+task_letters Weigh = (2, omega arith, refl)
+
+one_task : (one other : Task) → task_letter one ≡ task_letter other → one ≡ other
 one_task Check Check same = refl
 one_task Renew Renew same = refl
-one_task Check Renew same = let letter : 99 ≡ 114 = ap head same in absurd (omega (arith, letter))
-one_task Renew Check same = let letter : 114 ≡ 99 = ap head same in absurd (omega (arith, letter))
-
--- and no word that begins otherwise
-no_task : (task : Task) (byte : ℕ) → ¬ (byte ≡ 99) → ¬ (byte ≡ 114) → ¬ (byte ≡ head (task_word task))
-no_task Check byte check renew same = check same
-no_task Renew byte check renew same = renew same
+one_task Weigh Weigh same = refl
+one_task _ _ same = absurd (omega (arith, same))
 
 pub one_request : (words : List (List ℕ)) (one other : Request) → AskFor words one → AskFor words other → one ≡ other
-one_request words (Play file options) (Play file' options') ask ask' =
-    let same : codes "play" ∷ file ∷ ask.0 ≡ codes "play" ∷ file' ∷ ask'.0 = sym ask.1 ∙ ask'.1 in
-    let files : file ≡ file' = ap second same in
-    let others : ask.0 ≡ ask'.0 = ap behind_two same in
-    let given = given_once ask'.0 options options' (subst (λ ws. Give ws options) others ask.2) ask'.2 in
-    λ i. Play (files i) (given i)
-one_request words (Examine task file log) (Examine task' file' log') ask ask' =
-    let same : task_word task ∷ file ∷ log ∷ [] ≡ task_word task' ∷ file' ∷ log' ∷ [] = sym ask ∙ ask' in
-    let tasks : task ≡ task' = one_task task task' (ap first same) in
-    let files : file ≡ file' = ap second same in
-    let logs : log ≡ log' = ap (λ ws. first (behind_two ws)) same in
-    λ i. Examine (tasks i) (files i) (logs i)
-one_request words (Play file options) (Examine task file' log) ask ask' =
-    let same : codes "play" ∷ file ∷ ask.0 ≡ task_word task ∷ file' ∷ log ∷ [] = sym ask.1 ∙ ask' in
-    absurd (no_task task 112 (λ letter. omega (arith, letter)) (λ letter. omega (arith, letter)) (ap (λ ws. head (first ws)) same))
-one_request words (Examine task file log) (Play file' options) ask ask' =
-    let same : codes "play" ∷ file' ∷ ask'.0 ≡ task_word task ∷ file ∷ log ∷ [] = sym ask'.1 ∙ ask in
-    absurd (no_task task 112 (λ letter. omega (arith, letter)) (λ letter. omega (arith, letter)) (ap (λ ws. head (first ws)) same))
-one_request words (World rooms options) (World rooms' options') ask ask' =
-    let same : codes "world" ∷ decimal rooms ∷ ask.1.0 ≡ codes "world" ∷ decimal rooms' ∷ ask'.1.0 = sym ask.1.1 ∙ ask'.1.1 in
-    let few = ask.0.1 in
-    let few' = ask'.0.1 in
-    let numbers : rooms ≡ rooms' = decimal_injective rooms rooms' (omega (arith, few)) (omega (arith, few')) (ap second same) in
-    let others : ask.1.0 ≡ ask'.1.0 = ap behind_two same in
-    let given = given_once ask'.1.0 options options' (subst (λ ws. Give ws options) others ask.1.2) ask'.1.2 in
-    λ i. World (numbers i) (given i)
-one_request words (World rooms options) (Play file options') ask ask' =
-    let same : codes "world" ∷ decimal rooms ∷ ask.1.0 ≡ codes "play" ∷ file ∷ ask'.0 = sym ask.1.1 ∙ ask'.1 in
-    let letter : 119 ≡ 112 = ap (λ ws. head (first ws)) same in
-    absurd (omega (arith, letter))
-one_request words (Play file options) (World rooms options') ask ask' =
-    let same : codes "play" ∷ file ∷ ask.0 ≡ codes "world" ∷ decimal rooms ∷ ask'.1.0 = sym ask.1 ∙ ask'.1.1 in
-    let letter : 112 ≡ 119 = ap (λ ws. head (first ws)) same in
-    absurd (omega (arith, letter))
-one_request words (World rooms options) (Examine task file log) ask ask' =
-    let same : codes "world" ∷ decimal rooms ∷ ask.1.0 ≡ task_word task ∷ file ∷ log ∷ [] = sym ask.1.1 ∙ ask' in
-    absurd (no_task task 119 (λ letter. omega (arith, letter)) (λ letter. omega (arith, letter)) (ap (λ ws. head (first ws)) same))
-one_request words (Examine task file log) (World rooms options) ask ask' =
-    let same : codes "world" ∷ decimal rooms ∷ ask'.1.0 ≡ task_word task ∷ file ∷ log ∷ [] = sym ask'.1.1 ∙ ask in
-    absurd (no_task task 119 (λ letter. omega (arith, letter)) (λ letter. omega (arith, letter)) (ap (λ ws. head (first ws)) same))
+one_request words one other ask ask' = by one other ask ask' (sym (tells_letter words one ask) ∙ tells_letter words other ask') where
+  by : (one other : Request) → AskFor words one → AskFor words other → letter_of one ≡ letter_of other → one ≡ other
+  by (Play file options) (Play file' options') ask ask' letters =
+      let same : codes "play" ∷ file ∷ ask.0 ≡ codes "play" ∷ file' ∷ ask'.0 = sym ask.1 ∙ ask'.1 in
+      let files : file ≡ file' = ap second same in
+      let others : ask.0 ≡ ask'.0 = ap behind_two same in
+      let given = given_once ask'.0 options options' (subst (λ ws. Give ws options) others ask.2) ask'.2 in
+      λ i. Play (files i) (given i)
+  by (Examine task file log) (Examine task' file' log') ask ask' letters =
+      let same : task_word task ∷ file ∷ log ∷ [] ≡ task_word task' ∷ file' ∷ log' ∷ [] = sym ask ∙ ask' in
+      let tasks : task ≡ task' = one_task task task' letters in
+      let files : file ≡ file' = ap second same in
+      let logs : log ≡ log' = ap (λ ws. first (behind_two ws)) same in
+      λ i. Examine (tasks i) (files i) (logs i)
+  by (Dead file) (Dead file') ask ask' letters = let files : file ≡ file' = ap second (sym ask ∙ ask') in λ i. Dead (files i)
+  by (World rooms options) (World rooms' options') ask ask' letters =
+      let same : codes "world" ∷ decimal rooms ∷ ask.1.0 ≡ codes "world" ∷ decimal rooms' ∷ ask'.1.0 = sym ask.1.1 ∙ ask'.1.1 in
+      let few = ask.0.1 in
+      let few' = ask'.0.1 in
+      let numbers : rooms ≡ rooms' = decimal_injective rooms rooms' (omega (arith, few)) (omega (arith, few')) (ap second same) in
+      let others : ask.1.0 ≡ ask'.1.0 = ap behind_two same in
+      let given = given_once ask'.1.0 options options' (subst (λ ws. Give ws options) others ask.1.2) ask'.1.2 in
+      λ i. World (numbers i) (given i)
+  by (Examine task file log) (Play file' options) ask ask' letters = let is = task_letters task in absurd (omega (arith, is.1, is.2, letters))
+  by (Examine task file log) (Dead file') ask ask' letters = let is = task_letters task in absurd (omega (arith, is.1, is.2, letters))
+  by (Examine task file log) (World rooms options) ask ask' letters = let is = task_letters task in absurd (omega (arith, is.1, is.2, letters))
+  by (Play file' options) (Examine task file log) ask ask' letters = let is = task_letters task in absurd (omega (arith, is.1, is.2, letters))
+  by (Dead file') (Examine task file log) ask ask' letters = let is = task_letters task in absurd (omega (arith, is.1, is.2, letters))
+  by (World rooms options) (Examine task file log) ask ask' letters = let is = task_letters task in absurd (omega (arith, is.1, is.2, letters))
+  by one other ask ask' letters = absurd (omega (arith, letters))

@@ -7,7 +7,7 @@ use Rattle.cep_words.specs.declared.run_option.RunOption.{RunOption}
 use Rattle.cep_words.specs.declared.run_option.RunOption.TheVariants.{Seed, Height, Turns}
 use Rattle.cep_words.specs.declared.options.Options.{Options}
 use Rattle.cep_words.specs.declared.request.Task.{Task}
-use Rattle.cep_words.specs.declared.request.Task.TheVariants.{Check, Renew}
+use Rattle.cep_words.specs.declared.request.Task.TheVariants.{Check, Renew, Weigh}
 
 -- the word that asks one thing of a run: its name, `=`, and the number in decimal without leading zeros
 abbrev pub option_text : RunOption → List ℕ
@@ -42,21 +42,24 @@ AreWithin options = AllByRecursion IsInBounds (all_asked options)
 abbrev pub Give : List (List ℕ) → Options → Type 0
 Give words options = AreWithin options × IsPermutation (map option_text (all_asked options)) words
 
--- the word that names what is done with a transcript
+-- the word that names a task
 abbrev pub task_word : Task → List ℕ
 task_word Check = codes "check"
 task_word Renew = codes "renew"
+task_word Weigh = codes "weigh"
 
--- What words may ask for: that the program in a file is played, with options; that the transcript in a file is examined against it, for a task; or that the generated world of so many rooms is run, with options.
+-- What words may ask for: that the program in a file is played, with options; that another file is examined against it, for a task; that its dead rules are reported; or that the generated world of so many rooms is run, with options.
 pub data Request : Type 0 where
   Play : (file : List ℕ) → (options : Options) → Request
-  Examine : (task : Task) → (file : List ℕ) → (log : List ℕ) → Request
+  Examine : (task : Task) → (file : List ℕ) → (second : List ℕ) → Request
+  Dead : (file : List ℕ) → Request
   World : (rooms : ℕ) → (options : Options) → Request
 
 -- These words ask for this.
 abbrev pub AskFor : List (List ℕ) → Request → Type 0
 AskFor words (Play file options) = (others : List (List ℕ)) × (words ≡ codes "play" ∷ file ∷ others) × Give others options
-AskFor words (Examine task file log) = words ≡ task_word task ∷ file ∷ log ∷ []
+AskFor words (Examine task file second) = words ≡ task_word task ∷ file ∷ second ∷ []
+AskFor words (Dead file) = words ≡ codes "dead" ∷ file ∷ []
 AskFor words (World rooms options) = IsUpTo MOST_WORLD rooms × ((others : List (List ℕ)) × (words ≡ codes "world" ∷ decimal rooms ∷ others) × Give others options)
 
 -- the words have no form: they ask for nothing

@@ -1,20 +1,22 @@
 ghost use Rattle.std.specs.Prelude.{◌≡◌, ◌≢◌, ℕ, List, map, string_bytes, MatchOption};
 ghost use Rattle.cep_words.specs.declared.options.Options.{Options};
 ghost use Rattle.cep_words.specs.declared.request.Task.{Task};
-ghost use Rattle.cep_words.specs.Words.{task_word, AskFor, HaveNoForm, Play, Examine, World};
+ghost use Rattle.cep_words.specs.Words.{task_word, AskFor, HaveNoForm, Play, Examine, Dead, World};
 ghost use Rattle.cep_words.specs.Requests.{request_of};
 
 use crate::number::number_within;
 use crate::options::Options;
 use cep_base::limits::MOST_WORLD;
 
-/// What is done with a transcript.
+/// What is done with a second file and the program.
 #[derive(Clone, Copy, Debug, PartialEq, Eq)]
 pub enum Task {
-    /// It is checked against the program.
+    /// A transcript is checked against the program.
     Check,
-    /// It is checked, and where it is legal written anew in version 2.
+    /// A transcript is checked, and if it is legal renewed in version 2.
     Renew,
+    /// The rules of the program are weighed by a file of claims.
+    Weigh,
 }
 
 /// What words ask of the program.
@@ -25,11 +27,15 @@ pub enum Request<'a> {
         file: &'a String,
         options: Options,
     },
-    /// To examine the transcript in a file, `log`, against the program in another.
+    /// To examine a second file against the program in the first.
     Examine {
         task: Task,
         file: &'a String,
-        log: &'a String,
+        second: &'a String,
+    },
+    /// To report the rules of the program in a file that can never apply.
+    Dead {
+        file: &'a String,
     },
     /// To run the generated world of so many rooms, from 1 to 5,000, with options.
     World {
@@ -49,7 +55,10 @@ impl Request<'_> {
             Some(request) => Some(request),
             None => match to_examine(words) {
                 Some(request) => Some(request),
-                None => to_run(words),
+                None => match to_report_dead(words) {
+                    Some(request) => Some(request),
+                    None => to_run(words),
+                },
             },
         }
     }
@@ -70,17 +79,29 @@ fn to_play(words: &[String]) -> Option<Request<'_>>
     }
 }
 
-// The request to examine a transcript, if these words ask for that.
+// The request to examine a second file, if these words ask for that.
 fn to_examine(words: &[String]) -> Option<Request<'_>>
     ensures { MatchOption result
-        ((task : Task) (file log : List ℕ) → ¬ (AskFor (map string_bytes words.now) (Examine task file log)))
+        ((task : Task) (file second : List ℕ) → ¬ (AskFor (map string_bytes words.now) (Examine task file second)))
         (λ request. AskFor (map string_bytes words.now) (request_of request)) }
 {
     match words {
-        [word, file, log] => {
+        [word, file, second] => {
             let task = task_of(word.as_bytes())?;
-            Some(Request::Examine { task, file, log })
+            Some(Request::Examine { task, file, second })
         }
+        _ => None,
+    }
+}
+
+// The request to report dead rules, if these words ask for that.
+fn to_report_dead(words: &[String]) -> Option<Request<'_>>
+    ensures { MatchOption result
+        ((file : List ℕ) → ¬ (AskFor (map string_bytes words.now) (Dead file)))
+        (λ request. AskFor (map string_bytes words.now) (request_of request)) }
+{
+    match words {
+        [dead, file] if dead.as_str() == "dead" => Some(Request::Dead { file }),
         _ => None,
     }
 }
@@ -92,6 +113,7 @@ fn task_of(word: &[u8]) -> Option<Task>
     match word {
         b"check" => Some(Task::Check),
         b"renew" => Some(Task::Renew),
+        b"weigh" => Some(Task::Weigh),
         _ => None,
     }
 }

@@ -25,6 +25,9 @@ returns-in-Ok-clause-begun_or_silent g c = λ nine. absurd (no_fault c.in-Ok.ens
 pub returns-in-Ok-clause-due : goal.returns-in-Ok-clause-due
 returns-in-Ok-clause-due g c =
     tells_what_is_due c.one_request.ensures c.dialogues_are_there.ensures (λ text program spells. c.clean_parts_are_a_program.ensures.program spells.source program spells.clean spells.bound spells.declared spells.grounded)
+    (λ text program spells.
+    let kept = c.clean_parts_are_a_program.ensures.program spells.source program spells.clean spells.bound spells.declared spells.grounded in
+    ((λ bytes one other. c.one_reading.ensures.claims program bytes one other kept), (λ bytes weights fault. c.one_reading.ensures.either program bytes weights fault kept)))
     (map string_bytes c.args.words.now) (loaded g.H.Shelf.files g.H.Shelf.asked g.H.Shelf.faults c.args.shelf.now c.command.new.shelf) (talked g.C.Console.talk g.C.Console.left c.args.console.now c.command.new.console) c.args.steps.now c.command.new.steps _ c.in-Ok.ensures.done
 
 pub returns-in-Ok-clause-no_other : goal.returns-in-Ok-clause-no_other
@@ -57,10 +60,13 @@ returns-in-Err-Failed-clause-asked g c = λ _. (rw c.in-Err-Failed.field-0-is at
 pub returns-in-Err-Failed-clause-due : goal.returns-in-Err-Failed-clause-due
 returns-in-Err-Failed-clause-due g c = λ request ask.
     tells_anyway c.one_request.ensures c.dialogues_are_there.ensures (λ text program spells. c.clean_parts_are_a_program.ensures.program spells.source program spells.clean spells.bound spells.declared spells.grounded)
+    (λ text program spells.
+    let kept = c.clean_parts_are_a_program.ensures.program spells.source program spells.clean spells.bound spells.declared spells.grounded in
+    ((λ bytes one other. c.one_reading.ensures.claims program bytes one other kept), (λ bytes weights fault. c.one_reading.ensures.either program bytes weights fault kept)))
     (map string_bytes c.args.words.now) (loaded g.H.Shelf.files g.H.Shelf.asked g.H.Shelf.faults c.args.shelf.now c.command.new.shelf) (g.C.Console.left c.args.console.now) request 6 (0, lit< tt, refl)
 
 pub returns-in-Err-Failed-clause-no_other : goal.returns-in-Err-Failed-clause-no_other
-returns-in-Err-Failed-clause-no_other g c = (5, lit< tt, refl)
+returns-in-Err-Failed-clause-no_other g c = (6, lit< tt, refl)
 
 pub returns-in-Err-Failed-clause-shelf_fails : goal.returns-in-Err-Failed-clause-shelf_fails
 returns-in-Err-Failed-clause-shelf_fails g c = λ _. (0, lit< tt, refl)
@@ -80,10 +86,13 @@ returns-in-Err-Memory-clause-asked_at_most g c = λ _.
 pub returns-in-Err-Memory-clause-due : goal.returns-in-Err-Memory-clause-due
 returns-in-Err-Memory-clause-due g c = λ request ask.
     tells_anyway c.one_request.ensures c.dialogues_are_there.ensures (λ text program spells. c.clean_parts_are_a_program.ensures.program spells.source program spells.clean spells.bound spells.declared spells.grounded)
+    (λ text program spells.
+    let kept = c.clean_parts_are_a_program.ensures.program spells.source program spells.clean spells.bound spells.declared spells.grounded in
+    ((λ bytes one other. c.one_reading.ensures.claims program bytes one other kept), (λ bytes weights fault. c.one_reading.ensures.either program bytes weights fault kept)))
     (map string_bytes c.args.words.now) (loaded g.H.Shelf.files g.H.Shelf.asked g.H.Shelf.faults c.args.shelf.now c.command.new.shelf) (g.C.Console.left c.args.console.now) request 9 (1, lit< tt, refl)
 
 pub returns-in-Err-Memory-clause-no_other : goal.returns-in-Err-Memory-clause-no_other
-returns-in-Err-Memory-clause-no_other g c = (7, lit< tt, refl)
+returns-in-Err-Memory-clause-no_other g c = (8, lit< tt, refl)
 
 pub returns-in-Err-Memory-clause-shelf_fails : goal.returns-in-Err-Memory-clause-shelf_fails
 returns-in-Err-Memory-clause-shelf_fails g c = λ _. (2, lit< tt, refl)

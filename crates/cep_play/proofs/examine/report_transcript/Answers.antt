@@ -1,20 +1,22 @@
-use Rattle.std.proofs.Common.{ap, inl, inr, sym, subst}
-use Rattle.std.specs.Prelude.{Err}
 use Rattle.std.proofs.lemmas.Result.{IfOk-weaker}
-use Rattle.cep_base.specs.declared.limits.TheConstants.{MOST_LOG}
-use Rattle.cep_play.specs.Outside.{Report}
-use Rattle.cep_play.specs.Reports.{Reports}
-use Rattle.cep_play.proofs.Reporting.{longer_file, long_reported}
+use Rattle.cep_play.specs.Outcome.{report_of}
+use Rattle.cep_play.proofs.Reporting.{log_reported, misfit_reported}
 use Rattle.cep_play.proofs.examine.report_transcript.Goals as goal
 
-pub returns-in-Ok-clause-reported : goal.returns-in-Ok-clause-reported
-returns-in-Ok-clause-reported g c =
-    IfOk-weaker c.report_bytes.result _ _ (λ report is. inl ((c.in-Ok.bytes.items, c.in-Ok.ensures.whole, is), c.in-Ok.ensures.cause)) (rw c.deref.ensures.value at c.report_bytes.ensures.judged)
+pub returns-in-Ok-clause-judged : goal.returns-in-Ok-clause-judged
+returns-in-Ok-clause-judged g c =
+    let program = c.args.program.now in
+    let bytes = c.args.bytes.now in
+    IfOk-weaker c.report_log.result _ _
+    (λ report is.
+    log_reported program bytes c.in-Ok.log c.requires.short (rw c.in-Ok.is at c.in_ok-log.ensures.log) (λ one other. c.one_log.ensures.once program bytes one other c.parts.ensures.kept) (c.refused_logs_are_not_legal.ensures program c.in-Ok.log)
+    (c.renewals_have_one_text.ensures program) c.args.task (report_of report) is)
+    c.report_log.ensures.judged
 
-pub returns-in-Err-TooLong-clause-reported : goal.returns-in-Err-TooLong-clause-reported
-returns-in-Err-TooLong-clause-reported g c =
-    let some = longer_file (g.H.Shelf.files c.args.shelf.now) c.args.log.now MOST_LOG (c.in-Err-TooLong.ensures.longer (ap Err c.in-Err-TooLong.field-0-is)) in
-    inl ((some.0, some.1, subst (λ (report : Report). Reports c.args.task c.args.program.now some.0 report) (sym c.line.ensures) (long_reported c.args.task c.args.program.now some.0 some.2)), rw c.in-Err-TooLong.field-0-is at c.in-Err-TooLong.ensures.cause)
-
-pub returns-in-Err-Failed-clause-reported : goal.returns-in-Err-Failed-clause-reported
-returns-in-Err-Failed-clause-reported g c = inr (rw c.in-Err-Failed.field-0-is at c.in-Err-Failed.ensures.cause, c.line-in-Err-Failed.ensures)
+pub returns-in-Err-clause-judged : goal.returns-in-Err-clause-judged
+returns-in-Err-clause-judged g c =
+    let program = c.args.program.now in
+    let bytes = c.args.bytes.now in
+    IfOk-weaker c.report_fault.result _ _
+    (λ report is. misfit_reported c.args.task program bytes c.in-Err.fault (report_of report) c.requires.of_log c.requires.short (rw c.in-Err.is at c.in_ok-log.ensures.fault) (λ log has. c.one_log.ensures.apart program bytes log c.in-Err.fault c.parts.ensures.kept has) is)
+    c.report_fault.ensures

@@ -1,11 +1,11 @@
 use Rattle.std.proofs.Common.{map, subst, refl, sym}
 use Rattle.std.specs.Prelude.{string_bytes}
 use Rattle.cep_words.specs.declared.request.Request as code
-use Rattle.cep_words.specs.Words.{Play, Examine, World, AskFor}
+use Rattle.cep_words.specs.Words.{Play, Examine, Dead, World, AskFor}
 use Rattle.cep_words.specs.Requests.{request_of}
 use Rattle.cep_play.specs.Exchange.{loaded}
 use Rattle.cep_play.specs.Outcome.{report_of}
-use Rattle.cep_play.proofs.Reported.{adds_none, none_to_play, tour_of, report_on, usage_on}
+use Rattle.cep_play.proofs.Reported.{adds_none, none_to_play, dead_of, tour_of, report_on, usage_on}
 use Rattle.cep_play.proofs.reply.reply_to.Goals as goal
 
 pub returns-in-Ok-clause-replied : goal.returns-in-Ok-clause-replied
@@ -33,11 +33,22 @@ returns-in_ok-report-in-Some-Examine-clause-replied g c =
     let words = map string_bytes c.args.words.now in
     let task = c.in-Some-Examine.task in
     let name = c.as_str-in-Some-Examine.result.now in
-    let log = c.as_str-in-Some-Examine-2.result.now in
+    let second = c.as_str-in-Some-Examine-2.result.now in
     let ask = subst (λ (request : code.Request). AskFor words (request_of request)) c.in-Some-Examine.field-0-is c.in-Some-Examine.ensures in
-    report_on words (loaded g.H.Shelf.files g.H.Shelf.asked g.H.Shelf.faults c.args.shelf.now c.examine.new.shelf) c.args.steps.now c.examine.new.steps c.one_request.ensures (Examine task name log) (report_of c.in_ok-report-in-Some-Examine.report)
-    (subst (λ second. AskFor words (Examine task name second)) (sym c.as_str-in-Some-Examine-2.ensures.value) (subst (λ file. AskFor words (Examine task file (string_bytes c.in-Some-Examine.log.now))) (sym c.as_str-in-Some-Examine.ensures.value) ask))
+    report_on words (loaded g.H.Shelf.files g.H.Shelf.asked g.H.Shelf.faults c.args.shelf.now c.examine.new.shelf) c.args.steps.now c.examine.new.steps c.one_request.ensures (Examine task name second) (report_of c.in_ok-report-in-Some-Examine.report)
+    (subst (λ other. AskFor words (Examine task name other)) (sym c.as_str-in-Some-Examine-2.ensures.value) (subst (λ file. AskFor words (Examine task file (string_bytes c.in-Some-Examine.second.now))) (sym c.as_str-in-Some-Examine.ensures.value) ask))
     c.in_ok-report-in-Some-Examine.ensures.reported
+
+pub returns-in_ok-report-in-Some-Dead-clause-replied : goal.returns-in_ok-report-in-Some-Dead-clause-replied
+returns-in_ok-report-in-Some-Dead-clause-replied g c =
+    let words = map string_bytes c.args.words.now in
+    let steps = c.args.steps.now in
+    let name = c.as_str-in-Some-Dead.result.now in
+    let ask = subst (λ (request : code.Request). AskFor words (request_of request)) c.in-Some-Dead.field-0-is c.in-Some-Dead.ensures in
+    let loads = loaded g.H.Shelf.files g.H.Shelf.asked g.H.Shelf.faults c.args.shelf.now c.report_dead_in.new.shelf in
+    let report = report_of c.in_ok-report-in-Some-Dead.report in
+    report_on words loads steps steps c.one_request.ensures (Dead name) report (subst (λ file. AskFor words (Dead file)) (sym c.as_str-in-Some-Dead.ensures.value) ask)
+    (dead_of loads steps steps report name c.in_ok-report-in-Some-Dead.ensures.asked c.in_ok-report-in-Some-Dead.ensures.reported)
 
 pub returns-in_ok-report-in-Some-World-clause-replied : goal.returns-in_ok-report-in-Some-World-clause-replied
 returns-in_ok-report-in-Some-World-clause-replied g c =

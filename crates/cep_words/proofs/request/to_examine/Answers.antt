@@ -7,5 +7,5 @@ pub returns-in_ok-task-in-len3 : goal.returns-in_ok-task-in-len3
 returns-in_ok-task-in-len3 c =
     let words = c.args.words.now in
     let size : length words ≡ 3 = omega (arith, c.in-len3.len_at_least, c.in-len3.len_below) in
-    ap (map string_bytes) (three_items words c.word-item.result c.file-item.result c.log-item.result size c.word-item.is c.file-item.is c.log-item.is)
-    ∙ ap (λ word. word ∷ string_bytes c.file-item.result ∷ string_bytes c.log-item.result ∷ []) (sym c.as_bytes.ensures.value ∙ c.in_ok-task-in-len3.ensures)
+    ap (map string_bytes) (three_items words c.word-item.result c.file-item.result c.second-item.result size c.word-item.is c.file-item.is c.second-item.is)
+    ∙ ap (λ word. word ∷ string_bytes c.file-item.result ∷ string_bytes c.second-item.result ∷ []) (sym c.as_bytes.ensures.value ∙ c.in_ok-task-in-len3.ensures)
