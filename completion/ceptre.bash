@@ -8,10 +8,11 @@ _ceptre() {
         return
     fi
     case $COMP_CWORD:$command in
-    1:*) mapfile -t COMPREPLY < <(compgen -W 'play check renew world' -- "$word") ;;
-    2:play | 2:check | 2:renew) _ceptre_files cep "$word" ;;
+    1:*) mapfile -t COMPREPLY < <(compgen -W 'play check renew world weigh dead' -- "$word") ;;
+    2:play | 2:check | 2:renew | 2:weigh | 2:dead) _ceptre_files cep "$word" ;;
     3:check | 3:renew) _ceptre_files log "$word" ;;
-    2:world | *:check | *:renew) ;;
+    3:weigh) _ceptre_files keeps "$word" ;;
+    2:world | *:check | *:renew | *:weigh | *:dead) ;;
     *:play | *:world) _ceptre_options "$word" ;;
     esac
 }
