@@ -1,0 +1,44 @@
+// Writes a log again, with its steps in another order.
+ghost use Rattle.std.specs.Prelude.{List, IfOk};
+ghost use Rattle.cep_log.specs.Legal.{IsLegal};
+ghost use Rattle.cep_cause.specs.Touches.{Touch, AreTouchesOf};
+ghost use Rattle.cep_cause.specs.Reorderings.{IsOrder, step_places};
+ghost use Rattle.cep_cause.specs.Reordered.{ComesTo};
+
+use crate::in_order::in_order;
+use crate::laws::orders_can_be_renewed;
+use crate::reordered::Reordered;
+use crate::unfit::first_unfit;
+use cep_order::Numbers;
+use cep_check::renew;
+use cep_log::Log;
+use cep_rule::Program;
+use std::alloc::{AllocError, Global};
+
+/// The text in version 2 of a legal log whose steps are done in an order that respects what they do
+/// to tokens: each does the same as in the log, and the start, the last state and the end word are
+/// those of the log. Numbers of steps are counted from 1. `Unfit` comes exactly when the state after
+/// some step does not fit, `TooLong` exactly when all states fit and the text is too long
+/// (`orders_come_to_one_answer`). What orders may do is the token graph's of Petri nets; the limits
+/// are this profile's. Only out of memory is refused.
+pub fn again(
+    alloc: Global,
+    program: &Program,
+    log: &Log,
+    order: &Numbers,
+) -> Result<Reordered, AllocError>
+    requires legal { IsLegal program.now log.now }
+    requires order { (touches : List Touch) × AreTouchesOf program.now log.now touches
+        × IsOrder touches order.now }
+    ensures { IfOk result (ComesTo program.now (step_places order.now) log.now) }
+{
+    orders_can_be_renewed();
+    if let Some(at) = first_unfit(alloc, program, log, order)? {
+        return Ok(Reordered::Unfit { at });
+    }
+    let ordered = in_order(alloc, log, order)?;
+    match renew(alloc, program, &ordered)? {
+        Some(text) => Ok(Reordered::Done(text)),
+        None => Ok(Reordered::TooLong),
+    }
+}
