@@ -1,19 +1,23 @@
 -- A legal log in an order is a legal log; what it is renewed to is the old one renewed in the order; and the written order is one of the orders.
-use Rattle.std.proofs.Common.{◌≡◌, ◌⊎◌, inl, inr, ⊎_elim, ℕ, zero, suc, ◌+◌, ◌<◌, ◌≤◌, List, [], ◌∷◌, map, length, None, refl, sym, ap, ◌∙◌, subst, arith, Contains}
+use Rattle.std.proofs.Common.{◌≡◌, ◌⊎◌, inl, inr, ⊎_elim, ℕ, zero, suc, ◌+◌, ◌-◌, ◌<◌, ◌≤◌, List, [], ◌∷◌, ◌++◌, map, length, take, Option, Some, None, refl, sym, ap, ◌∙◌, subst, arith, Contains}
 use Rattle.std.specs.Prelude.{slice_get, ◌↔◌}
 use Rattle.std.specs.List.{AllByRecursion, AllZip}
-use Rattle.cep_base.proofs.Lists.{some_same, all_mapped}
-use Rattle.cep_base.proofs.Elements.{contains_none, contains_cases, contains_same, contains_behind, all_of}
+use Rattle.std.proofs.lemmas.List.{map-append}
+use Rattle.cep_base.proofs.Lists.{some_same, all_mapped, all_from_places, holds_at, get_mapped, take_next}
+use Rattle.cep_base.proofs.Elements.{contains_none, contains_cases, contains_same, contains_behind, contains_at, all_of}
+use Rattle.cep_term.specs.Tree.{AtomTree}
 use Rattle.cep_rule.specs.declared.parts.Parts.{Parts}
 use Rattle.cep_lines.specs.declared.version.Version.TheVariants.{One}
 use Rattle.cep_log.specs.declared.log.Log.{Log}
+use Rattle.cep_log.specs.declared.log.LogEnd.{LogEnd}
 use Rattle.cep_log.specs.declared.log.LogStep.{LogStep}
 use Rattle.cep_log.specs.Legal.{IsStepOf, HaveListings, AreLegalSteps, start_spot, IsLegal}
 use Rattle.cep_log.specs.Written.{DoTheSame, EndTheSame, IsRenewal}
 use Rattle.cep_cause.specs.Touches.{Touch, AreTouchesOf}
 use Rattle.cep_cause.specs.Tokens.{start_tokens}
-use Rattle.cep_cause.specs.Reorderings.{Precedes, Respects, IsReordering}
-use Rattle.cep_cause.specs.Reordered.{StandAt, written_places, unlisted, AreUnlistedSteps, IsInOrder, AreLegalIn, IsRenewalIn}
+use Rattle.cep_cause.specs.Reorderings.{Precedes, Respects, IsReordering, step_places, IsOrder, AreNumbersWithin}
+use Rattle.cep_cause.specs.Reordered.{StandAt, written_places, unlisted, AreUnlistedSteps, IsInOrder, AreLegalIn, IsRenewalIn, IsTextIn, IsTooLongIn}
+use Rattle.cep_check.specs.Renewed.{IsRenewedText, IsTooLongRenewed}
 use Rattle.cep_cause.proofs.OldRun.{as_many}
 use Rattle.cep_cause.proofs.Told.{stand_all, stand_long, not_longer}
 
@@ -26,9 +30,9 @@ no_listings number (step ∷ steps) = (refl, no_listings (number + 1) steps)
 unlisted_of : (program : Parts) (step : LogStep) → IsStepOf program step → IsStepOf program (unlisted step)
 unlisted_of program step of = record { rule = of.rule; numbered = of.numbered; values = of.values; as_many = of.as_many; low = of.low; stage = of.stage; in_range = of.in_range; listing = tt }
 
-unlisted_long : (steps : List LogStep) → length (map unlisted steps) ≡ length steps
-unlisted_long [] = refl
-unlisted_long (step ∷ steps) = ap suc (unlisted_long steps)
+pub length_map : {X Y : Type 0} (f : X → Y) (xs : List X) → length (map f xs) ≡ length xs
+length_map f [] = refl
+length_map f (x ∷ xs) = ap suc (length_map f xs)
 
 pub stand_once : {X : Type 0} (all : List X) (places : List ℕ) (xs ys : List X) → StandAt all places xs → StandAt all places ys → xs ≡ ys
 stand_once all [] [] [] at at' = refl
@@ -51,7 +55,7 @@ legal_in_order program log touches places other legal are reorders comes is =
     let as_long = as_many program (length (start_tokens program.start)) (start_tokens program.start) log.steps touches are in
     let same = unlisted_once log.steps places comes.steps other.steps comes.are bares in
     let few : length other.steps ≤ log.lines =
-    let a = ap length bares.unlist in let b = unlisted_long bares.listed in let d = stand_long log.steps places bares.listed bares.stand in let e = not_longer touches places reorders in let f = of.few in omega arith in
+    let a = ap length bares.unlist in let b = length_map unlisted bares.listed in let d = stand_long log.steps places bares.listed bares.stand in let e = not_longer touches places reorders in let f = of.few in omega arith in
     let steps_of : AllByRecursion (IsStepOf program) other.steps =
     subst (AllByRecursion (IsStepOf program)) (sym bares.unlist) (all_mapped (IsStepOf program) (IsStepOf program) unlisted bares.listed (unlisted_of program) (stand_all (IsStepOf program) log.steps places bares.listed of.steps bares.stand)) in
     subst (IsLegal program) (sym is.rest) (record {
@@ -97,6 +101,59 @@ renewed_in_order program log order other new is renews =
         legal = renews.legal;
       };
     }
+
+-- Each number of an order is that of a step.
+pub numbers_within : (program : Parts) (log : Log) (touches : List Touch) (order : List ℕ) → AreTouchesOf program log touches → IsOrder touches order → AreNumbersWithin (length log.steps) order
+numbers_within program log touches order are orders = all_from_places (λ number. (0 < number) × (number ≤ length log.steps)) order (λ i number at.
+    let some : 0 < number = holds_at (λ number. 0 < number) order i number orders.counted at in
+    let within = (orders.reorders.steps (number - 1)).0 (contains_at (step_places order) i (number - 1) (get_mapped (λ (number : ℕ). number - 1) order i number at)) in
+    let long = as_many program (length (start_tokens program.start)) (start_tokens program.start) log.steps touches are in
+    (some, omega arith))
+
+pub stand_both : {X : Type 0} (all : List X) (places later : List ℕ) (xs ys : List X) → StandAt all places xs → StandAt all later ys → StandAt all (places ++ later) (xs ++ ys)
+stand_both all [] later [] ys at at' = at'
+stand_both all [] later (x ∷ xs) ys at at' = absurd at
+stand_both all (place ∷ places) later [] ys at at' = absurd at
+stand_both all (place ∷ places) later (x ∷ xs) ys at at' = (at.0, stand_both all places later xs ys at.1 at')
+
+pub whole : (places : List ℕ) (i : ℕ) → length places ≤ i → take i places ≡ places
+whole [] zero all = refl
+whole [] (suc i) all = refl
+whole (first ∷ places) zero all = absurd (omega arith)
+whole (first ∷ places) (suc i) all = ap (λ rest. first ∷ rest) (whole places i (omega arith))
+
+-- One step more stands in the order.
+pub unlisted_more : (all : List LogStep) (order : List ℕ) (i number : ℕ) (step : LogStep) (steps : List LogStep) → slice_get order i ≡ Some number → slice_get all (number - 1) ≡ Some step
+    → AreUnlistedSteps all (take i (step_places order)) steps → AreUnlistedSteps all (take (i + 1) (step_places order)) (steps ++ (unlisted step ∷ []))
+unlisted_more all order i number step steps at there are =
+    let places = step_places order in
+    let more = take_next places i (number - 1) (get_mapped (λ (number : ℕ). number - 1) order i number at) in
+    record {
+      listed = are.listed ++ (step ∷ []);
+      stand = subst (λ (places : List ℕ). StandAt all places (are.listed ++ (step ∷ []))) (sym more) (stand_both all (take i places) ((number - 1) ∷ []) are.listed (step ∷ []) are.stand (there, tt));
+      unlist = ap (λ rest. rest ++ (unlisted step ∷ [])) are.unlist ∙ sym (map-append unlisted are.listed (step ∷ []));
+    }
+
+-- All stand in it.
+pub unlisted_all : (all : List LogStep) (order : List ℕ) (i : ℕ) (steps : List LogStep) → length order ≤ i → AreUnlistedSteps all (take i (step_places order)) steps → AreUnlistedSteps all (step_places order) steps
+unlisted_all all order i steps long are = subst (λ (places : List ℕ). AreUnlistedSteps all places steps) (whole (step_places order) i (let same = length_map (λ (number : ℕ). number - 1) order in omega arith)) are
+
+-- A log with the same parts, and the steps in the order.
+pub in_order_by : (log : Log) (places : List ℕ) (start : List (AtomTree × ℕ)) (steps : List LogStep) (end : Option LogEnd) → start ≡ log.start → end ≡ log.end → AreUnlistedSteps log.steps places steps
+    → IsInOrder log places (record { version = One; height = log.height; stage_line = log.stage_line; stage = log.stage; start = start; steps = steps; end = end; lines = log.lines })
+in_order_by log places start steps end same same' are = record {
+  steps = are;
+  rest =
+    ap (λ (start : List (AtomTree × ℕ)). let other : Log = record { version = One; height = log.height; stage_line = log.stage_line; stage = log.stage; start = start; steps = steps; end = end; lines = log.lines } in other) same
+    ∙ ap (λ (end : Option LogEnd). let other : Log = record { version = One; height = log.height; stage_line = log.stage_line; stage = log.stage; start = log.start; steps = steps; end = end; lines = log.lines } in other) same';
+}
+
+-- What the text of the log in the order is, is the text in the order.
+pub text_in_order : (program : Parts) (log : Log) (places : List ℕ) (other : Log) (text : List ℕ) → IsInOrder log places other → IsRenewedText program other text → IsTextIn program places log text
+text_in_order program log places other text is renewed = record { new = renewed.new; renews = renewed_in_order program log places other renewed.new is renewed.renews; read = renewed.read; written = renewed.written }
+
+pub too_long_in_order : (program : Parts) (log : Log) (places : List ℕ) (other : Log) → IsInOrder log places other → IsTooLongRenewed program other → IsTooLongIn program places log
+too_long_in_order program log places other is long = record { new = long.new; renews = renewed_in_order program log places other long.new is long.renews; long = long.long }
 
 -- The written order
 

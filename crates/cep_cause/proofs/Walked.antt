@@ -1,8 +1,8 @@
 -- A walk over the steps of a legal log in an order.
 use Rattle.std.proofs.Common.{◌≡◌, ⊎_elim, ℕ, zero, suc, ◌+◌, ◌-◌, ◌<◌, ◌≤◌, List, [], ◌∷◌, ◌++◌, map, length, take, drop, Some, None, refl, sym, ap, ◌∙◌, subst, arith, Contains}
 use Rattle.std.specs.Prelude.{slice_get, unwrap_or}
-use Rattle.std.proofs.lemmas.List.{map-append, length-map}
-use Rattle.cep_base.proofs.Lists.{none_some, some_same, holds_at, take_next, get_mapped, all_from_places}
+use Rattle.std.proofs.lemmas.List.{map-append}
+use Rattle.cep_base.proofs.Lists.{none_some, some_same, holds_at, take_next, get_mapped}
 use Rattle.cep_base.proofs.Elements.{contains_at, contains_right, contains_behind}
 use Rattle.cep_term.specs.Tree.{Tree}
 use Rattle.cep_term.specs.Multiset.{Multiset}
@@ -21,7 +21,7 @@ use Rattle.cep_log.specs.declared.log.LogStep.{LogStep}
 use Rattle.cep_log.specs.Legal.{IsLegalStep, AreLegalSteps, start_spot, IsLegal}
 use Rattle.cep_cause.specs.CauseLaws.{CauseLaws}
 use Rattle.cep_cause.specs.Touches.{Touch, AreTouchesOf}
-use Rattle.cep_cause.specs.Reorderings.{IsOrder, step_places, AreNumbersWithin}
+use Rattle.cep_cause.specs.Reorderings.{IsOrder, step_places}
 use Rattle.cep_cause.specs.Reordered.{StandAt, unlisted, IsUnfitIn, AreLegalIn}
 use Rattle.cep_cause.specs.Walking.{CanGo, GoesTo, GoesOut}
 use Rattle.cep_cause.proofs.Ordered.{is_next}
@@ -29,6 +29,7 @@ use Rattle.cep_cause.proofs.OldRun.{LegalRun, as_long}
 use Rattle.cep_cause.proofs.Central.{IsReached, reached_none, IsTurn, reached_more, all_reached, as_written, rule_of, leads_to, step_there, contained, legal_there, one_spot, at_within}
 use Rattle.cep_cause.proofs.Law.{run_of}
 use Rattle.cep_cause.proofs.Told.{stand, stand_long, not_longer}
+use Rattle.cep_cause.proofs.InOrder.{length_map, stand_both, whole}
 
 -- A step that passes a limit leads to a state that does not fit, if what it makes is fit.
 pub goes_out : (program : Parts) (step : LogStep) (rule : Rule) (state : Multiset) (limit : Limit) → slice_get program.rules step.offer.rule ≡ Some rule → CanGo program step state
@@ -38,22 +39,10 @@ goes_out program step rule state State numbered can passes = record { rule = rul
 
 -- Places
 
-stand_both : {X : Type 0} (all : List X) (places later : List ℕ) (xs ys : List X) → StandAt all places xs → StandAt all later ys → StandAt all (places ++ later) (xs ++ ys)
-stand_both all [] later [] ys at at' = at'
-stand_both all [] later (x ∷ xs) ys at at' = absurd at
-stand_both all (place ∷ places) later [] ys at at' = absurd at
-stand_both all (place ∷ places) later (x ∷ xs) ys at at' = (at.0, stand_both all places later xs ys at.1 at')
-
 cut_at : (places : List ℕ) (i place : ℕ) → slice_get places i ≡ Some place → places ≡ take i places ++ (place ∷ drop (suc i) places)
 cut_at [] i place at = none_some place at
 cut_at (first ∷ places) zero place at = ap (λ n. n ∷ places) (some_same first place at)
 cut_at (first ∷ places) (suc i) place at = ap (λ rest. first ∷ rest) (cut_at places i place at)
-
-whole : (places : List ℕ) (i : ℕ) → length places ≤ i → take i places ≡ places
-whole [] zero all = refl
-whole [] (suc i) all = refl
-whole (first ∷ places) zero all = absurd (omega arith)
-whole (first ∷ places) (suc i) all = ap (λ rest. first ∷ rest) (whole places i (omega arith))
 
 prefix_long : (places : List ℕ) (i : ℕ) → i < length places → length (take i places) ≡ i
 prefix_long [] i less = absurd (omega arith)
@@ -97,14 +86,6 @@ module _ (program : Parts) (log : Log) (order : List ℕ) (given : IsGiven progr
       subst (λ (spot : Spot). IsWalkingAt 0 spot) (sym starts)
       (record { prefix = []; stood = tt; so_far = refl; reached = reached_none run; of_program = subst (IsSpotOf program) starts of_program })
 
-  -- Each number of the order is that of a step.
-  pub numbers_within : AreNumbersWithin (length log.steps) order
-  numbers_within = all_from_places (λ number. (0 < number) × (number ≤ length log.steps)) order (λ i number at.
-      let some : 0 < number = holds_at (λ number. 0 < number) order i number given.orders.counted at in
-      let within = (given.orders.reorders.steps (number - 1)).0 (contains_at places i (number - 1) (get_mapped (λ (number : ℕ). number - 1) order i number at)) in
-      let long = as_long run in
-      (some, omega arith))
-
   -- There are no more numbers than a u32 holds.
   pub few_steps : length order ≤ 67108864
   few_steps =
@@ -112,7 +93,7 @@ module _ (program : Parts) (log : Log) (order : List ℕ) (given : IsGiven progr
       let long = as_long run in
       let lines = given.legal.of_program.few in
       let most = given.legal.of_program.lines in
-      let same = length-map (λ (number : ℕ). number - 1) order in
+      let same = length_map (λ (number : ℕ). number - 1) order in
       omega arith
 
   module _ (i number : ℕ) (at : slice_get order i ≡ Some number) (step : LogStep) (at_step : slice_get log.steps (number - 1) ≡ Some step) (here : Spot) (walking : IsWalkingAt i here) where
@@ -175,7 +156,7 @@ module _ (program : Parts) (log : Log) (order : List ℕ) (given : IsGiven progr
         let later = drop (suc i) places in
         let cut = cut_at places i (number - 1) at_place in
         let within = at_within order i number at in
-        let same = length-map (λ (number : ℕ). number - 1) order in
+        let same = length_map (λ (number : ℕ). number - 1) order in
         let rest = stand log.steps later (λ other there.
         let less = (given.orders.reorders.steps other).0 (subst (λ (places : List ℕ). Contains places other) (sym cut) (contains_right (take i places) ((number - 1) ∷ later) other (contains_behind (number - 1) later other there))) in
         let long = as_long run in omega arith) in
@@ -192,7 +173,7 @@ module _ (program : Parts) (log : Log) (order : List ℕ) (given : IsGiven progr
             step = unlisted step;
             after = map unlisted rest.0;
             parts = map-append unlisted walking.prefix (step ∷ rest.0);
-            counted = let a = length-map unlisted walking.prefix in let b = stand_long log.steps (take i places) walking.prefix walking.stood in let d = prefix_long places i (omega arith) in omega arith;
+            counted = let a = length_map unlisted walking.prefix in let b = stand_long log.steps (take i places) walking.prefix walking.stood in let d = prefix_long places i (omega arith) in omega arith;
             here = here;
             legal = walking.so_far;
             rule = goes.rule;
@@ -206,7 +187,7 @@ module _ (program : Parts) (log : Log) (order : List ℕ) (given : IsGiven progr
   -- All steps are done.
   pub walk_ends : (i : ℕ) (here : Spot) → length order ≤ i → IsWalkingAt i here → AreLegalIn program log places
   walk_ends i here all walking =
-      let same = length-map (λ (number : ℕ). number - 1) order in
+      let same = length_map (λ (number : ℕ). number - 1) order in
       let done = whole places i (omega arith) in
       record {
         steps = map unlisted walking.prefix;
