@@ -1,6 +1,7 @@
 -- A legal log in an order is a legal log; what it is renewed to is the old one renewed in the order; and the written order is one of the orders.
 use Rattle.std.proofs.Common.{◌≡◌, ◌⊎◌, inl, inr, ⊎_elim, ℕ, zero, suc, ◌+◌, ◌-◌, ◌<◌, ◌≤◌, List, [], ◌∷◌, ◌++◌, map, length, take, Option, Some, None, refl, sym, ap, ◌∙◌, subst, arith, Contains}
-use Rattle.std.specs.Prelude.{slice_get, ◌↔◌}
+use Rattle.std.specs.Prelude.{slice_get, ◌↔◌, Result, Ok, Err, IfOk, IfSome, IfNone}
+use Rattle.std.specs.declared.alloc.AllocError.{AllocError}
 use Rattle.std.specs.List.{AllByRecursion, AllZip}
 use Rattle.std.proofs.lemmas.List.{map-append}
 use Rattle.cep_base.proofs.Lists.{some_same, all_mapped, all_from_places, holds_at, get_mapped, take_next}
@@ -122,6 +123,10 @@ whole [] (suc i) all = refl
 whole (first ∷ places) zero all = absurd (omega arith)
 whole (first ∷ places) (suc i) all = ap (λ rest. first ∷ rest) (whole places i (omega arith))
 
+-- Nothing stands at no places.
+pub unlisted_none : (all steps : List LogStep) → steps ≡ [] → AreUnlistedSteps all [] steps
+unlisted_none all steps none = record { listed = []; stand = tt; unlist = none }
+
 -- One step more stands in the order.
 pub unlisted_more : (all : List LogStep) (order : List ℕ) (i number : ℕ) (step : LogStep) (steps : List LogStep) → slice_get order i ≡ Some number → slice_get all (number - 1) ≡ Some step
     → AreUnlistedSteps all (take i (step_places order)) steps → AreUnlistedSteps all (take (i + 1) (step_places order)) (steps ++ (unlisted step ∷ []))
@@ -154,6 +159,18 @@ text_in_order program log places other text is renewed = record { new = renewed.
 
 pub too_long_in_order : (program : Parts) (log : Log) (places : List ℕ) (other : Log) → IsInOrder log places other → IsTooLongRenewed program other → IsTooLongIn program places log
 too_long_in_order program log places other is long = record { new = long.new; renews = renewed_in_order program log places other long.new is long.renews; long = long.long }
+
+pub text_or_none : (program : Parts) (log : Log) (places : List ℕ) (other : Log) (answer : Result (Option (List ℕ)) AllocError) → IsInOrder log places other
+    → IfOk answer (λ text. IfSome text (IsRenewedText program other)) → IfOk answer (λ text. IfSome text (IsTextIn program places log))
+text_or_none program log places other (Ok (Some text)) is renewed = text_in_order program log places other text is renewed
+text_or_none program log places other (Ok None) is renewed = tt
+text_or_none program log places other (Err e) is renewed = tt
+
+pub none_or_text : (program : Parts) (log : Log) (places : List ℕ) (other : Log) (answer : Result (Option (List ℕ)) AllocError) → IsInOrder log places other
+    → IfOk answer (λ text. IfNone text (IsTooLongRenewed program other)) → IfOk answer (λ text. IfNone text (IsTooLongIn program places log))
+none_or_text program log places other (Ok (Some text)) is long = tt
+none_or_text program log places other (Ok None) is long = too_long_in_order program log places other is long
+none_or_text program log places other (Err e) is long = tt
 
 -- The written order
 

@@ -16,14 +16,17 @@ pub(crate) fn in_order(alloc: Global, log: &Log, order: &Numbers) -> Result<Log,
     requires { AreNumbersWithin (length log.now.steps) order.now }
     ensures { IfOk result (IsInOrder log.now (step_places order.now)) }
 {
+    let start = copy_listing(alloc, &log.start)?;
+    let end = copy_end(alloc, &log.end)?;
+    let steps = steps_in_order(alloc, &log.steps, order)?;
     Ok(Log {
         version: Version::One,
         height: log.height,
         stage_line: log.stage_line,
         stage: log.stage,
-        start: copy_listing(alloc, &log.start)?,
-        steps: steps_in_order(alloc, &log.steps, order)?,
-        end: copy_end(alloc, &log.end)?,
+        start,
+        steps,
+        end,
         lines: log.lines,
     })
 }
