@@ -7,7 +7,6 @@ use Rattle.cep_base.proofs.Lists.{none_some, some_same}
 use Rattle.cep_base.proofs.Elements.{contains_none, contains_first, contains_cases, contains_left, contains_right, contains_either}
 use Rattle.cep_term.specs.Multiset.{Multiset, gathered, IsContained}
 use Rattle.cep_rule.specs.declared.rule.Rule.{Rule}
-use Rattle.cep_rule.specs.declared.parts.Parts.{Parts}
 use Rattle.cep_rule.specs.declared.offer.Offer.{Offer}
 use Rattle.cep_rule.specs.Derivations.{ProofTree}
 use Rattle.cep_rule.specs.Instances.{full_instances, left_of, used_by}
@@ -16,16 +15,13 @@ use Rattle.cep_rule.specs.Stages.{own_group, leaving_group, HasOffer}
 use Rattle.cep_rule.specs.State.{Fits}
 use Rattle.cep_rule.specs.Step.{Step}
 use Rattle.cep_rule.specs.Steps.{Spot, IsMachineStep}
-use Rattle.cep_rule.specs.Program.{IsProgram}
 use Rattle.cep_log.specs.declared.log.LogStep.{LogStep}
-use Rattle.cep_log.specs.Legal.{IsLegalStep, AreLegalSteps, start_spot}
+use Rattle.cep_log.specs.Legal.{IsLegalStep, start_spot}
 use Rattle.cep_log.specs.Written.{DoTheSame}
-use Rattle.cep_cause.specs.CauseLaws.{CauseLaws}
-use Rattle.cep_cause.specs.Tokens.{Token, listed_copies, start_tokens}
-use Rattle.cep_cause.specs.Touches.{Touch, AreTouches}
+use Rattle.cep_cause.specs.Tokens.{start_tokens}
+use Rattle.cep_cause.specs.Touches.{Touch}
 use Rattle.cep_cause.proofs.Distinct.{Differ, differ_both}
-use Rattle.cep_cause.proofs.Passing.{made_later}
-use Rattle.cep_cause.proofs.Ordered.{three, IsNext, ArePassed, AreSpent, none_spent, spent_more}
+use Rattle.cep_cause.proofs.Ordered.{three, IsNext, AreSpent, none_spent, spent_more}
 use Rattle.cep_cause.proofs.StatesAfter.{IsStateAfter, state_at_start, state_more, one_state_after}
 use Rattle.cep_cause.proofs.OldRun.{stage_by, stage_stays, stage_more, first_stage, LegalRun, passed, as_long, takes, adds, IsFamiliar, familiar, IsOldStep, old_step, old_end}
 use Rattle.cep_cause.proofs.Weights.{few_needed}
@@ -86,8 +82,8 @@ module _ (run : LegalRun) where
     spent = none_spent run.touches (start_tokens run.program.start);
     differ = tt;
     stage = λ place barriers.
-      sym (first_stage run.steps run.program.start_stage)
-      ∙ stage_stays run.steps run.program.start_stage 0 place (omega arith) (λ other step few less at. no_stage other step at (λ barrier. contains_none other ((barriers other barrier).1 less)));
+        sym (first_stage run.steps run.program.start_stage)
+        ∙ stage_stays run.steps run.program.start_stage 0 place (omega arith) (λ other step few less at. no_stage other step at (λ barrier. contains_none other ((barriers other barrier).1 less)));
   }
 
   -- A step's turn in another order, after those that are done and lead here.
@@ -119,13 +115,13 @@ module _ (run : LegalRun) where
     barriers : BarriersBelow turn.done turn.place
     barriers other barrier = (
       λ there.
-      ⊎_elim
-      (λ less. less)
-      (λ rest. absurd (⊎_elim
-      (λ same. turn.next.new (subst (λ n. Contains turn.done n) same there))
-      (λ more. turn.next.after other there (record { is_earlier = more; earlier = known_of.touch; at_earlier = known_of.at; later = barrier.touch; at_later = barrier.at; why = inr (inr barrier.is_one) }))
-      rest))
-      (three other turn.place),
+          ⊎_elim
+          (λ less. less)
+          (λ rest. absurd (⊎_elim
+          (λ same. turn.next.new (subst (λ n. Contains turn.done n) same there))
+          (λ more. turn.next.after other there (record { is_earlier = more; earlier = known_of.touch; at_earlier = known_of.at; later = barrier.touch; at_later = barrier.at; why = inr (inr barrier.is_one) }))
+          rest))
+          (three other turn.place),
       λ less. turn.next.before other (record { is_earlier = less; earlier = barrier.touch; at_earlier = barrier.at; later = known_of.touch; at_later = known_of.at; why = inr (inl barrier.is_one) }),
     )
 
@@ -139,19 +135,19 @@ module _ (run : LegalRun) where
     all_before : known_of.touch.barrier ≡ true → (other : ℕ) → (Contains turn.done other ↔ (other < turn.place))
     all_before barrier other = (
       λ there.
-      ⊎_elim
-      (λ less. less)
-      (λ rest. absurd (⊎_elim
-      (λ same. turn.next.new (subst (λ n. Contains turn.done n) same there))
-      (λ more.
-      let later = got run.touches other (turn.next.within other there) in
-      turn.next.after other there (record { is_earlier = more; earlier = known_of.touch; at_earlier = known_of.at; later = later.0; at_later = later.1; why = inr (inl barrier) }))
-      rest))
-      (three other turn.place),
+          ⊎_elim
+          (λ less. less)
+          (λ rest. absurd (⊎_elim
+          (λ same. turn.next.new (subst (λ n. Contains turn.done n) same there))
+          (λ more.
+          let later = got run.touches other (turn.next.within other there) in
+          turn.next.after other there (record { is_earlier = more; earlier = known_of.touch; at_earlier = known_of.at; later = later.0; at_later = later.1; why = inr (inl barrier) }))
+          rest))
+          (three other turn.place),
       λ less.
-      let within = at_within run.steps turn.place turn.step turn.at in
-      let earlier = got run.touches other (let long = as_long run in omega arith) in
-      turn.next.before other (record { is_earlier = less; earlier = earlier.0; at_earlier = earlier.1; later = known_of.touch; at_later = known_of.at; why = inr (inr barrier) }),
+          let within = at_within run.steps turn.place turn.step turn.at in
+          let earlier = got run.touches other (let long = as_long run in omega arith) in
+          turn.next.before other (record { is_earlier = less; earlier = earlier.0; at_earlier = earlier.1; later = known_of.touch; at_later = known_of.at; why = inr (inr barrier) }),
     )
 
     same_state : known_of.touch.barrier ≡ true → turn.here.state ≡ as_written.old.state
@@ -168,8 +164,10 @@ module _ (run : LegalRun) where
         (λ leaves.
         let odd : rule_of.group % 2 ≡ 1 = let group = leaves.0 in omega arith in
         let barrier : known_of.touch.barrier ≡ true = known_of.barrier ∙ known_of.leaves odd in
-        inr (leaves.0 ∙ ap leaving_group (sym same_stage),
-        λ has. leaves.1 (subst (λ (s : ℕ). HasOffer run.program run.height as_written.old.state (own_group s)) same_stage (subst (λ (s : Multiset). HasOffer run.program run.height s (own_group turn.here.stage)) (same_state barrier) has))))
+        inr (
+          leaves.0 ∙ ap leaving_group (sym same_stage),
+          λ has. leaves.1 (subst (λ (s : ℕ). HasOffer run.program run.height as_written.old.state (own_group s)) same_stage (subst (λ (s : Multiset). HasOffer run.program run.height s (own_group turn.here.stage)) (same_state barrier) has)),
+        ))
         as_written.legal.machine.in_turn
 
     -- where it leads
@@ -220,10 +218,10 @@ module _ (run : LegalRun) where
         next_none rule_of.next is ∙ turn.reached.stage p (λ other barrier. (
           λ there. (below' other barrier).0 (contains_left turn.done (turn.place ∷ []) other there),
           λ less.
-          ⊎_elim
-          (λ before. before)
-          (λ last. absurd (⊎_elim (λ same. no_barrier other same barrier) (λ none. contains_none other none) (contains_cases turn.place [] other last)))
-          (contains_either turn.done (turn.place ∷ []) other ((below' other barrier).1 less)),
+              ⊎_elim
+              (λ before. before)
+              (λ last. absurd (⊎_elim (λ same. no_barrier other same barrier) (λ none. contains_none other none) (contains_cases turn.place [] other last)))
+              (contains_either turn.done (turn.place ∷ []) other ((below' other barrier).1 less)),
         ))
       where
         next_none : (o : Option ℕ) → is_some o ≡ false → unwrap_or o turn.here.stage ≡ turn.here.stage
@@ -239,9 +237,9 @@ module _ (run : LegalRun) where
     pub reached_more : IsReached (turn.done ++ (turn.place ∷ [])) leads_to
     reached_more = record {
       state_is =
-        state_more run.laws run.program.signature run.program.start (takes run) (adds run) rule_of turn.step.offer.values turn.done turn.place turn.here.state leads_to.state
-        known_of.typed as_written.legal.machine.values known_of.take known_of.add turn.reached.state_is
-        (run.laws.lead run.program.signature rule_of turn.step.offer.values turn.here.state leads_to.state known_of.typed known_of.divided as_written.legal.machine.values turn.reached.state_is.is_state as_written.legal.machine.steps.fit step_there) step_there;
+          state_more run.laws run.program.signature run.program.start (takes run) (adds run) rule_of turn.step.offer.values turn.done turn.place turn.here.state leads_to.state
+          known_of.typed as_written.legal.machine.values known_of.take known_of.add turn.reached.state_is
+          (run.laws.lead run.program.signature rule_of turn.step.offer.values turn.here.state leads_to.state known_of.typed known_of.divided as_written.legal.machine.values turn.reached.state_is.is_state as_written.legal.machine.steps.fit step_there) step_there;
       spent = spent_more run.touches (start_tokens run.program.start) (passed run) turn.done turn.place turn.next known_of.touch known_of.at turn.reached.spent;
       differ = differ_both turn.done (turn.place ∷ []) turn.reached.differ ((λ none. contains_none turn.place none), tt) (λ other there last. ⊎_elim (λ same. turn.next.new (subst (λ n. Contains turn.done n) (sym same) there)) (λ none. contains_none other none) (contains_cases turn.place [] other last));
       stage = λ p below'. stage_later p (is_some rule_of.next) refl below';

@@ -57,9 +57,10 @@ module _ {X : Type 0} where
   -- two lists that have nothing in common
   pub differ_both : (xs ys : List X) → Differ xs → Differ ys → ((x : X) → Contains xs x → Contains ys x → ⊥) → Differ (xs ++ ys)
   differ_both [] ys differ differ' apart = differ'
-  differ_both (x ∷ xs) ys differ differ' apart =
-      (λ there. ⊎_elim differ.0 (apart x (contains_first x xs)) (contains_either xs ys x there),
-       differ_both xs ys differ.1 differ' (λ z there there'. apart z (contains_behind x xs z there) there'))
+  differ_both (x ∷ xs) ys differ differ' apart = (
+    λ there. ⊎_elim differ.0 (apart x (contains_first x xs)) (contains_either xs ys x there),
+    differ_both xs ys differ.1 differ' (λ z there there'. apart z (contains_behind x xs z there) there'),
+  )
 
   -- a part of a list by a test
   pub filter_cases : (p : X → Bool) (xs : List X) (x : X) → Contains (filter p xs) x → Contains xs x × (p x ≡ true)

@@ -149,8 +149,8 @@ pub in_order_by : (log : Log) (places : List ℕ) (start : List (AtomTree × ℕ
 in_order_by log places start steps end same same' are = record {
   steps = are;
   rest =
-    ap (λ (start : List (AtomTree × ℕ)). let other : Log = record { version = One; height = log.height; stage_line = log.stage_line; stage = log.stage; start = start; steps = steps; end = end; lines = log.lines } in other) same
-    ∙ ap (λ (end : Option LogEnd). let other : Log = record { version = One; height = log.height; stage_line = log.stage_line; stage = log.stage; start = log.start; steps = steps; end = end; lines = log.lines } in other) same';
+      ap (λ (start : List (AtomTree × ℕ)). let other : Log = record { version = One; height = log.height; stage_line = log.stage_line; stage = log.stage; start = start; steps = steps; end = end; lines = log.lines } in other) same
+      ∙ ap (λ (end : Option LogEnd). let other : Log = record { version = One; height = log.height; stage_line = log.stage_line; stage = log.stage; start = log.start; steps = steps; end = end; lines = log.lines } in other) same';
 }
 
 -- What the text of the log in the order is, is the text in the order.
@@ -207,10 +207,11 @@ module _ {X : Type 0} where
 
 written_respects : (touches left : List Touch) (place : ℕ) → Respects touches (written_places place left)
 written_respects touches [] place = tt
-written_respects touches (first ∷ left) place =
-    (all_of (λ later. ¬ (place ≡ later) × ¬ Precedes touches later place) (written_places (place + 1) left)
-    (λ later there. let few = (from_here left (place + 1) later there).0 in (λ same. omega arith, λ precedes. let less = precedes.is_earlier in omega arith)),
-    written_respects touches left (place + 1))
+written_respects touches (first ∷ left) place = (
+  all_of (λ later. ¬ (place ≡ later) × ¬ Precedes touches later place) (written_places (place + 1) left)
+      (λ later there. let few = (from_here left (place + 1) later there).0 in (λ same. omega arith, λ precedes. let less = precedes.is_earlier in omega arith)),
+  written_respects touches left (place + 1),
+)
 
 -- The written order is one of the orders.
 pub written_is_one : (touches : List Touch) → IsReordering touches (written_places 0 touches)

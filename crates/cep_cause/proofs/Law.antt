@@ -1,5 +1,5 @@
 -- A legal log in another order: its steps are legal to the same last spot, or one of them is the first that leads to a state that does not fit.
-use Rattle.std.proofs.Common.{◌≡◌, ◌⊎◌, inl, inr, ⊎_elim, ℕ, ◌+◌, ◌<◌, ◌≤◌, List, [], ◌∷◌, ◌++◌, map, length, append_assoc, append-nil, refl, sym, ap, ◌∙◌, subst, arith}
+use Rattle.std.proofs.Common.{◌≡◌, ◌⊎◌, inl, inr, ⊎_elim, ℕ, ◌+◌, ◌<◌, ◌≤◌, List, [], ◌∷◌, ◌++◌, map, append_assoc, append-nil, refl, sym, ap, ◌∙◌, subst, arith}
 use Rattle.cep_base.specs.declared.limits.TheConstants.{MOST_COPIES, MOST_STATE_NODES}
 use Rattle.cep_term.specs.Multiset.{Multiset, copies_in, nodes_in_all}
 use Rattle.cep_rule.specs.declared.parts.Parts.{Parts}
@@ -10,7 +10,6 @@ use Rattle.cep_log.specs.declared.log.Log.{Log}
 use Rattle.cep_log.specs.declared.log.LogStep.{LogStep}
 use Rattle.cep_log.specs.Legal.{IsLegalStep, AreLegalSteps, start_spot, IsLegal}
 use Rattle.cep_cause.specs.CauseLaws.{CauseLaws}
-use Rattle.cep_cause.specs.Tokens.{start_tokens}
 use Rattle.cep_cause.specs.Touches.{Touch, AreTouchesOf}
 use Rattle.cep_cause.specs.Reorderings.{IsReordering}
 use Rattle.cep_cause.specs.Reordered.{StandAt, unlisted, IsUnfitAt}
@@ -67,20 +66,23 @@ module _ (run : LegalRun) (order : List ℕ) (reorders : IsReordering run.touche
       (λ rest. inl (new, goes, rest))
       (λ unfit. inr (unfit.0 + 1, unfit_more run.program run.height here new (unlisted step) (map unlisted left) unfit.0 goes unfit.1))
       (from (done ++ (place ∷ [])) rest left new (parts ∙ sym (append_assoc done (place ∷ []) rest)) stand.1 (reached_more run turn)))
-      (λ unfit. inr (1, record {
-        before = [];
-        step = unlisted step;
-        after = map unlisted left;
-        parts = refl;
-        counted = omega arith;
-        here = here;
-        legal = refl;
-        rule = rule_of run turn;
-        numbered = (as_written run turn).legal.machine.numbered;
-        new = new.state;
-        leads = step_there run turn;
-        unfit = unfit;
-      }))
+      (λ unfit. inr (
+        1,
+        record {
+          before = [];
+          step = unlisted step;
+          after = map unlisted left;
+          parts = refl;
+          counted = omega arith;
+          here = here;
+          legal = refl;
+          rule = rule_of run turn;
+          numbered = (as_written run turn).legal.machine.numbered;
+          new = new.state;
+          leads = step_there run turn;
+          unfit = unfit;
+        },
+      ))
       (fits_or_not new.state)
 
   pub legal_in_order : (ordered : List LogStep) → StandAt run.steps order ordered → AreLegalSteps run.program run.height (map unlisted ordered) (start_spot run.program) run.last ⊎ ((number : ℕ) × IsUnfitAt run.program run.height (start_spot run.program) (map unlisted ordered) number)

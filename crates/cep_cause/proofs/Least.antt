@@ -49,22 +49,30 @@ least_or_none P decides (first ∷ tokens) =
     (λ (rest : IsLeast P tokens). ⊎_elim
     (λ has. ⊎_elim
     (λ less. inl (record {
-      token = first; there = contains_first first tokens; has = has;
+      token = first;
+      there = contains_first first tokens;
+      has = has;
       least = λ other there has'. ⊎_elim (λ (same : first ≡ other). let is = ap (λ (t : Token). t.number) same in omega arith) (λ later. let more = rest.least other later has' in omega arith) (contains_cases first tokens other there);
     }))
     (λ less. inl (record {
-      token = rest.token; there = contains_behind first tokens rest.token rest.there; has = rest.has;
+      token = rest.token;
+      there = contains_behind first tokens rest.token rest.there;
+      has = rest.has;
       least = λ other there has'. ⊎_elim (λ (same : first ≡ other). let is = ap (λ (t : Token). t.number) same in omega arith) (λ later. rest.least other later has') (contains_cases first tokens other there);
     }))
     (at_most first.number rest.token.number))
     (λ hasn't. inl (record {
-      token = rest.token; there = contains_behind first tokens rest.token rest.there; has = rest.has;
+      token = rest.token;
+      there = contains_behind first tokens rest.token rest.there;
+      has = rest.has;
       least = λ other there has'. ⊎_elim (λ (same : first ≡ other). absurd (hasn't (subst P (sym same) has'))) (λ later. rest.least other later has') (contains_cases first tokens other there);
     }))
     (decides first))
     (λ none. ⊎_elim
     (λ has. inl (record {
-      token = first; there = contains_first first tokens; has = has;
+      token = first;
+      there = contains_first first tokens;
+      has = has;
       least = λ other there has'. ⊎_elim (λ (same : first ≡ other). let is = ap (λ (t : Token). t.number) same in omega arith) (λ later. absurd (none other later has')) (contains_cases first tokens other there);
     }))
     (λ hasn't. inr (λ other there has'. ⊎_elim (λ (same : first ≡ other). hasn't (subst P (sym same) has')) (λ later. none other later has') (contains_cases first tokens other there)))
@@ -108,9 +116,12 @@ module _ (laws : CauseLaws) where
     pub pick_or_none : (used : List Token) (a : AtomTree) → ((token : Token) × IsPick signature present used a token) ⊎ ((token : Token) → Contains present token → MayBe used a token → ⊥)
     pick_or_none used a =
         ⊎_elim
-        (λ (is : IsLeast (MayBe used a) present). inl (is.token, record {
-          can = record { there = is.there; of_atom = is.has.0; unused = is.has.1 };
-          least = λ other can. is.least other can.there (can.of_atom, can.unused);
-        }))
+        (λ (is : IsLeast (MayBe used a) present). inl (
+          is.token,
+          record {
+            can = record { there = is.there; of_atom = is.has.0; unused = is.has.1 };
+            least = λ other can. is.least other can.there (can.of_atom, can.unused);
+          },
+        ))
         (λ none. inr none)
         (least_or_none (MayBe used a) (decides used a) present)

@@ -101,10 +101,10 @@ module _ (program : Parts) where
         uses = picks_atoms signature values present [] is.rule.premises touch.uses is.uses;
         removes = removed_atoms signature values present [] is.rule.premises touch.uses is.uses ∙ ap token_atoms (sym is.removes);
         makes = λ laws a.
-          let atoms = ap (λ (tokens : List Token). count_of (gathered (token_atoms tokens)) a) is.makes in
-          let same = ap (λ (atoms : List AtomTree). count_of (gathered atoms) a) (numbered_atoms laws.bags a next gains) in
-          let less = gained_less laws.bags a (is_fact signature) (token_state (staying touch.removes present)) right in
-          omega arith;
+            let atoms = ap (λ (tokens : List Token). count_of (gathered (token_atoms tokens)) a) is.makes in
+            let same = ap (λ (atoms : List AtomTree). count_of (gathered atoms) a) (numbered_atoms laws.bags a next gains) in
+            let less = gained_less laws.bags a (is_fact signature) (token_state (staying touch.removes present)) right in
+            omega arith;
         differ = picks_differ signature values present [] is.rule.premises touch.uses is.uses;
         once = subst Differ (sym is.removes) (removes_differ signature values present [] is.rule.premises touch.uses is.uses);
         used = λ token there. removed_used signature is.rule.premises touch.uses token (subst (λ (tokens : List Token). Contains tokens token) is.removes there);

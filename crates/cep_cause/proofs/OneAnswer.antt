@@ -1,7 +1,6 @@
 -- Doing a log in an order comes to one answer.
-use Rattle.std.proofs.Common.{◌≡◌, ℕ, ◌<◌, ◌≤◌, List, [], ◌∷◌, map, length, refl, sym, ap, ◌∙◌, subst, arith}
+use Rattle.std.proofs.Common.{◌≡◌, ℕ, List, [], ◌∷◌, map, length, refl, sym, ap, ◌∙◌, subst, arith}
 use Rattle.std.specs.List.{AllZip}
-use Rattle.cep_base.specs.declared.limits.TheConstants.{MOST_LOG}
 use Rattle.cep_rule.specs.declared.parts.Parts.{Parts}
 use Rattle.cep_rule.specs.declared.offer.Offer.{Offer}
 use Rattle.cep_rule.specs.Derivations.{ProofTree}
@@ -13,7 +12,7 @@ use Rattle.cep_log.specs.Written.{text_of, DoTheSame, IsRenewal}
 use Rattle.cep_cause.specs.CauseLaws.{CauseLaws}
 use Rattle.cep_cause.specs.declared.reordered.Reordered.{Reordered}
 use Rattle.cep_cause.specs.declared.reordered.Reordered.TheVariants.{Done, Unfit, TooLong}
-use Rattle.cep_cause.specs.Reordered.{StandAt, with_steps, unlisted, IsRenewalIn, IsUnfitAt, IsUnfitIn, ComesTo}
+use Rattle.cep_cause.specs.Reordered.{with_steps, unlisted, IsRenewalIn, IsUnfitAt, IsUnfitIn, ComesTo}
 use Rattle.cep_cause.proofs.InOrder.{stand_once, unlisted_once}
 use Rattle.cep_cause.proofs.Outcomes.{legal_or_unfit, one_unfit}
 
@@ -23,7 +22,7 @@ module _ (program : Parts) (height : ℕ) where
   same_legal old new one other same legal = record {
     rule = legal.rule;
     machine = subst (λ (offer : Offer). IsMachineStep program height old new offer legal.rule one.proofs) (sym same.offer)
-      (subst (λ (proofs : List ProofTree). IsMachineStep program height old new other.offer legal.rule proofs) (sym same.proofs) legal.machine);
+        (subst (λ (proofs : List ProofTree). IsMachineStep program height old new other.offer legal.rule proofs) (sym same.proofs) legal.machine);
     stage = same.stage ∙ legal.stage;
     mid = tt;
   }

@@ -69,12 +69,12 @@ module _ (touches : List Touch) where
         new = λ there. (before_apart done rest place place respects there).0 refl;
         within = λ other there. (is.steps other).0 (subst (λ (places : List ℕ). Contains places other) (sym parts) (contains_left done (place ∷ rest) other there));
         before = λ earlier precedes.
-          let within = (is.steps place).0 (subst (λ (places : List ℕ). Contains places place) (sym parts) (contains_right done (place ∷ rest) place (contains_first place rest))) in
-          let less = precedes.is_earlier in
-          let there = subst (λ (places : List ℕ). Contains places earlier) parts ((is.steps earlier).1 (omega arith)) in
-          ⊎_elim (λ prefix. prefix)
-          (λ suffix. absurd (⊎_elim (λ same. omega arith) (λ behind. after_apart done rest place earlier respects behind precedes) (contains_cases place rest earlier suffix)))
-          (contains_either done (place ∷ rest) earlier there);
+            let within = (is.steps place).0 (subst (λ (places : List ℕ). Contains places place) (sym parts) (contains_right done (place ∷ rest) place (contains_first place rest))) in
+            let less = precedes.is_earlier in
+            let there = subst (λ (places : List ℕ). Contains places earlier) parts ((is.steps earlier).1 (omega arith)) in
+            ⊎_elim (λ prefix. prefix)
+            (λ suffix. absurd (⊎_elim (λ same. omega arith) (λ behind. after_apart done rest place earlier respects behind precedes) (contains_cases place rest earlier suffix)))
+            (contains_either done (place ∷ rest) earlier there);
         after = λ later there precedes. (before_apart done rest place later respects there).1 precedes;
       }
 
@@ -149,9 +149,9 @@ module _ (touches : List Touch) where
       pub spent_more : AreSpent done → AreSpent (done ++ (place ∷ []))
       spent_more spent = record {
         differ = subst Differ (sym removed_more)
-          (differ_both (removed_by done) touch.removes spent.differ (are.once place touch at) (λ token there here. not_removed token (are.used place touch token at here) there));
+            (differ_both (removed_by done) touch.removes spent.differ (are.once place touch at) (λ token there here. not_removed token (are.used place touch token at here) there));
         within = λ token there.
-          there_more token (⊎_elim (λ before. spent.within token before) (λ here. was_there token (are.used place touch token at here)) (contains_either (removed_by done) touch.removes token (subst (λ (tokens : List Token). Contains tokens token) removed_more there)));
+            there_more token (⊎_elim (λ before. spent.within token before) (λ here. was_there token (are.used place touch token at here)) (contains_either (removed_by done) touch.removes token (subst (λ (tokens : List Token). Contains tokens token) removed_more there)));
       }
 
     -- At first nothing is done.

@@ -98,11 +98,13 @@ module _ (signature : Signature) (values : List Tree) (present : List Token) whe
 
       by : (t : Bool) → (premise.kept || is_fact signature premise.atom) ≡ t → Differ (picked_to_go signature premises tokens) → Differ (cond t (picked_to_go signature premises tokens) (first ∷ picked_to_go signature premises tokens))
       by true e rest = rest
-      by false e rest =
-          (λ there.
-          picks_apart (first ∷ used) premises tokens first picks.1 (removed_used signature premises tokens first there)
-          (ap (is_fact signature) picks.0.can.of_atom ∙ linear premise.kept (is_fact signature premise.atom) e)
-          (contains_first first used), rest)
+      by false e rest = (
+        λ there.
+            picks_apart (first ∷ used) premises tokens first picks.1 (removed_used signature premises tokens first there)
+            (ap (is_fact signature) picks.0.can.of_atom ∙ linear premise.kept (is_fact signature premise.atom) e)
+            (contains_first first used),
+        rest,
+      )
 
 -- Copies of an atom
 

@@ -44,9 +44,10 @@ rising_part p (first ∷ tokens) rise = by (p first) (rising_part p tokens rise.
 
 rising_both : (xs ys : List Token) → NumbersIncrease xs → NumbersIncrease ys → ((one other : Token) → Contains xs one → Contains ys other → one.number < other.number) → NumbersIncrease (xs ++ ys)
 rising_both [] ys rise rise' less = rise'
-rising_both (x ∷ xs) ys rise rise' less =
-    (both_all (λ (later : Token). x.number < later.number) xs ys rise.0 (all_of (λ (later : Token). x.number < later.number) ys (λ token there. less x token (contains_first x xs) there)),
-    rising_both xs ys rise.1 rise' (λ one other here there. less one other (contains_behind x xs one here) there))
+rising_both (x ∷ xs) ys rise rise' less = (
+  both_all (λ (later : Token). x.number < later.number) xs ys rise.0 (all_of (λ (later : Token). x.number < later.number) ys (λ token there. less x token (contains_first x xs) there)),
+  rising_both xs ys rise.1 rise' (λ one other here there. less one other (contains_behind x xs one here) there),
+)
 
 pub numbered_increase : (next : ℕ) (atoms : List AtomTree) → NumbersIncrease (numbered next atoms)
 numbered_increase next [] = tt

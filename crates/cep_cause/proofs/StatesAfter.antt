@@ -84,17 +84,17 @@ module _ (laws : CauseLaws) (signature : Signature) where
         record {
           is_state = is_state;
           linear = λ a linear.
-            let count = does.linear a linear in
-            let before = is.linear a linear in
-            let goes = sum_by_push (λ (place : ℕ). count_of (gathered (takes place)) a) done place in
-            let comes = sum_by_push (λ (place : ℕ). count_of (gathered (adds place)) a) done place in
-            let go = ap (λ (atoms : List AtomTree). count_of (gathered atoms) a) take in
-            let come = ap (λ (atoms : List AtomTree). count_of (gathered atoms) a) add in
-            omega arith;
+              let count = does.linear a linear in
+              let before = is.linear a linear in
+              let goes = sum_by_push (λ (place : ℕ). count_of (gathered (takes place)) a) done place in
+              let comes = sum_by_push (λ (place : ℕ). count_of (gathered (adds place)) a) done place in
+              let go = ap (λ (atoms : List AtomTree). count_of (gathered atoms) a) take in
+              let come = ap (λ (atoms : List AtomTree). count_of (gathered atoms) a) add in
+              omega arith;
           facts = λ a fact.
-            let count = does.facts a fact in
-            let before = is.facts a fact in
-            let comes = sum_by_push (λ (place : ℕ). count_of (gathered (adds place)) a) done place in
-            let come = ap (λ (atoms : List AtomTree). count_of (gathered atoms) a) add in
-            omega arith;
+              let count = does.facts a fact in
+              let before = is.facts a fact in
+              let comes = sum_by_push (λ (place : ℕ). count_of (gathered (adds place)) a) done place in
+              let come = ap (λ (atoms : List AtomTree). count_of (gathered atoms) a) add in
+              omega arith;
         }

@@ -1,8 +1,6 @@
 -- Steps that are taken as they get ready are a reordering.
-use Rattle.std.proofs.Common.{◌≡◌, ◌⊎◌, inl, inr, ⊎_elim, ℕ, zero, suc, ◌+◌, ◌-◌, ◌<◌, ◌≤◌, List, [], ◌∷◌, ◌++◌, map, length, append_assoc, append-nil, Some, refl, sym, ap, ◌∙◌, subst, arith, Contains}
-use Rattle.std.specs.Prelude.{slice_get}
+use Rattle.std.proofs.Common.{◌≡◌, ◌⊎◌, inl, inr, ⊎_elim, ℕ, zero, suc, ◌+◌, ◌-◌, ◌<◌, ◌≤◌, List, [], ◌∷◌, ◌++◌, map, length, append_assoc, append-nil, refl, sym, ap, ◌∙◌, subst, arith, Contains}
 use Rattle.std.specs.List.{AllByRecursion}
-use Rattle.cep_base.proofs.Lists.{none_some, some_same}
 use Rattle.cep_base.proofs.Elements.{contains_none, contains_cases, contains_same, contains_behind, contains_left, contains_right, contains_at, all_of, all_at}
 use Rattle.cep_order.specs.declared.step_cause.StepCause.{StepCause}
 use Rattle.cep_order.specs.Orders.{NamesEarlier, PrecedesIn, IsReadyIn, IsTaken, AreTaken, IsOrderBy}
@@ -25,9 +23,9 @@ precedes_in touches causes i j are is =
       later = other.0;
       at_later = other.1;
       why = ⊎_elim
-        (λ (rests : RestsOn is.later is.earlier). inl ((cause.after i).1 (is.is_earlier, record { earlier = is.earlier; at = is.at_earlier; rests = rests })))
-        (λ barrier. inr (⊎_elim (λ here. inl ((are.each i is.earlier one.0 is.at_earlier one.1).barrier ∙ here)) (λ there. inr (cause.barrier ∙ there)) barrier))
-        is.why;
+          (λ (rests : RestsOn is.later is.earlier). inl ((cause.after i).1 (is.is_earlier, record { earlier = is.earlier; at = is.at_earlier; rests = rests })))
+          (λ barrier. inr (⊎_elim (λ here. inl ((are.each i is.earlier one.0 is.at_earlier one.1).barrier ∙ here)) (λ there. inr (cause.barrier ∙ there)) barrier))
+          is.why;
     }
 
 among_or_not : (places : List ℕ) (place : ℕ) → Contains places place ⊎ (Contains places place → ⊥)
@@ -72,12 +70,14 @@ module _ (seed : ℕ) (causes : List StepCause) where
   taken_respects : (touches : List Touch) → AreCauses touches causes → (drawn : ℕ) (taken places : List ℕ) → AreTaken seed causes drawn taken places → Respects touches places
   taken_respects touches graph drawn taken [] are = tt
   taken_respects touches graph drawn taken (first ∷ places) are =
-      let ready = ready_first drawn taken first are.0 are.1 in
-      (all_of (λ later. ¬ (first ≡ later) × ¬ Precedes touches later first) places (λ later there.
-      let new = (taken_later are.0 (taken ++ (first ∷ [])) places later are.2 there).0 in
-      (λ same. new (contains_right taken (first ∷ []) later (contains_same first [] later same)),
-      λ precedes. new (contains_left taken (first ∷ []) later (ready.before later (precedes_in touches causes later first graph precedes))))),
-      taken_respects touches graph are.0 (taken ++ (first ∷ [])) places are.2)
+      let ready = ready_first drawn taken first are.0 are.1 in (
+        all_of (λ later. ¬ (first ≡ later) × ¬ Precedes touches later first) places (λ later there.
+            let new = (taken_later are.0 (taken ++ (first ∷ [])) places later are.2 there).0 in (
+              λ same. new (contains_right taken (first ∷ []) later (contains_same first [] later same)),
+              λ precedes. new (contains_left taken (first ∷ []) later (ready.before later (precedes_in touches causes later first graph precedes))),
+            )),
+        taken_respects touches graph are.0 (taken ++ (first ∷ [])) places are.2,
+      )
 
 -- what is counted from 1 and back is as it was
 step_places_of : (places : List ℕ) → step_places (map (λ place. place + 1) places) ≡ places

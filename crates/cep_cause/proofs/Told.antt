@@ -132,16 +132,19 @@ module _ (laws : CauseLaws) (program : Parts) (is : IsProgram program) (height :
       record {
         new = record step { mid = mid } ∷ rest.new;
         does = (record { offer = refl; proofs = refl; stage = refl }, rest.does);
-        of_program = (record {
-          rule = of.0.rule;
-          numbered = of.0.numbered;
-          values = of.0.values;
-          as_many = of.0.as_many;
-          low = of.0.low;
-          stage = of.0.stage;
-          in_range = of.0.in_range;
-          listing = mid_holds (λ (mid : LogMid). IsListing program.signature mid.state) number next.state (laws.listing program.signature next.state is_state' machine.steps.fits);
-        }, rest.of_program);
+        of_program = (
+          record {
+            rule = of.0.rule;
+            numbered = of.0.numbered;
+            values = of.0.values;
+            as_many = of.0.as_many;
+            low = of.0.low;
+            stage = of.0.stage;
+            in_range = of.0.in_range;
+            listing = mid_holds (λ (mid : LogMid). IsListing program.signature mid.state) number next.state (laws.listing program.signature next.state is_state' machine.steps.fits);
+          },
+          rest.of_program,
+        );
         listed = (mid_due number next.state, rest.listed);
         legal = (next, record { rule = goes.rule; machine = machine; stage = goes.stage; mid = mid_holds (λ (mid : LogMid). mid.state ≡ finite.entries next.state) number next.state refl }, rest.legal);
         as_many = ap suc rest.as_many;
@@ -159,30 +162,33 @@ told_in_order laws program log touches order is legal are reorders =
     let tells = told laws program is log.height 1 ordered.0 (start_spot program) legal.last of is.start goes in
     let few : length tells.new ≤ log.lines = let a = tells.as_many in let b = stand_long log.steps order ordered.0 ordered.1 in let c = not_longer touches order reorders in let d = legal.of_program.few in omega arith in
     let new : Log = record log { version = Two; steps = tells.new } in
-    inl (new, record {
-      steps = ordered.0;
-      stand = ordered.1;
-      renews = record {
-        version = refl;
-        does = record { height = refl; stage = refl; start = refl; steps = tells.does; ends = same_end log.end };
-        legal = record {
-          of_program = record {
-            height = legal.of_program.height;
-            stage = legal.of_program.stage;
-            start = legal.of_program.start;
-            steps = tells.of_program;
-            listed = tells.listed;
-            ending = legal.of_program.ending;
-            lines = legal.of_program.lines;
-            few = few;
+    inl (
+      new,
+      record {
+        steps = ordered.0;
+        stand = ordered.1;
+        renews = record {
+          version = refl;
+          does = record { height = refl; stage = refl; start = refl; steps = tells.does; ends = same_end log.end };
+          legal = record {
+            of_program = record {
+              height = legal.of_program.height;
+              stage = legal.of_program.stage;
+              start = legal.of_program.start;
+              steps = tells.of_program;
+              listed = tells.listed;
+              ending = legal.of_program.ending;
+              lines = legal.of_program.lines;
+              few = few;
+            };
+            stage = legal.stage;
+            start = legal.start;
+            last = legal.last;
+            steps = tells.legal;
+            ending = legal.ending;
           };
-          stage = legal.stage;
-          start = legal.start;
-          last = legal.last;
-          steps = tells.legal;
-          ending = legal.ending;
         };
-      };
-    }))
+      },
+    ))
     (λ unfit. inr (unfit.0, record { steps = map unlisted ordered.0; are = record { listed = ordered.0; stand = ordered.1; unlist = refl }; unfit = unfit.1 }))
     (legal_in_order (run_of laws program is log legal touches are) order reorders ordered.0 ordered.1)

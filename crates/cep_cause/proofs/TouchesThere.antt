@@ -46,11 +46,11 @@ module _ (laws : CauseLaws) (signature : Signature) (values : List Tree) (presen
     enough_more : (token : Token) → token.atom ≡ needed → IsEnough (token ∷ used) premises
     enough_more token same = record {
       linear = λ a linear.
-        let few = enough.linear a linear in
-        let first = laws.bags.joined_count (token.atom ∷ []) (token_atoms used) a in
-        let first' = laws.bags.joined_count (needed ∷ []) (instances premises) a in
-        let one = ap (λ (b : AtomTree). count_of (gathered (b ∷ [])) a) same in
-        omega arith;
+          let few = enough.linear a linear in
+          let first = laws.bags.joined_count (token.atom ∷ []) (token_atoms used) a in
+          let first' = laws.bags.joined_count (needed ∷ []) (instances premises) a in
+          let one = ap (λ (b : AtomTree). count_of (gathered (b ∷ [])) a) same in
+          omega arith;
       facts = λ a fact some. enough.facts a fact (let first' = laws.bags.joined_count (needed ∷ []) (instances premises) a in omega arith);
     }
 
@@ -131,14 +131,15 @@ module _ (laws : CauseLaws) (program : Parts) (is : IsProgram program) (height :
     touch_there : (touch : Touch) × IsTouch program next present step touch
     touch_there =
         let picks = picks_for laws program.signature step.offer.values present old.state tokens.differ tokens.counts rule contained in
-        let removes = picked_to_go program.signature rule.premises picks.0 in
-        (record {
-          uses = picks.0;
-          removes = removes;
-          makes = numbered next (gained (is_fact program.signature) (token_state (staying removes present)) (full_instances step.offer.values rule.right));
-          barrier = is_some rule.next;
-        },
-        record { rule = rule; numbered_by = legal.machine.numbered; uses = picks.1; removes = refl; makes = refl; barrier = refl })
+        let removes = picked_to_go program.signature rule.premises picks.0 in (
+          record {
+            uses = picks.0;
+            removes = removes;
+            makes = numbered next (gained (is_fact program.signature) (token_state (staying removes present)) (full_instances step.offer.values rule.right));
+            barrier = is_some rule.next;
+          },
+          record { rule = rule; numbered_by = legal.machine.numbered; uses = picks.1; removes = refl; makes = refl; barrier = refl },
+        )
 
     -- What is present after it is the state after it.
     module _ (touch : Touch) (touches : IsTouch program next present step touch) where
@@ -188,13 +189,13 @@ module _ (laws : CauseLaws) (program : Parts) (is : IsProgram program) (height :
         one = one_after program next present step touch touches tokens.below tokens.one;
         differ = differ_after program next present step touch touches tokens.below tokens.differ;
         counts = λ a.
-          let both = weigh_both a in
-          let stay = stay_count a in
-          let make = ap (λ (tokens : List Token). count_of (gathered (token_atoms tokens)) a) made in
-          let atoms = ap (λ (atoms : List AtomTree). count_of (gathered atoms) a) (numbered_atoms laws.bags a next (gained (is_fact program.signature) (difference_of old.state taken) added)) in
-          let state = ap (λ (state : Multiset). count_of state a) new_state in
-          let sum = laws.bags.sum (difference_of old.state taken) (gathered (gained (is_fact program.signature) (difference_of old.state taken) added)) a in
-          omega arith;
+            let both = weigh_both a in
+            let stay = stay_count a in
+            let make = ap (λ (tokens : List Token). count_of (gathered (token_atoms tokens)) a) made in
+            let atoms = ap (λ (atoms : List AtomTree). count_of (gathered atoms) a) (numbered_atoms laws.bags a next (gained (is_fact program.signature) (difference_of old.state taken) added)) in
+            let state = ap (λ (state : Multiset). count_of state a) new_state in
+            let sum = laws.bags.sum (difference_of old.state taken) (gathered (gained (is_fact program.signature) (difference_of old.state taken) added)) a in
+            omega arith;
       }
         where
           atoms_both : (xs ys : List Token) → token_atoms (xs ++ ys) ≡ token_atoms xs ++ token_atoms ys

@@ -1,10 +1,9 @@
 -- A walk over the steps of a legal log in an order.
-use Rattle.std.proofs.Common.{◌≡◌, ⊎_elim, ℕ, zero, suc, ◌+◌, ◌-◌, ◌<◌, ◌≤◌, List, [], ◌∷◌, ◌++◌, map, length, take, drop, Some, None, refl, sym, ap, ◌∙◌, subst, arith, Contains}
+use Rattle.std.proofs.Common.{◌≡◌, ℕ, zero, suc, ◌+◌, ◌-◌, ◌<◌, ◌≤◌, List, [], ◌∷◌, ◌++◌, map, length, take, drop, Some, refl, sym, ap, ◌∙◌, subst, arith, Contains}
 use Rattle.std.specs.Prelude.{slice_get, unwrap_or}
 use Rattle.std.proofs.lemmas.List.{map-append}
-use Rattle.cep_base.proofs.Lists.{none_some, some_same, holds_at, take_next, get_mapped}
-use Rattle.cep_base.proofs.Elements.{contains_at, contains_right, contains_behind}
-use Rattle.cep_term.specs.Tree.{Tree}
+use Rattle.cep_base.proofs.Lists.{none_some, some_same, take_next, get_mapped}
+use Rattle.cep_base.proofs.Elements.{contains_right, contains_behind}
 use Rattle.cep_term.specs.Multiset.{Multiset}
 use Rattle.cep_rule.specs.declared.rule.Rule.{Rule}
 use Rattle.cep_rule.specs.declared.parts.Parts.{Parts}
@@ -145,7 +144,7 @@ module _ (program : Parts) (log : Log) (order : List ℕ) (given : IsGiven progr
           prefix = walking.prefix ++ (step ∷ []);
           stood = subst (λ (places : List ℕ). StandAt log.steps places (walking.prefix ++ (step ∷ []))) (sym more) (stand_both log.steps (take i places) ((number - 1) ∷ []) walking.prefix (step ∷ []) walking.stood (at_step, tt));
           so_far = subst (λ (steps : List LogStep). AreLegalSteps program log.height steps (start_spot program) new) (sym (map-append unlisted walking.prefix (step ∷ [])))
-            (legal_more program log.height (map unlisted walking.prefix) (unlisted step) (start_spot program) here new walking.so_far (subst (λ (spot : Spot). IsLegalStep program log.height here spot (unlisted step)) same legal));
+              (legal_more program log.height (map unlisted walking.prefix) (unlisted step) (start_spot program) here new walking.so_far (subst (λ (spot : Spot). IsLegalStep program log.height here spot (unlisted step)) same legal));
           reached = subst (λ (places : List ℕ). IsReached run places new) (sym more) (subst (λ (spot : Spot). IsReached run (take i places ++ ((number - 1) ∷ [])) spot) same (reached_more run turn));
           of_program = goes.of_program;
         }
@@ -194,6 +193,6 @@ module _ (program : Parts) (log : Log) (order : List ℕ) (given : IsGiven progr
         last = given.legal.last;
         are = record { listed = walking.prefix; stand = subst (λ (places : List ℕ). StandAt log.steps places walking.prefix) done walking.stood; unlist = refl };
         legal = subst (λ (spot : Spot). AreLegalSteps program log.height (map unlisted walking.prefix) (start_spot program) spot)
-          (sym (all_reached run places here given.orders.reorders.steps (subst (λ (places : List ℕ). IsReached run places here) done walking.reached))) walking.so_far;
+            (sym (all_reached run places here given.orders.reorders.steps (subst (λ (places : List ℕ). IsReached run places here) done walking.reached))) walking.so_far;
         ending = given.legal.ending;
       }

@@ -6,7 +6,7 @@ use Rattle.std.specs.FinMap as finite
 use Rattle.std.proofs.lemmas.Bool.{false≢true}
 use Rattle.std.proofs.lemmas.List.Sums.{sum_by-append, sum_by-cons}
 use Rattle.cep_base.proofs.Elements.{contains_none, contains_cases, map_cases}
-use Rattle.cep_term.specs.Tree.{Tree, AtomTree}
+use Rattle.cep_term.specs.Tree.{AtomTree}
 use Rattle.cep_term.specs.Multiset.{Multiset, count_of, gathered, held}
 use Rattle.cep_rule.specs.declared.rule.Rule.{Rule}
 use Rattle.cep_rule.specs.declared.parts.Parts.{Parts}
@@ -17,9 +17,8 @@ use Rattle.cep_log.specs.declared.log.LogStep.{LogStep}
 use Rattle.cep_cause.specs.CauseLaws.{CauseLaws}
 use Rattle.cep_cause.specs.Tokens.{Token, token_atoms, start_tokens}
 use Rattle.cep_cause.specs.Touches.{Touch}
-use Rattle.cep_cause.proofs.Distinct.{Differ}
 use Rattle.cep_cause.proofs.Picking.{linear_of, linear_used, weight, weigh_tokens}
-use Rattle.cep_cause.proofs.Ordered.{still, removed_at, made_at, removed_by, there_by, IsNext, ArePassed, AreSpent, enough}
+use Rattle.cep_cause.proofs.Ordered.{still, removed_at, made_at, removed_by, there_by, IsNext, AreSpent, enough}
 use Rattle.cep_cause.proofs.Started.{start_counts}
 use Rattle.cep_cause.proofs.StatesAfter.{sum_at, IsStateAfter}
 use Rattle.cep_cause.proofs.OldRun.{right_by_step, right_by, LegalRun, passed, each_of, takes, adds, IsFamiliar}

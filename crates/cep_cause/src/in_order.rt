@@ -5,9 +5,9 @@ ghost use Rattle.cep_cause.specs.Reordered.{unlisted, AreUnlistedSteps, IsInOrde
 
 use crate::copying::{copy_listing, copy_proofs, copy_values};
 use cep_base::List;
-use cep_order::Numbers;
 use cep_lines::Version;
 use cep_log::{Log, LogEnd, LogStep, LogSteps};
+use cep_order::Numbers;
 use cep_rule::Offer;
 use std::alloc::{AllocError, Global};
 
@@ -32,11 +32,7 @@ pub(crate) fn in_order(alloc: Global, log: &Log, order: &Numbers) -> Result<Log,
 }
 
 // The steps in this order.
-fn steps_in_order(
-    alloc: Global,
-    steps: &LogSteps,
-    order: &Numbers,
-) -> Result<LogSteps, AllocError>
+fn steps_in_order(alloc: Global, steps: &LogSteps, order: &Numbers) -> Result<LogSteps, AllocError>
     requires { AreNumbersWithin (length steps.now) order.now }
     ensures { IfOk result (AreUnlistedSteps steps.now (step_places order.now)) }
 {

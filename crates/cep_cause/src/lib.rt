@@ -8,11 +8,13 @@
 
 mod copying;
 mod going;
+mod graph_of;
 mod in_order;
 pub mod laws;
 mod reordered;
 mod reordering;
 mod unfit;
 
-pub use reordering::again;
+pub use graph_of::graph;
 pub use reordered::Reordered;
+pub use reordering::again;

@@ -9,10 +9,10 @@ use crate::in_order::in_order;
 use crate::laws::orders_can_be_renewed;
 use crate::reordered::Reordered;
 use crate::unfit::first_unfit;
-use cep_order::Numbers;
 use cep_base::Text;
 use cep_check::renew;
 use cep_log::Log;
+use cep_order::Numbers;
 use cep_rule::Program;
 use std::alloc::{AllocError, Global};
 
@@ -20,8 +20,8 @@ use std::alloc::{AllocError, Global};
 /// to tokens: each does the same as in the log, and the start, the last state and the end word are
 /// those of the log. Numbers of steps are counted from 1. `Unfit` comes exactly when the state after
 /// some step does not fit, `TooLong` exactly when all states fit and the text is too long
-/// (`orders_come_to_one_answer`). What orders may do is the token graph's of Petri nets; the limits
-/// are this profile's. Only out of memory is refused.
+/// (`orders_come_to_one_answer`). Which orders respect the steps, and the limits, are this profile's.
+/// Only out of memory is refused.
 pub fn again(
     alloc: Global,
     program: &Program,

@@ -7,8 +7,8 @@ ghost use Rattle.cep_cause.specs.Walking.{IsFirstUnfitOrNone};
 
 use crate::going::go_on;
 use crate::laws::causes_are_lawful;
-use cep_order::Numbers;
 use cep_log::Log;
+use cep_order::Numbers;
 use cep_rule::Program;
 use cep_step::Spot;
 use std::alloc::{AllocError, Global};
