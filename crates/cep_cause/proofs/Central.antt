@@ -1,5 +1,6 @@
 -- The central law: in a reordering of a legal log each step that comes is legal where it comes, if the state that it leads to fits, and the last spot is the old one.
 use Rattle.std.proofs.Common.{◌≡◌, ◌⊎◌, inl, inr, ⊎_elim, ℕ, zero, suc, ◌+◌, ◌%◌, ◌<◌, Bool, true, false, List, [], ◌∷◌, ◌++◌, length, Option, Some, None, refl, sym, ap, ◌∙◌, subst, arith, Contains}
+use Rattle.std.proofs.lemmas.Option.{slice_get_within}
 use Rattle.std.specs.Prelude.{slice_get, unwrap_or, is_some, IfSome, ◌↔◌}
 use Rattle.std.specs.FinMap as finite
 use Rattle.std.proofs.lemmas.Bool.{false≢true}
@@ -32,9 +33,7 @@ got (x ∷ xs) zero within = (x, refl)
 got (x ∷ xs) (suc place) within = got xs place (omega arith)
 
 pub at_within : {X : Type 0} (xs : List X) (place : ℕ) (x : X) → slice_get xs place ≡ Some x → place < length xs
-at_within [] place x at = none_some x at
-at_within (y ∷ xs) zero x at = omega arith
-at_within (y ∷ xs) (suc place) x at = let less = at_within xs place x at in omega arith
+at_within xs place x at = slice_get_within xs place x at
 
 pub one_spot : (one other : Spot) → one.stage ≡ other.stage → one.state ≡ other.state → one ≡ other
 one_spot one other stage state = ap (λ n. record { stage = n; state = one.state }) stage ∙ ap (λ (s : Multiset). record { stage = other.stage; state = s }) state

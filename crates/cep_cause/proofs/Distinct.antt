@@ -33,19 +33,27 @@ module _ {X : Type 0} where
       (λ later. ⊎_elim (λ same. absurd (apart same)) (λ behind. contains_right prefix suffix z behind) (contains_cases x suffix z later))
       (contains_either prefix (x ∷ suffix) z there)
 
-  -- what stands once in one list, and stands in another, weighs there no less
-  pub weighs_less : (f : X → ℕ) (xs ys : List X) → Differ xs → ((x : X) → Contains xs x → Contains ys x) → sum_by f xs ≤ sum_by f ys
-  weighs_less f [] ys differ within = omega arith
-  weighs_less f (x ∷ xs) ys differ within =
-      let s = split ys x (within x (contains_first x xs)) in
-      let rest = weighs_less f xs (s.prefix ++ s.suffix) differ.1
-      (λ z there. others s.prefix s.suffix x z (subst (λ (zs : List X). Contains zs z) s.is (within z (contains_behind x xs z there))) (λ same. differ.0 (subst (λ w. Contains xs w) (sym same) there))) in
+  -- what stands once in one list, and weighs nothing or stands in another, weighs there no less
+  pub weighs_less_if : (f : X → ℕ) (xs ys : List X) → Differ xs → ((x : X) → Contains xs x → (f x ≡ 0) ⊎ Contains ys x) → sum_by f xs ≤ sum_by f ys
+  weighs_less_if f [] ys differ within = omega arith
+  weighs_less_if f (x ∷ xs) ys differ within =
+      ⊎_elim
+      (λ none. let rest = weighs_less_if f xs ys differ.1 (λ z there. within z (contains_behind x xs z there)) in let first' = sum_by-cons f x xs in omega arith)
+      (λ here.
+      let s = split ys x here in
+      let rest = weighs_less_if f xs (s.prefix ++ s.suffix) differ.1
+      (λ z there. ⊎_elim (λ none. inl none) (λ there'. inr (others s.prefix s.suffix x z (subst (λ (zs : List X). Contains zs z) s.is there') (λ same. differ.0 (subst (λ w. Contains xs w) (sym same) there)))) (within z (contains_behind x xs z there))) in
       let whole = ap (sum_by f) s.is in
       let parts = sum_by-append f s.prefix (x ∷ s.suffix) in
       let parts' = sum_by-append f s.prefix s.suffix in
       let first = sum_by-cons f x s.suffix in
       let first' = sum_by-cons f x xs in
-      omega arith
+      omega arith)
+      (within x (contains_first x xs))
+
+  -- what stands once in one list, and stands in another, weighs there no less
+  pub weighs_less : (f : X → ℕ) (xs ys : List X) → Differ xs → ((x : X) → Contains xs x → Contains ys x) → sum_by f xs ≤ sum_by f ys
+  weighs_less f xs ys differ within = weighs_less_if f xs ys differ (λ x there. inr (within x there))
 
   -- two lists of the same elements, each once, weigh the same
   pub weigh_the_same : (f : X → ℕ) (xs ys : List X) → Differ xs → Differ ys → ((x : X) → Contains xs x → Contains ys x) → ((x : X) → Contains ys x → Contains xs x) → sum_by f xs ≡ sum_by f ys
@@ -65,15 +73,7 @@ module _ {X : Type 0} where
   -- a part of a list by a test
   pub filter_cases : (p : X → Bool) (xs : List X) (x : X) → Contains (filter p xs) x → Contains xs x × (p x ≡ true)
   filter_cases p [] x there = absurd (contains_none x there)
-  filter_cases p (y ∷ xs) x there = by (p y) refl (filter_cases p xs x) there
-    where
-      by : (t : Bool) → p y ≡ t → (Contains (filter p xs) x → Contains xs x × (p x ≡ true)) → Contains (cond t (y ∷ filter p xs) (filter p xs)) x → Contains (y ∷ xs) x × (p x ≡ true)
-      by true e rest there =
-          ⊎_elim
-          (λ (same : y ≡ x). (contains_same y xs x same, ap p (sym same) ∙ e))
-          (λ later. let is = rest later in (contains_behind y xs x is.0, is.1))
-          (contains_cases y (filter p xs) x there)
-      by false e rest there = let is = rest there in (contains_behind y xs x is.0, is.1)
+  filter_cases p (y ∷ xs) x there = grind (arith, filter_cases p xs x, contains_cases y (filter p xs) x, contains_behind y xs x, contains_same y xs x)
 
   -- an element that passes the test is in the part
   pub filter_there : (p : X → Bool) (xs : List X) (x : X) → Contains xs x → p x ≡ true → Contains (filter p xs) x
@@ -91,21 +91,3 @@ module _ {X : Type 0} where
       by : (t : Bool) → Differ (filter p xs) → Differ (cond t (y ∷ filter p xs) (filter p xs))
       by true rest = (λ there. differ.0 (filter_cases p xs y there).0, rest)
       by false rest = rest
-
-  -- what stands once in one list, and weighs nothing or stands in another, weighs there no less
-  pub weighs_less_if : (f : X → ℕ) (xs ys : List X) → Differ xs → ((x : X) → Contains xs x → (f x ≡ 0) ⊎ Contains ys x) → sum_by f xs ≤ sum_by f ys
-  weighs_less_if f [] ys differ within = omega arith
-  weighs_less_if f (x ∷ xs) ys differ within =
-      ⊎_elim
-      (λ none. let rest = weighs_less_if f xs ys differ.1 (λ z there. within z (contains_behind x xs z there)) in let first' = sum_by-cons f x xs in omega arith)
-      (λ here.
-      let s = split ys x here in
-      let rest = weighs_less_if f xs (s.prefix ++ s.suffix) differ.1
-      (λ z there. ⊎_elim (λ none. inl none) (λ there'. inr (others s.prefix s.suffix x z (subst (λ (zs : List X). Contains zs z) s.is there') (λ same. differ.0 (subst (λ w. Contains xs w) (sym same) there)))) (within z (contains_behind x xs z there))) in
-      let whole = ap (sum_by f) s.is in
-      let parts = sum_by-append f s.prefix (x ∷ s.suffix) in
-      let parts' = sum_by-append f s.prefix s.suffix in
-      let first = sum_by-cons f x s.suffix in
-      let first' = sum_by-cons f x xs in
-      omega arith)
-      (within x (contains_first x xs))

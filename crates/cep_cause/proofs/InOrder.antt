@@ -1,5 +1,6 @@
 -- A legal log in an order is a legal log; what it is renewed to is the old one renewed in the order; and the written order is one of the orders.
 use Rattle.std.proofs.Common.{◌≡◌, ◌⊎◌, inl, inr, ⊎_elim, ℕ, zero, suc, ◌+◌, ◌-◌, ◌<◌, ◌≤◌, List, [], ◌∷◌, ◌++◌, map, length, take, Option, Some, None, refl, sym, ap, ◌∙◌, subst, arith, Contains}
+use Rattle.std.proofs.lemmas.Grind.{common_steps}
 use Rattle.std.specs.Prelude.{slice_get, ◌↔◌, Result, Ok, Err, IfOk, IfSome, IfNone}
 use Rattle.std.specs.declared.alloc.AllocError.{AllocError}
 use Rattle.std.specs.List.{AllByRecursion, AllZip}
@@ -32,8 +33,7 @@ unlisted_of : (program : Parts) (step : LogStep) → IsStepOf program step → I
 unlisted_of program step of = record { rule = of.rule; numbered = of.numbered; values = of.values; as_many = of.as_many; low = of.low; stage = of.stage; in_range = of.in_range; listing = tt }
 
 pub length_map : {X Y : Type 0} (f : X → Y) (xs : List X) → length (map f xs) ≡ length xs
-length_map f [] = refl
-length_map f (x ∷ xs) = ap suc (length_map f xs)
+length_map f xs = grind (arith, common_steps)
 
 pub stand_once : {X : Type 0} (all : List X) (places : List ℕ) (xs ys : List X) → StandAt all places xs → StandAt all places ys → xs ≡ ys
 stand_once all [] [] [] at at' = refl
@@ -118,10 +118,7 @@ stand_both all (place ∷ places) later [] ys at at' = absurd at
 stand_both all (place ∷ places) later (x ∷ xs) ys at at' = (at.0, stand_both all places later xs ys at.1 at')
 
 pub whole : (places : List ℕ) (i : ℕ) → length places ≤ i → take i places ≡ places
-whole [] zero all = refl
-whole [] (suc i) all = refl
-whole (first ∷ places) zero all = absurd (omega arith)
-whole (first ∷ places) (suc i) all = ap (λ rest. first ∷ rest) (whole places i (omega arith))
+whole places i all = grind (arith, common_steps)
 
 -- Nothing stands at no places.
 pub unlisted_none : (all steps : List LogStep) → steps ≡ [] → AreUnlistedSteps all [] steps
@@ -200,10 +197,7 @@ module _ {X : Type 0} where
       (same_or_above place other more)
     where
       same_or_above : (a b : ℕ) → a ≤ b → (a ≡ b) ⊎ (a < b)
-      same_or_above zero zero less = inl refl
-      same_or_above zero (suc b) less = inr (omega arith)
-      same_or_above (suc a) zero less = absurd (omega arith)
-      same_or_above (suc a) (suc b) less = ⊎_elim (λ same. inl (ap suc same)) (λ more. inr (omega arith)) (same_or_above a b (omega arith))
+      same_or_above a b less = grind arith
 
 written_respects : (touches left : List Touch) (place : ℕ) → Respects touches (written_places place left)
 written_respects touches [] place = tt

@@ -18,7 +18,7 @@ use Rattle.cep_cause.proofs.Central.{IsReached, reached_none, IsTurn, reached_mo
 use Rattle.cep_cause.proofs.OldRun.{LegalRun}
 
 at_most : (a b : ℕ) → (a ≤ b) ⊎ (b < a)
-at_most a b = ⊎_elim (λ less. inl (omega arith)) (λ rest. ⊎_elim (λ same. inl (omega arith)) (λ more. inr more) rest) (three a b)
+at_most a b = grind arith
 
 fits_or_not : (state : Multiset) → Fits state ⊎ (Fits state → ⊥)
 fits_or_not state =

@@ -40,7 +40,7 @@ record IsLeast (P : Token → Type 0) (tokens : List Token) : Type 0 where
   least : (other : Token) → Contains tokens other → P other → token.number ≤ other.number
 
 at_most : (a b : ℕ) → (a ≤ b) ⊎ (b < a)
-at_most a b = ⊎_elim (λ less. inl (omega arith)) (λ rest. ⊎_elim (λ same. inl (omega arith)) (λ more. inr more) rest) (three a b)
+at_most a b = grind arith
 
 least_or_none : (P : Token → Type 0) → ((token : Token) → P token ⊎ (P token → ⊥)) → (tokens : List Token) → IsLeast P tokens ⊎ ((token : Token) → Contains tokens token → P token → ⊥)
 least_or_none P decides [] = inr (λ token there has. contains_none token there)

@@ -33,10 +33,7 @@ right_by_step rules None = []
 right_by_step rules (Some step) = right_by step.offer.values (slice_get rules step.offer.rule)
 
 last_or : (a b : ℕ) → a < b + 1 → (a < b) ⊎ (b ≡ a)
-last_or zero zero less = inr refl
-last_or zero (suc b) less = inl (omega arith)
-last_or (suc a) zero less = absurd (omega arith)
-last_or (suc a) (suc b) less = ⊎_elim (λ below. inl (omega arith)) (λ same. inr (ap suc same)) (last_or a b (omega arith))
+last_or a b less = grind arith
 
 -- Stages
 

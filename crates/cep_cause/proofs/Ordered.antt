@@ -12,10 +12,7 @@ use Rattle.cep_cause.proofs.Distinct.{Differ, differ_both, weighs_less}
 use Rattle.cep_cause.proofs.Passing.{IsMadeBefore}
 
 pub three : (a b : ℕ) → (a < b) ⊎ ((a ≡ b) ⊎ (b < a))
-three zero zero = inr (inl refl)
-three zero (suc b) = inl (omega arith)
-three (suc a) zero = inr (inr (omega arith))
-three (suc a) (suc b) = ⊎_elim (λ less. inl (omega arith)) (λ rest. ⊎_elim (λ same. inr (inl (ap suc same))) (λ more. inr (inr (omega arith))) rest) (three a b)
+three a b = grind arith
 
 -- a step that touches nothing
 abbrev pub still : Touch

@@ -50,15 +50,7 @@ removed_used signature (premise ∷ premises) (first ∷ tokens) token there = b
 -- a token that is among others has its number there
 pub numbered_there : (tokens : List Token) (token : Token) → Contains tokens token → has_number tokens token.number ≡ true
 numbered_there [] token there = absurd (contains_none token there)
-numbered_there (first ∷ tokens) token there =
-    ⊎_elim
-    (λ same. subst (λ (t : Token). eqb first.number t.number || has_number tokens t.number ≡ true) same (ap (λ t. t || has_number tokens first.number) (eq-eqb first.number first.number refl)))
-    (λ later. by (eqb first.number token.number) (numbered_there tokens token later))
-    (contains_cases first tokens token there)
-  where
-    by : (t : Bool) → has_number tokens token.number ≡ true → (t || has_number tokens token.number) ≡ true
-    by true e = refl
-    by false e = e
+numbered_there (first ∷ tokens) token there = grind (arith, numbered_there tokens token, contains_cases first tokens token)
 
 -- what is removed does not stay
 pub removed_gone : (removed present : List Token) (token : Token) → Contains removed token → Contains (staying removed present) token → ⊥

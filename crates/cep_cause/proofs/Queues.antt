@@ -70,10 +70,7 @@ three_at (first ∷ tokens) (suc place) zero token at less = absurd (omega arith
 three_at (first ∷ tokens) (suc place) (suc other) token at less = three_at tokens place other token at (omega arith)
 
 same_or_more : (a b : ℕ) → a ≤ b → (a ≡ b) ⊎ (a < b)
-same_or_more zero zero less = inl refl
-same_or_more zero (suc b) less = inr (omega arith)
-same_or_more (suc a) zero less = absurd (omega arith)
-same_or_more (suc a) (suc b) less = ⊎_elim (λ same. inl (ap suc same)) (λ more. inr (omega arith)) (same_or_more a b (omega arith))
+same_or_more a b less = grind arith
 
 module _ (laws : BagLaws) (signature : Signature) (values : List Tree) (present : List Token) (rise : NumbersIncrease present) where
   itself : (a : AtomTree) → eq_by_cmp atom_cmp a a ≡ true
@@ -108,10 +105,7 @@ module _ (laws : BagLaws) (signature : Signature) (values : List Tree) (present 
       (below_or_not at.0 (length (queue a used)))
     where
       below_or_not : (a b : ℕ) → (a < b) ⊎ (b ≤ a)
-      below_or_not zero zero = inr (omega arith)
-      below_or_not zero (suc b) = inl (omega arith)
-      below_or_not (suc a) zero = inr (omega arith)
-      below_or_not (suc a) (suc b) = ⊎_elim (λ less. inl (omega arith)) (λ more. inr (omega arith)) (below_or_not a b)
+      below_or_not a b = grind arith
 
   -- One token more is used.
   prefixes_more : (used : List Token) (a : AtomTree) (token : Token) → ArePrefixes used → IsPick signature present used a token → ArePrefixes (token ∷ used)

@@ -40,11 +40,7 @@ numbered_differ next (a ∷ atoms) = (λ there. let few = (made_later (next + 1)
 -- a number that is there is that of a token
 number_of : (tokens : List Token) (n : ℕ) → has_number tokens n ≡ true → (token : Token) × Contains tokens token × (token.number ≡ n)
 number_of [] n is = absurd (false≢true is)
-number_of (first ∷ tokens) n is = by (eqb first.number n) refl is (λ later. number_of tokens n later)
-  where
-    by : (t : Bool) → eqb first.number n ≡ t → (t || has_number tokens n) ≡ true → (has_number tokens n ≡ true → (token : Token) × Contains tokens token × (token.number ≡ n)) → (token : Token) × Contains (first ∷ tokens) token × (token.number ≡ n)
-    by true e is rest = (first, contains_first first tokens, eqb-true first.number n e)
-    by false e is rest = let found = rest is in (found.0, contains_behind first tokens found.0 found.1, found.2)
+number_of (first ∷ tokens) n is = grind (arith, number_of tokens n, contains_first first tokens, contains_behind first tokens)
 
 -- each token that is present stays or is removed
 stays_or_goes : (removed present : List Token) (token : Token) → HaveOneNumber present → ((token : Token) → Contains removed token → Contains present token) → Contains present token → Contains (staying removed present ++ removed) token

@@ -1,5 +1,6 @@
 -- A walk over the steps of a legal log in an order.
 use Rattle.std.proofs.Common.{◌≡◌, ℕ, zero, suc, ◌+◌, ◌-◌, ◌<◌, ◌≤◌, List, [], ◌∷◌, ◌++◌, map, length, take, drop, Some, refl, sym, ap, ◌∙◌, subst, arith, Contains}
+use Rattle.std.proofs.lemmas.Grind.{common_steps}
 use Rattle.std.specs.Prelude.{slice_get, unwrap_or}
 use Rattle.std.proofs.lemmas.List.{map-append}
 use Rattle.cep_base.proofs.Lists.{none_some, some_same, take_next, get_mapped}
@@ -44,9 +45,7 @@ cut_at (first ∷ places) zero place at = ap (λ n. n ∷ places) (some_same fir
 cut_at (first ∷ places) (suc i) place at = ap (λ rest. first ∷ rest) (cut_at places i place at)
 
 prefix_long : (places : List ℕ) (i : ℕ) → i < length places → length (take i places) ≡ i
-prefix_long [] i less = absurd (omega arith)
-prefix_long (first ∷ places) zero less = refl
-prefix_long (first ∷ places) (suc i) less = ap suc (prefix_long places i (omega arith))
+prefix_long places i less = grind (arith, common_steps)
 
 -- one legal step more
 legal_more : (program : Parts) (height : ℕ) (steps : List LogStep) (step : LogStep) (old here new : Spot) → AreLegalSteps program height steps old here → IsLegalStep program height here new step → AreLegalSteps program height (steps ++ (step ∷ [])) old new

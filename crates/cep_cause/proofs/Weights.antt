@@ -24,8 +24,7 @@ use Rattle.cep_cause.proofs.StatesAfter.{sum_at, IsStateAfter}
 use Rattle.cep_cause.proofs.OldRun.{right_by_step, right_by, LegalRun, passed, each_of, takes, adds, IsFamiliar}
 
 pub none_or_some : (n : ℕ) → (n ≡ 0) ⊎ (0 < n)
-none_or_some zero = inl refl
-none_or_some (suc n) = inr (omega arith)
+none_or_some n = grind arith
 
 module _ (laws : CauseLaws) (a : AtomTree) where
   pub own_weight : count_of (gathered (a ∷ [])) a ≡ 1

@@ -27,7 +27,8 @@ StandAt all (place ∷ places) (x ∷ xs) = (slice_get all place ≡ Some x) × 
 abbrev pub with_steps : Log → List LogStep → Log
 with_steps log steps = record log { steps = steps }
 
--- A log is another one renewed in an order: it is a renewal of that log with its steps in the order.
+-- A log is another one renewed in an order: it is a renewal of that log with its steps in the
+-- order.
 pub record IsRenewalIn (program : Parts) (places : List ℕ) (old new : Log) : Type 0 where
   pub steps : List LogStep
   pub stand : StandAt old.steps places steps
@@ -43,13 +44,14 @@ abbrev pub unlisted : LogStep → LogStep
 unlisted step = record step { mid = None }
 
 -- The steps at these places, with no listings.
-pub record AreUnlistedSteps (all : List LogStep) (places : List ℕ) (steps : List LogStep) : Type 0 where
+pub record AreUnlistedSteps (all : List LogStep) (places : List ℕ) (steps : List LogStep)
+    : Type 0 where
   pub listed : List LogStep
   pub stand : StandAt all places listed
   pub unlist : steps ≡ map unlisted listed
 
--- Of steps that are done from a spot on, the one of a number, counted from 1, is the first that leads
--- to a state that does not fit: those before it are legal.
+-- Of steps that are done from a spot on, the one of a number, counted from 1, is the first that
+-- leads to a state that does not fit: those before it are legal.
 pub record IsUnfitAt (program : Parts) (height : ℕ) (old : Spot) (steps : List LogStep)
     (number : ℕ) : Type 0 where
   pub before : List LogStep
@@ -99,8 +101,8 @@ pub record IsTooLongIn (program : Parts) (places : List ℕ) (log : Log) : Type 
   pub renews : IsRenewalIn program places log new
   pub long : MOST_LOG < length (text_of program new)
 
--- What doing a log in an order comes to: its text; or the first step that leads to a state that does
--- not fit, by its number in the order; or that text is too long.
+-- What doing a log in an order comes to: its text; or the first step that leads to a state that
+-- does not fit, by its number in the order; or that text is too long.
 abbrev pub ComesTo : Parts → List ℕ → Log → Reordered → Type 0
 ComesTo program places log (answer.Done text) = IsTextIn program places log text
 ComesTo program places log (answer.Unfit at) = IsUnfitIn program log places at
