@@ -1,0 +1,20 @@
+//! Who caused what in a transcript, and its lawful reorderings.
+//!
+//! The copies that a state is made of are tokens. A step uses tokens, removes some of them and makes
+//! others, and by them it rests on earlier steps. Each order of the steps that respects this leads
+//! to the same last state, if the states on the way fit: `specs/` says what such an order is, and
+//! `laws` that it is so.
+#![tactic(auto)]
+
+mod copying;
+mod going;
+mod graph_of;
+mod in_order;
+pub mod laws;
+mod reordered;
+mod reordering;
+mod unfit;
+
+pub use graph_of::graph;
+pub use reordered::Reordered;
+pub use reordering::again;
