@@ -1,13 +1,16 @@
 -- Flags that are set, counted and listed.
-use Rattle.std.proofs.Common.{◌≡◌, ◌≢◌, ◌↔◌, ◌⊎◌, inl, inr, ⊎_elim, ℕ, zero, suc, ◌+◌, ◌-◌, ◌<◌, ◌≤◌, Bool, true, false, cond, List, [], ◌∷◌, length, get_or, take, set, replicate, refl, sym, ap, ◌∙◌, subst, arith, Contains, add-one, Some}
+use Rattle.std.proofs.Common.{◌≡◌, ◌⊎◌, inl, inr, ⊎_elim, ℕ, zero, suc, ◌+◌, ◌<◌, ◌≤◌, Bool, true, false, cond, List, [], ◌∷◌, length, get_or, take, set, replicate, refl, sym, ap, ◌∙◌, subst, arith, Some}
 use Rattle.std.specs.Prelude.{slice_get, count_by}
-use Rattle.std.specs.List.Sorted.{IsStrictlyIncreasing}
 use Rattle.std.proofs.lemmas.List.{length-take, get_or-take, take-set-le, take-take, take_all, get_or_past}
 use Rattle.std.proofs.lemmas.Bool.{cases_lt, false≢true}
 use Rattle.std.proofs.Math.Seq.{take-set-lt}
 use Rattle.std.proofs.lemmas.List.Sums.{sum_by-set, sum_by-cons, count_by-le-length, sum_by-take-le}
-use Rattle.cep_base.proofs.Elements.{contains_none, contains_cases, contains_same, contains_behind}
-use Rattle.cep_order.specs.Flags.{set_before, places_from, places_of}
+use Rattle.cep_order.specs.Flags.{set_before, places_from}
+
+-- a flag is set or not
+pub on_or_off : (flag : Bool) → (flag ≡ true) ⊎ (flag ≡ false)
+on_or_off true = inl refl
+on_or_off false = inr refl
 
 -- one flag more in front
 one_more : (flag : Bool) (flags : List Bool) (x : ℕ) → set_before (flag ∷ flags) (suc x) ≡ cond flag 1 0 + set_before flags x

@@ -1,7 +1,6 @@
 -- One more step is taken, one more part is begun, and the end.
 use Rattle.std.proofs.Common.{◌≡◌, ◌≢◌, ◌↔◌, ◌⊎◌, inl, inr, ⊎_elim, ℕ, zero, suc, ◌+◌, ◌-◌, ◌<◌, ◌≤◌, Bool, true, false, List, [], ◌∷◌, ◌++◌, length, map, get_or, set, replicate, Some, refl, sym, ap, ◌∙◌, subst, arith, Contains, append_assoc, append-nil, length-set}
 use Rattle.std.specs.Prelude.{slice_get}
-use Rattle.std.specs.List.{AllPairs}
 use Rattle.std.proofs.lemmas.Bool.{cases_lt, cases_eq, false≢true}
 use Rattle.std.proofs.lemmas.List.{get_or-set_same, get_or-set_other, get_or_past, map-append, length-map, get_or-replicate, length-replicate}
 use Rattle.std.proofs.lemmas.List.Elements.{Contains-get_or}
@@ -16,15 +15,11 @@ use Rattle.cep_order.specs.Flags.{places_of}
 use Rattle.cep_order.specs.Orders.{NamesEarlier, IsReadyIn, IsTaken, AreTaken, IsOrderBy, IsEachOnce}
 use Rattle.cep_order.specs.Waits.{times, entries_of, entry_at, waiters_of, AreLinksFor, AreWaitsOf, CanRelease, IsReleased}
 use Rattle.cep_order.specs.Taking.{IsPart, untaken, missing, IsSoFar}
-use Rattle.cep_order.proofs.Flagging.{on_within}
+use Rattle.cep_order.proofs.Flagging.{on_or_off, on_within}
 use Rattle.cep_order.proofs.Listed.{listed, set_there}
 use Rattle.cep_order.proofs.SoFar.{was_taken, known, are_ready, all_taken}
 use Rattle.cep_order.proofs.Times.{some_times, stands_there, once_more_last, no_more_last}
 use Rattle.cep_order.proofs.Untaken.{untaken_push, untaken_at_first, missing_less, times_of_places}
-
-on_or_off : (flag : Bool) → (flag ≡ true) ⊎ (flag ≡ false)
-on_or_off true = inl refl
-on_or_off false = inr refl
 
 module _ (seed : ℕ) (causes : List StepCause) (earlier : NamesEarlier causes) (waits : Waits) (flags : List Bool) (draw : Lcg) (order : List ℕ) (end : ℕ) (is : IsSoFar seed causes waits flags draw order end) where
   module _ (place k : ℕ) (there : slice_get (places_of flags) k ≡ Some place) where

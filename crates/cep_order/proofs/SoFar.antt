@@ -1,30 +1,22 @@
 -- Some steps are taken: which are ready, and one more.
-use Rattle.std.proofs.Common.{◌≡◌, ◌≢◌, ◌↔◌, ◌⊎◌, inl, inr, ⊎_elim, ℕ, zero, suc, ◌+◌, ◌-◌, ◌<◌, ◌≤◌, Bool, true, false, List, [], ◌∷◌, ◌++◌, length, map, get_or, set, Some, refl, sym, ap, ◌∙◌, subst, arith, Contains, append_assoc, append-nil, length-set}
+use Rattle.std.proofs.Common.{◌≡◌, ◌⊎◌, inl, inr, ⊎_elim, ℕ, zero, suc, ◌+◌, ◌-◌, ◌<◌, ◌≤◌, Bool, true, false, List, [], length, get_or, Some, refl, ap, ◌∙◌, subst, arith, Contains}
 use Rattle.std.specs.Prelude.{slice_get}
-use Rattle.std.specs.List.{AllPairs}
-use Rattle.std.proofs.lemmas.Bool.{cases_lt, cases_eq, false≢true}
-use Rattle.std.proofs.lemmas.List.{get_or-set_same, get_or-set_other, get_or_past, map-append, length-map}
-use Rattle.std.proofs.lemmas.List.Elements.{Contains-get_or}
-use Rattle.std.proofs.lemmas.List.Quantifiers.{all_pairs_push}
+use Rattle.std.proofs.lemmas.Bool.{cases_lt, cases_eq}
+use Rattle.std.proofs.lemmas.List.{get_or_past, length-map}
 use Rattle.rand_pcg.specs.Lcg.{Lcg}
-use Rattle.cep_base.proofs.Elements.{all_at, contains_at, contains_none}
-use Rattle.cep_choice.specs.Draws.{generator_behind, place_drawn}
+use Rattle.cep_base.proofs.Elements.{all_at}
 use Rattle.cep_order.specs.declared.step_cause.StepCause.{StepCause}
 use Rattle.cep_order.specs.declared.waits.Waits.{Waits}
 use Rattle.cep_order.specs.Flags.{places_of}
-use Rattle.cep_order.specs.Orders.{NamesEarlier, PrecedesIn, IsReadyIn, AreReady, IsTaken, AreTaken, IsOrderBy, IsEachOnce}
-use Rattle.cep_order.specs.Waits.{times, entries_of, entry_at, waiters_of, AreLinksFor, CanRelease, IsReleased}
-use Rattle.cep_order.specs.Taking.{IsBarrierAt, IsPart, untaken, missing, IsSoFar}
+use Rattle.cep_order.specs.Orders.{NamesEarlier, PrecedesIn, IsReadyIn, AreReady}
+use Rattle.cep_order.specs.Waits.{times, entries_of, entry_at}
+use Rattle.cep_order.specs.Taking.{IsPart, IsSoFar}
 use Rattle.cep_order.proofs.Flagging.{on_within}
 use Rattle.cep_order.proofs.Linking.{found}
 use Rattle.cep_order.proofs.Listed.{listed, set_there, increasing}
 use Rattle.cep_order.proofs.Parts.{entry_is}
-use Rattle.cep_order.proofs.Times.{some_times, stands_there, once_more_last, no_more_last}
-use Rattle.cep_order.proofs.Untaken.{untaken_push, untaken_none, untaken_some, times_of_places, missing_less}
-
-on_or_off : (flag : Bool) → (flag ≡ true) ⊎ (flag ≡ false)
-on_or_off true = inl refl
-on_or_off false = inr refl
+use Rattle.cep_order.proofs.Times.{some_times, stands_there}
+use Rattle.cep_order.proofs.Untaken.{untaken_none, untaken_some, times_of_places}
 
 module _ (seed : ℕ) (causes : List StepCause) (earlier : NamesEarlier causes) (waits : Waits) (flags : List Bool) (draw : Lcg) (order : List ℕ) (end : ℕ) (is : IsSoFar seed causes waits flags draw order end) where
   pub was_taken : (place : ℕ) → Contains is.taken place → 0 < times (place + 1) order

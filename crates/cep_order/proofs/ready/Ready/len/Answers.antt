@@ -1,4 +1,4 @@
-use Rattle.std.proofs.Common.{◌≡◌, Bool, List, length, ap, sym, ◌∙◌, arith, rules}
+use Rattle.std.proofs.Common.{Bool, List, length, ap, sym, ◌∙◌, arith}
 use Rattle.std.proofs.lemmas.Nat.{pow_pos}
 use Rattle.std.proofs.lemmas.List.{get_or_read}
 use Rattle.cep_order.specs.Flags.{places_of}
