@@ -28,3 +28,9 @@ IsTree flags counts height = IsNearly flags counts height 0 0 0
 pub record IsLeafOf (flags : List Bool) (counts : List ℕ) (height k leaf left : ℕ) : Type 0 where
   pub before : set_before flags ((leaf - 2 ^ height) * 64) + left ≡ k
   pub within : left < slice_index counts leaf
+
+-- whatever the flags of the tree are, this is the leaf of the one before which k are set
+abbrev pub FindsLeaf : List ℕ → ℕ → ℕ → ℕ → ℕ → Type 0
+FindsLeaf counts height k leaf left =
+    (flags : List Bool) → IsTree flags counts height → k < set_before flags (length flags)
+    → IsLeafOf flags counts height k leaf left

@@ -20,6 +20,13 @@ pub record IsPart (causes : List StepCause) (from end : ℕ) : Type 0 where
   pub by_itself : (place : ℕ) → from ≤ place → place < end → IsBarrierAt causes place → (place ≡ from) × (end ≡ from + 1)
   pub stops : end < length causes → IsBarrierAt causes from ⊎ IsBarrierAt causes end
 
+-- Of the steps of a part those that wait for none become ready.
+abbrev pub BecomeReady : List ℕ → ℕ → ℕ → List Bool → List Bool → Type 0
+BecomeReady left from end was now =
+    (step : ℕ) → ((slice_index_or now step false ≡ true)
+    ↔ ((slice_index_or was step false ≡ true)
+    ⊎ ((from ≤ step) × (step < end) × (slice_index left step ≡ 0))))
+
 -- how many of the numbers are not in the order yet
 abbrev pub untaken : List ℕ → List ℕ → ℕ
 untaken order numbers = count_by (λ number. times number order == 0) numbers

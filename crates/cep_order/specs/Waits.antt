@@ -1,6 +1,6 @@
 -- Private.
 -- Which steps wait for which, by links.
-use Rattle.std.specs.Prelude.{◌≡◌, ◌↔◌, ◌⊎◌, ℕ, zero, suc, ◌+◌, ◌-◌, ◌<◌, ◌≤◌, ◌==◌, Bool, true, false, cond, List, [], ◌∷◌, length, map, count_by, Option, Some, None, slice_get, slice_index, slice_index_or}
+use Rattle.std.specs.Prelude.{◌≡◌, ◌↔◌, ◌⊎◌, ℕ, zero, suc, ◌+◌, ◌-◌, ◌<◌, ◌≤◌, ◌==◌, Bool, true, false, cond, List, [], ◌∷◌, ◌++◌, length, map, count_by, Option, Some, None, slice_get, slice_index, slice_index_or}
 use Rattle.cep_order.specs.declared.step_cause.StepCause.{StepCause}
 use Rattle.cep_order.specs.declared.waits.Link.{Link}
 use Rattle.cep_order.specs.declared.waits.Waits.{Waits}
@@ -44,6 +44,12 @@ pub record AreLinks (begins : List ℕ) (links : List Link) : Type 0 where
 pub record AreLinksFor (entries : List (List ℕ)) (begins : List ℕ) (links : List Link) : Type 0 where
   pub lead : AreLinks begins links
   pub each : (place step : ℕ) → place < length begins → times step (linked_from links (slice_index begins place)) ≡ times (place + 1) (entry_at entries step)
+
+-- Links are added for the entry of a step, which comes after these.
+abbrev pub AddsLinks : ℕ → List ℕ → List ℕ → List Link → List ℕ → List Link → Type 0
+AddsLinks step numbers begins links begins' links' =
+    (entries : List (List ℕ)) → length entries ≡ step → AreLinksFor entries begins links
+    → AreLinksFor (entries ++ numbers ∷ []) begins' links'
 
 -- No step is taken: each waits for all that its entry names.
 pub record AreWaitsOf (causes : List StepCause) (waits : Waits) : Type 0 where
