@@ -22,10 +22,12 @@ abbrev pub follow : Option Link → (ℕ → List ℕ) → List ℕ
 follow None rest = []
 follow (Some link) rest = link.step ∷ rest link.next
 
--- the steps of at most so many links, from one on; links go by one more than their places, and 0 is none
+-- the steps of at most so many links, from one on; links go by one more than their places, and 0 is
+-- none
 abbrev pub chain : ℕ → List Link → ℕ → List ℕ
 chain zero links from = []
-chain (suc most) links from = cond (from == 0) [] (follow (slice_get links (from - 1)) (chain most links))
+chain (suc most) links from =
+    cond (from == 0) [] (follow (slice_get links (from - 1)) (chain most links))
 
 -- the steps of all links from one on, which lead back to earlier ones
 abbrev pub linked_from : List Link → ℕ → List ℕ
@@ -41,9 +43,12 @@ pub record AreLinks (begins : List ℕ) (links : List Link) : Type 0 where
   pub back : (place : ℕ) (link : Link) → slice_get links place ≡ Some link → link.next ≤ place
 
 -- Of each place the links are those of the entries with its number.
-pub record AreLinksFor (entries : List (List ℕ)) (begins : List ℕ) (links : List Link) : Type 0 where
+pub record AreLinksFor (entries : List (List ℕ)) (begins : List ℕ) (links : List Link)
+    : Type 0 where
   pub lead : AreLinks begins links
-  pub each : (place step : ℕ) → place < length begins → times step (linked_from links (slice_index begins place)) ≡ times (place + 1) (entry_at entries step)
+  pub each : (place step : ℕ) → place < length begins
+      → times step (linked_from links (slice_index begins place))
+      ≡ times (place + 1) (entry_at entries step)
 
 -- Links are added for the entry of a step, which comes after these.
 abbrev pub AddsLinks : ℕ → List ℕ → List ℕ → List Link → List ℕ → List Link → Type 0
@@ -63,14 +68,20 @@ pub record CanRelease (waits : Waits) (flags : List Bool) (place : ℕ) : Type 0
   pub within : place < length waits.begins.items
   pub room : length flags ≡ length waits.left.items
   pub few : (step : ℕ) → times step (waiters_of waits place) ≤ slice_index waits.left.items step
-  pub apart : (step : ℕ) → 0 < times step (waiters_of waits place) → slice_index_or flags step false ≡ false
+  pub apart : (step : ℕ) → 0 < times step (waiters_of waits place)
+      → slice_index_or flags step false ≡ false
 
--- A step is released: those that wait for it wait for it no more, and where they wait for none, and stand before the end, they are ready.
+-- A step is released: those that wait for it wait for it no more, and where they wait for none, and
+-- stand before the end, they are ready.
 pub record IsReleased (old new : Waits) (was now : List Bool) (place end : ℕ) : Type 0 where
   pub begins : new.begins.items ≡ old.begins.items
   pub links : new.links.items ≡ old.links.items
   pub long : length new.left.items ≡ length old.left.items
   pub room : length now ≡ length was
-  pub left : (step : ℕ) → slice_index new.left.items step + times step (waiters_of old place) ≡ slice_index old.left.items step
+  pub left : (step : ℕ)
+      → slice_index new.left.items step + times step (waiters_of old place)
+      ≡ slice_index old.left.items step
   pub ready : (step : ℕ) → ((slice_index_or now step false ≡ true) ↔
-      ((slice_index_or was step false ≡ true) ⊎ ((0 < times step (waiters_of old place)) × (step < end) × (slice_index new.left.items step ≡ 0))))
+      ((slice_index_or was step false ≡ true)
+      ⊎ ((0 < times step (waiters_of old place)) × (step < end)
+      × (slice_index new.left.items step ≡ 0))))

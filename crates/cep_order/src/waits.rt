@@ -84,7 +84,8 @@ fn link_all(
 ) -> Result<(), AllocError>
     requires { AllByRecursion (λ number. (0 < number) × (number ≤ length begins.old)) numbers.now }
     ensures few { OnOk result (length numbers.now < 2 ^ 32) }
-    ensures links { OnOk result (AddsLinks step numbers.now begins.old links.old.items begins.new links.new.items) }
+    ensures links { OnOk result
+        (AddsLinks step numbers.now begins.old links.old.items begins.new links.new.items) }
 {
     for number in numbers {
         let earlier = *number as usize - 1;

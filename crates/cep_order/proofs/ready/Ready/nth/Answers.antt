@@ -26,7 +26,7 @@ module _ (now flags read : List Bool) (counts : List ℕ) (height k leaf left si
       subst (λ (fs : List Bool). slice_get (places_of fs) k ≡ Some place) view (ap (slice_get (places_of flags)) (sym at) ∙ there ∙ ap Some (omega arith))
 
 pub overflow_mul-leaf : goal.overflow_mul-leaf
-overflow_mul-leaf c = omega (arith, c.leaf_of-leaf.ensures.within, c.deref.ensures.value, ap length c.deref.ensures.value, c.self.invariant.size, c.self.invariant.few_leaves)
+overflow_mul-leaf c = omega (arith, c.leaf_of-leaf.ensures.within, ap length c.deref.ensures.value, c.self.invariant.size, c.self.invariant.few_leaves)
 
 pub place_in-requires : goal.place_in-requires
 place_in-requires c =

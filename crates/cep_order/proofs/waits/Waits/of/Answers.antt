@@ -32,7 +32,7 @@ link_all-requires c =
     let at = c.loop-step in
     let cause = c.index-causes-step.result in
     let all = c.requires.earlier at.step cause (slice_get-get_or c.args.causes.now at.step cause c.loop-step-test.true ∙ ap Some (sym c.index-causes-step.is)) in
-    rw c.as_slice-numbers.ensures (all_weaker _ _ cause.after (λ number bounds. (bounds.0, omega (arith, bounds.1, c.deref_mut.ensures.value, ap (λ (b : List ℕ). length b) c.deref_mut.ensures.value, at.invariant.long, c.loop-step-test.true))) all)
+    rw c.as_slice-numbers.ensures (all_weaker _ _ cause.after (λ number bounds. (bounds.0, omega (arith, bounds.1, ap (λ (b : List ℕ). length b) c.deref_mut.ensures.value, at.invariant.long, c.loop-step-test.true))) all)
 
 pub loop-step-preserved : goal.loop-step-preserved
 loop-step-preserved c =
