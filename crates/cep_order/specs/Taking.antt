@@ -7,7 +7,7 @@ use Rattle.cep_choice.specs.Draws.{generator_behind}
 use Rattle.cep_order.specs.declared.step_cause.StepCause.{StepCause}
 use Rattle.cep_order.specs.declared.waits.Waits.{Waits}
 use Rattle.cep_order.specs.Orders.{AreTaken}
-use Rattle.cep_order.specs.Waits.{times, entries_of, entry_at, AreLinksFor}
+use Rattle.cep_order.specs.Waits.{times, all_entries, entry_at, AreLinksFor}
 
 -- the step at a place is a barrier
 abbrev pub IsBarrierAt : List StepCause → ℕ → Type 0
@@ -50,12 +50,12 @@ pub record IsSoFar (seed : ℕ) (causes : List StepCause) (waits : Waits) (flags
   pub draws : draw ≡ generator_behind seed drawn
   pub goes_on : (rest : List ℕ) → AreTaken seed causes drawn taken rest
       → AreTaken seed causes 0 [] (taken ++ rest)
-  pub links : AreLinksFor (entries_of causes) waits.begins.items waits.links.items
+  pub links : AreLinksFor (all_entries causes) waits.begins.items waits.links.items
   pub long_begins : length waits.begins.items ≡ length causes
   pub long_left : length waits.left.items ≡ length causes
   pub room : length flags ≡ length causes
   pub left : (step : ℕ)
-      → slice_index waits.left.items step ≡ untaken order (entry_at (entries_of causes) step)
+      → slice_index waits.left.items step ≡ untaken order (entry_at (all_entries causes) step)
   pub ready : (step : ℕ) → ((slice_index_or flags step false ≡ true)
       ↔ ((step < end) × (times (step + 1) order ≡ 0) × (slice_index waits.left.items step ≡ 0)))
   pub closed : (step : ℕ) → 0 < times (step + 1) order → slice_index waits.left.items step ≡ 0

@@ -10,8 +10,8 @@ abbrev pub times : ℕ → List ℕ → ℕ
 times number numbers = count_by (λ other. other == number) numbers
 
 -- the numbers in each entry
-abbrev pub entries_of : List StepCause → List (List ℕ)
-entries_of causes = map (λ cause. cause.after) causes
+abbrev pub all_entries : List StepCause → List (List ℕ)
+all_entries causes = map (λ cause. cause.after) causes
 
 -- the entry at a place
 abbrev pub entry_at : List (List ℕ) → ℕ → List ℕ
@@ -58,9 +58,9 @@ AddsLinks step numbers begins links begins' links' =
 
 -- No step is taken: each waits for all that its entry names.
 pub record AreWaitsOf (causes : List StepCause) (waits : Waits) : Type 0 where
-  pub links : AreLinksFor (entries_of causes) waits.begins.items waits.links.items
+  pub links : AreLinksFor (all_entries causes) waits.begins.items waits.links.items
   pub long : length waits.begins.items ≡ length causes
-  pub left : waits.left.items ≡ map length (entries_of causes)
+  pub left : waits.left.items ≡ map length (all_entries causes)
 
 -- A step can be released: those that wait for it do so still, and none of them is ready.
 pub record CanRelease (waits : Waits) (flags : List Bool) (place : ℕ) : Type 0 where

@@ -1,5 +1,5 @@
 ghost use Rattle.std.specs.Prelude.{◌≡◌, ◌+◌, ◌*◌, ◌^◌, ◌<◌, ◌≤◌, true, false, Some, length, slice_get, slice_set, slice_index_or, replicate, IfOk};
-ghost use Rattle.cep_order.specs.Flags.{places_of, set_before};
+ghost use Rattle.cep_order.specs.Flags.{set_places, set_before};
 ghost use Rattle.cep_order.specs.Counts.{FindsLeaf};
 
 use cep_base::limits::MOST_LOG;
@@ -54,15 +54,15 @@ impl Ready {
 
     /// How many are ready.
     pub fn len(&self) -> u32
-        ensures { result ≡ length (places_of self.now) }
+        ensures { result ≡ length (set_places self.now) }
     {
         self.counts[1]
     }
 
     /// The one with so many ready ones before it.
     pub fn nth(&self, k: u32) -> usize
-        requires { k < length (places_of self.now) }
-        ensures { slice_get (places_of self.now) k ≡ Some result }
+        requires { k < length (set_places self.now) }
+        ensures { slice_get (set_places self.now) k ≡ Some result }
     {
         let (leaf, left) = leaf_of(&self.counts, self.height, k);
         place_in(&self.flags, (leaf - self.counts.len() / 2) * BLOCK, left)

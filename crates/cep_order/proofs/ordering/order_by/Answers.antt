@@ -1,6 +1,6 @@
 use Rattle.std.proofs.Common.{◌≡◌, ℕ, ◌<◌, Bool, List, length, sym, ap, subst, arith}
 use Rattle.cep_order.specs.declared.step_cause.StepCause.{StepCause}
-use Rattle.cep_order.specs.Flags.{places_of}
+use Rattle.cep_order.specs.Flags.{set_places}
 use Rattle.cep_order.specs.Orders.{NamesEarlier, IsOrderBy, IsEachOnce}
 use Rattle.cep_order.specs.Waits.{CanRelease, IsReleased}
 use Rattle.cep_order.specs.Taking.{missing, IsSoFar}
@@ -61,7 +61,7 @@ make_ready-requires-clause-apart c step late =
     let at = c.loop-ready in
     let entries = c.as_slice-entries.result.now in
     let earlier = subst (λ (cs : List StepCause). NamesEarlier cs) (sym c.as_slice-entries.ensures) c.requires.earlier in
-    let empty : length (places_of at.ready) ≡ 0 = omega (arith, c.len-count.ensures, c.if-count-gt0.false) in
+    let empty : length (set_places at.ready) ≡ 0 = omega (arith, c.len-count.ensures, c.if-count-gt0.false) in
     none_flagged c.args.seed entries earlier at.waits at.ready at.draw at.order at.end at.invariant empty step
 
 pub loop-ready-smaller : goal.loop-ready-smaller
@@ -76,7 +76,7 @@ loop-ready-preserved c =
     let at = c.loop-ready in
     let entries = c.as_slice-entries.result.now in
     let earlier = subst (λ (cs : List StepCause). NamesEarlier cs) (sym c.as_slice-entries.ensures) c.requires.earlier in
-    let empty : length (places_of at.ready) ≡ 0 = omega (arith, c.len-count.ensures, c.if-count-gt0.false) in
+    let empty : length (set_places at.ready) ≡ 0 = omega (arith, c.len-count.ensures, c.if-count-gt0.false) in
     next_part c.args.seed entries earlier at.waits at.ready at.draw at.order at.end at.invariant empty c.make_ready.new.ready c.part_end-end.result c.part_end-end.ensures c.make_ready.ensures.room c.make_ready.ensures.ready
 
 pub returns-else-end-entries-clause-order : goal.returns-else-end-entries-clause-order
@@ -84,7 +84,7 @@ returns-else-end-entries-clause-order c =
     let at = c.loop-ready in
     let entries = c.as_slice-entries.result.now in
     let earlier = subst (λ (cs : List StepCause). NamesEarlier cs) (sym c.as_slice-entries.ensures) c.requires.earlier in
-    let empty : length (places_of at.ready) ≡ 0 = omega (arith, c.len-count.ensures, c.if-count-gt0.false) in
+    let empty : length (set_places at.ready) ≡ 0 = omega (arith, c.len-count.ensures, c.if-count-gt0.false) in
     subst (λ (cs : List StepCause). IsOrderBy c.args.seed cs at.order) c.as_slice-entries.ensures (ordered c.args.seed entries earlier at.waits at.ready at.draw at.order at.end at.invariant empty c.if-end-entries.false)
 
 pub returns-else-end-entries-clause-once : goal.returns-else-end-entries-clause-once
@@ -92,5 +92,5 @@ returns-else-end-entries-clause-once c =
     let at = c.loop-ready in
     let entries = c.as_slice-entries.result.now in
     let earlier = subst (λ (cs : List StepCause). NamesEarlier cs) (sym c.as_slice-entries.ensures) c.requires.earlier in
-    let empty : length (places_of at.ready) ≡ 0 = omega (arith, c.len-count.ensures, c.if-count-gt0.false) in
+    let empty : length (set_places at.ready) ≡ 0 = omega (arith, c.len-count.ensures, c.if-count-gt0.false) in
     subst (λ (cs : List StepCause). IsEachOnce (length cs) at.order) c.as_slice-entries.ensures (each_once c.args.seed entries earlier at.waits at.ready at.draw at.order at.end at.invariant empty c.if-end-entries.false)
