@@ -8,13 +8,11 @@
 
 mod copying;
 mod going;
-mod graph_of;
 mod in_order;
 pub mod laws;
 mod reordered;
 mod reordering;
 mod unfit;
 
-pub use graph_of::graph;
 pub use reordered::Reordered;
 pub use reordering::again;

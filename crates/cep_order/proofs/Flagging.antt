@@ -1,13 +1,16 @@
 -- Flags that are set, counted and listed.
-use Rattle.std.proofs.Common.{◌≡◌, ◌≢◌, ◌↔◌, ◌⊎◌, inl, inr, ⊎_elim, ℕ, zero, suc, ◌+◌, ◌-◌, ◌<◌, ◌≤◌, Bool, true, false, cond, List, [], ◌∷◌, length, get_or, take, set, replicate, refl, sym, ap, ◌∙◌, subst, arith, Contains, add-one, Some}
+use Rattle.std.proofs.Common.{◌≡◌, ◌⊎◌, inl, inr, ⊎_elim, ℕ, zero, suc, ◌+◌, ◌<◌, ◌≤◌, Bool, true, false, cond, List, [], ◌∷◌, length, get_or, take, set, replicate, refl, sym, ap, ◌∙◌, subst, arith, Some}
 use Rattle.std.specs.Prelude.{slice_get, count_by}
-use Rattle.std.specs.List.Sorted.{IsStrictlyIncreasing}
 use Rattle.std.proofs.lemmas.List.{length-take, get_or-take, take-set-le, take-take, take_all, get_or_past}
 use Rattle.std.proofs.lemmas.Bool.{cases_lt, false≢true}
 use Rattle.std.proofs.Math.Seq.{take-set-lt}
 use Rattle.std.proofs.lemmas.List.Sums.{sum_by-set, sum_by-cons, count_by-le-length, sum_by-take-le}
-use Rattle.cep_base.proofs.Elements.{contains_none, contains_cases, contains_same, contains_behind}
-use Rattle.cep_order.specs.Flags.{set_before, places_from, places_of}
+use Rattle.cep_order.specs.Flags.{set_before, set_places_from}
+
+-- a flag is set or not
+pub on_or_off : (flag : Bool) → (flag ≡ true) ⊎ (flag ≡ false)
+on_or_off true = inl refl
+on_or_off false = inr refl
 
 -- one flag more in front
 one_more : (flag : Bool) (flags : List Bool) (x : ℕ) → set_before (flag ∷ flags) (suc x) ≡ cond flag 1 0 + set_before flags x
@@ -49,19 +52,19 @@ pub all_before : (flags : List Bool) (x : ℕ) → length flags ≤ x → set_be
 all_before flags x beyond = ap (count_by (λ f. f)) (take_all x flags beyond ∙ sym (take_all (length flags) flags (omega arith)))
 
 -- as many places as flags that are set
-pub as_many : (from : ℕ) (flags : List Bool) → length (places_from from flags) ≡ set_before flags (length flags)
+pub as_many : (from : ℕ) (flags : List Bool) → length (set_places_from from flags) ≡ set_before flags (length flags)
 as_many from [] = refl
 as_many from (true ∷ flags) = omega (arith, one_more true flags (length flags), as_many (from + 1) flags)
 as_many from (false ∷ flags) = omega (arith, one_more false flags (length flags), as_many (from + 1) flags)
 
 -- A flag that is set stands in the list of places, after those before it.
-pub place_found : (from : ℕ) (flags : List Bool) (place : ℕ) → get_or flags place false ≡ true → slice_get (places_from from flags) (set_before flags place) ≡ Some (from + place)
+pub place_found : (from : ℕ) (flags : List Bool) (place : ℕ) → get_or flags place false ≡ true → slice_get (set_places_from from flags) (set_before flags place) ≡ Some (from + place)
 place_found from [] place on = absurd (cc)
 place_found from (true ∷ flags) zero on = ap Some (omega arith)
 place_found from (true ∷ flags) (suc place) on =
     let more : set_before (true ∷ flags) (suc place) ≡ suc (set_before flags place) = omega (arith, one_more true flags place) in
-    subst (λ n. slice_get (from ∷ places_from (from + 1) flags) n ≡ Some (from + suc place)) (sym more) (place_found (from + 1) flags place on ∙ ap Some (omega arith))
+    subst (λ n. slice_get (from ∷ set_places_from (from + 1) flags) n ≡ Some (from + suc place)) (sym more) (place_found (from + 1) flags place on ∙ ap Some (omega arith))
 place_found from (false ∷ flags) zero on = absurd (cc)
 place_found from (false ∷ flags) (suc place) on =
     let same : set_before (false ∷ flags) (suc place) ≡ set_before flags place = omega (arith, one_more false flags place) in
-    subst (λ n. slice_get (places_from (from + 1) flags) n ≡ Some (from + suc place)) (sym same) (place_found (from + 1) flags place on ∙ ap Some (omega arith))
+    subst (λ n. slice_get (set_places_from (from + 1) flags) n ≡ Some (from + suc place)) (sym same) (place_found (from + 1) flags place on ∙ ap Some (omega arith))

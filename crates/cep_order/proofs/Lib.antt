@@ -8,3 +8,4 @@ mod Listed
 mod Untaken
 mod SoFar
 mod OneMore
+mod OneOrder

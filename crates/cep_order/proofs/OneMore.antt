@@ -1,7 +1,6 @@
 -- One more step is taken, one more part is begun, and the end.
 use Rattle.std.proofs.Common.{◌≡◌, ◌≢◌, ◌↔◌, ◌⊎◌, inl, inr, ⊎_elim, ℕ, zero, suc, ◌+◌, ◌-◌, ◌<◌, ◌≤◌, Bool, true, false, List, [], ◌∷◌, ◌++◌, length, map, get_or, set, replicate, Some, refl, sym, ap, ◌∙◌, subst, arith, Contains, append_assoc, append-nil, length-set}
 use Rattle.std.specs.Prelude.{slice_get}
-use Rattle.std.specs.List.{AllPairs}
 use Rattle.std.proofs.lemmas.Bool.{cases_lt, cases_eq, false≢true}
 use Rattle.std.proofs.lemmas.List.{get_or-set_same, get_or-set_other, get_or_past, map-append, length-map, get_or-replicate, length-replicate}
 use Rattle.std.proofs.lemmas.List.Elements.{Contains-get_or}
@@ -12,24 +11,20 @@ use Rattle.cep_choice.specs.Draws.{generator_behind, place_drawn}
 use Rattle.cep_order.specs.declared.step_cause.StepCause.{StepCause}
 use Rattle.cep_order.specs.declared.waits.Link.{Link}
 use Rattle.cep_order.specs.declared.waits.Waits.{Waits}
-use Rattle.cep_order.specs.Flags.{places_of}
+use Rattle.cep_order.specs.Flags.{set_places}
 use Rattle.cep_order.specs.Orders.{NamesEarlier, IsReadyIn, IsTaken, AreTaken, IsOrderBy, IsEachOnce}
-use Rattle.cep_order.specs.Waits.{times, entries_of, entry_at, waiters_of, AreLinksFor, AreWaitsOf, CanRelease, IsReleased}
+use Rattle.cep_order.specs.Waits.{times, all_entries, entry_at, waiters_of, AreLinksFor, AreWaitsOf, CanRelease, IsReleased}
 use Rattle.cep_order.specs.Taking.{IsPart, untaken, missing, IsSoFar}
-use Rattle.cep_order.proofs.Flagging.{on_within}
+use Rattle.cep_order.proofs.Flagging.{on_or_off, on_within}
 use Rattle.cep_order.proofs.Listed.{listed, set_there}
 use Rattle.cep_order.proofs.SoFar.{was_taken, known, are_ready, all_taken}
 use Rattle.cep_order.proofs.Times.{some_times, stands_there, once_more_last, no_more_last}
 use Rattle.cep_order.proofs.Untaken.{untaken_push, untaken_at_first, missing_less, times_of_places}
 
-on_or_off : (flag : Bool) → (flag ≡ true) ⊎ (flag ≡ false)
-on_or_off true = inl refl
-on_or_off false = inr refl
-
 module _ (seed : ℕ) (causes : List StepCause) (earlier : NamesEarlier causes) (waits : Waits) (flags : List Bool) (draw : Lcg) (order : List ℕ) (end : ℕ) (is : IsSoFar seed causes waits flags draw order end) where
-  module _ (place k : ℕ) (there : slice_get (places_of flags) k ≡ Some place) where
+  module _ (place k : ℕ) (there : slice_get (set_places flags) k ≡ Some place) where
     pub on : get_or flags place false ≡ true
-    on = set_there flags place (contains_at (places_of flags) k place there)
+    on = set_there flags place (contains_at (set_places flags) k place there)
 
     facts : (place < end) × (times (place + 1) order ≡ 0) × (get_or waits.left.items place 0 ≡ 0)
     facts = known seed causes earlier waits flags draw order end is place on
@@ -43,11 +38,11 @@ module _ (seed : ℕ) (causes : List StepCause) (earlier : NamesEarlier causes) 
     as_before : (step : ℕ) → step ≢ place → get_or (set flags place false) step false ≡ get_or flags step false
     as_before step apart = get_or-set_other flags place step false false apart
 
-    waiting : (step : ℕ) → times step (waiters_of waits place) ≡ times (place + 1) (entry_at (entries_of causes) step)
+    waiting : (step : ℕ) → times step (waiters_of waits place) ≡ times (place + 1) (entry_at (all_entries causes) step)
     waiting step = is.links.each place step (omega (arith, is_step, is.long_begins))
 
-    left_then : (step : ℕ) → get_or waits.left.items step 0 ≡ untaken (order ++ (place + 1) ∷ []) (entry_at (entries_of causes) step) + times step (waiters_of waits place)
-    left_then step = omega (arith, is.left step, untaken_push order (place + 1) (entry_at (entries_of causes) step) facts.1, waiting step)
+    left_then : (step : ℕ) → get_or waits.left.items step 0 ≡ untaken (order ++ (place + 1) ∷ []) (entry_at (all_entries causes) step) + times step (waiters_of waits place)
+    left_then step = omega (arith, is.left step, untaken_push order (place + 1) (entry_at (all_entries causes) step) facts.1, waiting step)
 
     pub can_release : CanRelease waits (set flags place false) place
     can_release = record {
@@ -67,7 +62,7 @@ module _ (seed : ℕ) (causes : List StepCause) (earlier : NamesEarlier causes) 
     fewer_missing = omega (arith, missing_less (length causes) (place + 1) order (omega arith) (omega (arith, is_step)) facts.1)
 
     -- What is drawn.
-    module _ (count drawn_place : ℕ) (draw' : Lcg) (is_count : count ≡ length (places_of flags)) (some : 0 < count) (is_place : k + 1 ≡ drawn_place)
+    module _ (count drawn_place : ℕ) (draw' : Lcg) (is_count : count ≡ length (set_places flags)) (some : 0 < count) (is_place : k + 1 ≡ drawn_place)
         (lone : count ≡ 1 → (drawn_place ≡ 1) × (draw' ≡ draw))
         (several : 1 < count → (s d : ℕ) → draw ≡ generator_behind s d → (drawn_place ≡ place_drawn s d count) × (draw' ≡ generator_behind s (d + 1))) where
       pub taken_next : (drawn' : ℕ) × IsTaken seed causes is.drawn is.taken place drawn' × (draw' ≡ generator_behind seed drawn')
@@ -76,13 +71,13 @@ module _ (seed : ℕ) (causes : List StepCause) (earlier : NamesEarlier causes) 
           ⊎_elim
           (λ one. (
             is.drawn,
-            record { ready = places_of flags; are = are; at = k; there = there; lone = λ same. refl; several = λ more. absurd (omega (arith, more, one, is_count)) },
+            record { ready = set_places flags; are = are; at = k; there = there; lone = λ same. refl; several = λ more. absurd (omega (arith, more, one, is_count)) },
             (lone one).1 ∙ is.draws,
           ))
           (λ more. let drawn = several (omega arith) seed is.drawn is.draws in (
             is.drawn + 1,
             record {
-              ready = places_of flags;
+              ready = set_places flags;
               are = are;
               at = k;
               there = there;
@@ -105,7 +100,7 @@ module _ (seed : ℕ) (causes : List StepCause) (earlier : NamesEarlier causes) 
       still : (step : ℕ) → 0 < times (step + 1) order → 0 < times (step + 1) (order ++ (place + 1) ∷ [])
       still step some = ⊎_elim (λ here. omega (arith, now_taken, ap (λ n. times (n + 1) (order ++ (place + 1) ∷ [])) here)) (λ apart. omega (arith, others step apart, some)) (cases_eq step place)
 
-      left' : (step : ℕ) → get_or waits'.left.items step 0 ≡ untaken (order ++ (place + 1) ∷ []) (entry_at (entries_of causes) step)
+      left' : (step : ℕ) → get_or waits'.left.items step 0 ≡ untaken (order ++ (place + 1) ∷ []) (entry_at (all_entries causes) step)
       left' step = omega (arith, left_then step, released.left step)
 
       none_left : (step : ℕ) → get_or waits.left.items step 0 ≡ 0 → (get_or waits'.left.items step 0 ≡ 0) × (times step (waiters_of waits place) ≡ 0)
@@ -148,7 +143,7 @@ module _ (seed : ℕ) (causes : List StepCause) (earlier : NamesEarlier causes) 
         once = all_pairs_push (λ one later. ¬ (one ≡ later)) order (place + 1) is.once (λ i d within same. omega (arith, some_times (place + 1) order (subst (λ n. Contains order n) same (Contains-get_or order i d within)), facts.1));
         draws = next.2;
         goes_on = λ rest are. subst (λ (all : List ℕ). AreTaken seed causes 0 [] all) (sym (append_assoc is.taken (place ∷ []) rest)) (is.goes_on (place ∷ rest) (next.0, next.1, are));
-        links = subst (λ (b : List ℕ). AreLinksFor (entries_of causes) b waits'.links.items) (sym released.begins) (subst (λ (l : List Link). AreLinksFor (entries_of causes) waits.begins.items l) (sym released.links) is.links);
+        links = subst (λ (b : List ℕ). AreLinksFor (all_entries causes) b waits'.links.items) (sym released.begins) (subst (λ (l : List Link). AreLinksFor (all_entries causes) waits.begins.items l) (sym released.links) is.links);
         long_begins = ap (λ (b : List ℕ). length b) released.begins ∙ is.long_begins;
         long_left = released.long ∙ is.long_left;
         room = released.room ∙ length-set flags place false ∙ is.room;
@@ -166,7 +161,7 @@ module _ (seed : ℕ) (causes : List StepCause) (earlier : NamesEarlier causes) 
       }
 
   -- None is ready.
-  module _ (empty : length (places_of flags) ≡ 0) where
+  module _ (empty : length (set_places flags) ≡ 0) where
     none_set : (place : ℕ) → get_or flags place false ≡ true → ⊥
     none_set place set = let there = listed flags place set in omega (arith, there.1, empty)
 
@@ -254,9 +249,9 @@ none_taken seed causes waits flags draw order are is_flags is_draw is_order =
       goes_on = λ rest taken. taken;
       links = are.links;
       long_begins = are.long;
-      long_left = ap (λ (l : List ℕ). length l) are.left ∙ length-map (entries_of causes) length ∙ length-map causes (λ (c : StepCause). c.after);
+      long_left = ap (λ (l : List ℕ). length l) are.left ∙ length-map (all_entries causes) length ∙ length-map causes (λ (c : StepCause). c.after);
       room = ap (λ (fs : List Bool). length fs) is_flags ∙ length-replicate (length causes) false;
-      left = λ step. ap (λ (l : List ℕ). get_or l step 0) are.left ∙ left_at (entries_of causes) step ∙ sym (untaken_at_first (entry_at (entries_of causes) step)) ∙ ap (λ (o : List ℕ). untaken o (entry_at (entries_of causes) step)) (sym is_order);
+      left = λ step. ap (λ (l : List ℕ). get_or l step 0) are.left ∙ left_at (all_entries causes) step ∙ sym (untaken_at_first (entry_at (all_entries causes) step)) ∙ ap (λ (o : List ℕ). untaken o (entry_at (all_entries causes) step)) (sym is_order);
       ready = λ step. (λ set. absurd (false≢true (sym (off step) ∙ set)), λ free. absurd (omega (arith, free.0)));
       closed = λ step some. absurd (omega (arith, some, none (step + 1)));
       not_after = λ step some. absurd (omega (arith, some, none (step + 1)));

@@ -1,11 +1,11 @@
 -- Entries and barriers at places.
-use Rattle.std.proofs.Common.{◌≡◌, ℕ, zero, suc, ◌<◌, ◌≤◌, Bool, true, false, List, [], ◌∷◌, length, get_or, Some, refl, sym, ap, ◌∙◌, subst, arith}
+use Rattle.std.proofs.Common.{◌≡◌, ℕ, zero, suc, ◌<◌, true, false, List, [], ◌∷◌, length, get_or, Some, sym, ap, ◌∙◌, subst}
 use Rattle.std.specs.Prelude.{slice_get}
 use Rattle.std.proofs.lemmas.Bool.{false≢true}
 use Rattle.std.proofs.lemmas.Option.{slice_get-get_or}
 use Rattle.cep_base.proofs.Lists.{none_some, some_same}
 use Rattle.cep_order.specs.declared.step_cause.StepCause.{StepCause}
-use Rattle.cep_order.specs.Waits.{entries_of, entry_at}
+use Rattle.cep_order.specs.Waits.{all_entries, entry_at}
 use Rattle.cep_order.specs.Taking.{IsBarrierAt}
 
 barrier_read : (causes : List StepCause) (place : ℕ) (cause : StepCause) → slice_get causes place ≡ Some cause → IsBarrierAt causes place → cause.barrier ≡ true
@@ -19,7 +19,7 @@ pub barrier_there : (causes : List StepCause) (place : ℕ) (cause : StepCause) 
 barrier_there causes place cause within is = (get_or causes place cause, slice_get-get_or causes place cause within, is)
 
 -- the entry of a step
-pub entry_is : (causes : List StepCause) (place : ℕ) (cause : StepCause) → slice_get causes place ≡ Some cause → entry_at (entries_of causes) place ≡ cause.after
+pub entry_is : (causes : List StepCause) (place : ℕ) (cause : StepCause) → slice_get causes place ≡ Some cause → entry_at (all_entries causes) place ≡ cause.after
 entry_is [] place cause there = none_some cause there
 entry_is (first ∷ causes) zero cause there = ap (λ (c : StepCause). c.after) (some_same first cause there)
 entry_is (first ∷ causes) (suc place) cause there = entry_is causes place cause there

@@ -1,11 +1,11 @@
 -- Those that wait for a step are released one after another.
-use Rattle.std.proofs.Common.{◌≡◌, ◌≢◌, ◌↔◌, ◌⊎◌, inl, inr, ⊎_elim, ℕ, ◌+◌, ◌-◌, ◌<◌, ◌≤◌, Bool, true, false, List, [], ◌∷◌, length, get_or, set, Some, refl, sym, ap, ◌∙◌, subst, arith, length-set}
+use Rattle.std.proofs.Common.{◌≡◌, ◌≢◌, ◌↔◌, ◌⊎◌, inl, inr, ⊎_elim, ℕ, ◌+◌, ◌-◌, ◌<◌, ◌≤◌, Bool, true, false, List, ◌∷◌, length, get_or, set, Some, refl, sym, ap, ◌∙◌, subst, arith, length-set}
 use Rattle.std.specs.Prelude.{slice_get}
 use Rattle.std.proofs.lemmas.Bool.{cases_lt, cases_eq, false≢true}
 use Rattle.std.proofs.lemmas.List.{get_or-set_same, get_or-set_other, get_or_past}
 use Rattle.cep_order.specs.declared.waits.Link.{Link}
 use Rattle.cep_order.specs.declared.waits.Waits.{Waits}
-use Rattle.cep_order.specs.Waits.{times, linked_from, waiters_of, AreLinks, CanRelease, IsReleased}
+use Rattle.cep_order.specs.Waits.{times, linked_from, waiters_of, CanRelease, IsReleased}
 use Rattle.cep_order.proofs.Times.{once_more, no_more}
 use Rattle.cep_order.proofs.Linking.{linked_next}
 

@@ -1,30 +1,22 @@
 -- Some steps are taken: which are ready, and one more.
-use Rattle.std.proofs.Common.{◌≡◌, ◌≢◌, ◌↔◌, ◌⊎◌, inl, inr, ⊎_elim, ℕ, zero, suc, ◌+◌, ◌-◌, ◌<◌, ◌≤◌, Bool, true, false, List, [], ◌∷◌, ◌++◌, length, map, get_or, set, Some, refl, sym, ap, ◌∙◌, subst, arith, Contains, append_assoc, append-nil, length-set}
+use Rattle.std.proofs.Common.{◌≡◌, inl, inr, ⊎_elim, ℕ, zero, suc, ◌+◌, ◌-◌, ◌<◌, ◌≤◌, Bool, true, false, List, [], length, get_or, Some, ap, ◌∙◌, subst, arith, Contains}
 use Rattle.std.specs.Prelude.{slice_get}
-use Rattle.std.specs.List.{AllPairs}
-use Rattle.std.proofs.lemmas.Bool.{cases_lt, cases_eq, false≢true}
-use Rattle.std.proofs.lemmas.List.{get_or-set_same, get_or-set_other, get_or_past, map-append, length-map}
-use Rattle.std.proofs.lemmas.List.Elements.{Contains-get_or}
-use Rattle.std.proofs.lemmas.List.Quantifiers.{all_pairs_push}
+use Rattle.std.proofs.lemmas.Bool.{cases_lt, cases_eq}
+use Rattle.std.proofs.lemmas.List.{get_or_past, length-map}
 use Rattle.rand_pcg.specs.Lcg.{Lcg}
-use Rattle.cep_base.proofs.Elements.{all_at, contains_at, contains_none}
-use Rattle.cep_choice.specs.Draws.{generator_behind, place_drawn}
+use Rattle.cep_base.proofs.Elements.{all_at}
 use Rattle.cep_order.specs.declared.step_cause.StepCause.{StepCause}
 use Rattle.cep_order.specs.declared.waits.Waits.{Waits}
-use Rattle.cep_order.specs.Flags.{places_of}
-use Rattle.cep_order.specs.Orders.{NamesEarlier, PrecedesIn, IsReadyIn, AreReady, IsTaken, AreTaken, IsOrderBy, IsEachOnce}
-use Rattle.cep_order.specs.Waits.{times, entries_of, entry_at, waiters_of, AreLinksFor, CanRelease, IsReleased}
-use Rattle.cep_order.specs.Taking.{IsBarrierAt, IsPart, untaken, missing, IsSoFar}
+use Rattle.cep_order.specs.Flags.{set_places}
+use Rattle.cep_order.specs.Orders.{NamesEarlier, PrecedesIn, IsReadyIn, AreReady}
+use Rattle.cep_order.specs.Waits.{times, all_entries, entry_at}
+use Rattle.cep_order.specs.Taking.{IsPart, IsSoFar}
 use Rattle.cep_order.proofs.Flagging.{on_within}
 use Rattle.cep_order.proofs.Linking.{found}
 use Rattle.cep_order.proofs.Listed.{listed, set_there, increasing}
 use Rattle.cep_order.proofs.Parts.{entry_is}
-use Rattle.cep_order.proofs.Times.{some_times, stands_there, once_more_last, no_more_last}
-use Rattle.cep_order.proofs.Untaken.{untaken_push, untaken_none, untaken_some, times_of_places, missing_less}
-
-on_or_off : (flag : Bool) → (flag ≡ true) ⊎ (flag ≡ false)
-on_or_off true = inl refl
-on_or_off false = inr refl
+use Rattle.cep_order.proofs.Times.{some_times, stands_there}
+use Rattle.cep_order.proofs.Untaken.{untaken_none, untaken_some, times_of_places}
 
 module _ (seed : ℕ) (causes : List StepCause) (earlier : NamesEarlier causes) (waits : Waits) (flags : List Bool) (draw : Lcg) (order : List ℕ) (end : ℕ) (is : IsSoFar seed causes waits flags draw order end) where
   pub was_taken : (place : ℕ) → Contains is.taken place → 0 < times (place + 1) order
@@ -34,7 +26,7 @@ module _ (seed : ℕ) (causes : List StepCause) (earlier : NamesEarlier causes) 
   is_taken place some = stands_there place is.taken (omega (arith, times_of_places is.taken place, ap (times (place + 1)) is.numbers))
 
   -- a number in an entry is that of an earlier step
-  named : (place number : ℕ) → 0 < times number (entry_at (entries_of causes) place) → (0 < number) × (number ≤ place) × (cause : StepCause) × (slice_get causes place ≡ Some cause) × Contains cause.after number
+  named : (place number : ℕ) → 0 < times number (entry_at (all_entries causes) place) → (0 < number) × (number ≤ place) × (cause : StepCause) × (slice_get causes place ≡ Some cause) × Contains cause.after number
   named place number some =
       ⊎_elim
       (λ less.
@@ -42,7 +34,7 @@ module _ (seed : ℕ) (causes : List StepCause) (earlier : NamesEarlier causes) 
       let stands = stands_there number there.0.after (omega (arith, ap (times number) (entry_is causes place there.0 there.1), some)) in
       let bounds = all_at (λ n. (0 < n) × (n ≤ place)) there.0.after number (earlier place there.0 there.1) stands in
       (bounds.0, bounds.1, there.0, there.1, stands))
-      (λ past. absurd (omega (arith, some, ap (times number) (get_or_past (entries_of causes) place [] (omega (arith, length-map causes (λ (c : StepCause). c.after)))))))
+      (λ past. absurd (omega (arith, some, ap (times number) (get_or_past (all_entries causes) place [] (omega (arith, length-map causes (λ (c : StepCause). c.after)))))))
       (cases_lt place (length causes))
 
   -- A step that is flagged is ready.
@@ -66,7 +58,7 @@ module _ (seed : ℕ) (causes : List StepCause) (earlier : NamesEarlier causes) 
           arith,
           known.2,
           is.left place,
-          untaken_some order (first + 1) (entry_at (entries_of causes) place) none
+          untaken_some order (first + 1) (entry_at (all_entries causes) place) none
               (omega (arith, some_times (first + 1) precedes.later.after stands, ap (times (first + 1)) (entry_is causes place precedes.later precedes.at_later))),
         )))
         (λ some. is_taken first (omega arith))
@@ -95,7 +87,7 @@ module _ (seed : ℕ) (causes : List StepCause) (earlier : NamesEarlier causes) 
       new = ⊎_elim (λ none. none) (λ some. absurd (ready.not_taken (is_taken other (omega arith)))) (cases_eq (times (other + 1) order) 0)
 
       free : get_or waits.left.items other 0 ≡ 0
-      free = is.left other ∙ untaken_none order (entry_at (entries_of causes) other) (λ number some.
+      free = is.left other ∙ untaken_none order (entry_at (all_entries causes) other) (λ number some.
           let is_named = named other number some in
           let back : number ≡ number - 1 + 1 = omega (arith, is_named.0) in
           let first = found causes (number - 1) (omega (arith, is_named.0, is_named.1, ready.within)) in
@@ -155,7 +147,7 @@ module _ (seed : ℕ) (causes : List StepCause) (earlier : NamesEarlier causes) 
       ready_is_flagged = (is.ready other).1 (⊎_elim (λ less. less) (λ late. absurd (not_held late)) (cases_lt other end), new, free)
 
   -- The places of the flags are those of the ready steps.
-  pub are_ready : (place : ℕ) → get_or flags place false ≡ true → AreReady causes is.taken (places_of flags)
+  pub are_ready : (place : ℕ) → get_or flags place false ≡ true → AreReady causes is.taken (set_places flags)
   are_ready place on = record {
     increasing = increasing flags;
     each = λ other. (λ there. flagged_is_ready other (set_there flags other there), λ ready. listed flags other (ready_is_flagged place on other ready));
@@ -170,7 +162,7 @@ module _ (seed : ℕ) (causes : List StepCause) (earlier : NamesEarlier causes) 
         (λ missed. absurd (none place ((is.ready place).1 (
           within,
           missed,
-          is.left place ∙ untaken_none order (entry_at (entries_of causes) place) (λ number some.
+          is.left place ∙ untaken_none order (entry_at (all_entries causes) place) (λ number some.
               let is_named = named place number some in
               let back : number ≡ number - 1 + 1 = omega (arith, is_named.0) in
               omega (arith, taken_below bound (number - 1) (omega (arith, is_named.0, is_named.1)) (omega (arith, is_named.0, is_named.1)), ap (λ n. times n order) back)),

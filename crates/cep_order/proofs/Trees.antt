@@ -1,12 +1,12 @@
 -- Trees of counts.
-use Rattle.std.proofs.Common.{◌≡◌, ◌≢◌, ◌⊎◌, inl, inr, ⊎_elim, ℕ, zero, suc, ◌+◌, ◌-◌, ◌*◌, ◌/◌, ◌^◌, ◌<◌, ◌≤◌, Bool, true, false, cond, eqb, List, length, get_or, set, replicate, refl, sym, ap, ◌∙◌, subst, arith, length-set, add-one}
+use Rattle.std.proofs.Common.{◌≡◌, ◌≢◌, ⊎_elim, ℕ, zero, suc, ◌+◌, ◌-◌, ◌*◌, ◌/◌, ◌^◌, ◌<◌, ◌≤◌, Bool, false, List, length, get_or, set, replicate, refl, ap, ◌∙◌, arith, length-set, add-one}
 use Rattle.std.proofs.Math.Nat.{pow-succ', le-mul_of_pos_right}
 use Rattle.std.proofs.lemmas.Nat.{pow_pos}
 use Rattle.std.proofs.lemmas.Bool.{cases_lt, cases_eq}
 use Rattle.std.proofs.lemmas.Bool.Decides.{nat_tests}
 use Rattle.std.proofs.lemmas.List.{get_or-set_same, get_or-set_other, get_or-replicate, get_or_past, length-replicate}
 use Rattle.cep_order.specs.Flags.{set_before}
-use Rattle.cep_order.specs.Counts.{Counts, only_at, IsNearly, IsTree, IsLeafOf}
+use Rattle.cep_order.specs.Counts.{Counts, only_at, IsNearly, IsTree}
 use Rattle.cep_order.proofs.Flagging.{written_after, none_counted, counted_more, set_few, all_before}
 
 all_here : (here amount node : ℕ) → node ≡ here → only_at here amount node ≡ amount

@@ -7,10 +7,11 @@ abbrev pub set_before : List Bool → ℕ → ℕ
 set_before flags place = count_by (λ flag. flag) (take place flags)
 
 -- the places of the flags that are set, where the first flag has this place
-abbrev pub places_from : ℕ → List Bool → List ℕ
-places_from place [] = []
-places_from place (flag ∷ flags) = cond flag (place ∷ places_from (place + 1) flags) (places_from (place + 1) flags)
+abbrev pub set_places_from : ℕ → List Bool → List ℕ
+set_places_from place [] = []
+set_places_from place (flag ∷ flags) =
+    cond flag (place ∷ set_places_from (place + 1) flags) (set_places_from (place + 1) flags)
 
 -- the places of the flags that are set, in increasing order
-abbrev pub places_of : List Bool → List ℕ
-places_of flags = places_from 0 flags
+abbrev pub set_places : List Bool → List ℕ
+set_places flags = set_places_from 0 flags

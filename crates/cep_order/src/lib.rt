@@ -4,6 +4,7 @@
 //! order a seed gives.
 #![tactic(auto)]
 
+pub mod laws;
 mod ordering;
 mod ready;
 mod step_cause;

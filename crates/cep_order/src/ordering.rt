@@ -1,6 +1,6 @@
-ghost use Rattle.std.specs.Prelude.{◌≡◌, ◌↔◌, ◌⊎◌, ◌+◌, ◌<◌, ◌≤◌, ℕ, true, false, length, slice_index, slice_index_or, IfOk};
+ghost use Rattle.std.specs.Prelude.{◌≡◌, ◌<◌, ◌≤◌, ℕ, false, length, slice_index_or, IfOk};
 ghost use Rattle.cep_order.specs.Orders.{NamesEarlier, IsOrderBy, IsEachOnce};
-ghost use Rattle.cep_order.specs.Taking.{IsPart};
+ghost use Rattle.cep_order.specs.Taking.{IsPart, BecomeReady};
 
 use crate::ready::Ready;
 use crate::step_cause::{Numbers, StepCause, StepCauses};
@@ -11,10 +11,10 @@ use cep_choice::Draw;
 use std::alloc::{AllocError, Global};
 
 /// The order that a seed gives to the steps of a transcript: again and again it takes one of the
-/// steps that are ready, which are those that it has not taken and whose every preceding step it has.
-/// Of `n` ready steps, by increasing number, it takes the one at the place that a
-/// [`Draw`](cep_choice::Draw) of the seed has for `n`. Which step precedes which is Ceptre's; that a
-/// seed decides, and how, is this profile's.
+/// steps that are ready, those that it has not taken and whose every preceding step it has. Of `n`
+/// ready steps, by increasing number, it takes the one at the place that one
+/// [`Draw`](cep_choice::Draw) of the seed has for `n`. Which steps precede which, and that a seed
+/// decides between others, is this profile's.
 ///
 /// # Errors
 ///
@@ -49,8 +49,8 @@ pub fn order_by(alloc: Global, causes: &StepCauses, seed: u64) -> Result<Numbers
     }
 }
 
-// The end of the part that begins at a step. A barrier is a part by itself, and any other goes up to
-// the next barrier.
+// The end of the part that begins at a step. A barrier is a part by itself, and any other part goes
+// up to the next barrier.
 fn part_end(causes: &[StepCause], from: usize) -> usize
     requires { from < length causes.now }
     ensures { IsPart causes.now from result }
@@ -72,8 +72,7 @@ fn make_ready(waits: &Waits, from: usize, end: usize, ready: &mut Ready)
     requires room { length ready.old ≡ length waits.now.left.items }
     requires apart { (step : ℕ) → from ≤ step → slice_index_or ready.old step false ≡ false }
     ensures room { length ready.new ≡ length ready.old }
-    ensures ready { (step : ℕ) → ((slice_index_or ready.new step false ≡ true) ↔ ((slice_index_or ready.old step false ≡ true)
-        ⊎ ((from ≤ step) × (step < end) × (slice_index waits.now.left.items step ≡ 0)))) }
+    ensures ready { BecomeReady waits.now.left.items from end ready.old ready.new }
 {
     for step in from..end {
         if waits.is_free(step) {

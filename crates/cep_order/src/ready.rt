@@ -1,6 +1,6 @@
-ghost use Rattle.std.specs.Prelude.{◌≡◌, ◌+◌, ◌<◌, ◌≤◌, ◌^◌, ◌*◌, ◌-◌, ℕ, Bool, List, true, false, Some, length, slice_get, slice_set, slice_index, slice_index_or, replicate, IfOk};
-ghost use Rattle.cep_order.specs.Flags.{places_of, set_before};
-ghost use Rattle.cep_order.specs.Counts.{IsTree, IsLeafOf};
+ghost use Rattle.std.specs.Prelude.{◌≡◌, ◌+◌, ◌*◌, ◌^◌, ◌<◌, ◌≤◌, true, false, Some, length, slice_get, slice_set, slice_index_or, replicate, IfOk};
+ghost use Rattle.cep_order.specs.Flags.{set_places, set_before};
+ghost use Rattle.cep_order.specs.Counts.{FindsLeaf};
 
 use cep_base::limits::MOST_LOG;
 use std::alloc::{AllocError, Global};
@@ -14,7 +14,8 @@ const BLOCK: usize = 64;
 pub struct Ready {
     flags: Vec<bool>,
     // how many flags are set under each node of a binary tree: the root is at 1, the children of a
-    // node at twice its place and the one after it, and the leaves, a block of flags each, in the second half
+    // node are at twice its place and after that, and the leaves, which count a block of flags
+    // each, are the second half
     counts: Vec<u32>,
     height: u32,
 }
@@ -53,15 +54,15 @@ impl Ready {
 
     /// How many are ready.
     pub fn len(&self) -> u32
-        ensures { result ≡ length (places_of self.now) }
+        ensures { result ≡ length (set_places self.now) }
     {
         self.counts[1]
     }
 
     /// The one with so many ready ones before it.
     pub fn nth(&self, k: u32) -> usize
-        requires { k < length (places_of self.now) }
-        ensures { slice_get (places_of self.now) k ≡ Some result }
+        requires { k < length (set_places self.now) }
+        ensures { slice_get (set_places self.now) k ≡ Some result }
     {
         let (leaf, left) = leaf_of(&self.counts, self.height, k);
         place_in(&self.flags, (leaf - self.counts.len() / 2) * BLOCK, left)
@@ -99,8 +100,7 @@ impl Ready {
 fn leaf_of(counts: &[u32], height: u32, k: u32) -> (usize, u32)
     requires { length counts.now ≡ 2 * 2 ^ height }
     ensures within { (2 ^ height ≤ result.0) × (result.0 < length counts.now) }
-    ensures leaf { (flags : List Bool) → IsTree flags counts.now height → k < set_before flags (length flags)
-        → IsLeafOf flags counts.now height k result.0 result.1 }
+    ensures leaf { FindsLeaf counts.now height k result.0 result.1 }
 {
     let mut node = 1;
     let mut left = k;

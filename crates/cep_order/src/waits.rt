@@ -1,7 +1,7 @@
-ghost use Rattle.std.specs.Prelude.{◌≡◌, ◌+◌, ◌<◌, ◌≤◌, ◌^◌, ◌↔◌, ◌++◌, ◌∷◌, [], ℕ, List, length, slice_index, IfOk, OnOk, IsTrue};
+ghost use Rattle.std.specs.Prelude.{◌≡◌, ◌<◌, ◌≤◌, ◌^◌, ◌↔◌, length, slice_index, IfOk, OnOk, IsTrue};
 ghost use Rattle.std.specs.List.{AllByRecursion};
 ghost use Rattle.cep_order.specs.Orders.{NamesEarlier};
-ghost use Rattle.cep_order.specs.Waits.{AreLinksFor, AreWaitsOf, CanRelease, IsReleased};
+ghost use Rattle.cep_order.specs.Waits.{AddsLinks, AreWaitsOf, CanRelease, IsReleased};
 
 use crate::ready::Ready;
 use crate::step_cause::StepCause;
@@ -56,8 +56,8 @@ impl Waits {
         self.left[step] == 0
     }
 
-    /// A step is taken: none waits for it any more. Those that wait for no other then, and stand before
-    /// the end, are ready.
+    /// A step is taken: none waits for it any more. Those that wait for no other then, and stand
+    /// before the end, are ready.
     pub fn release(&mut self, place: usize, end: usize, ready: &mut Ready)
         requires { CanRelease self.old ready.old place }
         ensures { IsReleased self.old self.new ready.old ready.new place end }
@@ -84,8 +84,8 @@ fn link_all(
 ) -> Result<(), AllocError>
     requires { AllByRecursion (λ number. (0 < number) × (number ≤ length begins.old)) numbers.now }
     ensures few { OnOk result (length numbers.now < 2 ^ 32) }
-    ensures links { OnOk result ((entries : List (List ℕ)) → length entries ≡ step → AreLinksFor entries begins.old links.old.items
-        → AreLinksFor (entries ++ numbers.now ∷ []) begins.new links.new.items) }
+    ensures links { OnOk result
+        (AddsLinks step numbers.now begins.old links.old.items begins.new links.new.items) }
 {
     for number in numbers {
         let earlier = *number as usize - 1;

@@ -1,4 +1,4 @@
-use Rattle.std.proofs.Common.{◌≡◌, ℕ, ◌-◌, ◌<◌, ◌≤◌, length}
+use Rattle.std.proofs.Common.{ℕ, ◌-◌, ◌<◌, ◌≤◌, length}
 use Rattle.cep_order.specs.Taking.{IsBarrierAt}
 use Rattle.cep_order.proofs.ordering.part_end.Given as goal
 

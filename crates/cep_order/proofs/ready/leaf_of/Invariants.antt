@@ -1,4 +1,4 @@
-use Rattle.std.proofs.Common.{ℕ, ◌+◌, ◌*◌, ◌^◌, ◌<◌, ◌≤◌, Bool, List, length}
+use Rattle.std.proofs.Common.{◌+◌, ◌*◌, ◌^◌, ◌<◌, ◌≤◌, Bool, List, length}
 use Rattle.cep_order.specs.Flags.{set_before}
 use Rattle.cep_order.specs.Counts.{IsTree}
 use Rattle.cep_order.proofs.Trees.{IsDown}

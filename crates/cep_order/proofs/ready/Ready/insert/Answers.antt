@@ -1,4 +1,4 @@
-use Rattle.std.proofs.Common.{◌≡◌, ◌+◌, ◌/◌, ◌<◌, Bool, List, true, false, length, get_or, ap, sym, ◌∙◌, arith, refl, length-set}
+use Rattle.std.proofs.Common.{◌≡◌, ◌+◌, ◌/◌, ◌<◌, Bool, List, true, false, length, get_or, ap, ◌∙◌, arith, refl, length-set}
 use Rattle.std.proofs.lemmas.List.{get_or_read, get_or_default}
 use Rattle.cep_order.proofs.Flagging.{set_counts}
 use Rattle.cep_order.proofs.Trees.{counts_few, off_at_leaf, off_above, fewer, none_off}

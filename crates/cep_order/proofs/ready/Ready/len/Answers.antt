@@ -1,7 +1,7 @@
-use Rattle.std.proofs.Common.{◌≡◌, Bool, List, length, ap, sym, ◌∙◌, arith, rules}
+use Rattle.std.proofs.Common.{Bool, List, length, ap, sym, ◌∙◌, arith}
 use Rattle.std.proofs.lemmas.Nat.{pow_pos}
 use Rattle.std.proofs.lemmas.List.{get_or_read}
-use Rattle.cep_order.specs.Flags.{places_of}
+use Rattle.cep_order.specs.Flags.{set_places}
 use Rattle.cep_order.proofs.Flagging.{as_many}
 use Rattle.cep_order.proofs.Trees.{root_counts}
 use Rattle.cep_order.proofs.ready.Ready.len.Goals as goal
@@ -13,4 +13,4 @@ pub returns : goal.returns
 returns c =
     let fields = c.self.inside in
     let read = get_or_read fields.counts.items 1 _ (omega (arith, c.self.invariant.size, pow_pos fields.height)) c.index.ensures 0 in
-    read ∙ root_counts fields.flags.items fields.counts.items fields.height c.self.invariant ∙ sym (as_many 0 fields.flags.items) ∙ ap (λ (flags : List Bool). length (places_of flags)) c.self.view_is
+    read ∙ root_counts fields.flags.items fields.counts.items fields.height c.self.invariant ∙ sym (as_many 0 fields.flags.items) ∙ ap (λ (flags : List Bool). length (set_places flags)) c.self.view_is

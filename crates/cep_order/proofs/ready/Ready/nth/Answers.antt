@@ -1,15 +1,15 @@
 use Rattle.std.proofs.Common.{◌≡◌, ℕ, ◌+◌, ◌-◌, ◌*◌, ◌^◌, ◌/◌, ◌<◌, ap, sym, ◌∙◌, subst, arith, List, Bool, Some, length, true, false, get_or}
 use Rattle.std.specs.Prelude.{slice_get}
-use Rattle.cep_order.specs.Flags.{places_of, set_before}
+use Rattle.cep_order.specs.Flags.{set_places, set_before}
 use Rattle.cep_order.specs.Counts.{IsTree, IsLeafOf}
 use Rattle.cep_order.proofs.Flagging.{as_many, place_found}
 use Rattle.cep_order.proofs.ready.Ready.nth.Goals as goal
 
 -- The leaf, and where its block begins.
-module _ (now flags read : List Bool) (counts : List ℕ) (height k leaf left size : ℕ) (view : flags ≡ now) (tree : IsTree flags counts height) (same : read ≡ flags) (few : k < length (places_of now)) (long : size ≡ length counts)
+module _ (now flags read : List Bool) (counts : List ℕ) (height k leaf left size : ℕ) (view : flags ≡ now) (tree : IsTree flags counts height) (same : read ≡ flags) (few : k < length (set_places now)) (long : size ≡ length counts)
     (found : IsTree flags counts height → k < set_before flags (length flags) → IsLeafOf flags counts height k leaf left) where
   in_all : k < set_before flags (length flags)
-  in_all = omega (arith, few, ap (λ (fs : List Bool). length (places_of fs)) view, as_many 0 flags)
+  in_all = omega (arith, few, ap (λ (fs : List Bool). length (set_places fs)) view, as_many 0 flags)
 
   begins : set_before flags ((leaf - size / 2) * 64) + left ≡ k
   begins =
@@ -19,14 +19,14 @@ module _ (now flags read : List Bool) (counts : List ℕ) (height k leaf left si
   pub few_before : set_before read ((leaf - size / 2) * 64) + left < set_before read (length read)
   few_before = subst (λ (fs : List Bool). set_before fs ((leaf - size / 2) * 64) + left < set_before fs (length fs)) (sym same) (omega (arith, begins, in_all))
 
-  pub found_at : (place : ℕ) → get_or read place false ≡ true → set_before read place ≡ set_before read ((leaf - size / 2) * 64) + left → slice_get (places_of now) k ≡ Some place
+  pub found_at : (place : ℕ) → get_or read place false ≡ true → set_before read place ≡ set_before read ((leaf - size / 2) * 64) + left → slice_get (set_places now) k ≡ Some place
   found_at place on before =
       let at : set_before flags place ≡ k = subst (λ (fs : List Bool). set_before fs place ≡ set_before fs ((leaf - size / 2) * 64) + left) same before ∙ begins in
       let there = place_found 0 flags place (ap (λ (fs : List Bool). get_or fs place false) (sym same) ∙ on) in
-      subst (λ (fs : List Bool). slice_get (places_of fs) k ≡ Some place) view (ap (slice_get (places_of flags)) (sym at) ∙ there ∙ ap Some (omega arith))
+      subst (λ (fs : List Bool). slice_get (set_places fs) k ≡ Some place) view (ap (slice_get (set_places flags)) (sym at) ∙ there ∙ ap Some (omega arith))
 
 pub overflow_mul-leaf : goal.overflow_mul-leaf
-overflow_mul-leaf c = omega (arith, c.leaf_of-leaf.ensures.within, c.deref.ensures.value, ap length c.deref.ensures.value, c.self.invariant.size, c.self.invariant.few_leaves)
+overflow_mul-leaf c = omega (arith, c.leaf_of-leaf.ensures.within, ap length c.deref.ensures.value, c.self.invariant.size, c.self.invariant.few_leaves)
 
 pub place_in-requires : goal.place_in-requires
 place_in-requires c =

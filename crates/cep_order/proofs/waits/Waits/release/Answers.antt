@@ -1,18 +1,15 @@
-use Rattle.std.proofs.Common.{◌≡◌, ℕ, ◌+◌, ◌-◌, ◌<◌, ◌≤◌, Bool, true, false, List, length, get_or, Some, refl, ap, sym, ◌∙◌, ◌⊎◌, inl, inr, ⊎_elim, arith, set}
+use Rattle.std.proofs.Common.{◌≡◌, ℕ, ◌-◌, ◌<◌, ◌≤◌, Bool, true, false, List, length, get_or, Some, refl, ap, sym, ◌∙◌, ⊎_elim, arith}
 use Rattle.std.specs.Prelude.{slice_get}
 use Rattle.std.proofs.lemmas.List.{get_or_read, get_or_default, get_or-set_same}
 use Rattle.std.proofs.lemmas.Option.{slice_get-get_or}
 use Rattle.cep_order.specs.declared.waits.Link.{Link}
-use Rattle.cep_order.proofs.Releasing.{IsReleasing, releasing_begins, releasing_ends, waits_some, step_within, not_ready, released_ready, released_waiting}
+use Rattle.cep_order.proofs.Flagging.{on_or_off}
+use Rattle.cep_order.proofs.Releasing.{waits_some, step_within, not_ready, released_ready, released_waiting}
 use Rattle.cep_order.proofs.waits.Waits.release.Goals as goal
 
 -- The link that is read is one of the old ones.
 read_link : (old new : List Link) (from : ℕ) (link : Link) → new ≡ old → 0 < from → from ≤ length old → link ≡ get_or new (from - 1) link → slice_get old (from - 1) ≡ Some link
 read_link old new from link same some within read = slice_get-get_or old (from - 1) link (omega arith) ∙ ap Some (sym (read ∙ ap (λ (links : List Link). get_or links (from - 1) link) same))
-
-on_or_off : (flag : Bool) → (flag ≡ true) ⊎ (flag ≡ false)
-on_or_off true = inl refl
-on_or_off false = inr refl
 
 unset : (flags : List Bool) (step : ℕ) → step < length flags → (get_or flags step false ≡ true → ⊥) → get_or flags step true ≡ false
 unset flags step within not_set = get_or_default flags step true false within ∙ ⊎_elim (λ set. absurd (not_set set)) (λ off. off) (on_or_off (get_or flags step false))
