@@ -83,6 +83,8 @@ class Command(unittest.TestCase):
             ["world", "007"],
             ["check", "a"],
             ["renew", "a", "b", "c"],
+            ["weigh", "a"],
+            ["dead", "a", "b"],
             ["play", "a", "seed=x"],
             ["play", "a", "seed=1", "seed=2"],
             ["play", "a", "b"],
