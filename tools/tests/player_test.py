@@ -102,9 +102,9 @@ class Choices(Player):
 
     def test_from_a_transcript_of_a_height_and_a_seed(self):
         for name, words in [("dungeon", []), ("tictactoe", ["seed=9"])]:
-            begun, log = os.path.join(WORLDS, name + ".log"), self.path("x.log")
-            self.play("", *words, "--from", begun, "--log", log, world=os.path.join(WORLDS, name + ".cep"))
-            own, other = ([line for line in read(path).splitlines() if line[:1] != "?"] for path in (log, begun))
+            log, world = self.path("x.log"), os.path.join(WORLDS, name + ".cep")
+            self.play("", *words, "--from", os.path.join(WORLDS, name + ".log"), "--log", log, world=world)
+            own, other = ([li for li in read(*path).splitlines() if li[:1] != "?"] for path in ((log,), (WORLDS, name + ".log")))
             self.assertEqual(own, other)
 
     def test_a_transcript_that_cannot_be_done_again(self):
