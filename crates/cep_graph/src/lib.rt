@@ -1,0 +1,9 @@
+//! The graph of a transcript: on which earlier steps each step rests, by the tokens that it uses,
+//! removes and makes.
+#![tactic(auto)]
+
+mod graph_of;
+mod tokens;
+mod touching;
+
+pub use graph_of::graph;
