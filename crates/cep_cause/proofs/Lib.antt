@@ -18,4 +18,5 @@ pub mod InOrder
 pub mod OneAnswer
 pub mod Queues
 pub mod Walked
+pub mod Entries
 pub mod Taken

@@ -5,3 +5,4 @@ pub mod Reordered
 pub mod Graphs
 pub mod CauseLaws
 pub mod Walking
+pub mod Handling

@@ -6,13 +6,18 @@
 //! `laws` that it is so.
 #![tactic(auto)]
 
+mod causing;
 mod copying;
 mod going;
 mod graph_of;
 mod in_order;
 pub mod laws;
+
 mod reordered;
 mod reordering;
+mod taking;
+mod token;
+mod touch;
 mod unfit;
 
 pub use graph_of::graph;
