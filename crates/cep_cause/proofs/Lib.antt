@@ -19,4 +19,5 @@ pub mod OneAnswer
 pub mod Queues
 pub mod Walked
 pub mod Entries
+pub mod Picks
 pub mod Taken

@@ -15,6 +15,7 @@ use Rattle.cep_rule.specs.Patterns.{PremiseTree}
 use Rattle.cep_rule.specs.Typing.{is_fact}
 use Rattle.cep_rule.specs.Instances.{full_instance}
 use Rattle.cep_cause.specs.Tokens.{Token, numbered, staying, has_number, IsPick, ArePicks}
+use Rattle.cep_cause.specs.Handling.{NumbersIncrease}
 use Rattle.cep_cause.proofs.Distinct.{filter_cases, filter_there}
 use Rattle.cep_cause.proofs.Passing.{made_later}
 
@@ -22,12 +23,7 @@ use Rattle.cep_cause.proofs.Passing.{made_later}
 abbrev pub queue : AtomTree → List Token → List Token
 queue a tokens = filter (λ (token : Token). eq_by_cmp atom_cmp token.atom a) tokens
 
--- Each token has a number below all that follow it.
-abbrev pub NumbersIncrease : List Token → Type 0
-NumbersIncrease [] = Unit {0}
-NumbersIncrease (token ∷ tokens) = AllByRecursion (λ (later : Token). token.number < later.number) tokens × NumbersIncrease tokens
-
-rising_places : (tokens : List Token) (i j : ℕ) (one other : Token) → NumbersIncrease tokens → i < j → slice_get tokens i ≡ Some one → slice_get tokens j ≡ Some other → one.number < other.number
+pub rising_places : (tokens : List Token) (i j : ℕ) (one other : Token) → NumbersIncrease tokens → i < j → slice_get tokens i ≡ Some one → slice_get tokens j ≡ Some other → one.number < other.number
 rising_places [] i j one other rise less at at' = none_some one at
 rising_places (first ∷ tokens) i zero one other rise less at at' = omega arith
 rising_places (first ∷ tokens) zero (suc j) one other rise less at at' =
@@ -59,7 +55,7 @@ increase_after removed present made rise rise' less =
     rising_both (staying removed present) made (rising_part (λ (t : Token). not (has_number removed t.number)) present rise) rise'
     (λ one other here there. less one other (filter_cases (λ (t : Token). not (has_number removed t.number)) present one here).0 there)
 
-place_of : (tokens : List Token) (token : Token) → Contains tokens token → (place : ℕ) × (slice_get tokens place ≡ Some token)
+pub place_of : (tokens : List Token) (token : Token) → Contains tokens token → (place : ℕ) × (slice_get tokens place ≡ Some token)
 place_of [] token there = absurd (contains_none token there)
 place_of (first ∷ tokens) token there = ⊎_elim (λ same. (0, ap Some same)) (λ later. let rest = place_of tokens token later in (suc rest.0, rest.1)) (contains_cases first tokens token there)
 
