@@ -13,7 +13,7 @@ use Rattle.cep_cause.specs.CauseLaws.{CauseLaws}
 use Rattle.cep_cause.specs.Touches.{Touch, AreTouchesOf}
 use Rattle.cep_cause.specs.Reorderings.{IsReordering}
 use Rattle.cep_cause.specs.Reordered.{StandAt, unlisted, IsUnfitAt}
-use Rattle.cep_cause.proofs.Ordered.{three, is_next}
+use Rattle.cep_cause.proofs.Ordered.{is_next}
 use Rattle.cep_cause.proofs.Central.{IsReached, reached_none, IsTurn, reached_more, all_reached, as_written, rule_of, leads_to, step_there, legal_there}
 use Rattle.cep_cause.proofs.OldRun.{LegalRun}
 

@@ -9,7 +9,6 @@ use Rattle.cep_rule.specs.Typing.{is_fact}
 use Rattle.cep_rule.specs.Instances.{full_instance}
 use Rattle.cep_cause.specs.CauseLaws.{CauseLaws}
 use Rattle.cep_cause.specs.Tokens.{Token, IsPick, ArePicks}
-use Rattle.cep_cause.proofs.Ordered.{three}
 use Rattle.cep_cause.proofs.Started.{one_or_two}
 use Rattle.cep_cause.proofs.Tokened.{HaveOneNumber}
 

@@ -1,5 +1,5 @@
 -- What the written order of a legal log gives: of each step where it was done, and what it did to tokens.
-use Rattle.std.proofs.Common.{◌≡◌, ◌⊎◌, inl, inr, ⊎_elim, ℕ, zero, suc, ◌+◌, ◌%◌, ◌<◌, ◌≤◌, true, List, [], ◌∷◌, ◌++◌, length, Option, Some, None, refl, sym, ap, ◌∙◌, subst, arith, Contains, add-one}
+use Rattle.std.proofs.Common.{◌≡◌, ◌⊎◌, ⊎_elim, ℕ, zero, suc, ◌+◌, ◌%◌, ◌<◌, ◌≤◌, true, List, [], ◌∷◌, ◌++◌, length, Option, Some, None, refl, sym, ap, ◌∙◌, subst, arith, Contains, add-one}
 use Rattle.std.specs.Prelude.{slice_get, unwrap_or, is_some, ◌↔◌}
 use Rattle.cep_base.proofs.Lists.{none_some, some_same, holds_at}
 use Rattle.cep_base.proofs.Elements.{contains_none, contains_cases, contains_left, contains_right, contains_either, contains_same}

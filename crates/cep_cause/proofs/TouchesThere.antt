@@ -223,13 +223,13 @@ module _ (laws : CauseLaws) (program : Parts) (is : IsProgram program) (height :
       (first.0 ∷ rest.0, (first.1, rest.1))
 
   -- The tokens after all of them are the last state.
-  pub tokens_behind : (steps : List LogStep) (touches : List Touch) (next : ℕ) (present : List Token) (here last : Spot) → AreTokensOf next present here.state → IsState program.signature here.state → AreLegalSteps program height steps here last
+  pub tokens_after_all : (steps : List LogStep) (touches : List Touch) (next : ℕ) (present : List Token) (here last : Spot) → AreTokensOf next present here.state → IsState program.signature here.state → AreLegalSteps program height steps here last
       → AreTouches program next present steps touches → (a : AtomTree) → count_of (token_state (present_after_all present touches)) a ≡ count_of last.state a
-  tokens_behind [] [] next present here last tokens is_state legal are a = tokens.counts a ∙ ap (λ (spot : Spot). count_of spot.state a) (sym legal)
-  tokens_behind [] (touch ∷ touches) next present here last tokens is_state legal are a = absurd are
-  tokens_behind (step ∷ steps) [] next present here last tokens is_state legal are a = absurd are
-  tokens_behind (step ∷ steps) (touch ∷ touches) next present here last tokens is_state legal are a =
-      tokens_behind steps touches (next + length touch.makes) (present_after present touch) legal.0 last
+  tokens_after_all [] [] next present here last tokens is_state legal are a = tokens.counts a ∙ ap (λ (spot : Spot). count_of spot.state a) (sym legal)
+  tokens_after_all [] (touch ∷ touches) next present here last tokens is_state legal are a = absurd are
+  tokens_after_all (step ∷ steps) [] next present here last tokens is_state legal are a = absurd are
+  tokens_after_all (step ∷ steps) (touch ∷ touches) next present here last tokens is_state legal are a =
+      tokens_after_all steps touches (next + length touch.makes) (present_after present touch) legal.0 last
       (tokens_after next present step here legal.0 tokens is_state legal.1 touch are.0) (state_leads next present step here legal.0 tokens is_state legal.1 touch are.0) legal.2 are.1 a
 
   last_is_state : (steps : List LogStep) (touches : List Touch) (next : ℕ) (present : List Token) (here last : Spot) → AreTokensOf next present here.state → IsState program.signature here.state → AreLegalSteps program height steps here last
@@ -245,7 +245,7 @@ module _ (laws : CauseLaws) (program : Parts) (is : IsProgram program) (height :
       → AreTouches program (length (start_tokens program.start)) (start_tokens program.start) steps touches → token_state (present_after_all (start_tokens program.start) touches) ≡ last.state
   tokens_are_the_state steps touches last legal are =
       let present = present_after_all (start_tokens program.start) touches in
-      let counts = tokens_behind steps touches (length (start_tokens program.start)) (start_tokens program.start) (start_spot program) last tokens_start is.start legal are in
+      let counts = tokens_after_all steps touches (length (start_tokens program.start)) (start_tokens program.start) (start_spot program) last tokens_start is.start legal are in
       let state = last_is_state steps touches (length (start_tokens program.start)) (start_tokens program.start) (start_spot program) last tokens_start is.start legal are in
       laws.bags.equal (token_state present) last.state
       (laws.bags.gathered_kept (token_atoms present) (all_of IsGroundAtom (token_atoms present) (λ a there. (state.each a (let some = (laws.bags.gathered_there (token_atoms present) a).1 there in let same = counts a in omega arith)).ground)))
