@@ -20,4 +20,6 @@ pub mod Queues
 pub mod Walked
 pub mod Entries
 pub mod Picks
+pub mod Shared
+pub mod MadeTokens
 pub mod Taken
