@@ -4,6 +4,8 @@ use Rattle.std.specs.Prelude.{Contains, Option}
 use Rattle.cep_base.specs.Files.{Files}
 use Rattle.cep_base.proofs.Elements.{contains_none, contains_cases}
 use Rattle.cep_rule.specs.declared.parts.Parts.{Parts}
+use Rattle.cep_rule.specs.Program.{IsProgram}
+use Rattle.cep_ground.specs.Texts.{Spells}
 use Rattle.cep_words.specs.declared.request.Task.TheVariants.{Check}
 use Rattle.cep_words.specs.Words.{Examine}
 use Rattle.cep_log.specs.declared.log.Log.{Log}
@@ -13,7 +15,7 @@ use Rattle.cep_replay.specs.Playing.{CanBePlayed, IsReplayed}
 use Rattle.cep_play.specs.Outside.{Report}
 use Rattle.cep_play.specs.Reports.{Reports}
 use Rattle.cep_play.specs.Answered.{ReportsBy, TellsAllThatIsDue}
-use Rattle.cep_play.specs.Playable.{CanHaveBeenPlayed, ChecksWhatCanHaveBeenPlayed}
+use Rattle.cep_play.specs.Playable.{CanBeTyped, CanHaveBeenPlayed, ChecksWhatCanHaveBeenPlayed}
 
 -- 0 is no status of a fault
 no_zero : Contains {X = ℕ} (6 ∷ 7 ∷ 9 ∷ []) 0 → ⊥
@@ -24,14 +26,21 @@ no_zero among =
 abbrev pub AreReplayed : Type 0
 AreReplayed = (program : Parts) (settings : Settings) (log : Log) (typed : List ℕ) → IsLegal program log → CanBePlayed program settings log typed → IsReplayed program settings log typed
 
-module _ (replayed : AreReplayed) where
-  accepted : (program : Parts) (bytes : List ℕ) (report : Report) → report.code ≡ 0 → Reports Check program bytes report → CanHaveBeenPlayed program bytes
-  accepted program bytes report zero (inl (text, accepts, same)) = (accepts.0, accepts.1, λ settings typed can. replayed program settings accepts.0 typed accepts.1.2 can)
-  accepted program bytes report zero (inr (text, rejects, same)) = absurd (let one : report.code ≡ 1 = ap (λ (report : Report). report.code) same in omega (arith, one, zero))
+-- Something answers the steps of a legal log, if no seed decides.
+abbrev pub AreAnswered : Type 0
+AreAnswered = (program : Parts) (log : Log) → IsProgram program → IsLegal program log → CanBeTyped program log
 
-  done : (program : Parts) (bytes : List ℕ) (status : ℕ) → status ≡ 0 → ReportsBy (Reports Check program bytes) (6 ∷ 7 ∷ 9 ∷ []) status → CanHaveBeenPlayed program bytes
-  done program bytes status zero by = ⊎_elim (λ fault. absurd (no_zero (rw zero at fault))) (λ found. accepted program bytes found.0 (sym found.2 ∙ zero) found.1) by.1
+module _ (replayed : AreReplayed) (answered : AreAnswered) where
+  accepted : (program : Parts) (bytes : List ℕ) (report : Report) → IsProgram program → report.code ≡ 0 → Reports Check program bytes report → CanHaveBeenPlayed program bytes
+  accepted program bytes report is zero (inl (text, accepts, same)) =
+      let legal = accepts.1.2 in
+      (accepts.0, accepts.1, (λ settings typed can. replayed program settings accepts.0 typed legal can), answered program accepts.0 is legal)
+  accepted program bytes report is zero (inr (text, rejects, same)) = absurd (let one : report.code ≡ 1 = ap (λ (report : Report). report.code) same in omega (arith, one, zero))
 
-  pub checked : (words : List (List ℕ)) (files : Option Files) (left : Option (List ℕ)) (status : ℕ) → TellsAllThatIsDue words files left status → status ≡ 0 → ChecksWhatCanHaveBeenPlayed words files
-  checked words files left status tells zero file log text bytes program ask on spells onlog =
-      done program bytes status zero (tells (Examine Check file log) ask text program bytes on spells onlog)
+  done : (program : Parts) (bytes : List ℕ) (status : ℕ) → IsProgram program → status ≡ 0 → ReportsBy (Reports Check program bytes) (6 ∷ 7 ∷ 9 ∷ []) status → CanHaveBeenPlayed program bytes
+  done program bytes status is zero by = ⊎_elim (λ fault. absurd (no_zero (rw zero at fault))) (λ found. accepted program bytes found.0 is (sym found.2 ∙ zero) found.1) by.1
+
+  pub checked : ((text : List ℕ) (program : Parts) → Spells text program → IsProgram program)
+      → (words : List (List ℕ)) (files : Option Files) (left : Option (List ℕ)) (status : ℕ) → TellsAllThatIsDue words files left status → status ≡ 0 → ChecksWhatCanHaveBeenPlayed words files
+  checked kept words files left status tells zero file log text bytes program ask on spells onlog =
+      done program bytes status (kept text program spells) zero (tells (Examine Check file log) ask text program bytes on spells onlog)

@@ -15,7 +15,7 @@ use crate::reply::{Reply, reply_to};
 use crate::report::Status;
 use cep_base::{Console, ConsoleFault, Shelf, Steps};
 use cep_ground::laws::clean_parts_are_a_program;
-use cep_replay::laws::legal_logs_can_be_played;
+use cep_replay::laws::{interactive_logs_are_answered, legal_logs_can_be_played};
 use cep_run::laws::dialogues_are_there;
 use cep_weigh::laws::one_reading;
 use cep_words::laws::one_request;
@@ -142,6 +142,7 @@ pub fn ceptre<C: Console, H: Shelf, L: Ledger>(
     dialogues_are_there();
     clean_parts_are_a_program();
     legal_logs_can_be_played();
+    interactive_logs_are_answered();
     one_reading();
     match command(alloc, words, console, shelf, steps) {
         Ok(code) => code,

@@ -102,4 +102,7 @@ returns-in-Err-Memory-clause-ticked g c = λ ran. absurd (⊎_elim (λ e. absurd
 
 pub returns-in-Ok-clause-playable : goal.returns-in-Ok-clause-playable
 returns-in-Ok-clause-playable g c =
-    checked (λ program settings log typed. c.legal_logs_can_be_played.ensures program settings log typed) (map string_bytes c.args.words.now) (g.H.Shelf.files c.args.shelf.now) (g.C.Console.left c.args.console.now) _ (returns-in-Ok-clause-due g c)
+    checked (λ program settings log typed. c.legal_logs_can_be_played.ensures program settings log typed)
+    (λ program log is legal settings interactive. c.interactive_logs_are_answered.ensures program settings log is interactive legal)
+    (λ text program spells. c.clean_parts_are_a_program.ensures.program spells.source program spells.clean spells.bound spells.declared spells.grounded)
+    (map string_bytes c.args.words.now) (g.H.Shelf.files c.args.shelf.now) (g.C.Console.left c.args.console.now) _ (returns-in-Ok-clause-due g c)
