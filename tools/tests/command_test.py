@@ -10,14 +10,22 @@ import unittest
 
 from setting import TOP, WORLDS
 
-# A stand-in for the kit's command: it says what a check says, and leaves the program.
+# A stand-in for the kit's command: it says what a run says, and leaves the program.
 KIT = """\
 #!/bin/sh
-echo 'checked cep_lanes::mask, by grind, 1 of 2' >&2
-echo 'checked cep_base::list::push, by search, 7 of 9' >&2
-echo 'rt: a remark' >&2
-mkdir -p out && cp "$PROGRAM" out/ceptre
-echo 'refused 1:1 14 NoTrace'
+[ "$*" = ci ] && [ -f HANDLES ] && [ ! -e crates/cep_lanes ] && [ ! -e crates/cep_base/must-fail ] || exit 1
+echo 'rt: a remark'
+echo 'rt: cep_base is kept: an earlier run proved it'
+echo 'rt: ceptre proved'
+mkdir -p crates/ceptre/out && cp "$PROGRAM" crates/ceptre/out/ceptre
+"""
+
+# The program stands on one crate, and another is none of its.
+CRATES = """\
+# Crates.
+cep_base: itoa
+cep_lanes:
+ceptre: cep_base
 """
 
 
@@ -28,10 +36,11 @@ class Command(unittest.TestCase):
         folder = tempfile.TemporaryDirectory()
         self.addCleanup(folder.cleanup)
         self.top = os.path.join(folder.name, "a house")
-        for name in ("crates/ceptre/src", ".ci", "kit", "tools"):
+        for name in ("crates/ceptre/src", "crates/cep_base/must-fail", "crates/cep_lanes", ".ci", "kit", "tools"):
             os.makedirs(os.path.join(self.top, name))
-        for name in ("ceptre", ".ci/program", ".ci/sources", "crates.txt"):
+        for name in ("ceptre", ".ci/program", ".ci/sources", "HANDLES"):
             shutil.copy(os.path.join(TOP, name), os.path.join(self.top, name))
+        self.write("crates.txt", CRATES)
         self.write("crates/ceptre/src/main.rt", "fn main() {}\n")
         self.write("kit/rt", KIT)
         os.chmod(os.path.join(self.top, "kit", "rt"), 0o755)
@@ -109,12 +118,11 @@ class Command(unittest.TestCase):
     def test_a_build_says_how_far_it_is(self):
         status, output, errors = self.call("world", "1")
         self.assertEqual((status, output.split("\n")[0]), (0, "world 1"))
-        with open(os.path.join(TOP, "crates.txt"), encoding="utf-8") as file:
-            crates = [line.split(":")[0] for line in file if line[0].islower()]
-        at = crates.index("cep_base") + 1
-        wanted = f"crate {at} of {len(crates)}, cep_base: 7 of 9 functions proved, 0:0"
-        self.assertIn(wanted, errors)
-        self.assertIn("ceptre: a remark\n", errors)
+        self.assertIn("proving and building 2 crates\n", errors)
+        self.assertIn("ceptre: 1 of 2 crates, 0:0", errors)
+        self.assertIn(" so far: cep_base\n", errors)
+        self.assertIn(" so far: ceptre\n", errors)
+        self.assertNotIn("remark", errors)
         self.assertEqual(self.call("world", "1", kit=False), (0, output, ""))
 
     def test_what_is_built_anew(self):
