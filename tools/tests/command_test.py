@@ -13,7 +13,7 @@ from setting import TOP, WORLDS
 # A stand-in for the kit's command: it says what a run says, and leaves the program.
 KIT = """\
 #!/bin/sh
-[ "$*" = ci ] && [ -f HANDLES ] && [ ! -e crates/cep_lanes ] && [ ! -e crates/cep_base/must-fail ] || exit 1
+[ "$*" = ci ] && [ -f HANDLES ] && [ ! -e crates/cep_column ] && [ ! -e crates/cep_base/must-fail ] || exit 1
 echo 'rt: a remark'
 echo 'rt: cep_base is kept: an earlier run proved it'
 echo 'rt: ceptre proved'
@@ -24,7 +24,7 @@ mkdir -p crates/ceptre/out && cp "$PROGRAM" crates/ceptre/out/ceptre
 CRATES = """\
 # Crates.
 cep_base: itoa
-cep_lanes:
+cep_column:
 ceptre: cep_base
 """
 
@@ -36,7 +36,7 @@ class Command(unittest.TestCase):
         folder = tempfile.TemporaryDirectory()
         self.addCleanup(folder.cleanup)
         self.top = os.path.join(folder.name, "a house")
-        for name in ("crates/ceptre/src", "crates/cep_base/must-fail", "crates/cep_lanes", ".ci", "kit", "tools"):
+        for name in ("crates/ceptre/src", "crates/cep_base/must-fail", "crates/cep_column", ".ci", "kit", "tools"):
             os.makedirs(os.path.join(self.top, name))
         for name in ("ceptre", ".ci/program", ".ci/sources", "HANDLES"):
             shutil.copy(os.path.join(TOP, name), os.path.join(self.top, name))

@@ -1,7 +1,7 @@
 // Masks of columns, and the places of a mask.
 ghost use Rattle.std.specs.Prelude.{◌≤◌};
 
-use cep_lanes::{and_mask, equal_mask, exclude, include, next_set};
+use cep_column::{and_mask, equal_mask, exclude, include, next_set};
 use std::alloc::{AllocError, Global};
 use std::process::Abort;
 use std::test::Fail;

@@ -7,7 +7,7 @@ use Rattle.cep_rule.specs.declared.parts.Parts.{Parts}
 use Rattle.cep_alpha.specs.Alpha.{Alpha}
 use Rattle.cep_agenda.specs.Agenda.{ListedOffer}
 use Rattle.cep_beta.specs.Beta.{Beta}
-use Rattle.cep_mention.specs.Mentioned.{Mentioned}
+use Rattle.cep_concern.specs.Mentioned.{Mentioned}
 use Rattle.cep_net.specs.Net.{IsNetOf}
 
 -- the memory of a rule has a level for each number of its first premises
