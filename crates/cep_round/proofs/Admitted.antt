@@ -1,9 +1,10 @@
 -- Offers and flags that are gone through one by one.
-use Rattle.std.proofs.Common.{◌≡◌, ℕ, zero, suc, ◌+◌, ◌-◌, ◌≤◌, ◌<◌, Bool, true, false, cond, List, [], ◌∷◌, ◌++◌, length, take, Some, slice_get, refl, sym, ap, subst, ◌∙◌, arith}
-use Rattle.std.specs.List.{AllByRecursion}
+use Rattle.std.proofs.Common.{◌≡◌, ℕ, zero, suc, ◌+◌, ◌-◌, ◌≤◌, ◌<◌, ◌^◌, Bool, true, false, cond, List, [], ◌∷◌, ◌++◌, length, take, Some, slice_get, refl, sym, ap, subst, ◌∙◌, append-nil, arith}
+use Rattle.std.specs.List.{AllByRecursion, flat_map}
+use Rattle.std.proofs.lemmas.Grind.{flat_map-append}
 use Rattle.std.specs.FinMap as finite
 use Rattle.cep_base.specs.declared.limits.TheConstants.{MOST_COPIES}
-use Rattle.cep_term.specs.Tree.{AtomTree}
+use Rattle.cep_term.specs.Tree.{AtomTree, IsGroundAtom}
 use Rattle.cep_term.specs.BagLaws.{BagLaws}
 use Rattle.cep_term.specs.Multiset.{Multiset, count_of, gathered, sum_of, difference_of, copies_in, IsContained, IsBag, IsOnce, held}
 use Rattle.cep_rule.specs.declared.parts.Parts.{Parts}
@@ -98,3 +99,29 @@ exchanged laws program offers needed given state new needs_are gives_are contain
       (laws.empty a) (needs_are a) (gives_are a)
       (rw (is, join_count laws program (difference_of state (joined program.signature finite.empty (gathered needed))) (gathered given) a, laws.difference, join_count laws program finite.empty (gathered needed) a) refl);
 }
+
+-- what is left of a state has no more copies than it
+pub few_left : BagLaws → (signature : Signature) (state : Multiset) (needed given : List AtomTree) → IsBag state → AllByRecursion IsGroundAtom needed → copies_in state + length given < 2 ^ 32
+    → (none taken copied left : Multiset) → none ≡ finite.empty → taken ≡ joined signature none (gathered needed) → copied ≡ state → left ≡ difference_of copied taken
+    → copies_in left + length given < 2 ^ 32
+few_left laws signature state needed given bag ground few none taken copied left none_is taken_is copied_is left_is =
+    let none_bag : IsBag none = rw none_is laws.empty_kept in
+    let taken_bag : IsBag taken = rw taken_is (laws.once_kept (is_fact signature) _ (laws.sum_kept none (gathered needed) none_bag (laws.gathered_kept needed ground))) in
+    let left_bag = laws.difference_kept state taken bag taken_bag in
+    let all = ap copies_in (laws.taken_and_added state (difference_of state taken) bag left_bag (λ a. let less = laws.difference state taken a in omega arith)) in
+    let both = laws.sum_copies (difference_of state (difference_of state taken)) (difference_of state taken) in
+    rw (left_is, copied_is) (omega arith)
+
+-- one offer more is gone through
+pub moved_on : (program : Parts) (state : Multiset) (offers offers' : List Offer) (flags flags' : List Bool) (used used' : Multiset) → offers ≡ offers' → flags ≡ flags' → used ≡ used'
+    → AreAdmitted program state finite.empty offers' flags' × (used_after program finite.empty offers' flags' ≡ used') → AreAdmitted program state finite.empty offers flags × (used ≡ used_after program finite.empty offers flags)
+moved_on program state offers offers' flags flags' used used' e f g grown = rw (e, f, g) (grown.0, sym grown.1)
+
+pub gathered_more : (side : Offer → List AtomTree) (offers next : List Offer) (offer : Offer) (old new : List AtomTree) → next ≡ offers ++ offer ∷ [] → old ≡ flat_map side offers → new ≡ old ++ side offer → new ≡ flat_map side next
+gathered_more side offers next offer old new longer so_far more = rw (more, so_far, longer, flat_map-append side offers (offer ∷ []), append-nil (side offer)) refl
+
+pub gathered_same : (side : Offer → List AtomTree) (offers next : List Offer) (old : List AtomTree) → next ≡ offers ++ [] → old ≡ flat_map side offers → old ≡ flat_map side next
+gathered_same side offers next old longer so_far = rw (longer, append-nil offers) so_far
+
+pub true_not_false : true ≡ false → ⊥
+true_not_false e = cc

@@ -7,3 +7,4 @@ pub mod Premises
 pub mod Places
 pub mod SideAtoms
 pub mod Admitted
+pub mod Exchanges

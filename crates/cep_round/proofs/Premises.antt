@@ -1,5 +1,5 @@
 -- Atoms of a rule that are gone through one by one.
-use Rattle.std.proofs.Common.{◌≡◌, ℕ, ◌+◌, Bool, true, false, cond, ◌||◌, List, [], ◌∷◌, ◌++◌, map, take, Some, append_assoc, refl, arith}
+use Rattle.std.proofs.Common.{◌≡◌, ℕ, ◌+◌, Bool, true, false, cond, ◌||◌, List, [], ◌∷◌, ◌++◌, map, take, Some, append_assoc, append-nil, refl}
 use Rattle.std.specs.Prelude.{slice_get, filter}
 use Rattle.std.specs.List.{AllByRecursion}
 use Rattle.std.proofs.lemmas.List.{map-append}
@@ -41,4 +41,4 @@ pub added_next : (initial prefix next more old new : List AtomTree) → next ≡
 added_next initial prefix next more old new longer so_far gained = rw (gained, so_far, longer) (append_assoc initial prefix more)
 
 pub added_same : (initial prefix next old : List AtomTree) → next ≡ prefix ++ [] → old ≡ initial ++ prefix → old ≡ initial ++ next
-added_same initial prefix next old longer so_far = grind (arith, longer, so_far)
+added_same initial prefix next old longer so_far = rw (longer, append-nil prefix) so_far

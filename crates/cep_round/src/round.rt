@@ -3,7 +3,7 @@ ghost use Rattle.std.specs.List.{AllByRecursion};
 ghost use Rattle.std.specs.FinMap as finite;
 ghost use Rattle.cep_base.specs.declared.limits.TheConstants.{MOST_COPIES};
 ghost use Rattle.cep_term.specs.Tree.{IsGroundAtom};
-ghost use Rattle.cep_term.specs.Multiset.{gathered, once, difference_of, copies_in, IsOnce};
+ghost use Rattle.cep_term.specs.Multiset.{gathered, once, difference_of, copies_in, IsBag, IsOnce};
 ghost use Rattle.cep_rule.specs.declared.offer.Offer.{Offer as Chosen};
 ghost use Rattle.cep_rule.specs.Typing.{is_fact};
 ghost use Rattle.cep_rule.specs.State.{joined};
@@ -46,6 +46,8 @@ pub fn admit(
     let mut flags = Flags::new(alloc);
     let mut used = Bag::new(alloc);
     for i in 0..chosen.len() {
+        // By this call the proof learns that it is a multiset of ground atoms.
+        let _ = used.copies();
         let with = used_with(alloc, program, &used, chosen.get(i))?;
         let admitted = state.contains(&with);
         flags.push(admitted)?;
@@ -92,6 +94,7 @@ pub fn together(
 // What is used once the offer is admitted too.
 fn used_with(alloc: Global, program: &Program, used: &Bag, offer: &Offer) -> Result<Bag, AllocError>
     requires offer { IsOfProgram program.now offer.now }
+    requires bag { IsBag used.now }
     requires once { IsOnce (is_fact program.now.signature) used.now }
     requires few { copies_in used.now ≤ MOST_COPIES }
     ensures { IfOk result (λ bag. bag ≡ used_with program.now used.now offer.now) }
@@ -114,6 +117,7 @@ fn exchange(
 ) -> Result<Bag, AllocError>
     requires needed { AllByRecursion IsGroundAtom needed.now }
     requires given { AllByRecursion IsGroundAtom given.now }
+    requires bag { IsBag state.now }
     requires once { IsOnce (is_fact signature.now) state.now }
     requires few_needed { length needed.now < 2 ^ 32 }
     requires few { copies_in state.now + length given.now < 2 ^ 32 }
