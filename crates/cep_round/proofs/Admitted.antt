@@ -22,14 +22,31 @@ as_many_flags program state used (offer ∷ offers) [] are = absurd are
 as_many_flags program state used (offer ∷ offers) (true ∷ flags) are = ap suc (as_many_flags program state (used_with program used offer) offers flags are.1)
 as_many_flags program state used (offer ∷ offers) (false ∷ flags) are = ap suc (as_many_flags program state used offers flags are.1)
 
-pub next_admitted : (offers : List Offer) (flags : List Bool) (n : ℕ) (offer : Offer) (flag : Bool) → slice_get offers n ≡ Some offer → slice_get flags n ≡ Some flag
-    → admitted (take (suc n) offers) (take (suc n) flags) ≡ admitted (take n offers) (take n flags) ++ cond flag (offer ∷ []) []
-next_admitted [] flags n offer flag is is' = absurd cc
-next_admitted (first ∷ offers) [] n offer flag is is' = absurd cc
-next_admitted (first ∷ offers) (true ∷ flags) zero offer flag is is' = grind arith
-next_admitted (first ∷ offers) (false ∷ flags) zero offer flag is is' = grind arith
-next_admitted (first ∷ offers) (true ∷ flags) (suc n) offer flag is is' = ap (λ more. first ∷ more) (next_admitted offers flags n offer flag is is')
-next_admitted (first ∷ offers) (false ∷ flags) (suc n) offer flag is is' = next_admitted offers flags n offer flag is is'
+-- one offer more, which is admitted or blocked
+next_by_suc : (offers : List Offer) (flags : List Bool) (n : ℕ) (offer : Offer) → slice_get offers n ≡ Some offer → slice_get flags n ≡ Some true
+    → admitted (take (suc n) offers) (take (suc n) flags) ≡ admitted (take n offers) (take n flags) ++ offer ∷ []
+next_by_suc [] flags n offer is is' = absurd cc
+next_by_suc (first ∷ offers) [] n offer is is' = absurd cc
+next_by_suc (first ∷ offers) (true ∷ flags) zero offer is is' = grind arith
+next_by_suc (first ∷ offers) (false ∷ flags) zero offer is is' = grind arith
+next_by_suc (first ∷ offers) (true ∷ flags) (suc n) offer is is' = ap (λ more. first ∷ more) (next_by_suc offers flags n offer is is')
+next_by_suc (first ∷ offers) (false ∷ flags) (suc n) offer is is' = next_by_suc offers flags n offer is is'
+
+same_by_suc : (offers : List Offer) (flags : List Bool) (n : ℕ) → slice_get flags n ≡ Some false → admitted (take (suc n) offers) (take (suc n) flags) ≡ admitted (take n offers) (take n flags)
+same_by_suc [] flags zero is = refl
+same_by_suc [] flags (suc n) is = refl
+same_by_suc (first ∷ offers) [] n is = absurd cc
+same_by_suc (first ∷ offers) (true ∷ flags) zero is = grind arith
+same_by_suc (first ∷ offers) (false ∷ flags) zero is = grind arith
+same_by_suc (first ∷ offers) (true ∷ flags) (suc n) is = ap (λ more. first ∷ more) (same_by_suc offers flags n is)
+same_by_suc (first ∷ offers) (false ∷ flags) (suc n) is = same_by_suc offers flags n is
+
+pub next_admitted : (offers : List Offer) (flags : List Bool) (n : ℕ) (offer : Offer) → slice_get offers n ≡ Some offer → slice_get flags n ≡ Some true
+    → admitted (take (n + 1) offers) (take (n + 1) flags) ≡ admitted (take n offers) (take n flags) ++ offer ∷ []
+next_admitted offers flags n offer is is' = let e : n + 1 ≡ suc n = omega arith in rw e (next_by_suc offers flags n offer is is')
+
+pub next_blocked : (offers : List Offer) (flags : List Bool) (n : ℕ) → slice_get flags n ≡ Some false → admitted (take (n + 1) offers) (take (n + 1) flags) ≡ admitted (take n offers) (take n flags)
+next_blocked offers flags n is = let e : n + 1 ≡ suc n = omega arith in rw e (same_by_suc offers flags n is)
 
 pub few_admitted : (offers : List Offer) (flags : List Bool) → length (admitted offers flags) ≤ length offers
 few_admitted [] flags = omega arith
@@ -120,8 +137,8 @@ moved_on program state offers offers' flags flags' used used' e f g grown = rw (
 pub gathered_more : (side : Offer → List AtomTree) (offers next : List Offer) (offer : Offer) (old new : List AtomTree) → next ≡ offers ++ offer ∷ [] → old ≡ flat_map side offers → new ≡ old ++ side offer → new ≡ flat_map side next
 gathered_more side offers next offer old new longer so_far more = rw (more, so_far, longer, flat_map-append side offers (offer ∷ []), append-nil (side offer)) refl
 
-pub gathered_same : (side : Offer → List AtomTree) (offers next : List Offer) (old : List AtomTree) → next ≡ offers ++ [] → old ≡ flat_map side offers → old ≡ flat_map side next
-gathered_same side offers next old longer so_far = rw (longer, append-nil offers) so_far
+pub gathered_same : (side : Offer → List AtomTree) (offers next : List Offer) (old new : List AtomTree) → next ≡ offers → old ≡ flat_map side offers → new ≡ old → new ≡ flat_map side next
+gathered_same side offers next old new same so_far is = rw (is, so_far, same) refl
 
 pub true_not_false : true ≡ false → ⊥
 true_not_false e = cc

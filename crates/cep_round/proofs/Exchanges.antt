@@ -44,19 +44,22 @@ module _ (laws : StepLaws) (program : Parts) (kept : IsProgram program) where
     each : AllByRecursion (IsOfProgram program) done
     each = each_admitted (IsOfProgram program) chosen flags (all_weaker (Applies program MOST_HEIGHT state) (IsOfProgram program) chosen (of_applies program MOST_HEIGHT state) are_chosen.apply)
 
-    -- at the end all are gone through
-    pub finished : (side : Offer → List AtomTree) (n : ℕ) (atoms : List AtomTree) → length chosen ≤ n → atoms ≡ flat_map side (admitted (take n chosen) (take n flags)) → atoms ≡ flat_map side done
-    finished side n atoms all so_far =
-        let same = as_many_flags program state finite.empty chosen flags are in
-        so_far ∙ (λ i. flat_map side (admitted (take_all n chosen all i) (take_all n flags (omega arith) i)))
-
     needed_all : AllByRecursion IsGroundAtom (flat_map (needed_by program) done)
     needed_all = all_flat (IsOfProgram program) IsGroundAtom (needed_by program) done (needed_ground laws program kept) each
 
     given_all : AllByRecursion IsGroundAtom (flat_map (given_by program) done)
     given_all = all_flat (IsOfProgram program) IsGroundAtom (given_by program) done (given_ground laws program kept) each
 
-    module _ (needed given : List AtomTree) (needed_is : needed ≡ flat_map (needed_by program) done) (given_is : given ≡ flat_map (given_by program) done) where
+    module _ (n : ℕ) (all : length chosen ≤ n) (needed given : List AtomTree) (so_far : (needed ≡ flat_map (needed_by program) (admitted (take n chosen) (take n flags))) × (given ≡ flat_map (given_by program) (admitted (take n chosen) (take n flags)))) where
+      whole : admitted (take n chosen) (take n flags) ≡ done
+      whole = let same = as_many_flags program state finite.empty chosen flags are in λ i. admitted (take_all n chosen all i) (take_all n flags (omega arith) i)
+
+      needed_is : needed ≡ flat_map (needed_by program) done
+      needed_is = so_far.0 ∙ ap (flat_map (needed_by program)) whole
+
+      given_is : given ≡ flat_map (given_by program) done
+      given_is = so_far.1 ∙ ap (flat_map (given_by program)) whole
+
       pub needed_are_ground : AllByRecursion IsGroundAtom needed
       needed_are_ground = rw needed_is needed_all
 
