@@ -1,12 +1,12 @@
 -- Offers and flags that are gone through one by one.
-use Rattle.std.proofs.Common.{◌≡◌, ℕ, zero, suc, ◌+◌, ◌-◌, ◌≤◌, ◌<◌, ◌^◌, Bool, true, false, cond, List, [], ◌∷◌, ◌++◌, length, take, Some, slice_get, refl, sym, ap, subst, ◌∙◌, append-nil, arith}
+use Rattle.std.proofs.Common.{◌≡◌, ℕ, zero, suc, ◌+◌, ◌-◌, ◌≤◌, ◌<◌, ◌^◌, Bool, true, false, List, [], ◌∷◌, ◌++◌, length, take, Some, slice_get, refl, sym, ap, append-nil, arith}
 use Rattle.std.specs.List.{AllByRecursion, flat_map}
 use Rattle.std.proofs.lemmas.Grind.{flat_map-append}
 use Rattle.std.specs.FinMap as finite
 use Rattle.cep_base.specs.declared.limits.TheConstants.{MOST_COPIES}
 use Rattle.cep_term.specs.Tree.{AtomTree, IsGroundAtom}
 use Rattle.cep_term.specs.BagLaws.{BagLaws}
-use Rattle.cep_term.specs.Multiset.{Multiset, count_of, gathered, sum_of, difference_of, copies_in, IsContained, IsBag, IsOnce, held}
+use Rattle.cep_term.specs.Multiset.{Multiset, count_of, gathered, difference_of, copies_in, IsContained, IsBag, IsOnce, held}
 use Rattle.cep_rule.specs.declared.parts.Parts.{Parts}
 use Rattle.cep_rule.specs.declared.offer.Offer.{Offer}
 use Rattle.cep_rule.specs.declared.signature.Signature.{Signature}

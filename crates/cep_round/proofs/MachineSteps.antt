@@ -1,19 +1,18 @@
 -- Offers that are done one after another are steps of the machine.
-use Rattle.std.proofs.Common.{◌≡◌, inl, ℕ, suc, ◌+◌, ◌*◌, ◌%◌, ◌≤◌, List, [], ◌∷◌, ◌++◌, Option, Some, None, IsSome, is_some, unwrap_or, slice_get, ◌↔◌, refl, sym, ap, subst, ◌∙◌, arith}
+use Rattle.std.proofs.Common.{◌≡◌, inl, ℕ, ◌*◌, ◌%◌, List, [], ◌∷◌, Option, Some, None, IsSome, is_some, unwrap_or, ◌↔◌, refl, sym, ap, subst, ◌∙◌, arith}
 use Rattle.std.specs.Prelude.{IfSome}
 use Rattle.std.specs.List.{AllByRecursion}
 use Rattle.cep_base.proofs.Lists.{holds_at, some_same}
-use Rattle.cep_term.specs.Tree.{Tree, AtomTree}
+use Rattle.cep_term.specs.Tree.{AtomTree}
 use Rattle.cep_term.specs.Multiset.{Multiset}
 use Rattle.cep_rule.specs.declared.rule.Rule.{Rule}
 use Rattle.cep_rule.specs.declared.parts.Parts.{Parts}
 use Rattle.cep_rule.specs.declared.offer.Offer.{Offer}
-use Rattle.cep_rule.specs.State.{Fits}
 use Rattle.cep_rule.specs.Derivations.{ProofTree, IsDerivable}
 use Rattle.cep_rule.specs.Instances.{full_instances}
-use Rattle.cep_rule.specs.Offers.{Applies, IsInGroup}
+use Rattle.cep_rule.specs.Offers.{IsInGroup}
 use Rattle.cep_rule.specs.Stages.{own_group}
-use Rattle.cep_rule.specs.Steps.{Spot, MakesFit, AreProofs, IsMachineStep, stage_after}
+use Rattle.cep_rule.specs.Steps.{MakesFit, AreProofs, stage_after}
 use Rattle.cep_rule.specs.Program.{IsGroupedRule, IsProgram}
 use Rattle.cep_round.specs.Orders.{MakesFitAtoms, IsOfferDone, AreOffersDone, FitOnTheWay, AreMachineSteps}
 

@@ -1,12 +1,11 @@
 -- Offers done one after another, in any order.
-use Rattle.std.proofs.Common.{◌≡◌, ◌⊎◌, inl, inr, cond, ℕ, ◌+◌, ◌-◌, ◌<◌, ◌≤◌, Bool, true, false, not, ◌||◌, List, [], ◌∷◌, ◌++◌, map, Contains, Some, slice_get, refl, sym, ap, subst, ◌∙◌, arith, IsPermutation}
-use Rattle.std.specs.Prelude.{sum_by, filter, option_map, unwrap_or, IfSome}
+use Rattle.std.proofs.Common.{◌≡◌, ◌⊎◌, inl, inr, cond, ℕ, ◌+◌, ◌-◌, ◌<◌, ◌≤◌, Bool, true, false, ◌||◌, List, [], ◌∷◌, ◌++◌, map, Contains, Some, slice_get, refl, sym, ap, subst, ◌∙◌, arith, IsPermutation}
+use Rattle.std.specs.Prelude.{filter, IfSome}
 use Rattle.std.specs.List.{AllByRecursion}
 use Rattle.std.proofs.lemmas.Bool.{cases_lt}
 use Rattle.std.proofs.lemmas.List.{map-append}
 use Rattle.std.proofs.lemmas.List.Sums.{sum_by-cons}
 use Rattle.std.proofs.lemmas.List.Sorted.{sum_by-IsPermutation, Contains-permutation, IsPermutation-sym}
-use Rattle.std.specs.FinMap as finite
 use Rattle.cep_base.proofs.Elements.{all_at, all_of, contains_cases, contains_behind, contains_same, contains_right}
 use Rattle.cep_base.proofs.Lists.{holds_at}
 use Rattle.cep_term.specs.Tree.{Tree, AtomTree}
@@ -17,15 +16,14 @@ use Rattle.cep_rule.specs.declared.offer.Offer.{Offer}
 use Rattle.cep_rule.specs.Patterns.{PremiseTree}
 use Rattle.cep_rule.specs.Binding.{needed_of}
 use Rattle.cep_rule.specs.Typing.{AreValues, is_fact}
-use Rattle.cep_rule.specs.State.{joined, IsState}
+use Rattle.cep_rule.specs.State.{IsState}
 use Rattle.cep_rule.specs.Instances.{full_instance, full_instances, kept_of, left_of, right_of}
 use Rattle.cep_rule.specs.Derivations.{IsDerivable}
 use Rattle.cep_rule.specs.Offers.{Applies}
-use Rattle.cep_rule.specs.Step.{Step}
 use Rattle.cep_rule.specs.Steps.{MakesFit}
 use Rattle.cep_rule.specs.Program.{IsTypedRule, IsDividedRule, IsProgram}
 use Rattle.cep_round.specs.StepLaws.{StepLaws}
-use Rattle.cep_round.specs.Rounds.{needs, gives, sum_of_sides, all_need, all_give, Together}
+use Rattle.cep_round.specs.Rounds.{needs, gives, sum_of_sides, all_need, Together}
 use Rattle.cep_round.specs.Orders.{MakesFitAtoms, IsOfferDone, AreOffersDone, KeepHeights}
 use Rattle.cep_round.proofs.Counts.{join_count, count_all, all_count}
 

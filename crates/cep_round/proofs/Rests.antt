@@ -1,17 +1,13 @@
 -- A round has one outcome, and leaves a rest alone.
-use Rattle.std.proofs.Common.{◌≡◌, ℕ, ◌+◌, ◌-◌, ◌<◌, ◌≤◌, Bool, true, false, List, [], ◌∷◌, Some, slice_get, refl, sym, ap, subst, ◌∙◌, arith}
+use Rattle.std.proofs.Common.{◌≡◌, ℕ, ◌+◌, ◌-◌, ◌≤◌, Bool, true, false, List, [], ◌∷◌, refl, sym, ap, subst, ◌∙◌, arith}
 use Rattle.std.specs.List.{AllByRecursion}
-use Rattle.std.specs.FinMap as finite
 use Rattle.cep_base.proofs.Lists.{holds_at}
-use Rattle.cep_term.specs.Tree.{Tree, AtomTree}
 use Rattle.cep_term.specs.BagLaws.{BagLaws}
-use Rattle.cep_term.specs.Multiset.{Multiset, count_of, sum_of, difference_of, IsContained, IsBag, IsOnce, held}
-use Rattle.cep_rule.specs.declared.rule.Rule.{Rule}
+use Rattle.cep_term.specs.Multiset.{Multiset, count_of, difference_of, IsBag, held}
 use Rattle.cep_rule.specs.declared.parts.Parts.{Parts}
 use Rattle.cep_rule.specs.declared.offer.Offer.{Offer}
-use Rattle.cep_rule.specs.Typing.{AreValues, is_fact}
+use Rattle.cep_rule.specs.Typing.{is_fact}
 use Rattle.cep_rule.specs.State.{joined, IsState}
-use Rattle.cep_rule.specs.Instances.{left_of, right_of}
 use Rattle.cep_rule.specs.Offers.{Applies}
 use Rattle.cep_rule.specs.Program.{IsTypedRule, IsProgram}
 use Rattle.cep_round.specs.Rounds.{needs, gives, all_need, all_give, AreAdmitted, Together}

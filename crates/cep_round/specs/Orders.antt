@@ -11,7 +11,7 @@ use Rattle.cep_rule.specs.State.{joined, Fits}
 use Rattle.cep_rule.specs.Offers.{Applies}
 use Rattle.cep_rule.specs.Step.{Step}
 use Rattle.cep_rule.specs.Derivations.{ProofTree}
-use Rattle.cep_rule.specs.Steps.{Spot, MakesFit, IsMachineStep}
+use Rattle.cep_rule.specs.Steps.{MakesFit, IsMachineStep}
 use Rattle.cep_round.specs.Rounds.{all_need, all_give}
 
 -- An offer is done: it applies to the old state, and its step leads to the new one.

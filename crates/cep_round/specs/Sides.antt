@@ -1,10 +1,7 @@
 -- Private.
 -- The atoms of both sides of offers, one behind the other.
-use Rattle.std.specs.Prelude.{◌≡◌, ℕ, ◌*◌, ◌+◌, ◌≤◌, ◌++◌, List, [], length, slice_get, option_map, unwrap_or, Some}
-use Rattle.std.specs.List.{AllByRecursion, flat_map}
-use Rattle.cep_base.specs.declared.limits.TheConstants.{MOST_PREMISES, MOST_RIGHT}
-use Rattle.cep_term.specs.Tree.{Tree, AtomTree, IsGroundAtom}
-use Rattle.cep_rule.specs.declared.signature.Signature.{Signature}
+use Rattle.std.specs.Prelude.{◌≡◌, ◌++◌, List, [], slice_get, option_map, unwrap_or, Some}
+use Rattle.cep_term.specs.Tree.{AtomTree}
 use Rattle.cep_rule.specs.declared.rule.Rule.{Rule}
 use Rattle.cep_rule.specs.declared.parts.Parts.{Parts}
 use Rattle.cep_rule.specs.declared.offer.Offer.{Offer}

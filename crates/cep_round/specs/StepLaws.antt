@@ -1,6 +1,6 @@
 -- Private.
 -- The laws of steps and states that the proofs of this crate rest on.
-use Rattle.std.specs.Prelude.{◌≡◌, List}
+use Rattle.std.specs.Prelude.{List}
 use Rattle.cep_term.specs.Tree.{Tree}
 use Rattle.cep_term.specs.BagLaws.{BagLaws}
 use Rattle.cep_term.specs.Multiset.{Multiset, gathered, IsContained, IsBag}

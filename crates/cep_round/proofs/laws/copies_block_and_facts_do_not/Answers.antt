@@ -1,6 +1,3 @@
-use Rattle.std.proofs.Common.{ap, ◌∙◌, arith}
-use Rattle.cep_term.specs.Multiset.{count_of, held}
-use Rattle.cep_round.specs.Rounds.{needs}
 use Rattle.cep_round.proofs.Counts.{facts_there, copies_there}
 use Rattle.cep_round.proofs.laws.copies_block_and_facts_do_not.Goals as goal
 

@@ -18,5 +18,5 @@ returns-clause-together c = λ program height state last offers order kept is co
     let laws = c.steps_are_lawful.ensures in (
       last_bag laws program kept height order state last is.bag done,
       together_anyway laws program offers order state last same
-      (is_together laws program kept height order state last is.once (contained_anyway laws program offers order state same contained) done),
+          (is_together laws program kept height order state last is.once (contained_anyway laws program offers order state same contained) done),
     )

@@ -1,4 +1,4 @@
-use Rattle.std.proofs.Common.{◌≡◌, Bool, true, false, ap, sym, subst, ◌∙◌, take, ◌++◌, ◌∷◌, []}
+use Rattle.std.proofs.Common.{Bool, ap, sym, subst, ◌∙◌, take, ◌++◌, ◌∷◌, []}
 use Rattle.std.specs.FinMap as finite
 use Rattle.cep_term.specs.Multiset.{Multiset, IsOnce, IsContained}
 use Rattle.cep_rule.specs.Typing.{is_fact}
@@ -34,13 +34,13 @@ loop-i-preserved c =
     let with_is = c.in_ok-with.ensures ∙ ap (λ (used : Multiset). used_with program used offer) c.loop-i.invariant.1 in
     elim c.if-admitted.branch [
       | then-admitted w ↦ (
-        let within = subst (λ (bag : Multiset). IsContained bag state) with_is (c.contains-admitted.ensures.0 w.if-admitted.true) in
-        moved_on program state _ _ c.push.new.self _ c.if-admitted.used _ next (c.in_ok-push.ensures.ok ∙ ap (λ (flag : Bool). flags ++ flag ∷ []) w.if-admitted.true) (w.used-is ∙ with_is)
-        (c.flags_grow.ensures.admitted program state finite.empty before flags offer c.loop-i.invariant.0 within)
-      )
+          let within = subst (λ (bag : Multiset). IsContained bag state) with_is (c.contains-admitted.ensures.0 w.if-admitted.true) in
+          moved_on program state _ _ c.push.new.self _ c.if-admitted.used _ next (c.in_ok-push.ensures.ok ∙ ap (λ (flag : Bool). flags ++ flag ∷ []) w.if-admitted.true) (w.used-is ∙ with_is)
+          (c.flags_grow.ensures.admitted program state finite.empty before flags offer c.loop-i.invariant.0 within)
+          )
       | else-admitted w ↦ (
-        let outside = λ (within : IsContained (used_with program (used_after program finite.empty before flags) offer) state). true_not_false (sym (c.contains-admitted.ensures.1 (subst (λ (bag : Multiset). IsContained bag state) (sym with_is) within)) ∙ w.if-admitted.false) in
-        moved_on program state _ _ c.push.new.self _ c.if-admitted.used _ next (c.in_ok-push.ensures.ok ∙ ap (λ (flag : Bool). flags ++ flag ∷ []) w.if-admitted.false) (w.used-is ∙ c.loop-i.invariant.1)
-        (c.flags_grow.ensures.blocked program state finite.empty before flags offer c.loop-i.invariant.0 outside)
-      )
+          let outside = λ (within : IsContained (used_with program (used_after program finite.empty before flags) offer) state). true_not_false (sym (c.contains-admitted.ensures.1 (subst (λ (bag : Multiset). IsContained bag state) (sym with_is) within)) ∙ w.if-admitted.false) in
+          moved_on program state _ _ c.push.new.self _ c.if-admitted.used _ next (c.in_ok-push.ensures.ok ∙ ap (λ (flag : Bool). flags ++ flag ∷ []) w.if-admitted.false) (w.used-is ∙ c.loop-i.invariant.1)
+          (c.flags_grow.ensures.blocked program state finite.empty before flags offer c.loop-i.invariant.0 outside)
+          )
     ]

@@ -1,15 +1,12 @@
-use Rattle.std.proofs.Common.{◌≡◌, ℕ, Bool, true, false, List, [], ◌∷◌, ap, sym, subst, ◌∙◌, take, Some, arith, IsPermutation}
+use Rattle.std.proofs.Common.{◌≡◌, ℕ, true, false, List, ap, subst, ◌∙◌, Some, arith, IsPermutation}
 use Rattle.std.specs.Prelude.{slice_get}
-use Rattle.std.specs.List.{AllByRecursion}
-use Rattle.std.proofs.lemmas.Option.{slice_get_within}
 use Rattle.std.proofs.lemmas.Result.{IfOk-weaker}
 use Rattle.std.proofs.lemmas.List.Sorted.{IsPermutation-sym}
 use Rattle.std.specs.FinMap as finite
 use Rattle.cep_base.specs.declared.limits.TheConstants.{MOST_HEIGHT}
 use Rattle.cep_base.proofs.Lists.{holds_at}
-use Rattle.cep_term.specs.Multiset.{Multiset, gathered, difference_of}
+use Rattle.cep_term.specs.Multiset.{Multiset}
 use Rattle.cep_rule.specs.declared.offer.Offer.{Offer}
-use Rattle.cep_rule.specs.State.{joined}
 use Rattle.cep_rule.specs.Offers.{Applies}
 use Rattle.cep_round.specs.Rounds.{admitted, Together}
 use Rattle.cep_round.specs.Sides.{needed_by, given_by}
@@ -43,18 +40,18 @@ loop-i-preserved c =
     let i = c.loop-i.i in
     elim c.if-get.branch [
       | then-get+in_ok-push_needed+in_ok-push_given w ↦ (
-        let flagged : slice_get flags i ≡ Some true = c.get.ensures ∙ ap Some w.if-get.true in (
-          gathered_more (needed_by program) _ _ w.get-then-get.result.now c.loop-i.needed c.if-get.needed (next_admitted chosen flags i w.get-then-get.result.now w.get-then-get.ensures flagged) c.loop-i.invariant.0 (w.needed-is ∙ w.in_ok-push_needed.ensures),
-          gathered_more (given_by program) _ _ w.get-then-get-2.result.now c.loop-i.given c.if-get.given (next_admitted chosen flags i w.get-then-get-2.result.now w.get-then-get-2.ensures flagged) c.loop-i.invariant.1 (w.given-is ∙ w.in_ok-push_given.ensures),
-        )
-      )
+          let flagged : slice_get flags i ≡ Some true = c.get.ensures ∙ ap Some w.if-get.true in (
+            gathered_more (needed_by program) _ _ w.get-then-get.result.now c.loop-i.needed c.if-get.needed (next_admitted chosen flags i w.get-then-get.result.now w.get-then-get.ensures flagged) c.loop-i.invariant.0 (w.needed-is ∙ w.in_ok-push_needed.ensures),
+            gathered_more (given_by program) _ _ w.get-then-get-2.result.now c.loop-i.given c.if-get.given (next_admitted chosen flags i w.get-then-get-2.result.now w.get-then-get-2.ensures flagged) c.loop-i.invariant.1 (w.given-is ∙ w.in_ok-push_given.ensures),
+          )
+          )
       | else-get w ↦ (
-        let flagged : slice_get flags i ≡ Some false = c.get.ensures ∙ ap Some w.if-get.false in
-        let same = next_blocked chosen flags i flagged in (
-          gathered_same (needed_by program) _ _ c.loop-i.needed c.if-get.needed same c.loop-i.invariant.0 w.needed-is,
-          gathered_same (given_by program) _ _ c.loop-i.given c.if-get.given same c.loop-i.invariant.1 w.given-is,
-        )
-      )
+          let flagged : slice_get flags i ≡ Some false = c.get.ensures ∙ ap Some w.if-get.false in
+          let same = next_blocked chosen flags i flagged in (
+            gathered_same (needed_by program) _ _ c.loop-i.needed c.if-get.needed same c.loop-i.invariant.0 w.needed-is,
+            gathered_same (given_by program) _ _ c.loop-i.given c.if-get.given same c.loop-i.invariant.1 w.given-is,
+          )
+          )
     ]
 
 pub exchange-requires-clause-needed : goal.exchange-requires-clause-needed
@@ -102,16 +99,16 @@ returns-clause-in_every_order c =
     let apply = each_admitted (Applies program MOST_HEIGHT state) chosen flags c.requires.chosen.apply in
     IfOk-weaker c.exchange.result _ (λ last. (order : List Offer) → IsPermutation done order → LeadInOrder program order state last)
     (λ new is order same.
-      let bag = new_bag laws program kept state chosen flags c.requires.chosen c.requires.flags c.loop-i.i (omega arith) c.loop-i.needed c.loop-i.given c.loop-i.invariant c.parts.result.now new c.parts.ensures.parts is in
-      let together = leads_together laws program kept state chosen flags c.requires.chosen c.requires.flags c.loop-i.i (omega arith) c.loop-i.needed c.loop-i.given c.loop-i.invariant c.parts.result.now new c.parts.ensures.parts is contained in
-      let no_other : (height : ℕ) (other : Multiset) → AreOffersDone program height state order other → other ≡ new =
-          λ height other run. let led = every.together program height state other done order kept is_state contained same run in
-          c.one_state_after_a_round.ensures.state program done state other new led.0 bag led.1 together in
-      record {
-        done = λ fit.
-            let run = every.done program MOST_HEIGHT state done order kept is_state apply (all_in_order laws program (MakesFitAtoms program) order done (IsPermutation-sym done order same) fit) contained same in
-            subst (λ (last : Multiset). AreOffersDone program MOST_HEIGHT state order last) (no_other MOST_HEIGHT run.0 run.1) run.1;
-        heights = every.heights program state done order kept contained same;
-        no_other = no_other;
-      })
+    let bag = new_bag laws program kept state chosen flags c.requires.chosen c.requires.flags c.loop-i.i (omega arith) c.loop-i.needed c.loop-i.given c.loop-i.invariant c.parts.result.now new c.parts.ensures.parts is in
+    let together = leads_together laws program kept state chosen flags c.requires.chosen c.requires.flags c.loop-i.i (omega arith) c.loop-i.needed c.loop-i.given c.loop-i.invariant c.parts.result.now new c.parts.ensures.parts is contained in
+    let no_other : (height : ℕ) (other : Multiset) → AreOffersDone program height state order other → other ≡ new =
+    λ height other run. let led = every.together program height state other done order kept is_state contained same run in
+    c.one_state_after_a_round.ensures.state program done state other new led.0 bag led.1 together in
+    record {
+      done = λ fit.
+          let run = every.done program MOST_HEIGHT state done order kept is_state apply (all_in_order laws program (MakesFitAtoms program) order done (IsPermutation-sym done order same) fit) contained same in
+          subst (λ (last : Multiset). AreOffersDone program MOST_HEIGHT state order last) (no_other MOST_HEIGHT run.0 run.1) run.1;
+      heights = every.heights program state done order kept contained same;
+      no_other = no_other;
+    })
     c.exchange.ensures

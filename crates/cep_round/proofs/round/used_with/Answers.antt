@@ -1,9 +1,8 @@
-use Rattle.std.proofs.Common.{◌≡◌, ◌++◌, List, sym, ap, subst, ◌∙◌, arith}
+use Rattle.std.proofs.Common.{◌++◌, List, sym, ap, subst, ◌∙◌}
 use Rattle.std.specs.List.{AllByRecursion}
 use Rattle.cep_term.specs.Tree.{AtomTree, IsGroundAtom}
-use Rattle.cep_term.specs.Multiset.{copies_in}
 use Rattle.cep_round.specs.Sides.{needed_by}
-use Rattle.cep_round.proofs.SideAtoms.{needed_ground, needed_few}
+use Rattle.cep_round.proofs.SideAtoms.{needed_ground}
 use Rattle.cep_round.proofs.Exchanges.{used_with_is, few_with}
 use Rattle.cep_round.proofs.round.used_with.Goals as goal
 

@@ -14,10 +14,10 @@ loop-i-preserved c =
     let premise = premise_of c.get-premise.result.now in
     elim c.if-stays.branch [
       | then-stays+in_ok-instance+in_ok-push w ↦
-        added_next c.args.atoms.now _ _ _ c.loop-i.atoms _
-        (next_staying c.args.signature.now c.args.values.now c.args.rule.now.premises c.loop-i.i premise true c.get-premise.ensures (sym c.stays.ensures ∙ w.if-stays.true)) c.loop-i.invariant
-        (w.atoms-is ∙ w.in_ok-push.ensures.ok ∙ ap (λ (a : AtomTree). c.loop-i.atoms ++ a ∷ []) w.in_ok-instance.ensures)
+          added_next c.args.atoms.now _ _ _ c.loop-i.atoms _
+          (next_staying c.args.signature.now c.args.values.now c.args.rule.now.premises c.loop-i.i premise true c.get-premise.ensures (sym c.stays.ensures ∙ w.if-stays.true)) c.loop-i.invariant
+          (w.atoms-is ∙ w.in_ok-push.ensures.ok ∙ ap (λ (a : AtomTree). c.loop-i.atoms ++ a ∷ []) w.in_ok-instance.ensures)
       | else-stays w ↦
-        w.atoms-is ∙ added_same c.args.atoms.now _ _ c.loop-i.atoms
-        (next_staying c.args.signature.now c.args.values.now c.args.rule.now.premises c.loop-i.i premise false c.get-premise.ensures (sym c.stays.ensures ∙ w.if-stays.false)) c.loop-i.invariant
+          w.atoms-is ∙ added_same c.args.atoms.now _ _ c.loop-i.atoms
+          (next_staying c.args.signature.now c.args.values.now c.args.rule.now.premises c.loop-i.i premise false c.get-premise.ensures (sym c.stays.ensures ∙ w.if-stays.false)) c.loop-i.invariant
     ]

@@ -1,5 +1,4 @@
-use Rattle.std.proofs.Common.{◌≡◌, ◌++◌, take, map}
-use Rattle.cep_rule.specs.Patterns.{PremiseTree}
+use Rattle.std.proofs.Common.{◌≡◌, ◌++◌, take}
 use Rattle.cep_rule.specs.Instances.{full_instances}
 use Rattle.cep_round.proofs.Premises.{atoms_among}
 use Rattle.cep_round.proofs.sides.push_premises.Given as goal
