@@ -1,0 +1,4 @@
+mod Rows
+mod Oldest
+mod Tracing
+mod Taken

@@ -1,6 +1,6 @@
 -- Private.
 -- What is kept of the tokens that are present: of each atom that was met a queue of traces, one for each of its tokens, by increasing number.
-use Rattle.std.specs.Prelude.{◌≡◌, ℕ, ◌×◌, List, [], ◌∷◌, length, cond, Some, slice_get, refl}
+use Rattle.std.specs.Prelude.{◌≡◌, ℕ, List, [], ◌∷◌, length, cond, Some, slice_get, refl}
 use Rattle.std.specs.Coded.{Coded, code_by, coded×, coded_list}
 use Rattle.std.specs.Ordering.{eq_by_cmp}
 use Rattle.cep_term.specs.Tree.{AtomTree}
@@ -41,14 +41,19 @@ queue_of queues a = row_of queues.atoms queues.rows a
 abbrev pub IsIdOf : Queues → ℕ → AtomTree → Type 0
 IsIdOf queues id a = slice_get queues.atoms id ≡ Some a
 
--- One atom's queue is set, all others stay, and so do ids.
-pub record SetsQueue (old : Queues) (a : AtomTree) (queue : List Trace) (new : Queues)
-    : Type 0 where
-  pub queues : (b : AtomTree) → queue_of new b ≡ cond (eq_by_cmp atom_cmp a b) queue (queue_of old b)
-  pub ids : (id : ℕ) (b : AtomTree) → IsIdOf old id b → IsIdOf new id b
+-- Each id is of the same atom.
+abbrev pub KeepsIds : Queues → Queues → Type 0
+KeepsIds old new = (id : ℕ) (a : AtomTree) → IsIdOf old id a → IsIdOf new id a
 
--- An atom has an id, and all queues and ids stay.
+-- One atom's queue is changed so, and all others stay.
+pub record Changes (a : AtomTree) (change : List Trace → List Trace) (old new : Queues)
+    : Type 0 where
+  pub atoms : new.atoms ≡ old.atoms
+  pub queues : (b : AtomTree)
+      → queue_of new b ≡ cond (eq_by_cmp atom_cmp a b) (change (queue_of old b)) (queue_of old b)
+
+-- An atom has an id now, and all queues and ids stay.
 pub record Meets (old : Queues) (a : AtomTree) (id : ℕ) (new : Queues) : Type 0 where
-  pub id : IsIdOf new id a
+  pub met : IsIdOf new id a
   pub queues : (b : AtomTree) → queue_of new b ≡ queue_of old b
-  pub ids : (other : ℕ) (b : AtomTree) → IsIdOf old other b → IsIdOf new other b
+  pub ids : KeepsIds old new

@@ -1,8 +1,8 @@
-ghost use Rattle.std.specs.Prelude.{◌≡◌, ◌+◌, ◌<◌, ℕ, List, [], ◌∷◌, ◌++◌, length, nat_lt, IfOk, OnOk};
+ghost use Rattle.std.specs.Prelude.{◌≡◌, ◌+◌, ◌<◌, ℕ, List, [], ◌∷◌, ◌++◌, length, nat_lt, None, IfOk, OnOk};
 ghost use Rattle.std.specs.Option.{option_to_list};
 ghost use Rattle.cep_term.specs.Tree.{AtomTree, atom_of, IsGroundAtom};
 ghost use Rattle.cep_graph.specs.declared.trace.Trace.{Trace};
-ghost use Rattle.cep_graph.specs.Queues.{queue_of, IsIdOf, SetsQueue, Meets};
+ghost use Rattle.cep_graph.specs.Queues.{queue_of, IsIdOf, Changes, Meets};
 
 use crate::trace::Trace;
 use cep_store::Store;
@@ -56,8 +56,11 @@ impl Tokens {
         requires { IsGroundAtom (atom_of atom.now) }
         ensures { IfOk result (λ id. Meets self.old (atom_of atom.now) id self.new) }
     {
+        bags_are_lawful();
+        // so that an atom and its queue are added both or not at all
+        self.queues.reserve(1)?;
         let id = self.store.intern(atom)? as usize;
-        if id == self.queues.len() {
+        if self.store.atoms() as usize > self.queues.len() {
             self.queues.push(VecDeque::new(self.alloc))?;
         }
         Ok(id)
@@ -70,7 +73,7 @@ impl Tokens {
             → result ≡ nat_lt 0 (length (queue_of self.now a)) }
     {
         bags_are_lawful();
-        !self.queues[id].is_empty()
+        self.queues[id].front().is_some()
     }
 
     /// The number of the step that made the oldest token of an atom; 0 is the start.
@@ -91,10 +94,10 @@ impl Tokens {
     /// Takes the oldest token of an atom.
     pub fn take_oldest(&mut self, id: usize) -> Option<Trace>
         requires { id < length self.old.atoms }
+        ensures none { (a : AtomTree) → IsIdOf self.old id a
+            → result ≡ None → queue_of self.old a ≡ [] }
         ensures taken { (a : AtomTree) → IsIdOf self.old id a
-            → queue_of self.old a ≡ option_to_list result ++ queue_of self.new a }
-        ensures others { (a : AtomTree) → IsIdOf self.old id a
-            → SetsQueue self.old a (queue_of self.new a) self.new }
+            → Changes a (λ queue. option_to_list result ++ queue) self.new self.old }
     {
         bags_are_lawful();
         self.queues[id].pop_front()
@@ -104,7 +107,7 @@ impl Tokens {
     pub fn put_back(&mut self, id: usize, trace: Trace) -> Result<(), AllocError>
         requires { id < length self.old.atoms }
         ensures { OnOk result ((a : AtomTree) → IsIdOf self.old id a
-            → SetsQueue self.old a (trace ∷ queue_of self.old a) self.new) }
+            → Changes a (λ queue. trace ∷ queue) self.old self.new) }
     {
         bags_are_lawful();
         self.queues[id].push_front(trace)?;
@@ -115,7 +118,7 @@ impl Tokens {
     pub fn add(&mut self, id: usize, trace: Trace) -> Result<(), AllocError>
         requires { id < length self.old.atoms }
         ensures { OnOk result ((a : AtomTree) → IsIdOf self.old id a
-            → SetsQueue self.old a (queue_of self.old a ++ trace ∷ []) self.new) }
+            → Changes a (λ queue. queue ++ trace ∷ []) self.old self.new) }
     {
         bags_are_lawful();
         self.queues[id].push_back(trace)?;
