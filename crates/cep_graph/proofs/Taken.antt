@@ -1,5 +1,5 @@
 -- Tokens are taken for one premise after another, and those that stay are put back.
-use Rattle.std.proofs.Common.{◌≡◌, ◌↔◌, ◌⊎◌, inl, inr, ⊎_elim, ℕ, zero, suc, ◌+◌, ◌<◌, ◌≤◌, Bool, true, false, cond, not, ◌||◌, Option, None, List, [], ◌∷◌, ◌++◌, length, drop, Some, refl, sym, ap, ◌∙◌, subst, arith, Contains}
+use Rattle.std.proofs.Common.{◌≡◌, ◌↔◌, ◌⊎◌, inl, inr, ⊎_elim, ℕ, zero, suc, ◌+◌, ◌<◌, ◌≤◌, Bool, true, false, cond, not, ◌||◌, Option, None, List, [], ◌∷◌, ◌++◌, length, drop, add-one, Some, refl, sym, ap, ◌∙◌, subst, arith, Contains}
 use Rattle.std.specs.Prelude.{◌==◌, slice_get}
 use Rattle.std.specs.List.{AllZip, filter}
 use Rattle.std.specs.Option.{option_to_list}
@@ -25,7 +25,7 @@ use Rattle.cep_graph.proofs.Oldest.{filter_cases, number_itself, same_if, stayin
 use Rattle.cep_graph.proofs.Tracing.{zip_more, passed_trace, used_trace, rests_none, rests_used, rests_removed}
 
 -- a token that is used is present
-picks_present : (signature : Signature) (values : List Tree) (present used : List Token) (premises : List PremiseTree) (tokens : List Token) (token : Token) → ArePicks signature values present used premises tokens → Contains tokens token → Contains present token
+pub picks_present : (signature : Signature) (values : List Tree) (present used : List Token) (premises : List PremiseTree) (tokens : List Token) (token : Token) → ArePicks signature values present used premises tokens → Contains tokens token → Contains present token
 picks_present signature values present used [] [] token picks there = absurd (contains_none token there)
 picks_present signature values present used [] (first ∷ tokens) token picks there = absurd picks
 picks_present signature values present used (premise ∷ premises) [] token picks there = absurd picks
@@ -394,7 +394,17 @@ module _ (laws : BagLaws) (signature : Signature) (values : List Tree) where
       (same_traces premise premises done present used out token uses touch is old met (staying out present) meets.queues traced) changes maker users rest back
 
 -- the premises from a place on
+drop_suc : {X : Type 0} (xs : List X) (i : ℕ) (x : X) → slice_get xs i ≡ Some x → drop i xs ≡ x ∷ drop (suc i) xs
+drop_suc [] i x at = none_some x at
+drop_suc (first ∷ xs) zero x at = ap (λ y. y ∷ xs) (some_same first x at)
+drop_suc (first ∷ xs) (suc i) x at = drop_suc xs i x at
+
 pub drop_next : {X : Type 0} (xs : List X) (i : ℕ) (x : X) → slice_get xs i ≡ Some x → drop i xs ≡ x ∷ drop (i + 1) xs
-drop_next [] i x at = none_some x at
-drop_next (first ∷ xs) zero x at = ap (λ y. y ∷ xs) (some_same first x at)
-drop_next (first ∷ xs) (suc i) x at = drop_next xs i x at
+drop_next xs i x at = drop_suc xs i x at ∙ ap (λ n. x ∷ drop n xs) (sym (add-one i))
+
+-- one list after another
+pub joined : (old more new : List ℕ) → new ≡ old ++ more → (n : ℕ) → (Contains new n ↔ (Contains old n ⊎ Contains more n))
+joined old more new is n = (
+  λ there. contains_either old more n (subst (λ (ns : List ℕ). Contains ns n) is there),
+  λ either. subst (λ (ns : List ℕ). Contains ns n) (sym is) (⊎_elim (λ before. contains_left old more n before) (λ later. contains_right old more n later) either),
+)

@@ -5,10 +5,12 @@ use Rattle.std.specs.List.{AllByRecursion, AllZip}
 use Rattle.std.specs.Ordering.{eq_by_cmp}
 use Rattle.cep_term.specs.Tree.{Tree, AtomTree}
 use Rattle.cep_term.specs.Order.{atom_cmp}
+use Rattle.cep_term.specs.Multiset.{gained}
 use Rattle.cep_rule.specs.declared.signature.Signature.{Signature}
 use Rattle.cep_rule.specs.Patterns.{PremiseTree}
 use Rattle.cep_rule.specs.Typing.{is_fact}
-use Rattle.cep_cause.specs.Tokens.{Token, has_number, staying, ArePicks, picked_to_go}
+use Rattle.cep_rule.specs.Instances.{full_instances}
+use Rattle.cep_cause.specs.Tokens.{Token, numbered, token_state, has_number, staying, ArePicks, picked_to_go}
 use Rattle.cep_cause.specs.Touches.{Touch}
 use Rattle.cep_cause.specs.Graphs.{RestsOnAt}
 use Rattle.cep_graph.specs.declared.trace.Trace.{Trace}
@@ -82,3 +84,31 @@ Takes signature values premises number old new numbers numbers' =
     → IsTaking signature values present used out premises uses touch
     → AreTraced signature done (staying out present) old
     → HasTaken signature done present out premises uses touch new numbers numbers'
+
+-- The tokens that a step makes are new: it does not use them, and no earlier step made or used one.
+abbrev pub AreFresh : List Touch → Touch → Type 0
+AreFresh done touch =
+    (token : Token) → Contains touch.makes token
+    → (¬ Contains touch.uses token)
+    × ((place : ℕ) → ¬ MakesAt done place token) × ((place : ℕ) → ¬ UsesAt done place token)
+
+-- the tokens that are made for the instances of atoms, but for facts that are there
+abbrev pub made_for : Signature → List Tree → List Token → ℕ → List AtomTree → List Token
+made_for signature values tokens next atoms =
+    numbered next (gained (is_fact signature) (token_state tokens) (full_instances values atoms))
+
+-- However the step of a number makes tokens for the instances of these atoms, after others, they
+-- were added.
+abbrev pub Makes : Signature → List Tree → List AtomTree → ℕ → Queues → Queues → Type 0
+Makes signature values atoms number old new =
+    (done : List Touch) (touch : Touch) (before tokens : List Token) (next : ℕ)
+    → number ≡ length done + 1
+    → AreFresh done touch
+    → touch.makes ≡ before ++ made_for signature values tokens next atoms
+    → AreTraced signature (done ++ touch ∷ []) tokens old
+    → AreTraced signature (done ++ touch ∷ []) (tokens ++ made_for signature values tokens next atoms)
+    new
+
+-- The queues have the tokens of these atoms, which are of the start.
+abbrev pub AreOfStart : List AtomTree → Queues → Type 0
+AreOfStart atoms queues = (signature : Signature) → AreTraced signature [] (numbered 0 atoms) queues

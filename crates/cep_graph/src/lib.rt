@@ -2,6 +2,13 @@
 //! removes and makes.
 #![tactic(auto)]
 
+mod graph_of;
+mod making;
+mod sorting;
+mod starting;
 mod taking;
 mod tokens;
+mod touching;
 mod trace;
+
+pub use graph_of::graph;

@@ -10,6 +10,7 @@ use crate::tokens::Tokens;
 use cep_order::Numbers;
 use cep_rule::{Premises, Signature, Terms, instance, is_fact};
 use cep_term::Atom;
+use cep_term::laws::bags_are_lawful;
 use std::alloc::{AllocError, Global};
 
 /// Takes the tokens that a step picks for its premises from a place on, puts those that stay back
@@ -34,6 +35,7 @@ pub fn take(
     ensures takes { OnOk result (Takes signature.now values.now (drop i premises.now) number
         tokens.old tokens.new numbers.old.items numbers.new.items) }
 {
+    bags_are_lawful();
     if i == premises.len() {
         return Ok(());
     }
