@@ -3,9 +3,12 @@ use Rattle.std.proofs.Common.{◌≡◌, ◌↔◌, ◌⊎◌, inl, inr, ⊎_eli
 use Rattle.std.specs.Prelude.{slice_get, is_some}
 use Rattle.std.proofs.lemmas.List.{length-take-le, length-append}
 use Rattle.std.proofs.lemmas.Option.{slice_get_within}
-use Rattle.cep_base.proofs.Lists.{none_some, some_same, take_next, get_last}
+use Rattle.cep_base.proofs.Lists.{none_some, some_same, take_next, holds_at}
 use Rattle.cep_rule.specs.declared.rule.Rule.{Rule}
 use Rattle.cep_rule.specs.declared.parts.Parts.{Parts}
+use Rattle.cep_rule.specs.Typing.{AreValues}
+use Rattle.cep_rule.specs.Program.{IsProgram, IsTypedRule}
+use Rattle.cep_log.specs.Legal.{IsLegal, IsStepOf}
 use Rattle.cep_log.specs.declared.log.Log.{Log}
 use Rattle.cep_log.specs.declared.log.LogStep.{LogStep}
 use Rattle.cep_order.specs.declared.step_cause.StepCause.{StepCause}
@@ -133,3 +136,23 @@ all_done program log touches i queues causes all are so_far = record {
     each = so_far.entries;
   };
 }
+
+-- What a legal log has at a step: its rule, with values of the right types.
+pub record HasRule (program : Parts) (step : LogStep) : Type 0 where
+  pub rule : Rule
+  pub numbered : slice_get program.rules step.offer.rule ≡ Some rule
+  pub typed : IsTypedRule program.signature rule
+  pub values : AreValues program.signature.cons rule.kinds step.offer.values
+
+pub has_rule : (program : Parts) (log : Log) (i : ℕ) (step : LogStep) → IsProgram program → IsLegal program log → slice_get log.steps i ≡ Some step → HasRule program step
+has_rule program log i step is legal at =
+    let of = holds_at (IsStepOf program) log.steps i step legal.of_program.steps at in
+    record {
+      rule = of.rule;
+      numbered = of.numbered;
+      typed = holds_at (IsTypedRule program.signature) program.rules step.offer.rule of.rule is.typed_rules of.numbered;
+      values = of.values;
+    }
+
+pub few_steps : (program : Parts) (log : Log) → IsLegal program log → length log.steps ≤ 67108864
+few_steps program log legal = let few = legal.of_program.few in let lines = legal.of_program.lines in omega arith

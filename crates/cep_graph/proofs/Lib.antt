@@ -6,3 +6,5 @@ mod Made
 mod Starts
 mod Trailing
 mod Graphed
+mod Sorted
+mod Typed

@@ -25,7 +25,7 @@ use Rattle.cep_graph.proofs.Oldest.{filter_cases}
 use Rattle.cep_graph.proofs.Tracing.{made_trace}
 
 -- an element that passes the test is in the part
-filter_there : {X : Type 0} (p : X → Bool) (xs : List X) (x : X) → Contains xs x → p x ≡ true → Contains (filter p xs) x
+pub filter_there : {X : Type 0} (p : X → Bool) (xs : List X) (x : X) → Contains xs x → p x ≡ true → Contains (filter p xs) x
 filter_there p [] x there is = absurd (contains_none x there)
 filter_there p (y ∷ xs) x there is = by (p y) refl (λ later. filter_there p xs x later is) there
   where

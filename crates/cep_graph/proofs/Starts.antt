@@ -1,9 +1,10 @@
 -- The tokens of the start.
-use Rattle.std.proofs.Common.{◌≡◌, ◌↔◌, ℕ, zero, suc, ◌+◌, Bool, List, [], ◌∷◌, ◌++◌, length, replicate, Some, add-one, refl, sym, ap, ◌∙◌, subst, arith, append_assoc, append-nil, Contains}
+use Rattle.std.proofs.Common.{◌≡◌, ◌↔◌, ℕ, zero, suc, ◌+◌, Bool, List, [], ◌∷◌, ◌++◌, length, take, replicate, Some, add-one, refl, sym, ap, ◌∙◌, subst, arith, append_assoc, append-nil, Contains}
 use Rattle.std.specs.Prelude.{slice_get}
-use Rattle.std.specs.List.{AllZip}
+use Rattle.std.specs.List.{AllZip, flat_map}
+use Rattle.std.proofs.lemmas.List.Concat.{flat_map-append}
 use Rattle.std.proofs.lemmas.List.{replicate_more}
-use Rattle.cep_base.proofs.Lists.{none_some}
+use Rattle.cep_base.proofs.Lists.{none_some, take_next}
 use Rattle.cep_base.proofs.Elements.{contains_none}
 use Rattle.cep_term.specs.Tree.{AtomTree}
 use Rattle.cep_rule.specs.declared.signature.Signature.{Signature}
@@ -42,3 +43,11 @@ pub copies_more : (atoms : List AtomTree) (n : ℕ) (old new : Queues) (a : Atom
 copies_more atoms n old new a trace maker users changes starts =
     subst (λ (all : List AtomTree). AreOfStart all new) (append_assoc atoms (replicate n a) (a ∷ []) ∙ ap (λ (more : List AtomTree). atoms ++ more) (replicate_more n a))
     (starts_more (atoms ++ replicate n a) old new a trace maker users changes starts)
+
+-- the copies of one entry more
+pub entry_more : (entries : List (AtomTree × ℕ)) (i : ℕ) (a : AtomTree) (n : ℕ) → slice_get entries i ≡ Some (a, n)
+    → flat_map (λ (e : AtomTree × ℕ). replicate e.1 e.0) (take (i + 1) entries) ≡ flat_map (λ (e : AtomTree × ℕ). replicate e.1 e.0) (take i entries) ++ replicate n a
+entry_more entries i a n at =
+    ap (flat_map (λ (e : AtomTree × ℕ). replicate e.1 e.0)) (take_next entries i (a, n) at)
+    ∙ flat_map-append (λ (e : AtomTree × ℕ). replicate e.1 e.0) (take i entries) ((a, n) ∷ [])
+    ∙ ap (λ (atoms : List AtomTree). flat_map (λ (e : AtomTree × ℕ). replicate e.1 e.0) (take i entries) ++ atoms) (append-nil (replicate n a))

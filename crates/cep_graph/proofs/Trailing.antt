@@ -1,5 +1,6 @@
 -- One step more.
 use Rattle.std.proofs.Common.{◌≡◌, ◌↔◌, ◌⊎◌, inl, inr, ⊎_elim, ℕ, zero, suc, ◌+◌, ◌<◌, ◌≤◌, Bool, true, false, cond, not, List, [], ◌∷◌, ◌++◌, length, refl, sym, ap, ◌∙◌, subst, arith, append-nil, Contains}
+use Rattle.std.specs.Prelude.{Result, Ok, Err, IfOk}
 use Rattle.std.specs.List.{AllByRecursion, filter}
 use Rattle.std.specs.List.Sorted.{IsStrictlyIncreasing}
 use Rattle.std.proofs.lemmas.Bool.{false≢true}
@@ -124,3 +125,13 @@ module _ (signature : Signature) (values : List Tree) (rule : Rule) (done : List
         );
         trail = next_trail new (subst (λ (ts : List Token). AreTraced signature (done ++ touch ∷ []) (staying touch.removes present ++ ts) new) (sym is.makes) made);
       }
+
+-- the numbers, once they are in order
+pub touch_ends : {E : Type 0} (signature : Signature) (values : List Tree) (rule : Rule) (number : ℕ) (old mid new : Queues) (numbers : List ℕ) (result : Result (List ℕ) E)
+    → Takes signature values rule.premises number old mid [] numbers
+    → Makes signature values rule.right number mid new
+    → IfOk result IsStrictlyIncreasing → IfOk result (AllByRecursion (λ n. 0 < n)) → IfOk result (λ after. (n : ℕ) → 0 < n → (Contains after n ↔ Contains numbers n))
+    → IfOk result (Touches signature values rule number old new)
+touch_ends signature values rule number old mid new numbers (Ok after) takes makes increasing counted same =
+    λ done present next touch last trail is. touched signature values rule done present next touch old trail is number mid new numbers after last takes makes increasing counted same
+touch_ends signature values rule number old mid new numbers (Err e) takes makes increasing counted same = tt

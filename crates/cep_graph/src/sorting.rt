@@ -1,4 +1,4 @@
-ghost use Rattle.std.specs.Prelude.{ℕ, ◌<◌, ◌↔◌, Contains, IfOk};
+ghost use Rattle.std.specs.Prelude.{◌≡◌, ℕ, ◌<◌, ◌↔◌, nat_lt, filter, Contains, IfOk};
 ghost use Rattle.std.specs.List.{AllByRecursion};
 ghost use Rattle.std.specs.List.Sorted.{IsStrictlyIncreasing};
 
@@ -15,8 +15,16 @@ pub fn in_order(alloc: Global, mut numbers: Vec<u32>) -> Result<Numbers, AllocEr
 {
     numbers.sort()?;
     numbers.dedup();
+    let after = without_zero(alloc, numbers.as_slice())?;
+    Ok(after)
+}
+
+// The numbers but 0.
+fn without_zero(alloc: Global, numbers: &[u32]) -> Result<Numbers, AllocError>
+    ensures { IfOk result (λ after. after ≡ filter (λ n. nat_lt 0 n) numbers.now) }
+{
     let mut after = List::new(alloc);
-    for number in &numbers {
+    for number in numbers {
         if *number > 0 {
             after.push(*number)?;
         }

@@ -36,7 +36,9 @@ pub take_oldest-requires : goal.take_oldest-requires
 take_oldest-requires t c = slice_get_within c.id_of_instance.new.tokens.atoms c.in_ok-id.id (full_instance c.args.values.now (premise_of c.get-premise.result.now).atom) c.in_ok-id.ensures.met
 
 pub returns-in_default-clause-takes : goal.returns-in_default-clause-takes
-returns-in_default-clause-takes t c = let x = c.in_default.is in let y = c.in_default.not-Some in let z = c.in_default.ensures.none in ?
+returns-in_default-clause-takes t c =
+    subst (λ (premises : List PremiseTree). Takes c.args.signature.now c.args.values.now premises c.args.number c.args.tokens.now c.take_oldest.new.self c.args.numbers.now.items c.args.numbers.now.items) (sym (drop_next c.args.premises.now c.args.i (premise_of c.get-premise.result.now) c.get-premise.ensures))
+    (none_takes c.bags_are_lawful.ensures c.args.signature.now c.args.values.now (premise_of c.get-premise.result.now) (drop (c.args.i + 1) c.args.premises.now) c.args.number c.args.tokens.now c.id_of_instance.new.tokens c.take_oldest.new.self c.in_ok-id.id c.args.numbers.now.items c.args.numbers.now.items (sym c.is_fact.ensures ∙ c.if-is_fact.false) c.in_ok-id.ensures (c.in_default.ensures.none (full_instance c.args.values.now (premise_of c.get-premise.result.now).atom) c.in_ok-id.ensures.met refl))
 
 pub returns-then-not-premise-clause-takes : goal.returns-then-not-premise-clause-takes
 returns-then-not-premise-clause-takes t c =
