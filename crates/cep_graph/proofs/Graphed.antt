@@ -27,6 +27,7 @@ pub record IsSoFar (program : Parts) (log : Log) (touches : List Touch) (i : ℕ
   pub next : ℕ
   pub rest : AreTouches program next present (drop i log.steps) (drop i touches)
   pub trail : IsTrail program.signature (take i touches) present next queues
+  pub within : i ≤ length log.steps
   pub many : length causes ≡ i
   pub entries : (place : ℕ) (touch : Touch) (cause : StepCause) → slice_get touches place ≡ Some touch → slice_get causes place ≡ Some cause → IsCause touches place touch cause
 
@@ -84,6 +85,7 @@ none_so_far program log touches queues causes none are starts = record {
     passed = λ place token has. ⊎_elim (λ makes. none_some makes.0 makes.1) (λ uses. none_some uses.0 uses.1) has;
     traced = starts program.signature;
   };
+  within = omega arith;
   many = ap (λ (cs : List StepCause). length cs) none;
   entries = λ place touch cause at at'. none_some cause (ap (λ (cs : List StepCause). slice_get cs place) (sym none) ∙ at');
 }
@@ -117,6 +119,7 @@ one_more program log touches i old new causes causes' step rule number cause at 
       next = so_far.next + length first.touch.makes;
       rest = subst (λ (ts : List Touch). AreTouches program (so_far.next + length first.touch.makes) (present_after so_far.present first.touch) (drop (i + 1) log.steps) ts) others first.are;
       trail = subst (λ (ts : List Touch). IsTrail program.signature ts (present_after so_far.present first.touch) (so_far.next + length first.touch.makes) new) (sym done) has.trail;
+      within = let before = slice_get_within log.steps i step at in omega arith;
       many = let many = so_far.many in let longer = length-append causes (cause ∷ []) in let e = ap (λ (cs : List StepCause). length cs) more in omega arith;
       entries = λ place touch other at' at''. ⊎_elim
           (λ before. so_far.entries place touch other at' before)
@@ -153,6 +156,3 @@ has_rule program log i step is legal at =
       typed = holds_at (IsTypedRule program.signature) program.rules step.offer.rule of.rule is.typed_rules of.numbered;
       values = of.values;
     }
-
-pub few_steps : (program : Parts) (log : Log) → IsLegal program log → length log.steps ≤ 67108864
-few_steps program log legal = let few = legal.of_program.few in let lines = legal.of_program.lines in omega arith

@@ -9,7 +9,7 @@ use Rattle.cep_rule.specs.Typing.{AreValues}
 use Rattle.cep_cause.specs.Tokens.{listed_copies}
 use Rattle.cep_graph.specs.Traces.{AreOfStart}
 use Rattle.cep_graph.specs.Trails.{Touches}
-use Rattle.cep_graph.proofs.Graphed.{none_so_far, one_more, all_done, has_rule, few_steps}
+use Rattle.cep_graph.proofs.Graphed.{none_so_far, one_more, all_done, has_rule}
 use Rattle.cep_graph.proofs.graph_of.graph.Goals as goal
 
 pub loop-i-init : goal.loop-i-init
@@ -44,6 +44,6 @@ loop-i-preserved c = λ touches are.
 pub returns : goal.returns
 returns c =
     let there = c.logs_touch_tokens.ensures.there c.args.program.now c.args.log.now c.parts.ensures.kept c.requires in
-    let few = few_steps c.args.program.now c.args.log.now c.requires in
+    let within = (c.loop-i.invariant there.0 there.1).within in
     let all : c.loop-i.i ≡ length c.args.log.now.steps = omega (arith, c.len-i-end.ensures, c.loop-i-test.false) in
     all_done c.args.program.now c.args.log.now there.0 c.loop-i.i c.loop-i.tokens c.loop-i.causes all there.1 (c.loop-i.invariant there.0 there.1)
