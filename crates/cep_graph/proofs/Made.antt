@@ -115,8 +115,8 @@ module _ (laws : BagLaws) (signature : Signature) where
       make_skip test rest done touch before tokens next last fresh makes traced =
           let traced' = met_traced (done ++ touch ∷ []) tokens traced in
           let e : made_for signature values tokens next (atom ∷ atoms) ≡ made_for signature values tokens next atoms =
-              ap (λ (t : Bool). numbered next (cond t (gained (is_fact signature) (token_state tokens) (full_instances values atoms)) (full_instance values atom ∷ gained (is_fact signature) (with_one (token_state tokens) (full_instance values atom)) (full_instances values atoms))))
-              (same_test (done ++ touch ∷ []) tokens true test traced') in
+          ap (λ (t : Bool). numbered next (cond t (gained (is_fact signature) (token_state tokens) (full_instances values atoms)) (full_instance values atom ∷ gained (is_fact signature) (with_one (token_state tokens) (full_instance values atom)) (full_instances values atoms))))
+          (same_test (done ++ touch ∷ []) tokens true test traced') in
           subst (λ (made : List Token). AreTraced signature (done ++ touch ∷ []) (tokens ++ made) new) (sym e)
           (rest done touch before tokens next last fresh (makes ∙ ap (λ (made : List Token). before ++ made) e) traced')
 
@@ -127,14 +127,14 @@ module _ (laws : BagLaws) (signature : Signature) where
       make_add late trace test maker users changes rest done touch before tokens next last fresh makes traced =
           let traced' = met_traced (done ++ touch ∷ []) tokens traced in
           let e : made_for signature values tokens next (atom ∷ atoms) ≡ token ∷ made_for signature values (tokens ++ token ∷ []) (next + 1) atoms =
-              ap (λ (t : Bool). numbered next (cond t (gained (is_fact signature) (token_state tokens) (full_instances values atoms)) (full_instance values atom ∷ gained (is_fact signature) (with_one (token_state tokens) (full_instance values atom)) (full_instances values atoms))))
-              (same_test (done ++ touch ∷ []) tokens false test traced')
-              ∙ ap (λ (more : List AtomTree). token ∷ numbered (next + 1) more)
-              (laws.gained_alike (is_fact signature) (with_one (token_state tokens) (full_instance values atom)) (token_state (tokens ++ token ∷ [])) (full_instances values atoms) (λ b fact. more_counted tokens token b)) in
+          ap (λ (t : Bool). numbered next (cond t (gained (is_fact signature) (token_state tokens) (full_instances values atoms)) (full_instance values atom ∷ gained (is_fact signature) (with_one (token_state tokens) (full_instance values atom)) (full_instances values atoms))))
+          (same_test (done ++ touch ∷ []) tokens false test traced')
+          ∙ ap (λ (more : List AtomTree). token ∷ numbered (next + 1) more)
+          (laws.gained_alike (is_fact signature) (with_one (token_state tokens) (full_instance values atom)) (token_state (tokens ++ token ∷ [])) (full_instances values atoms) (λ b fact. more_counted tokens token b)) in
           let makes' : touch.makes ≡ (before ++ token ∷ []) ++ made_for signature values (tokens ++ token ∷ []) (next + 1) atoms =
-              makes ∙ ap (λ (made : List Token). before ++ made) e ∙ sym (append_assoc before (token ∷ []) (made_for signature values (tokens ++ token ∷ []) (next + 1) atoms)) in
+          makes ∙ ap (λ (made : List Token). before ++ made) e ∙ sym (append_assoc before (token ∷ []) (made_for signature values (tokens ++ token ∷ []) (next + 1) atoms)) in
           let there : Contains touch.makes token = subst (λ (ts : List Token). Contains ts token) (sym makes')
-              (contains_left (before ++ token ∷ []) (made_for signature values (tokens ++ token ∷ []) (next + 1) atoms) token (contains_right before (token ∷ []) token (contains_first token []))) in
+          (contains_left (before ++ token ∷ []) (made_for signature values (tokens ++ token ∷ []) (next + 1) atoms) token (contains_right before (token ∷ []) token (contains_first token []))) in
           let own = fresh token there in
           let one = made_trace signature done touch token trace (maker ∙ last) users there own.0 own.1 own.2 in
           subst (λ (ts : List Token). AreTraced signature (done ++ touch ∷ []) ts new) (append_assoc tokens (token ∷ []) (made_for signature values (tokens ++ token ∷ []) (next + 1) atoms) ∙ ap (λ (made : List Token). tokens ++ made) (sym e))

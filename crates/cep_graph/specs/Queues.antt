@@ -1,5 +1,6 @@
 -- Private.
--- What is kept of the tokens that are present: of each atom that was met a queue of traces, one for each of its tokens, by increasing number.
+-- What is kept of the tokens that are present: of each atom that was met a queue of traces, one for
+-- each of its tokens, by increasing number.
 use Rattle.std.specs.Prelude.{◌≡◌, ℕ, List, [], ◌∷◌, length, cond, Some, slice_get, refl}
 use Rattle.std.specs.Coded.{Coded, code_by, coded×, coded_list}
 use Rattle.std.specs.Ordering.{eq_by_cmp}
@@ -10,7 +11,7 @@ use Rattle.cep_store.specs.Held.{AreApart}
 use Rattle.cep_graph.specs.declared.trace.Trace.{Trace}
 use Rattle.cep_graph.specs.contracts.trace.Trace as of_trace
 
--- The atoms that were met, each at the place that is its id, and the queue of each at the same place.
+-- The atoms that were met, each at the place that is its id, and the queue of each at that place.
 pub record Queues : Type 0 where
   pub atoms : List AtomTree
   pub rows : List (List Trace)
@@ -20,7 +21,8 @@ abbrev pub queues_code : Coded Queues
 queues_code =
     code_by (List AtomTree × List (List Trace))
     (coded× (coded_list atom_code) (coded_list (coded_list of_trace.the_row.coded)))
-    (λ queues. (queues.atoms, queues.rows)) (λ parts. record { atoms = parts.0; rows = parts.1 }) (λ _. refl)
+    (λ queues. (queues.atoms, queues.rows))
+    (λ parts. record { atoms = parts.0; rows = parts.1 }) (λ _. refl)
 
 -- Each atom was met once, and has a queue.
 pub record AreQueues (queues : Queues) : Type 0 where

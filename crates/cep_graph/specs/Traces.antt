@@ -28,11 +28,13 @@ NumbersIncrease (token ∷ tokens) =
 
 -- The step at a place made the token.
 abbrev pub MakesAt : List Touch → ℕ → Token → Type 0
-MakesAt done place token = (touch : Touch) × (slice_get done place ≡ Some touch) × Contains touch.makes token
+MakesAt done place token =
+    (touch : Touch) × (slice_get done place ≡ Some touch) × Contains touch.makes token
 
 -- The step at a place used the token.
 abbrev pub UsesAt : List Touch → ℕ → Token → Type 0
-UsesAt done place token = (touch : Touch) × (slice_get done place ≡ Some touch) × Contains touch.uses token
+UsesAt done place token =
+    (touch : Touch) × (slice_get done place ≡ Some touch) × Contains touch.uses token
 
 -- A trace says which step so far made a token, and if it is of no fact which steps used it.
 pub record IsTrace (signature : Signature) (done : List Touch) (token : Token) (trace : Trace)
@@ -56,17 +58,21 @@ pub record IsTaking (signature : Signature) (values : List Tree) (present used o
       → ((has_number out token.number ≡ true) ↔ Contains used token)
   pub facts : (token : Token) → Contains present token → is_fact signature token.atom ≡ true
       → has_number out token.number ≡ false
-  pub all : (token : Token) → (Contains touch.uses token ↔ (Contains used token ⊎ Contains uses token))
+  pub all : (token : Token)
+      → (Contains touch.uses token ↔ (Contains used token ⊎ Contains uses token))
   pub fresh : (token : Token) → Contains present token → ¬ Contains touch.makes token
 
 -- a touch of which only the tokens that it uses and removes count
 abbrev pub using : List Token → List Token → Touch
 using uses removes = record { uses = uses; removes = removes; makes = []; barrier = false }
 
--- The numbers are those of before, and of the steps on which one rests that uses these tokens and removes those.
+-- The numbers are those of before, and of the steps on which one rests that uses these tokens and
+-- removes those.
 abbrev pub AddsNumbers : List Touch → List Token → List Token → List ℕ → List ℕ → Type 0
 AddsNumbers done uses removes old new =
-    (place : ℕ) → (Contains new (place + 1) ↔ (Contains old (place + 1) ⊎ RestsOnAt done (using uses removes) place))
+    (place : ℕ)
+    → (Contains new (place + 1)
+    ↔ (Contains old (place + 1) ⊎ RestsOnAt done (using uses removes) place))
 
 -- The tokens were picked: those that stay of them are back, and the step stands in their traces.
 pub record HasTaken (signature : Signature) (done : List Touch) (present out : List Token)
@@ -76,8 +82,10 @@ pub record HasTaken (signature : Signature) (done : List Touch) (present out : L
       (staying (picked_to_go signature premises uses ++ out) present) new
   pub adds : AddsNumbers done uses (picked_to_go signature premises uses) numbers numbers'
 
--- However a step picks tokens for these premises, they were taken, and their makers' and users' numbers added.
-abbrev pub Takes : Signature → List Tree → List PremiseTree → ℕ → Queues → Queues → List ℕ → List ℕ → Type 0
+-- However a step picks tokens for these premises, they were taken, and the numbers of their makers
+-- and users were added.
+abbrev pub Takes : Signature → List Tree → List PremiseTree → ℕ → Queues → Queues → List ℕ
+    → List ℕ → Type 0
 Takes signature values premises number old new numbers numbers' =
     (done : List Touch) (present used out uses : List Token) (touch : Touch)
     → number ≡ length done + 1
@@ -106,8 +114,8 @@ Makes signature values atoms number old new =
     → AreFresh done touch
     → touch.makes ≡ before ++ made_for signature values tokens next atoms
     → AreTraced signature (done ++ touch ∷ []) tokens old
-    → AreTraced signature (done ++ touch ∷ []) (tokens ++ made_for signature values tokens next atoms)
-    new
+    → AreTraced signature (done ++ touch ∷ [])
+    (tokens ++ made_for signature values tokens next atoms) new
 
 -- The queues have the tokens of these atoms, which are of the start.
 abbrev pub AreOfStart : List AtomTree → Queues → Type 0

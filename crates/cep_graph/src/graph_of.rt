@@ -12,8 +12,8 @@ use cep_rule::Program;
 use std::alloc::{AllocError, Global};
 
 /// The graph of a legal log: an entry for each step, which says whether the step is a barrier, and
-/// on which earlier steps it rests by a token. That equal copies of an atom are told apart, and which
-/// of them a step picks, is this profile's.
+/// on which earlier steps it rests by a token. That equal copies of an atom are told apart, and
+/// which of them a step picks, is this profile's.
 ///
 /// # Errors
 ///
@@ -30,7 +30,14 @@ pub fn graph(alloc: Global, program: &Program, log: &Log) -> Result<StepCauses, 
         let step = log.steps.get(i);
         let rule = parts.rules.get(step.offer.rule as usize);
         let values = &step.offer.values;
-        let after = touch(alloc, &parts.signature, rule, values, i as u32 + 1, &mut tokens)?;
+        let after = touch(
+            alloc,
+            &parts.signature,
+            rule,
+            values,
+            i as u32 + 1,
+            &mut tokens,
+        )?;
         causes.push(StepCause {
             barrier: rule.next.is_some(),
             after,

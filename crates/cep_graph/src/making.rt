@@ -12,8 +12,8 @@ use cep_rule::{AtomList, Signature, Terms, is_fact};
 use cep_term::laws::bags_are_lawful;
 use std::alloc::{AllocError, Global};
 
-/// Adds the tokens that the step of a number makes: those of its right atoms, but for facts that are
-/// there.
+/// Adds the tokens that the step of a number makes: those of its right atoms, but for facts that
+/// are there.
 pub fn make(
     alloc: Global,
     signature: &Signature,
@@ -22,7 +22,8 @@ pub fn make(
     number: u32,
     tokens: &mut Tokens,
 ) -> Result<(), AllocError>
-    requires range { AllByRecursion (λ (a : AtomTree). IsAtomInRange (length values.now) a) right.now }
+    requires range { AllByRecursion (λ (a : AtomTree).
+        IsAtomInRange (length values.now) a) right.now }
     requires ground { AllByRecursion (λ (a : AtomTree).
         IsGroundAtom (full_instance values.now a)) right.now }
     ensures { OnOk result (Makes signature.now values.now right.now number tokens.old tokens.new) }
@@ -33,7 +34,13 @@ pub fn make(
         let id = id_of_instance(alloc, tokens, atom, values)?;
         if !is_fact(signature, atom) || !tokens.has(id) {
             let users = List::new(alloc);
-            tokens.add(id, Trace { maker: number, users })?;
+            tokens.add(
+                id,
+                Trace {
+                    maker: number,
+                    users,
+                },
+            )?;
         }
     }
     Ok(())

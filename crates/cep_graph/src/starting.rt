@@ -24,12 +24,7 @@ pub fn start_tokens(alloc: Global, start: &Bag) -> Result<Tokens, AllocError>
 }
 
 // Adds so many tokens of an atom of the start state.
-fn add_copies(
-    alloc: Global,
-    tokens: &mut Tokens,
-    id: usize,
-    copies: u32,
-) -> Result<(), AllocError>
+fn add_copies(alloc: Global, tokens: &mut Tokens, id: usize, copies: u32) -> Result<(), AllocError>
     requires { id < length tokens.old.atoms }
     ensures { OnOk result ((a : AtomTree) (atoms : List AtomTree)
         → IsIdOf tokens.old id a

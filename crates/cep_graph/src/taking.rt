@@ -14,8 +14,8 @@ use cep_term::laws::bags_are_lawful;
 use std::alloc::{AllocError, Global};
 
 /// Takes the tokens that a step picks for its premises from a place on, puts those that stay back
-/// with the step's number among their users, and adds the numbers of the steps that made one of them
-/// or used one that goes; 0 stands for the start.
+/// with the step's number among their users, and adds the numbers of the steps that made one of
+/// them or used one that goes; 0 stands for the start.
 pub fn take(
     alloc: Global,
     signature: &Signature,
@@ -43,19 +43,47 @@ pub fn take(
     let id = id_of_instance(alloc, tokens, &premise.atom, values)?;
     if is_fact(signature, &premise.atom) {
         numbers.push(tokens.oldest_maker(id))?;
-        take(alloc, signature, premises, values, number, i + 1, tokens, numbers)?;
+        take(
+            alloc,
+            signature,
+            premises,
+            values,
+            number,
+            i + 1,
+            tokens,
+            numbers,
+        )?;
         return Ok(());
     }
     let Some(mut trace) = tokens.take_oldest(id) else {
+        // no step of a legal log comes here
         return Ok(());
     };
     numbers.push(trace.maker)?;
     if !premise.kept {
         add_all(numbers, &trace.users)?;
-        take(alloc, signature, premises, values, number, i + 1, tokens, numbers)?;
+        take(
+            alloc,
+            signature,
+            premises,
+            values,
+            number,
+            i + 1,
+            tokens,
+            numbers,
+        )?;
         return Ok(());
     }
-    take(alloc, signature, premises, values, number, i + 1, tokens, numbers)?;
+    take(
+        alloc,
+        signature,
+        premises,
+        values,
+        number,
+        i + 1,
+        tokens,
+        numbers,
+    )?;
     trace.users.push(number)?;
     tokens.put_back(id, trace)?;
     Ok(())

@@ -29,13 +29,13 @@ impl Model for Tokens {
     ghost coded = { queues_code };
 
     ghost view = { λ tokens. record {
-        atoms = tokens.store.atoms;
-        rows = map (λ queue. queue.items) tokens.queues.items
+      atoms = tokens.store.atoms;
+      rows = map (λ queue. queue.items) tokens.queues.items;
     } };
 
     ghost invariant = { λ tokens. AreQueues (record {
-        atoms = tokens.store.atoms;
-        rows = map (λ queue. queue.items) tokens.queues.items
+      atoms = tokens.store.atoms;
+      rows = map (λ queue. queue.items) tokens.queues.items;
     }) };
 }
 

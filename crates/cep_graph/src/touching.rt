@@ -30,7 +30,16 @@ pub fn touch(
     types_are_lawful();
     bags_are_lawful();
     let mut numbers = Vec::new(alloc);
-    take(alloc, signature, &rule.premises, values, number, 0, tokens, &mut numbers)?;
+    take(
+        alloc,
+        signature,
+        &rule.premises,
+        values,
+        number,
+        0,
+        tokens,
+        &mut numbers,
+    )?;
     make(alloc, signature, &rule.right, values, number, tokens)?;
     in_order(alloc, numbers)
 }
