@@ -17,7 +17,7 @@ use Rattle.cep_cause.specs.Touches.{Touch, present_after, IsTouch, AreTouches, A
 use Rattle.cep_cause.specs.Graphs.{RestsOnAt, IsCause, AreCauses, IsGraph}
 use Rattle.cep_graph.specs.Queues.{Queues}
 use Rattle.cep_graph.specs.Traces.{AreOfStart}
-use Rattle.cep_graph.specs.Trails.{IsTrail, IsTouchBy, HasTouched, Touches}
+use Rattle.cep_graph.specs.Trails.{IsTrail, IsTouchBy, HasTouched, TouchesBy}
 use Rattle.cep_graph.proofs.Taken.{drop_next}
 use Rattle.cep_graph.proofs.Trailing.{numbered_increase, numbered_below}
 
@@ -93,7 +93,7 @@ none_so_far program log touches queues causes none are starts = record {
 pub one_more : (program : Parts) (log : Log) (touches : List Touch) (i : ℕ) (old new : Queues) (causes causes' : List StepCause) (step : LogStep) (rule : Rule) (number : ℕ) (cause : StepCause)
     → slice_get log.steps i ≡ Some step → slice_get program.rules step.offer.rule ≡ Some rule → number ≡ i + 1
     → cause.barrier ≡ is_some rule.next → causes' ≡ causes ++ cause ∷ []
-    → Touches program.signature step.offer.values rule number old new cause.after
+    → TouchesBy program.signature step.offer.values rule number old new cause.after
     → IsSoFar program log touches i old causes → IsSoFar program log touches (i + 1) new causes'
 one_more program log touches i old new causes causes' step rule number cause at numbered last barrier more does so_far =
     let first = first_touch program so_far.next so_far.present step (drop (i + 1) log.steps) (drop i touches) (subst (λ (steps : List LogStep). AreTouches program so_far.next so_far.present steps (drop i touches)) (drop_next log.steps i step at) so_far.rest) in

@@ -18,8 +18,8 @@ use Rattle.cep_rule.specs.Instances.{full_instance, full_instances}
 use Rattle.cep_cause.specs.Tokens.{Token, numbered, token_atoms, token_state}
 use Rattle.cep_cause.specs.Touches.{Touch}
 use Rattle.cep_graph.specs.declared.trace.Trace.{Trace}
-use Rattle.cep_graph.specs.Queues.{Queues, queue_of, Changes, Meets}
-use Rattle.cep_graph.specs.Traces.{tokens_of, IsTrace, AreTraced, AreFresh, made_for, Makes}
+use Rattle.cep_graph.specs.Queues.{Queues, queue_of, Changes, GetsId}
+use Rattle.cep_graph.specs.Traces.{tokens_of, IsTrace, AreTraced, AreFresh, made_for, MakesFor}
 use Rattle.cep_graph.proofs.Rows.{itself, same_atom}
 use Rattle.cep_graph.proofs.Oldest.{filter_cases}
 use Rattle.cep_graph.proofs.Tracing.{made_trace}
@@ -96,11 +96,11 @@ module _ (laws : BagLaws) (signature : Signature) where
       omega arith
 
   module _ (values : List Tree) where
-    pub make_none : (number : ℕ) (queues : Queues) → Makes signature values [] number queues queues
+    pub make_none : (number : ℕ) (queues : Queues) → MakesFor signature values [] number queues queues
     make_none number queues done touch before tokens next last fresh makes traced =
         subst (λ (ts : List Token). AreTraced signature (done ++ touch ∷ []) ts queues) (sym (append-nil tokens)) traced
 
-    module _ (atom : AtomTree) (atoms : List AtomTree) (number : ℕ) (old mid new : Queues) (id : ℕ) (meets : Meets old (full_instance values atom) id mid) where
+    module _ (atom : AtomTree) (atoms : List AtomTree) (number : ℕ) (old mid new : Queues) (id : ℕ) (meets : GetsId old (full_instance values atom) id mid) where
       same_test : (done : List Touch) (tokens : List Token) (t : Bool) → (is_fact signature (full_instance values atom) && nat_lt 0 (length (queue_of mid (full_instance values atom)))) ≡ t → AreTraced signature done tokens mid
           → (is_fact signature (full_instance values atom) && nat_lt 0 (count_of (token_state tokens) (full_instance values atom))) ≡ t
       same_test done tokens t test traced =
@@ -111,7 +111,7 @@ module _ (laws : BagLaws) (signature : Signature) where
       met_traced done tokens traced b = subst (λ (row : List Trace). AllZip (IsTrace signature done) (tokens_of b tokens) row) (sym (meets.queues b)) (traced b)
 
       -- the fact is there
-      pub make_skip : (is_fact signature (full_instance values atom) && nat_lt 0 (length (queue_of mid (full_instance values atom)))) ≡ true → Makes signature values atoms number mid new → Makes signature values (atom ∷ atoms) number old new
+      pub make_skip : (is_fact signature (full_instance values atom) && nat_lt 0 (length (queue_of mid (full_instance values atom)))) ≡ true → MakesFor signature values atoms number mid new → MakesFor signature values (atom ∷ atoms) number old new
       make_skip test rest done touch before tokens next last fresh makes traced =
           let traced' = met_traced (done ++ touch ∷ []) tokens traced in
           let e : made_for signature values tokens next (atom ∷ atoms) ≡ made_for signature values tokens next atoms =
@@ -123,7 +123,7 @@ module _ (laws : BagLaws) (signature : Signature) where
       -- a token is made
       pub make_add : (late : Queues) (trace : Trace) → (is_fact signature (full_instance values atom) && nat_lt 0 (length (queue_of mid (full_instance values atom)))) ≡ false
           → trace.maker ≡ number → trace.users ≡ [] → Changes (full_instance values atom) (λ queue. queue ++ trace ∷ []) mid late
-          → Makes signature values atoms number late new → Makes signature values (atom ∷ atoms) number old new
+          → MakesFor signature values atoms number late new → MakesFor signature values (atom ∷ atoms) number old new
       make_add late trace test maker users changes rest done touch before tokens next last fresh makes traced =
           let traced' = met_traced (done ++ touch ∷ []) tokens traced in
           let e : made_for signature values tokens next (atom ∷ atoms) ≡ token ∷ made_for signature values (tokens ++ token ∷ []) (next + 1) atoms =

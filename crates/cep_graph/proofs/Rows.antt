@@ -13,7 +13,7 @@ use Rattle.cep_term.specs.Order.{atom_cmp}
 use Rattle.cep_term.specs.BagLaws.{BagLaws}
 use Rattle.cep_store.specs.Held.{AreApart, HasId}
 use Rattle.cep_graph.specs.declared.trace.Trace.{Trace}
-use Rattle.cep_graph.specs.Queues.{Queues, AreQueues, row_of, queue_of, IsIdOf, Changes, Meets}
+use Rattle.cep_graph.specs.Queues.{Queues, AreQueues, row_of, queue_of, IsIdOf, Changes, GetsId}
 
 -- nothing is popped off nothing alone
 pub none_left : {X : Type 0} (old new : List X) → old ≡ new → new ≡ drop 1 old → old ≡ []
@@ -125,8 +125,8 @@ module _ (laws : BagLaws) where
   module _ {X : Type 0} (f : X → List Trace) (old new : List AtomTree) (deques : List X) (id : ℕ) (a : AtomTree) where
     -- An atom was met before.
     pub meets_known : (now : Queues) → record { atoms = old; rows = map f deques } ≡ now → AreQueues (record { atoms = old; rows = map f deques }) → HasId old a id new → length new ≤ length old
-        → Meets now a id (record { atoms = new; rows = map f deques })
-    meets_known now e are has few = subst (λ (q : Queues). Meets q a id (record { atoms = new; rows = map f deques })) e
+        → GetsId now a id (record { atoms = new; rows = map f deques })
+    meets_known now e are has few = subst (λ (q : Queues). GetsId q a id (record { atoms = new; rows = map f deques })) e
         (⊎_elim
         (λ (same : new ≡ old). record {
           met = has.stands;
@@ -138,8 +138,8 @@ module _ (laws : BagLaws) where
 
     -- An atom is met for the first time.
     pub meets_new : (now : Queues) (d : X) → record { atoms = old; rows = map f deques } ≡ now → AreQueues (record { atoms = old; rows = map f deques }) → HasId old a id new → length old < length new → f d ≡ []
-        → Meets now a id (record { atoms = new; rows = map f (deques ++ d ∷ []) })
-    meets_new now d e are has more none = subst (λ (q : Queues). Meets q a id (record { atoms = new; rows = map f (deques ++ d ∷ []) })) e
+        → GetsId now a id (record { atoms = new; rows = map f (deques ++ d ∷ []) })
+    meets_new now d e are has more none = subst (λ (q : Queues). GetsId q a id (record { atoms = new; rows = map f (deques ++ d ∷ []) })) e
         (⊎_elim
         (λ (same : new ≡ old). let long = ap (λ (atoms : List AtomTree). length atoms) same in absurd (omega arith))
         (λ (is : new ≡ old ++ a ∷ []). record {

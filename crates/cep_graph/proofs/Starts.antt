@@ -10,14 +10,14 @@ use Rattle.cep_term.specs.Tree.{AtomTree}
 use Rattle.cep_rule.specs.declared.signature.Signature.{Signature}
 use Rattle.cep_cause.specs.Tokens.{Token, numbered}
 use Rattle.cep_graph.specs.declared.trace.Trace.{Trace}
-use Rattle.cep_graph.specs.Queues.{Queues, queue_of, Changes, Meets}
+use Rattle.cep_graph.specs.Queues.{Queues, queue_of, Changes, GetsId}
 use Rattle.cep_graph.specs.Traces.{tokens_of, IsTrace, AreOfStart}
 use Rattle.cep_graph.proofs.Made.{traced_push}
 
 pub starts_empty : (queues : Queues) → ((a : AtomTree) → queue_of queues a ≡ []) → AreOfStart [] queues
 starts_empty queues none signature a = subst (λ (row : List Trace). AllZip (IsTrace signature []) [] row) (sym (none a)) tt
 
-pub starts_met : (atoms : List AtomTree) (old new : Queues) (a : AtomTree) (id : ℕ) → Meets old a id new → AreOfStart atoms old → AreOfStart atoms new
+pub starts_met : (atoms : List AtomTree) (old new : Queues) (a : AtomTree) (id : ℕ) → GetsId old a id new → AreOfStart atoms old → AreOfStart atoms new
 starts_met atoms old new a id meets starts signature b = subst (λ (row : List Trace). AllZip (IsTrace signature []) (tokens_of b (numbered 0 atoms)) row) (sym (meets.queues b)) (starts signature b)
 
 -- one atom more is one token more

@@ -18,8 +18,8 @@ use Rattle.cep_cause.specs.Tokens.{Token, has_number, staying, ArePicks, picked_
 use Rattle.cep_cause.specs.Touches.{Touch}
 use Rattle.cep_cause.specs.Graphs.{RestsOnAt}
 use Rattle.cep_graph.specs.declared.trace.Trace.{Trace}
-use Rattle.cep_graph.specs.Queues.{Queues, queue_of, Changes, Meets}
-use Rattle.cep_graph.specs.Traces.{tokens_of, NumbersIncrease, MakesAt, UsesAt, IsTrace, AreTraced, IsTaking, using, AddsNumbers, HasTaken, Takes}
+use Rattle.cep_graph.specs.Queues.{Queues, queue_of, Changes, GetsId}
+use Rattle.cep_graph.specs.Traces.{tokens_of, NumbersIncrease, MakesAt, UsesAt, IsTrace, AreTraced, IsTaking, using, AddsNumbers, HasTaken, TakesFor}
 use Rattle.cep_graph.proofs.Rows.{itself, same_atom}
 use Rattle.cep_graph.proofs.Oldest.{filter_cases, number_itself, same_if, staying_alike, has_append, numbered_there, number_of, one_token, IsOldest, oldest_first}
 use Rattle.cep_graph.proofs.Tracing.{zip_more, passed_trace, used_trace, rests_none, rests_used, rests_removed}
@@ -74,7 +74,7 @@ front_is R token tokens [] all = absurd all
 front_is R token tokens (trace ∷ traces) all = (trace, traces, refl, all.0)
 
 module _ (laws : BagLaws) (signature : Signature) (values : List Tree) where
-  pub none_taken : (number : ℕ) (queues : Queues) (numbers : List ℕ) → Takes signature values [] number queues queues numbers numbers
+  pub none_taken : (number : ℕ) (queues : Queues) (numbers : List ℕ) → TakesFor signature values [] number queues queues numbers numbers
   none_taken number queues numbers done present used out [] touch last is traced = record {
     traced = λ a. zip_more (IsTrace signature done) (IsTrace signature (done ++ touch ∷ [])) (tokens_of a (staying out present)) (queue_of queues a)
         (λ token trace there trace_is.
@@ -233,7 +233,7 @@ module _ (laws : BagLaws) (signature : Signature) (values : List Tree) where
     fact_taken : is_fact signature premise.atom ≡ true → (number : ℕ) (old mid new : Queues) (maker : ℕ) (numbers numbers' : List ℕ) → number ≡ length done + 1
         → AreTraced signature done (staying out present) old → ((b : AtomTree) → queue_of mid b ≡ queue_of old b)
         → ((oldest : Trace) (others : List Trace) → queue_of mid (full_instance values premise.atom) ≡ oldest ∷ others → maker ≡ oldest.maker)
-        → Takes signature values premises number mid new (numbers ++ maker ∷ []) numbers'
+        → TakesFor signature values premises number mid new (numbers ++ maker ∷ []) numbers'
         → HasTaken signature done present out (premise ∷ premises) (token ∷ uses) touch new numbers numbers'
     fact_taken fact number old mid new maker numbers numbers' last traced same maker_is rest =
         let traced' = same_traces old mid (staying out present) same traced in
@@ -296,7 +296,7 @@ module _ (laws : BagLaws) (signature : Signature) (values : List Tree) where
     gone_taken : is_fact signature premise.atom ≡ false → premise.kept ≡ false → (number : ℕ) (old mid new : Queues) (trace : Trace) (numbers more numbers' : List ℕ) → number ≡ length done + 1
         → AreTraced signature done (staying out present) old → Changes (full_instance values premise.atom) (λ queue. trace ∷ queue) mid old
         → ((n : ℕ) → (Contains more n ↔ (Contains (numbers ++ trace.maker ∷ []) n ⊎ Contains trace.users n)))
-        → Takes signature values premises number mid new more numbers'
+        → TakesFor signature values premises number mid new more numbers'
         → HasTaken signature done present out (premise ∷ premises) (token ∷ uses) touch new numbers numbers'
     gone_taken linear goes number old mid new trace numbers more numbers' last traced changes joins rest =
         let pop = popped linear old mid trace traced changes in
@@ -314,7 +314,7 @@ module _ (laws : BagLaws) (signature : Signature) (values : List Tree) where
     kept_taken : is_fact signature premise.atom ≡ false → premise.kept ≡ true → (number : ℕ) (old mid late new : Queues) (trace trace' : Trace) (numbers numbers' : List ℕ) → number ≡ length done + 1
         → AreTraced signature done (staying out present) old → Changes (full_instance values premise.atom) (λ queue. trace ∷ queue) mid old
         → trace'.maker ≡ trace.maker → trace'.users ≡ trace.users ++ number ∷ []
-        → Takes signature values premises number mid late (numbers ++ trace.maker ∷ []) numbers'
+        → TakesFor signature values premises number mid late (numbers ++ trace.maker ∷ []) numbers'
         → Changes (full_instance values premise.atom) (λ queue. trace' ∷ queue) late new
         → HasTaken signature done present out (premise ∷ premises) (token ∷ uses) touch new numbers numbers'
     kept_taken linear kept number old mid late new trace trace' numbers numbers' last traced changes maker users rest back =
@@ -355,39 +355,39 @@ module _ (laws : BagLaws) (signature : Signature) (values : List Tree) where
   -- One premise, then the others
 
   pub fact_takes : (premise : PremiseTree) (premises : List PremiseTree) (number : ℕ) (old mid new : Queues) (id maker : ℕ) (numbers numbers' : List ℕ) → is_fact signature premise.atom ≡ true
-      → Meets old (full_instance values premise.atom) id mid
+      → GetsId old (full_instance values premise.atom) id mid
       → ((oldest : Trace) (others : List Trace) → queue_of mid (full_instance values premise.atom) ≡ oldest ∷ others → maker ≡ oldest.maker)
-      → Takes signature values premises number mid new (numbers ++ maker ∷ []) numbers'
-      → Takes signature values (premise ∷ premises) number old new numbers numbers'
+      → TakesFor signature values premises number mid new (numbers ++ maker ∷ []) numbers'
+      → TakesFor signature values (premise ∷ premises) number old new numbers numbers'
   fact_takes premise premises number old mid new id maker numbers numbers' fact meets maker_is rest done present used out [] touch last is traced = absurd is.picks
   fact_takes premise premises number old mid new id maker numbers numbers' fact meets maker_is rest done present used out (token ∷ uses) touch last is traced =
       fact_taken premise premises done present used out token uses touch is fact number old mid new maker numbers numbers' last traced meets.queues maker_is rest
 
   pub none_takes : (premise : PremiseTree) (premises : List PremiseTree) (number : ℕ) (old mid new : Queues) (id : ℕ) (numbers numbers' : List ℕ) → is_fact signature premise.atom ≡ false
-      → Meets old (full_instance values premise.atom) id mid → queue_of mid (full_instance values premise.atom) ≡ []
-      → Takes signature values (premise ∷ premises) number old new numbers numbers'
+      → GetsId old (full_instance values premise.atom) id mid → queue_of mid (full_instance values premise.atom) ≡ []
+      → TakesFor signature values (premise ∷ premises) number old new numbers numbers'
   none_takes premise premises number old mid new id numbers numbers' linear meets none done present used out [] touch last is traced = absurd is.picks
   none_takes premise premises number old mid new id numbers numbers' linear meets none done present used out (token ∷ uses) touch last is traced =
       absurd (not_empty premise premises done present used out token uses touch is linear old traced (sym (meets.queues (full_instance values premise.atom)) ∙ none))
 
   pub gone_takes : (premise : PremiseTree) (premises : List PremiseTree) (number : ℕ) (old met mid new : Queues) (id : ℕ) (trace : Trace) (numbers more numbers' : List ℕ) → is_fact signature premise.atom ≡ false → premise.kept ≡ false
-      → Meets old (full_instance values premise.atom) id met
+      → GetsId old (full_instance values premise.atom) id met
       → Changes (full_instance values premise.atom) (λ queue. trace ∷ queue) mid met
       → ((n : ℕ) → (Contains more n ↔ (Contains (numbers ++ trace.maker ∷ []) n ⊎ Contains trace.users n)))
-      → Takes signature values premises number mid new more numbers'
-      → Takes signature values (premise ∷ premises) number old new numbers numbers'
+      → TakesFor signature values premises number mid new more numbers'
+      → TakesFor signature values (premise ∷ premises) number old new numbers numbers'
   gone_takes premise premises number old met mid new id trace numbers more numbers' linear goes meets changes joins rest done present used out [] touch last is traced = absurd is.picks
   gone_takes premise premises number old met mid new id trace numbers more numbers' linear goes meets changes joins rest done present used out (token ∷ uses) touch last is traced =
       gone_taken premise premises done present used out token uses touch is linear goes number met mid new trace numbers more numbers' last
       (same_traces premise premises done present used out token uses touch is old met (staying out present) meets.queues traced) changes joins rest
 
   pub kept_takes : (premise : PremiseTree) (premises : List PremiseTree) (number : ℕ) (old met mid late new : Queues) (id : ℕ) (trace trace' : Trace) (numbers numbers' : List ℕ) → is_fact signature premise.atom ≡ false → premise.kept ≡ true
-      → Meets old (full_instance values premise.atom) id met
+      → GetsId old (full_instance values premise.atom) id met
       → Changes (full_instance values premise.atom) (λ queue. trace ∷ queue) mid met
       → trace'.maker ≡ trace.maker → trace'.users ≡ trace.users ++ number ∷ []
-      → Takes signature values premises number mid late (numbers ++ trace.maker ∷ []) numbers'
+      → TakesFor signature values premises number mid late (numbers ++ trace.maker ∷ []) numbers'
       → Changes (full_instance values premise.atom) (λ queue. trace' ∷ queue) late new
-      → Takes signature values (premise ∷ premises) number old new numbers numbers'
+      → TakesFor signature values (premise ∷ premises) number old new numbers numbers'
   kept_takes premise premises number old met mid late new id trace trace' numbers numbers' linear kept meets changes maker users rest back done present used out [] touch last is traced = absurd is.picks
   kept_takes premise premises number old met mid late new id trace trace' numbers numbers' linear kept meets changes maker users rest back done present used out (token ∷ uses) touch last is traced =
       kept_taken premise premises done present used out token uses touch is linear kept number met mid late new trace trace' numbers numbers' last

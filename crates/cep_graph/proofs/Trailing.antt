@@ -16,8 +16,8 @@ use Rattle.cep_cause.specs.Tokens.{Token, numbered, token_state, has_number, sta
 use Rattle.cep_cause.specs.Touches.{Touch, present_after}
 use Rattle.cep_cause.specs.Graphs.{RestsOnAt}
 use Rattle.cep_graph.specs.Queues.{Queues}
-use Rattle.cep_graph.specs.Traces.{NumbersIncrease, MakesAt, UsesAt, AreTraced, IsTaking, using, AddsNumbers, HasTaken, Takes, AreFresh, made_for, Makes}
-use Rattle.cep_graph.specs.Trails.{IsTrail, IsTouchBy, HasTouched, Touches}
+use Rattle.cep_graph.specs.Traces.{NumbersIncrease, MakesAt, UsesAt, AreTraced, IsTaking, using, AddsNumbers, HasTaken, TakesFor, AreFresh, made_for, MakesFor}
+use Rattle.cep_graph.specs.Trails.{IsTrail, IsTouchBy, HasTouched, TouchesBy}
 use Rattle.cep_graph.proofs.Oldest.{filter_cases}
 use Rattle.cep_graph.proofs.Tracing.{has_more}
 use Rattle.cep_graph.proofs.Taken.{picks_present}
@@ -106,8 +106,8 @@ module _ (signature : Signature) (values : List Tree) (rule : Rule) (done : List
       stayed token here = (filter_cases (λ (t : Token). not (has_number touch.removes t.number)) present token here).0
 
   pub touched : (number : ℕ) (mid new : Queues) (numbers after : List ℕ) → number ≡ length done + 1
-      → Takes signature values rule.premises number old mid [] numbers
-      → Makes signature values rule.right number mid new
+      → TakesFor signature values rule.premises number old mid [] numbers
+      → MakesFor signature values rule.right number mid new
       → IsStrictlyIncreasing after → AllByRecursion (λ n. 0 < n) after → ((n : ℕ) → 0 < n → (Contains after n ↔ Contains numbers n))
       → HasTouched signature done present next touch new after
   touched number mid new numbers after last takes makes increasing counted same =
@@ -128,10 +128,10 @@ module _ (signature : Signature) (values : List Tree) (rule : Rule) (done : List
 
 -- the numbers, once they are in order
 pub touch_ends : {E : Type 0} (signature : Signature) (values : List Tree) (rule : Rule) (number : ℕ) (old mid new : Queues) (numbers : List ℕ) (result : Result (List ℕ) E)
-    → Takes signature values rule.premises number old mid [] numbers
-    → Makes signature values rule.right number mid new
+    → TakesFor signature values rule.premises number old mid [] numbers
+    → MakesFor signature values rule.right number mid new
     → IfOk result IsStrictlyIncreasing → IfOk result (AllByRecursion (λ n. 0 < n)) → IfOk result (λ after. (n : ℕ) → 0 < n → (Contains after n ↔ Contains numbers n))
-    → IfOk result (Touches signature values rule number old new)
+    → IfOk result (TouchesBy signature values rule number old new)
 touch_ends signature values rule number old mid new numbers (Ok after) takes makes increasing counted same =
     λ done present next touch last trail is. touched signature values rule done present next touch old trail is number mid new numbers after last takes makes increasing counted same
 touch_ends signature values rule number old mid new numbers (Err e) takes makes increasing counted same = tt

@@ -55,7 +55,7 @@ pub record Changes (a : AtomTree) (change : List Trace → List Trace) (old new 
       → queue_of new b ≡ cond (eq_by_cmp atom_cmp a b) (change (queue_of old b)) (queue_of old b)
 
 -- An atom has an id now, and all queues and ids stay.
-pub record Meets (old : Queues) (a : AtomTree) (id : ℕ) (new : Queues) : Type 0 where
+pub record GetsId (old : Queues) (a : AtomTree) (id : ℕ) (new : Queues) : Type 0 where
   pub met : IsIdOf new id a
   pub queues : (b : AtomTree) → queue_of new b ≡ queue_of old b
   pub ids : KeepsIds old new

@@ -84,9 +84,9 @@ pub record HasTaken (signature : Signature) (done : List Touch) (present out : L
 
 -- However a step picks tokens for these premises, they were taken, and the numbers of their makers
 -- and users were added.
-abbrev pub Takes : Signature → List Tree → List PremiseTree → ℕ → Queues → Queues → List ℕ
+abbrev pub TakesFor : Signature → List Tree → List PremiseTree → ℕ → Queues → Queues → List ℕ
     → List ℕ → Type 0
-Takes signature values premises number old new numbers numbers' =
+TakesFor signature values premises number old new numbers numbers' =
     (done : List Touch) (present used out uses : List Token) (touch : Touch)
     → number ≡ length done + 1
     → IsTaking signature values present used out premises uses touch
@@ -107,8 +107,8 @@ made_for signature values tokens next atoms =
 
 -- However the step of a number makes tokens for the instances of these atoms, after others, they
 -- were added.
-abbrev pub Makes : Signature → List Tree → List AtomTree → ℕ → Queues → Queues → Type 0
-Makes signature values atoms number old new =
+abbrev pub MakesFor : Signature → List Tree → List AtomTree → ℕ → Queues → Queues → Type 0
+MakesFor signature values atoms number old new =
     (done : List Touch) (touch : Touch) (before tokens : List Token) (next : ℕ)
     → number ≡ length done + 1
     → AreFresh done touch

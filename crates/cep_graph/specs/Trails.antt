@@ -44,8 +44,8 @@ pub record HasTouched (signature : Signature) (done : List Touch) (present : Lis
       (next + length touch.makes) new
 
 -- However the step of a number touches tokens, it was done.
-abbrev pub Touches : Signature → List Tree → Rule → ℕ → Queues → Queues → List ℕ → Type 0
-Touches signature values rule number old new after =
+abbrev pub TouchesBy : Signature → List Tree → Rule → ℕ → Queues → Queues → List ℕ → Type 0
+TouchesBy signature values rule number old new after =
     (done : List Touch) (present : List Token) (next : ℕ) (touch : Touch)
     → number ≡ length done + 1
     → IsTrail signature done present next old

@@ -2,7 +2,7 @@ ghost use Rattle.std.specs.Prelude.{length, OnOk};
 ghost use Rattle.std.specs.List.{AllByRecursion};
 ghost use Rattle.cep_term.specs.Tree.{AtomTree, IsGroundAtom, IsAtomInRange};
 ghost use Rattle.cep_rule.specs.Instances.{full_instance};
-ghost use Rattle.cep_graph.specs.Traces.{Makes};
+ghost use Rattle.cep_graph.specs.Traces.{MakesFor};
 
 use crate::taking::id_of_instance;
 use crate::tokens::Tokens;
@@ -26,7 +26,7 @@ pub fn make(
         IsAtomInRange (length values.now) a) right.now }
     requires ground { AllByRecursion (λ (a : AtomTree).
         IsGroundAtom (full_instance values.now a)) right.now }
-    ensures { OnOk result (Makes signature.now values.now right.now number tokens.old tokens.new) }
+    ensures { OnOk result (MakesFor signature.now values.now right.now number tokens.old tokens.new) }
 {
     bags_are_lawful();
     for i in 0..right.len() {

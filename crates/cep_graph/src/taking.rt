@@ -3,8 +3,8 @@ ghost use Rattle.std.specs.List.{AllByRecursion};
 ghost use Rattle.cep_term.specs.Tree.{AtomTree, atom_of, IsGroundAtom, IsAtomInRange};
 ghost use Rattle.cep_rule.specs.Patterns.{PremiseTree};
 ghost use Rattle.cep_rule.specs.Instances.{full_instance};
-ghost use Rattle.cep_graph.specs.Queues.{Meets, KeepsIds};
-ghost use Rattle.cep_graph.specs.Traces.{Takes};
+ghost use Rattle.cep_graph.specs.Queues.{GetsId, KeepsIds};
+ghost use Rattle.cep_graph.specs.Traces.{TakesFor};
 
 use crate::tokens::Tokens;
 use cep_order::Numbers;
@@ -32,7 +32,7 @@ pub fn take(
     requires ground { AllByRecursion (λ (premise : PremiseTree).
         IsGroundAtom (full_instance values.now premise.atom)) premises.now }
     ensures ids { OnOk result (KeepsIds tokens.old tokens.new) }
-    ensures takes { OnOk result (Takes signature.now values.now (drop i premises.now) number
+    ensures takes { OnOk result (TakesFor signature.now values.now (drop i premises.now) number
         tokens.old tokens.new numbers.old.items numbers.new.items) }
 {
     bags_are_lawful();
@@ -99,7 +99,7 @@ pub fn id_of_instance(
     requires range { IsAtomInRange (length values.now) (atom_of atom.now) }
     requires ground { IsGroundAtom (full_instance values.now (atom_of atom.now)) }
     ensures { IfOk result (λ id.
-        Meets tokens.old (full_instance values.now (atom_of atom.now)) id tokens.new) }
+        GetsId tokens.old (full_instance values.now (atom_of atom.now)) id tokens.new) }
 {
     let atom = instance(alloc, atom, values)?;
     tokens.id_of(&atom)

@@ -2,7 +2,7 @@ ghost use Rattle.std.specs.Prelude.{◌≡◌, ◌+◌, ◌<◌, ℕ, List, [], 
 ghost use Rattle.std.specs.Option.{option_to_list};
 ghost use Rattle.cep_term.specs.Tree.{AtomTree, atom_of, IsGroundAtom};
 ghost use Rattle.cep_graph.specs.declared.trace.Trace.{Trace};
-ghost use Rattle.cep_graph.specs.Queues.{queue_of, IsIdOf, Changes, Meets};
+ghost use Rattle.cep_graph.specs.Queues.{queue_of, IsIdOf, Changes, GetsId};
 
 use crate::trace::Trace;
 use cep_store::Store;
@@ -54,7 +54,7 @@ impl Tokens {
     /// The id of a ground atom.
     pub fn id_of(&mut self, atom: &Atom) -> Result<usize, AllocError>
         requires { IsGroundAtom (atom_of atom.now) }
-        ensures { IfOk result (λ id. Meets self.old (atom_of atom.now) id self.new) }
+        ensures { IfOk result (λ id. GetsId self.old (atom_of atom.now) id self.new) }
     {
         bags_are_lawful();
         // so that an atom and its queue are added both or not at all

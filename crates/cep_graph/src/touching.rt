@@ -1,7 +1,7 @@
 ghost use Rattle.std.specs.Prelude.{IfOk};
 ghost use Rattle.cep_rule.specs.Program.{IsTypedRule};
 ghost use Rattle.cep_rule.specs.Typing.{AreValues};
-ghost use Rattle.cep_graph.specs.Trails.{Touches};
+ghost use Rattle.cep_graph.specs.Trails.{TouchesBy};
 
 use crate::making::make;
 use crate::sorting::in_order;
@@ -25,7 +25,7 @@ pub fn touch(
 ) -> Result<Numbers, AllocError>
     requires typed { IsTypedRule signature.now rule.now }
     requires values { AreValues signature.now.cons rule.now.kinds values.now }
-    ensures { IfOk result (Touches signature.now values.now rule.now number tokens.old tokens.new) }
+    ensures { IfOk result (TouchesBy signature.now values.now rule.now number tokens.old tokens.new) }
 {
     types_are_lawful();
     bags_are_lawful();

@@ -8,7 +8,7 @@ use Rattle.cep_rule.specs.Program.{IsTypedRule}
 use Rattle.cep_rule.specs.Typing.{AreValues}
 use Rattle.cep_cause.specs.Tokens.{listed_copies}
 use Rattle.cep_graph.specs.Traces.{AreOfStart}
-use Rattle.cep_graph.specs.Trails.{Touches}
+use Rattle.cep_graph.specs.Trails.{TouchesBy}
 use Rattle.cep_graph.proofs.Graphed.{none_so_far, one_more, all_done, has_rule}
 use Rattle.cep_graph.proofs.graph_of.graph.Goals as goal
 
@@ -38,7 +38,7 @@ loop-i-preserved c = λ touches are.
     one_more c.args.program.now c.args.log.now touches c.loop-i.i c.loop-i.tokens c.touch.new.tokens c.loop-i.causes c.push.new.self c.get-step.result.now c.get-rule.result.now (c.loop-i.i + 1) (record { barrier = c.is_some.result; after = c.in_ok-after.after })
     c.get-step.ensures (sym (ap (λ (p : Parts). slice_get p.rules c.get-step.result.now.offer.rule) c.parts-parts.ensures.parts) ∙ c.get-rule.ensures) refl
     c.is_some.ensures c.in_ok-push.ensures.ok
-    (subst (λ (p : Parts). Touches p.signature c.get-step.result.now.offer.values c.get-rule.result.now (c.loop-i.i + 1) c.loop-i.tokens c.touch.new.tokens c.in_ok-after.after) c.parts-parts.ensures.parts c.in_ok-after.ensures)
+    (subst (λ (p : Parts). TouchesBy p.signature c.get-step.result.now.offer.values c.get-rule.result.now (c.loop-i.i + 1) c.loop-i.tokens c.touch.new.tokens c.in_ok-after.after) c.parts-parts.ensures.parts c.in_ok-after.ensures)
     (c.loop-i.invariant touches are)
 
 pub returns : goal.returns
