@@ -1,0 +1,10 @@
+mod Rows
+mod Oldest
+mod Tracing
+mod Taken
+mod Made
+mod Starts
+mod Trailing
+mod Graphed
+mod Sorted
+mod Typed

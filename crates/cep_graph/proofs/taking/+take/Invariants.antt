@@ -1,0 +1,5 @@
+use Rattle.std.proofs.Common.{◌-◌, length}
+use Rattle.cep_graph.proofs.taking.+take.Given as goal
+
+abbrev pub decreases-take : goal.decreases-take
+decreases-take l = length l.premises.now - l.i

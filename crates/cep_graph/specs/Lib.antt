@@ -1,0 +1,3 @@
+pub mod Queues
+pub mod Traces
+pub mod Trails
