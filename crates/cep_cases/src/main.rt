@@ -39,16 +39,11 @@ fn run_file<R: Files + Print + AllocGlobal>(
     run
 }
 
-/// Runs the cases of all files of the index.
-fn run_all<R: Files + Print + AllocGlobal>(rt: &R, index: &str) -> Result<(), Fault> {
+fn main(rt: HostRuntime) -> Result<(), Fault> {
     let mut player = Player::new(rt.alloc());
+    let index = fs::read_to_string(&rt, "index")?;
     for line in index.lines() {
-        run_file(rt, &mut player, line)?;
+        run_file(&rt, &mut player, line)?;
     }
     Ok(())
-}
-
-fn main(rt: HostRuntime) -> Result<(), Fault> {
-    let index = fs::read_to_string(&rt, "index")?;
-    run_all(&rt, index.as_str())
 }
