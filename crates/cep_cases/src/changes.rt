@@ -1,109 +1,57 @@
 // Texts with a change.
-use crate::bodies::spell;
+use crate::bodies::{number_of, spell};
+use crate::fault::Fault;
+use crate::fault::Fault::Malformed;
 use crate::texts::Texts;
-use anyhow::{Context, Result};
 use std::alloc::{AllocError, Global};
 
-/// What stands in the place of a line.
-#[derive(Drop)]
-enum Instead {
-    Line(Vec<u8>),
-    Nothing,
-    /// Nothing, nor in the place of each later line.
-    End,
+// What a body spells.
+fn spelled(texts: &Texts, body: &str) -> Result<Vec<u8>, Fault> {
+    let mut out = Vec::new(texts.alloc());
+    spell(texts, body, &mut out)?;
+    Ok(out)
 }
 
-/// A change of a text, whose lines count from 1.
-#[derive(Drop)]
-enum Change {
-    Nothing,
-    /// Each line feed gets a carriage return before it.
-    Returns,
-    /// The last line has no line feed.
-    Open,
-    /// Lines that begin with a question mark are left out.
-    Record,
-    Line { number: u64, instead: Instead },
-    /// One text stands in the place of another, where that stands first.
-    Part { old: Vec<u8>, new: Vec<u8> },
-}
-
-// The change that a line names.
-fn change_of(texts: &Texts, line: &str) -> Result<Change> {
-    match line {
-        "-" => return Ok(Change::Nothing),
-        "returns" => return Ok(Change::Returns),
-        "open" => return Ok(Change::Open),
-        "record" => return Ok(Change::Record),
-        _ => {}
+// What stands in the place of a line: what is spelled after a space, as a line, or nothing.
+fn instead(texts: &Texts, body: &str) -> Result<Vec<u8>, Fault> {
+    let mut line = spelled(texts, body.strip_prefix(' ').unwrap_or(body))?;
+    if !body.is_empty() {
+        line.push(b'\n')?;
     }
-    if let Some(parts) = line.strip_prefix("~ ") {
-        return part_of(texts, parts);
-    }
-    let (number, instead) = match line.split_once(" |") {
-        Some((number, "")) => (number, Instead::Nothing),
-        Some((number, line)) => (number, Instead::Line(line_of(texts, line)?)),
-        None => (line, Instead::End),
-    };
-    let number = number
-        .parse::<u64>()
-        .context(format_args!("no change: {line}"))?;
-    Ok(Change::Line { number, instead })
-}
-
-// A change of what stands before an arrow into what stands after it.
-fn part_of(texts: &Texts, parts: &str) -> Result<Change> {
-    let (before, after) = parts
-        .split_once(" => ")
-        .context("a change of a part without an arrow")?;
-    let mut old = Vec::new(texts.alloc());
-    spell(texts, before, &mut old)?;
-    let mut new = Vec::new(texts.alloc());
-    spell(texts, after, &mut new)?;
-    Ok(Change::Part { old, new })
-}
-
-// The line that a body spells behind a space.
-fn line_of(texts: &Texts, body: &str) -> Result<Vec<u8>> {
-    let mut line = Vec::new(texts.alloc());
-    spell(texts, body.strip_prefix(' ').unwrap_or(body), &mut line)?;
-    line.push(b'\n')?;
     Ok(line)
 }
 
-// Adds what stands in the place of a line.
-fn put_instead(instead: &Instead, out: &mut Vec<u8>) -> Result<(), AllocError> {
-    match instead {
-        Instead::Line(line) => out.extend_from_slice(line.as_slice()),
-        Instead::Nothing | Instead::End => Ok(()),
-    }
-}
-
-// Whether a line of the text stays, where what is this number of another is changed.
-fn stays(line: u64, number: u64, instead: &Instead) -> bool {
-    match instead {
-        Instead::Line(_) | Instead::Nothing => line != number,
-        Instead::End => line <= number,
-    }
-}
-
-// A text with something in the place of a line.
+// A text with this in the place of a line. Lines count from 1.
 fn with_line(
     alloc: Global,
     text: &[u8],
     number: u64,
-    instead: &Instead,
+    instead: &[u8],
 ) -> Result<Vec<u8>, AllocError> {
     let mut out = Vec::new(alloc);
     let mut line = 1u64;
     for &byte in text {
-        if stays(line, number, instead) {
+        if line != number {
+            out.push(byte)?;
+        } else if byte == b'\n' {
+            out.extend_from_slice(instead)?;
+        }
+        if byte == b'\n' {
+            line = line.saturating_add(1);
+        }
+    }
+    Ok(out)
+}
+
+// The first lines of a text, so many of them.
+fn first_lines(alloc: Global, text: &[u8], number: u64) -> Result<Vec<u8>, AllocError> {
+    let mut out = Vec::new(alloc);
+    let mut line = 1u64;
+    for &byte in text {
+        if line <= number {
             out.push(byte)?;
         }
         if byte == b'\n' {
-            if line == number {
-                put_instead(instead, &mut out)?;
-            }
             line = line.saturating_add(1);
         }
     }
@@ -139,15 +87,58 @@ fn record(alloc: Global, text: &[u8]) -> Result<Vec<u8>, AllocError> {
     Ok(out)
 }
 
-// A text with a part in the place of another.
-fn with_part(alloc: Global, text: &[u8], old: &[u8], new: &[u8]) -> Result<Vec<u8>> {
-    let (before, after) = str::from_utf8(text)?
-        .split_once(str::from_utf8(old)?)
-        .context("a part that is not there")?;
-    let mut out = before.as_bytes().to_vec(alloc)?;
-    out.extend_from_slice(new)?;
-    out.extend_from_slice(after.as_bytes())?;
+// A text with a part in the place of another, as `OLD => NEW` says.
+fn with_part(texts: &Texts, text: &[u8], parts: &str) -> Result<Vec<u8>, Fault> {
+    let Some((old, new)) = parts.split_once(" => ") else {
+        return Err(Malformed("a change of a part without an arrow"));
+    };
+    let old = spelled(texts, old)?;
+    let new = spelled(texts, new)?;
+    replaced(texts.alloc(), text, old.as_slice(), new.as_slice())
+}
+
+// A text with new bytes in the place of old ones, where these stand first.
+fn replaced(alloc: Global, text: &[u8], old: &[u8], new: &[u8]) -> Result<Vec<u8>, Fault> {
+    let (Ok(text), Ok(old)) = (str::from_utf8(text), str::from_utf8(old)) else {
+        return Err(Malformed("a change of a part where bytes are no text"));
+    };
+    match text.split_once(old) {
+        Some((before, after)) => Ok(joined(alloc, before.as_bytes(), new, after.as_bytes())?),
+        None => Err(Malformed("a part that is not there")),
+    }
+}
+
+// Three texts, one after another.
+fn joined(alloc: Global, one: &[u8], two: &[u8], three: &[u8]) -> Result<Vec<u8>, AllocError> {
+    let mut out = one.to_vec(alloc)?;
+    out.extend_from_slice(two)?;
+    out.extend_from_slice(three)?;
     Ok(out)
+}
+
+// A text with what is spelled in the place of a line.
+fn with_instead(texts: &Texts, text: &[u8], number: u64, body: &str) -> Result<Vec<u8>, Fault> {
+    let instead = instead(texts, body)?;
+    Ok(with_line(texts.alloc(), text, number, instead.as_slice())?)
+}
+
+// A text with a change of a line, or its first lines.
+fn with_lines(texts: &Texts, text: &[u8], line: &str) -> Result<Vec<u8>, Fault> {
+    match line.split_once(" |") {
+        Some((number, body)) => with_instead(texts, text, number_of(number)?, body),
+        None => Ok(first_lines(texts.alloc(), text, number_of(line)?)?),
+    }
+}
+
+// A text with a change that one word names, if the line is such a word.
+fn with_word(alloc: Global, text: &[u8], line: &str) -> Option<Result<Vec<u8>, AllocError>> {
+    match line {
+        "-" => Some(text.to_vec(alloc)),
+        "returns" => Some(with_returns(alloc, text)),
+        "open" => Some(text.strip_suffix(b"\n").unwrap_or(text).to_vec(alloc)),
+        "record" => Some(record(alloc, text)),
+        _ => None,
+    }
 }
 
 /// A text with the change that a line names:
@@ -166,15 +157,12 @@ fn with_part(alloc: Global, text: &[u8], old: &[u8], new: &[u8]) -> Result<Vec<u
 /// # Errors
 ///
 /// The line names none of these.
-pub fn changed(texts: &Texts, text: &[u8], line: &str) -> Result<Vec<u8>> {
-    let alloc = texts.alloc();
-    let changed = match change_of(texts, line)? {
-        Change::Nothing => text.to_vec(alloc)?,
-        Change::Returns => with_returns(alloc, text)?,
-        Change::Record => record(alloc, text)?,
-        Change::Open => text.strip_suffix(b"\n").unwrap_or(text).to_vec(alloc)?,
-        Change::Part { old, new } => with_part(alloc, text, old.as_slice(), new.as_slice())?,
-        Change::Line { number, instead } => with_line(alloc, text, number, &instead)?,
-    };
-    Ok(changed)
+pub fn changed(texts: &Texts, text: &[u8], line: &str) -> Result<Vec<u8>, Fault> {
+    if let Some(changed) = with_word(texts.alloc(), text, line) {
+        return Ok(changed?);
+    }
+    match line.strip_prefix("~ ") {
+        Some(parts) => with_part(texts, text, parts),
+        None => with_lines(texts, text, line),
+    }
 }

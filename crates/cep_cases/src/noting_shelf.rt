@@ -4,11 +4,13 @@ ghost use Rattle.std.specs.Prelude.{◌≡◌, None};
 use cep_base::{FaultCount, MemShelf, Shelf, ShelfFault};
 use std::alloc::{AllocError, Global};
 
-/// A shelf in memory, with the names of all loads since it last forgot them. It tells nothing of its files.
+/// A shelf in memory, with the names of all loads since a case began, and the load of the case that fails, if one does. It tells nothing of
+/// its files.
 #[derive(Drop)]
 pub struct NotingShelf {
     shelf: MemShelf,
     names: Vec<String>,
+    fails: Option<u64>,
     faults: FaultCount,
 }
 
@@ -18,6 +20,7 @@ impl NotingShelf {
         NotingShelf {
             shelf: MemShelf::new(alloc),
             names: Vec::new(alloc),
+            fails: None,
             faults: FaultCount::new(),
         }
     }
@@ -32,9 +35,10 @@ impl NotingShelf {
         &self.names
     }
 
-    /// Forgets which names were asked for.
-    pub fn forget(&mut self) {
+    /// Begins a case: forgets which names were asked for. From now on the load of this number fails, where the next one is the first.
+    pub fn begin(&mut self, fails: Option<u64>) {
         self.names.clear();
+        self.fails = fails;
     }
 }
 
@@ -47,7 +51,11 @@ impl Shelf for NotingShelf {
 
     fn load(&mut self, alloc: Global, name: &str, most: usize) -> Result<Vec<u8>, ShelfFault> {
         self.names.push(String::from_str(alloc, name)?)?;
-        let loaded = self.shelf.load(alloc, name, most);
+        let loaded = if self.fails == Some(self.names.len() as u64) {
+            Err(ShelfFault::Failed)
+        } else {
+            self.shelf.load(alloc, name, most)
+        };
         if let Err(ShelfFault::Failed) = &loaded {
             self.faults.rise();
         }

@@ -1,8 +1,8 @@
 // How a file of cases is written.
 use crate::bodies::spell;
 use crate::changes::changed;
+use crate::fault::Fault;
 use crate::texts::Texts;
-use anyhow::Result;
 
 /// A section: what its body is for, and of which text the body says a change.
 #[derive(Clone, Copy)]
@@ -37,7 +37,7 @@ impl<'a> Section<'a> {
     }
 
     /// The text that the whole body says.
-    pub fn text(&self, texts: &Texts) -> Result<Vec<u8>> {
+    pub fn text(&self, texts: &Texts) -> Result<Vec<u8>, Fault> {
         match self.base {
             Some(base) => self.text_by_changes(texts, texts.get(base)?),
             None => self.own_text(texts),
@@ -45,7 +45,7 @@ impl<'a> Section<'a> {
     }
 
     // The text that the body spells, each of whose lines ends with a line feed.
-    fn own_text(&self, texts: &Texts) -> Result<Vec<u8>> {
+    fn own_text(&self, texts: &Texts) -> Result<Vec<u8>, Fault> {
         let mut body = String::from_str(texts.alloc(), self.body)?;
         if !self.body.is_empty() {
             body.push('\n')?;
@@ -56,7 +56,7 @@ impl<'a> Section<'a> {
     }
 
     // The text with one change after another.
-    fn text_by_changes(&self, texts: &Texts, base: &[u8]) -> Result<Vec<u8>> {
+    fn text_by_changes(&self, texts: &Texts, base: &[u8]) -> Result<Vec<u8>, Fault> {
         let mut text = base.to_vec(texts.alloc())?;
         for change in self.body.lines() {
             text = changed(texts, text.as_slice(), change)?;
@@ -65,7 +65,7 @@ impl<'a> Section<'a> {
     }
 
     /// The text that a line of the body says: the base with the change that it names, or what it spells, without a line feed.
-    pub fn text_of_line(&self, texts: &Texts, base: &[u8], line: &str) -> Result<Vec<u8>> {
+    pub fn text_of_line(&self, texts: &Texts, base: &[u8], line: &str) -> Result<Vec<u8>, Fault> {
         if self.base.is_some() {
             return changed(texts, base, line);
         }

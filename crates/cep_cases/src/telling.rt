@@ -54,30 +54,38 @@ fn put_lines(said: &[u8], out: &mut String) -> Result<(), AllocError> {
     if begins { Ok(()) } else { out.push_str("\\\n") }
 }
 
+// Adds bytes as they are.
+fn put_bytes(said: &[u8], out: &mut String) -> Result<(), AllocError> {
+    for byte in said {
+        out.push(char::from(*byte))?;
+    }
+    Ok(())
+}
+
+// Adds how many bytes these are, and their sum.
+fn put_sum(said: &[u8], out: &mut String) -> Result<(), AllocError> {
+    let told = format!(in *out.allocator(); " {} bytes, sum {:016x}\n", said.len(), sum(said))?;
+    out.push_str(told.as_str())
+}
+
 // Whether this is one line.
 fn is_line(said: &[u8]) -> bool {
     said.iter().position(|byte| *byte == b'\n') == said.len().checked_sub(1)
 }
 
 // Adds what was said: in the same line if it is one, in lines below, or by its length and sum if it is long.
-fn put_said(said: &[u8], most: usize, out: &mut String) -> Result<(), AllocError> {
-    let alloc = *out.allocator();
-    if said.len() > most {
-        let told = format!(in alloc; " {} bytes, sum {:016x}\n", said.len(), sum(said))?;
-        return out.push_str(told.as_str());
-    }
-    if said.is_empty() {
-        return out.push_str(" nothing\n");
-    }
-    if is_line(said) {
+fn put_said(said: &[u8], most: u64, out: &mut String) -> Result<(), AllocError> {
+    if said.len() as u64 > most {
+        put_sum(said, out)
+    } else if said.is_empty() {
+        out.push_str(" nothing\n")
+    } else if is_line(said) {
         out.push(' ')?;
-        for byte in said {
-            out.push(char::from(*byte))?;
-        }
-        return Ok(());
+        put_bytes(said, out)
+    } else {
+        out.push('\n')?;
+        put_lines(said, out)
     }
-    out.push('\n')?;
-    put_lines(said, out)
 }
 
 /// What came of the case of this name, where of its output at most so many bytes are written out.
@@ -86,7 +94,7 @@ pub fn told(
     name: &str,
     outcome: &Outcome,
     names: &[String],
-    most: usize,
+    most: u64,
 ) -> Result<String, AllocError> {
     let mut out = format!(in alloc; "{name}: status {}, asked", outcome.status)?;
     put_names(names, &mut out)?;

@@ -1,5 +1,5 @@
 // Texts that have a name, so that each stands once.
-use anyhow::{Result, anyhow};
+use crate::fault::Fault;
 use std::alloc::Global;
 use std::collections::BTreeMap;
 
@@ -25,7 +25,7 @@ impl Texts {
     }
 
     /// Keeps a text under a name, in the place of one that had the name.
-    pub fn put(&mut self, name: &str, text: Vec<u8>) -> Result<()> {
+    pub fn put(&mut self, name: &str, text: Vec<u8>) -> Result<(), Fault> {
         let name = String::from_str(self.alloc, name)?;
         self.by_name.insert(name, text)?;
         Ok(())
@@ -36,10 +36,10 @@ impl Texts {
     /// # Errors
     ///
     /// No text has the name.
-    pub fn get(&self, name: &str) -> Result<&[u8]> {
+    pub fn get(&self, name: &str) -> Result<&[u8], Fault> {
         match self.by_name.get(name) {
             Some(text) => Ok(text.as_slice()),
-            None => Err(anyhow!("no text {name}")),
+            None => Err(Fault::Malformed("no text has this name")),
         }
     }
 }

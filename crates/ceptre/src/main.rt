@@ -3,21 +3,15 @@
 
 ghost use Rattle.std.specs.Prelude.{◌≡◌, ◌<◌};
 
-mod file_shelf;
-mod std_console;
-#[cfg(test)]
-mod tests;
-
 use cep_base::Steps;
+use cep_host::{FileShelf, StdConsole};
 use cep_play::ceptre;
-use file_shelf::FileShelf;
 use std::io::ErrorKind;
 use std::marker::Brand;
 use std::process::ExitCode;
 use std::rt::{Env, Files};
 use std::sync::ledger::{Blank, Ledger};
 use std::{env, io};
-use std_console::StdConsole;
 
 /// The status where memory ran out before the call.
 const NO_MEMORY: u8 = 9;

@@ -1,6 +1,5 @@
 // The adapters over the real system, of which no clause can say what it holds.
-use crate::file_shelf::FileShelf;
-use crate::std_console::StdConsole;
+use crate::{FileShelf, StdConsole};
 use cep_base::{Console, Shelf, ShelfFault};
 use std::fs;
 use std::test::Fail;

@@ -1,4 +1,0 @@
-mod draws;
-mod faults;
-mod outside;
-mod sample;
