@@ -23,6 +23,6 @@ pub(crate) fn report_graph(
 {
     let causes = graph(alloc, program, log)?;
     let mut text = Text::new(alloc);
-    put_causes(&causes, &mut text)?;
+    put_causes(causes.as_slice(), &mut text)?;
     Ok(Report::text(text, Status::Done))
 }

@@ -4,7 +4,7 @@ ghost use Rattle.std.specs.List.{flat_map};
 ghost use Rattle.cep_report.specs.CauseLines.{barrier_text, number_text, after_text, cause_line, cause_lines};
 
 use cep_base::Text;
-use cep_order::{StepCause, StepCauses};
+use cep_order::StepCause;
 use std::alloc::AllocError;
 
 // A number of a step, after a space.
@@ -64,11 +64,11 @@ fn put_cause(number: usize, cause: &StepCause, out: &mut Text) -> Result<(), All
 /// # Errors
 ///
 /// Out of memory alone.
-pub fn put_causes(causes: &StepCauses, out: &mut Text) -> Result<(), AllocError>
+pub fn put_causes(causes: &[StepCause], out: &mut Text) -> Result<(), AllocError>
     ensures { OnOk result (out.new ≡ out.old ++ cause_lines 1 causes.now) }
 {
     let mut number = 0;
-    for cause in causes.as_slice() {
+    for cause in causes {
         number += 1;
         put_cause(number, cause, out)?;
     }
