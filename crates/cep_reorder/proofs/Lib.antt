@@ -1,1 +1,2 @@
 pub mod OneGraph
+pub mod Counted

@@ -76,7 +76,7 @@ one_list : (touches : List Touch) (one other : List StepCause) → AreCauses tou
 one_list touches one other are are' = same_items one other (are.many ∙ sym are'.many) (λ place x y here there.
     let within = slice_get_within one place x here in
     ⊎_elim
-    (λ some. one_entry touches place some.0 x y (are.each place some.0 x some.2.0 here) (are'.each place some.0 y some.2.0 there))
+    (λ some. one_entry touches place some.0 x y (are.each place some.0 x some.2 here) (are'.each place some.0 y some.2 there))
     (λ none. let past = none.0 in absurd (omega (arith, past, within, are.many)))
     (slice_get_cases touches place).1)
 

@@ -4,6 +4,6 @@
 #![tactic(auto)]
 
 pub mod laws;
-mod reorder;
+mod seeded;
 
-pub use reorder::reorder;
+pub use seeded::reorder;
