@@ -17,10 +17,13 @@ complete -c ceptre -n 'test (count (commandline -opc)) -eq 1' -a play -d 'play a
 complete -c ceptre -n 'test (count (commandline -opc)) -eq 1' -a check -d 'check a transcript against a world'
 complete -c ceptre -n 'test (count (commandline -opc)) -eq 1' -a renew -d 'write a legal transcript again in the newest version'
 complete -c ceptre -n 'test (count (commandline -opc)) -eq 1' -a world -d 'run a generated world'
+complete -c ceptre -n 'test (count (commandline -opc)) -eq 1' -a cause -d 'list what each step of a transcript rests on'
+complete -c ceptre -n 'test (count (commandline -opc)) -eq 1' -a again -d 'do the steps of a transcript again in another order'
 complete -c ceptre -n 'test (count (commandline -opc)) -eq 1' -a weigh -d 'judge claims about weights'
 complete -c ceptre -n 'test (count (commandline -opc)) -eq 1' -a dead -d 'list rules that can never apply'
-complete -c ceptre -n '__ceptre_at 2 play check renew weigh dead' -k -a '(__fish_complete_suffix .cep)'
-complete -c ceptre -n '__ceptre_at 3 check renew' -k -a '(__fish_complete_suffix .log)'
+complete -c ceptre -n '__ceptre_at 2 play check renew cause again weigh dead' -k -a '(__fish_complete_suffix .cep)'
+complete -c ceptre -n '__ceptre_at 3 check renew cause again' -k -a '(__fish_complete_suffix .log)'
+complete -c ceptre -n '__ceptre_at 4 again' -a seed=
 complete -c ceptre -n '__ceptre_at 3 weigh' -k -a '(__fish_complete_suffix .keeps)'
 for option in seed height turns
     complete -c ceptre -n "__ceptre_may $option=" -a "$option="
