@@ -1,22 +1,15 @@
 -- A log has one graph, and comes to one answer by a seed.
 use Rattle.std.proofs.Common.{◌≡◌, ◌↔◌, ⊎_elim, ℕ, suc, ◌+◌, ◌-◌, ◌<◌, List, [], ◌∷◌, length, get_or, refl, sym, ap, ◌∙◌, subst, arith, Some, Contains}
 use Rattle.std.specs.Prelude.{slice_get}
-use Rattle.std.specs.List.{AllByRecursion}
 use Rattle.std.specs.List.Sorted.{IsStrictlyIncreasing}
 use Rattle.std.proofs.lemmas.List.Kept.{AllPairs-from_increasing}
 use Rattle.std.proofs.lemmas.Option.{slice_get_within, slice_get_cases}
 use Rattle.cep_base.proofs.Elements.{contains_none, contains_cases, contains_same, contains_behind, all_at}
-use Rattle.cep_base.proofs.Lists.{some_same}
 use Rattle.cep_rule.specs.declared.parts.Parts.{Parts}
 use Rattle.cep_log.specs.declared.log.Log.{Log}
 use Rattle.cep_order.specs.declared.step_cause.StepCause.{StepCause}
-use Rattle.cep_order.specs.Orders.{IsOrderBy}
-use Rattle.cep_cause.specs.declared.reordered.Reordered.{Reordered}
 use Rattle.cep_cause.specs.Touches.{Touch, AreTouchesOf}
-use Rattle.cep_cause.specs.Reorderings.{step_places}
-use Rattle.cep_cause.specs.Reordered.{ComesTo}
 use Rattle.cep_cause.specs.Graphs.{IsCause, AreCauses, IsGraph}
-use Rattle.cep_reorder.specs.BySeed.{IsReorderedBy}
 
 -- Strictly increasing lists with the same elements are the same.
 rest_increases : (x : ℕ) (xs : List ℕ) → IsStrictlyIncreasing (x ∷ xs) → IsStrictlyIncreasing xs

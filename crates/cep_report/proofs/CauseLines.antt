@@ -1,5 +1,5 @@
 -- The lines of a graph, written one after another.
-use Rattle.std.proofs.Common.{◌≡◌, ℕ, ◌+◌, ◌<◌, ◌≤◌, List, [], ◌∷◌, ◌++◌, length, take, get_or, refl, ap, sym, ◌∙◌, append_assoc, arith}
+use Rattle.std.proofs.Common.{◌≡◌, ℕ, ◌+◌, ◌<◌, List, [], ◌∷◌, ◌++◌, length, take, get_or, ap, sym, ◌∙◌, append_assoc, arith}
 use Rattle.std.proofs.lemmas.List.{take_more, length-take-le, append-nil}
 use Rattle.cep_order.specs.declared.step_cause.StepCause.{StepCause}
 use Rattle.cep_report.specs.CauseLines.{cause_line, cause_lines}

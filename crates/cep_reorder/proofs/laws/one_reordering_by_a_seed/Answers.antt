@@ -1,4 +1,4 @@
-use Rattle.std.proofs.Common.{subst, ap, sym, ◌∙◌, ℕ, List}
+use Rattle.std.proofs.Common.{subst, ℕ, List}
 use Rattle.cep_order.specs.declared.step_cause.StepCause.{StepCause}
 use Rattle.cep_order.specs.Orders.{IsOrderBy}
 use Rattle.cep_cause.specs.Reorderings.{step_places}
