@@ -51,7 +51,7 @@ _ceptre_script() {
     local word=${COMP_WORDS[COMP_CWORD]} options place=0 at
     case ${COMP_WORDS[0]##*/} in
     explain) options='--help --all --hints --format' ;;
-    follow) options='--help --at' ;;
+    follow) options='--help --at --causes --dot' ;;
     grade) options='--help --goal --height --end --typed --seed --turns --json' ;;
     player) options='--help --log --load --from --rows --plain' ;;
     replay) options='--help --seed --turns --typed --words' ;;
@@ -75,7 +75,7 @@ _ceptre_script() {
         _ceptre_files log "$word"
         return
         ;;
-    --at | --goal | --height | --seed | --turns | --rows | --runs) return ;;
+    --at | --causes | --goal | --height | --seed | --turns | --rows | --runs) return ;;
     esac
     # The first word that is no option is the world.
     for ((at = 1; at < COMP_CWORD; at++)); do
