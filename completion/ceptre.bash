@@ -8,11 +8,12 @@ _ceptre() {
         return
     fi
     case $COMP_CWORD:$command in
-    1:*) mapfile -t COMPREPLY < <(compgen -W 'play check renew world weigh dead' -- "$word") ;;
-    2:play | 2:check | 2:renew | 2:weigh | 2:dead) _ceptre_files cep "$word" ;;
-    3:check | 3:renew) _ceptre_files log "$word" ;;
+    1:*) mapfile -t COMPREPLY < <(compgen -W 'play check renew world cause again weigh dead' -- "$word") ;;
+    2:play | 2:check | 2:renew | 2:cause | 2:again | 2:weigh | 2:dead) _ceptre_files cep "$word" ;;
+    3:check | 3:renew | 3:cause | 3:again) _ceptre_files log "$word" ;;
     3:weigh) _ceptre_files keeps "$word" ;;
-    2:world | *:check | *:renew | *:weigh | *:dead) ;;
+    4:again) _ceptre_seed "$word" ;;
+    2:world | *:check | *:renew | *:cause | *:again | *:weigh | *:dead) ;;
     *:play | *:world) _ceptre_options "$word" ;;
     esac
 }
@@ -25,6 +26,12 @@ _ceptre_files() {
     )
     # Outside of a completion there is nothing to set.
     compopt -o filenames 2>/dev/null
+}
+
+# Completes with the one option of `again`.
+_ceptre_seed() {
+    mapfile -t COMPREPLY < <(compgen -W 'seed=' -- "$1")
+    compopt -o nospace 2>/dev/null
 }
 
 # Completes with the options that are not given yet.
@@ -44,7 +51,7 @@ _ceptre_script() {
     local word=${COMP_WORDS[COMP_CWORD]} options place=0 at
     case ${COMP_WORDS[0]##*/} in
     explain) options='--help --all --hints --format' ;;
-    follow) options='--help --at' ;;
+    follow) options='--help --at --causes --dot' ;;
     grade) options='--help --goal --height --end --typed --seed --turns --json' ;;
     player) options='--help --log --load --from --rows --plain' ;;
     replay) options='--help --seed --turns --typed --words' ;;
@@ -68,7 +75,7 @@ _ceptre_script() {
         _ceptre_files log "$word"
         return
         ;;
-    --at | --goal | --height | --seed | --turns | --rows | --runs) return ;;
+    --at | --causes | --goal | --height | --seed | --turns | --rows | --runs) return ;;
     esac
     # The first word that is no option is the world.
     for ((at = 1; at < COMP_CWORD; at++)); do

@@ -1,12 +1,17 @@
-"""The state at each step is that of a run that ends there, and each step is told."""
+"""The state at each step is that of a run that ends there, and each step and its causes are told."""
 
 import os
+import re
+import shutil
 import subprocess
 import tempfile
 import unittest
 
-from setting import HUNDRED, ROUNDS, TOP, WORLDS, called, module_of, read, tool, typed_and_words, world_names
+from setting import HUNDRED, ROUNDS, TOP, WORLDS
+from setting import called, module_of, read, tool, typed_and_words, usage, world_names
 from language import read_world
+from program import CannotRun
+from token_graph import causes_of, drawn, edges, told_causes
 from transcript import Transcript
 
 WALK = ("worlds/walk.cep", "worlds/walk.log")
@@ -29,6 +34,43 @@ step 3: unlock A=yard D=portal B=chapel K=iron/key
   by opens iron/key portal: 21. opens K D <- bit K S, keyhole D S.  with K=iron/key D=portal S=square
     16. bit iron/key square.
     18. keyhole portal square.
+"""
+
+
+# What `cause` writes of six steps, of which the third and the sixth leave a stage, and their offers.
+CAUSES = ["step 1", "step 2 after 1", "step 3 all after 2", "step 4", "step 5 after 2 4", "step 6 all"]
+OFFERS = ["take A=hall", "give A=(s (s z)) B=ann", "over", "take A=yard", "drop A=yard", "back"]
+
+# Why the fifth came about.
+WHY = """\
+step 5: drop A=yard
+  rests on step 2: give A=(s (s z)) B=ann
+  rests on step 4: take A=yard
+step 4: take A=yard
+  rests on the start alone
+  comes after step 3, which leaves a stage
+step 2: give A=(s (s z)) B=ann
+  rests on step 1: take A=hall
+step 1: take A=hall
+  rests on the start alone
+"""
+
+PICTURE = """\
+digraph steps {
+  node [shape=box];
+  1 [label="1 take\\nA=hall"];
+  2 [label="2 give\\nA=(s (s z))\\nB=ann"];
+  3 [label="3 over", style=bold];
+  4 [label="4 take\\nA=yard"];
+  5 [label="5 drop\\nA=yard"];
+  6 [label="6 back", style=bold];
+  1 -> 2;
+  2 -> 3;
+  3 -> 4 [style=dashed];
+  2 -> 5;
+  4 -> 5;
+  5 -> 6 [style=dashed];
+}
 """
 
 
@@ -161,6 +203,9 @@ class Follow(unittest.TestCase):
                 file.write(HUNDRED[: HUNDRED.index("state 100") + 10])
             self.assertIn("cut after step 99\n", called("follow", world, log)[1])
 
+    def test_help(self):
+        self.assertEqual(tool("follow", "--help", folder=TOP)[0], 0)
+
     def test_pipes(self):
         tools, walk = os.path.join(TOP, "tools"), " ".join(WALK)
         for script, status in [
@@ -173,8 +218,131 @@ class Follow(unittest.TestCase):
                 self.assertIn(done.returncode, status)
                 self.assertEqual(done.stderr.count("\n"), int(done.returncode == 3), done.stderr)
 
-    def test_help(self):
-        self.assertEqual(tool("follow", "--help", folder=TOP)[0], 0)
+class Graph(unittest.TestCase):
+    """The causes of steps, of lines that stand here."""
+
+    def test_what_is_told(self):
+        causes = causes_of(CAUSES)
+        self.assertEqual("\n".join(told_causes(OFFERS, causes, 5)) + "\n", WHY)
+        leaves = "  leaves a stage, so it comes after all steps before it"
+        self.assertEqual(told_causes(OFFERS, causes, 6), ["step 6: back", "  rests on the start alone", leaves])
+        told = told_causes(OFFERS, causes, 3)
+        self.assertEqual(told[:3], ["step 3: over", "  rests on step 2: give A=(s (s z)) B=ann", leaves])
+
+    def test_what_is_drawn(self):
+        self.assertEqual("\n".join(drawn(OFFERS, causes_of(CAUSES))) + "\n", PICTURE)
+        long = "take A=" + "(s " * 20 + "z" + ")" * 20
+        self.assertIn('  1 [label="1 take\\nA=' + "(s " * 12 + '.."];', drawn([long], causes_of(["step 1"])))
+
+    def test_the_arrows_lead_to_all_that_comes_after(self):
+        """By the arrows a step comes after another if and only if it has to."""
+        for lines in (
+            CAUSES,
+            ["step 1 all", "step 2 all", "step 3", "step 4", "step 5 all after 4", "step 6 all after 3", "step 7"],
+            ["step 1", "step 2", "step 3 after 1 2", "step 4 all after 1", "step 5 after 1", "step 6 after 5"],
+            ["step 1", "step 2"],
+            [],
+        ):
+            causes = causes_of(lines)
+            drawn_after = closed({(earlier, later) for earlier, later, _ in edges(causes)})
+            numbers = range(1, len(causes) + 1)
+            pairs = [(i, j) for j in numbers for i in range(1, j)]
+            leave = [step.leaves for step in causes]
+            must = {(i, j) for i, j in pairs if i in causes[j - 1].after or leave[i - 1] or leave[j - 1]}
+            with self.subTest(lines=lines):
+                self.assertEqual(drawn_after, closed(must))
+
+    def test_what_are_no_lines_of_causes(self):
+        for line in ("step 2", "step 1 after 1", "step 1 after", "step 1 after  1", "step 01", "refused 1 Line", ""):
+            with self.subTest(line=line), self.assertRaises(CannotRun):
+                causes_of([line])
+
+    @unittest.skipUnless(shutil.which("dot"), "dot is missing here")
+    def test_the_picture(self):
+        done = subprocess.run(["dot", "-Tsvg"], input=PICTURE, capture_output=True, text=True, check=False)
+        self.assertEqual((done.returncode, done.stderr), (0, ""))
+        self.assertEqual(done.stdout.count('class="node"'), 6)
+
+
+def closed(pairs):
+    """The pairs, and those that follow from one after another."""
+    found = set(pairs)
+    while True:
+        more = {(i, k) for i, j in found for other, k in found if j == other} - found
+        if not more:
+            return found
+        found |= more
+
+
+class Stand(unittest.TestCase):
+    """The options, with a program that says what stands here."""
+
+    def setUp(self):
+        folder = tempfile.TemporaryDirectory()
+        self.addCleanup(folder.cleanup)
+        self.program = os.path.join(folder.name, "program")
+
+    def said(self, cause, *words):
+        """The answer of the script, where the program answers `cause` with these shell words."""
+        with open(self.program, "w", encoding="utf-8") as file:
+            check = f"exec {os.environ['CEPTRE']} \"$@\""
+            file.write(f"#!/bin/sh\ncase $1 in check) {check} ;; cause) {cause} ;; esac\n")
+        os.chmod(self.program, 0o755)
+        return tool("follow", "worlds/apple.cep", "worlds/apple.log", *words, CEPTRE=self.program)
+
+    def test_the_causes_of_a_step(self):
+        cause = "echo step 1; echo step 2 after 1"
+        told = "step 2: eat P=ben\n  rests on step 1: sell P=ann Q=ben\n"
+        told += "step 1: sell P=ann Q=ben\n  rests on the start alone\n"
+        self.assertEqual(self.said(cause, "--causes", "2"), (0, told, ""))
+        status, picture, errors = self.said(cause, "--dot")
+        self.assertEqual((status, errors), (0, ""))
+        self.assertIn("\n  1 -> 2;\n", picture)
+        for number in ("0", "3", "-1"):
+            answer = self.said(cause, "--causes", number)
+            self.assertEqual(answer, (1, "", "worlds/apple.log: it has the steps 1 to 2\n"))
+
+    def test_what_cannot_be_asked(self):
+        for cause, said in [
+            ("echo usage: play; exit 2", "follow: this program has no command `cause`\n"),
+            ("echo cannot read program; exit 7", "follow: cannot read program\n"),
+            ("exit 9", "follow: the program ended with status 9\n"),
+            ("echo step 2", "follow: line 1 of what `cause` writes says no causes of step 1: step 2\n"),
+            ("echo step 1", "follow: `cause` tells 1 of 2 steps\n"),
+        ]:
+            with self.subTest(cause=cause):
+                self.assertEqual(self.said(cause, "--dot"), (3, "", said))
+        self.assertEqual(self.said("", "--dot", "--at", "1")[0], 2)
+
+    def test_a_transcript_that_was_cut_has_none(self):
+        with tempfile.NamedTemporaryFile("w", suffix=".log") as log:
+            log.write(read(WORLDS, "apple.log").split("end ")[0])
+            log.flush()
+            status, output, errors = called("follow", "worlds/apple.cep", log.name, "--causes", "1")
+        self.assertEqual((status, output), (1, ""))
+        self.assertIn("NotEnded", errors)
+
+
+class Causes(unittest.TestCase):
+    def setUp(self):
+        if "cause" not in usage():
+            self.skipTest("the command `cause` is missing here")
+
+    def test_each_world(self):
+        for name in world_names():
+            with self.subTest(world=name):
+                words = (f"worlds/{name}.cep", f"worlds/{name}.log")
+                steps = read(WORLDS, name + ".log").count("\nstep ")
+                status, output, errors = called("follow", *words, "--causes", str(steps))
+                self.assertEqual((status, errors), (0, ""))
+                self.assertTrue(output.startswith(f"step {steps}: "))
+                status, picture, errors = called("follow", *words, "--dot")
+                self.assertEqual((status, errors), (0, ""))
+                self.assertEqual(len(re.findall(r"^  \d+ \[label=", picture, re.MULTILINE)), steps)
+
+    def test_a_step_rests_on_what_made_its_things(self):
+        _, output, _ = called("follow", "worlds/apple.cep", "worlds/apple.log", "--causes", "2")
+        self.assertTrue(output.startswith("step 2: eat P=ben\n  rests on step 1: sell P=ann Q=ben\n"))
 
 
 if __name__ == "__main__":

@@ -10,7 +10,8 @@ use Rattle.cep_weigh.specs.declared.weight.Against.{Against}
 use Rattle.cep_play.specs.declared.report.Status.{Status}
 use Rattle.cep_play.specs.declared.report.Status.TheVariants.{Done}
 use Rattle.cep_play.specs.Outside.{Report}
-use Rattle.cep_play.specs.Claims.{claim_lines_of, claims_code, IsJudged, IsReportOfWeights}
+use Rattle.cep_report.specs.ClaimLines.{claim_lines_of}
+use Rattle.cep_play.specs.Claims.{claims_code, IsJudged, IsReportOfWeights}
 use Rattle.cep_play.specs.Outcome.{code_of}
 use Rattle.cep_play.proofs.Reporting.{Judged}
 use Rattle.cep_play.proofs.Done.{made}

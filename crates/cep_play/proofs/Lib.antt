@@ -1,4 +1,3 @@
-pub mod Added
 pub mod Reporting
 pub mod Reported
 pub mod Done

@@ -24,20 +24,24 @@ use Rattle.cep_check.specs.declared.cause.Verdict.TheVariants as verdicts
 use Rattle.cep_check.specs.Causes.{IsLogRefused, IsVerdict}
 use Rattle.cep_check.specs.Telling.{verdict_text, fault_text}
 use Rattle.cep_check.specs.Renewed.{IsTooLongRenewed}
+use Rattle.cep_cause.specs.declared.reordered.Reordered.{Reordered}
+use Rattle.cep_cause.specs.declared.reordered.Reordered.TheVariants.{Done, Unfit, TooLong}
+use Rattle.cep_reorder.specs.BySeed.{IsReorderedBy}
 use Rattle.cep_weigh.specs.declared.fault.KeepFault.{KeepFault}
 use Rattle.cep_weigh.specs.declared.weight.Weight.{Weight}
 use Rattle.cep_weigh.specs.declared.weight.Against.{Against}
 use Rattle.cep_weigh.specs.Weights.{KeepsTo, IsKept, IsFirstAgainst}
 use Rattle.cep_weigh.specs.Claims.{HasClaims, HasFault}
 use Rattle.cep_words.specs.declared.request.Task.{Task}
-use Rattle.cep_words.specs.declared.request.Task.TheVariants.{Check, Renew, Weigh}
+use Rattle.cep_words.specs.declared.request.Task.TheVariants.{Check, Renew, Cause, Again, Weigh}
 use Rattle.cep_play.specs.Command.{refusal_text}
 use Rattle.cep_play.specs.Outside.{Report, line_report, IsRefusal}
-use Rattle.cep_play.specs.Check.{Rejects, too_long_text}
+use Rattle.cep_play.specs.Check.{IsLegalTranscript, Rejects, too_long_text}
 use Rattle.cep_play.specs.Renew.{Renews}
+use Rattle.cep_play.specs.Again.{reordered_report, ReportsReordering}
 use Rattle.cep_play.specs.Claims.{claims_code, IsJudged, ReportsWeighing}
 use Rattle.cep_play.specs.Reports.{ReportsWhy, Reports}
-use Rattle.cep_play.specs.Outcome.{most_of, verdict_code, verdict_report, IsRenewalReport, IsLogReport}
+use Rattle.cep_play.specs.Outcome.{most_of, verdict_code, verdict_report, IsRenewalReport, IsLegalReport, IsLogReport}
 
 abbrev pub code : Report → ℕ
 code report = report.code
@@ -58,11 +62,12 @@ text_refused text refusal report never one_fault one_told (fault, refused, tells
 
 -- Claims
 
--- a file of claims says one list of claims, or has a fault
-abbrev pub ReadsOnce : Parts → Type 0
-ReadsOnce program =
-    ((bytes : List ℕ) (one other : List Weight) → HasClaims program bytes one → HasClaims program bytes other → one ≡ other)
-    × ((bytes : List ℕ) (weights : List Weight) (fault : KeepFault) → HasClaims program bytes weights → ¬ (HasFault program bytes fault))
+-- What is read of a second file is one: a file of claims says one list of claims, or has a fault; a transcript says one log, which comes to one answer by a seed.
+pub record ReadsOnce (program : Parts) : Type 0 where
+  pub claims : (bytes : List ℕ) (one other : List Weight) → HasClaims program bytes one → HasClaims program bytes other → one ≡ other
+  pub either : (bytes : List ℕ) (weights : List Weight) (fault : KeepFault) → HasClaims program bytes weights → ¬ (HasFault program bytes fault)
+  pub logs : (bytes : List ℕ) (one other : Log) → HasLog program bytes one → HasLog program bytes other → one ≡ other
+  pub answers : (log : Log) (seed : ℕ) (one other : Reordered) → IsReorderedBy program log seed one → IsReorderedBy program log seed other → one ≡ other
 
 low_claims : (judged : List (Option Against)) → claims_code judged ≤ 5
 low_claims [] = omega arith
@@ -95,11 +100,23 @@ one_weighing program bytes one other reads (inl (long, same)) (inr (inl (fault, 
 one_weighing program bytes one other reads (inl (long, same)) (inr (inr (weights, short, has, is))) = absurd (omega (arith, long, short))
 one_weighing program bytes one other reads (inr (inl (fault, short, has, same))) (inl (long, same')) = ap code same ∙ sym (ap code same')
 one_weighing program bytes one other reads (inr (inl (fault, short, has, same))) (inr (inl (fault', short', has', same'))) = ap code same ∙ sym (ap code same')
-one_weighing program bytes one other reads (inr (inl (fault, short, has, same))) (inr (inr (weights, short', says, is))) = absurd (reads.1 bytes weights fault says has)
+one_weighing program bytes one other reads (inr (inl (fault, short, has, same))) (inr (inr (weights, short', says, is))) = absurd (reads.either bytes weights fault says has)
 one_weighing program bytes one other reads (inr (inr (weights, short, says, is))) (inl (long, same)) = absurd (omega (arith, long, short))
-one_weighing program bytes one other reads (inr (inr (weights, short, says, is))) (inr (inl (fault, short', has, same))) = absurd (reads.1 bytes weights fault says has)
+one_weighing program bytes one other reads (inr (inr (weights, short, says, is))) (inr (inl (fault, short', has, same))) = absurd (reads.either bytes weights fault says has)
 one_weighing program bytes one other reads (inr (inr (weights, short, says, is))) (inr (inr (weights', short', says', is'))) =
-    ap code is.is ∙ same_codes program is.judged is'.judged (is.each ∙ reads.0 bytes weights weights' says says' ∙ sym is'.each) is.right is'.right ∙ sym (ap code is'.is)
+    ap code is.is ∙ same_codes program is.judged is'.judged (is.each ∙ reads.claims bytes weights weights' says says' ∙ sym is'.each) is.right is'.right ∙ sym (ap code is'.is)
+
+-- Two reports of a legal log that is done in the order of a seed are one.
+one_reordering : (program : Parts) (bytes : List ℕ) (log log' : Log) (seed : ℕ) (one other : Report) → ReadsOnce program → IsLegalTranscript program bytes log → IsLegalTranscript program bytes log' → ReportsReordering program log seed one → ReportsReordering program log' seed other → one.code ≡ other.code
+one_reordering program bytes log log' seed one other reads legal legal' (reordered, by, same) (reordered', by', same') =
+    let logs : log' ≡ log = reads.logs bytes log' log legal'.1 legal.1 in
+    let answers = reads.answers log seed reordered reordered' by (subst (λ (l : Log). IsReorderedBy program l seed reordered') logs by') in
+    ap code same ∙ ap (λ r. (reordered_report r).code) answers ∙ sym (ap code same')
+
+low_reordered : (reordered : Reordered) → (reordered_report reordered).code ≤ 5
+low_reordered (Done text) = omega arith
+low_reordered (Unfit number) = omega arith
+low_reordered TooLong = omega arith
 
 -- Two reports on the bytes of a second file have one status.
 
@@ -117,6 +134,14 @@ one_code Renew program bytes one other reads (inr (inl (text, rejects, same))) (
 one_code Renew program bytes one other reads (inr (inl (text, rejects, same))) (inr (inr (long, same'))) = ap code same ∙ sym (ap code same')
 one_code Renew program bytes one other reads (inr (inr (long, same))) (inr (inl (text, rejects, same'))) = ap code same ∙ sym (ap code same')
 one_code Renew program bytes one other reads (inr (inr (long, same))) (inr (inr (long', same'))) = ap code same ∙ sym (ap code same')
+one_code Cause program bytes one other reads (inl (log, legal, (causes, graph, same))) (inl (log', legal', (causes', graph', same'))) = ap code same ∙ sym (ap code same')
+one_code Cause program bytes one other reads (inl (log, legal, is)) (inr (text, rejects, same)) = absurd (rejects.no_legal log legal)
+one_code Cause program bytes one other reads (inr (text, rejects, same)) (inl (log, legal, is)) = absurd (rejects.no_legal log legal)
+one_code Cause program bytes one other reads (inr (text, rejects, same)) (inr (text', rejects', same')) = ap code same ∙ sym (ap code same')
+one_code (Again seed) program bytes one other reads (inl (log, legal, is)) (inl (log', legal', is')) = one_reordering program bytes log log' _ one other reads legal legal' is is'
+one_code (Again seed) program bytes one other reads (inl (log, legal, is)) (inr (text, rejects, same)) = absurd (rejects.no_legal log legal)
+one_code (Again seed) program bytes one other reads (inr (text, rejects, same)) (inl (log, legal, is)) = absurd (rejects.no_legal log legal)
+one_code (Again seed) program bytes one other reads (inr (text, rejects, same)) (inr (text', rejects', same')) = ap code same ∙ sym (ap code same')
 one_code Weigh program bytes one other reads is is' = one_weighing program bytes one other reads is is'
 
 -- that status is 0, 1 or 5
@@ -126,15 +151,21 @@ low_code Check program bytes report (inr (text, rejects, same)) = omega (arith, 
 low_code Renew program bytes report (inl (text, renews, same)) = omega (arith, ap code same)
 low_code Renew program bytes report (inr (inl (text, rejects, same))) = omega (arith, ap code same)
 low_code Renew program bytes report (inr (inr (long, same))) = omega (arith, ap code same)
+low_code Cause program bytes report (inl (log, legal, (causes, graph, same))) = omega (arith, ap code same)
+low_code Cause program bytes report (inr (text, rejects, same)) = omega (arith, ap code same)
+low_code (Again seed) program bytes report (inl (log, legal, (reordered, by, same))) = omega (arith, ap code same, low_reordered reordered)
+low_code (Again seed) program bytes report (inr (text, rejects, same)) = omega (arith, ap code same)
 low_code Weigh program bytes report (inl (long, same)) = omega (arith, ap code same)
 low_code Weigh program bytes report (inr (inl (fault, short, has, same))) = omega (arith, ap code same)
 low_code Weigh program bytes report (inr (inr (weights, short, has, is))) = omega (arith, ap code is.is, low_claims (map (λ one. one.1) is.judged))
 
--- bytes that are rejected, for any task on a transcript
-rejected : (task : Task) (program : Parts) (bytes text : List ℕ) → ¬ (task ≡ Weigh) → Rejects program bytes text → Reports task program bytes (line_report text 1)
-rejected Check program bytes text of_log is = inr (text, is, refl)
-rejected Renew program bytes text of_log is = inr (inl (text, is, refl))
-rejected Weigh program bytes text of_log is = absurd (of_log refl)
+-- bytes that are no legal transcript, for any task on one
+why_reported : (task : Task) (program : Parts) (bytes : List ℕ) (report : Report) → ¬ (task ≡ Weigh) → ReportsWhy program bytes report → Reports task program bytes report
+why_reported Check program bytes report of_log why = inr why
+why_reported Renew program bytes report of_log why = inr (inl why)
+why_reported Cause program bytes report of_log why = inr why
+why_reported (Again seed) program bytes report of_log why = inr why
+why_reported Weigh program bytes report of_log why = absurd (of_log refl)
 
 module _ (program : Parts) (bytes : List ℕ) (log : Log) (short : length bytes ≤ MOST_LOG) (has : HasLog program bytes log) (once : (one other : Log) → HasLog program bytes one → HasLog program bytes other → one ≡ other)
     (never : (line : ℕ) (cause : Cause) → IsLogRefused program log line cause → ¬ (IsLegal program log)) where
@@ -165,19 +196,25 @@ module _ (program : Parts) (bytes : List ℕ) (log : Log) (short : length bytes 
     renewal_reported report legal (inl (text, is, same)) = inl (text, (log, (short, has, legal), is), same)
     renewal_reported report legal (inr (long, same)) = inr (inr (record { log = log; legal = (short, has, legal); long = long; no_text = no_renewed long }, same))
 
+    -- the report of a legal log
+    legal_reported : (task : Task) (report : Report) → IsLegal program log → IsLegalReport task program log report → Reports task program bytes report
+    legal_reported Check report legal (verdict, is, same) = subst (Reports Check program bytes) (sym same) (verdict_reported verdict is)
+    legal_reported Renew report legal is = renewal_reported report legal is
+    legal_reported Cause report legal is = inl (log, (short, has, legal), is)
+    legal_reported (Again seed) report legal is = inl (log, (short, has, legal), is)
+    legal_reported Weigh report legal is = absurd is
+
     -- the report of a log that was read
-    pub log_reported : (task : Task) (report : Report) → IsLogReport task program log report → Reports task program bytes report
-    log_reported Check report (verdict, is, same) = subst (Reports Check program bytes) (sym same) (verdict_reported verdict is)
-    log_reported Weigh report is = absurd is
-    log_reported Renew report (inl (legal, is)) = renewal_reported report legal is
-    log_reported Renew report (inr (verdict, is, refused, same)) = subst (Reports Renew program bytes) (sym same) (inr (inl (refusal_reported verdict is refused)))
+    pub log_reported : (task : Task) (report : Report) → ¬ (task ≡ Weigh) → IsLogReport task program log report → Reports task program bytes report
+    log_reported task report of_log (inl (legal, is)) = legal_reported task report legal is
+    log_reported task report of_log (inr (verdict, is, refused, same)) = subst (Reports task program bytes) (sym same) (why_reported task program bytes _ of_log (refusal_reported verdict is refused))
 
 -- bytes that are no transcript
 pub misfit_reported : (task : Task) (program : Parts) (bytes : List ℕ) (fault : LogFault) (report : Report) → ¬ (task ≡ Weigh) → length bytes ≤ MOST_LOG → HasMisfit program bytes fault
     → ((log : Log) → HasLog program bytes log → ¬ (HasMisfit program bytes fault)) → report ≡ line_report (fault_text fault) 1 → Reports task program bytes report
 misfit_reported task program bytes fault report of_log short misfit apart same =
     subst (Reports task program bytes) (sym same)
-    (rejected task program bytes (fault_text fault) of_log (record { no_legal = λ log legal. apart log legal.1 misfit; why = inr (inl (fault, short, misfit, refl)) }))
+    (why_reported task program bytes _ of_log (fault_text fault, record { no_legal = λ log legal. apart log legal.1 misfit; why = inr (inl (fault, short, misfit, refl)) }, refl))
 
 -- bytes that are too many
 too_many : (program : Parts) (bytes : List ℕ) → MOST_LOG < length bytes → Rejects program bytes too_long_text
@@ -186,6 +223,8 @@ too_many program bytes long = record { no_legal = λ log legal. (let short = leg
 pub long_reported : (task : Task) (program : Parts) (bytes : List ℕ) → most_of task < length bytes → Reports task program bytes (line_report too_long_text 1)
 long_reported Check program bytes long = inr (too_long_text, too_many program bytes long, refl)
 long_reported Renew program bytes long = inr (inl (too_long_text, too_many program bytes long, refl))
+long_reported Cause program bytes long = inr (too_long_text, too_many program bytes long, refl)
+long_reported (Again seed) program bytes long = inr (too_long_text, too_many program bytes long, refl)
 long_reported Weigh program bytes long = inl (long, refl)
 
 -- a text that is too long, for a shelf that tells none

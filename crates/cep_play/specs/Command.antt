@@ -7,7 +7,7 @@ use Rattle.cep_refusal.specs.Reasons.{number, reason_name}
 use Rattle.cep_refusal.specs.declared.refusal.Refusal.{Refusal}
 use Rattle.cep_ground.specs.Texts.{Spells}
 use Rattle.cep_words.specs.declared.request.Task.{Task}
-use Rattle.cep_words.specs.declared.request.Task.TheVariants.{Check, Renew, Weigh}
+use Rattle.cep_words.specs.declared.request.Task.TheVariants.{Check, Renew, Cause, Again, Weigh}
 use Rattle.cep_words.specs.declared.options.Options.{Options}
 use Rattle.cep_words.specs.Words.{Request, Play, Examine, Dead, World, AskFor}
 use Rattle.cep_run.specs.declared.settings.Settings.{Settings}
@@ -47,7 +47,7 @@ AsksUpTo loads (Dead file) = AskedFor loads (file ∷ [])
 AsksUpTo loads (World rooms options) = AskedFor loads []
 
 abbrev pub usage : List ℕ
-usage = codes "usage: play FILE [seed=N] [height=N] [turns=N] | check FILE LOG | world N [seed=N] [height=N] [turns=N] | renew FILE LOG | weigh FILE KEEPS | dead FILE"
+usage = codes "usage: play FILE [seed=N] [height=N] [turns=N] | check FILE LOG | world N [seed=N] [height=N] [turns=N] | renew FILE LOG | cause FILE LOG | again FILE LOG [seed=N] | weigh FILE KEEPS | dead FILE"
 
 -- `refused LINE:COL NUMBER NAME`
 unfoldable pub refusal_text : Refusal → List ℕ
@@ -67,6 +67,8 @@ no_claims = codes "cannot read claims"
 abbrev pub no_second : Task → List ℕ
 no_second Check = no_transcript
 no_second Renew = no_transcript
+no_second Cause = no_transcript
+no_second (Again seed) = no_transcript
 no_second Weigh = no_claims
 
 -- what holds for a run of the program with these options: where they say nothing of the turns the program does, and where nothing is said there are defaults

@@ -3,6 +3,8 @@ pub mod Command
 pub mod Outside
 pub mod Check
 pub mod Renew
+pub mod Cause
+pub mod Again
 pub mod Claims
 pub mod DeadRules
 pub mod Reports

@@ -1,7 +1,7 @@
 -- Private.
 -- What the parts of the command come to.
-use Rattle.std.specs.Prelude.{◌≡◌, ◌≢◌, ◌⊎◌, ℕ, ◌≤◌, List, [], ◌∷◌, take, Result, Ok, Err}
-use Rattle.cep_base.specs.declared.limits.TheConstants.{MOST_LOG}
+use Rattle.std.specs.Prelude.{◌≡◌, ◌≢◌, ◌⊎◌, ℕ, ◌≤◌, List, [], ◌∷◌, take, unwrap_or, Result, Ok, Err}
+use Rattle.cep_base.specs.declared.limits.TheConstants.{MOST_LOG, DEFAULT_SEED}
 use Rattle.cep_base.specs.declared.console.ConsoleFault.{ConsoleFault}
 use Rattle.cep_base.specs.declared.console.ConsoleFault.TheVariants as faults
 use Rattle.cep_rule.specs.declared.parts.Parts.{Parts}
@@ -9,7 +9,7 @@ use Rattle.cep_lines.specs.Lines.{line}
 use Rattle.cep_world.specs.World.{world}
 use Rattle.cep_words.specs.declared.options.Options.{Options}
 use Rattle.cep_words.specs.declared.request.Task.{Task}
-use Rattle.cep_words.specs.declared.request.Task.TheVariants.{Check, Renew, Weigh}
+use Rattle.cep_words.specs.declared.request.Task.TheVariants.{Check, Renew, Cause, Again, Weigh}
 use Rattle.cep_log.specs.declared.log.Log.{Log}
 use Rattle.cep_log.specs.Legal.{IsLegal}
 use Rattle.cep_weigh.specs.declared.limits.TheConstants.{MOST_CLAIMS}
@@ -35,6 +35,8 @@ use Rattle.cep_play.specs.Exchange.{Talked, Loaded, IsUnread, AskedFor, Went, Wr
 use Rattle.cep_play.specs.Command.{OfFile, IsSpelledBy, AsksFor, no_program, no_second, settings_of}
 use Rattle.cep_play.specs.Outside.{Report, line_report, report_due, IsRefusal}
 use Rattle.cep_play.specs.Renew.{new_too_long_text}
+use Rattle.cep_play.specs.Cause.{ReportsGraph}
+use Rattle.cep_play.specs.Again.{ReportsReordering}
 use Rattle.cep_play.specs.Reports.{Reports}
 use Rattle.cep_play.specs.DeadRules.{ReportsDead}
 use Rattle.cep_play.specs.World.{ReportsWorld}
@@ -49,6 +51,7 @@ code_of status.Malformed = 2
 code_of status.Refused = 3
 code_of status.Limited = 4
 code_of status.Broken = 5
+code_of status.Unfit = 5
 code_of status.Unread = 7
 
 -- the bytes of what is written
@@ -74,18 +77,26 @@ IsRenewalReport program log report =
     ((text : List ℕ) × IsRenewedText program log text × (report ≡ record { written = text; code = 0 }))
     ⊎ (IsTooLongRenewed program log × (report ≡ line_report new_too_long_text 1))
 
--- What is reported of a log: its verdict, or, if it is to be renewed and is legal, the report of that.
+-- what is reported of a legal log, for a task
+abbrev pub IsLegalReport : Task → Parts → Log → Report → Type 0
+IsLegalReport Check program log report = (verdict : Verdict) × IsVerdict program log verdict × (report ≡ verdict_report program verdict)
+IsLegalReport Renew program log report = IsRenewalReport program log report
+IsLegalReport Cause program log report = ReportsGraph program log report
+IsLegalReport (Again seed) program log report = ReportsReordering program log (unwrap_or seed DEFAULT_SEED) report
+IsLegalReport Weigh program log report = ⊥
+
+-- What is reported of a log: that, or why it is refused.
 abbrev pub IsLogReport : Task → Parts → Log → Report → Type 0
-IsLogReport Check program log report = (verdict : Verdict) × IsVerdict program log verdict × (report ≡ verdict_report program verdict)
-IsLogReport Renew program log report =
-    (IsLegal program log × IsRenewalReport program log report)
+IsLogReport task program log report =
+    (IsLegal program log × IsLegalReport task program log report)
     ⊎ ((verdict : Verdict) × IsVerdict program log verdict × (verdict_code verdict ≡ 1) × (report ≡ verdict_report program verdict))
-IsLogReport Weigh program log report = ⊥
 
 -- the most bytes of the second file of a task
 abbrev pub most_of : Task → ℕ
 most_of Check = MOST_LOG
 most_of Renew = MOST_LOG
+most_of Cause = MOST_LOG
+most_of (Again seed) = MOST_LOG
 most_of Weigh = MOST_CLAIMS
 
 -- a prefix of these bytes was written, and nothing was read

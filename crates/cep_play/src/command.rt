@@ -15,6 +15,8 @@ use crate::reply::{Reply, reply_to};
 use crate::report::Status;
 use cep_base::{Console, ConsoleFault, Shelf, Steps};
 use cep_ground::laws::clean_parts_are_a_program;
+use cep_log::laws::one_log;
+use cep_reorder::laws::one_reordering_by_a_seed;
 use cep_replay::laws::{interactive_logs_are_answered, legal_logs_can_be_played};
 use cep_run::laws::dialogues_are_there;
 use cep_weigh::laws::one_reading;
@@ -56,17 +58,17 @@ fn command<C: Console, H: Shelf, L: Ledger>(
 }
 
 /// Does all that the program does: reads the program that the words name from the shelf, plays it
-/// with the person at the console or checks a transcript against it, which it may renew, or runs a
-/// generated world, and answers the status that the process ends with.
+/// with the person at the console or checks a transcript against it, which it may renew, list the
+/// graph of, or do again in another order, or runs a generated world, and answers the status that the process ends with.
 ///
 /// | status | comes |
 /// |---|---|
-/// | 0 | the run ended in quiet or at the end of the input; the transcript is accepted or renewed; no claim is broken; dead rules are reported |
+/// | 0 | the run ended in quiet or at the end of the input; the transcript is accepted or renewed, its graph is listed or its steps are done again; no claim is broken; dead rules are reported |
 /// | 1 | the second file is not accepted, or the new text is too long; the line says which |
 /// | 2 | the words have no form; the usage line was written |
 /// | 3 | the program's text is refused; the line that says so was written |
 /// | 4 | the run ended by a limit |
-/// | 5 | some claim is broken; each claim has its line |
+/// | 5 | some claim is broken; each claim has its line; or a step of another order leads to a state that does not fit |
 /// | 6 | the console failed |
 /// | 7 | a file could not be read; the line that says which was written |
 /// | 9 | memory ran out |
@@ -144,6 +146,8 @@ pub fn ceptre<C: Console, H: Shelf, L: Ledger>(
     legal_logs_can_be_played();
     interactive_logs_are_answered();
     one_reading();
+    one_log();
+    one_reordering_by_a_seed();
     match command(alloc, words, console, shelf, steps) {
         Ok(code) => code,
         Err(ConsoleFault::Failed) => 6,

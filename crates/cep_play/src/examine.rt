@@ -2,6 +2,7 @@
 ghost use Rattle.std.specs.Prelude.{◌≡◌, ◌≢◌, ◌⊎◌, ◌≤◌, length, IfOk, OnErr};
 ghost use Rattle.cep_base.specs.declared.limits.TheConstants.{MOST_LOG};
 ghost use Rattle.cep_log.specs.Legal.{IsLogOf, IsLegal};
+ghost use Rattle.cep_check.specs.Causes.{IsVerdict};
 ghost use Rattle.cep_check.specs.Telling.{fault_text, IsTellable};
 ghost use Rattle.cep_words.specs.declared.request.Task.TheVariants.{Weigh};
 ghost use Rattle.cep_words.specs.Words.{Examine};
@@ -9,12 +10,14 @@ ghost use Rattle.cep_play.specs.Exchange.{loaded};
 ghost use Rattle.cep_play.specs.Command.{AsksUpTo, no_second};
 ghost use Rattle.cep_play.specs.Outside.{line_report};
 ghost use Rattle.cep_play.specs.Reports.{Reports};
-ghost use Rattle.cep_play.specs.Outcome.{report_of, verdict_code, verdict_report, code_of, most_of, IsRenewalReport, IsLogReport, ReportsSecond, AsksFile, IsReportOf};
+ghost use Rattle.cep_play.specs.Outcome.{report_of, verdict_code, verdict_report, code_of, most_of, IsRenewalReport, IsLegalReport, IsLogReport, ReportsSecond, AsksFile, IsReportOf};
 
+use crate::again::report_reordering;
+use crate::cause::report_graph;
 use crate::claims::report_claims;
 use crate::loading::program_in;
 use crate::report::{Report, Status};
-use cep_base::limits::MOST_LOG;
+use cep_base::limits::{DEFAULT_SEED, MOST_LOG};
 use cep_base::{Shelf, ShelfFault, Steps, Text};
 use cep_check::laws::refused_logs_are_not_legal;
 use cep_check::{Verdict, check, put_fault, put_verdict, renew};
@@ -57,6 +60,31 @@ fn report_renewal(alloc: Global, program: &Program, log: &Log) -> Result<Report,
     }
 }
 
+/// The report of a legal log.
+fn report_legal(
+    alloc: Global,
+    program: &Program,
+    task: Task,
+    log: &Log,
+    verdict: &Verdict,
+) -> Result<Report, AllocError>
+    requires legal { IsLegal program.now log.now }
+    requires of_log { task ≢ Weigh }
+    requires verdict { IsVerdict program.now log.now verdict.now }
+    requires tellable { IsTellable program.now verdict.now }
+    ensures { IfOk result (λ report. IsLegalReport task program.now log.now (report_of report)) }
+{
+    match task {
+        Task::Check => report_verdict(alloc, program, verdict),
+        Task::Renew => report_renewal(alloc, program, log),
+        Task::Cause => report_graph(alloc, program, log),
+        Task::Again { seed } => {
+            report_reordering(alloc, program, log, seed.unwrap_or(DEFAULT_SEED))
+        }
+        Task::Weigh => unreachable!(),
+    }
+}
+
 /// The report of a log.
 fn report_log<L: Ledger>(
     alloc: Global,
@@ -72,13 +100,9 @@ fn report_log<L: Ledger>(
     ensures counted { steps.old ≤ steps.new }
 {
     let verdict = check(alloc, program, log, steps)?;
-    match task {
-        Task::Check => report_verdict(alloc, program, &verdict),
-        Task::Renew => match verdict {
-            Verdict::Accepted { .. } => report_renewal(alloc, program, log),
-            Verdict::Refused { .. } => report_verdict(alloc, program, &verdict),
-        },
-        Task::Weigh => unreachable!(),
+    match verdict {
+        Verdict::Accepted { .. } => report_legal(alloc, program, task, log, &verdict),
+        Verdict::Refused { .. } => report_verdict(alloc, program, &verdict),
     }
 }
 
@@ -129,6 +153,8 @@ fn report_bytes<L: Ledger>(
     match task {
         Task::Check => report_transcript(alloc, program, task, bytes, steps),
         Task::Renew => report_transcript(alloc, program, task, bytes, steps),
+        Task::Cause => report_transcript(alloc, program, task, bytes, steps),
+        Task::Again { .. } => report_transcript(alloc, program, task, bytes, steps),
         Task::Weigh => report_claims(alloc, program, bytes),
     }
 }
@@ -140,6 +166,8 @@ fn most_of(task: Task) -> usize
     match task {
         Task::Check => MOST_LOG,
         Task::Renew => MOST_LOG,
+        Task::Cause => MOST_LOG,
+        Task::Again { .. } => MOST_LOG,
         Task::Weigh => MOST_CLAIMS,
     }
 }
@@ -151,6 +179,8 @@ fn report_unread(task: Task) -> Report
     match task {
         Task::Check => Report::line(b"cannot read transcript\n", Status::Unread),
         Task::Renew => Report::line(b"cannot read transcript\n", Status::Unread),
+        Task::Cause => Report::line(b"cannot read transcript\n", Status::Unread),
+        Task::Again { .. } => Report::line(b"cannot read transcript\n", Status::Unread),
         Task::Weigh => Report::line(b"cannot read claims\n", Status::Unread),
     }
 }
@@ -180,7 +210,8 @@ fn report_second<H: Shelf, L: Ledger>(
 }
 
 /// The report of the second file, against the program in the first, both on the shelf: whether a
-/// transcript is legal, or its new text if the task is to renew it, or what claims come to.
+/// transcript is legal, or, as the task asks, its new text, its graph or its text in another order; or
+/// what claims come to.
 pub(crate) fn examine<H: Shelf, L: Ledger>(
     alloc: Global,
     task: Task,

@@ -3,6 +3,8 @@
 //! process ends with. A module for each command, and a file of definitions for what is due of it.
 #![tactic(auto)]
 
+mod again;
+mod cause;
 mod claims;
 mod command;
 mod dead_rules;

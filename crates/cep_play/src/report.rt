@@ -8,10 +8,11 @@ ghost use Rattle.cep_play.specs.Outcome.{code_of, bytes_of, report_of, WrotePref
 use cep_base::{Console, ConsoleFault, Text};
 use cep_lines::EndWord;
 
-/// How a command came out: a case for each status of its own.
+/// How a command came out.
 #[derive(Clone, Copy)]
 pub(crate) enum Status {
-    /// The run ended in quiet or at the end of the input, or the transcript is accepted or renewed.
+    /// The run ended in quiet or at the end of the input, or the transcript is accepted or renewed,
+    /// or all of what was asked is reported.
     Done,
     /// The transcript is not accepted, or its new text is too long.
     Rejected,
@@ -23,6 +24,8 @@ pub(crate) enum Status {
     Limited,
     /// Some claim is broken.
     Broken,
+    /// A step of another order leads to a state that does not fit.
+    Unfit,
     /// A file could not be read.
     Unread,
 }
@@ -50,6 +53,7 @@ impl Status {
             Status::Refused => 3,
             Status::Limited => 4,
             Status::Broken => 5,
+            Status::Unfit => 5,
             Status::Unread => 7,
         }
     }

@@ -1,5 +1,5 @@
 -- Words that give options, one after another.
-use Rattle.std.proofs.Common.{◌≡◌, ℕ, ◌+◌, ◌<◌, ◌≤◌, true, false, cond, ◌==◌, Option, None, Some, List, [], ◌∷◌, ◌++◌, ◌-◌, length, map, take, drop, get_or, refl, sym, ap, subst, ◌∙◌, arith, append_assoc, Contains}
+use Rattle.std.proofs.Common.{◌≡◌, ◌≢◌, ℕ, ◌+◌, ◌<◌, ◌≤◌, true, false, cond, ◌==◌, Option, None, Some, List, [], ◌∷◌, ◌++◌, ◌-◌, length, map, take, drop, get_or, refl, sym, ap, subst, ◌∙◌, arith, append_assoc, Contains}
 use Rattle.std.specs.Prelude.{IsSome, MatchOption}
 use Rattle.std.specs.List.{AllByRecursion}
 use Rattle.std.specs.List.Sorted.{IsPermutation}
@@ -12,7 +12,8 @@ use Rattle.cep_words.specs.declared.run_option.RunOption.{RunOption}
 use Rattle.cep_words.specs.declared.run_option.RunOption.TheVariants.{Seed, Height, Turns}
 use Rattle.cep_words.specs.declared.options.Options.{Options}
 use Rattle.cep_words.specs.declared.request.Task.{Task}
-use Rattle.cep_words.specs.Words.{option_text, IsInBounds, asked_if, all_asked, AreWithin, Give, Play, Examine, Dead, World, AskFor, HaveNoForm}
+use Rattle.cep_words.specs.declared.request.Task.TheVariants.{Check, Renew, Cause, Again, Weigh}
+use Rattle.cep_words.specs.Words.{option_text, IsInBounds, asked_if, all_asked, AreWithin, Give, task_word, options_of, Play, Examine, Dead, World, AskFor, HaveNoForm}
 use Rattle.cep_words.specs.Adding.{IsThere, AddsOne}
 
 -- How many words begin as those of a kind do
@@ -200,12 +201,27 @@ pub none_weaker : {A : Type 0} (o : Option A) (P P' : Type 0) (Q : A → Type 0)
 none_weaker None P P' Q less holds = less holds
 none_weaker (Some x) P P' Q less holds = holds
 
+-- words that ask for no task in three words or four examine nothing
+unexamined : (words : List (List ℕ)) → ((task : Task) (file second : List ℕ) → words ≢ task_word task ∷ file ∷ second ∷ []) → ((seed : ℕ) (file second : List ℕ) → ¬ (AskFor words (Examine (Again (Some seed)) file second)))
+    → (task : Task) (file second : List ℕ) → ¬ (AskFor words (Examine task file second))
+unexamined words plain seeded Check file second ask = plain Check file second ask.1
+unexamined words plain seeded Renew file second ask = plain Renew file second ask.1
+unexamined words plain seeded Cause file second ask = plain Cause file second ask.1
+unexamined words plain seeded (Again None) file second ask = plain (Again None) file second ask.1
+unexamined words plain seeded (Again (Some seed)) file second ask = seeded seed file second ask
+unexamined words plain seeded Weigh file second ask = plain Weigh file second ask.1
+
 -- words that ask for none of these have no form
-pub no_form : (words : List (List ℕ)) → ((file : List ℕ) (options : Options) → ¬ (AskFor words (Play file options))) → ((task : Task) (file second : List ℕ) → ¬ (AskFor words (Examine task file second))) → ((file : List ℕ) → ¬ (AskFor words (Dead file))) → ((rooms : ℕ) (options : Options) → ¬ (AskFor words (World rooms options))) → HaveNoForm words
-no_form words unplayed unexamined unreported unrun (Play file options) ask = unplayed file options ask
-no_form words unplayed unexamined unreported unrun (Examine task file second) ask = unexamined task file second ask
-no_form words unplayed unexamined unreported unrun (Dead file) ask = unreported file ask
-no_form words unplayed unexamined unreported unrun (World rooms options) ask = unrun rooms options ask
+pub no_form : (words : List (List ℕ)) → ((file : List ℕ) (options : Options) → ¬ (AskFor words (Play file options))) → ((task : Task) (file second : List ℕ) → words ≢ task_word task ∷ file ∷ second ∷ []) → ((seed : ℕ) (file second : List ℕ) → ¬ (AskFor words (Examine (Again (Some seed)) file second)))
+    → ((file : List ℕ) → ¬ (AskFor words (Dead file))) → ((rooms : ℕ) (options : Options) → ¬ (AskFor words (World rooms options))) → HaveNoForm words
+no_form words unplayed plain seeded unreported unrun (Play file options) ask = unplayed file options ask
+no_form words unplayed plain seeded unreported unrun (Examine task file second) ask = unexamined words plain seeded task file second ask
+no_form words unplayed plain seeded unreported unrun (Dead file) ask = unreported file ask
+no_form words unplayed plain seeded unreported unrun (World rooms options) ask = unrun rooms options ask
+
+-- an option that is alone after a task's files
+pub no_options : (task : Task) (words : List (List ℕ)) (file second : List ℕ) → options_of task ≡ [] → words ≡ task_word task ∷ file ∷ second ∷ [] → AskFor words (Examine task file second)
+no_options task words file second none is = (subst (AllByRecursion IsInBounds) (sym none) tt, is ∙ ap (λ options. task_word task ∷ file ∷ second ∷ map option_text options) (sym none))
 
 -- three items
 pub three_items : {X : Type 0} (items : List X) (one other third : X) → length items ≡ 3 → one ≡ get_or items 0 one → other ≡ get_or items 1 other → third ≡ get_or items 2 third → items ≡ one ∷ other ∷ third ∷ []
@@ -221,3 +237,12 @@ only_two [] one other size e f = absurd (omega (arith, size))
 only_two (a ∷ []) one other size e f = absurd (omega (arith, size))
 only_two (a ∷ b ∷ []) one other size e f = cc
 only_two (a ∷ b ∷ c ∷ more) one other size e f = absurd (omega (arith, size))
+
+-- and four
+pub four_items : {X : Type 0} (items : List X) (one other third last : X) → length items ≡ 4 → one ≡ get_or items 0 one → other ≡ get_or items 1 other → third ≡ get_or items 2 third → last ≡ get_or items 3 last → items ≡ one ∷ other ∷ third ∷ last ∷ []
+four_items [] one other third last size e f g h = absurd (omega (arith, size))
+four_items (a ∷ []) one other third last size e f g h = absurd (omega (arith, size))
+four_items (a ∷ b ∷ []) one other third last size e f g h = absurd (omega (arith, size))
+four_items (a ∷ b ∷ c ∷ []) one other third last size e f g h = absurd (omega (arith, size))
+four_items (a ∷ b ∷ c ∷ d ∷ []) one other third last size e f g h = cc
+four_items (a ∷ b ∷ c ∷ d ∷ e' ∷ more) one other third last size e f g h = absurd (omega (size, arith))

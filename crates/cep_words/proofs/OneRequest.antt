@@ -4,13 +4,14 @@ use Rattle.std.specs.Prelude.{codes, decimal}
 use Rattle.std.proofs.lemmas.Fmt.{decimal_injective}
 use Rattle.std.proofs.lemmas.List.Sorted.{IsPermutation-sym, Contains-permutation}
 use Rattle.std.proofs.lemmas.List.{append_cancel_left}
+use Rattle.std.specs.List.{AllByRecursion}
 use Rattle.cep_base.proofs.Elements.{contains_none, contains_cases, contains_either, contains_left, contains_right, contains_first, contains_map, map_cases, all_at}
 use Rattle.cep_words.specs.declared.run_option.RunOption.{RunOption}
 use Rattle.cep_words.specs.declared.run_option.RunOption.TheVariants.{Seed, Height, Turns}
 use Rattle.cep_words.specs.declared.options.Options.{Options}
 use Rattle.cep_words.specs.declared.request.Task.{Task}
-use Rattle.cep_words.specs.declared.request.Task.TheVariants.{Check, Renew, Weigh}
-use Rattle.cep_words.specs.Words.{option_text, IsInBounds, asked_if, all_asked, Give, task_word, Request, Play, Examine, Dead, World, AskFor}
+use Rattle.cep_words.specs.declared.request.Task.TheVariants.{Check, Renew, Cause, Again, Weigh}
+use Rattle.cep_words.specs.Words.{option_text, IsInBounds, asked_if, all_asked, Give, task_word, options_of, Request, Play, Examine, Dead, World, AskFor}
 
 abbrev head : List ℕ → ℕ
 head [] = 0
@@ -29,6 +30,10 @@ abbrev behind_two : List (List ℕ) → List (List ℕ)
 behind_two [] = []
 behind_two (word ∷ []) = []
 behind_two (word ∷ (next ∷ rest)) = rest
+
+abbrev behind_one : List (List ℕ) → List (List ℕ)
+behind_one [] = []
+behind_one (word ∷ words) = words
 
 -- one text is that of one option
 one_text : (one other : RunOption) → IsInBounds one → IsInBounds other → option_text one ≡ option_text other → one ≡ other
@@ -116,6 +121,8 @@ fourth _ = 0
 abbrev task_letter : Task → ℕ
 task_letter Check = 99
 task_letter Renew = 101
+task_letter Cause = 115
+task_letter (Again seed) = 105
 task_letter Weigh = 103
 
 abbrev letter_of : Request → ℕ
@@ -127,25 +134,36 @@ letter_of (World rooms options) = 108
 word_letter : (task : Task) → fourth (task_word task) ≡ task_letter task
 word_letter Check = refl
 word_letter Renew = refl
+word_letter Cause = refl
+word_letter (Again seed) = refl
 word_letter Weigh = refl
 
 tells_letter : (words : List (List ℕ)) (request : Request) → AskFor words request → fourth (first words) ≡ letter_of request
 tells_letter words (Play file options) ask = ap (λ ws. fourth (first ws)) ask.1
-tells_letter words (Examine task file second) ask = ap (λ ws. fourth (first ws)) ask ∙ word_letter task
+tells_letter words (Examine task file second) ask = ap (λ ws. fourth (first ws)) ask.1 ∙ word_letter task
 tells_letter words (Dead file) ask = ap (λ ws. fourth (first ws)) ask
 tells_letter words (World rooms options) ask = ap (λ ws. fourth (first ws)) ask.1.1
 
--- a letter names one task at most
-task_letters : (task : Task) → (k : ℕ) × (k ≤ 2) × (task_letter task ≡ 2 * k + 99)
+-- a letter and the options after it name one task at most
+task_letters : (task : Task) → (k : ℕ) × (k ≤ 8) × (task_letter task ≡ 2 * k + 99)
 task_letters Check = (0, omega arith, refl)
 task_letters Renew = (1, omega arith, refl)
+task_letters Cause = (8, omega arith, refl)
+task_letters (Again seed) = (3, omega arith, refl)
 task_letters Weigh = (2, omega arith, refl)
 
-one_task : (one other : Task) → task_letter one ≡ task_letter other → one ≡ other
-one_task Check Check same = refl
-one_task Renew Renew same = refl
-one_task Weigh Weigh same = refl
-one_task _ _ same = absurd (omega (arith, same))
+one_task : (one other : Task) → task_letter one ≡ task_letter other → AllByRecursion IsInBounds (options_of one) → AllByRecursion IsInBounds (options_of other) → map option_text (options_of one) ≡ map option_text (options_of other) → one ≡ other
+one_task Check Check same low low' texts = refl
+one_task Renew Renew same low low' texts = refl
+one_task Cause Cause same low low' texts = refl
+one_task (Again None) (Again None) same low low' texts = refl
+one_task (Again None) (Again (Some n)) same low low' texts = absurd (cc)
+one_task (Again (Some m)) (Again None) same low low' texts = absurd (cc)
+one_task (Again (Some m)) (Again (Some n)) same low low' texts =
+    let seeds : m ≡ n = decimal_injective m n low.0 low'.0 (append_cancel_left (codes "seed=") (decimal m) (decimal n) (ap first texts)) in
+    ap (λ seed. Again (Some seed)) seeds
+one_task Weigh Weigh same low low' texts = refl
+one_task _ _ same low low' texts = absurd (omega (arith, same))
 
 pub one_request : (words : List (List ℕ)) (one other : Request) → AskFor words one → AskFor words other → one ≡ other
 one_request words one other ask ask' = by one other ask ask' (sym (tells_letter words one ask) ∙ tells_letter words other ask') where
@@ -157,8 +175,8 @@ one_request words one other ask ask' = by one other ask ask' (sym (tells_letter 
       let given = given_once ask'.0 options options' (subst (λ ws. Give ws options) others ask.2) ask'.2 in
       λ i. Play (files i) (given i)
   by (Examine task file log) (Examine task' file' log') ask ask' letters =
-      let same : task_word task ∷ file ∷ log ∷ [] ≡ task_word task' ∷ file' ∷ log' ∷ [] = sym ask ∙ ask' in
-      let tasks : task ≡ task' = one_task task task' letters in
+      let same : task_word task ∷ file ∷ log ∷ map option_text (options_of task) ≡ task_word task' ∷ file' ∷ log' ∷ map option_text (options_of task') = sym ask.1 ∙ ask'.1 in
+      let tasks : task ≡ task' = one_task task task' letters ask.0 ask'.0 (ap (λ ws. behind_one (behind_two ws)) same) in
       let files : file ≡ file' = ap second same in
       let logs : log ≡ log' = ap (λ ws. first (behind_two ws)) same in
       λ i. Examine (tasks i) (files i) (logs i)

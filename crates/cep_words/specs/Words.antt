@@ -7,7 +7,7 @@ use Rattle.cep_words.specs.declared.run_option.RunOption.{RunOption}
 use Rattle.cep_words.specs.declared.run_option.RunOption.TheVariants.{Seed, Height, Turns}
 use Rattle.cep_words.specs.declared.options.Options.{Options}
 use Rattle.cep_words.specs.declared.request.Task.{Task}
-use Rattle.cep_words.specs.declared.request.Task.TheVariants.{Check, Renew, Weigh}
+use Rattle.cep_words.specs.declared.request.Task.TheVariants.{Check, Renew, Cause, Again, Weigh}
 
 -- the word that asks one thing of a run: its name, `=`, and the number in decimal without leading zeros
 abbrev pub option_text : RunOption → List ℕ
@@ -46,7 +46,17 @@ Give words options = AreWithin options × IsPermutation (map option_text (all_as
 abbrev pub task_word : Task → List ℕ
 task_word Check = codes "check"
 task_word Renew = codes "renew"
+task_word Cause = codes "cause"
+task_word (Again seed) = codes "again"
 task_word Weigh = codes "weigh"
+
+-- what is asked besides, after the files
+abbrev pub options_of : Task → List RunOption
+options_of Check = []
+options_of Renew = []
+options_of Cause = []
+options_of (Again seed) = asked_if Seed seed
+options_of Weigh = []
 
 -- What words may ask for: that the program in a file is played, with options; that another file is examined against it, for a task; that its dead rules are reported; or that the generated world of so many rooms is run, with options.
 pub data Request : Type 0 where
@@ -58,7 +68,8 @@ pub data Request : Type 0 where
 -- These words ask for this.
 abbrev pub AskFor : List (List ℕ) → Request → Type 0
 AskFor words (Play file options) = (others : List (List ℕ)) × (words ≡ codes "play" ∷ file ∷ others) × Give others options
-AskFor words (Examine task file second) = words ≡ task_word task ∷ file ∷ second ∷ []
+AskFor words (Examine task file second) =
+    AllByRecursion IsInBounds (options_of task) × (words ≡ task_word task ∷ file ∷ second ∷ map option_text (options_of task))
 AskFor words (Dead file) = words ≡ codes "dead" ∷ file ∷ []
 AskFor words (World rooms options) = IsUpTo MOST_WORLD rooms × ((others : List (List ℕ)) × (words ≡ codes "world" ∷ decimal rooms ∷ others) × Give others options)
 

@@ -1,11 +1,13 @@
-ghost use Rattle.std.specs.Prelude.{◌≡◌, ◌≢◌, ℕ, List, map, string_bytes, MatchOption};
+ghost use Rattle.std.specs.Prelude.{◌≡◌, ◌≢◌, ℕ, List, [], ◌∷◌, map, string_bytes, Some, MatchOption};
 ghost use Rattle.cep_words.specs.declared.options.Options.{Options};
 ghost use Rattle.cep_words.specs.declared.request.Task.{Task};
-ghost use Rattle.cep_words.specs.Words.{task_word, AskFor, HaveNoForm, Play, Examine, Dead, World};
+ghost use Rattle.cep_words.specs.declared.request.Task.TheVariants.{Again};
+ghost use Rattle.cep_words.specs.Words.{task_word, options_of, AskFor, HaveNoForm, Play, Examine, Dead, World};
 ghost use Rattle.cep_words.specs.Requests.{request_of};
 
 use crate::number::number_within;
 use crate::options::Options;
+use crate::run_option::seed_in;
 use cep_base::limits::MOST_WORLD;
 
 /// What is done with a second file and the program.
@@ -15,6 +17,12 @@ pub enum Task {
     Check,
     /// A transcript is checked, and if it is legal renewed in version 2.
     Renew,
+    /// A transcript is checked, and if it is legal its graph is listed: on which earlier steps each
+    /// step rests.
+    Cause,
+    /// A transcript is checked, and if it is legal its steps are done again in the order that a seed
+    /// gives, or the default seed.
+    Again { seed: Option<u64> },
     /// The rules of the program are weighed by a file of claims.
     Weigh,
 }
@@ -55,9 +63,12 @@ impl Request<'_> {
             Some(request) => Some(request),
             None => match to_examine(words) {
                 Some(request) => Some(request),
-                None => match to_report_dead(words) {
+                None => match to_do_again(words) {
                     Some(request) => Some(request),
-                    None => to_run(words),
+                    None => match to_report_dead(words) {
+                        Some(request) => Some(request),
+                        None => to_run(words),
+                    },
                 },
             },
         }
@@ -79,15 +90,31 @@ fn to_play(words: &[String]) -> Option<Request<'_>>
     }
 }
 
-// The request to examine a second file, if these words ask for that.
+// The request to examine a second file, if these words ask for that with no option.
 fn to_examine(words: &[String]) -> Option<Request<'_>>
     ensures { MatchOption result
-        ((task : Task) (file second : List ℕ) → ¬ (AskFor (map string_bytes words.now) (Examine task file second)))
+        ((task : Task) (file second : List ℕ) → map string_bytes words.now ≢ task_word task ∷ file ∷ second ∷ [])
         (λ request. AskFor (map string_bytes words.now) (request_of request)) }
 {
     match words {
         [word, file, second] => {
             let task = task_of(word.as_bytes())?;
+            Some(Request::Examine { task, file, second })
+        }
+        _ => None,
+    }
+}
+
+// The request to do the steps of a transcript again by a seed, if these words ask for that.
+fn to_do_again(words: &[String]) -> Option<Request<'_>>
+    ensures { MatchOption result
+        ((seed : ℕ) (file second : List ℕ) → ¬ (AskFor (map string_bytes words.now) (Examine (Again (Some seed)) file second)))
+        (λ request. AskFor (map string_bytes words.now) (request_of request)) }
+{
+    match words {
+        [again, file, second, seed] if again.as_str() == "again" => {
+            let seed = seed_in(seed.as_bytes())?;
+            let task = Task::Again { seed: Some(seed) };
             Some(Request::Examine { task, file, second })
         }
         _ => None,
@@ -106,13 +133,17 @@ fn to_report_dead(words: &[String]) -> Option<Request<'_>>
     }
 }
 
-// The task that a word names.
+// The task that a word names, with no option.
 fn task_of(word: &[u8]) -> Option<Task>
-    ensures { MatchOption result ((task : Task) → word.now ≢ task_word task) (λ task. word.now ≡ task_word task) }
+    ensures { MatchOption result
+        ((task : Task) → word.now ≢ task_word task)
+        (λ task. (word.now ≡ task_word task) × (options_of task ≡ [])) }
 {
     match word {
         b"check" => Some(Task::Check),
         b"renew" => Some(Task::Renew),
+        b"cause" => Some(Task::Cause),
+        b"again" => Some(Task::Again { seed: None }),
         b"weigh" => Some(Task::Weigh),
         _ => None,
     }

@@ -37,7 +37,8 @@ impl RunOption {
     }
 }
 
-fn seed_in(word: &[u8]) -> Option<u64>
+// The seed of a word `seed=N`. `None` exactly when it is none.
+pub(crate) fn seed_in(word: &[u8]) -> Option<u64>
     ensures { MatchOption result
         ((seed : ℕ) → seed < 2 ^ 64 → word.now ≡ codes "seed=" ++ decimal seed → ⊥)
         (λ seed. word.now ≡ codes "seed=" ++ decimal seed) }

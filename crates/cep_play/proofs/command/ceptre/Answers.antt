@@ -27,7 +27,12 @@ returns-in-Ok-clause-due g c =
     tells_what_is_due c.one_request.ensures c.dialogues_are_there.ensures (λ text program spells. c.clean_parts_are_a_program.ensures.program spells.source program spells.clean spells.bound spells.declared spells.grounded)
     (λ text program spells.
     let kept = c.clean_parts_are_a_program.ensures.program spells.source program spells.clean spells.bound spells.declared spells.grounded in
-    ((λ bytes one other. c.one_reading.ensures.claims program bytes one other kept), (λ bytes weights fault. c.one_reading.ensures.either program bytes weights fault kept)))
+    record {
+      claims = λ bytes one other. c.one_reading.ensures.claims program bytes one other kept;
+      either = λ bytes weights fault. c.one_reading.ensures.either program bytes weights fault kept;
+      logs = λ bytes one other. c.one_log.ensures.once program bytes one other kept;
+      answers = c.one_reordering_by_a_seed.ensures program;
+    })
     (map string_bytes c.args.words.now) (loaded g.H.Shelf.files g.H.Shelf.asked g.H.Shelf.faults c.args.shelf.now c.command.new.shelf) (talked g.C.Console.talk g.C.Console.left c.args.console.now c.command.new.console) c.args.steps.now c.command.new.steps _ c.in-Ok.ensures.done
 
 pub returns-in-Ok-clause-no_other : goal.returns-in-Ok-clause-no_other
@@ -62,7 +67,12 @@ returns-in-Err-Failed-clause-due g c = λ request ask.
     tells_anyway c.one_request.ensures c.dialogues_are_there.ensures (λ text program spells. c.clean_parts_are_a_program.ensures.program spells.source program spells.clean spells.bound spells.declared spells.grounded)
     (λ text program spells.
     let kept = c.clean_parts_are_a_program.ensures.program spells.source program spells.clean spells.bound spells.declared spells.grounded in
-    ((λ bytes one other. c.one_reading.ensures.claims program bytes one other kept), (λ bytes weights fault. c.one_reading.ensures.either program bytes weights fault kept)))
+    record {
+      claims = λ bytes one other. c.one_reading.ensures.claims program bytes one other kept;
+      either = λ bytes weights fault. c.one_reading.ensures.either program bytes weights fault kept;
+      logs = λ bytes one other. c.one_log.ensures.once program bytes one other kept;
+      answers = c.one_reordering_by_a_seed.ensures program;
+    })
     (map string_bytes c.args.words.now) (loaded g.H.Shelf.files g.H.Shelf.asked g.H.Shelf.faults c.args.shelf.now c.command.new.shelf) (g.C.Console.left c.args.console.now) request 6 (0, lit< tt, refl)
 
 pub returns-in-Err-Failed-clause-no_other : goal.returns-in-Err-Failed-clause-no_other
@@ -88,7 +98,12 @@ returns-in-Err-Memory-clause-due g c = λ request ask.
     tells_anyway c.one_request.ensures c.dialogues_are_there.ensures (λ text program spells. c.clean_parts_are_a_program.ensures.program spells.source program spells.clean spells.bound spells.declared spells.grounded)
     (λ text program spells.
     let kept = c.clean_parts_are_a_program.ensures.program spells.source program spells.clean spells.bound spells.declared spells.grounded in
-    ((λ bytes one other. c.one_reading.ensures.claims program bytes one other kept), (λ bytes weights fault. c.one_reading.ensures.either program bytes weights fault kept)))
+    record {
+      claims = λ bytes one other. c.one_reading.ensures.claims program bytes one other kept;
+      either = λ bytes weights fault. c.one_reading.ensures.either program bytes weights fault kept;
+      logs = λ bytes one other. c.one_log.ensures.once program bytes one other kept;
+      answers = c.one_reordering_by_a_seed.ensures program;
+    })
     (map string_bytes c.args.words.now) (loaded g.H.Shelf.files g.H.Shelf.asked g.H.Shelf.faults c.args.shelf.now c.command.new.shelf) (g.C.Console.left c.args.console.now) request 9 (1, lit< tt, refl)
 
 pub returns-in-Err-Memory-clause-no_other : goal.returns-in-Err-Memory-clause-no_other

@@ -10,7 +10,7 @@ returns-in-Ok-clause-judged g c =
     IfOk-weaker c.report_log.result _ _
     (λ report is.
     log_reported program bytes c.in-Ok.log c.requires.short (rw c.in-Ok.is at c.in_ok-log.ensures.log) (λ one other. c.one_log.ensures.once program bytes one other c.parts.ensures.kept) (c.refused_logs_are_not_legal.ensures program c.in-Ok.log)
-    (c.renewals_have_one_text.ensures program) c.args.task (report_of report) is)
+    (c.renewals_have_one_text.ensures program) c.args.task (report_of report) c.requires.of_log is)
     c.report_log.ensures.judged
 
 pub returns-in-Err-clause-judged : goal.returns-in-Err-clause-judged

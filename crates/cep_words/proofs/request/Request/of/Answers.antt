@@ -8,4 +8,4 @@ use Rattle.cep_words.proofs.request.Request.of.Goals as goal
 pub returns-in-None-to_report_dead : goal.returns-in-None-to_report_dead
 returns-in-None-to_report_dead c =
     let words = map string_bytes c.args.words.now in
-    none_weaker c.to_run.result _ _ (λ request. AskFor words (request_of request)) (no_form words c.in-None.ensures c.in-None-to_examine.ensures c.in-None-to_report_dead.ensures) c.to_run.ensures
+    none_weaker c.to_run.result _ _ (λ request. AskFor words (request_of request)) (no_form words c.in-None.ensures c.in-None-to_examine.ensures c.in-None-to_do_again.ensures c.in-None-to_report_dead.ensures) c.to_run.ensures

@@ -1,0 +1,3 @@
+pub mod ClaimLines
+pub mod DeadLines
+pub mod CauseLines
