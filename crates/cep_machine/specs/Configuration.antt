@@ -36,6 +36,6 @@ configuration_code {M} code =
 
 -- What every configuration keeps: the matcher holds its state, and has a list for both groups of
 -- its stage.
-pub record IsKept (spot : Spot) (held : Multiset) (lists : ℕ) : Type 0 where
+pub record HoldsSpot (spot : Spot) (held : Multiset) (lists : ℕ) : Type 0 where
   pub same_state : held ≡ spot.state
   pub listed : leaving_group spot.stage < lists

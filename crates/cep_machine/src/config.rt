@@ -20,7 +20,7 @@ impl<M: Matcher> Model for Config<M> {
     ghost use Rattle.std.specs.Prelude.{◌≡◌, ◌+◌, ◌<◌, length};
     ghost use Rattle.cep_term.specs.Multiset.{nodes_in_all};
     ghost use Rattle.cep_rule.specs.Stages.{leaving_group};
-    ghost use Rattle.cep_machine.specs.Configuration.{Configuration, configuration_code, IsKept};
+    ghost use Rattle.cep_machine.specs.Configuration.{Configuration, configuration_code, HoldsSpot};
 
     ghost Value = { Configuration M };
 
@@ -33,7 +33,7 @@ impl<M: Matcher> Model for Config<M> {
       matcher = config.matcher;
     } };
 
-    ghost invariant = { λ config. IsKept config.spot (M.state_held config.matcher)
+    ghost invariant = { λ config. HoldsSpot config.spot (M.state_held config.matcher)
         (length (M.offers_held config.matcher)) };
 }
 

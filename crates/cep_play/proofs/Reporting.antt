@@ -30,7 +30,7 @@ use Rattle.cep_reorder.specs.BySeed.{IsReorderedBy}
 use Rattle.cep_weigh.specs.declared.fault.KeepFault.{KeepFault}
 use Rattle.cep_weigh.specs.declared.weight.Weight.{Weight}
 use Rattle.cep_weigh.specs.declared.weight.Against.{Against}
-use Rattle.cep_weigh.specs.Weights.{KeepsTo, IsKept, IsFirstAgainst}
+use Rattle.cep_weigh.specs.Weights.{KeepsTo, AllKeepTo, IsFirstAgainst}
 use Rattle.cep_weigh.specs.Claims.{HasClaims, HasFault}
 use Rattle.cep_words.specs.declared.request.Task.{Task}
 use Rattle.cep_words.specs.declared.request.Task.TheVariants.{Check, Renew, Cause, Again, Weigh}
@@ -78,7 +78,7 @@ abbrev pub Judged : Type 0
 Judged = Weight × Option Against
 
 -- what each rule keeps, none breaks
-kept_unbroken : (program : Parts) (weight : Weight) (against : Against) → IsKept program weight.claim weight.sum → ¬ (IsFirstAgainst program weight.claim weight.sum against)
+kept_unbroken : (program : Parts) (weight : Weight) (against : Against) → AllKeepTo program weight.claim weight.sum → ¬ (IsFirstAgainst program weight.claim weight.sum against)
 kept_unbroken program weight against kept first = first.breaks (holds_at (KeepsTo weight.claim weight.sum) program.rules against.rule first.rule kept first.numbered)
 
 -- claims are judged in one way, as far as the status tells it
@@ -90,9 +90,9 @@ same_codes program (one ∷ later) [] same right right' = absurd (cc)
 same_codes program ((weight, None) ∷ later) ((weight', None) ∷ later') same right right' = same_codes program later later' (let tails : map (λ one. one.0) later ≡ map (λ one. one.0) later' = cc in tails) right.1 right'.1
 same_codes program ((weight, Some against) ∷ later) ((weight', Some against') ∷ later') same right right' = refl
 same_codes program ((weight, None) ∷ later) ((weight', Some against) ∷ later') same right right' =
-    let weights : weight ≡ weight' = cc in absurd (kept_unbroken program weight' against (subst (λ (w : Weight). IsKept program w.claim w.sum) weights right.0) right'.0)
+    let weights : weight ≡ weight' = cc in absurd (kept_unbroken program weight' against (subst (λ (w : Weight). AllKeepTo program w.claim w.sum) weights right.0) right'.0)
 same_codes program ((weight, Some against) ∷ later) ((weight', None) ∷ later') same right right' =
-    let weights : weight' ≡ weight = cc in absurd (kept_unbroken program weight against (subst (λ (w : Weight). IsKept program w.claim w.sum) weights right'.0) right.0)
+    let weights : weight' ≡ weight = cc in absurd (kept_unbroken program weight against (subst (λ (w : Weight). AllKeepTo program w.claim w.sum) weights right'.0) right.0)
 
 one_weighing : (program : Parts) (bytes : List ℕ) (one other : Report) → ReadsOnce program → ReportsWeighing program bytes one → ReportsWeighing program bytes other → one.code ≡ other.code
 one_weighing program bytes one other reads (inl (long, same)) (inl (long', same')) = ap code same ∙ sym (ap code same')

@@ -4,11 +4,11 @@ use Rattle.cep_rule.specs.declared.parts.Parts.{Parts}
 use Rattle.cep_log.specs.declared.log.Log.{Log}
 use Rattle.cep_order.specs.declared.step_cause.StepCause.{StepCause}
 use Rattle.cep_cause.specs.Graphs.{IsGraph}
-use Rattle.cep_report.specs.CauseLines.{cause_lines}
+use Rattle.cep_report.specs.CauseLines.{graph_lines}
 use Rattle.cep_play.specs.Outside.{Report}
 
 -- the lines of the graph of a log are reported
 abbrev pub ReportsGraph : Parts → Log → Report → Type 0
 ReportsGraph program log report =
     (causes : List StepCause) × IsGraph program log causes
-    × (report ≡ record { written = cause_lines 1 causes; code = 0 })
+    × (report ≡ record { written = graph_lines 1 causes; code = 0 })

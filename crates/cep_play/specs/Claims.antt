@@ -6,7 +6,7 @@ use Rattle.cep_weigh.specs.declared.limits.TheConstants.{MOST_CLAIMS}
 use Rattle.cep_weigh.specs.declared.fault.KeepFault.{KeepFault}
 use Rattle.cep_weigh.specs.declared.weight.Weight.{Weight}
 use Rattle.cep_weigh.specs.declared.weight.Against.{Against}
-use Rattle.cep_weigh.specs.Weights.{IsKept, IsFirstAgainst}
+use Rattle.cep_weigh.specs.Weights.{AllKeepTo, IsFirstAgainst}
 use Rattle.cep_weigh.specs.Claims.{HasClaims, HasFault}
 use Rattle.cep_report.specs.ClaimLines.{claim_fault_text, claim_lines_of}
 use Rattle.cep_play.specs.Outside.{Report, line_report}
@@ -14,7 +14,7 @@ use Rattle.cep_play.specs.Check.{too_long_text}
 
 -- Each rule keeps the claim, or this is the first that does not.
 abbrev pub IsJudged : Parts → Weight → Option Against → Type 0
-IsJudged program weight judged = MatchOption judged (IsKept program weight.claim weight.sum) (IsFirstAgainst program weight.claim weight.sum)
+IsJudged program weight judged = MatchOption judged (AllKeepTo program weight.claim weight.sum) (IsFirstAgainst program weight.claim weight.sum)
 
 -- the status: 5 if some claim is broken, and else 0
 abbrev pub claims_code : List (Option Against) → ℕ

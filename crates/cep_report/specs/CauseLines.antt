@@ -19,11 +19,11 @@ after_text [] = []
 after_text (number ∷ numbers) = codes " after" ++ flat_map number_text (number ∷ numbers)
 
 -- `step K`, and what is said of the step
-abbrev pub cause_line : ℕ → StepCause → List ℕ
-cause_line number cause =
+abbrev pub graph_line : ℕ → StepCause → List ℕ
+graph_line number cause =
     line (codes "step " ++ decimal number ++ barrier_text cause.barrier ++ after_text cause.after)
 
 -- the lines of a graph, whose steps are numbered from here on
-abbrev pub cause_lines : ℕ → List StepCause → List ℕ
-cause_lines number [] = []
-cause_lines number (cause ∷ causes) = cause_line number cause ++ cause_lines (number + 1) causes
+abbrev pub graph_lines : ℕ → List StepCause → List ℕ
+graph_lines number [] = []
+graph_lines number (cause ∷ causes) = graph_line number cause ++ graph_lines (number + 1) causes

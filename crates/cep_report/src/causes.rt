@@ -1,7 +1,7 @@
 // Writes the graph of a transcript.
 ghost use Rattle.std.specs.Prelude.{◌≡◌, ℕ, ◌++◌, OnOk};
 ghost use Rattle.std.specs.List.{flat_map};
-ghost use Rattle.cep_report.specs.CauseLines.{barrier_text, number_text, after_text, cause_line, cause_lines};
+ghost use Rattle.cep_report.specs.CauseLines.{barrier_text, number_text, after_text, graph_line, graph_lines};
 
 use cep_base::Text;
 use cep_order::StepCause;
@@ -49,7 +49,7 @@ fn put_barrier(barrier: bool, out: &mut Text) -> Result<(), AllocError>
 // The line of the step of a number.
 #[tactic(auto, using(std::proofs::Common::append_assoc))]
 fn put_cause(number: usize, cause: &StepCause, out: &mut Text) -> Result<(), AllocError>
-    ensures { OnOk result (out.new ≡ out.old ++ cause_line number cause.now) }
+    ensures { OnOk result (out.new ≡ out.old ++ graph_line number cause.now) }
 {
     out.append(b"step ")?;
     out.number(number as u64)?;
@@ -65,7 +65,7 @@ fn put_cause(number: usize, cause: &StepCause, out: &mut Text) -> Result<(), All
 ///
 /// Out of memory alone.
 pub fn put_causes(causes: &[StepCause], out: &mut Text) -> Result<(), AllocError>
-    ensures { OnOk result (out.new ≡ out.old ++ cause_lines 1 causes.now) }
+    ensures { OnOk result (out.new ≡ out.old ++ graph_lines 1 causes.now) }
 {
     let mut number = 0;
     for cause in causes {

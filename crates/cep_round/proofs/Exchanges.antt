@@ -14,7 +14,7 @@ use Rattle.cep_rule.specs.State.{joined}
 use Rattle.cep_rule.specs.Offers.{Applies}
 use Rattle.cep_rule.specs.Program.{IsTypedRule, IsProgram}
 use Rattle.cep_base.proofs.Lists.{holds_at}
-use Rattle.cep_round.specs.StepLaws.{StepLaws}
+use Rattle.cep_round.specs.RoundLaws.{RoundLaws}
 use Rattle.cep_round.specs.Rounds.{needs, gives, used_with, admitted, all_need, AreAdmitted, AreChosen, Together}
 use Rattle.cep_round.specs.Sides.{needed_by, given_by, IsOfProgram}
 use Rattle.cep_round.proofs.Counts.{each_admitted}
@@ -22,7 +22,7 @@ use Rattle.cep_round.proofs.Orders.{needs_is}
 use Rattle.cep_round.proofs.SideAtoms.{of_applies, needed_ground, given_ground, needed_few, given_few, needs_count, gives_count, all_gathered, flat_few}
 use Rattle.cep_round.proofs.Admitted.{as_many_flags, few_admitted, joined_gathered, exchanged}
 
-module _ (laws : StepLaws) (program : Parts) (kept : IsProgram program) where
+module _ (laws : RoundLaws) (program : Parts) (kept : IsProgram program) where
   module _ (offer : Offer) (is : IsOfProgram program offer) where
     needs_bag : IsBag (needs program offer)
     needs_bag =

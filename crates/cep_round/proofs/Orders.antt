@@ -22,7 +22,7 @@ use Rattle.cep_rule.specs.Derivations.{IsDerivable}
 use Rattle.cep_rule.specs.Offers.{Applies}
 use Rattle.cep_rule.specs.Steps.{MakesFit}
 use Rattle.cep_rule.specs.Program.{IsTypedRule, IsDividedRule, IsProgram}
-use Rattle.cep_round.specs.StepLaws.{StepLaws}
+use Rattle.cep_round.specs.RoundLaws.{RoundLaws}
 use Rattle.cep_round.specs.Rounds.{needs, gives, sum_of_sides, all_need, Together}
 use Rattle.cep_round.specs.Orders.{MakesFitAtoms, IsOfferDone, AreOffersDone, KeepHeights}
 use Rattle.cep_round.proofs.Counts.{join_count, count_all, all_count}
@@ -63,7 +63,7 @@ gives_is program offer rule numbered = rw numbered refl
 or_right : (x y : Bool) → y ≡ true → (x || y) ≡ true
 or_right x y e = grind arith
 
-module _ (laws : StepLaws) (program : Parts) where
+module _ (laws : RoundLaws) (program : Parts) where
   abbrev fact : AtomTree → Bool
   fact = is_fact program.signature
 

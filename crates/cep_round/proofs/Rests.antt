@@ -12,7 +12,7 @@ use Rattle.cep_rule.specs.Offers.{Applies}
 use Rattle.cep_rule.specs.Program.{IsTypedRule, IsProgram}
 use Rattle.cep_round.specs.Rounds.{needs, gives, all_need, all_give, AreAdmitted, Together}
 use Rattle.cep_round.specs.Orders.{LeavesRest}
-use Rattle.cep_round.specs.StepLaws.{StepLaws}
+use Rattle.cep_round.specs.RoundLaws.{RoundLaws}
 use Rattle.cep_round.proofs.Counts.{join_count}
 use Rattle.cep_round.proofs.Orders.{needs_is, gives_is}
 
@@ -36,7 +36,7 @@ moved_over t l r o = ap (held t) (omega arith)
 put_back : (t : Bool) (l o : ℕ) → (t ≡ true → o ≤ 1) → l ≤ o → o ≡ held t (l + (o - l))
 put_back t l o one within = grind arith
 
-module _ (laws : StepLaws) (program : Parts) (kept : IsProgram program) where
+module _ (laws : RoundLaws) (program : Parts) (kept : IsProgram program) where
   -- both sides of offers that apply are multisets of ground atoms
   sides_bags : (height : ℕ) (state : Multiset) (offers : List Offer) → AllByRecursion (Applies program height state) offers → IsBag (all_need program offers) × IsBag (all_give program offers)
   sides_bags height state [] all = (laws.bags.empty_kept, laws.bags.empty_kept)

@@ -18,7 +18,7 @@ use Rattle.cep_rule.specs.Limits.{IsSmallRule}
 use Rattle.cep_rule.specs.Instances.{full_instance, full_instances, kept_of}
 use Rattle.cep_rule.specs.Offers.{Applies}
 use Rattle.cep_rule.specs.Program.{IsTypedRule, IsProgram}
-use Rattle.cep_round.specs.StepLaws.{StepLaws}
+use Rattle.cep_round.specs.RoundLaws.{RoundLaws}
 use Rattle.cep_round.specs.Rounds.{needs, gives, sum_of_sides}
 use Rattle.cep_round.specs.Sides.{needed_by, given_by, IsOfProgram}
 use Rattle.cep_round.proofs.Counts.{join_count}
@@ -34,7 +34,7 @@ both_held t x y n m e f = grind arith
 pub of_applies : (program : Parts) (height : ℕ) (state : Multiset) (offer : Offer) → Applies program height state offer → IsOfProgram program offer
 of_applies program height state offer applies = record { rule = applies.rule; numbered = applies.numbered; values = applies.values }
 
-module _ (laws : StepLaws) (program : Parts) (kept : IsProgram program) (offer : Offer) (is : IsOfProgram program offer) where
+module _ (laws : RoundLaws) (program : Parts) (kept : IsProgram program) (offer : Offer) (is : IsOfProgram program offer) where
   abbrev rule : Rule
   rule = is.rule
 
@@ -100,7 +100,7 @@ module _ (laws : StepLaws) (program : Parts) (kept : IsProgram program) (offer :
   pub gives_count : (a : AtomTree) → count_of (gives program offer) a ≡ held (is_fact program.signature a) (count_of (gathered (given_by program offer)) a)
   gives_count a = rw (gives_is program offer rule is.numbered, given_is) (laws.bags.once_count (is_fact program.signature) (gathered (full_instances offer.values (rule.right ++ kept_of program.signature rule))) a)
 
-module _ (laws : StepLaws) (program : Parts) where
+module _ (laws : RoundLaws) (program : Parts) where
   -- the sum of a side of all offers, from the atoms of that side
   pub all_gathered : (side : Parts → Offer → Multiset) (atoms_by : Parts → Offer → List AtomTree)
       → ((offer : Offer) → IsOfProgram program offer → (a : AtomTree) → count_of (side program offer) a ≡ held (is_fact program.signature a) (count_of (gathered (atoms_by program offer)) a))

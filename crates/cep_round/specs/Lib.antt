@@ -1,4 +1,4 @@
 pub mod Rounds
 pub mod Orders
 pub mod Sides
-pub mod StepLaws
+pub mod RoundLaws

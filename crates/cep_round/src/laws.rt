@@ -11,7 +11,7 @@ ghost use Rattle.cep_rule.specs.Typing.{is_fact};
 ghost use Rattle.cep_rule.specs.Offers.{Applies, IsInGroup};
 ghost use Rattle.cep_rule.specs.Program.{IsProgram};
 ghost use Rattle.cep_rule.specs.Stages.{own_group};
-ghost use Rattle.cep_round.specs.StepLaws.{StepLaws};
+ghost use Rattle.cep_round.specs.RoundLaws.{RoundLaws};
 ghost use Rattle.cep_round.specs.Rounds.{needs, used_with, used_after, all_need, AreAdmitted, admitted, Together, IsRound};
 ghost use Rattle.cep_round.specs.Orders.{AreOffersDone, KeepHeights, MakesFitAtoms, LeavesRest, FitOnTheWay, AreMachineSteps};
 
@@ -20,7 +20,7 @@ use cep_term::laws::bags_are_lawful;
 
 // What rounds rest on: what instances of rules are, and that steps are there and lead to states.
 pub(crate) fn steps_are_lawful()
-    ensures { StepLaws }
+    ensures { RoundLaws }
 {
     bags_are_lawful();
     types_are_lawful();

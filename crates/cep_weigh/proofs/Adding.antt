@@ -12,7 +12,7 @@ use Rattle.cep_term.specs.Tree.{AtomTree}
 use Rattle.cep_rule.specs.Patterns.{PremiseTree}
 use Rattle.cep_weigh.specs.declared.weight.Claim.{Claim}
 use Rattle.cep_weigh.specs.declared.weight.Part.{Part}
-use Rattle.cep_weigh.specs.Weights.{weighed, factor_of, factors_of, Wants, IsFactor, AreApart}
+use Rattle.cep_weigh.specs.Weights.{weighed, factor_of, factors_of, Wants, IsFactor, HaveOwnPredicates}
 use Rattle.cep_weigh.proofs.Numbers.{fits}
 use Rattle.cep_weigh.proofs.Sums.{scaled, scaled_none, scaled_one, weighed_sum, weighed_none}
 
@@ -142,7 +142,7 @@ no_factor : (parts : List Part) (pred : ℕ) → AllByRecursion (λ later. ¬ (l
 no_factor [] pred apart = refl
 no_factor (part ∷ parts) pred apart = (λ i. cond (ne_eqb part.pred pred apart.0 i) part.factor (pos 0) +ℤ no_factor parts pred apart.1 i)
 
-pub first_factor : (parts : List Part) (d : Part) (pred : ℕ) → 1 ≤ length parts → AreApart parts → (get_or parts 0 d).pred ≡ pred → factor_of parts pred ≡ (get_or parts 0 d).factor
+pub first_factor : (parts : List Part) (d : Part) (pred : ℕ) → 1 ≤ length parts → HaveOwnPredicates parts → (get_or parts 0 d).pred ≡ pred → factor_of parts pred ≡ (get_or parts 0 d).factor
 first_factor [] d pred some apart is = absurd (omega arith)
 first_factor (part ∷ parts) d pred some apart is =
     (λ i. cond (eq-eqb part.pred pred is i) part.factor (pos 0) +ℤ no_factor parts pred (subst (λ p. AllByRecursion (λ later. ¬ (later.pred ≡ p)) parts) is apart.0) i) ∙ nothing part.factor

@@ -10,7 +10,7 @@ use Rattle.cep_term.specs.Order.{atom_cmp}
 use Rattle.cep_term.specs.BagLaws.{BagLaws}
 use Rattle.cep_term.specs.Multiset.{Multiset, count_of, gathered, sum_of, held, once}
 use Rattle.cep_weigh.proofs.Worths.{worth_set, worth_sum}
-use Rattle.cep_weigh.specs.Weights.{copies_of}
+use Rattle.cep_weigh.specs.Weights.{copies_of_pred}
 
 -- what copies of an atom are worth where a test decides about it
 abbrev worth_if : (AtomTree → Bool) → AtomTree → ℕ → ℕ
@@ -25,7 +25,7 @@ worth_adds test a n m = elim (test a) as (λ t. cond t (n + m) 0 ≡ cond t n 0 
 abbrev of_pred : ℕ → AtomTree → Bool
 of_pred pred a = a.pred == pred
 
-pub copies_sum : BagLaws → (bag other : Multiset) (pred : ℕ) → copies_of (sum_of bag other) pred ≡ copies_of bag pred + copies_of other pred
+pub copies_sum : BagLaws → (bag other : Multiset) (pred : ℕ) → copies_of_pred (sum_of bag other) pred ≡ copies_of_pred bag pred + copies_of_pred other pred
 copies_sum laws bag other pred = worth_sum laws (worth_if (of_pred pred)) (worth_nothing (of_pred pred)) (worth_adds (of_pred pred)) (finite.entries other) bag
 
 -- where there is no copy at all there is none of a predicate
@@ -39,10 +39,10 @@ none_counted test (e ∷ es) none =
     let nothing : cond (test e.0) e.1 0 ≡ 0 = ap (λ n. cond (test e.0) n 0) here ∙ worth_nothing test e.0 in
     omega arith
 
-copies_empty : BagLaws → (pred : ℕ) → copies_of finite.empty pred ≡ 0
+copies_empty : BagLaws → (pred : ℕ) → copies_of_pred finite.empty pred ≡ 0
 copies_empty laws pred = none_counted (of_pred pred) (finite.entries finite.empty) laws.empty_copies
 
-pub copies_gathered : BagLaws → (atoms : List AtomTree) (pred : ℕ) → copies_of (gathered atoms) pred ≡ count_by (of_pred pred) atoms
+pub copies_gathered : BagLaws → (atoms : List AtomTree) (pred : ℕ) → copies_of_pred (gathered atoms) pred ≡ count_by (of_pred pred) atoms
 copies_gathered laws [] pred = copies_empty laws pred
 copies_gathered laws (a ∷ atoms) pred =
     let set = worth_set laws (worth_if (of_pred pred)) (worth_nothing (of_pred pred)) (gathered atoms) a (count_of (gathered atoms) a + 1) in
@@ -81,5 +81,5 @@ module _ (test : AtomTree → Bool) (pred : ℕ) (apart : (a : AtomTree) → of_
       ∙ (λ i. held_copies e.0 e.1 i + copies_held es i)
       ∙ sym (sum_by-cons (λ (d : AtomTree × ℕ). cond (of_pred pred d.0) d.1 0) e es)
 
-  pub copies_once : (bag : Multiset) → copies_of (once test bag) pred ≡ copies_of bag pred
+  pub copies_once : (bag : Multiset) → copies_of_pred (once test bag) pred ≡ copies_of_pred bag pred
   copies_once bag = ap (sum_by (λ e. cond (of_pred pred e.0) e.1 0)) (entries_once test bag) ∙ copies_held (finite.entries bag)

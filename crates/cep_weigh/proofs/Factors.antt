@@ -10,7 +10,7 @@ use Rattle.cep_rule.specs.Patterns.{PremiseTree}
 use Rattle.cep_weigh.specs.declared.weight.Claim.{Claim}
 use Rattle.cep_weigh.specs.declared.weight.Claim.TheVariants.{Keep, Most, Fall}
 use Rattle.cep_weigh.specs.declared.weight.Part.{Part}
-use Rattle.cep_weigh.specs.Weights.{weighed, copies_of, weight_of, Wants, ArePositive, factors_of}
+use Rattle.cep_weigh.specs.Weights.{weighed, copies_of_pred, weight_of, Wants, ArePositive, factors_of}
 use Rattle.cep_weigh.specs.WeightRuns.{GoesAsClaimed}
 use Rattle.cep_weigh.proofs.Sums.{weighed_sum, weighed_none, weighed_one, positive_not_negative, part_within}
 use Rattle.cep_weigh.proofs.Runs.{run_falls}
@@ -72,12 +72,12 @@ divided f w n x y e e' some within =
     above : (a : ℕ) → pos 0 <ℤ pos a → 0 < a
     above a h = omega (arith, ints)
 
-pub copies_bounded : (claim : Claim) (parts : List Part) (part : Part) (state later : Multiset) (run : List Multiset) (weight factor : ℕ) → GoesAsClaimed claim parts state run → ArePositive parts → Contains parts part → part.factor ≡ pos factor → weight_of parts state ≡ pos weight → Contains (state ∷ run) later → copies_of later part.pred ≤ weight / factor
+pub copies_bounded : (claim : Claim) (parts : List Part) (part : Part) (state later : Multiset) (run : List Multiset) (weight factor : ℕ) → GoesAsClaimed claim parts state run → ArePositive parts → Contains parts part → part.factor ≡ pos factor → weight_of parts state ≡ pos weight → Contains (state ∷ run) later → copies_of_pred later part.pred ≤ weight / factor
 copies_bounded claim parts part state later run weight factor goes some there is_factor is_weight in_run =
     let low : weight_of parts later ≤ℤ weight_of parts state = ⊎_elim
     (λ (same : state ≡ later). subst (λ s. weight_of parts s ≤ℤ weight_of parts state) same (itself (weight_of parts state)))
     (λ behind. all_at (λ s. weight_of parts s ≤ℤ weight_of parts state) run later (run_falls parts state run (goes_too claim parts state run goes)) behind)
     (contains_cases state run later in_run) in
-    divided factor weight (copies_of later part.pred) part.factor (weight_of parts state) is_factor is_weight
+    divided factor weight (copies_of_pred later part.pred) part.factor (weight_of parts state) is_factor is_weight
     (all_at (λ (p : Part). pos 0 <ℤ p.factor) parts part some there)
-    (no_greater _ _ _ (part_within parts part (copies_of later) (positive_not_negative parts some) there) low)
+    (no_greater _ _ _ (part_within parts part (copies_of_pred later) (positive_not_negative parts some) there) low)

@@ -10,7 +10,7 @@ use Rattle.cep_rule.specs.Step.{Step}
 use Rattle.cep_weigh.specs.declared.weight.Claim.{Claim}
 use Rattle.cep_weigh.specs.declared.weight.Claim.TheVariants.{Keep, Most, Fall}
 use Rattle.cep_weigh.specs.declared.weight.Part.{Part}
-use Rattle.cep_weigh.specs.Weights.{weight_of, left_sum, right_sum, KeepsTo, IsKept, AreNotNegative}
+use Rattle.cep_weigh.specs.Weights.{weight_of, left_sum, right_sum, KeepsTo, AllKeepTo, AreNotNegative}
 use Rattle.cep_weigh.specs.WeightRuns.{GoesAsClaimed, HoldsOfRun, HoldsOfRuns}
 use Rattle.cep_weigh.proofs.Runs.{run_claimed, run_keeps, run_ends}
 use Rattle.cep_weigh.proofs.Factors.{copies_bounded}
@@ -22,7 +22,7 @@ run_holds Fall parts state run signs goes = run_ends parts state run (signs refl
 
 pub claims_hold : (program : Parts) (claim : Claim) (parts : List Part)
     → ((rule : Rule) (values : List Tree) (old new : Multiset) → Step program.signature rule values old new → weight_of parts new ≡ weight_of parts old +ℤ (right_sum parts rule -ℤ left_sum parts rule))
-    → (claim ≡ Fall → AreNotNegative parts) → IsKept program claim parts → HoldsOfRuns program claim parts
+    → (claim ≡ Fall → AreNotNegative parts) → AllKeepTo program claim parts → HoldsOfRuns program claim parts
 claims_hold program claim parts changes signs kept = record {
   runs = λ run is. run_holds claim parts program.start run signs (run_claimed program claim parts changes kept program.start run is);
   bounds = λ some run is part later weight factor there is_factor is_weight in_run.
@@ -30,7 +30,7 @@ claims_hold program claim parts changes signs kept = record {
 }
 
 pub kept_all : (program other : Parts) (claim : Claim) (sum parts : List Part) (i : ℕ) → other ≡ program → parts ≡ sum → length other.rules ≤ i
-    → ((number : ℕ) (rule : Rule) → number < i → slice_get other.rules number ≡ Some rule → KeepsTo claim parts rule) → IsKept program claim sum
+    → ((number : ℕ) (rule : Rule) → number < i → slice_get other.rules number ≡ Some rule → KeepsTo claim parts rule) → AllKeepTo program claim sum
 kept_all program other claim sum parts i same is all each =
-    subst (λ p. IsKept p claim sum) same (subst (λ ps. IsKept other claim ps) is
+    subst (λ p. AllKeepTo p claim sum) same (subst (λ ps. AllKeepTo other claim ps) is
     (all_from_places (KeepsTo claim parts) other.rules (λ n rule at. let within = slice_get_within other.rules n rule at in each n rule (omega arith) at)))

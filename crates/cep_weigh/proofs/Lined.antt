@@ -12,7 +12,7 @@ use Rattle.cep_weigh.specs.declared.weight.Weight.{Weight}
 use Rattle.cep_weigh.specs.declared.fault.KeepFault.{KeepFault}
 use Rattle.cep_weigh.specs.declared.written.NamedPart.{NamedPart}
 use Rattle.cep_weigh.specs.Weights.{IsFactor, AreOfLinear, IsWeightOf}
-use Rattle.cep_weigh.specs.Claims.{claim_lines, SaysNothing, IsNamedPart, AreNumbered, IsClaimOf, IsFaultOf, AddsLine, AddClaims, HasClaims, HasFault}
+use Rattle.cep_weigh.specs.Claims.{claim_lines, SaysNothing, IsNamedPart, AreResolved, IsClaimOf, IsClaimFault, AddsLine, AddClaims, HasClaims, HasFault}
 
 -- Of all lines these are left; those before add these claims.
 pub record LinesSoFar (signature : Signature) (lines left : List (List ℕ)) (number : ℕ) (claims : List Weight) : Type 0 where
@@ -54,7 +54,7 @@ all_said program other bytes left number claims same so_far none =
     subst (λ (p : Parts). AddClaims p.signature 1 (claim_lines bytes) [] claims) same (subst (λ lines. AddClaims other.signature 1 lines [] claims) (sym all) so_far.add)
 
 pub fault_said : (program other : Parts) (bytes : List ℕ) (left rest : List (List ℕ)) (line : List ℕ) (number : ℕ) (claims : List Weight) (fault : KeepFault) → other ≡ program → LinesSoFar other.signature (claim_lines bytes) left number claims → left ≡ line ∷ rest
-    → ¬ SaysNothing line → IsFaultOf other.signature claims line (number + 1) fault → HasFault program bytes fault
+    → ¬ SaysNothing line → IsClaimFault other.signature claims line (number + 1) fault → HasFault program bytes fault
 fault_said program other bytes left rest line number claims fault same so_far is says why = record {
   before = so_far.done;
   line = line;
@@ -63,7 +63,7 @@ fault_said program other bytes left rest line number claims fault same so_far is
   earlier = claims;
   add = subst (λ (p : Parts). AddClaims p.signature 1 so_far.done [] claims) same so_far.add;
   says = says;
-  why = subst (λ (p : Parts). IsFaultOf p.signature claims line (length so_far.done + 1) fault) same (subst (λ (n : ℕ). IsFaultOf other.signature claims line (n + 1) fault) so_far.counted why);
+  why = subst (λ (p : Parts). IsClaimFault p.signature claims line (length so_far.done + 1) fault) same (subst (λ (n : ℕ). IsClaimFault other.signature claims line (n + 1) fault) so_far.counted why);
 }
 
 -- what is read is of the program
@@ -71,13 +71,13 @@ some_as : {X : Type 0} (o : Option X) (P Q : X → Type 0) → ((x : X) → P x 
 some_as None P Q f h = absurd h
 some_as (Some x) P Q f h = f x h
 
-linear_parts : (signature : Signature) (parts : List NamedPart) (sum : List Part) → AreNumbered signature parts sum → AreOfLinear signature sum
+linear_parts : (signature : Signature) (parts : List NamedPart) (sum : List Part) → AreResolved signature parts sum → AreOfLinear signature sum
 linear_parts signature [] [] are = tt
 linear_parts signature [] (part ∷ sum) are = absurd are
 linear_parts signature (named ∷ parts) [] are = absurd are
 linear_parts signature (named ∷ parts) (part ∷ sum) are = (some_as (slice_get signature.preds part.pred) (λ d. (d.name ≡ named.name) × (d.kind ≡ Linear)) (λ d. d.kind ≡ Linear) (λ d h. h.1) are.1, linear_parts signature parts sum are.2)
 
-factor_parts : (signature : Signature) (parts : List NamedPart) (sum : List Part) → AreNumbered signature parts sum → AllByRecursion IsNamedPart parts → AllByRecursion (λ part. IsFactor part.factor) sum
+factor_parts : (signature : Signature) (parts : List NamedPart) (sum : List Part) → AreResolved signature parts sum → AllByRecursion IsNamedPart parts → AllByRecursion (λ part. IsFactor part.factor) sum
 factor_parts signature [] [] are each = tt
 factor_parts signature [] (part ∷ sum) are each = absurd are
 factor_parts signature (named ∷ parts) [] are each = absurd are

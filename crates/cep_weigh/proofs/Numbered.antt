@@ -4,10 +4,10 @@ use Rattle.cep_base.proofs.Lists.{take_next}
 use Rattle.cep_rule.specs.declared.signature.Signature.{Signature}
 use Rattle.cep_weigh.specs.declared.weight.Part.{Part}
 use Rattle.cep_weigh.specs.declared.written.NamedPart.{NamedPart}
-use Rattle.cep_weigh.specs.Claims.{IsLinearNamed, AreNumbered}
+use Rattle.cep_weigh.specs.Claims.{IsLinearNamed, AreResolved}
 
-pub one_numbered : (signature : Signature) (parts : List NamedPart) (sum : List Part) (named : NamedPart) (part : Part) → AreNumbered signature parts sum → part.factor ≡ named.factor → IsLinearNamed signature part.pred named.name
-    → AreNumbered signature (parts ++ named ∷ []) (sum ++ part ∷ [])
+pub one_numbered : (signature : Signature) (parts : List NamedPart) (sum : List Part) (named : NamedPart) (part : Part) → AreResolved signature parts sum → part.factor ≡ named.factor → IsLinearNamed signature part.pred named.name
+    → AreResolved signature (parts ++ named ∷ []) (sum ++ part ∷ [])
 one_numbered signature [] [] named part are factor linear = (factor, linear, tt)
 one_numbered signature [] (other ∷ sum) named part are factor linear = absurd are
 one_numbered signature (first ∷ parts) [] named part are factor linear = absurd are
@@ -18,7 +18,7 @@ got [] i x low is = absurd (omega arith)
 got (y ∷ xs) zero x low is = ap Some (sym is)
 got (y ∷ xs) (suc i) x low is = got xs i x (omega arith) is
 
-pub next_numbered : (signature : Signature) (parts : List NamedPart) (sum : List Part) (i : ℕ) (named : NamedPart) (part : Part) → AreNumbered signature (take i parts) sum → i < length parts → named ≡ get_or parts i named → part.factor ≡ named.factor → IsLinearNamed signature part.pred named.name
-    → AreNumbered signature (take (i + 1) parts) (sum ++ part ∷ [])
+pub next_numbered : (signature : Signature) (parts : List NamedPart) (sum : List Part) (i : ℕ) (named : NamedPart) (part : Part) → AreResolved signature (take i parts) sum → i < length parts → named ≡ get_or parts i named → part.factor ≡ named.factor → IsLinearNamed signature part.pred named.name
+    → AreResolved signature (take (i + 1) parts) (sum ++ part ∷ [])
 next_numbered signature parts sum i named part are low is factor linear =
-    subst (λ front. AreNumbered signature front (sum ++ part ∷ [])) (sym (take_next parts i named (got parts i named low is))) (one_numbered signature (take i parts) sum named part are factor linear)
+    subst (λ front. AreResolved signature front (sum ++ part ∷ [])) (sym (take_next parts i named (got parts i named low is))) (one_numbered signature (take i parts) sum named part are factor linear)

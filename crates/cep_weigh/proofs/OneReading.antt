@@ -16,8 +16,8 @@ use Rattle.cep_weigh.specs.declared.fault.KeepFault.{KeepFault}
 use Rattle.cep_weigh.specs.declared.fault.KeepFault.TheVariants.{Keep, KeepName, KeepTwice, KeepSign}
 use Rattle.cep_weigh.specs.declared.written.NamedPart.{NamedPart}
 use Rattle.cep_weigh.specs.declared.written.Written.{Written}
-use Rattle.cep_weigh.specs.Weights.{AreApart, AreNotNegative}
-use Rattle.cep_weigh.specs.Claims.{claim_lines, SaysNothing, claim_word, parts_words, IsNamedPart, IsWrittenAs, IsLinearNamed, AreNumbered, SomeIsUnknown, IsNamedBefore, IsClaimOf, IsKnown, SaysTwice, IsFaultOf, AddsLine, AddClaims, HasClaims, HasFault}
+use Rattle.cep_weigh.specs.Weights.{HaveOwnPredicates, AreNotNegative}
+use Rattle.cep_weigh.specs.Claims.{claim_lines, SaysNothing, claim_word, parts_words, IsNamedPart, IsWrittenAs, IsLinearNamed, AreResolved, SomeIsUnknown, IsNamedBefore, IsClaimOf, IsResolvedLine, SaysTwice, IsClaimFault, AddsLine, AddClaims, HasClaims, HasFault}
 use Rattle.cep_weigh.proofs.Numbers.{one_factor}
 
 -- a line is written as one claim
@@ -88,7 +88,7 @@ one_pred (decl ∷ preds) (suc one) zero name differ is is' = absurd (among pred
 one_pred (decl ∷ preds) (suc one) (suc other) name differ is is' = ap suc (one_pred preds one other name differ.1 is is')
 
 module _ (signature : Signature) (differ : AllDiffer (map (λ decl. decl.name) signature.preds)) where
-  one_numbering : (parts : List NamedPart) (one other : List Part) → AreNumbered signature parts one → AreNumbered signature parts other → one ≡ other
+  one_numbering : (parts : List NamedPart) (one other : List Part) → AreResolved signature parts one → AreResolved signature parts other → one ≡ other
   one_numbering [] [] [] are are' = refl
   one_numbering [] [] (part ∷ other) are are' = absurd are'
   one_numbering [] (part ∷ one) other are are' = absurd are
@@ -101,9 +101,9 @@ module _ (signature : Signature) (differ : AllDiffer (map (λ decl. decl.name) s
       let rest : one ≡ other = one_numbering parts one other are.2 are'.2 in
       λ i. same i ∷ rest i
 
-  sum_of_line : (line : List ℕ) (one other : Written) (sum sum' : List Part) → IsWrittenAs line one → IsWrittenAs line other → AreNumbered signature one.parts sum → AreNumbered signature other.parts sum' → sum ≡ sum'
+  sum_of_line : (line : List ℕ) (one other : Written) (sum sum' : List Part) → IsWrittenAs line one → IsWrittenAs line other → AreResolved signature one.parts sum → AreResolved signature other.parts sum' → sum ≡ sum'
   sum_of_line line one other sum sum' is is' are are' =
-      one_numbering other.parts sum sum' (subst (λ (w : Written). AreNumbered signature w.parts sum) (one_written line one other is is') are) are'
+      one_numbering other.parts sum sum' (subst (λ (w : Written). AreResolved signature w.parts sum) (one_written line one other is is') are) are'
 
   -- a line says one claim
   one_claim : (earlier : List Weight) (line : List ℕ) (number : ℕ) (one other : Weight) → IsClaimOf signature earlier line number one → IsClaimOf signature earlier line number other → one ≡ other
@@ -128,25 +128,25 @@ module _ (signature : Signature) (differ : AllDiffer (map (λ decl. decl.name) s
       one_adding (number + 1) lines b.0 one other (subst (λ after. AddClaims signature (number + 1) lines after one) same a.2) b.2
 
   -- a line has one fault, and then it says no claim
-  known_at : (parts : List NamedPart) (sum : List Part) (named : NamedPart) → AreNumbered signature parts sum → Contains parts named → (pred : ℕ) × IsLinearNamed signature pred named.name
+  known_at : (parts : List NamedPart) (sum : List Part) (named : NamedPart) → AreResolved signature parts sum → Contains parts named → (pred : ℕ) × IsLinearNamed signature pred named.name
   known_at [] sum named are there = absurd (contains_none named there)
   known_at (first ∷ parts) [] named are there = absurd are
   known_at (first ∷ parts) (part ∷ sum) named are there =
       ⊎_elim (λ (same : first ≡ named). (part.pred, subst (λ (p : NamedPart). IsLinearNamed signature part.pred p.name) same are.1))
       (λ later. known_at parts sum named are.2 later) (contains_cases first parts named there)
 
-  none_unknown : (line : List ℕ) (one other : Written) (sum : List Part) → IsWrittenAs line one → IsWrittenAs line other → AreNumbered signature other.parts sum → ¬ SomeIsUnknown signature one.parts
+  none_unknown : (line : List ℕ) (one other : Written) (sum : List Part) → IsWrittenAs line one → IsWrittenAs line other → AreResolved signature other.parts sum → ¬ SomeIsUnknown signature one.parts
   none_unknown line one other sum is is' are unknown =
       let here = subst (λ (w : Written). Contains w.parts unknown.0) (one_written line one other is is') unknown.1 in
       let known = known_at other.parts sum unknown.0 are here in
       unknown.2 known.0 known.1
 
-  twice_too : (earlier : List Weight) (line : List ℕ) (one other : IsKnown signature line) → SaysTwice earlier one → SaysTwice earlier other
+  twice_too : (earlier : List Weight) (line : List ℕ) (one other : IsResolvedLine signature line) → SaysTwice earlier one → SaysTwice earlier other
   twice_too earlier line one other (inl named) = inl (subst (λ (w : Written). IsNamedBefore earlier w.name) (one_written line one.written other.written one.line_is other.line_is) named)
   twice_too earlier line one other (inr never) =
-      inr (λ apart. never (subst AreApart (sym (sum_of_line line one.written other.written one.sum other.sum one.line_is other.line_is one.numbered other.numbered)) apart))
+      inr (λ apart. never (subst HaveOwnPredicates (sym (sum_of_line line one.written other.written one.sum other.sum one.line_is other.line_is one.numbered other.numbered)) apart))
 
-  known_of : (earlier : List Weight) (line : List ℕ) (number : ℕ) (weight : Weight) → IsClaimOf signature earlier line number weight → IsKnown signature line
+  known_of : (earlier : List Weight) (line : List ℕ) (number : ℕ) (weight : Weight) → IsClaimOf signature earlier line number weight → IsResolvedLine signature line
   known_of earlier line number weight is = record { written = is.written; line_is = is.line_is; sum = weight.sum; numbered = is.numbered }
 
   not_twice_said : (earlier : List Weight) (line : List ℕ) (number : ℕ) (weight : Weight) (is : IsClaimOf signature earlier line number weight) → SaysTwice earlier (known_of earlier line number weight is) → ⊥
@@ -154,7 +154,7 @@ module _ (signature : Signature) (differ : AllDiffer (map (λ decl. decl.name) s
   not_twice_said earlier line number weight is (inl named) = is.fresh (subst (IsNamedBefore earlier) (sym is.name_is) named)
   not_twice_said earlier line number weight is (inr never) = never is.apart
 
-  claim_or_fault : (earlier : List Weight) (line : List ℕ) (number at : ℕ) (weight : Weight) (fault : KeepFault) → IsClaimOf signature earlier line number weight → IsFaultOf signature earlier line at fault → ⊥
+  claim_or_fault : (earlier : List Weight) (line : List ℕ) (number at : ℕ) (weight : Weight) (fault : KeepFault) → IsClaimOf signature earlier line number weight → IsClaimFault signature earlier line at fault → ⊥
   claim_or_fault earlier line number at weight (Keep n) is why = why.1 is.written is.line_is
   claim_or_fault earlier line number at weight (KeepName n) is why = none_unknown line why.1.0 is.written weight.sum why.1.1 is.line_is is.numbered why.1.2
   claim_or_fault earlier line number at weight (KeepTwice n) is why =
@@ -164,7 +164,7 @@ module _ (signature : Signature) (differ : AllDiffer (map (λ decl. decl.name) s
       let claims : weight.claim ≡ claim.Fall = is.claim_is ∙ ap (λ (w : Written). w.claim) (one_written line is.written known.written is.line_is known.line_is) ∙ why.1.2 in
       why.1.3 (subst AreNotNegative (sum_of_line line is.written known.written weight.sum known.sum is.line_is known.line_is is.numbered known.numbered) (is.signs claims))
 
-  one_fault : (earlier : List Weight) (line : List ℕ) (at : ℕ) (one other : KeepFault) → IsFaultOf signature earlier line at one → IsFaultOf signature earlier line at other → one ≡ other
+  one_fault : (earlier : List Weight) (line : List ℕ) (at : ℕ) (one other : KeepFault) → IsClaimFault signature earlier line at one → IsClaimFault signature earlier line at other → one ≡ other
   one_fault earlier line at (Keep n) (Keep m) a b = ap Keep (a.0 ∙ sym b.0)
   one_fault earlier line at (Keep n) (KeepName m) a b = absurd (a.1 b.1.0 b.1.1)
   one_fault earlier line at (Keep n) (KeepTwice m) a b = absurd (a.1 b.1.0.written b.1.0.line_is)
@@ -182,7 +182,7 @@ module _ (signature : Signature) (differ : AllDiffer (map (λ decl. decl.name) s
   one_fault earlier line at (KeepSign n) (KeepTwice m) a b = absurd (a.1.1 (twice_too earlier line b.1.0 a.1.0 b.1.1))
   one_fault earlier line at (KeepSign n) (KeepSign m) a b = ap KeepSign (a.0 ∙ sym b.0)
 
-  adds_or_fault : (earlier after : List Weight) (line : List ℕ) (number at : ℕ) (fault : KeepFault) → AddsLine signature number line earlier after → ¬ SaysNothing line → IsFaultOf signature earlier line at fault → ⊥
+  adds_or_fault : (earlier after : List Weight) (line : List ℕ) (number at : ℕ) (fault : KeepFault) → AddsLine signature number line earlier after → ¬ SaysNothing line → IsClaimFault signature earlier line at fault → ⊥
   adds_or_fault earlier after line number at fault (inl none) says why = says none.0
   adds_or_fault earlier after line number at fault (inr one) says why = claim_or_fault earlier line number at one.0 fault one.2 why
 
@@ -195,18 +195,18 @@ module _ (signature : Signature) (differ : AllDiffer (map (λ decl. decl.name) s
 
   first_fault : (number : ℕ) (before before' rest rest' : List (List ℕ)) (line line' : List ℕ) (old earlier earlier' : List Weight) (one other : KeepFault)
       → before ++ line ∷ rest ≡ before' ++ line' ∷ rest' → AddClaims signature number before old earlier → AddClaims signature number before' old earlier' → ¬ SaysNothing line → ¬ SaysNothing line'
-      → IsFaultOf signature earlier line (number + length before) one → IsFaultOf signature earlier' line' (number + length before') other → one ≡ other
+      → IsClaimFault signature earlier line (number + length before) one → IsClaimFault signature earlier' line' (number + length before') other → one ≡ other
   first_fault number [] [] rest rest' line line' old earlier earlier' one other e a b says says' why why' =
       one_fault earlier line (number + length {A = List ℕ} []) one other why
-      (subst (λ claims. IsFaultOf signature claims line (number + length {A = List ℕ} []) other) (b ∙ sym a) (subst (λ l. IsFaultOf signature earlier' l (number + length {A = List ℕ} []) other) (sym (heads line line' rest rest' e)) why'))
+      (subst (λ claims. IsClaimFault signature claims line (number + length {A = List ℕ} []) other) (b ∙ sym a) (subst (λ l. IsClaimFault signature earlier' l (number + length {A = List ℕ} []) other) (sym (heads line line' rest rest' e)) why'))
   first_fault number [] (first ∷ before') rest rest' line line' old earlier earlier' one other e a b says says' why why' =
       absurd (adds_or_fault old b.0 line number (number + length {A = List ℕ} []) one
       (subst (λ l. AddsLine signature number l old b.0) (sym (heads line first rest (before' ++ line' ∷ rest') e)) b.1) says
-      (subst (λ claims. IsFaultOf signature claims line (number + length {A = List ℕ} []) one) a why))
+      (subst (λ claims. IsClaimFault signature claims line (number + length {A = List ℕ} []) one) a why))
   first_fault number (first ∷ before) [] rest rest' line line' old earlier earlier' one other e a b says says' why why' =
       absurd (adds_or_fault old a.0 line' number (number + length {A = List ℕ} []) other
       (subst (λ l. AddsLine signature number l old a.0) (heads first line' (before ++ line ∷ rest) rest' e) a.1) says'
-      (subst (λ claims. IsFaultOf signature claims line' (number + length {A = List ℕ} []) other) b why'))
+      (subst (λ claims. IsClaimFault signature claims line' (number + length {A = List ℕ} []) other) b why'))
   first_fault number (first ∷ before) (first' ∷ before') rest rest' line line' old earlier earlier' one other e a b says says' why why' =
       let same = heads first first' (before ++ line ∷ rest) (before' ++ line' ∷ rest') e in
       let after = one_line number first' old a.0 b.0 (subst (λ l. AddsLine signature number l old a.0) same a.1) b.1 in
@@ -214,13 +214,13 @@ module _ (signature : Signature) (differ : AllDiffer (map (λ decl. decl.name) s
       let at' : number + length (first' ∷ before') ≡ number + 1 + length before' = omega arith in
       first_fault (number + 1) before before' rest rest' line line' b.0 earlier earlier' one other (tails first first' (before ++ line ∷ rest) (before' ++ line' ∷ rest') e)
       (subst (λ claims. AddClaims signature (number + 1) before claims earlier) after a.2) b.2 says says'
-      (subst (λ (n : ℕ). IsFaultOf signature earlier line n one) at why) (subst (λ (n : ℕ). IsFaultOf signature earlier' line' n other) at' why')
+      (subst (λ (n : ℕ). IsClaimFault signature earlier line n one) at why) (subst (λ (n : ℕ). IsClaimFault signature earlier' line' n other) at' why')
 
   all_or_fault : (number : ℕ) (before rest lines : List (List ℕ)) (line : List ℕ) (old earlier all : List Weight) (at : ℕ) (fault : KeepFault) → lines ≡ before ++ line ∷ rest → AddClaims signature number before old earlier → AddClaims signature number lines old all → ¬ SaysNothing line
-      → IsFaultOf signature earlier line at fault → ⊥
+      → IsClaimFault signature earlier line at fault → ⊥
   all_or_fault number [] rest [] line old earlier all at fault e a b says why = absurd cc
   all_or_fault number [] rest (first ∷ lines) line old earlier all at fault e a b says why =
-      adds_or_fault old b.0 line number at fault (subst (λ l. AddsLine signature number l old b.0) (heads first line lines rest e) b.1) says (subst (λ claims. IsFaultOf signature claims line at fault) a why)
+      adds_or_fault old b.0 line number at fault (subst (λ l. AddsLine signature number l old b.0) (heads first line lines rest e) b.1) says (subst (λ claims. IsClaimFault signature claims line at fault) a why)
   all_or_fault number (first ∷ before) rest [] line old earlier all at fault e a b says why = absurd cc
   all_or_fault number (first ∷ before) rest (first' ∷ lines) line old earlier all at fault e a b says why =
       let same = heads first' first lines (before ++ line ∷ rest) e in
@@ -235,7 +235,7 @@ module _ (program : Parts) (differ : AllDiffer (map (λ decl. decl.name) program
   pub one_first : (one other : KeepFault) → HasFault program bytes one → HasFault program bytes other → one ≡ other
   one_first one other a b =
       first_fault program.signature differ 1 a.before b.before a.rest b.rest a.line b.line [] a.earlier b.earlier one other (sym a.cut ∙ b.cut) a.add b.add a.says b.says
-      (subst (λ (n : ℕ). IsFaultOf program.signature a.earlier a.line n one) (turn (length a.before)) a.why) (subst (λ (n : ℕ). IsFaultOf program.signature b.earlier b.line n other) (turn (length b.before)) b.why)
+      (subst (λ (n : ℕ). IsClaimFault program.signature a.earlier a.line n one) (turn (length a.before)) a.why) (subst (λ (n : ℕ). IsClaimFault program.signature b.earlier b.line n other) (turn (length b.before)) b.why)
     where
       turn : (n : ℕ) → n + 1 ≡ 1 + n
       turn n = omega arith

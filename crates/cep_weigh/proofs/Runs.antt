@@ -14,7 +14,7 @@ use Rattle.cep_rule.specs.Step.{Step}
 use Rattle.cep_weigh.specs.declared.weight.Claim.{Claim}
 use Rattle.cep_weigh.specs.declared.weight.Claim.TheVariants.{Keep, Most, Fall}
 use Rattle.cep_weigh.specs.declared.weight.Part.{Part}
-use Rattle.cep_weigh.specs.Weights.{copies_of, used_of, made_of, weight_of, left_sum, right_sum, Wants, IsKept, AreOfLinear, AreNotNegative}
+use Rattle.cep_weigh.specs.Weights.{copies_of_pred, used_of, made_of, weight_of, left_sum, right_sum, Wants, AllKeepTo, AreOfLinear, AreNotNegative}
 use Rattle.cep_weigh.specs.WeightRuns.{Follows, IsRun, GoesAsClaimed}
 use Rattle.cep_weigh.proofs.Sides.{IsLinear, step_copies}
 use Rattle.cep_weigh.proofs.Sums.{weighed_alike, by_difference, wants_states, weighed_not_negative}
@@ -22,10 +22,10 @@ use Rattle.cep_weigh.proofs.Sums.{weighed_alike, by_difference, wants_states, we
 pub step_weights : BagLaws → (signature : Signature) (parts : List Part) (rule : Rule) (values : List Tree) (old new : Multiset) → AreOfLinear signature parts → Step signature rule values old new → weight_of parts new ≡ weight_of parts old +ℤ (right_sum parts rule -ℤ left_sum parts rule)
 step_weights laws signature parts rule values old new linear step =
     by_difference _ _ _ _
-    (weighed_alike parts (copies_of new) (used_of rule) (copies_of old) (made_of rule)
+    (weighed_alike parts (copies_of_pred new) (used_of rule) (copies_of_pred old) (made_of rule)
     (all_weaker (λ (part : Part). IsLinear signature part.pred) _ parts (λ part is. step_copies laws signature part.pred is rule values old new step) linear))
 
-module _ (program : Parts) (claim : Claim) (parts : List Part) (changes : (rule : Rule) (values : List Tree) (old new : Multiset) → Step program.signature rule values old new → weight_of parts new ≡ weight_of parts old +ℤ (right_sum parts rule -ℤ left_sum parts rule)) (kept : IsKept program claim parts) where
+module _ (program : Parts) (claim : Claim) (parts : List Part) (changes : (rule : Rule) (values : List Tree) (old new : Multiset) → Step program.signature rule values old new → weight_of parts new ≡ weight_of parts old +ℤ (right_sum parts rule -ℤ left_sum parts rule)) (kept : AllKeepTo program claim parts) where
   pub run_claimed : (state : Multiset) (run : List Multiset) → IsRun program state run → GoesAsClaimed claim parts state run
   run_claimed state [] is = tt
   run_claimed state (next ∷ later) is =
@@ -51,5 +51,5 @@ one_step : (n : ℕ) (x y : ℤ) → pos n ≤ℤ x → x <ℤ y → pos (suc n)
 one_step n x y p q = omega (arith, ints)
 
 pub run_ends : (parts : List Part) (state : Multiset) (run : List Multiset) → AreNotNegative parts → GoesAsClaimed Fall parts state run → pos (length run) ≤ℤ weight_of parts state
-run_ends parts state [] some goes = weighed_not_negative parts (copies_of state) some
+run_ends parts state [] some goes = weighed_not_negative parts (copies_of_pred state) some
 run_ends parts state (next ∷ later) some goes = one_step (length later) _ _ (run_ends parts next later some goes.1) goes.0

@@ -16,7 +16,7 @@ use Rattle.cep_rule.specs.Binding.{needed_of}
 use Rattle.cep_rule.specs.Typing.{is_fact}
 use Rattle.cep_rule.specs.Instances.{full_instance, full_instances, kept_of}
 use Rattle.cep_rule.specs.Step.{Step}
-use Rattle.cep_weigh.specs.Weights.{copies_of, used_of, made_of}
+use Rattle.cep_weigh.specs.Weights.{copies_of_pred, used_of, made_of}
 use Rattle.cep_weigh.proofs.CopiesOf.{copies_sum, copies_gathered, copies_once}
 
 -- The predicate is declared and linear.
@@ -43,12 +43,12 @@ instance_preds values pred (a ∷ atoms) =
     omega (arith, instance_preds values pred atoms)
 
 module _ (laws : BagLaws) (signature : Signature) (pred : ℕ) (linear : IsLinear signature pred) where
-  side_copies : (values : List Tree) (atoms : List AtomTree) (rest : Multiset) → copies_of (once (is_fact signature) (sum_of (once (is_fact signature) (gathered (full_instances values atoms))) rest)) pred ≡ count_by (of_pred pred) atoms + copies_of rest pred
+  side_copies : (values : List Tree) (atoms : List AtomTree) (rest : Multiset) → copies_of_pred (once (is_fact signature) (sum_of (once (is_fact signature) (gathered (full_instances values atoms))) rest)) pred ≡ count_by (of_pred pred) atoms + copies_of_pred rest pred
   side_copies values atoms rest =
       let apart = linear_is_no_fact signature pred linear in
       copies_once (is_fact signature) pred apart _
       ∙ copies_sum laws (once (is_fact signature) (gathered (full_instances values atoms))) rest pred
-      ∙ ap (λ n. n + copies_of rest pred) (copies_once (is_fact signature) pred apart _ ∙ copies_gathered laws (full_instances values atoms) pred ∙ instance_preds values pred atoms)
+      ∙ ap (λ n. n + copies_of_pred rest pred) (copies_once (is_fact signature) pred apart _ ∙ copies_gathered laws (full_instances values atoms) pred ∙ instance_preds values pred atoms)
 
   abbrev atom_in : PremiseTree → AtomTree
   atom_in premise = premise.atom
@@ -87,9 +87,9 @@ module _ (laws : BagLaws) (signature : Signature) (pred : ℕ) (linear : IsLinea
       by false false false apart rest needed kept used = omega arith
 
   -- a step takes what is used up, and puts what is made
-  pub step_copies : (rule : Rule) (values : List Tree) (old new : Multiset) → Step signature rule values old new → copies_of new pred + used_of rule pred ≡ copies_of old pred + made_of rule pred
+  pub step_copies : (rule : Rule) (values : List Tree) (old new : Multiset) → Step signature rule values old new → copies_of_pred new pred + used_of rule pred ≡ copies_of_pred old pred + made_of rule pred
   step_copies rule values old new step =
-      let before : copies_of old pred ≡ count_by (of_pred pred) (needed_of rule) + copies_of step.rest pred = ap (λ (bag : Multiset). copies_of bag pred) step.before ∙ side_copies values (needed_of rule) step.rest in
-      let after : copies_of new pred ≡ count_by (of_pred pred) (rule.right ++ kept_of signature rule) + copies_of step.rest pred = ap (λ (bag : Multiset). copies_of bag pred) step.after ∙ side_copies values (rule.right ++ kept_of signature rule) step.rest in
+      let before : copies_of_pred old pred ≡ count_by (of_pred pred) (needed_of rule) + copies_of_pred step.rest pred = ap (λ (bag : Multiset). copies_of_pred bag pred) step.before ∙ side_copies values (needed_of rule) step.rest in
+      let after : copies_of_pred new pred ≡ count_by (of_pred pred) (rule.right ++ kept_of signature rule) + copies_of_pred step.rest pred = ap (λ (bag : Multiset). copies_of_pred bag pred) step.after ∙ side_copies values (rule.right ++ kept_of signature rule) step.rest in
       let both = sum_by-append (λ x. cond (of_pred pred x) 1 0) rule.right (kept_of signature rule) in
       omega (arith, parted rule.premises)

@@ -15,7 +15,7 @@ use Rattle.cep_weigh.specs.declared.fault.KeepFault.{KeepFault}
 use Rattle.cep_weigh.specs.declared.fault.KeepFault.TheVariants.{Keep, KeepName, KeepTwice, KeepSign}
 use Rattle.cep_weigh.specs.declared.written.NamedPart.{NamedPart}
 use Rattle.cep_weigh.specs.declared.written.Written.{Written}
-use Rattle.cep_weigh.specs.Weights.{IsFactor, AreApart, AreNotNegative}
+use Rattle.cep_weigh.specs.Weights.{IsFactor, HaveOwnPredicates, AreNotNegative}
 
 -- the lines of a file of claims: an LF ends a line, and a CR directly before it is dropped; the last line may lack its LF, and then keeps its CR
 abbrev pub claim_lines : List ℕ → List (List ℕ)
@@ -71,11 +71,11 @@ abbrev pub IsLinearNamed : Signature → ℕ → List ℕ → Type 0
 IsLinearNamed signature pred name = IsSomeAnd (slice_get signature.preds pred) (λ decl. (decl.name ≡ name) × (decl.kind ≡ Linear))
 
 -- The parts by numbers are these by names: each has the factor, and its predicate is linear and has the name.
-abbrev pub AreNumbered : Signature → List NamedPart → List Part → Type 0
-AreNumbered signature [] [] = Unit {0}
-AreNumbered signature [] (part ∷ sum) = ⊥
-AreNumbered signature (named ∷ parts) [] = ⊥
-AreNumbered signature (named ∷ parts) (part ∷ sum) = (part.factor ≡ named.factor) × IsLinearNamed signature part.pred named.name × AreNumbered signature parts sum
+abbrev pub AreResolved : Signature → List NamedPart → List Part → Type 0
+AreResolved signature [] [] = Unit {0}
+AreResolved signature [] (part ∷ sum) = ⊥
+AreResolved signature (named ∷ parts) [] = ⊥
+AreResolved signature (named ∷ parts) (part ∷ sum) = (part.factor ≡ named.factor) × IsLinearNamed signature part.pred named.name × AreResolved signature parts sum
 
 -- Some part's name is not that of a linear predicate.
 abbrev pub SomeIsUnknown : Signature → List NamedPart → Type 0
@@ -92,29 +92,29 @@ pub record IsClaimOf (signature : Signature) (earlier : List Weight) (line : Lis
   pub number_is : weight.line ≡ number
   pub claim_is : weight.claim ≡ written.claim
   pub name_is : weight.name ≡ written.name
-  pub numbered : AreNumbered signature written.parts weight.sum
+  pub numbered : AreResolved signature written.parts weight.sum
   pub fresh : ¬ IsNamedBefore earlier weight.name
-  pub apart : AreApart weight.sum
+  pub apart : HaveOwnPredicates weight.sum
   pub signs : weight.claim ≡ claim.Fall → AreNotNegative weight.sum
 
 -- The line is written as a claim, by names of linear predicates.
-pub record IsKnown (signature : Signature) (line : List ℕ) : Type 0 where
+pub record IsResolvedLine (signature : Signature) (line : List ℕ) : Type 0 where
   pub written : Written
   pub line_is : IsWrittenAs line written
   pub sum : List Part
-  pub numbered : AreNumbered signature written.parts sum
+  pub numbered : AreResolved signature written.parts sum
 
 -- An earlier claim has its name, or two of its parts are of one predicate.
-abbrev pub SaysTwice : {signature : Signature} {line : List ℕ} → List Weight → IsKnown signature line → Type 0
-SaysTwice earlier known = IsNamedBefore earlier known.written.name ⊎ ¬ AreApart known.sum
+abbrev pub SaysTwice : {signature : Signature} {line : List ℕ} → List Weight → IsResolvedLine signature line → Type 0
+SaysTwice earlier known = IsNamedBefore earlier known.written.name ⊎ ¬ HaveOwnPredicates known.sum
 
 -- After these earlier claims, the line with this number says no claim, and this is why: the first of these that holds. It is not written as a claim; a part's name is not that of a linear predicate; a name is said twice; or a weight that is to fall has a negative factor.
-abbrev pub IsFaultOf : Signature → List Weight → List ℕ → ℕ → KeepFault → Type 0
-IsFaultOf signature earlier line number (Keep at) = (at ≡ number) × ((written : Written) → ¬ IsWrittenAs line written)
-IsFaultOf signature earlier line number (KeepName at) = (at ≡ number) × ((written : Written) × IsWrittenAs line written × SomeIsUnknown signature written.parts)
-IsFaultOf signature earlier line number (KeepTwice at) = (at ≡ number) × ((known : IsKnown signature line) × SaysTwice earlier known)
-IsFaultOf signature earlier line number (KeepSign at) =
-    (at ≡ number) × ((known : IsKnown signature line) × (¬ SaysTwice earlier known) × (known.written.claim ≡ claim.Fall) × ¬ AreNotNegative known.sum)
+abbrev pub IsClaimFault : Signature → List Weight → List ℕ → ℕ → KeepFault → Type 0
+IsClaimFault signature earlier line number (Keep at) = (at ≡ number) × ((written : Written) → ¬ IsWrittenAs line written)
+IsClaimFault signature earlier line number (KeepName at) = (at ≡ number) × ((written : Written) × IsWrittenAs line written × SomeIsUnknown signature written.parts)
+IsClaimFault signature earlier line number (KeepTwice at) = (at ≡ number) × ((known : IsResolvedLine signature line) × SaysTwice earlier known)
+IsClaimFault signature earlier line number (KeepSign at) =
+    (at ≡ number) × ((known : IsResolvedLine signature line) × (¬ SaysTwice earlier known) × (known.written.claim ≡ claim.Fall) × ¬ AreNotNegative known.sum)
 
 -- After these earlier claims, a line that says nothing adds none, and each other one the claim that it says.
 abbrev pub AddsLine : Signature → ℕ → List ℕ → List Weight → List Weight → Type 0
@@ -140,4 +140,4 @@ pub record HasFault (program : Parts) (bytes : List ℕ) (fault : KeepFault) : T
   pub earlier : List Weight
   pub add : AddClaims program.signature 1 before [] earlier
   pub says : ¬ SaysNothing line
-  pub why : IsFaultOf program.signature earlier line (length before + 1) fault
+  pub why : IsClaimFault program.signature earlier line (length before + 1) fault

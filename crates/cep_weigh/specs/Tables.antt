@@ -6,7 +6,7 @@ use Rattle.cep_base.specs.FirstNames.{has_name, under_name}
 use Rattle.cep_rule.specs.declared.signature.Signature.{Signature}
 use Rattle.cep_weigh.specs.declared.weight.Part.{Part}
 use Rattle.cep_weigh.specs.declared.weight.Weight.{Weight}
-use Rattle.cep_weigh.specs.Weights.{IsFactor, AreApart}
+use Rattle.cep_weigh.specs.Weights.{IsFactor, HaveOwnPredicates}
 use Rattle.cep_weigh.specs.Claims.{IsLinearNamed, IsNamedBefore}
 
 -- The table has the linear predicates of the signature among the first so many, by their names.
@@ -24,5 +24,5 @@ NamesClaims weights table = (name : List ℕ) → IsTrue (has_name table name) �
 
 -- The parts are of different predicates, with factors that are such.
 pub record AreFactors (parts : List Part) : Type 0 where
-  pub apart : AreApart parts
+  pub apart : HaveOwnPredicates parts
   pub factors : AllByRecursion (λ part. IsFactor part.factor) parts

@@ -9,7 +9,7 @@ use Rattle.cep_rule.specs.Step.{Step}
 use Rattle.cep_weigh.specs.declared.weight.Claim.{Claim}
 use Rattle.cep_weigh.specs.declared.weight.Claim.TheVariants.{Keep, Most, Fall}
 use Rattle.cep_weigh.specs.declared.weight.Part.{Part}
-use Rattle.cep_weigh.specs.Weights.{weight_of, copies_of, Wants, ArePositive}
+use Rattle.cep_weigh.specs.Weights.{weight_of, copies_of_pred, Wants, ArePositive}
 
 -- One state follows another: by a step of some rule of the program, with some values for its variables.
 pub record Follows (program : Parts) (old new : Multiset) : Type 0 where
@@ -38,7 +38,7 @@ HoldsOfRun Fall parts state run = pos (length run) ≤ℤ weight_of parts state
 abbrev pub BoundsCopies : List Part → Multiset → List Multiset → Type 0
 BoundsCopies parts state run =
     (part : Part) (later : Multiset) (weight factor : ℕ) → Contains parts part → part.factor ≡ pos factor → weight_of parts state ≡ pos weight
-    → Contains (state ∷ run) later → copies_of later part.pred ≤ weight / factor
+    → Contains (state ∷ run) later → copies_of_pred later part.pred ≤ weight / factor
 
 -- A claim holds: of each run from the start, and where all factors are positive it bounds the copies in each.
 pub record HoldsOfRuns (program : Parts) (claim : Claim) (parts : List Part) : Type 0 where

@@ -20,8 +20,8 @@ weighed [] count = pos 0
 weighed (part ∷ parts) count = (part.factor *ℤ pos (count part.pred)) +ℤ weighed parts count
 
 -- how many copies of atoms of the predicate there are
-abbrev pub copies_of : Multiset → ℕ → ℕ
-copies_of state pred = sum_by (λ e. if e.0.pred == pred then e.1 else 0) (finite.entries state)
+abbrev pub copies_of_pred : Multiset → ℕ → ℕ
+copies_of_pred state pred = sum_by (λ e. if e.0.pred == pred then e.1 else 0) (finite.entries state)
 
 -- how many premises of the predicate the rule has that are not kept
 abbrev pub used_of : Rule → ℕ → ℕ
@@ -33,7 +33,7 @@ made_of rule pred = count_by (λ a. a.pred == pred) rule.right
 
 -- the weight of a state
 abbrev pub weight_of : List Part → Multiset → ℤ
-weight_of parts state = weighed parts (copies_of state)
+weight_of parts state = weighed parts (copies_of_pred state)
 
 -- the left sum of a rule
 abbrev pub left_sum : List Part → Rule → ℤ
@@ -54,8 +54,8 @@ abbrev pub KeepsTo : Claim → List Part → Rule → Type 0
 KeepsTo claim parts rule = Wants claim (left_sum parts rule) (right_sum parts rule)
 
 -- Each rule keeps to the claim.
-abbrev pub IsKept : Parts → Claim → List Part → Type 0
-IsKept program claim parts = AllByRecursion (KeepsTo claim parts) program.rules
+abbrev pub AllKeepTo : Parts → Claim → List Part → Type 0
+AllKeepTo program claim parts = AllByRecursion (KeepsTo claim parts) program.rules
 
 -- The rule with this number is the first that does not keep to the claim, and these are its sums.
 pub record IsFirstAgainst (program : Parts) (claim : Claim) (parts : List Part) (against : Against) : Type 0 where
@@ -77,9 +77,9 @@ abbrev pub AreOfLinear : Signature → List Part → Type 0
 AreOfLinear signature parts = AllByRecursion (λ part. IsSomeAnd (slice_get signature.preds part.pred) (λ pred. pred.kind ≡ Linear)) parts
 
 -- No two parts are of one predicate.
-abbrev pub AreApart : List Part → Type 0
-AreApart [] = Unit {0}
-AreApart (part ∷ parts) = AllByRecursion (λ later. ¬ (later.pred ≡ part.pred)) parts × AreApart parts
+abbrev pub HaveOwnPredicates : List Part → Type 0
+HaveOwnPredicates [] = Unit {0}
+HaveOwnPredicates (part ∷ parts) = AllByRecursion (λ later. ¬ (later.pred ≡ part.pred)) parts × HaveOwnPredicates parts
 
 -- No factor is negative.
 abbrev pub AreNotNegative : List Part → Type 0
@@ -92,7 +92,7 @@ ArePositive parts = AllByRecursion (λ part. pos 0 <ℤ part.factor) parts
 -- A weight of a program: each part is of a linear predicate, no two are of one, each factor is one, and none is negative where the weight is to fall.
 pub record IsWeightOf (program : Parts) (weight : Weight) : Type 0 where
   pub linear : AreOfLinear program.signature weight.sum
-  pub apart : AreApart weight.sum
+  pub apart : HaveOwnPredicates weight.sum
   pub factors : AllByRecursion (λ part. IsFactor part.factor) weight.sum
   pub signs : weight.claim ≡ Fall → AreNotNegative weight.sum
 

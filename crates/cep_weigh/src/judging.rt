@@ -1,7 +1,7 @@
 ghost use Rattle.std.specs.Prelude.{◌≡◌, ◌≤◌, ◌+◌, ◌*◌, ◌↔◌, length, slice_get, Some, IsTrue, IfSome, IfNone, MatchOption, pos, neg_ℤ, ◌*ℤ◌, ◌≤ℤ◌, if◌then◌else◌};
 ghost use Rattle.cep_rule.specs.Patterns.{premise_of};
 ghost use Rattle.cep_base.specs.declared.limits.TheConstants.{MOST_PREMISES, MOST_RIGHT};
-ghost use Rattle.cep_weigh.specs.Weights.{weight_of, left_sum, right_sum, factor_of, Wants, IsKept, IsFirstAgainst, IsWeightOf};
+ghost use Rattle.cep_weigh.specs.Weights.{weight_of, left_sum, right_sum, factor_of, Wants, AllKeepTo, IsFirstAgainst, IsWeightOf};
 ghost use Rattle.cep_weigh.specs.WeightRuns.{HoldsOfRuns, BreaksSteps};
 ghost use Rattle.cep_weigh.specs.Tables.{AreFactors};
 
@@ -18,7 +18,7 @@ use cep_rule::{Premise, Program, Rule};
 pub fn judge(program: &Program, weight: &Weight) -> Option<Against>
     requires { IsWeightOf program.now weight.now }
     ensures rule { MatchOption result
-        (IsKept program.now weight.now.claim weight.now.sum)
+        (AllKeepTo program.now weight.now.claim weight.now.sum)
         (IsFirstAgainst program.now weight.now.claim weight.now.sum) }
     ensures runs { IfNone result (HoldsOfRuns program.now weight.now.claim weight.now.sum) }
     ensures broken { IfSome result

@@ -10,7 +10,7 @@ ghost use Rattle.cep_rule.specs.Program.{IsProgram};
 ghost use Rattle.cep_weigh.specs.declared.weight.Claim.{Claim};
 ghost use Rattle.cep_weigh.specs.declared.weight.Claim.TheVariants.{Fall};
 ghost use Rattle.cep_weigh.specs.declared.weight.Part.{Part};
-ghost use Rattle.cep_weigh.specs.Weights.{weight_of, left_sum, right_sum, Wants, KeepsTo, IsKept, AreOfLinear, AreNotNegative, factors_of};
+ghost use Rattle.cep_weigh.specs.Weights.{weight_of, left_sum, right_sum, Wants, KeepsTo, AllKeepTo, AreOfLinear, AreNotNegative, factors_of};
 ghost use Rattle.cep_weigh.specs.WeightRuns.{HoldsOfRuns};
 ghost use Rattle.cep_weigh.specs.Claims.{HasClaims, HasFault};
 ghost use Rattle.cep_weigh.specs.declared.weight.Weight.{Weight};
@@ -36,7 +36,7 @@ pub fn claims_hold_of_runs()
     ensures kept { (program : Parts) (claim : Claim) (parts : List Part)
         → AreOfLinear program.signature parts
         → (claim ≡ Fall → AreNotNegative parts)
-        → IsKept program claim parts
+        → AllKeepTo program claim parts
         → HoldsOfRuns program claim parts }
     ensures broken { (signature : Signature) (claim : Claim) (parts : List Part) (rule : Rule)
         (values : List Tree) (old new : Multiset)

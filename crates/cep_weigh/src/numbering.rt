@@ -3,8 +3,8 @@ ghost use Rattle.std.specs.Prelude.{◌≡◌, ◌≤◌, ◌↔◌, length, IsT
 ghost use Rattle.cep_rule.specs.declared.signature.Signature.{Signature};
 ghost use Rattle.cep_base.specs.declared.kind.PredKind.TheVariants.{Linear};
 ghost use Rattle.cep_base.specs.declared.limits.TheConstants.{MOST_PREDS};
-ghost use Rattle.cep_weigh.specs.Weights.{AreApart, AreNotNegative};
-ghost use Rattle.cep_weigh.specs.Claims.{AreNumbered, SomeIsUnknown};
+ghost use Rattle.cep_weigh.specs.Weights.{HaveOwnPredicates, AreNotNegative};
+ghost use Rattle.cep_weigh.specs.Claims.{AreResolved, SomeIsUnknown};
 ghost use Rattle.cep_weigh.specs.Tables.{NamesLinear, NamesLinearBelow};
 
 use crate::weight::{Part, WeightParts};
@@ -56,7 +56,7 @@ pub(crate) fn numbered(
     parts: &[NamedPart],
 ) -> Result<Option<WeightParts>, AllocError>
     requires { NamesLinear signature.now linear.now }
-    ensures some { IfOk result (λ read. IfSome read (AreNumbered signature.now parts.now)) }
+    ensures some { IfOk result (λ read. IfSome read (AreResolved signature.now parts.now)) }
     ensures none { IfOk result (λ read. IfNone read (SomeIsUnknown signature.now parts.now)) }
 {
     let _ = signature;
@@ -75,7 +75,7 @@ pub(crate) fn numbered(
 
 // Whether no two parts are of one predicate.
 pub(crate) fn are_apart(parts: &[Part]) -> bool
-    ensures { IsTrue result ↔ AreApart parts.now }
+    ensures { IsTrue result ↔ HaveOwnPredicates parts.now }
 {
     match parts {
         [] => true,

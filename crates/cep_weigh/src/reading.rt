@@ -3,7 +3,7 @@ ghost use Rattle.std.specs.Prelude.{◌≡◌, ◌≤◌, ◌↔◌, length, IfO
 ghost use Rattle.std.specs.List.{AllByRecursion};
 ghost use Rattle.cep_weigh.specs.declared.weight.Claim.TheVariants.{Fall};
 ghost use Rattle.cep_weigh.specs.Weights.{IsWeightOf};
-ghost use Rattle.cep_weigh.specs.Claims.{SaysNothing, IsClaimOf, IsFaultOf, AddsLine, HasClaims, HasFault};
+ghost use Rattle.cep_weigh.specs.Claims.{SaysNothing, IsClaimOf, IsClaimFault, AddsLine, HasClaims, HasFault};
 ghost use Rattle.cep_weigh.specs.Tables.{NamesLinear};
 
 use crate::claims::Claims;
@@ -70,7 +70,7 @@ fn after_line(
     ensures fault { IfOk result
         (λ read. IfErr read
         (λ fault. (¬ SaysNothing line.now)
-        × IsFaultOf signature.now claims line.now number fault)) }
+        × IsClaimFault signature.now claims line.now number fault)) }
 {
     if says_nothing(line) {
         return Ok(Ok(claims));
@@ -94,7 +94,7 @@ fn claim_of(
     ensures claim { IfOk result
         (λ read. IfOk read (IsClaimOf signature.now claims.now line.now number)) }
     ensures fault { IfOk result
-        (λ read. IfErr read (IsFaultOf signature.now claims.now line.now number)) }
+        (λ read. IfErr read (IsClaimFault signature.now claims.now line.now number)) }
 {
     let Some(written) = written_as(alloc, line)? else {
         return Ok(Err(KeepFault::Keep { line: number }));

@@ -16,7 +16,7 @@ use Rattle.cep_rule.specs.TypeLaws.{TypeLaws}
 use Rattle.cep_rule.specs.Program.{IsTypedRule, IsDividedRule}
 
 -- What instances of rules are, and that steps are there and lead to states.
-pub record StepLaws : Type 0 where
+pub record RoundLaws : Type 0 where
   pub bags : BagLaws
   pub types : TypeLaws
   pub left : (signature : Signature) (rule : Rule) (values : List Tree)
