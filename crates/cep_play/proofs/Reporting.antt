@@ -33,7 +33,8 @@ use Rattle.cep_weigh.specs.declared.weight.Against.{Against}
 use Rattle.cep_weigh.specs.Weights.{KeepsTo, AllKeepTo, IsFirstAgainst}
 use Rattle.cep_weigh.specs.Claims.{HasClaims, HasFault}
 use Rattle.cep_words.specs.declared.request.Task.{Task}
-use Rattle.cep_words.specs.declared.request.Task.TheVariants.{Check, Renew, Cause, Again, Weigh}
+use Rattle.cep_words.specs.declared.request.Task.TheVariants.{Check, Renew, Again, Weigh}
+use Rattle.cep_words.specs.declared.request.Task.TheVariants as tasks
 use Rattle.cep_play.specs.Command.{refusal_text}
 use Rattle.cep_play.specs.Outside.{Report, line_report, IsRefusal}
 use Rattle.cep_play.specs.Check.{IsLegalTranscript, Rejects, too_long_text}
@@ -134,10 +135,10 @@ one_code Renew program bytes one other reads (inr (inl (text, rejects, same))) (
 one_code Renew program bytes one other reads (inr (inl (text, rejects, same))) (inr (inr (long, same'))) = ap code same ∙ sym (ap code same')
 one_code Renew program bytes one other reads (inr (inr (long, same))) (inr (inl (text, rejects, same'))) = ap code same ∙ sym (ap code same')
 one_code Renew program bytes one other reads (inr (inr (long, same))) (inr (inr (long', same'))) = ap code same ∙ sym (ap code same')
-one_code Cause program bytes one other reads (inl (log, legal, (causes, graph, same))) (inl (log', legal', (causes', graph', same'))) = ap code same ∙ sym (ap code same')
-one_code Cause program bytes one other reads (inl (log, legal, is)) (inr (text, rejects, same)) = absurd (rejects.no_legal log legal)
-one_code Cause program bytes one other reads (inr (text, rejects, same)) (inl (log, legal, is)) = absurd (rejects.no_legal log legal)
-one_code Cause program bytes one other reads (inr (text, rejects, same)) (inr (text', rejects', same')) = ap code same ∙ sym (ap code same')
+one_code tasks.Cause program bytes one other reads (inl (log, legal, (causes, graph, same))) (inl (log', legal', (causes', graph', same'))) = ap code same ∙ sym (ap code same')
+one_code tasks.Cause program bytes one other reads (inl (log, legal, is)) (inr (text, rejects, same)) = absurd (rejects.no_legal log legal)
+one_code tasks.Cause program bytes one other reads (inr (text, rejects, same)) (inl (log, legal, is)) = absurd (rejects.no_legal log legal)
+one_code tasks.Cause program bytes one other reads (inr (text, rejects, same)) (inr (text', rejects', same')) = ap code same ∙ sym (ap code same')
 one_code (Again seed) program bytes one other reads (inl (log, legal, is)) (inl (log', legal', is')) = one_reordering program bytes log log' _ one other reads legal legal' is is'
 one_code (Again seed) program bytes one other reads (inl (log, legal, is)) (inr (text, rejects, same)) = absurd (rejects.no_legal log legal)
 one_code (Again seed) program bytes one other reads (inr (text, rejects, same)) (inl (log, legal, is)) = absurd (rejects.no_legal log legal)
@@ -151,8 +152,8 @@ low_code Check program bytes report (inr (text, rejects, same)) = omega (arith, 
 low_code Renew program bytes report (inl (text, renews, same)) = omega (arith, ap code same)
 low_code Renew program bytes report (inr (inl (text, rejects, same))) = omega (arith, ap code same)
 low_code Renew program bytes report (inr (inr (long, same))) = omega (arith, ap code same)
-low_code Cause program bytes report (inl (log, legal, (causes, graph, same))) = omega (arith, ap code same)
-low_code Cause program bytes report (inr (text, rejects, same)) = omega (arith, ap code same)
+low_code tasks.Cause program bytes report (inl (log, legal, (causes, graph, same))) = omega (arith, ap code same)
+low_code tasks.Cause program bytes report (inr (text, rejects, same)) = omega (arith, ap code same)
 low_code (Again seed) program bytes report (inl (log, legal, (reordered, by, same))) = omega (arith, ap code same, low_reordered reordered)
 low_code (Again seed) program bytes report (inr (text, rejects, same)) = omega (arith, ap code same)
 low_code Weigh program bytes report (inl (long, same)) = omega (arith, ap code same)
@@ -163,7 +164,7 @@ low_code Weigh program bytes report (inr (inr (weights, short, has, is))) = omeg
 why_reported : (task : Task) (program : Parts) (bytes : List ℕ) (report : Report) → ¬ (task ≡ Weigh) → ReportsWhy program bytes report → Reports task program bytes report
 why_reported Check program bytes report of_log why = inr why
 why_reported Renew program bytes report of_log why = inr (inl why)
-why_reported Cause program bytes report of_log why = inr why
+why_reported tasks.Cause program bytes report of_log why = inr why
 why_reported (Again seed) program bytes report of_log why = inr why
 why_reported Weigh program bytes report of_log why = absurd (of_log refl)
 
@@ -200,7 +201,7 @@ module _ (program : Parts) (bytes : List ℕ) (log : Log) (short : length bytes 
     legal_reported : (task : Task) (report : Report) → IsLegal program log → IsLegalReport task program log report → Reports task program bytes report
     legal_reported Check report legal (verdict, is, same) = subst (Reports Check program bytes) (sym same) (verdict_reported verdict is)
     legal_reported Renew report legal is = renewal_reported report legal is
-    legal_reported Cause report legal is = inl (log, (short, has, legal), is)
+    legal_reported tasks.Cause report legal is = inl (log, (short, has, legal), is)
     legal_reported (Again seed) report legal is = inl (log, (short, has, legal), is)
     legal_reported Weigh report legal is = absurd is
 
@@ -223,7 +224,7 @@ too_many program bytes long = record { no_legal = λ log legal. (let short = leg
 pub long_reported : (task : Task) (program : Parts) (bytes : List ℕ) → most_of task < length bytes → Reports task program bytes (line_report too_long_text 1)
 long_reported Check program bytes long = inr (too_long_text, too_many program bytes long, refl)
 long_reported Renew program bytes long = inr (inl (too_long_text, too_many program bytes long, refl))
-long_reported Cause program bytes long = inr (too_long_text, too_many program bytes long, refl)
+long_reported tasks.Cause program bytes long = inr (too_long_text, too_many program bytes long, refl)
 long_reported (Again seed) program bytes long = inr (too_long_text, too_many program bytes long, refl)
 long_reported Weigh program bytes long = inl (long, refl)
 
