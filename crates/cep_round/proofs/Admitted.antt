@@ -1,0 +1,144 @@
+-- Offers and flags that are gone through one by one.
+use Rattle.std.proofs.Common.{◌≡◌, ℕ, zero, suc, ◌+◌, ◌-◌, ◌≤◌, ◌<◌, ◌^◌, Bool, true, false, List, [], ◌∷◌, ◌++◌, length, take, Some, slice_get, refl, sym, ap, append-nil, arith}
+use Rattle.std.specs.List.{AllByRecursion, flat_map}
+use Rattle.std.proofs.lemmas.Grind.{flat_map-append}
+use Rattle.std.specs.FinMap as finite
+use Rattle.cep_base.specs.declared.limits.TheConstants.{MOST_COPIES}
+use Rattle.cep_term.specs.Tree.{AtomTree, IsGroundAtom}
+use Rattle.cep_term.specs.BagLaws.{BagLaws}
+use Rattle.cep_term.specs.Multiset.{Multiset, count_of, gathered, difference_of, copies_in, IsContained, IsBag, IsOnce, held}
+use Rattle.cep_rule.specs.declared.parts.Parts.{Parts}
+use Rattle.cep_rule.specs.declared.offer.Offer.{Offer}
+use Rattle.cep_rule.specs.declared.signature.Signature.{Signature}
+use Rattle.cep_rule.specs.Typing.{is_fact}
+use Rattle.cep_rule.specs.State.{joined, Fits}
+use Rattle.cep_round.specs.Rounds.{needs, used_with, used_after, AreAdmitted, admitted, all_need, all_give, Together}
+use Rattle.cep_round.proofs.Counts.{join_count}
+
+pub as_many_flags : (program : Parts) (state used : Multiset) (offers : List Offer) (flags : List Bool) → AreAdmitted program state used offers flags → length flags ≡ length offers
+as_many_flags program state used [] [] are = refl
+as_many_flags program state used [] (flag ∷ flags) are = absurd are
+as_many_flags program state used (offer ∷ offers) [] are = absurd are
+as_many_flags program state used (offer ∷ offers) (true ∷ flags) are = ap suc (as_many_flags program state (used_with program used offer) offers flags are.1)
+as_many_flags program state used (offer ∷ offers) (false ∷ flags) are = ap suc (as_many_flags program state used offers flags are.1)
+
+-- one offer more, which is admitted or blocked
+next_by_suc : (offers : List Offer) (flags : List Bool) (n : ℕ) (offer : Offer) → slice_get offers n ≡ Some offer → slice_get flags n ≡ Some true
+    → admitted (take (suc n) offers) (take (suc n) flags) ≡ admitted (take n offers) (take n flags) ++ offer ∷ []
+next_by_suc [] flags n offer is is' = absurd cc
+next_by_suc (first ∷ offers) [] n offer is is' = absurd cc
+next_by_suc (first ∷ offers) (true ∷ flags) zero offer is is' = grind arith
+next_by_suc (first ∷ offers) (false ∷ flags) zero offer is is' = grind arith
+next_by_suc (first ∷ offers) (true ∷ flags) (suc n) offer is is' = ap (λ more. first ∷ more) (next_by_suc offers flags n offer is is')
+next_by_suc (first ∷ offers) (false ∷ flags) (suc n) offer is is' = next_by_suc offers flags n offer is is'
+
+same_by_suc : (offers : List Offer) (flags : List Bool) (n : ℕ) → slice_get flags n ≡ Some false → admitted (take (suc n) offers) (take (suc n) flags) ≡ admitted (take n offers) (take n flags)
+same_by_suc [] flags zero is = refl
+same_by_suc [] flags (suc n) is = refl
+same_by_suc (first ∷ offers) [] n is = absurd cc
+same_by_suc (first ∷ offers) (true ∷ flags) zero is = grind arith
+same_by_suc (first ∷ offers) (false ∷ flags) zero is = grind arith
+same_by_suc (first ∷ offers) (true ∷ flags) (suc n) is = ap (λ more. first ∷ more) (same_by_suc offers flags n is)
+same_by_suc (first ∷ offers) (false ∷ flags) (suc n) is = same_by_suc offers flags n is
+
+pub next_admitted : (offers : List Offer) (flags : List Bool) (n : ℕ) (offer : Offer) → slice_get offers n ≡ Some offer → slice_get flags n ≡ Some true
+    → admitted (take (n + 1) offers) (take (n + 1) flags) ≡ admitted (take n offers) (take n flags) ++ offer ∷ []
+next_admitted offers flags n offer is is' = let e : n + 1 ≡ suc n = omega arith in rw e (next_by_suc offers flags n offer is is')
+
+pub next_blocked : (offers : List Offer) (flags : List Bool) (n : ℕ) → slice_get flags n ≡ Some false → admitted (take (n + 1) offers) (take (n + 1) flags) ≡ admitted (take n offers) (take n flags)
+next_blocked offers flags n is = let e : n + 1 ≡ suc n = omega arith in rw e (same_by_suc offers flags n is)
+
+pub few_admitted : (offers : List Offer) (flags : List Bool) → length (admitted offers flags) ≤ length offers
+few_admitted [] flags = omega arith
+few_admitted (offer ∷ offers) [] = omega arith
+few_admitted (offer ∷ offers) (true ∷ flags) = let few = few_admitted offers flags in omega arith
+few_admitted (offer ∷ offers) (false ∷ flags) = let few = few_admitted offers flags in omega arith
+
+held_few : (t : Bool) (n m : ℕ) → t ≡ true → n ≡ held t m → n ≤ 1
+held_few t n m is e = grind arith
+
+module _ (laws : BagLaws) (program : Parts) where
+  joined_once : (x y : Multiset) → IsOnce (is_fact program.signature) (joined program.signature x y)
+  joined_once x y a is = held_few (is_fact program.signature a) _ _ is (join_count laws program x y a)
+
+  pub used_once : (used : Multiset) (offers : List Offer) (flags : List Bool) → IsOnce (is_fact program.signature) used → IsOnce (is_fact program.signature) (used_after program used offers flags)
+  used_once used [] flags once = once
+  used_once used (offer ∷ offers) [] once = once
+  used_once used (offer ∷ offers) (true ∷ flags) once = used_once (used_with program used offer) offers flags (joined_once used (needs program offer))
+  used_once used (offer ∷ offers) (false ∷ flags) once = used_once used offers flags once
+
+  pub empty_once : IsOnce (is_fact program.signature) finite.empty
+  empty_once a is = let none = laws.empty a in omega arith
+
+  pub empty_within : (state : Multiset) → IsContained finite.empty state
+  empty_within state a = let none = laws.empty a in omega arith
+
+  pub used_within : (state used : Multiset) (offers : List Offer) (flags : List Bool) → AreAdmitted program state used offers flags → IsContained used state → IsContained (used_after program used offers flags) state
+  used_within state used [] [] are within = within
+  used_within state used [] (flag ∷ flags) are within = absurd are
+  used_within state used (offer ∷ offers) [] are within = absurd are
+  used_within state used (offer ∷ offers) (true ∷ flags) are within = used_within state (used_with program used offer) offers flags are.1 are.0
+  used_within state used (offer ∷ offers) (false ∷ flags) are within = used_within state used offers flags are.1 within
+
+-- what is contained in a state that fits has few copies
+pub few_copies : BagLaws → (part state : Multiset) → IsBag part → IsBag state → IsContained part state → Fits state → copies_in part ≤ MOST_COPIES
+few_copies laws part state bag bag' within fits =
+    let all = ap copies_in (laws.taken_and_added state part bag' bag within) in
+    let both = laws.sum_copies (difference_of state part) part in
+    let few = fits.copies in
+    omega arith
+
+-- adding the atoms of a side is adding the side
+same_joined : (t : Bool) (u n m : ℕ) → m ≡ held t n → held t (u + n) ≡ held t (u + m)
+same_joined t u n m e = grind arith
+
+pub joined_gathered : BagLaws → (program : Parts) (used side : Multiset) (atoms : List AtomTree) → IsBag used → IsBag side → IsBag (gathered atoms) → ((a : AtomTree) → count_of side a ≡ held (is_fact program.signature a) (count_of (gathered atoms) a))
+    → joined program.signature used (gathered atoms) ≡ joined program.signature used side
+joined_gathered laws program used side atoms bag side_bag atoms_bag same =
+    laws.equal (joined program.signature used (gathered atoms)) (joined program.signature used side)
+    (laws.once_kept (is_fact program.signature) _ (laws.sum_kept used (gathered atoms) bag atoms_bag))
+    (laws.once_kept (is_fact program.signature) _ (laws.sum_kept used side bag side_bag))
+    (λ a. rw (join_count laws program used (gathered atoms) a, join_count laws program used side a) (same_joined (is_fact program.signature a) (count_of used a) (count_of (gathered atoms) a) (count_of side a) (same a)))
+
+-- an exchange of all atoms at once is what the offers do together
+exchanged_count : (t : Bool) (s e n g l r new : ℕ) → e ≡ 0 → l ≡ held t n → r ≡ held t g → new ≡ held t (s - held t (e + n) + g) → new ≡ held t (s - l + r)
+exchanged_count t s e n g l r new none f h is = grind arith
+
+pub exchanged : BagLaws → (program : Parts) (offers : List Offer) (needed given : List AtomTree) (state new : Multiset)
+    → ((a : AtomTree) → count_of (all_need program offers) a ≡ held (is_fact program.signature a) (count_of (gathered needed) a))
+    → ((a : AtomTree) → count_of (all_give program offers) a ≡ held (is_fact program.signature a) (count_of (gathered given) a))
+    → IsContained (all_need program offers) state
+    → new ≡ joined program.signature (difference_of state (joined program.signature finite.empty (gathered needed))) (gathered given)
+    → Together program offers state new
+exchanged laws program offers needed given state new needs_are gives_are contained is = record {
+  contained = contained;
+  counts = λ a. exchanged_count (is_fact program.signature a) (count_of state a) (count_of finite.empty a) (count_of (gathered needed) a) (count_of (gathered given) a) (count_of (all_need program offers) a) (count_of (all_give program offers) a) (count_of new a)
+      (laws.empty a) (needs_are a) (gives_are a)
+      (rw (is, join_count laws program (difference_of state (joined program.signature finite.empty (gathered needed))) (gathered given) a, laws.difference, join_count laws program finite.empty (gathered needed) a) refl);
+}
+
+-- what is left of a state has no more copies than it
+pub few_left : BagLaws → (signature : Signature) (state : Multiset) (needed given : List AtomTree) → IsBag state → AllByRecursion IsGroundAtom needed → copies_in state + length given < 2 ^ 32
+    → (none taken copied left : Multiset) → none ≡ finite.empty → taken ≡ joined signature none (gathered needed) → copied ≡ state → left ≡ difference_of copied taken
+    → copies_in left + length given < 2 ^ 32
+few_left laws signature state needed given bag ground few none taken copied left none_is taken_is copied_is left_is =
+    let none_bag : IsBag none = rw none_is laws.empty_kept in
+    let taken_bag : IsBag taken = rw taken_is (laws.once_kept (is_fact signature) _ (laws.sum_kept none (gathered needed) none_bag (laws.gathered_kept needed ground))) in
+    let left_bag = laws.difference_kept state taken bag taken_bag in
+    let all = ap copies_in (laws.taken_and_added state (difference_of state taken) bag left_bag (λ a. let less = laws.difference state taken a in omega arith)) in
+    let both = laws.sum_copies (difference_of state (difference_of state taken)) (difference_of state taken) in
+    rw (left_is, copied_is) (omega arith)
+
+-- one offer more is gone through
+pub moved_on : (program : Parts) (state : Multiset) (offers offers' : List Offer) (flags flags' : List Bool) (used used' : Multiset) → offers ≡ offers' → flags ≡ flags' → used ≡ used'
+    → AreAdmitted program state finite.empty offers' flags' × (used_after program finite.empty offers' flags' ≡ used') → AreAdmitted program state finite.empty offers flags × (used ≡ used_after program finite.empty offers flags)
+moved_on program state offers offers' flags flags' used used' e f g grown = rw (e, f, g) (grown.0, sym grown.1)
+
+pub gathered_more : (side : Offer → List AtomTree) (offers next : List Offer) (offer : Offer) (old new : List AtomTree) → next ≡ offers ++ offer ∷ [] → old ≡ flat_map side offers → new ≡ old ++ side offer → new ≡ flat_map side next
+gathered_more side offers next offer old new longer so_far more = rw (more, so_far, longer, flat_map-append side offers (offer ∷ []), append-nil (side offer)) refl
+
+pub gathered_same : (side : Offer → List AtomTree) (offers next : List Offer) (old new : List AtomTree) → next ≡ offers → old ≡ flat_map side offers → new ≡ old → new ≡ flat_map side next
+gathered_same side offers next old new same so_far is = rw (is, so_far, same) refl
+
+pub true_not_false : true ≡ false → ⊥
+true_not_false e = cc

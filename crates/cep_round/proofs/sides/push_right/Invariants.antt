@@ -1,0 +1,6 @@
+use Rattle.std.proofs.Common.{◌≡◌, ◌++◌, take}
+use Rattle.cep_rule.specs.Instances.{full_instances}
+use Rattle.cep_round.proofs.sides.push_right.Given as goal
+
+abbrev pub invariant-loop-i : goal.invariant-loop-i
+invariant-loop-i l = l.atoms ≡ l.initial.atoms ++ full_instances l.values (take l.i l.rule.right)

@@ -1,0 +1,4 @@
+pub mod Rounds
+pub mod Orders
+pub mod Sides
+pub mod StepLaws
