@@ -19,7 +19,8 @@ use Rattle.cep_round.specs.declared.limits.TheConstants.{MOST_PLAYERS}
 abbrev pub offer_side : (Signature → Rule → List Tree → Multiset) → Parts → Offer → Multiset
 offer_side side program offer =
     unwrap_or
-    (option_map (λ rule. side program.signature rule offer.values) (slice_get program.rules offer.rule))
+    (option_map (λ rule. side program.signature rule offer.values)
+    (slice_get program.rules offer.rule))
     finite.empty
 
 -- what an offer needs: its left side

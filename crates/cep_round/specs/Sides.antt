@@ -13,7 +13,8 @@ use Rattle.cep_rule.specs.Instances.{full_instances, kept_of}
 abbrev pub needed_by : Parts → Offer → List AtomTree
 needed_by program offer =
     unwrap_or
-    (option_map (λ rule. full_instances offer.values (needed_of rule)) (slice_get program.rules offer.rule))
+    (option_map (λ rule. full_instances offer.values (needed_of rule))
+    (slice_get program.rules offer.rule))
     []
 
 -- the atoms that it gives: those that it makes, and then those that stay

@@ -38,9 +38,10 @@ pub fn what_is_admitted_is_there()
     bags_are_lawful();
 }
 
-/// Offers that apply to a state and need together no more than it has can be done in every order, if
-/// all that they make is fit. In every order each applies to the state that it finds, within every
-/// height within which it applied before, and the last state is the one to which they lead together.
+/// Offers that apply to a state and need together no more than it has can be done in every order,
+/// if all that they make is fit. In every order each applies to the state that it finds, within
+/// every height within which it applied before, and the last state is the one to which they lead
+/// together.
 pub fn rounds_can_be_done_in_every_order()
     ensures done { (program : Parts) (height : ℕ) (state : Multiset) (offers order : List Offer)
         → IsProgram program
@@ -67,7 +68,8 @@ pub fn rounds_can_be_done_in_every_order()
     steps_are_lawful();
 }
 
-/// A round has one list of flags and leads to one state; and it leaves a rest alone, as a step does.
+/// A round has one list of flags and leads to one state; and it leaves a rest alone, as a step
+/// does.
 pub fn one_state_after_a_round()
     ensures flags { (program : Parts) (state used : Multiset) (offers : List Offer)
         (one other : List Bool)
@@ -109,7 +111,8 @@ pub fn copies_block_and_facts_do_not()
     ensures facts { (program : Parts) (state used : Multiset) (offer : Offer)
         → IsContained used state
         → IsContained (needs program offer) state
-        → ((a : AtomTree) → is_fact program.signature a ≡ false → count_of (needs program offer) a ≡ 0)
+        → ((a : AtomTree) → is_fact program.signature a ≡ false
+        → count_of (needs program offer) a ≡ 0)
         → IsContained (used_with program used offer) state }
     ensures copies { (program : Parts) (state used : Multiset) (offer : Offer) (a : AtomTree)
         → is_fact program.signature a ≡ false
@@ -131,8 +134,8 @@ pub fn rounds_are_lawful()
         → AllByRecursion (MakesFitAtoms program) (admitted offers flags)
         → IsPermutation (admitted offers flags) order
         → (last : Multiset) × AreOffersDone program height state order last }
-    ensures last { (program : Parts) (height : ℕ) (state last : Multiset) (offers order : List Offer)
-        (flags : List Bool)
+    ensures last { (program : Parts) (height : ℕ) (state last : Multiset)
+        (offers order : List Offer) (flags : List Bool)
         → IsProgram program
         → IsState program.signature state
         → AreAdmitted program state finite.empty offers flags

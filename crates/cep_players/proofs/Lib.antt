@@ -1,0 +1,3 @@
+pub mod RunDeeds
+pub mod Remarks
+pub mod Told

@@ -1,0 +1,76 @@
+//! Laws of dialogues in rounds. Each function computes nothing, and its contract is the law.
+ghost use Rattle.std.specs.Prelude.{◌≡◌, ℕ, ◌≤◌, ◌++◌, List, length};
+ghost use Rattle.cep_base.specs.declared.limits.TheConstants.{MOST_LOG};
+ghost use Rattle.cep_base.specs.declared.console.Event.{Event};
+ghost use Rattle.cep_rule.specs.declared.parts.Parts.{Parts};
+ghost use Rattle.cep_rule.specs.Limits.{IsHeight};
+ghost use Rattle.cep_rule.specs.Program.{IsProgram};
+ghost use Rattle.cep_rule.specs.Stages.{IsQuiet};
+ghost use Rattle.cep_rule.specs.State.{IsState};
+ghost use Rattle.cep_step.specs.Deeds.{Position, AreDeeds};
+ghost use Rattle.cep_lines.specs.declared.end_word.EndWord.{EndWord};
+ghost use Rattle.cep_lines.specs.declared.end_word.EndWord.TheVariants.{Quiet};
+ghost use Rattle.cep_log.specs.declared.log.Log.{Log};
+ghost use Rattle.cep_log.specs.Legal.{IsLegal};
+ghost use Rattle.cep_log.specs.Transcript.{HasLog};
+ghost use Rattle.cep_log.specs.Holding.{HoldsDeeds};
+ghost use Rattle.cep_run.specs.declared.settings.Settings.{Settings};
+ghost use Rattle.cep_run.specs.Deciding.{Supply};
+ghost use Rattle.cep_run.specs.Dialogue.{written_bytes};
+ghost use Rattle.cep_round.specs.Rounds.{IsRound};
+ghost use Rattle.cep_players.specs.Runs.{Round, IsRoundDone, TurnOrRound, EndOfRounds, all_done, done_before, RunsInRounds};
+ghost use Rattle.cep_players.specs.Dialogues.{DialogueInRounds};
+
+use cep_log::laws::{deeds_have_legal_logs, lines_are_read_as_written};
+use cep_round::laws::rounds_are_lawful;
+use cep_rule::laws::what_is_needed_is_there;
+
+/// What is done in a run in rounds are lawful deeds, one after another; and if it ends with `quiet`,
+/// the last stage is quiet.
+pub fn rounds_are_deeds()
+    ensures deeds { (program : Parts) (settings : Settings) (players : ℕ) (at last : Position)
+        (from to : Supply) (parts : List TurnOrRound) (end : EndOfRounds) (word : EndWord)
+        → RunsInRounds program settings players at from parts end word last to
+        → AreDeeds program settings.height at (all_done parts ++ done_before end) last }
+    ensures quiet { (program : Parts) (settings : Settings) (players : ℕ) (at last : Position)
+        (from to : Supply) (parts : List TurnOrRound) (end : EndOfRounds) (word : EndWord)
+        → RunsInRounds program settings players at from parts end word last to
+        → word ≡ Quiet
+        → IsQuiet program settings.height last.spot.state last.spot.stage }
+{}
+
+/// If a round is done, the state after it is the one to which the admitted offers lead together from
+/// the state before it.
+pub fn rounds_end_together()
+    ensures { (program : Parts) (settings : Settings) (players : ℕ) (at last : Position)
+        (from to : Supply) (round : Round)
+        → IsProgram program
+        → IsState program.signature at.spot.state
+        → IsRoundDone program settings players at from round last to
+        → IsRound program round.chosen round.flags at.spot.state last.spot.state }
+{
+    what_is_needed_is_there();
+    rounds_are_lawful();
+}
+
+/// What is written of a dialogue in rounds is a transcript, if it is not too long: its log holds what
+/// was done, is legal, and has as many steps as deeds were done. So a check accepts it.
+pub fn rounds_have_logs()
+    ensures { (program : Parts) (settings : Settings) (players : ℕ) (come rest : List ℕ)
+        (parts : List TurnOrRound) (end : EndOfRounds) (word : EndWord) (last : Position)
+        (events : List Event)
+        → IsProgram program
+        → IsHeight settings.height
+        → DialogueInRounds program settings players come parts end word last events rest
+        → length (written_bytes events) ≤ MOST_LOG
+        → (log : Log)
+        × HasLog program (written_bytes events) log
+        × HoldsDeeds program settings.height (all_done parts ++ done_before end) word
+        last.spot.state log
+        × IsLegal program log
+        × (length log.steps ≡ length (all_done parts ++ done_before end)) }
+{
+    rounds_are_deeds();
+    deeds_have_legal_logs();
+    lines_are_read_as_written();
+}
