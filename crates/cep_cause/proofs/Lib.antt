@@ -16,6 +16,5 @@ pub mod Told
 pub mod Outcomes
 pub mod InOrder
 pub mod OneAnswer
-pub mod Queues
 pub mod Walked
 pub mod Taken
