@@ -7,6 +7,8 @@ use Rattle.cep_reorder.proofs.laws.one_reordering_by_a_seed.Goals as goal
 
 pub returns : goal.returns
 returns c = λ program log seed one other is is'.
-    let causes = c.one_graph.ensures program log is'.causes is.causes is'.graph is.graph in
-    let order = c.one_order_for_a_seed.ensures seed is.causes is'.order is.order (subst (λ (causes : List StepCause). IsOrderBy seed causes is'.order) causes is'.by_seed) is.by_seed in
+    let by = is.by_seed in
+    let by' = is'.by_seed in
+    let causes = c.one_graph.ensures program log by'.causes by.causes by'.graph by.graph in
+    let order = c.one_order_for_a_seed.ensures seed by.causes is'.order is.order (subst (λ (causes : List StepCause). IsOrderBy seed causes is'.order) causes by'.by_seed) by.by_seed in
     c.orders_come_to_one_answer.ensures program log (step_places is.order) one other is.comes (subst (λ (order : List ℕ). ComesTo program (step_places order) log other) order is'.comes)

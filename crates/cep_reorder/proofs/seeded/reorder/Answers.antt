@@ -1,10 +1,6 @@
-use Rattle.cep_reorder.proofs.Counted.{few_causes}
 use Rattle.cep_reorder.proofs.seeded.reorder.Goals as goal
-
-pub order_by-requires-clause-few : goal.order_by-requires-clause-few
-order_by-requires-clause-few c = few_causes c.args.program.now c.args.log.now c.in_ok-causes.causes c.requires c.in_ok-causes.ensures
 
 pub again-requires-clause-order : goal.again-requires-clause-order
 again-requires-clause-order c =
-    let graph = c.in_ok-causes.ensures in
-    (graph.touches, graph.are, c.orders_by_seeds_are_orders.ensures.order c.args.seed graph.touches c.in_ok-causes.causes c.in_ok-order.order graph.entries c.in_ok-order.ensures.order)
+    let by = c.in_ok-order.ensures in
+    (by.graph.touches, by.graph.are, c.orders_by_seeds_are_orders.ensures.order c.args.seed by.graph.touches by.causes c.in_ok-order.order by.graph.entries by.by_seed)
