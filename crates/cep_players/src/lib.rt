@@ -5,4 +5,12 @@
 //! dialogue are, and `laws` that what is written of one has a legal log.
 #![tactic(auto)]
 
+mod acting;
+mod asking;
+mod copying;
+mod dialogue;
 pub mod laws;
+mod part;
+mod proving;
+
+pub use dialogue::play_in_rounds;
