@@ -1,4 +1,3 @@
--- Private.
 -- What a part of a run does: words for the functions that do it.
 use Rattle.std.specs.Prelude.{◌≡◌, ℕ, ◌+◌, ◌≤◌, List, [], ◌++◌, Option, Some, length, slice_get}
 use Rattle.std.specs.List.{flat_map}

@@ -1,4 +1,4 @@
-// One turn of a run: the offers are written, one of them is chosen, and the step is done.
+//! One turn of a run: the offers are written, one of them is chosen, and the step is done.
 ghost use Rattle.std.specs.Prelude.{◌≡◌, ◌+◌, ◌<◌, ◌≤◌, length, IfOk, OnOk, OnErr};
 ghost use Rattle.cep_base.specs.declared.limits.TheConstants.{MOST_TURNS};
 ghost use Rattle.cep_base.specs.Talk.{Did, ConsoleCause};
@@ -57,7 +57,7 @@ fn over<M: Matcher>(config: Config<M>, word: EndWord) -> Turned<M>
 /// premises and the stage that it leads to; or says which limit it would pass. The lines are made
 /// after the step, so that nothing is proved of one that is not done, and so of a copy of the offer:
 /// the matcher that has it goes with the step.
-fn act<C: Console, M: Matcher, L: Ledger>(
+pub fn act<C: Console, M: Matcher, L: Ledger>(
     alloc: Global,
     program: &Program,
     settings: Settings,
