@@ -1,3 +1,11 @@
 pub mod RunDeeds
 pub mod Remarks
 pub mod Told
+pub mod Prefixes
+pub mod Asking
+pub mod Blocked
+pub mod Choices
+pub mod Contained
+pub mod RoundSteps
+pub mod RoundsThere
+pub mod Acting

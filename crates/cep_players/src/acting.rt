@@ -1,76 +1,129 @@
-// An offer is done, and its lines are written.
-use crate::copying::copy_offer;
-use crate::proving::prove_backs;
-use cep_base::{Console, ConsoleFault, Steps, Text};
-use cep_lines::{EndWord, put_deed};
-use cep_log::Proofs;
-use cep_machine::{Config, Stepped};
+// Offers of a round are done, and their lines are written.
+ghost use Rattle.std.specs.Prelude.{◌≡◌, ◌<◌, ◌≤◌, Contains, Some, length, slice_get, IfOk, OnErr};
+ghost use Rattle.std.specs.List.{AllByRecursion};
+ghost use Rattle.std.specs.FinMap as finite;
+ghost use Rattle.cep_base.specs.Talk.{Did, ConsoleCause};
+ghost use Rattle.cep_base.specs.declared.limits.TheConstants.{MOST_TURNS};
+ghost use Rattle.cep_rule.specs.Offers.{IsOffer};
+ghost use Rattle.cep_rule.specs.Stages.{own_group};
+ghost use Rattle.cep_rule.specs.Matching.{offers_of};
+ghost use Rattle.cep_round.specs.Rounds.{AreAdmitted, admitted};
+ghost use Rattle.cep_run.specs.declared.turn.Turned.TheVariants.{Over};
+ghost use Rattle.cep_run.specs.Turn.{position_of, config_left, IsPlayed};
+ghost use Rattle.cep_players.specs.Going.{IsOfferActed, IsOfferMoved, BeginsOffer, AreActed, AreCounted, BeginsActs};
+
+use crate::laws::players_are_lawful;
+use cep_base::{Console, ConsoleFault, Steps};
+use cep_lines::EndWord;
+use cep_machine::Config;
+use cep_round::{Flags, Offers, place_of};
 use cep_rule::{Matcher, Offer, Program};
 use cep_run::Settings;
-use cep_step::Limit;
+use cep_run::turn::{Ended, Turned, act};
 use std::alloc::Global;
 use std::sync::ledger::Ledger;
 
-// What a turn or a round comes to: it was done, or the run ends where it stands.
-#[derive(Drop)]
-pub(crate) enum Went<M: Matcher> {
-    On(Config<M>),
-    Over(Config<M>, EndWord),
+// The run ends in the configuration, for this reason.
+pub(crate) fn over<M: Matcher>(config: Config<M>, word: EndWord) -> Turned<M>
+    ensures { result ≡ Over (record { config = config; word = word }) }
+{
+    Turned::Over(Ended { config, word })
 }
 
-// Does the offer at a place of the asked group, counted from 0, and writes its lines; or tells why it
-// cannot be done.
-pub(crate) fn act<C: Console, M: Matcher, L: Ledger>(
+// Does the admitted offers, one after another, each where it stands in the offers by then. Each
+// applies to the state that it finds.
+pub(crate) fn act_all<C: Console, M: Matcher, L: Ledger>(
+    alloc: Global,
+    program: &Program,
+    settings: Settings,
+    start: Config<M>,
+    group: u32,
+    chosen: &Offers,
+    flags: &Flags,
+    console: &mut C,
+    steps: &mut Steps<L>,
+) -> Result<Turned<M>, ConsoleFault>
+    requires played { IsPlayed M.is_of M.height_held program.now settings start }
+    requires own { group ≡ own_group start.stage }
+    requires offers { AllByRecursion (IsOffer program.now settings.height start.state group) chosen.now }
+    requires flagged { AreAdmitted program.now start.state finite.empty chosen.now flags.now }
+    requires turns { start.turns ≤ settings.limit }
+    requires limit { settings.limit ≤ MOST_TURNS }
+    ensures acted { IfOk result (AreActed C.talk C.left console.old console.new program.now settings
+        (admitted chosen.now flags.now) start) }
+    ensures counted { IfOk result (AreCounted settings (admitted chosen.now flags.now) start) }
+    ensures played { IfOk result (λ turned. IsPlayed M.is_of M.height_held program.now settings
+        (config_left turned)) }
+    ensures begun { OnErr result (Did C.talk C.left console.old console.new
+        (BeginsActs program.now settings (position_of start) (admitted chosen.now flags.now))) }
+    ensures cause { ConsoleCause (C.faults console.old) (C.faults console.new) result }
+{
+    players_are_lawful();
+    program.parts();
+    let mut config = start;
+    for i in 0..chosen.len() {
+        if *flags.get(i) {
+            config = match act_offer(
+                alloc,
+                program,
+                settings,
+                config,
+                group,
+                chosen.get(i),
+                console,
+                steps,
+            )? {
+                Turned::Done(next) => next,
+                Turned::Over(ended) => return Ok(Turned::Over(ended)),
+            };
+        }
+    }
+    Ok(Turned::Done(config))
+}
+
+// Does an offer of the stage's own group that applies, and writes its lines; or says why it cannot
+// be done.
+fn act_offer<C: Console, M: Matcher, L: Ledger>(
     alloc: Global,
     program: &Program,
     settings: Settings,
     config: Config<M>,
     group: u32,
-    place: usize,
+    offer: &Offer,
     console: &mut C,
     steps: &mut Steps<L>,
-) -> Result<Went<M>, ConsoleFault> {
+) -> Result<Turned<M>, ConsoleFault>
+    requires played { IsPlayed M.is_of M.height_held program.now settings config }
+    requires own { group ≡ own_group config.stage }
+    requires offer { IsOffer program.now settings.height config.state group offer.now }
+    requires turns { config.turns ≤ settings.limit }
+    requires limit { settings.limit ≤ MOST_TURNS }
+    ensures acted { IfOk result (IsOfferActed C.talk C.left console.old console.new program.now
+        settings offer.now config) }
+    ensures moved { IfOk result (IsOfferMoved program.now settings offer.now config) }
+    ensures played { IfOk result (λ turned. IsPlayed M.is_of M.height_held program.now settings
+        (config_left turned)) }
+    ensures begun { OnErr result (Did C.talk C.left console.old console.new
+        (BeginsOffer program.now settings offer.now (position_of config))) }
+    ensures cause { ConsoleCause (C.faults console.old) (C.faults console.new) result }
+{
     if config.turns() >= settings.limit {
-        return Ok(Went::Over(config, EndWord::Turns));
+        return Ok(over(config, EndWord::Turns));
     }
-    let offer = copy_offer(alloc, config.matcher().offer(group, place))?;
-    match config.step(alloc, program, place, steps)? {
-        Stepped::Done(config) => {
-            let proofs = prove_backs(alloc, program, &offer, settings.height, steps)?;
-            tell_deed(alloc, program, &offer, &proofs, &config, console)?;
-            Ok(Went::On(config))
-        }
-        Stepped::Passes { config, limit, .. } => Ok(Went::Over(config, word_of(limit))),
-    }
+    let place = place_in(config.matcher(), group, offer);
+    act(
+        alloc, program, settings, config, group, place, console, steps,
+    )
 }
 
-// Writes the lines of a deed that led to this configuration.
-fn tell_deed<C: Console, M: Matcher>(
-    alloc: Global,
-    program: &Program,
-    offer: &Offer,
-    proofs: &Proofs,
-    config: &Config<M>,
-    console: &mut C,
-) -> Result<(), ConsoleFault> {
-    let rule = program.parts().rules.get(offer.rule as usize);
-    let mut lines = Text::new(alloc);
-    put_deed(
-        program,
-        offer,
-        proofs.as_slice(),
-        rule.next,
-        config.turns(),
-        config.state(),
-        &mut lines,
-    )?;
-    console.put(lines.bytes())
-}
-
-// The word with which a step that passes a limit ends a run.
-fn word_of(limit: Limit) -> EndWord {
-    match limit {
-        Limit::Atom => EndWord::Atom,
-        Limit::State => EndWord::State,
+// The place of an offer that the group has, counted from 0.
+fn place_in<M: Matcher>(matcher: &M, group: u32, offer: &Offer) -> usize
+    requires listed { group < length (M.offers_held matcher.now) }
+    requires there { Contains (offers_of (M.offers_held matcher.now) group) offer.now }
+    ensures { slice_get (offers_of (M.offers_held matcher.now) group) result ≡ Some offer.now }
+{
+    match place_of(matcher, group, offer) {
+        Some(place) => place,
+        None => 0,
     }
 }

@@ -1,53 +1,17 @@
-// Questions to players, and what was heard of them.
-use cep_base::limits::MOST_TYPED;
+// A question to one player, and what was heard of it.
+ghost use Rattle.std.specs.Prelude.{◌≡◌, ◌≤◌, IfOk, OnErr};
+ghost use Rattle.cep_base.specs.Talk.{Did, ConsoleCause};
+ghost use Rattle.cep_base.specs.declared.limits.TheConstants.{MOST_TYPED};
+ghost use Rattle.cep_run.specs.Choice.{IsChoiceWithin};
+ghost use Rattle.cep_run.specs.Fronts.{FellShort};
+ghost use Rattle.cep_players.specs.Dialogues.{choose_line};
+ghost use Rattle.cep_players.specs.Playing.{AsksOne, AsksSome};
+
 use cep_base::{Console, ConsoleFault, Text};
-use cep_choice::{Draw, Said, read_choice};
-use cep_lines::{EndWord, put_offers};
-use cep_rule::{Matcher, Program};
-use std::alloc::Global;
-
-// What the decisions of a run have consumed: the bytes that were taken of what is typed, and the
-// words of the seed that were drawn.
-#[derive(Drop)]
-pub(crate) struct Spent {
-    taken: u64,
-    draw: Draw,
-}
-
-// What came of a question: a place, counted from 0, or the end of the run.
-#[derive(Clone, Copy)]
-pub(crate) enum Answer {
-    Place(usize),
-    Over(EndWord),
-}
-
-impl Spent {
-    // Nothing yet, for a run with this seed.
-    pub(crate) fn nothing(seed: u64) -> Spent {
-        Spent {
-            taken: 0,
-            draw: Draw::new(seed),
-        }
-    }
-
-    // The place among `n`, counted from 0, that the seed draws.
-    pub(crate) fn place(&mut self, n: u32) -> usize {
-        self.draw.place(n) as usize - 1
-    }
-}
-
-// Writes the offers of a group.
-pub(crate) fn tell_offers<C: Console, M: Matcher>(
-    alloc: Global,
-    program: &Program,
-    matcher: &M,
-    group: u32,
-    console: &mut C,
-) -> Result<(), ConsoleFault> {
-    let mut lines = Text::new(alloc);
-    put_offers(program, matcher, group, &mut lines)?;
-    console.put(lines.bytes())
-}
+use cep_run::choice::{Choice, choose};
+use cep_run::deciding::Spent;
+use cep_run::laws::one_choice_is_heard;
+use std::alloc::{AllocError, Global};
 
 // Asks a player, by number from 1 on, for a place among `n`, and reads lines until one chooses.
 pub(crate) fn ask<C: Console>(
@@ -56,20 +20,31 @@ pub(crate) fn ask<C: Console>(
     n: u32,
     console: &mut C,
     spent: &mut Spent,
-) -> Result<Answer, ConsoleFault> {
+) -> Result<Choice, ConsoleFault>
+    requires { spent.old.taken ≤ MOST_TYPED }
+    ensures heard { IfOk result (λ choice. Did C.talk C.left console.old console.new
+        (AsksOne player n spent.old choice spent.new)) }
+    ensures begun { OnErr result (FellShort C.talk C.left console.old console.new (λ come. come)
+        (AsksSome player n spent.old)) }
+    ensures place { IfOk result (λ choice. IsChoiceWithin n choice) }
+    ensures spent { spent.new ≡ record spent.old { taken = spent.new.taken } }
+    ensures within { spent.new.taken ≤ MOST_TYPED }
+    ensures cause { ConsoleCause (C.faults console.old) (C.faults console.new) result }
+{
+    one_choice_is_heard();
+    let line = line_for(alloc, player)?;
+    console.put(line.bytes())?;
+    choose(console, n, &mut spent.taken)
+}
+
+// The line that asks a player.
+#[tactic(auto, using(std::proofs::Common::append_assoc), unfolding(crate::specs::Dialogues::choose_line))]
+fn line_for(alloc: Global, player: u32) -> Result<Text, AllocError>
+    ensures { IfOk result (λ text. text ≡ choose_line player) }
+{
     let mut line = Text::new(alloc);
     line.append(b"? choose ")?;
     line.number(u64::from(player))?;
     line.append(b"\n")?;
-    console.put(line.bytes())?;
-    loop {
-        let heard = read_choice(console, n, MOST_TYPED - spent.taken)?;
-        spent.taken += heard.taken;
-        match heard.said {
-            Said::Number(place) => return Ok(Answer::Place(place as usize - 1)),
-            Said::End => return Ok(Answer::Over(EndWord::Input)),
-            Said::Limit => return Ok(Answer::Over(EndWord::Typed)),
-            Said::Bad => console.put(b"? no\n")?,
-        }
-    }
+    Ok(line)
 }
