@@ -1,6 +1,6 @@
 -- Offers of a round are done, one after another.
 use Rattle.std.proofs.Common.{◌≡◌, ◌⊎◌, inl, inr, ℕ, zero, suc, ◌+◌, ◌<◌, ◌≤◌, Bool, true, false, List, [], ◌∷◌, ◌++◌, map, length, length-append, take, Option, Some, append_assoc, append-nil, refl, sym, ap, ◌∙◌, subst, arith}
-use Rattle.std.specs.Prelude.{slice_get, drop, Contains}
+use Rattle.std.specs.Prelude.{slice_get, drop, Contains, Result, Ok, Err, IfOk}
 use Rattle.std.specs.List.{AllByRecursion, flat_map}
 use Rattle.std.specs.FinMap as finite
 use Rattle.std.proofs.lemmas.Grind.{flat_map-append}
@@ -8,7 +8,7 @@ use Rattle.std.proofs.lemmas.List.{map-append}
 use Rattle.cep_base.specs.declared.console.Event.{Event}
 use Rattle.cep_base.specs.declared.console.Event.TheVariants.{Out}
 use Rattle.cep_base.specs.Talk.{outs, Did}
-use Rattle.cep_base.proofs.Did.{did_map}
+use Rattle.cep_base.proofs.Did.{did_map, did_same}
 use Rattle.cep_base.proofs.Lists.{holds_at, none_some, some_same, map_last}
 use Rattle.cep_term.specs.Multiset.{Multiset, IsContained}
 use Rattle.cep_rule.specs.declared.rule.Rule.{Rule}
@@ -27,6 +27,7 @@ use Rattle.cep_step.specs.Passing.{Passes}
 use Rattle.cep_machine.specs.Configuration.{Configuration}
 use Rattle.cep_machine.specs.Asking.{asked_offers, unless_none}
 use Rattle.cep_lines.specs.declared.end_word.EndWord.{EndWord}
+use Rattle.cep_lines.specs.declared.end_word.EndWord.TheVariants.{Turns}
 use Rattle.cep_lines.specs.Lines.{deed_lines}
 use Rattle.cep_log.specs.Holding.{lines_of_deed}
 use Rattle.cep_round.specs.Rounds.{AreAdmitted, admitted}
@@ -211,3 +212,21 @@ module _ (program : Parts) (settings : Settings) (at : Position) (offers : List 
         more = on.more;
         acts = subst (λ es. ActsSome program settings.height at on.next offers later come es rest) (sym (append_assoc first second on.more)) (acts_more here on.next offer later come middle rest first (second ++ on.more) acts does);
       }
+
+-- what holds of an outcome by two clauses
+pub both_ok : {T E : Type 0} (r : Result T E) (P Q R : T → Type 0) → ((x : T) → P x → Q x → R x) → IfOk r P → IfOk r Q → IfOk r R
+both_ok (Ok x) P Q R follows p q = follows x p q
+both_ok (Err x) P Q R follows p q = tt
+
+-- an offer of the program here stands in the matcher's list
+pub there_in : (program : Parts) (settings : Settings) (height : ℕ) (held state : Multiset) (lists : List (List Offer)) (group : ℕ) (offer : Offer) → AreListed program height held lists → height ≡ settings.height → held ≡ state → group < length lists → IsOffer program settings.height state group offer
+    → Contains (offers_of lists group) offer
+there_in program settings height held state lists group offer are high same listed is =
+    (are.each group listed).each offer (subst (λ s. IsOffer program height s group offer) (sym same) (subst (λ h. IsOffer program h state group offer) (sym high) is))
+
+-- no turn remains
+pub turns_over : {C M : Type 0} (talk : C → Option (List Event)) (left : C → Option (List ℕ)) (console : C) (program : Parts) (settings : Settings) (offer : Offer) (config : Configuration M) (group : ℕ) → IsOffer program settings.height config.state group offer → config.turns ≡ settings.limit → (turned : Turned M) → turned ≡ Over (record { config = config; word = Turns })
+    → IsOfferActed talk left console console program settings offer config turned
+turns_over talk left console program settings offer config group is all turned same =
+    subst (IsOfferActed talk left console console program settings offer config) (sym same)
+    (did_map talk left console console _ _ (λ come events rest nothing. record { rule = is.applies.rule; numbered = is.applies.numbered; stops = all; unwritten = nothing.0; untaken = nothing.1 }) (did_same talk left console console refl refl))

@@ -9,3 +9,6 @@ pub mod Contained
 pub mod RoundSteps
 pub mod RoundsThere
 pub mod Acting
+pub mod Turning
+pub mod Rounding
+pub mod Whole

@@ -86,7 +86,7 @@ asked_at program settings at from (atom_end asks chosen passes) = asks
 asked_at program settings at from (state_end asks chosen passes) = asks
 
 module _ (program : Parts) (settings : Settings) (players : ℕ) where
-  parts_more : (at : Position) (from : Supply) (parts : List TurnOrRound) (here : Position) (between : Supply) (more : List TurnOrRound) (last : Position) (to : Supply) → AreTurnsAndRounds program settings players at from parts here between → AreTurnsAndRounds program settings players here between more last to
+  pub parts_more : (at : Position) (from : Supply) (parts : List TurnOrRound) (here : Position) (between : Supply) (more : List TurnOrRound) (last : Position) (to : Supply) → AreTurnsAndRounds program settings players at from parts here between → AreTurnsAndRounds program settings players here between more last to
       → AreTurnsAndRounds program settings players at from (parts ++ more) last to
   parts_more at from [] here between more last to done later = subst (λ s. AreTurnsAndRounds program settings players at s more last to) done.1 (subst (λ p. AreTurnsAndRounds program settings players p between more last to) done.0 later)
   parts_more at from (a_turn turn ∷ parts) here between more last to done later = (done.0, done.1, parts_more turn.deed.after turn.left parts here between more last to done.2 later)
@@ -247,7 +247,7 @@ module _ (program : Parts) (settings : Settings) (players : ℕ) where
       pub listed_on : (come : List ℕ) → BeginsSome (IsRunInRounds program settings players at) (supply_with come spent) (outs (offer_lines program 1 offers))
       listed_on come =
           subst (BeginsSome (IsRunInRounds program settings players at) (supply_with come spent)) (append-nil (outs (offer_lines program 1 offers)))
-          (hearing_on come [] (choose_on offers spent laws.heard laws.within players players 0 refl [] spent come come [] (none_chose offers spent come [] come (refl, refl))))
+          (hearing_on come [] (choose_on offers spent laws.heard laws.within players players 0 (omega arith) [] spent come come [] (none_chose offers spent come [] come (refl, refl))))
 
     -- A turn
 

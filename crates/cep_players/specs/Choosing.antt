@@ -1,6 +1,7 @@
 -- Private.
 -- What comes of asking all players.
-use Rattle.std.specs.Prelude.{ℕ, List, Option}
+use Rattle.std.specs.Prelude.{◌≡◌, ℕ, List, Option, Contains, length}
+use Rattle.std.specs.List.{AllByRecursion}
 use Rattle.cep_base.specs.declared.console.Event.{Event}
 use Rattle.cep_base.specs.Talk.{Did}
 use Rattle.cep_rule.specs.declared.offer.Offer.{Offer}
@@ -16,3 +17,9 @@ IsChoosing talk left old new players offers spent spent' (All chosen) =
     Did talk left old new (AllChoose players offers chosen spent spent')
 IsChoosing talk left old new players offers spent spent' (Over word) =
     Did talk left old new (OneDoesNot players offers word spent spent')
+
+-- if all choose, there are as many offers as players, all of the list, whether it is reported or not
+abbrev pub ArePicked : ℕ → List Offer → Chosen → Type 0
+ArePicked players offers (All chosen) =
+    (length chosen ≡ players) × AllByRecursion (Contains offers) chosen
+ArePicked players offers (Over word) = Unit {0}

@@ -107,6 +107,7 @@ fn act_offer<C: Console, M: Matcher, L: Ledger>(
         (BeginsOffer program.now settings offer.now (position_of config))) }
     ensures cause { ConsoleCause (C.faults console.old) (C.faults console.new) result }
 {
+    program.parts();
     if config.turns() >= settings.limit {
         return Ok(over(config, EndWord::Turns));
     }

@@ -4,7 +4,7 @@ ghost use Rattle.cep_base.specs.Talk.{Did, ConsoleCause};
 ghost use Rattle.cep_base.specs.declared.limits.TheConstants.{MOST_OFFERS, MOST_TYPED};
 ghost use Rattle.cep_rule.specs.Matching.{offers_of};
 ghost use Rattle.cep_run.specs.Fronts.{FellShort};
-ghost use Rattle.cep_players.specs.Choosing.{IsChoosing};
+ghost use Rattle.cep_players.specs.Choosing.{IsChoosing, ArePicked};
 ghost use Rattle.cep_players.specs.Playing.{ChooseSome};
 
 use crate::asking::ask;
@@ -39,6 +39,7 @@ pub(crate) fn choices<C: Console, M: Matcher>(
     requires taken { spent.old.taken ≤ MOST_TYPED }
     ensures heard { IfOk result (IsChoosing C.talk C.left console.old console.new players
         (offers_of (M.offers_held matcher.now) group) spent.old spent.new) }
+    ensures picked { IfOk result (ArePicked players (offers_of (M.offers_held matcher.now) group)) }
     ensures begun { OnErr result (FellShort C.talk C.left console.old console.new (λ come. come)
         (ChooseSome players (offers_of (M.offers_held matcher.now) group) spent.old)) }
     ensures spent { spent.new ≡ record spent.old { taken = spent.new.taken } }

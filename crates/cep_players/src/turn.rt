@@ -59,8 +59,9 @@ fn decide<C: Console, M: Matcher>(
     players_are_lawful();
     let matcher = config.matcher();
     let offers = matcher.count(group);
+    let asked = is_players(program, config.stage(), group, offers);
     tell(alloc, program, matcher, group, console)?;
-    if is_players(program, config.stage(), group, offers) {
+    if asked {
         ask(alloc, 1, offers as u32, console, spent)
     } else {
         Ok(Choice::Place(spent.place(offers as u32)))
