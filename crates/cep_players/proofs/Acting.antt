@@ -30,7 +30,7 @@ use Rattle.cep_lines.specs.declared.end_word.EndWord.{EndWord}
 use Rattle.cep_lines.specs.declared.end_word.EndWord.TheVariants.{Turns}
 use Rattle.cep_lines.specs.Lines.{deed_lines}
 use Rattle.cep_log.specs.Holding.{lines_of_deed}
-use Rattle.cep_round.specs.Rounds.{AreAdmitted, admitted}
+use Rattle.cep_round.specs.Rounds.{AreAdmitted, admitted, used_with}
 use Rattle.cep_round.specs.Orders.{IsOfferDone, AreOffersDone}
 use Rattle.cep_run.specs.declared.settings.Settings.{Settings}
 use Rattle.cep_run.specs.declared.turn.Turned.{Turned}
@@ -230,3 +230,34 @@ pub turns_over : {C M : Type 0} (talk : C → Option (List Event)) (left : C →
 turns_over talk left console program settings offer config group is all turned same =
     subst (IsOfferActed talk left console console program settings offer config) (sym same)
     (did_map talk left console console _ _ (λ come events rest nothing. record { rule = is.applies.rule; numbered = is.applies.numbered; stops = all; unwritten = nothing.0; untaken = nothing.1 }) (did_same talk left console console refl refl))
+
+pub as_many_flags : (program : Parts) (state used : Multiset) (offers : List Offer) (flags : List Bool) → AreAdmitted program state used offers flags → length flags ≡ length offers
+as_many_flags program state used [] [] are = refl
+as_many_flags program state used [] (flag ∷ flags) are = absurd are
+as_many_flags program state used (offer ∷ offers) [] are = absurd are
+as_many_flags program state used (offer ∷ offers) (true ∷ flags) are = ap suc (as_many_flags program state (used_with program used offer) offers flags are.1)
+as_many_flags program state used (offer ∷ offers) (false ∷ flags) are = ap suc (as_many_flags program state used offers flags are.1)
+
+-- one admitted offer more, or none
+more_by_suc : (offers : List Offer) (flags : List Bool) (n : ℕ) (offer : Offer) → slice_get offers n ≡ Some offer → slice_get flags n ≡ Some true → admitted (take (suc n) offers) (take (suc n) flags) ≡ admitted (take n offers) (take n flags) ++ offer ∷ []
+more_by_suc [] flags n offer is is' = absurd cc
+more_by_suc (first ∷ offers) [] n offer is is' = absurd cc
+more_by_suc (first ∷ offers) (true ∷ flags) zero offer is is' = grind arith
+more_by_suc (first ∷ offers) (false ∷ flags) zero offer is is' = grind arith
+more_by_suc (first ∷ offers) (true ∷ flags) (suc n) offer is is' = ap (λ more. first ∷ more) (more_by_suc offers flags n offer is is')
+more_by_suc (first ∷ offers) (false ∷ flags) (suc n) offer is is' = more_by_suc offers flags n offer is is'
+
+same_by_suc : (offers : List Offer) (flags : List Bool) (n : ℕ) → slice_get flags n ≡ Some false → admitted (take (suc n) offers) (take (suc n) flags) ≡ admitted (take n offers) (take n flags)
+same_by_suc [] flags zero is = refl
+same_by_suc [] flags (suc n) is = refl
+same_by_suc (first ∷ offers) [] n is = absurd cc
+same_by_suc (first ∷ offers) (true ∷ flags) zero is = grind arith
+same_by_suc (first ∷ offers) (false ∷ flags) zero is = grind arith
+same_by_suc (first ∷ offers) (true ∷ flags) (suc n) is = ap (λ more. first ∷ more) (same_by_suc offers flags n is)
+same_by_suc (first ∷ offers) (false ∷ flags) (suc n) is = same_by_suc offers flags n is
+
+pub next_admitted : (offers : List Offer) (flags : List Bool) (n : ℕ) (offer : Offer) → slice_get offers n ≡ Some offer → slice_get flags n ≡ Some true → admitted (take (n + 1) offers) (take (n + 1) flags) ≡ admitted (take n offers) (take n flags) ++ offer ∷ []
+next_admitted offers flags n offer is is' = let e : n + 1 ≡ suc n = omega arith in rw e (more_by_suc offers flags n offer is is')
+
+pub next_blocked : (offers : List Offer) (flags : List Bool) (n : ℕ) → slice_get flags n ≡ Some false → admitted (take (n + 1) offers) (take (n + 1) flags) ≡ admitted (take n offers) (take n flags)
+next_blocked offers flags n is = let e : n + 1 ≡ suc n = omega arith in rw e (same_by_suc offers flags n is)

@@ -47,3 +47,13 @@ outs_left bytes come events rest put = sym (ap (λ heard. heard ++ rest) (ap hea
 
 pub put_left : (text come : List ℕ) (events : List Event) (rest : List ℕ) → PutsFront text come events rest → LeavesUnheard come events rest
 put_left text come events rest put = outs_left (take put.size text) come events rest (put.said, put.untaken)
+
+first_nil : (first others : List ℕ) → first ++ others ≡ [] → first ≡ []
+first_nil [] others e = refl
+first_nil (byte ∷ first) others e = absurd (cc)
+
+-- a prefix of what is written was written
+pub prefix_left : (text come : List ℕ) (events more : List Event) (rest : List ℕ) → events ++ more ≡ outs text → rest ≡ come → LeavesUnheard come events rest
+prefix_left text come events more rest written same =
+    let none = first_nil (heard_bytes events) (heard_bytes more) (sym (heard_append events more) ∙ ap heard_bytes written ∙ outs_unheard text) in
+    sym (ap (λ heard. heard ++ rest) none ∙ same)

@@ -1,9 +1,10 @@
 -- A turn is decided, and done or not.
 use Rattle.std.proofs.Common.{◌≡◌, ◌⊎◌, inl, inr, ℕ, ◌+◌, ◌-◌, ◌<◌, ◌≤◌, Bool, true, false, List, [], ◌∷◌, ◌++◌, length, Option, None, Some, append_assoc, append-nil, refl, sym, ap, ◌∙◌, subst, arith}
-use Rattle.std.specs.Prelude.{slice_get}
+use Rattle.std.specs.Prelude.{slice_get, IsTrue, ◌↔◌}
 use Rattle.std.proofs.lemmas.Bool.{cases_eq, cases_lt}
 use Rattle.std.proofs.lemmas.List.{map-append}
 use Rattle.std.proofs.lemmas.Option.{slice_get_within, get_or_from_slice_get}
+use Rattle.cep_base.specs.declared.limits.TheConstants.{MOST_TYPED}
 use Rattle.cep_base.specs.declared.console.Event.{Event}
 use Rattle.cep_base.specs.declared.console.Event.TheVariants.{Out}
 use Rattle.cep_base.specs.Talk.{outs, Did}
@@ -17,6 +18,7 @@ use Rattle.cep_rule.specs.Typing.{AreValues}
 use Rattle.cep_rule.specs.State.{IsState}
 use Rattle.cep_rule.specs.Offers.{IsOffer}
 use Rattle.cep_rule.specs.Stages.{own_group, leaving_group, HasOffer, IsAsked}
+use Rattle.cep_rule.specs.Matching.{offers_of}
 use Rattle.cep_rule.specs.Program.{IsProgram}
 use Rattle.cep_choice.specs.Draws.{generator_behind, place_drawn}
 use Rattle.cep_step.specs.Deeds.{Position, Deed, IsDeed}
@@ -26,7 +28,7 @@ use Rattle.cep_step.specs.Passing.{Passes}
 use Rattle.cep_machine.specs.Configuration.{Configuration}
 use Rattle.cep_lines.specs.declared.end_word.EndWord.{EndWord}
 use Rattle.cep_lines.specs.declared.end_word.EndWord.TheVariants.{Input, Typed}
-use Rattle.cep_lines.specs.Lines.{offer_lines}
+use Rattle.cep_lines.specs.Lines.{offer_lines, deed_lines}
 use Rattle.cep_log.specs.Holding.{lines_of_deed}
 use Rattle.cep_run.specs.declared.choice.Choice.{Choice}
 use Rattle.cep_run.specs.declared.choice.Choice.TheVariants.{Place, NoMore, NoRoom}
@@ -37,15 +39,15 @@ use Rattle.cep_run.specs.declared.turn.Turned.TheVariants.{Done, Over}
 use Rattle.cep_run.specs.Choice.{Hears}
 use Rattle.cep_run.specs.Deciding.{Supply, How, Heard, Lone, Drawn, IsPlayers, Decides}
 use Rattle.cep_run.specs.Run.{Question, Turn, IsQuestion, IsChosen, IsTurn, EndsAt, input_end, typed_end, atom_end, state_end}
-use Rattle.cep_run.specs.Fronts.{BeginsSome, LeavesUnheard}
+use Rattle.cep_run.specs.Fronts.{BeginsSome, LeavesUnheard, FellShort}
 use Rattle.cep_run.specs.Begun.{PutsFront, BeginsAct}
-use Rattle.cep_run.specs.Turn.{position_of, supply_with, IsPlaced, Acts, WouldPass, limit_word, IsActed}
+use Rattle.cep_run.specs.Turn.{position_of, supply_with, HasSpent, IsPlaced, Acts, WouldPass, limit_word, IsActed}
 use Rattle.cep_players.specs.Runs.{IsForAll, a_turn, of_turn}
 use Rattle.cep_players.specs.Dialogues.{choose_line, turn_question_events, part_events}
 use Rattle.cep_players.specs.Playing.{AsksOne, AsksSome, IsRunInRounds}
-use Rattle.cep_players.specs.PlayersLaws.{ChoicesAreHeard, PlayersLaws}
+use Rattle.cep_players.specs.PlayersLaws.{ChoicesAreHeard, AreWithin, PlayersLaws}
 use Rattle.cep_players.specs.Going.{IsOfferedHere, SettlesTurn, SettlesSomeTurn, DoesParts, EndsParts, IsWent}
-use Rattle.cep_players.proofs.Prefixes.{put_on, prefix_of_prefix}
+use Rattle.cep_players.proofs.Prefixes.{put_on, prefix_of_prefix, left_then, outs_left, prefix_left}
 use Rattle.cep_players.proofs.RoundsThere.{question_on, turn_on, goes_from}
 
 -- Deciding
@@ -219,3 +221,99 @@ module _ (program : Parts) (settings : Settings) (players : ℕ) (at : Position)
         prefix_of_prefix (IsRunInRounds program settings players at) (supply_with come spent) (first ++ second) on.more
         (subst (BeginsSome (IsRunInRounds program settings players at) (supply_with come spent)) (sym (append_assoc first second on.more ∙ said_of place come between rest first (second ++ on.more) settles on.next acts))
         (turn_on program settings players laws kept some at (supply_with come spent) is_state turn is none (goes_from program settings players laws kept some at)))
+
+-- Views of the matcher, and the code's tests
+
+-- so many are counted, by a view of what the matcher lists
+pub count_seen : {M : Type 0} (offers_held : M → List (List Offer)) (group : ℕ) (seen held : M) (n : ℕ) → seen ≡ held → n ≡ length (offers_of (offers_held seen) group) → n ≡ length (offers_of (offers_held held) group)
+count_seen offers_held group seen held n view counted = counted ∙ ap (λ m. length (offers_of (offers_held m) group)) view
+
+pub same_players : (program : Parts) (group one stage n many : ℕ) → one ≡ stage → n ≡ many → (b : Bool) → (IsTrue b ↔ IsPlayers program one group n) → b ≡ true → IsPlayers program stage group many
+same_players program group one stage n many stages counts b iff is = subst (λ k. IsPlayers program stage group k) counts (subst (λ s. IsPlayers program s group n) stages (iff.0 is))
+
+true_false : {A : Type 0} → false ≡ true → A
+true_false e = cc
+
+pub no_players : (program : Parts) (group one stage n many : ℕ) → one ≡ stage → n ≡ many → (b : Bool) → (IsTrue b ↔ IsPlayers program one group n) → b ≡ false → ¬ IsPlayers program stage group many
+no_players program group one stage n many stages counts b iff no_ players =
+    true_false (sym no_ ∙ iff.1 (subst (λ s. IsPlayers program s group n) (sym stages) (subst (λ k. IsPlayers program stage group k) (sym counts) players)))
+
+pub either_players : (program : Parts) (group one stage n many : ℕ) → one ≡ stage → n ≡ many → (b : Bool) → (IsTrue b ↔ IsPlayers program one group n) → IsPlayers program stage group many ⊎ (IsPlayers program stage group many → ⊥)
+either_players program group one stage n many stages counts true iff = inl (same_players program group one stage n many stages counts true iff refl)
+either_players program group one stage n many stages counts false iff = inr (no_players program group one stage n many stages counts false iff refl)
+
+-- what was spent after a choice
+pub player_spends : (seed turns : ℕ) (old new : Spent) → HasSpent seed turns old → new ≡ record old { taken = new.taken } → new.taken ≤ MOST_TYPED → HasSpent seed (turns + 1) new
+player_spends seed turns old new spent same within = record {
+  taken = within;
+  drawn = let few = spent.drawn in let is = ap (λ (s : Spent). s.drawn) same in omega (arith, few, is);
+  draw = ap (λ (s : Spent). s.draw) same ∙ spent.draw ∙ ap (generator_behind seed) (sym (ap (λ (s : Spent). s.drawn) same));
+}
+
+pub unasked_spends : (seed turns n place : ℕ) (old new : Spent) → 0 < n → HasSpent seed turns old
+    → (n ≡ 1 → (place ≡ 1) × (new ≡ old))
+    → (1 < n → (seed : ℕ) → old.draw ≡ generator_behind seed old.drawn → (place ≡ place_drawn seed old.drawn n) × (new ≡ record { taken = old.taken; drawn = old.drawn + 1; draw = generator_behind seed (old.drawn + 1) }))
+    → HasSpent seed (turns + 1) new
+unasked_spends seed turns n place old new some spent lone drawn = elim (cases_lt 1 n) [
+  | inl several ↦
+      let is = drawn several seed spent.draw in
+      let few = spent.drawn in
+      let next : Spent = record { taken = old.taken; drawn = old.drawn + 1; draw = generator_behind seed (old.drawn + 1) } in
+      let has : HasSpent seed (turns + 1) next = record { taken = spent.taken; drawn = omega (arith, few); draw = refl } in
+      subst (HasSpent seed (turns + 1)) (sym is.1) has
+  | inr least ↦
+      let one : n ≡ 1 = omega (arith, some, least) in
+      let is = lone one in
+      let few = spent.drawn in
+      let has : HasSpent seed (turns + 1) old = record { taken = spent.taken; drawn = omega (arith, few); draw = spent.draw } in
+      subst (HasSpent seed (turns + 1)) (sym is.1) has
+]
+
+-- What a turn comes to
+
+module _ {C M : Type 0} (talk : C → Option (List Event)) (left : C → Option (List ℕ)) (old between new : C) (program : Parts) (settings : Settings) (players : ℕ) (config : Configuration M) (none : IsForAll program settings.height (position_of config) → ⊥) (group : ℕ) (offers : List Offer) (here : IsOfferedHere program settings (position_of config) group offers) (spent spent' : Spent) where
+  pub turn_acted : (place : ℕ) → Did talk left old between (SettlesTurn program settings.seed config.stage group offers spent (Place (place + 1)) spent') → (turned : Turned M) → IsActed talk left between new program settings.height offers place config turned → IsWent talk left old new program settings players config spent spent' turned
+  turn_acted place settled (Done next) acted =
+      let counted = acted.1 in
+      let remain = here.remain in (
+        did_then talk left old between new _ _ _ (λ come first middle second rest settles acts. turn_done program settings players (position_of config) none group offers here spent spent' place come middle rest first second settles (position_of next) counted acts) settled acted.0,
+        omega (arith, counted),
+        omega (arith, counted, remain),
+      )
+  turn_acted place settled (Over last) acted =
+      subst (λ (c : Configuration M). Did talk left old new (EndsParts program settings players (position_of config) spent last.word (position_of c) spent')) (sym acted.1)
+      (did_then talk left old between new _ _ _ (λ come first middle second rest settles fails. turn_fails program settings players (position_of config) none group offers here spent spent' place come middle rest first second settles last.word fails) settled acted.0)
+
+-- Refused turns
+
+decides_left : AreWithin → (program : Parts) (seed stage group : ℕ) (offers : List Offer) (from : Supply) (how : How) (choice : Choice) (to : Supply) → Decides program seed stage group (length offers) from how choice to → LeavesUnheard from.come (turn_question_events program offers how) to.come
+decides_left within program seed stage group offers from (Heard events) choice to decides =
+    let asked = offer_lines program 1 offers ++ choose_line 1 in
+    left_then from.come (outs asked) from.come events to.come (outs_left asked from.come (outs asked) from.come (refl, refl)) (within (length offers) from.taken to.taken from.come to.come events choice decides.1).1
+decides_left within program seed stage group offers from Lone choice to decides = outs_left (offer_lines program 1 offers) from.come (outs (offer_lines program 1 offers)) to.come (refl, ap (λ (supply : Supply). supply.come) decides.3)
+decides_left within program seed stage group offers from Drawn choice to decides = outs_left (offer_lines program 1 offers) from.come (outs (offer_lines program 1 offers)) to.come (refl, ap (λ (supply : Supply). supply.come) decides.3)
+
+pub settles_left : AreWithin → (program : Parts) (seed stage group : ℕ) (offers : List Offer) (old : Spent) (choice : Choice) (new : Spent) (come : List ℕ) (events : List Event) (rest : List ℕ) → SettlesTurn program seed stage group offers old choice new come events rest → LeavesUnheard come events rest
+settles_left within program seed stage group offers old choice new come events rest settles =
+    subst (λ es. LeavesUnheard come es rest) (sym settles.whole) (decides_left within program seed stage group offers (supply_with come old) settles.how choice (supply_with rest new) settles.decides)
+
+pub act_left : (program : Parts) (height : ℕ) (offers : List Offer) (place : ℕ) (old : Position) (come : List ℕ) (events : List Event) (rest : List ℕ) → BeginsAct program height offers place old come events rest → LeavesUnheard come events rest
+act_left program height offers place old come events rest (inl nothing) = outs_left [] come events rest nothing
+act_left program height offers place old come events rest (inr on) =
+    let acts = on.acts in
+    prefix_left (deed_lines program acts.offer acts.proofs acts.rule.next on.next.turns on.next.spot.state) come events on.more rest acts.written acts.untaken
+
+module _ (program : Parts) (settings : Settings) (players : ℕ) (at : Position) (none : IsForAll program settings.height at → ⊥) (group : ℕ) (offers : List Offer) (here : IsOfferedHere program settings at group offers) (spent : Spent) (laws : PlayersLaws) (kept : IsProgram program) (some : 0 < players) (is_state : IsState program.signature at.spot.state) where
+  pub decision_refused : (come : List ℕ) (events : List Event) → BeginsSome (SettlesSomeTurn program settings.seed at.spot.stage group offers spent) come events → BeginsSome (IsRunInRounds program settings players at) (supply_with come spent) events
+  decision_refused come events begun =
+      let whole = begun.whole in
+      prefix_of_prefix (IsRunInRounds program settings players at) (supply_with come spent) events begun.more
+      (decision_begins program settings players at none group offers here spent whole.1 laws kept some is_state come (events ++ begun.more) begun.left whole.0 whole.2)
+
+  pub act_refused : {C : Type 0} (talk : C → Option (List Event)) (left : C → Option (List ℕ)) (old between new : C) (spent' : Spent) (place : ℕ) → Did talk left old between (SettlesTurn program settings.seed at.spot.stage group offers spent (Place (place + 1)) spent') → Did talk left between new (BeginsAct program settings.height offers place at)
+      → FellShort talk left old new (λ come. supply_with come spent) (IsRunInRounds program settings players at)
+  act_refused talk left old between new spent' place settled begun =
+      did_then talk left old between new _ _ _ (λ come first middle second rest settles begins. (
+        act_begins program settings players at none group offers here spent spent' laws kept some is_state place come middle rest first second settles begins,
+        left_then come first middle second rest (settles_left laws.within program settings.seed at.spot.stage group offers spent (Place (place + 1)) spent' come first middle settles) (act_left program settings.height offers place at middle second rest begins),
+      )) settled begun
