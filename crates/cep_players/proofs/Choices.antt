@@ -37,6 +37,10 @@ events_more player (first ∷ hearings) hearing =
     let e : player + 1 + length hearings ≡ player + suc (length hearings) = omega arith in
     rw (events_more (player + 1) hearings hearing, e, append_assoc (outs (choose_line player)) (first.events ++ hearing_events (player + 1) hearings) (outs (choose_line (player + suc (length hearings))) ++ hearing.events), append_assoc first.events (hearing_events (player + 1) hearings) (outs (choose_line (player + suc (length hearings))) ++ hearing.events)) refl
 
+-- of two stretches only bytes were taken, as in each
+pub spent_then : (old now new : Spent) → now ≡ record old { taken = now.taken } → new ≡ record now { taken = new.taken } → new ≡ record old { taken = new.taken }
+spent_then old now new one two = two ∙ ap (λ (s : Spent). record s { taken = new.taken }) one
+
 module _ (offers : List Offer) (old : Spent) where
   -- nobody was asked yet
   pub none_chose : (come : List ℕ) (events : List Event) (rest : List ℕ) → (events ≡ []) × (rest ≡ come) → AllChoose 0 offers [] old old come events rest
@@ -113,6 +117,11 @@ module _ (offers : List Offer) (old : Spent) where
         let on = one_chooses i few chosen now begun.whole.1 begun.whole.0 is come middle begun.left first (second ++ begun.more) all one
         (λ more next. choose_on (players - i - 1) (i + 1) (omega (arith, few)) more begun.whole.1 come begun.left (first ++ (second ++ begun.more)) next) in
         record { more = begun.more ++ on.more; left = on.left; whole = subst (λ es. ChooseSome players offers old come es on.left) (ap (λ es. es ++ on.more) (sym (append_assoc first second begun.more)) ∙ append_assoc (first ++ second) begun.more on.more) on.whole }
+
+    -- one was asked, and chose or did not
+    pub asked_on : (i : ℕ) → i < players → (chosen : List Offer) (now new : Spent) (choice : Choice) (come middle rest : List ℕ) (first second : List Event) → AllChoose i offers chosen old now come first middle → AsksOne (i + 1) (length offers) now choice new middle second rest → BeginsSome (ChooseSome players offers old) come (first ++ second)
+    asked_on i few chosen now new choice come middle rest first second all one =
+        refused_at i few chosen now come middle first second all (record { more = []; left = rest; whole = (choice, new, subst (λ es. AsksOne (i + 1) (length offers) now choice new middle es rest) (sym (append-nil second)) one) })
 
   -- what was heard is gone
   module _ (within : AreWithin) where

@@ -233,7 +233,7 @@ module _ (program : Parts) (settings : Settings) (players : ℕ) where
           subst (λ es. BeginsSome (IsRunInRounds program settings players at) (supply_with come spent) (outs (offer_lines program 1 offers) ++ es)) (sym stops.written)
           (ends_here at (supply_with come spent) word (of_player offers stops.hearings stops.last stops.choice) at (supply_with rest new) (stop_ends word new come events rest stops))
 
-      chosen_on : (come : List ℕ) (events : List Event) (rest : List ℕ) → ChooseSome players offers spent come events rest → BeginsSome (IsRunInRounds program settings players at) (supply_with come spent) (outs (offer_lines program 1 offers) ++ events)
+      pub chosen_on : (come : List ℕ) (events : List Event) (rest : List ℕ) → ChooseSome players offers spent come events rest → BeginsSome (IsRunInRounds program settings players at) (supply_with come spent) (outs (offer_lines program 1 offers) ++ events)
       chosen_on come events rest (inl all) = all_on all.0 all.1 come events rest all.2
       chosen_on come events rest (inr stops) = stop_on stops.0 stops.1 come events rest stops.2
 

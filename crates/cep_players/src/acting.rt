@@ -108,7 +108,8 @@ fn act_offer<C: Console, M: Matcher, L: Ledger>(
     ensures cause { ConsoleCause (C.faults console.old) (C.faults console.new) result }
 {
     program.parts();
-    if config.turns() >= settings.limit {
+    let limit = settings.limit;
+    if config.turns() >= limit {
         return Ok(over(config, EndWord::Turns));
     }
     let place = place_in(config.matcher(), group, offer);

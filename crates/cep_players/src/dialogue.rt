@@ -124,7 +124,8 @@ fn part<C: Console, M: Matcher, L: Ledger>(
     let Some(group) = config.asked() else {
         return Ok(over(config, EndWord::Quiet));
     };
-    if config.turns() >= settings.limit {
+    let limit = settings.limit;
+    if config.turns() >= limit {
         return Ok(over(config, EndWord::Turns));
     }
     if !config.matcher().len_ok(group) {

@@ -12,7 +12,7 @@ use Rattle.cep_run.specs.declared.choice.Choice.TheVariants.{NoMore, NoRoom}
 use Rattle.cep_run.specs.declared.deciding.Spent.{Spent}
 use Rattle.cep_players.specs.Playing.{AllChoose}
 use Rattle.cep_players.proofs.Prefixes.{left_then}
-use Rattle.cep_players.proofs.Choices.{none_chose, one_more, one_does_not, choose_on, refused_at, all_left, one_left}
+use Rattle.cep_players.proofs.Choices.{none_chose, one_more, one_does_not, refused_at, asked_on, all_left, one_left, spent_then}
 use Rattle.cep_players.proofs.choices.choices.Goals as goal
 
 pub loop-player-init : goal.loop-player-init
@@ -86,3 +86,44 @@ returns-in_err-place-clause-begun g c =
       left_then come first middle second rest (all_left offers c.args.spent.now law.within c.loop-player.player c.loop-player.chosen c.loop-player.spent come first middle all) begun.1,
     ))
     c.loop-player.invariant.so_far (rw c.count-n.ensures at c.in_err-place.ensures.begun))
+
+pub returns-in_err-offer-in-Place-clause-begun : goal.returns-in_err-offer-in-Place-clause-begun
+returns-in_err-offer-in-Place-clause-begun g c =
+    let offers = offers_of (g.M.Matcher.offers_held c.args.matcher.now) c.args.group in
+    let law = c.one_choice_is_heard.ensures in
+    on_err c.from_residual-in_err-offer-in-Place.result _
+    (did_then g.C.Console.talk g.C.Console.left c.args.console.now c.loop-player.console c.ask.new.console _ _ _
+    (λ come first middle second rest all one. (
+      asked_on offers c.args.spent.now law.there law.within c.args.players c.loop-player.player c.loop-player-test.true c.loop-player.chosen c.loop-player.spent c.ask.new.spent _ come middle rest first second all one,
+      left_then come first middle second rest (all_left offers c.args.spent.now law.within c.loop-player.player c.loop-player.chosen c.loop-player.spent come first middle all)
+          (one_left offers c.args.spent.now law.within (c.loop-player.player + 1) _ c.loop-player.spent c.ask.new.spent _ middle second rest one),
+    ))
+    c.loop-player.invariant.so_far (rw c.count-n.ensures at c.in_ok-place.ensures.heard))
+
+pub returns-in_err-push-in-Place-clause-begun : goal.returns-in_err-push-in-Place-clause-begun
+returns-in_err-push-in-Place-clause-begun g c =
+    let offers = offers_of (g.M.Matcher.offers_held c.args.matcher.now) c.args.group in
+    let law = c.one_choice_is_heard.ensures in
+    on_err c.from_residual-in_err-push-in-Place.result _
+    (did_then g.C.Console.talk g.C.Console.left c.args.console.now c.loop-player.console c.ask.new.console _ _ _
+    (λ come first middle second rest all one. (
+      asked_on offers c.args.spent.now law.there law.within c.args.players c.loop-player.player c.loop-player-test.true c.loop-player.chosen c.loop-player.spent c.ask.new.spent _ come middle rest first second all one,
+      left_then come first middle second rest (all_left offers c.args.spent.now law.within c.loop-player.player c.loop-player.chosen c.loop-player.spent come first middle all)
+          (one_left offers c.args.spent.now law.within (c.loop-player.player + 1) _ c.loop-player.spent c.ask.new.spent _ middle second rest one),
+    ))
+    c.loop-player.invariant.so_far (rw c.count-n.ensures at c.in_ok-place.ensures.heard))
+
+pub returns-in-NoMore-clause-spent : goal.returns-in-NoMore-clause-spent
+returns-in-NoMore-clause-spent g c = spent_then c.args.spent.now c.loop-player.spent c.ask.new.spent c.loop-player.invariant.same c.ask.ensures.spent
+
+pub returns-in-NoRoom-clause-spent : goal.returns-in-NoRoom-clause-spent
+returns-in-NoRoom-clause-spent g c = spent_then c.args.spent.now c.loop-player.spent c.ask.new.spent c.loop-player.invariant.same c.ask.ensures.spent
+
+pub returns-in_err-place-clause-spent : goal.returns-in_err-place-clause-spent
+returns-in_err-place-clause-spent g c = spent_then c.args.spent.now c.loop-player.spent c.ask.new.spent c.loop-player.invariant.same c.ask.ensures.spent
+
+pub returns-in_err-offer-in-Place-clause-spent : goal.returns-in_err-offer-in-Place-clause-spent
+returns-in_err-offer-in-Place-clause-spent g c = spent_then c.args.spent.now c.loop-player.spent c.ask.new.spent c.loop-player.invariant.same c.ask.ensures.spent
+
+pub returns-in_err-push-in-Place-clause-spent : goal.returns-in_err-push-in-Place-clause-spent
+returns-in_err-push-in-Place-clause-spent g c = spent_then c.args.spent.now c.loop-player.spent c.ask.new.spent c.loop-player.invariant.same c.ask.ensures.spent
