@@ -42,7 +42,7 @@ use Rattle.cep_players.specs.Runs.{IsForAll, Hearing, HaveChosen, Round, IsListe
 use Rattle.cep_players.specs.Dialogues.{hearing_events, blocked_lines, choose_line, turn_question_events, round_question_events, round_events, part_events, last_part_events, DialogueInRounds}
 use Rattle.cep_players.specs.Playing.{AllChoose, OneDoesNot, ChooseSome, events_of_rounds, IsRunInRounds}
 use Rattle.cep_players.proofs.Prefixes.{prefix_of_prefix}
-use Rattle.cep_players.proofs.Choices.{none_chose, choose_on}
+use Rattle.cep_players.proofs.AllPlayers.{none_chose, choose_on}
 use Rattle.cep_players.proofs.Contained.{flags_there, first_admitted}
 use Rattle.cep_players.proofs.RoundSteps.{chosen_are, deeds_states, deeds_more, same_stage, next_is_offer}
 

@@ -1,5 +1,5 @@
 use Rattle.std.proofs.Common.{refl}
-use Rattle.cep_players.proofs.Acting.{next_admitted}
+use Rattle.cep_players.proofs.OffersDone.{next_admitted}
 use Rattle.cep_players.proofs.Turning.{act_begins}
 use Rattle.cep_players.proofs.Rounding.{round_begins}
 use Rattle.cep_players.proofs.Whole.{whole_dialogue}

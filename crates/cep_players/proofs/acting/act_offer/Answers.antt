@@ -9,7 +9,7 @@ use Rattle.cep_rule.specs.Stages.{own_group}
 use Rattle.cep_rule.specs.Matching.{offers_of}
 use Rattle.cep_run.specs.Turn.{position_of}
 use Rattle.cep_players.specs.Going.{IsOfferMoved}
-use Rattle.cep_players.proofs.Acting.{asked_are_own, acts_begin, offer_acted, offer_moved, both_ok, there_in, turns_over}
+use Rattle.cep_players.proofs.OffersDone.{asked_are_own, acts_begin, offer_acted, offer_moved, both_ok, there_in, turns_over}
 use Rattle.cep_players.proofs.acting.act_offer.Goals as goal
 
 pub place_in-requires-clause-listed : goal.place_in-requires-clause-listed

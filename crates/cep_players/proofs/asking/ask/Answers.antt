@@ -4,7 +4,7 @@ use Rattle.cep_base.proofs.Did.{did_put, did_then, did_map}
 use Rattle.cep_base.proofs.Outcomes.{on_err}
 use Rattle.cep_players.specs.Dialogues.{choose_line}
 use Rattle.cep_players.proofs.Prefixes.{did_part, did_nothing, put_left, outs_left, left_then}
-use Rattle.cep_players.proofs.Asking.{asks_after, asks_on, hears_after}
+use Rattle.cep_players.proofs.OnePlayer.{asks_after, asks_on, hears_after}
 use Rattle.cep_players.proofs.asking.ask.Goals as goal
 
 pub returns-clause-heard : goal.returns-clause-heard

@@ -1,7 +1,7 @@
 use Rattle.std.proofs.Common.{ap, ◌∙◌, Some}
 use Rattle.cep_base.proofs.Lists.{holds_at}
 use Rattle.cep_rule.specs.Shapes.{IsOfferOf}
-use Rattle.cep_players.proofs.Blocked.{step_blocked, step_admitted, end_blocked}
+use Rattle.cep_players.proofs.BlockedLines.{step_blocked, step_admitted, end_blocked}
 use Rattle.cep_players.proofs.blocked.put_blocked.Goals as goal
 use Rattle.cep_players.proofs.blocked.put_blocked.Goals.{then-not-get+in_ok-put_blocked_line, else-not-get}
 

@@ -12,7 +12,7 @@ use Rattle.cep_run.specs.declared.choice.Choice.TheVariants.{NoMore, NoRoom}
 use Rattle.cep_run.specs.declared.deciding.Spent.{Spent}
 use Rattle.cep_players.specs.Playing.{AllChoose}
 use Rattle.cep_players.proofs.Prefixes.{left_then}
-use Rattle.cep_players.proofs.Choices.{none_chose, one_more, one_does_not, refused_at, asked_on, all_left, one_left, spent_then}
+use Rattle.cep_players.proofs.AllPlayers.{none_chose, one_more, one_does_not, refused_at, asked_on, all_left, one_left, spent_then}
 use Rattle.cep_players.proofs.choices.choices.Goals as goal
 
 pub loop-player-init : goal.loop-player-init

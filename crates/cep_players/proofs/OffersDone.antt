@@ -40,7 +40,7 @@ use Rattle.cep_run.specs.Turn.{position_of, IsPlaced, Acts, WouldPass, IsActed, 
 use Rattle.cep_players.specs.Runs.{CannotBeDone}
 use Rattle.cep_players.specs.PlayersLaws.{RoundLaws}
 use Rattle.cep_players.specs.Going.{DoesOffer, CannotDo, IsOfferActed, IsOfferMoved, BeginsOffer, ActsSome, StopsAct, BeginsActs}
-use Rattle.cep_players.proofs.Blocked.{drop_next}
+use Rattle.cep_players.proofs.BlockedLines.{drop_next}
 use Rattle.cep_players.proofs.RoundSteps.{each_admitted, stays_in_stage}
 use Rattle.cep_players.proofs.RoundsThere.{passes_stops}
 
