@@ -42,7 +42,7 @@ chosen_are P offers each (hearing ∷ hearings) [] have = absurd have
 chosen_are P offers each (hearing ∷ hearings) (offer ∷ chosen) have = (each (hearing.place - 1) offer have.0, chosen_are P offers each hearings chosen have.1)
 
 -- a rule of a stage's own group leaves no stage
-stays_in_stage : (rule : Rule) (stage : ℕ) → rule.group ≡ own_group stage → IsSome rule.next ↔ (rule.group % 2 ≡ 1) → stage ≡ stage_after rule stage
+pub stays_in_stage : (rule : Rule) (stage : ℕ) → rule.group ≡ own_group stage → IsSome rule.next ↔ (rule.group % 2 ≡ 1) → stage ≡ stage_after rule stage
 stays_in_stage rule stage grouped leaves = by rule.next refl
   where
     even : (n : ℕ) → n ≡ 2 * stage → n % 2 ≡ 1 → ⊥

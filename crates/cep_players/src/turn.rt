@@ -62,10 +62,9 @@ fn decide<C: Console, M: Matcher>(
     let asked = is_players(program, config.stage(), group, offers);
     tell(alloc, program, matcher, group, console)?;
     if asked {
-        ask(alloc, 1, offers as u32, console, spent)
-    } else {
-        Ok(Choice::Place(spent.place(offers as u32)))
+        return ask(alloc, 1, offers as u32, console, spent);
     }
+    Ok(Choice::Place(spent.place(offers as u32)))
 }
 
 // Does one turn, unless the run ends before its step.

@@ -12,12 +12,12 @@ use Rattle.cep_players.specs.Going.{IsOfferMoved}
 use Rattle.cep_players.proofs.OffersDone.{asked_are_own, acts_begin, offer_acted, offer_moved, both_ok, there_in, turns_over}
 use Rattle.cep_players.proofs.acting.act_offer.Goals as goal
 
-pub place_in-requires-clause-listed : goal.place_in-requires-clause-listed
-place_in-requires-clause-listed g c =
+pub place_in-place-requires-clause-listed : goal.place_in-place-requires-clause-listed
+place_in-place-requires-clause-listed g c =
     subst (λ m. c.args.group < length (g.M.Matcher.offers_held m)) (sym c.matcher.ensures.matcher) (let low = c.matcher.ensures.listed in let own = c.requires.own in omega (arith, low, own))
 
-pub place_in-requires-clause-there : goal.place_in-requires-clause-there
-place_in-requires-clause-there g c =
+pub place_in-place-requires-clause-there : goal.place_in-place-requires-clause-there
+place_in-place-requires-clause-there g c =
     let config = c.args.config in
     subst (λ m. Contains (offers_of (g.M.Matcher.offers_held m) c.args.group) c.args.offer.now) (sym c.matcher.ensures.matcher)
     (there_in c.args.program.now c.args.settings (g.M.Matcher.height_held config.matcher) (g.M.Matcher.state_held config.matcher) config.state (g.M.Matcher.offers_held config.matcher) c.args.group c.args.offer.now
@@ -25,36 +25,36 @@ place_in-requires-clause-there g c =
 
 pub act-requires-clause-asked : goal.act-requires-clause-asked
 act-requires-clause-asked g c =
-    asked_are_own (g.M.Matcher.offers_held c.args.config.matcher) c.args.config.stage c.args.group c.place_in.result c.args.offer.now c.requires.own
-    (subst (λ m. slice_get (offers_of (g.M.Matcher.offers_held m) c.args.group) c.place_in.result ≡ Some c.args.offer.now) c.matcher.ensures.matcher c.place_in.ensures)
+    asked_are_own (g.M.Matcher.offers_held c.args.config.matcher) c.args.config.stage c.args.group c.place_in-place.result c.args.offer.now c.requires.own
+    (subst (λ m. slice_get (offers_of (g.M.Matcher.offers_held m) c.args.group) c.place_in-place.result ≡ Some c.args.offer.now) c.matcher.ensures.matcher c.place_in-place.ensures)
 
 pub act-requires-clause-within : goal.act-requires-clause-within
 act-requires-clause-within g c =
-    slice_get_within (offers_of (g.M.Matcher.offers_held c.args.config.matcher) c.args.group) c.place_in.result c.args.offer.now
-    (subst (λ m. slice_get (offers_of (g.M.Matcher.offers_held m) c.args.group) c.place_in.result ≡ Some c.args.offer.now) c.matcher.ensures.matcher c.place_in.ensures)
+    slice_get_within (offers_of (g.M.Matcher.offers_held c.args.config.matcher) c.args.group) c.place_in-place.result c.args.offer.now
+    (subst (λ m. slice_get (offers_of (g.M.Matcher.offers_held m) c.args.group) c.place_in-place.result ≡ Some c.args.offer.now) c.matcher.ensures.matcher c.place_in-place.ensures)
 
 pub returns-clause-begun : goal.returns-clause-begun
 returns-clause-begun g c =
-    let there = subst (λ m. slice_get (offers_of (g.M.Matcher.offers_held m) c.args.group) c.place_in.result ≡ Some c.args.offer.now) c.matcher.ensures.matcher c.place_in.ensures in
+    let there = subst (λ m. slice_get (offers_of (g.M.Matcher.offers_held m) c.args.group) c.place_in-place.result ≡ Some c.args.offer.now) c.matcher.ensures.matcher c.place_in-place.ensures in
     on_err_weaker c.act.result
     (did_map g.C.Console.talk g.C.Console.left c.args.console.now c.act.new.console _ _
     (acts_begin c.args.program.now c.args.settings c.args.offer.now (position_of c.args.config) (subst (λ n. IsOffer c.args.program.now c.args.settings.height c.args.config.state n c.args.offer.now) c.requires.own c.requires.offer)
-    (offers_of (g.M.Matcher.offers_held c.args.config.matcher) c.args.group) c.place_in.result there (let few = c.if-turns-limit.false in omega arith)))
+    (offers_of (g.M.Matcher.offers_held c.args.config.matcher) c.args.group) c.place_in-place.result there (let few = c.if-turns-limit.false in omega arith)))
     c.act.ensures.begun
 
 pub returns-clause-acted : goal.returns-clause-acted
 returns-clause-acted g c =
-    let there = subst (λ m. slice_get (offers_of (g.M.Matcher.offers_held m) c.args.group) c.place_in.result ≡ Some c.args.offer.now) c.matcher.ensures.matcher c.place_in.ensures in
+    let there = subst (λ m. slice_get (offers_of (g.M.Matcher.offers_held m) c.args.group) c.place_in-place.result ≡ Some c.args.offer.now) c.matcher.ensures.matcher c.place_in-place.ensures in
     IfOk-weaker c.act.result _ _
-    (offer_acted c.args.program.now c.args.settings c.parts.ensures.kept c.args.offer.now c.args.config c.args.group c.requires.own c.requires.offer (offers_of (g.M.Matcher.offers_held c.args.config.matcher) c.args.group) c.place_in.result there (let few = c.if-turns-limit.false in omega arith)
+    (offer_acted c.args.program.now c.args.settings c.parts.ensures.kept c.args.offer.now c.args.config c.args.group c.requires.own c.requires.offer (offers_of (g.M.Matcher.offers_held c.args.config.matcher) c.args.group) c.place_in-place.result there (let few = c.if-turns-limit.false in omega arith)
     g.C.Console.talk g.C.Console.left c.args.console.now c.act.new.console)
     c.act.ensures.acted
 
 pub returns-clause-moved : goal.returns-clause-moved
 returns-clause-moved g c =
-    let there = subst (λ m. slice_get (offers_of (g.M.Matcher.offers_held m) c.args.group) c.place_in.result ≡ Some c.args.offer.now) c.matcher.ensures.matcher c.place_in.ensures in
+    let there = subst (λ m. slice_get (offers_of (g.M.Matcher.offers_held m) c.args.group) c.place_in-place.result ≡ Some c.args.offer.now) c.matcher.ensures.matcher c.place_in-place.ensures in
     both_ok c.act.result _ _ _
-    (offer_moved c.args.program.now c.args.settings c.parts.ensures.kept c.args.offer.now c.args.config c.args.group c.requires.own c.requires.offer (offers_of (g.M.Matcher.offers_held c.args.config.matcher) c.args.group) c.place_in.result there (let few = c.if-turns-limit.false in omega arith)
+    (offer_moved c.args.program.now c.args.settings c.parts.ensures.kept c.args.offer.now c.args.config c.args.group c.requires.own c.requires.offer (offers_of (g.M.Matcher.offers_held c.args.config.matcher) c.args.group) c.place_in-place.result there (let few = c.if-turns-limit.false in omega arith)
     g.C.Console.talk g.C.Console.left c.args.console.now c.act.new.console)
     c.act.ensures.acted c.act.ensures.moved
 

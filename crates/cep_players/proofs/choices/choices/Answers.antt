@@ -36,7 +36,7 @@ loop-player-preserved g c =
     let left = g.C.Console.left in
     let before = c.loop-player.invariant in
     let offer = c.in_ok-offer-in-Place.offer in
-    let there : slice_get offers (c.in-Place.place - 1) ≡ Some offer = c.offer-in-Place.ensures ∙ ap Some (sym c.in_ok-offer-in-Place.ensures) in
+    let there : slice_get offers (c.in-Place.place - 1) ≡ Some offer = c.offer.ensures ∙ ap Some (sym c.in_ok-offer-in-Place.ensures) in
     let pushed = c.in_ok-push-in-Place.ensures.ok in
     record {
       within = c.ask.ensures.within;
