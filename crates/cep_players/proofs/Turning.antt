@@ -1,8 +1,8 @@
 -- A turn is decided, and done or not.
-use Rattle.std.proofs.Common.{◌≡◌, ◌⊎◌, inl, inr, ℕ, ◌+◌, ◌-◌, ◌<◌, ◌≤◌, Bool, true, false, List, [], ◌∷◌, ◌++◌, length, Option, None, Some, append_assoc, append-nil, refl, sym, ap, ◌∙◌, subst, arith}
-use Rattle.std.specs.Prelude.{slice_get, IsTrue, ◌↔◌}
+use Rattle.std.proofs.Common.{◌≡◌, ◌⊎◌, inl, inr, ℕ, ◌+◌, ◌-◌, ◌<◌, ◌≤◌, Bool, true, false, List, [], ◌∷◌, ◌++◌, length, get_or, Option, None, Some, append_assoc, append-nil, refl, sym, ap, ◌∙◌, subst, arith}
+use Rattle.std.specs.Prelude.{slice_get, IsTrue, ◌↔◌, All, IsSomeAnd}
 use Rattle.std.proofs.lemmas.Bool.{cases_eq, cases_lt}
-use Rattle.std.proofs.lemmas.List.{map-append}
+use Rattle.std.proofs.lemmas.List.{map-append, get_or_default}
 use Rattle.std.proofs.lemmas.Option.{slice_get_within, get_or_from_slice_get}
 use Rattle.cep_base.specs.declared.limits.TheConstants.{MOST_TYPED}
 use Rattle.cep_base.specs.declared.console.Event.{Event}
@@ -16,7 +16,8 @@ use Rattle.cep_rule.specs.declared.parts.Parts.{Parts}
 use Rattle.cep_rule.specs.declared.offer.Offer.{Offer}
 use Rattle.cep_rule.specs.Typing.{AreValues}
 use Rattle.cep_rule.specs.State.{IsState}
-use Rattle.cep_rule.specs.Offers.{IsOffer}
+use Rattle.cep_rule.specs.Shapes.{IsOfferOf}
+use Rattle.cep_rule.specs.Offers.{IsOffer, AreOffers}
 use Rattle.cep_rule.specs.Stages.{own_group, leaving_group, HasOffer, IsAsked}
 use Rattle.cep_rule.specs.Matching.{offers_of}
 use Rattle.cep_rule.specs.Program.{IsProgram}
@@ -317,3 +318,20 @@ module _ (program : Parts) (settings : Settings) (players : ℕ) (at : Position)
         act_begins program settings players at none group offers here spent spent' laws kept some is_state place come middle rest first second settles begins,
         left_then come first middle second rest (settles_left laws.within program settings.seed at.spot.stage group offers spent (Place (place + 1)) spent' come first middle settles) (act_left program settings.height offers place at middle second rest begins),
       )) settled begun
+
+-- What is offered here has texts, and is some
+
+pub offers_have_texts : (program : Parts) (height : ℕ) (state : Multiset) (group : ℕ) (offers : List Offer) → AreOffers program height state group offers → All (IsOfferOf program) offers
+offers_have_texts program height state group offers are k d h =
+    let offer = get_or offers k d in
+    let applies = (are.no_other offer (k, h, get_or_default offers k offer d h)).applies in
+    subst (λ (o : Option Rule). IsSomeAnd o (λ rule. AreValues program.signature.cons rule.kinds offer.values)) (sym applies.numbered) applies.values
+
+some_there : (program : Parts) (height : ℕ) (state : Multiset) (group : ℕ) (offers : List Offer) → AreOffers program height state group offers → HasOffer program height state group → 0 < length offers
+some_there program height state group offers are has = let there = are.each has.0 has.1 in omega (arith, there.1)
+
+pub some_offers : (program : Parts) (settings : Settings) (at : Position) (group : ℕ) (offers : List Offer) → IsOfferedHere program settings at group offers → 0 < length offers
+some_offers program settings at group offers here = elim here.asked [
+  | inl own ↦ some_there program settings.height at.spot.state group offers here.offered own.1
+  | inr leaving ↦ some_there program settings.height at.spot.state group offers here.offered leaving.2
+]

@@ -9,7 +9,7 @@ use Rattle.cep_run.specs.Choice.{IsChoiceWithin}
 use Rattle.cep_run.specs.Turn.{position_of}
 use Rattle.cep_rule.specs.Matching.{offers_of}
 use Rattle.cep_players.specs.Going.{SettlesTurn, IsWent}
-use Rattle.cep_players.proofs.Turning.{no_more, no_room, turn_acted, decision_refused, act_refused}
+use Rattle.cep_players.proofs.Turning.{offers_have_texts, some_offers, no_more, no_room, turn_acted, decision_refused, act_refused}
 use Rattle.cep_players.proofs.turn.turn.Goals as goal
 
 -- a place that is chosen comes after one, counted from 0
@@ -30,7 +30,7 @@ pub returns-in-NoMore-clause-went : goal.returns-in-NoMore-clause-went
 returns-in-NoMore-clause-went g c =
     let config = c.args.config in
     let offers = offers_of (g.M.Matcher.offers_held config.matcher) c.args.group in
-    subst (λ t. IsWent g.C.Console.talk g.C.Console.left c.args.console.now c.decide.new.console c.args.program.now c.args.settings c.args.players config c.args.spent.now c.decide.new.spent t) (sym c.over-in-NoMore.ensures)
+    subst (λ t. IsWent g.C.Console.talk g.C.Console.left c.args.console.now c.decide.new.console c.args.program.now c.args.settings c.args.players config c.args.spent.now c.decide.new.spent t) (sym c.over.ensures)
     (did_map g.C.Console.talk g.C.Console.left c.args.console.now c.decide.new.console _ _
     (no_more c.args.program.now c.args.settings c.args.players (position_of config) c.requires.other c.args.group offers c.requires.here c.args.spent.now c.decide.new.spent)
     (rw c.in-NoMore.is at c.in_ok-place.ensures.settled))
@@ -66,3 +66,13 @@ returns-in-Place-clause-begun g c =
     g.C.Console.talk g.C.Console.left c.args.console.now c.decide.new.console c.act.new.console c.decide.new.spent (c.in-Place.place - 1)
     (subst (λ (it : Choice). Did g.C.Console.talk g.C.Console.left c.args.console.now c.decide.new.console (SettlesTurn c.args.program.now c.args.settings.seed config.stage c.args.group offers c.args.spent.now it c.decide.new.spent)) choice c.in_ok-place.ensures.settled))
     c.act.ensures.begun
+
+pub decide-requires-clause-offers : goal.decide-requires-clause-offers
+decide-requires-clause-offers g c =
+    let config = c.args.config in
+    offers_have_texts c.args.program.now c.args.settings.height config.state c.args.group (offers_of (g.M.Matcher.offers_held config.matcher) c.args.group) c.requires.here.offered
+
+pub decide-requires-clause-some : goal.decide-requires-clause-some
+decide-requires-clause-some g c =
+    let config = c.args.config in
+    some_offers c.args.program.now c.args.settings (position_of config) c.args.group (offers_of (g.M.Matcher.offers_held config.matcher) c.args.group) c.requires.here
