@@ -40,7 +40,7 @@ use Rattle.cep_run.specs.Turn.{position_of, IsPlaced, Acts, WouldPass, IsActed, 
 use Rattle.cep_players.specs.Runs.{CannotBeDone}
 use Rattle.cep_players.specs.PlayersLaws.{RoundLaws}
 use Rattle.cep_players.specs.Going.{DoesOffer, CannotDo, IsOfferActed, IsOfferMoved, BeginsOffer, ActsSome, StopsAct, BeginsActs}
-use Rattle.cep_players.proofs.BlockedLines.{drop_next}
+use Rattle.cep_players.proofs.BlockedLines.{drop_next, none_left}
 use Rattle.cep_players.proofs.RoundSteps.{each_admitted, stays_in_stage}
 use Rattle.cep_players.proofs.RoundsThere.{passes_stops}
 
@@ -261,3 +261,8 @@ next_admitted offers flags n offer is is' = let e : n + 1 ≡ suc n = omega arit
 
 pub next_blocked : (offers : List Offer) (flags : List Bool) (n : ℕ) → slice_get flags n ≡ Some false → admitted (take (n + 1) offers) (take (n + 1) flags) ≡ admitted (take n offers) (take n flags)
 next_blocked offers flags n is = let e : n + 1 ≡ suc n = omega arith in rw e (same_by_suc offers flags n is)
+
+-- after the last one all are gone through
+pub all_admitted : (chosen : List Offer) (flags : List Bool) (i : ℕ) → length chosen ≤ i → admitted chosen flags ≡ admitted (take i chosen) (take i flags)
+all_admitted chosen flags i over =
+    split_admitted chosen flags i ∙ ap (λ xs. admitted (take i chosen) (take i flags) ++ admitted xs (drop i flags)) (none_left chosen i over) ∙ append-nil (admitted (take i chosen) (take i flags))

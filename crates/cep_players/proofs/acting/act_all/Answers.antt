@@ -8,8 +8,8 @@ use Rattle.cep_rule.specs.Stages.{own_group}
 use Rattle.cep_round.specs.Rounds.{admitted}
 use Rattle.cep_round.specs.Orders.{AreOffersDone}
 use Rattle.cep_run.specs.Turn.{position_of, IsPlayed, config_left}
-use Rattle.cep_players.specs.Going.{ActsSome, IsOfferActed, IsOfferMoved}
-use Rattle.cep_players.proofs.OffersDone.{acts_none, acts_more, acts_stop, acts_refused, as_many_flags, done_more, next_admitted, next_blocked, next_left, same_left, next_offer, split_admitted}
+use Rattle.cep_players.specs.Going.{ActsSome, StopsAct, IsOfferActed, IsOfferMoved}
+use Rattle.cep_players.proofs.OffersDone.{acts_none, acts_more, acts_stop, acts_refused, as_many_flags, done_more, next_admitted, next_blocked, next_left, same_left, next_offer, split_admitted, all_admitted}
 use Rattle.cep_players.proofs.BlockedLines.{none_left}
 use Rattle.cep_players.proofs.AllPlayers.{at_place}
 use Rattle.cep_players.proofs.acting.act_all.Goals as goal
@@ -120,3 +120,35 @@ returns-in_err-next-clause-begun g c =
     (λ come first middle second rest acts begins. acts_refused program settings start (admitted chosen flags) (position_of config) offer (admitted (drop (i + 1) chosen) (drop (i + 1) flags)) c.loop-i.invariant.few come middle rest first second acts begins)
     (subst (λ xs. Did g.C.Console.talk g.C.Console.left c.args.console.now c.loop-i.console (ActsSome program settings.height start (position_of config) (admitted chosen flags) xs)) (next_left chosen flags i offer c.get-then-get.ensures (c.get.ensures ∙ ap Some c.if-get.true)) c.loop-i.invariant.so_far)
     c.in_err-next.ensures.begun)
+
+pub returns-in-Over-clause-acted : goal.returns-in-Over-clause-acted
+returns-in-Over-clause-acted g c =
+    let talk = g.C.Console.talk in
+    let left = g.C.Console.left in
+    let program = c.args.program.now in
+    let settings = c.args.settings in
+    let chosen = c.args.chosen.now in
+    let flags = c.args.flags.now in
+    let i = c.loop-i.i in
+    let offer = c.get-then-get.result.now in
+    let config = c.loop-i.config in
+    let start = position_of c.args.start in
+    let ended = c.in-Over.ended in
+    let moved = subst (λ t. IsOfferMoved program settings offer config t) c.in-Over.is c.in_ok-next.ensures.moved in
+    let acted = subst (λ t. IsOfferActed talk left c.loop-i.console c.act_offer.new.console program settings offer config t) c.in-Over.is c.in_ok-next.ensures.acted in
+    subst (λ k. Did talk left c.args.console.now c.act_offer.new.console (StopsAct program settings start (position_of k) (admitted chosen flags) ended.word)) (sym moved)
+    (did_then talk left c.args.console.now c.loop-i.console c.act_offer.new.console _ _ _
+    (λ come first middle second rest acts cannot. acts_stop program settings start (admitted chosen flags) (position_of config) offer (admitted (drop (i + 1) chosen) (drop (i + 1) flags)) ended.word come middle rest first second acts cannot)
+    (subst (λ xs. Did talk left c.args.console.now c.loop-i.console (ActsSome program settings.height start (position_of config) (admitted chosen flags) xs)) (next_left chosen flags i offer c.get-then-get.ensures (c.get.ensures ∙ ap Some c.if-get.true)) c.loop-i.invariant.so_far)
+    acted)
+
+pub returns-clause-counted : goal.returns-clause-counted
+returns-clause-counted g c =
+    let over = subst (λ n. n ≤ c.loop-i.i) c.len-i-end.ensures c.loop-i-test.false in
+    (c.loop-i.invariant.counted ∙ ap (λ offers. c.args.start.turns + length offers) (sym (all_admitted c.args.chosen.now c.args.flags.now c.loop-i.i over)), c.loop-i.invariant.few)
+
+pub returns-clause-acted : goal.returns-clause-acted
+returns-clause-acted g c =
+    let over = subst (λ n. n ≤ c.loop-i.i) c.len-i-end.ensures c.loop-i-test.false in
+    subst (λ xs. Did g.C.Console.talk g.C.Console.left c.args.console.now c.loop-i.console (ActsSome c.args.program.now c.args.settings.height (position_of c.args.start) (position_of c.loop-i.config) (admitted c.args.chosen.now c.args.flags.now) xs))
+    (ap (λ xs. admitted xs (drop c.loop-i.i c.args.flags.now)) (none_left c.args.chosen.now c.loop-i.i over)) c.loop-i.invariant.so_far
