@@ -1,5 +1,5 @@
 //! Laws of dialogues in rounds. Each function computes nothing, and its contract is the law.
-ghost use Rattle.std.specs.Prelude.{◌≡◌, ℕ, ◌≤◌, ◌++◌, List, length};
+ghost use Rattle.std.specs.Prelude.{◌≡◌, ℕ, ◌<◌, ◌≤◌, ◌++◌, List, length};
 ghost use Rattle.cep_base.specs.declared.limits.TheConstants.{MOST_LOG};
 ghost use Rattle.cep_base.specs.declared.console.Event.{Event};
 ghost use Rattle.cep_rule.specs.declared.parts.Parts.{Parts};
@@ -20,10 +20,44 @@ ghost use Rattle.cep_run.specs.Dialogue.{written_bytes};
 ghost use Rattle.cep_round.specs.Rounds.{IsRound};
 ghost use Rattle.cep_players.specs.Runs.{Round, IsRoundDone, TurnOrRound, EndOfRounds, all_done, done_before, RunsInRounds};
 ghost use Rattle.cep_players.specs.Dialogues.{DialogueInRounds};
+ghost use Rattle.cep_players.specs.PlayersLaws.{PlayersLaws};
 
 use cep_log::laws::{deeds_have_legal_logs, lines_are_read_as_written};
-use cep_round::laws::rounds_are_lawful;
-use cep_rule::laws::what_is_needed_is_there;
+use cep_round::laws::{
+    rounds_are_lawful, rounds_can_be_done_in_every_order, what_is_admitted_is_there,
+};
+use cep_rule::laws::{steps_lead_to_states, what_is_needed_is_there};
+use cep_run::laws::{
+    offers_can_be_done, one_choice_is_heard, questions_lead_on, runs_are_there,
+};
+use cep_term::laws::bags_are_lawful;
+
+// What runs in rounds rest on.
+pub(crate) fn players_are_lawful()
+    ensures { PlayersLaws }
+{
+    bags_are_lawful();
+    steps_lead_to_states();
+    what_is_needed_is_there();
+    what_is_admitted_is_there();
+    rounds_can_be_done_in_every_order();
+    one_choice_is_heard();
+    runs_are_there();
+    offers_can_be_done();
+    questions_lead_on();
+}
+
+/// Whatever is typed, there is a dialogue in rounds, of one player or more.
+pub fn dialogues_in_rounds_are_there()
+    ensures { (program : Parts) (settings : Settings) (players : ℕ) (come : List ℕ)
+        → IsProgram program
+        → 0 < players
+        → (parts : List TurnOrRound) × (end : EndOfRounds) × (word : EndWord) × (last : Position)
+        × (events : List Event) × (rest : List ℕ)
+        × DialogueInRounds program settings players come parts end word last events rest }
+{
+    players_are_lawful();
+}
 
 /// What is done in a run in rounds are lawful deeds, one after another; and if it ends with `quiet`,
 /// the last stage is quiet.

@@ -21,3 +21,4 @@ pub mod Saying
 pub mod Fronts
 pub mod RunFronts
 pub mod Unread
+pub mod OfferDone

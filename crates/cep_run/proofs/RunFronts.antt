@@ -1,5 +1,5 @@
 -- What a question says, and what a turn says, begins some run.
-use Rattle.std.proofs.Common.{◌≡◌, inl, inr, ℕ, [], ◌∷◌, ◌++◌, length, append_assoc, Some, refl, sym, ap, ◌∙◌, subst, arith}
+use Rattle.std.proofs.Common.{◌≡◌, ◌⊎◌, inl, inr, ℕ, [], ◌∷◌, ◌++◌, length, append_assoc, Some, refl, sym, ap, ◌∙◌, subst, arith}
 use Rattle.std.specs.List.{flat_map}
 use Rattle.cep_base.specs.Talk.{outs}
 use Rattle.cep_base.proofs.Lists.{holds_at}
@@ -7,12 +7,13 @@ use Rattle.cep_rule.specs.declared.parts.Parts.{Parts}
 use Rattle.cep_rule.specs.State.{IsState}
 use Rattle.cep_rule.specs.Program.{IsTypedRule, IsDividedRule, IsProgram}
 use Rattle.cep_lines.specs.Lines.{end_lines}
+use Rattle.cep_lines.specs.declared.end_word.EndWord.{EndWord}
 use Rattle.cep_run.specs.declared.choice.Choice.{Choice}
 use Rattle.cep_run.specs.declared.settings.Settings.{Settings}
 use Rattle.cep_run.specs.Choice.{IsChoiceWithin}
 use Rattle.cep_run.specs.Deciding.{Supply, How, Heard, Lone, Drawn, Decides}
 use Rattle.cep_step.specs.Deeds.{Position}
-use Rattle.cep_run.specs.Run.{Question, Turn, Ending, IsQuestion, IsTurn, Run}
+use Rattle.cep_run.specs.Run.{Question, Turn, Ending, IsQuestion, IsTurn, EndsAt, Run}
 use Rattle.cep_run.specs.Dialogue.{question_events, last_events, turn_events, events_of}
 use Rattle.cep_log.specs.Holding.{lines_of_deed}
 use Rattle.cep_run.specs.Fronts.{BeginsSome, IsRunOf}
@@ -74,4 +75,14 @@ module _ (laws : ThereLaws) (program : Parts) (settings : Settings) (kept : IsPr
             let run : Run program settings at from [] ending to = record { last = at; between = from; done = (refl, refl); ends = out.ends; state = refl } in
             record { more = outs (end_lines program.signature out.word at.spot.state); left = to; whole = ([], ending, run, refl) }
             )
+      ]
+
+  -- a question leads to a turn, or to the end
+  pub question_leads : (at : Position) (from : Supply) (question : Question) (to : Supply) → IsState program.signature at.spot.state → IsQuestion program settings at from question to
+      → ((turn : Turn) × IsTurn program settings at from turn × (turn.question ≡ question)) ⊎ ((word : EndWord) × EndsAt program settings at from word (Some question) to)
+  question_leads at from question to is_state asks =
+      let within = decided_within laws program settings.seed at.spot.stage question.group (length question.offers) from question.how question.choice to asks.decided in
+      elim (by_choice laws program settings kept at from is_state question to asks question.choice refl within) [
+        | inl on ↦ inl (on.turn, on.is, on.of_question)
+        | inr out ↦ inr (out.word, out.ends)
       ]

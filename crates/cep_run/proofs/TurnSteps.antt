@@ -23,7 +23,7 @@ use Rattle.cep_run.specs.Run.{Question, Turn, deeds_of, IsQuestion, IsChosen, Is
 use Rattle.cep_run.specs.Turn.{limit_word}
 
 -- a rule of the group that is asked is of the stage, or leaves it where nothing of its own applies
-in_turn : (program : Parts) (height : ℕ) (state : Multiset) (stage group of : ℕ) → of ≡ group → IsAsked program height state stage group → (of ≡ own_group stage) ⊎ ((of ≡ leaving_group stage) × ¬ HasOffer program height state (own_group stage))
+pub in_turn : (program : Parts) (height : ℕ) (state : Multiset) (stage group of : ℕ) → of ≡ group → IsAsked program height state stage group → (of ≡ own_group stage) ⊎ ((of ≡ leaving_group stage) × ¬ HasOffer program height state (own_group stage))
 in_turn program height state stage group of same (inl own) = inl (same ∙ own.0)
 in_turn program height state stage group of same (inr leaving) = inr (same ∙ leaving.0, leaving.1)
 

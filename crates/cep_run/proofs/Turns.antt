@@ -46,7 +46,7 @@ use Rattle.cep_run.specs.Run.{Question, Turn, IsQuestion, IsChosen, IsTurn, Ends
 use Rattle.cep_run.specs.Dialogue.{asked_events, question_events, turn_events}
 use Rattle.cep_run.specs.Fronts.{BeginsSome, FellShort, IsRunOf}
 use Rattle.cep_run.specs.Begun.{SettlesSome, BeginsAct}
-use Rattle.cep_run.specs.Turn.{position_of, supply_with, IsPlayed, Settles, IsPlaced, ProveBacks, TellsDeed, BeginsDeed, Acts, WouldPass, limit_word, IsActed, RoseByAct, DoesTurn, Stops, IsTurned, config_left}
+use Rattle.cep_run.specs.Turn.{position_of, supply_with, IsPlayed, Settles, IsPlaced, ProveBacks, TellsDeed, BeginsDeed, Acts, WouldPass, limit_word, IsActed, IsMoved, RoseByAct, DoesTurn, Stops, IsTurned, config_left}
 use Rattle.cep_base.proofs.Did.{did_same, did_map, did_then}
 use Rattle.cep_run.proofs.TurnSteps.{lawful_step, limit_end}
 use Rattle.cep_run.proofs.Fronts.{front_of_front}
@@ -208,6 +208,17 @@ module _ {M : Type 0} (height_held : M → ℕ) (state_held : M → Multiset) (o
           one_turn_more program high held group all (offers_of all group) place offer old (lists.each group listed) at asked next leads,
         )
 
+    -- and it leads from one spot to the other
+    pub done_moves : (next : Configuration M) → stepped ≡ stepping.Done next → IsMoved program (offers_of all group) place old (Done next)
+    done_moves next is =
+        let leads = λ (rule : Rule) (values : List Tree) (h : IsAskedAt program all old.stage place rule values). subst (IsStepped program rule values old) is (comes rule values h) in
+        let rule = rule_of program high held group all (offers_of all group) place offer old (lists.each group listed) at asked in (
+          offer,
+          rule,
+          is_placed program high held group all (offers_of all group) place offer old (lists.each group listed) at asked,
+          (leads rule offer.values (chosen_there program high held group all (offers_of all group) place offer old (lists.each group listed) at asked)).steps,
+        )
+
     -- the step was done, and the writing of its lines was refused
     pub cut_acts : (next : Configuration M) → stepped ≡ stepping.Done next → (new : C) (proofs : List ProofTree) → ProveBacks program height offer proofs → Did talk left console new (BeginsDeed program offer proofs next.turns next.state)
         → Did talk left console new (BeginsAct program height (offers_of all group) place (position_of old))
@@ -268,6 +279,10 @@ module _ {M : Type 0} (height_held : M → ℕ) (state_held : M → Multiset) (o
       pub limit_played : (is_of : Parts → M → Type 0) (settings : Settings) → IsPlayed is_of height_held program settings old → (word : EndWord) (turned : Turned M) → turned ≡ Over (record { config = last; word = word }) → IsPlayed is_of height_held program settings (config_left turned)
       limit_played is_of settings played word turned over =
           subst (λ t. IsPlayed is_of height_held program settings (config_left t)) (sym over) (subst (IsPlayed is_of height_held program settings) (sym stays) played)
+
+-- nothing moves where a run ends
+pub over_moves : {M : Type 0} (program : Parts) (offers : List Offer) (place : ℕ) (old config : Configuration M) (word : EndWord) (turned : Turned M) → turned ≡ Over (record { config = config; word = word }) → IsMoved program offers place old turned
+over_moves program offers place old config word turned is = subst (IsMoved program offers place old) (sym is) tt
 
 -- Turns
 

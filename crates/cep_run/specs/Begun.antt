@@ -1,4 +1,3 @@
--- Private.
 -- Wholes of which a part of a run that is refused says a front.
 use Rattle.std.specs.Prelude.{◌≡◌, ◌⊎◌, ℕ, ◌+◌, List, [], ◌++◌, take}
 use Rattle.cep_base.specs.declared.console.Event.{Event}

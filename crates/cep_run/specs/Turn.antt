@@ -1,4 +1,3 @@
--- Private.
 -- What a part of a run does: words for the functions that do it.
 use Rattle.std.specs.Prelude.{◌≡◌, ℕ, ◌+◌, ◌≤◌, List, [], ◌++◌, Option, Some, length, slice_get}
 use Rattle.std.specs.List.{flat_map}
@@ -145,6 +144,14 @@ RoseByAct may_edit program height offers place config (Done next) ticks ticks' =
     (offer : Offer) (rule : Rule) → IsPlaced program offers place offer rule
     → RoseBy (IsStepCost may_edit program height config.state rule offer.values) ticks ticks'
 RoseByAct may_edit program height offers place config (Over last) ticks ticks' = ticks' ≡ ticks
+
+-- where the choice of a place leads: where a step is done, it is by the offer there, and leads from
+-- one spot to the other
+abbrev pub IsMoved : {M : Type 0} → Parts → List Offer → ℕ → Configuration M → Turned M → Type 0
+IsMoved program offers place config (Done next) =
+    (offer : Offer) × (rule : Rule) × IsPlaced program offers place offer rule
+    × StepsTo program rule offer.values (spot_of config) (spot_of next)
+IsMoved program offers place config (Over last) = Unit {0}
 
 -- What the choice of a place comes to, in a configuration: the step is done, or it would pass a
 -- limit and the run ends here.

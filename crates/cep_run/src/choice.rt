@@ -1,4 +1,4 @@
-// One choice of the player: lines are read until one of them chooses.
+//! One choice of the player: lines are read until one of them chooses.
 ghost use Rattle.std.specs.Prelude.{◌<◌, ◌≤◌, IfOk, OnErr};
 ghost use Rattle.cep_base.specs.Talk.{Did, ConsoleCause};
 ghost use Rattle.cep_run.specs.Choice.{IsChoiceWithin, Hears};

@@ -1,4 +1,4 @@
-// Offers and derivations of one's own.
+//! Offers and derivations of one's own.
 ghost use Rattle.std.specs.Prelude.{◌≡◌, map, IfOk};
 ghost use Rattle.cep_term.specs.Tree.{tree_of};
 ghost use Rattle.cep_rule.specs.Derivations.{proof_of, proofs_of};

@@ -1,4 +1,4 @@
-// Which of the offers of a turn is chosen: by the player, or by the seed.
+//! Which of the offers of a turn is chosen: by the player, or by the seed.
 ghost use Rattle.std.specs.Prelude.{◌≡◌, ◌↔◌, ℕ, ◌+◌, ◌<◌, ◌≤◌, length, All, IfOk, OnOk, OnErr, IsTrue};
 ghost use Rattle.cep_base.specs.declared.limits.TheConstants.{MOST_OFFERS, MOST_TURNS, MOST_TYPED};
 ghost use Rattle.cep_base.specs.Talk.{outs, Did, ConsoleCause};
@@ -69,9 +69,9 @@ impl Spent {
     }
 }
 
-// Whether the player decides among so many offers of a group: in an interactive stage, where they are
-// of its own rules, even a lone one, or several that leave it.
-fn is_players(program: &Program, stage: u32, group: u32, offers: usize) -> bool
+/// Whether the player decides among so many offers of a group: in an interactive stage, where they are
+/// of its own rules, even a lone one, or several that leave it.
+pub fn is_players(program: &Program, stage: u32, group: u32, offers: usize) -> bool
     requires { stage < length program.now.stages }
     ensures { IsTrue result ↔ IsPlayers program.now stage group offers }
 {
@@ -108,7 +108,7 @@ fn ask<C: Console, M: Matcher>(
 }
 
 /// Writes the offers of a group, and asks nobody. Where nobody reads them, none are written.
-fn tell<C: Console, M: Matcher>(
+pub fn tell<C: Console, M: Matcher>(
     alloc: Global,
     program: &Program,
     matcher: &M,

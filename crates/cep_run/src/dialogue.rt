@@ -1,4 +1,4 @@
-// A run: turn by turn the offers are written, one of them is chosen, and the step is done.
+//! A run: turn by turn the offers are written, one of them is chosen, and the step is done.
 ghost use Rattle.std.specs.Prelude.{◌≡◌, ◌≤◌, length, IfOk, OnOk, OnErr};
 ghost use Rattle.cep_base.specs.declared.limits.TheConstants.{MOST_TURNS};
 ghost use Rattle.cep_base.specs.Talk.{outs, Did, ConsoleCause};
@@ -101,7 +101,7 @@ fn all_turns<C: Console, M: Matcher, L: Ledger>(
 }
 
 /// Writes the header of a transcript.
-fn begin<C: Console>(
+pub fn begin<C: Console>(
     alloc: Global,
     program: &Program,
     height: u32,
@@ -119,7 +119,7 @@ fn begin<C: Console>(
 }
 
 /// Writes why the run ended, and the last state.
-fn finish<C: Console>(
+pub fn finish<C: Console>(
     alloc: Global,
     program: &Program,
     word: EndWord,

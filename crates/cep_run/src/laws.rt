@@ -1,8 +1,17 @@
 //! Laws of runs and dialogues. Each function computes nothing, and its contract is the law.
-ghost use Rattle.std.specs.Prelude.{◌≡◌, ℕ, ◌+◌, ◌≤◌, List, [], length, map};
+ghost use Rattle.std.specs.Prelude.{◌≡◌, ◌⊎◌, ℕ, ◌+◌, ◌<◌, ◌≤◌, ◌^◌, List, [], length, map, Some, slice_get};
 ghost use Rattle.std.specs.List.{AllByRecursion};
 ghost use Rattle.cep_base.specs.declared.console.Event.{Event};
 ghost use Rattle.cep_rule.specs.declared.parts.Parts.{Parts};
+ghost use Rattle.cep_rule.specs.declared.rule.Rule.{Rule};
+ghost use Rattle.cep_rule.specs.declared.offer.Offer.{Offer};
+ghost use Rattle.cep_rule.specs.Offers.{IsOffer};
+ghost use Rattle.cep_rule.specs.Stages.{IsAsked};
+ghost use Rattle.cep_step.specs.declared.limit.Limit.{Limit};
+ghost use Rattle.cep_step.specs.Passing.{Passes};
+ghost use Rattle.cep_lines.specs.declared.end_word.EndWord.{EndWord};
+ghost use Rattle.cep_run.specs.declared.choice.Choice.{Choice};
+ghost use Rattle.cep_run.specs.Choice.{Hears, IsChoiceWithin};
 ghost use Rattle.cep_rule.specs.State.{IsState};
 ghost use Rattle.cep_rule.specs.Program.{IsProgram};
 ghost use Rattle.cep_rule.specs.Limits.{IsHeight};
@@ -13,10 +22,10 @@ ghost use Rattle.cep_log.specs.Transcript.{HasLog};
 ghost use Rattle.cep_log.specs.Holding.{HoldsDeeds};
 ghost use Rattle.cep_run.specs.declared.settings.Settings.{Settings};
 ghost use Rattle.cep_run.specs.Deciding.{Supply};
-ghost use Rattle.cep_step.specs.Deeds.{Position, Deed, AreDeeds};
-ghost use Rattle.cep_run.specs.Run.{Question, Turn, Ending, IsQuestion, IsTurn, AreTurns, Run, deeds_of, unproved};
+ghost use Rattle.cep_step.specs.Deeds.{Position, Deed, IsDeed, AreDeeds};
+ghost use Rattle.cep_run.specs.Run.{Question, Turn, Ending, IsQuestion, IsTurn, AreTurns, EndsAt, Run, deeds_of, unproved};
 ghost use Rattle.cep_run.specs.Dialogue.{question_events, turn_events, written_bytes, Dialogue};
-ghost use Rattle.cep_run.specs.Fronts.{BeginsSome, IsRunOf};
+ghost use Rattle.cep_run.specs.Fronts.{BeginsSome, LeavesUnheard, IsRunOf};
 
 use cep_choice::laws::drawn_places_are_within;
 use cep_log::laws::{deeds_have_legal_logs, lines_are_read_as_written};
@@ -24,6 +33,53 @@ use cep_rule::laws::{
     edits_are_steps, one_list_of_offers, one_state_after_a_step, steps_lead_to_states,
 };
 use cep_scratch::laws::offers_are_there;
+
+/// Whatever is typed, one choice is heard. A place that it chooses is one of those that there are,
+/// and what was heard is gone from the bytes to come.
+pub fn one_choice_is_heard()
+    ensures there { (n taken : ℕ) (come : List ℕ)
+        → (events : List Event) × (choice : Choice) × (rest : List ℕ) × (taken' : ℕ)
+        × Hears n come taken events choice rest taken' }
+    ensures one { (n taken many many' : ℕ) (come rest rest' : List ℕ) (events events' : List Event)
+        (choice choice' : Choice)
+        → n < 2 ^ 32
+        → Hears n come taken events choice rest many
+        → Hears n come taken events' choice' rest' many'
+        → (events ≡ events') × (choice ≡ choice') × (rest ≡ rest') × (many ≡ many') }
+    ensures within { (n taken many : ℕ) (come rest : List ℕ) (events : List Event) (choice : Choice)
+        → Hears n come taken events choice rest many
+        → IsChoiceWithin n choice × LeavesUnheard come events rest }
+{}
+
+/// An offer of the group that a stage asks can be done as a deed, or its step passes a limit.
+pub fn offers_can_be_done()
+    ensures { (program : Parts) (height : ℕ) (at : Position) (group : ℕ) (offer : Offer)
+        → IsProgram program
+        → IsState program.signature at.spot.state
+        → IsAsked program height at.spot.state at.spot.stage group
+        → IsOffer program height at.spot.state group offer
+        → ((deed : Deed) × (deed.before ≡ at) × (deed.offer ≡ offer) × IsDeed program height deed)
+        ⊎ ((rule : Rule) × (passed : Limit) × (slice_get program.rules offer.rule ≡ Some rule)
+        × Passes program.signature rule offer.values at.spot.state passed) }
+{
+    edits_are_steps();
+}
+
+/// Each question that is asked leads to a turn, or the run ends with it.
+pub fn questions_lead_on()
+    ensures { (program : Parts) (settings : Settings) (at : Position) (from : Supply)
+        (question : Question) (to : Supply)
+        → IsProgram program
+        → IsState program.signature at.spot.state
+        → IsQuestion program settings at from question to
+        → ((turn : Turn) × IsTurn program settings at from turn × (turn.question ≡ question))
+        ⊎ ((word : EndWord) × EndsAt program settings at from word (Some question) to) }
+{
+    offers_are_there();
+    steps_lead_to_states();
+    edits_are_steps();
+    drawn_places_are_within();
+}
 
 /// From a position, what is typed and the seed determine the run: its turns, but for the derivations
 /// that they carry, how it ends, and what is left of the supply.

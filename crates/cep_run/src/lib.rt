@@ -4,15 +4,15 @@
 //! and what is written of it is a legal transcript. It knows no files, no words and no statuses.
 #![tactic(auto)]
 
-mod choice;
-mod copying;
-mod deciding;
-mod dialogue;
+pub mod choice;
+pub mod copying;
+pub mod deciding;
+pub mod dialogue;
 pub mod laws;
 mod proving;
 mod settings;
 mod tally;
-mod turn;
+pub mod turn;
 
 pub use dialogue::play;
 pub use settings::Settings;

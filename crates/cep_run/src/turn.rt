@@ -1,4 +1,4 @@
-// One turn of a run: the offers are written, one of them is chosen, and the step is done.
+//! One turn of a run: the offers are written, one of them is chosen, and the step is done.
 ghost use Rattle.std.specs.Prelude.{◌≡◌, ◌+◌, ◌<◌, ◌≤◌, length, IfOk, OnOk, OnErr};
 ghost use Rattle.cep_base.specs.declared.limits.TheConstants.{MOST_TURNS};
 ghost use Rattle.cep_base.specs.Talk.{Did, ConsoleCause};
@@ -12,7 +12,7 @@ ghost use Rattle.cep_run.specs.Fronts.{FellShort, IsRunOf};
 ghost use Rattle.cep_run.specs.Begun.{BeginsAct};
 ghost use Rattle.cep_rule.specs.Matching.{RoseBy};
 ghost use Rattle.cep_run.specs.Costs.{IsDeedCost};
-ghost use Rattle.cep_run.specs.Turn.{position_of, supply_with, HasSpent, IsPlayed, TellsDeed, BeginsDeed, IsActed, RoseByAct, IsTurned, config_left, limit_word};
+ghost use Rattle.cep_run.specs.Turn.{position_of, supply_with, HasSpent, IsPlayed, TellsDeed, BeginsDeed, IsActed, IsMoved, RoseByAct, IsTurned, config_left, limit_word};
 
 use crate::choice::Choice;
 use crate::copying::copy_offer;
@@ -57,7 +57,7 @@ fn over<M: Matcher>(config: Config<M>, word: EndWord) -> Turned<M>
 /// premises and the stage that it leads to; or says which limit it would pass. The lines are made
 /// after the step, so that nothing is proved of one that is not done, and so of a copy of the offer:
 /// the matcher that has it goes with the step.
-fn act<C: Console, M: Matcher, L: Ledger>(
+pub fn act<C: Console, M: Matcher, L: Ledger>(
     alloc: Global,
     program: &Program,
     settings: Settings,
@@ -75,6 +75,8 @@ fn act<C: Console, M: Matcher, L: Ledger>(
     requires turns { config.turns < MOST_TURNS }
     ensures acted { IfOk result (IsActed C.talk C.left console.old console.new program.now settings.height
         (offers_of (M.offers_held config.matcher) group) place config) }
+    ensures moved { IfOk result
+        (IsMoved program.now (offers_of (M.offers_held config.matcher) group) place config) }
     ensures ticked { IfOk result (λ turned. RoseByAct M.may_edit program.now settings.height
         (offers_of (M.offers_held config.matcher) group) place config turned steps.old steps.new) }
     ensures played { IfOk result (λ turned. IsPlayed M.is_of M.height_held program.now settings

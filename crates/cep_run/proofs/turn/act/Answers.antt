@@ -6,7 +6,7 @@ use Rattle.cep_machine.specs.Stepping.{config_after}
 use Rattle.cep_base.proofs.Did.{did_same, did_map}
 use Rattle.cep_base.proofs.Outcomes.{on_err}
 use Rattle.cep_run.proofs.StepLines.{applied_has_text, all_of_shape}
-use Rattle.cep_run.proofs.Turns.{copy_applies, done_acts, done_rose, cut_acts, limit_acts, limit_rose, limit_played}
+use Rattle.cep_run.proofs.Turns.{copy_applies, done_acts, done_rose, done_moves, over_moves, cut_acts, limit_acts, limit_rose, limit_played}
 use Rattle.cep_run.proofs.turn.act.Goals as goal
 
 pub returns-in-Done-clause-acted : goal.returns-in-Done-clause-acted
@@ -24,6 +24,17 @@ returns-clause-acted g c =
     c.matcher.result.now c.matcher.ensures.matcher c.offer-chosen.result.now c.in_ok-offer.offer c.offer-chosen.ensures c.in_ok-offer.ensures
     g.C.Console.talk g.C.Console.left c.args.console.now c.args.settings.height _ c.in_ok-config.ensures.stepped
     c.in-Passes.config c.in-Passes.limit c.in-Passes.number c.in-Passes.is c.word_of.result c.word_of.ensures _ c.over.ensures
+
+pub returns-in-Done-clause-moved : goal.returns-in-Done-clause-moved
+returns-in-Done-clause-moved g c =
+    done_moves g.M.Matcher.height_held g.M.Matcher.state_held g.M.Matcher.offers_held c.args.program.now c.args.group c.args.place c.args.config
+    (g.met.M.Matcher.exact c.args.program.now c.args.config.matcher c.requires.played.of_program.matcher) c.requires.listed c.requires.asked
+    c.matcher.result.now c.matcher.ensures.matcher c.offer-chosen.result.now c.in_ok-offer.offer c.offer-chosen.ensures c.in_ok-offer.ensures
+    g.C.Console.talk g.C.Console.left c.args.console.now c.args.settings.height _ c.in_ok-config.ensures.stepped
+    c.in-Done.config c.in-Done.is
+
+pub returns-clause-moved : goal.returns-clause-moved
+returns-clause-moved g c = over_moves c.args.program.now _ c.args.place c.args.config _ _ _ c.over.ensures
 
 pub returns-in-Done-clause-ticked : goal.returns-in-Done-clause-ticked
 returns-in-Done-clause-ticked g c =
