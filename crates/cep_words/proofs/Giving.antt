@@ -1,15 +1,15 @@
 -- Words that give options, one after another.
-use Rattle.std.proofs.Common.{◌≡◌, ◌≢◌, ℕ, ◌+◌, ◌<◌, ◌≤◌, true, false, cond, ◌==◌, Option, None, Some, List, [], ◌∷◌, ◌++◌, ◌-◌, length, map, take, drop, get_or, refl, sym, ap, subst, ◌∙◌, arith, append_assoc, Contains}
+use Rattle.std.proofs.Common.{◌≡◌, ◌≢◌, ℕ, ◌+◌, ◌*◌, ◌<◌, ◌≤◌, cond, ◌==◌, Option, None, Some, List, [], ◌∷◌, ◌++◌, ◌-◌, length, map, take, drop, get_or, refl, sym, ap, subst, ◌∙◌, arith, append_assoc, Contains}
 use Rattle.std.specs.Prelude.{IsSome, MatchOption}
 use Rattle.std.specs.List.{AllByRecursion}
 use Rattle.std.specs.List.Sorted.{IsPermutation}
 use Rattle.std.proofs.lemmas.List.Recursion.{is_sum_by}
-use Rattle.std.proofs.lemmas.List.Sorted.{IsPermutation-refl, IsPermutation-sym, IsPermutation-trans, IsPermutation-cons, IsPermutation-middle, IsPermutation-to_front, IsPermutation-map, Contains-permutation, sum_by-IsPermutation}
+use Rattle.std.proofs.lemmas.List.Sorted.{IsPermutation-refl, IsPermutation-sym, IsPermutation-trans, IsPermutation-cons, IsPermutation-middle, IsPermutation-to_front, IsPermutation-map, IsPermutation-append_right, Contains-permutation, sum_by-IsPermutation}
 use Rattle.std.proofs.lemmas.List.{map-append, take_more, take-append-drop}
 use Rattle.std.proofs.Math.Seq.{take-length}
-use Rattle.cep_base.proofs.Elements.{contains_right, contains_first, map_cases, all_at}
+use Rattle.cep_base.proofs.Elements.{contains_right, contains_first, map_cases, all_at, all_of}
 use Rattle.cep_words.specs.declared.run_option.RunOption.{RunOption}
-use Rattle.cep_words.specs.declared.run_option.RunOption.TheVariants.{Seed, Height, Turns}
+use Rattle.cep_words.specs.declared.run_option.RunOption.TheVariants.{Seed, Height, Turns, Players}
 use Rattle.cep_words.specs.declared.options.Options.{Options}
 use Rattle.cep_words.specs.declared.request.Task.{Task}
 use Rattle.cep_words.specs.declared.request.Task.TheVariants.{Check, Renew, Cause, Again, Weigh}
@@ -22,6 +22,7 @@ initial : RunOption → ℕ
 initial (Seed seed) = 115
 initial (Height levels) = 104
 initial (Turns turns) = 116
+initial (Players players) = 112
 
 abbrev begins : ℕ → List ℕ → ℕ
 begins first [] = 0
@@ -40,67 +41,64 @@ times-both : (first : ℕ) (words others : List (List ℕ)) → times first (wor
 times-both first [] others = omega arith
 times-both first (word ∷ words) others = let later = times-both first words others in omega (arith, later)
 
-abbrev parts : Option ℕ → Option ℕ → Option ℕ → List RunOption
-parts seed height turns = asked_if Seed seed ++ (asked_if Height height ++ asked_if Turns turns)
+abbrev parts : Option ℕ → Option ℕ → Option ℕ → Option ℕ → List RunOption
+parts seed height turns players = asked_if Seed seed ++ (asked_if Height height ++ (asked_if Turns turns ++ asked_if Players players))
 
--- each kind is asked once at most
-at_most_once : (option : RunOption) (seed height turns : Option ℕ) → times (initial option) (map option_text (parts seed height turns)) ≤ 1
+times-asked : (first : ℕ) (here later : List RunOption) → times first (map option_text (here ++ later)) ≡ times first (map option_text here) + times first (map option_text later)
+times-asked first here later = ap (times first) (map-append option_text here later) ∙ times-both first (map option_text here) (map option_text later)
+
+abbrev present : Option ℕ → ℕ
+present None = 0
+present (Some n) = 1
+
+-- the words of one kind: each begins so, or none
+times-kind : (first count : ℕ) (kind : ℕ → RunOption) (o : Option ℕ) → ((n : ℕ) → begins first (option_text (kind n)) ≡ count) → times first (map option_text (asked_if kind o)) ≡ count * present o
+times-kind first count kind None each = omega arith
+times-kind first count kind (Some n) each = omega (arith, each n)
+
+-- those of all kinds
+times-parts : (first of_seed of_height of_turns of_players : ℕ) (seed height turns players : Option ℕ) → ((n : ℕ) → begins first (option_text (Seed n)) ≡ of_seed) → ((n : ℕ) → begins first (option_text (Height n)) ≡ of_height)
+    → ((n : ℕ) → begins first (option_text (Turns n)) ≡ of_turns) → ((n : ℕ) → begins first (option_text (Players n)) ≡ of_players)
+    → times first (map option_text (parts seed height turns players)) ≡ of_seed * present seed + (of_height * present height + (of_turns * present turns + of_players * present players))
+times-parts first a b c d seed height turns players of_seed of_height of_turns of_players =
+    rw (times-asked, times-asked, times-asked, times-kind first a Seed seed of_seed, times-kind first b Height height of_height, times-kind first c Turns turns of_turns, times-kind first d Players players of_players)
+
+-- what is asked of the kind of an option
+abbrev of_its_kind : RunOption → Options → Option ℕ
+of_its_kind (Seed n) options = options.seed
+of_its_kind (Height n) options = options.height
+of_its_kind (Turns n) options = options.turns
+of_its_kind (Players n) options = options.players
+
+-- as many words begin as an option's does as ask what is of its kind
+asked_once : (option : RunOption) (options : Options) → times (initial option) (map option_text (all_asked options)) ≡ present (of_its_kind option options)
 unfolding initial
-at_most_once (Seed n) None None None = omega arith
-at_most_once (Seed n) None None (Some t) = omega arith
-at_most_once (Seed n) None (Some h) None = omega arith
-at_most_once (Seed n) None (Some h) (Some t) = omega arith
-at_most_once (Seed n) (Some s) None None = omega arith
-at_most_once (Seed n) (Some s) None (Some t) = omega arith
-at_most_once (Seed n) (Some s) (Some h) None = omega arith
-at_most_once (Seed n) (Some s) (Some h) (Some t) = omega arith
-at_most_once (Height n) None None None = omega arith
-at_most_once (Height n) None None (Some t) = omega arith
-at_most_once (Height n) None (Some h) None = omega arith
-at_most_once (Height n) None (Some h) (Some t) = omega arith
-at_most_once (Height n) (Some s) None None = omega arith
-at_most_once (Height n) (Some s) None (Some t) = omega arith
-at_most_once (Height n) (Some s) (Some h) None = omega arith
-at_most_once (Height n) (Some s) (Some h) (Some t) = omega arith
-at_most_once (Turns n) None None None = omega arith
-at_most_once (Turns n) None None (Some t) = omega arith
-at_most_once (Turns n) None (Some h) None = omega arith
-at_most_once (Turns n) None (Some h) (Some t) = omega arith
-at_most_once (Turns n) (Some s) None None = omega arith
-at_most_once (Turns n) (Some s) None (Some t) = omega arith
-at_most_once (Turns n) (Some s) (Some h) None = omega arith
-at_most_once (Turns n) (Some s) (Some h) (Some t) = omega arith
+asked_once (Seed n) options = let is = times-parts 115 1 0 0 0 options.seed options.height options.turns options.players (λ n. refl) (λ n. refl) (λ n. refl) (λ n. refl) in omega (arith, is)
+asked_once (Height n) options = let is = times-parts 104 0 1 0 0 options.seed options.height options.turns options.players (λ n. refl) (λ n. refl) (λ n. refl) (λ n. refl) in omega (arith, is)
+asked_once (Turns n) options = let is = times-parts 116 0 0 1 0 options.seed options.height options.turns options.players (λ n. refl) (λ n. refl) (λ n. refl) (λ n. refl) in omega (arith, is)
+asked_once (Players n) options = let is = times-parts 112 0 0 0 1 options.seed options.height options.turns options.players (λ n. refl) (λ n. refl) (λ n. refl) (λ n. refl) in omega (arith, is)
 
 begins_so : (option : RunOption) → begins (initial option) (option_text option) ≡ 1
 unfolding initial
 begins_so (Seed n) = refl
 begins_so (Height n) = refl
 begins_so (Turns n) = refl
+begins_so (Players n) = refl
 
-none_some : {A : Type 0} → false ≡ true → A
-none_some e = cc
+at_most_one : (o : Option ℕ) → present o ≤ 1
+at_most_one None = omega arith
+at_most_one (Some n) = omega arith
 
-some_there : (kind : ℕ → RunOption) (o : Option ℕ) → IsSome o → (n : ℕ) × (asked_if kind o ≡ kind n ∷ [])
-some_there kind None some = none_some some
-some_there kind (Some n) some = (n, refl)
+some_present : (o : Option ℕ) → IsSome o → present o ≡ 1
+some_present None some = cc
+some_present (Some n) some = refl
 
 -- one that is there begins some word
-there_once : (option : RunOption) (seed height turns : Option ℕ) → IsThere (record { seed = seed; height = height; turns = turns }) option → 1 ≤ times (initial option) (map option_text (parts seed height turns))
-unfolding initial
-there_once (Seed n) None height turns there = none_some there
-there_once (Seed n) (Some s) height turns there = omega arith
-there_once (Height n) None None turns there = none_some there
-there_once (Height n) (Some s) None turns there = none_some there
-there_once (Height n) None (Some h) turns there = omega arith
-there_once (Height n) (Some s) (Some h) turns there = omega arith
-there_once (Turns n) None None None there = none_some there
-there_once (Turns n) (Some s) None None there = none_some there
-there_once (Turns n) None (Some h) None there = none_some there
-there_once (Turns n) (Some s) (Some h) None there = none_some there
-there_once (Turns n) None None (Some t) there = omega arith
-there_once (Turns n) (Some s) None (Some t) there = omega arith
-there_once (Turns n) None (Some h) (Some t) there = omega arith
-there_once (Turns n) (Some s) (Some h) (Some t) there = omega arith
+there_once : (option : RunOption) (options : Options) → IsThere options option → present (of_its_kind option options) ≡ 1
+there_once (Seed n) options there = some_present options.seed there
+there_once (Height n) options there = some_present options.height there
+there_once (Turns n) options there = some_present options.turns there
+there_once (Players n) options there = some_present options.players there
 
 -- Words that were read, and one more
 
@@ -109,37 +107,34 @@ pub record AreRead (words : List (List ℕ)) (options : Options) : Type 0 where
   pub within : AreWithin options
   pub given : IsPermutation (map option_text (all_asked options)) words
 
-pub none_read : AreRead [] (record { seed = None; height = None; turns = None })
+pub none_read : AreRead [] (record { seed = None; height = None; turns = None; players = None })
 none_read = record { within = tt; given = IsPermutation-refl [] }
 
+-- one more behind others is one more before them
+behind : (before asked : List RunOption) (option : RunOption) (later : List RunOption) → IsPermutation asked (option ∷ later) → IsPermutation (before ++ asked) (option ∷ before ++ later)
+behind before asked option later same =
+    IsPermutation-trans (before ++ asked) (before ++ option ∷ later) (option ∷ before ++ later) (IsPermutation-append_right before asked (option ∷ later) same) (IsPermutation-middle before option later)
+
 -- options with one more ask one thing more
-asks_one_more : (option : RunOption) (seed height turns : Option ℕ) (after : Options) → AddsOne (record { seed = seed; height = height; turns = turns }) option after → IsPermutation (all_asked after) (option ∷ parts seed height turns)
-asks_one_more (Seed n) seed height turns after (none, is) =
-    subst (λ (o : Options). IsPermutation (all_asked o) (Seed n ∷ parts seed height turns)) (sym is)
-    (subst (λ (o : Option ℕ). IsPermutation (parts (Some n) height turns) (Seed n ∷ parts o height turns)) (sym none) (IsPermutation-refl _))
-asks_one_more (Height n) seed height turns after (none, is) =
-    subst (λ (o : Options). IsPermutation (all_asked o) (Height n ∷ parts seed height turns)) (sym is)
-    (subst (λ (o : Option ℕ). IsPermutation (parts seed (Some n) turns) (Height n ∷ parts seed o turns)) (sym none) (IsPermutation-middle (asked_if Seed seed) (Height n) (asked_if Turns turns)))
-asks_one_more (Turns n) seed height turns after (none, is) =
-    subst (λ (o : Options). IsPermutation (all_asked o) (Turns n ∷ parts seed height turns)) (sym is)
-    (subst (λ (o : Option ℕ). IsPermutation (parts seed height (Some n)) (Turns n ∷ parts seed height o)) (sym none) (last_first seed height n))
-  where
-    last_first : (seed height : Option ℕ) (n : ℕ) → IsPermutation (parts seed height (Some n)) (Turns n ∷ parts seed height None)
-    last_first None None n = IsPermutation-to_front [] (Turns n)
-    last_first (Some s) None n = IsPermutation-to_front (Seed s ∷ []) (Turns n)
-    last_first None (Some h) n = IsPermutation-to_front (Height h ∷ []) (Turns n)
-    last_first (Some s) (Some h) n = IsPermutation-to_front (Seed s ∷ Height h ∷ []) (Turns n)
+asks_one_more : (option : RunOption) (seed height turns players : Option ℕ) (after : Options) → AddsOne (record { seed = seed; height = height; turns = turns; players = players }) option after
+    → IsPermutation (all_asked after) (option ∷ parts seed height turns players)
+asks_one_more (Seed n) seed height turns players after (none, is) = rw (is, none) (IsPermutation-refl (Seed n ∷ parts None height turns players))
+asks_one_more (Height n) seed height turns players after (none, is) =
+    rw (is, none) (behind (asked_if Seed seed) (parts None (Some n) turns players) (Height n) (parts None None turns players) (IsPermutation-refl _))
+asks_one_more (Turns n) seed height turns players after (none, is) =
+    rw (is, none) (behind (asked_if Seed seed) (parts None height (Some n) players) (Turns n) (parts None height None players)
+    (behind (asked_if Height height) (parts None None (Some n) players) (Turns n) (parts None None None players) (IsPermutation-refl _)))
+asks_one_more (Players n) seed height turns players after (none, is) =
+    rw (is, none) (behind (asked_if Seed seed) (parts None height turns (Some n)) (Players n) (parts None height turns None)
+    (behind (asked_if Height height) (parts None None turns (Some n)) (Players n) (parts None None turns None)
+    (behind (asked_if Turns turns) (parts None None None (Some n)) (Players n) (parts None None None None) (IsPermutation-refl _))))
 
 all_permuted : (xs ys : List RunOption) → IsPermutation xs ys → AllByRecursion IsInBounds ys → AllByRecursion IsInBounds xs
-all_permuted xs ys same all = each xs (λ x there. all_at IsInBounds ys x all (Contains-permutation xs ys x same there))
-  where
-    each : (xs : List RunOption) → ((x : RunOption) → Contains xs x → IsInBounds x) → AllByRecursion IsInBounds xs
-    each [] all = tt
-    each (x ∷ xs) all = (all x (contains_first x xs), each xs (λ y there. all y (contains_right (x ∷ []) xs y there)))
+all_permuted xs ys same all = all_of IsInBounds xs (λ x there. all_at IsInBounds ys x all (Contains-permutation xs ys x same there))
 
 pub one_more_read : (words : List (List ℕ)) (word : List ℕ) (options : Options) (option : RunOption) (after : Options) → AreRead words options → IsInBounds option → word ≡ option_text option → AddsOne options option after → AreRead (words ++ word ∷ []) after
 one_more_read words word options option after read bounds is adds =
-    let asks = asks_one_more option options.seed options.height options.turns after adds in
+    let asks = asks_one_more option options.seed options.height options.turns options.players after adds in
     let texts = IsPermutation-map option_text (all_asked after) (option ∷ all_asked options) asks in
     let moved = IsPermutation-trans _ (option_text option ∷ map option_text (all_asked options)) (option_text option ∷ words) texts (IsPermutation-cons (option_text option) (map option_text (all_asked options)) words read.given) in
     let last = IsPermutation-trans _ (option_text option ∷ words) (words ++ option_text option ∷ []) moved (IsPermutation-sym (words ++ option_text option ∷ []) (option_text option ∷ words) (IsPermutation-to_front words (option_text option))) in
@@ -161,12 +156,14 @@ pub one_twice : (words more : List (List ℕ)) (word : List ℕ) (so_far : Optio
 one_twice words more word so_far option read is there options give =
     let first = initial option in
     let whole = times-permuted first (map option_text (all_asked options)) (words ++ word ∷ more) give.1 in
-    let once = at_most_once option options.seed options.height options.turns in
+    let asked = asked_once option options in
+    let once = at_most_one (of_its_kind option options) in
     let before = times-permuted first (map option_text (all_asked so_far)) words read.given in
-    let some = there_once option so_far.seed so_far.height so_far.turns there in
+    let asked' = asked_once option so_far in
+    let some = there_once option so_far there in
     let here = ap (begins first) is ∙ begins_so option in
     let both = times-both first words (word ∷ more) in
-    omega (arith, whole, once, before, some, here, both)
+    omega (arith, whole, asked, once, before, asked', some, here, both)
 
 -- Words at a place among others
 

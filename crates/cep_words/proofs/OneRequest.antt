@@ -1,5 +1,5 @@
 -- Words ask for one thing at most.
-use Rattle.std.proofs.Common.{◌≡◌, ⊎_elim, ℕ, Option, None, Some, List, [], ◌∷◌, ◌++◌, ◌+◌, ◌*◌, ◌≤◌, map, refl, sym, ap, subst, ◌∙◌, arith, Contains}
+use Rattle.std.proofs.Common.{◌≡◌, ⊎_elim, ℕ, Option, None, Some, cond, ◌==◌, List, [], ◌∷◌, ◌++◌, ◌+◌, ◌*◌, ◌^◌, ◌<◌, ◌≤◌, map, refl, sym, ap, subst, ◌∙◌, arith, Contains}
 use Rattle.std.specs.Prelude.{codes, decimal}
 use Rattle.std.proofs.lemmas.Fmt.{decimal_injective}
 use Rattle.std.proofs.lemmas.List.Sorted.{IsPermutation-sym, Contains-permutation}
@@ -7,11 +7,11 @@ use Rattle.std.proofs.lemmas.List.{append_cancel_left}
 use Rattle.std.specs.List.{AllByRecursion}
 use Rattle.cep_base.proofs.Elements.{contains_none, contains_cases, contains_either, contains_left, contains_right, contains_first, contains_map, map_cases, all_at}
 use Rattle.cep_words.specs.declared.run_option.RunOption.{RunOption}
-use Rattle.cep_words.specs.declared.run_option.RunOption.TheVariants.{Seed, Height, Turns}
+use Rattle.cep_words.specs.declared.run_option.RunOption.TheVariants.{Seed, Height, Turns, Players}
 use Rattle.cep_words.specs.declared.options.Options.{Options}
 use Rattle.cep_words.specs.declared.request.Task.{Task}
 use Rattle.cep_words.specs.declared.request.Task.TheVariants.{Check, Renew, Cause, Again, Weigh}
-use Rattle.cep_words.specs.Words.{option_text, IsInBounds, asked_if, all_asked, Give, task_word, options_of, Request, Play, Examine, Dead, World, AskFor}
+use Rattle.cep_words.specs.Words.{option_text, IsInBounds, asked_if, all_asked, Give, play_word, task_word, options_of, Request, Play, Examine, Dead, World, AskFor}
 
 abbrev head : List ℕ → ℕ
 head [] = 0
@@ -36,16 +36,15 @@ behind_one [] = []
 behind_one (word ∷ words) = words
 
 -- one text is that of one option
+one_number : (prefix : List ℕ) (m n : ℕ) → m < 2 ^ 64 → n < 2 ^ 64 → prefix ++ decimal m ≡ prefix ++ decimal n → m ≡ n
+one_number prefix m n low low' same = decimal_injective m n low low' (append_cancel_left prefix (decimal m) (decimal n) same)
+
 one_text : (one other : RunOption) → IsInBounds one → IsInBounds other → option_text one ≡ option_text other → one ≡ other
-one_text (Seed m) (Seed n) low low' same = ap Seed (decimal_injective m n low low' (append_cancel_left (codes "seed=") (decimal m) (decimal n) same))
-one_text (Height m) (Height n) low low' same = let few = low.1 in let few' = low'.1 in ap Height (decimal_injective m n (omega (arith, few)) (omega (arith, few')) (append_cancel_left (codes "height=") (decimal m) (decimal n) same))
-one_text (Turns m) (Turns n) low low' same = let few = low.1 in let few' = low'.1 in ap Turns (decimal_injective m n (omega (arith, few)) (omega (arith, few')) (append_cancel_left (codes "turns=") (decimal m) (decimal n) same))
-one_text (Seed m) (Height n) low low' same = let first : 115 ≡ 104 = ap head same in absurd (omega (arith, first))
-one_text (Seed m) (Turns n) low low' same = let first : 115 ≡ 116 = ap head same in absurd (omega (arith, first))
-one_text (Height m) (Seed n) low low' same = let first : 104 ≡ 115 = ap head same in absurd (omega (arith, first))
-one_text (Height m) (Turns n) low low' same = let first : 104 ≡ 116 = ap head same in absurd (omega (arith, first))
-one_text (Turns m) (Seed n) low low' same = let first : 116 ≡ 115 = ap head same in absurd (omega (arith, first))
-one_text (Turns m) (Height n) low low' same = let first : 116 ≡ 104 = ap head same in absurd (omega (arith, first))
+one_text (Seed m) (Seed n) low low' same = ap Seed (one_number (codes "seed=") m n low low' same)
+one_text (Height m) (Height n) low low' same = ap Height (one_number (codes "height=") m n (omega (arith, low.1)) (omega (arith, low'.1)) same)
+one_text (Turns m) (Turns n) low low' same = ap Turns (one_number (codes "turns=") m n (omega (arith, low.1)) (omega (arith, low'.1)) same)
+one_text (Players m) (Players n) low low' same = ap Players (one_number (codes "players=") m n (omega (arith, low.1)) (omega (arith, low'.1)) same)
+one_text one other low low' same = let first = ap head same in absurd (omega (arith, first))
 
 -- what is among those of a kind is one of them
 among : (kind : ℕ → RunOption) (o : Option ℕ) (option : RunOption) → Contains (asked_if kind o) option → (n : ℕ) × (o ≡ Some n) × (kind n ≡ option)
@@ -57,37 +56,39 @@ abbrev IsAmong : Options → RunOption → Type 0
 IsAmong options (Seed n) = options.seed ≡ Some n
 IsAmong options (Height n) = options.height ≡ Some n
 IsAmong options (Turns n) = options.turns ≡ Some n
+IsAmong options (Players n) = options.players ≡ Some n
 
-by_seed : (options : Options) (n : ℕ) (option : RunOption) → options.seed ≡ Some n → Seed n ≡ option → IsAmong options option
-by_seed options n option is same = subst (IsAmong options) same is
+abbrev from_turns : Options → List RunOption
+from_turns options = asked_if Turns options.turns ++ asked_if Players options.players
 
-by_height : (options : Options) (n : ℕ) (option : RunOption) → options.height ≡ Some n → Height n ≡ option → IsAmong options option
-by_height options n option is same = subst (IsAmong options) same is
+abbrev from_height : Options → List RunOption
+from_height options = asked_if Height options.height ++ from_turns options
 
-by_turns : (options : Options) (n : ℕ) (option : RunOption) → options.turns ≡ Some n → Turns n ≡ option → IsAmong options option
-by_turns options n option is same = subst (IsAmong options) same is
+of_kind : (options : Options) (kind : ℕ → RunOption) (o : Option ℕ) (option : RunOption) → ((n : ℕ) → o ≡ Some n → IsAmong options (kind n)) → Contains (asked_if kind o) option → IsAmong options option
+of_kind options kind o option is there = let m = among kind o option there in subst (IsAmong options) m.2 (is m.0 m.1)
 
 is_asked : (options : Options) (option : RunOption) → Contains (all_asked options) option → IsAmong options option
 is_asked options option there =
-    ⊎_elim
-    (λ first. let m = among Seed options.seed option first in by_seed options m.0 option m.1 m.2)
-    (λ later. ⊎_elim
-    (λ second. let m = among Height options.height option second in by_height options m.0 option m.1 m.2)
-    (λ third. let m = among Turns options.turns option third in by_turns options m.0 option m.1 m.2)
-    (contains_either (asked_if Height options.height) (asked_if Turns options.turns) option later))
-    (contains_either (asked_if Seed options.seed) (asked_if Height options.height ++ asked_if Turns options.turns) option there)
+    ⊎_elim (of_kind options Seed options.seed option (λ n is. is))
+    (λ later. ⊎_elim (of_kind options Height options.height option (λ n is. is))
+    (λ last. ⊎_elim (of_kind options Turns options.turns option (λ n is. is)) (of_kind options Players options.players option (λ n is. is))
+    (contains_either (asked_if Turns options.turns) (asked_if Players options.players) option last))
+    (contains_either (asked_if Height options.height) (from_turns options) option later))
+    (contains_either (asked_if Seed options.seed) (from_height options) option there)
 
 lone : (kind : ℕ → RunOption) (o : Option ℕ) (n : ℕ) → o ≡ Some n → Contains (asked_if kind o) (kind n)
 lone kind o n is = subst (λ p. Contains (asked_if kind p) (kind n)) (sym is) (contains_first (kind n) [])
 
 asks : (options : Options) (option : RunOption) → IsAmong options option → Contains (all_asked options) option
-asks options (Seed n) is = contains_left (asked_if Seed options.seed) (asked_if Height options.height ++ asked_if Turns options.turns) (Seed n) (lone Seed options.seed n is)
+asks options (Seed n) is = contains_left (asked_if Seed options.seed) (from_height options) (Seed n) (lone Seed options.seed n is)
 asks options (Height n) is =
-    contains_right (asked_if Seed options.seed) (asked_if Height options.height ++ asked_if Turns options.turns) (Height n)
-    (contains_left (asked_if Height options.height) (asked_if Turns options.turns) (Height n) (lone Height options.height n is))
+    contains_right (asked_if Seed options.seed) (from_height options) (Height n) (contains_left (asked_if Height options.height) (from_turns options) (Height n) (lone Height options.height n is))
 asks options (Turns n) is =
-    contains_right (asked_if Seed options.seed) (asked_if Height options.height ++ asked_if Turns options.turns) (Turns n)
-    (contains_right (asked_if Height options.height) (asked_if Turns options.turns) (Turns n) (lone Turns options.turns n is))
+    contains_right (asked_if Seed options.seed) (from_height options) (Turns n)
+    (contains_right (asked_if Height options.height) (from_turns options) (Turns n) (contains_left (asked_if Turns options.turns) (asked_if Players options.players) (Turns n) (lone Turns options.turns n is)))
+asks options (Players n) is =
+    contains_right (asked_if Seed options.seed) (from_height options) (Players n)
+    (contains_right (asked_if Height options.height) (from_turns options) (Players n) (contains_right (asked_if Turns options.turns) (asked_if Players options.players) (Players n) (lone Players options.players n is)))
 
 -- what one list of options asks, each other one asks that has the same words
 also : (words : List (List ℕ)) (one other : Options) → Give words one → Give words other → (option : RunOption) → IsAmong one option → IsAmong other option
@@ -104,18 +105,36 @@ same_option None None there back = refl
 same_option None (Some n) there back = back n refl
 same_option (Some n) p there back = sym (there n refl)
 
-given_once : (words : List (List ℕ)) (one other : Options) → Give words one → Give words other → one ≡ other
+pub given_once : (words : List (List ℕ)) (one other : Options) → Give words one → Give words other → one ≡ other
 given_once words one other given given' =
     let there = also words one other given given' in
     let back = also words other one given' given in
     let seed = same_option one.seed other.seed (λ n. there (Seed n)) (λ n. back (Seed n)) in
     let height = same_option one.height other.height (λ n. there (Height n)) (λ n. back (Height n)) in
     let turns = same_option one.turns other.turns (λ n. there (Turns n)) (λ n. back (Turns n)) in
-    λ i. record { seed = seed i; height = height i; turns = turns i }
+    let players = same_option one.players other.players (λ n. there (Players n)) (λ n. back (Players n)) in
+    λ i. record { seed = seed i; height = height i; turns = turns i; players = players i }
 
--- the fourth letter of a word, which tells requests apart
+-- words of which the others give options ask for none to be played with another word than theirs says
+pub unplayed : (words others : List (List ℕ)) (word name : List ℕ) (given : Options) → words ≡ word ∷ name ∷ others → Give others given → (word ≡ play_word given.players → ⊥)
+    → (file : List ℕ) (options : Options) → ¬ (AskFor words (Play file options))
+unplayed words others word name given are gives other file options ask =
+    let same = sym are ∙ ask.1 in
+    let options_same = given_once others given options gives (subst (λ ws. Give ws options) (sym (ap behind_two same)) ask.2) in
+    other (ap first same ∙ ap (λ (o : Options). play_word o.players) (sym options_same))
+
+-- and for no world if they say how many play
+pub unrun : (words others : List (List ℕ)) (word name : List ℕ) (given : Options) (players : ℕ) → words ≡ word ∷ name ∷ others → Give others given → given.players ≡ Some players
+    → (rooms : ℕ) (options : Options) → ¬ (AskFor words (World rooms options))
+unrun words others word name given players are gives some rooms options ask =
+    let same = sym are ∙ ask.2.1 in
+    let options_same = given_once others given options gives (subst (λ ws. Give ws options) (sym (ap behind_two same)) ask.2.2) in
+    let none = sym some ∙ ap (λ (o : Options). o.players) options_same ∙ ask.1 in
+    cc
+
+-- the fourth letter of a word, which tells requests apart; the one of `rounds` stands for the one of `play`
 abbrev fourth : List ℕ → ℕ
-fourth (a ∷ (b ∷ (c ∷ (letter ∷ rest)))) = letter
+fourth (a ∷ (b ∷ (c ∷ (letter ∷ rest)))) = cond (letter == 110) 121 letter
 fourth _ = 0
 
 abbrev task_letter : Task → ℕ
@@ -138,11 +157,15 @@ word_letter Cause = refl
 word_letter (Again seed) = refl
 word_letter Weigh = refl
 
+play_letter : (players : Option ℕ) → fourth (play_word players) ≡ 121
+play_letter None = refl
+play_letter (Some players) = refl
+
 tells_letter : (words : List (List ℕ)) (request : Request) → AskFor words request → fourth (first words) ≡ letter_of request
-tells_letter words (Play file options) ask = ap (λ ws. fourth (first ws)) ask.1
+tells_letter words (Play file options) ask = ap (λ ws. fourth (first ws)) ask.1 ∙ play_letter options.players
 tells_letter words (Examine task file second) ask = ap (λ ws. fourth (first ws)) ask.1 ∙ word_letter task
 tells_letter words (Dead file) ask = ap (λ ws. fourth (first ws)) ask
-tells_letter words (World rooms options) ask = ap (λ ws. fourth (first ws)) ask.1.1
+tells_letter words (World rooms options) ask = ap (λ ws. fourth (first ws)) ask.2.1
 
 -- a letter and the options after it name one task at most
 task_letters : (task : Task) → (k : ℕ) × (k ≤ 8) × (task_letter task ≡ 2 * k + 99)
@@ -169,7 +192,7 @@ pub one_request : (words : List (List ℕ)) (one other : Request) → AskFor wor
 one_request words one other ask ask' = by one other ask ask' (sym (tells_letter words one ask) ∙ tells_letter words other ask') where
   by : (one other : Request) → AskFor words one → AskFor words other → letter_of one ≡ letter_of other → one ≡ other
   by (Play file options) (Play file' options') ask ask' letters =
-      let same : codes "play" ∷ file ∷ ask.0 ≡ codes "play" ∷ file' ∷ ask'.0 = sym ask.1 ∙ ask'.1 in
+      let same : play_word options.players ∷ file ∷ ask.0 ≡ play_word options'.players ∷ file' ∷ ask'.0 = sym ask.1 ∙ ask'.1 in
       let files : file ≡ file' = ap second same in
       let others : ask.0 ≡ ask'.0 = ap behind_two same in
       let given = given_once ask'.0 options options' (subst (λ ws. Give ws options) others ask.2) ask'.2 in
@@ -182,12 +205,12 @@ one_request words one other ask ask' = by one other ask ask' (sym (tells_letter 
       λ i. Examine (tasks i) (files i) (logs i)
   by (Dead file) (Dead file') ask ask' letters = let files : file ≡ file' = ap second (sym ask ∙ ask') in λ i. Dead (files i)
   by (World rooms options) (World rooms' options') ask ask' letters =
-      let same : codes "world" ∷ decimal rooms ∷ ask.1.0 ≡ codes "world" ∷ decimal rooms' ∷ ask'.1.0 = sym ask.1.1 ∙ ask'.1.1 in
+      let same : codes "world" ∷ decimal rooms ∷ ask.2.0 ≡ codes "world" ∷ decimal rooms' ∷ ask'.2.0 = sym ask.2.1 ∙ ask'.2.1 in
       let few = ask.0.1 in
       let few' = ask'.0.1 in
       let numbers : rooms ≡ rooms' = decimal_injective rooms rooms' (omega (arith, few)) (omega (arith, few')) (ap second same) in
-      let others : ask.1.0 ≡ ask'.1.0 = ap behind_two same in
-      let given = given_once ask'.1.0 options options' (subst (λ ws. Give ws options) others ask.1.2) ask'.1.2 in
+      let others : ask.2.0 ≡ ask'.2.0 = ap behind_two same in
+      let given = given_once ask'.2.0 options options' (subst (λ ws. Give ws options) others ask.2.2) ask'.2.2 in
       λ i. World (numbers i) (given i)
   by (Examine task file log) (Play file' options) ask ask' letters = let is = task_letters task in absurd (omega (arith, is.1, is.2, letters))
   by (Examine task file log) (Dead file') ask ask' letters = let is = task_letters task in absurd (omega (arith, is.1, is.2, letters))

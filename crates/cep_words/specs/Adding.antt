@@ -2,7 +2,7 @@
 -- Options that are given one after another.
 use Rattle.std.specs.Prelude.{◌≡◌, None, Some, IsSome}
 use Rattle.cep_words.specs.declared.run_option.RunOption.{RunOption}
-use Rattle.cep_words.specs.declared.run_option.RunOption.TheVariants.{Seed, Height, Turns}
+use Rattle.cep_words.specs.declared.run_option.RunOption.TheVariants.{Seed, Height, Turns, Players}
 use Rattle.cep_words.specs.declared.options.Options.{Options}
 
 -- options of the kind are there already
@@ -10,9 +10,11 @@ abbrev pub IsThere : Options → RunOption → Type 0
 IsThere options (Seed seed) = IsSome options.seed
 IsThere options (Height levels) = IsSome options.height
 IsThere options (Turns turns) = IsSome options.turns
+IsThere options (Players players) = IsSome options.players
 
 -- one more is there than before
 abbrev pub AddsOne : Options → RunOption → Options → Type 0
 AddsOne options (Seed seed) after = (options.seed ≡ None) × (after ≡ record options { seed = Some seed })
 AddsOne options (Height levels) after = (options.height ≡ None) × (after ≡ record options { height = Some levels })
 AddsOne options (Turns turns) after = (options.turns ≡ None) × (after ≡ record options { turns = Some turns })
+AddsOne options (Players players) after = (options.players ≡ None) × (after ≡ record options { players = Some players })

@@ -1,5 +1,5 @@
 ghost use Rattle.std.specs.Prelude.{◌≡◌, ℕ, ◌^◌, ◌<◌, decimal, MatchOption};
-ghost use Rattle.cep_words.specs.Words.{IsUpTo};
+ghost use Rattle.cep_words.specs.Words.{IsFromTo};
 ghost use Rattle.cep_words.specs.Numerals.{begins_as_decimal};
 
 // The number that is spelled in decimal without leading zeros, if one below 2^64 is.
@@ -18,14 +18,14 @@ pub(crate) fn number_of(digits: &[u8]) -> Option<u64>
     }
 }
 
-// The number that is spelled so, if it is from 1 to the most.
-pub(crate) fn number_within(digits: &[u8], most: u32) -> Option<u32>
+// The number that is spelled so, if it is from the least to the most.
+pub(crate) fn number_within(digits: &[u8], least: u32, most: u32) -> Option<u32>
     ensures { MatchOption result
-        ((value : ℕ) → IsUpTo most value → digits.now ≡ decimal value → ⊥)
-        (λ value. IsUpTo most value × (digits.now ≡ decimal value)) }
+        ((value : ℕ) → IsFromTo least most value → digits.now ≡ decimal value → ⊥)
+        (λ value. IsFromTo least most value × (digits.now ≡ decimal value)) }
 {
     let value = number_of(digits)?;
-    if 1 <= value && value <= u64::from(most) {
+    if u64::from(least) <= value && value <= u64::from(most) {
         Some(value as u32)
     } else {
         None

@@ -15,6 +15,8 @@ pub struct Options {
     pub height: Option<u32>,
     /// How many turns are done at most, from 1 to 1,000,000.
     pub turns: Option<u32>,
+    /// How many play, from 2 to 16, where they play in rounds.
+    pub players: Option<u32>,
 }
 
 impl Options {
@@ -29,6 +31,7 @@ impl Options {
             seed: None,
             height: None,
             turns: None,
+            players: None,
         };
         for word in words {
             let option = RunOption::of(word.as_bytes())?;
@@ -59,6 +62,13 @@ impl Options {
             RunOption::Turns(turns) => match self.turns {
                 None => Some(Options {
                     turns: Some(turns),
+                    ..self
+                }),
+                Some(_) => None,
+            },
+            RunOption::Players(players) => match self.players {
+                None => Some(Options {
+                    players: Some(players),
                     ..self
                 }),
                 Some(_) => None,

@@ -2,7 +2,7 @@ ghost use Rattle.std.specs.Prelude.{◌≡◌, ◌≢◌, ℕ, List, [], ◌∷�
 ghost use Rattle.cep_words.specs.declared.options.Options.{Options};
 ghost use Rattle.cep_words.specs.declared.request.Task.{Task};
 ghost use Rattle.cep_words.specs.declared.request.Task.TheVariants.{Again};
-ghost use Rattle.cep_words.specs.Words.{task_word, options_of, AskFor, HaveNoForm, Play, Examine, Dead, World};
+ghost use Rattle.cep_words.specs.Words.{play_word, task_word, options_of, AskFor, HaveNoForm, Play, Examine, Dead, World};
 ghost use Rattle.cep_words.specs.Requests.{request_of};
 
 use crate::number::number_within;
@@ -30,7 +30,8 @@ pub enum Task {
 /// What words ask of the program.
 #[derive(Clone, Copy)]
 pub enum Request<'a> {
-    /// To play the program in a file, with options.
+    /// To play the program in a file, with options: by one player, or by several in rounds where the
+    /// options say how many.
     Play {
         file: &'a String,
         options: Options,
@@ -45,7 +46,7 @@ pub enum Request<'a> {
     Dead {
         file: &'a String,
     },
-    /// To run the generated world of so many rooms, from 1 to 5,000, with options.
+    /// To run the generated world of so many rooms, from 1 to 5,000, with options. Nobody plays in it.
     World {
         rooms: u32,
         options: Options,
@@ -75,18 +76,32 @@ impl Request<'_> {
     }
 }
 
-// The request to play a program, if these words ask for that.
+// The request to play a program, if these words ask for that: by one player, or by several in rounds.
 fn to_play(words: &[String]) -> Option<Request<'_>>
     ensures { MatchOption result
         ((file : List ℕ) (options : Options) → ¬ (AskFor (map string_bytes words.now) (Play file options)))
         (λ request. AskFor (map string_bytes words.now) (request_of request)) }
 {
     match words {
-        [play, file, options @ ..] if play.as_str() == "play" => {
+        [play, file, options @ ..] => {
             let options = Options::of(options)?;
-            Some(Request::Play { file, options })
+            if play.as_str() == play_word(options.players) {
+                Some(Request::Play { file, options })
+            } else {
+                None
+            }
         }
         _ => None,
+    }
+}
+
+// The word that asks for a program to be played by so many.
+fn play_word(players: Option<u32>) -> &'static str
+    ensures { result.now ≡ play_word players }
+{
+    match players {
+        None => "play",
+        Some(_) => "rounds",
     }
 }
 
@@ -157,9 +172,12 @@ fn to_run(words: &[String]) -> Option<Request<'_>>
 {
     match words {
         [world, rooms, options @ ..] if world.as_str() == "world" => {
-            let rooms = number_within(rooms.as_bytes(), MOST_WORLD)?;
+            let rooms = number_within(rooms.as_bytes(), 1, MOST_WORLD)?;
             let options = Options::of(options)?;
-            Some(Request::World { rooms, options })
+            match options.players {
+                None => Some(Request::World { rooms, options }),
+                Some(_) => None,
+            }
         }
         _ => None,
     }

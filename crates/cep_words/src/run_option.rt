@@ -1,9 +1,11 @@
 ghost use Rattle.std.specs.Prelude.{◌≡◌, ℕ, ◌^◌, ◌<◌, ◌++◌, codes, decimal, MatchOption};
 ghost use Rattle.cep_words.specs.Words.{option_text, IsInBounds, IsUpTo};
+ghost use Rattle.cep_words.specs.declared.run_option.RunOption.TheVariants.{Players};
 ghost use Rattle.cep_words.specs.declared.run_option.RunOption.{RunOption};
 
 use crate::number::{number_of, number_within};
 use cep_base::limits::{MOST_HEIGHT, MOST_TURNS};
+use cep_round::limits::MOST_PLAYERS;
 
 /// One thing that a word may ask of a run.
 #[derive(Clone, Copy, Debug, PartialEq, Eq)]
@@ -14,11 +16,13 @@ pub enum RunOption {
     Height(u32),
     /// How many turns are done at most, from 1 to 1,000,000.
     Turns(u32),
+    /// How many play in rounds, from 2 to 16.
+    Players(u32),
 }
 
 impl RunOption {
-    // What the word asks: `seed=N`, `height=N` or `turns=N`, N in decimal without leading zeros. `None`
-    // exactly where it asks nothing.
+    // What the word asks: `seed=N`, `height=N`, `turns=N` or `players=N`, N in decimal without leading
+    // zeros. `None` exactly where it asks nothing.
     pub(crate) fn of(word: &[u8]) -> Option<RunOption>
         ensures { MatchOption result
             ((option : RunOption) → IsInBounds option → word.now ≡ option_text option → ⊥)
@@ -30,7 +34,10 @@ impl RunOption {
                 Some(levels) => Some(RunOption::Height(levels)),
                 None => match turns_in(word) {
                     Some(turns) => Some(RunOption::Turns(turns)),
-                    None => None,
+                    None => match players_in(word) {
+                        Some(players) => Some(RunOption::Players(players)),
+                        None => None,
+                    },
                 },
             },
         }
@@ -51,7 +58,7 @@ fn height_in(word: &[u8]) -> Option<u32>
         ((levels : ℕ) → IsUpTo MOST_HEIGHT levels → word.now ≡ codes "height=" ++ decimal levels → ⊥)
         (λ levels. IsUpTo MOST_HEIGHT levels × (word.now ≡ codes "height=" ++ decimal levels)) }
 {
-    number_within(word.strip_prefix(b"height=")?, MOST_HEIGHT)
+    number_within(word.strip_prefix(b"height=")?, 1, MOST_HEIGHT)
 }
 
 fn turns_in(word: &[u8]) -> Option<u32>
@@ -59,5 +66,13 @@ fn turns_in(word: &[u8]) -> Option<u32>
         ((turns : ℕ) → IsUpTo MOST_TURNS turns → word.now ≡ codes "turns=" ++ decimal turns → ⊥)
         (λ turns. IsUpTo MOST_TURNS turns × (word.now ≡ codes "turns=" ++ decimal turns)) }
 {
-    number_within(word.strip_prefix(b"turns=")?, MOST_TURNS)
+    number_within(word.strip_prefix(b"turns=")?, 1, MOST_TURNS)
+}
+
+fn players_in(word: &[u8]) -> Option<u32>
+    ensures { MatchOption result
+        ((players : ℕ) → IsInBounds (Players players) → word.now ≡ codes "players=" ++ decimal players → ⊥)
+        (λ players. IsInBounds (Players players) × (word.now ≡ codes "players=" ++ decimal players)) }
+{
+    number_within(word.strip_prefix(b"players=")?, 2, MOST_PLAYERS as u32)
 }
