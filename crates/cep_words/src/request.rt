@@ -83,9 +83,9 @@ fn to_play(words: &[String]) -> Option<Request<'_>>
         (λ request. AskFor (map string_bytes words.now) (request_of request)) }
 {
     match words {
-        [play, file, options @ ..] => {
+        [word, file, options @ ..] => {
             let options = Options::of(options)?;
-            if play.as_str() == play_word(options.players) {
+            if word.as_str() == play_word(options.players) {
                 Some(Request::Play { file, options })
             } else {
                 None
