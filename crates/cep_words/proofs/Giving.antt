@@ -14,7 +14,7 @@ use Rattle.cep_words.specs.declared.options.Options.{Options}
 use Rattle.cep_words.specs.declared.request.Task.{Task}
 use Rattle.cep_words.specs.declared.request.Task.TheVariants.{Check, Renew, Cause, Again, Weigh}
 use Rattle.cep_words.specs.Words.{option_text, IsInBounds, asked_if, all_asked, AreWithin, Give, task_word, options_of, Play, Examine, Dead, World, AskFor, HaveNoForm}
-use Rattle.cep_words.specs.Adding.{IsThere, AddsOne}
+use Rattle.cep_words.specs.Adding.{of_its_kind, IsThere, AddsOne}
 
 -- How many words begin as those of a kind do
 
@@ -41,9 +41,6 @@ times-both : (first : ℕ) (words others : List (List ℕ)) → times first (wor
 times-both first [] others = omega arith
 times-both first (word ∷ words) others = let later = times-both first words others in omega (arith, later)
 
-abbrev parts : Option ℕ → Option ℕ → Option ℕ → Option ℕ → List RunOption
-parts seed height turns players = asked_if Seed seed ++ (asked_if Height height ++ (asked_if Turns turns ++ asked_if Players players))
-
 times-asked : (first : ℕ) (here later : List RunOption) → times first (map option_text (here ++ later)) ≡ times first (map option_text here) + times first (map option_text later)
 times-asked first here later = ap (times first) (map-append option_text here later) ∙ times-both first (map option_text here) (map option_text later)
 
@@ -57,26 +54,25 @@ times-kind first count kind None each = omega arith
 times-kind first count kind (Some n) each = omega (arith, each n)
 
 -- those of all kinds
-times-parts : (first of_seed of_height of_turns of_players : ℕ) (seed height turns players : Option ℕ) → ((n : ℕ) → begins first (option_text (Seed n)) ≡ of_seed) → ((n : ℕ) → begins first (option_text (Height n)) ≡ of_height)
-    → ((n : ℕ) → begins first (option_text (Turns n)) ≡ of_turns) → ((n : ℕ) → begins first (option_text (Players n)) ≡ of_players)
-    → times first (map option_text (parts seed height turns players)) ≡ of_seed * present seed + (of_height * present height + (of_turns * present turns + of_players * present players))
-times-parts first a b c d seed height turns players of_seed of_height of_turns of_players =
-    rw (times-asked, times-asked, times-asked, times-kind first a Seed seed of_seed, times-kind first b Height height of_height, times-kind first c Turns turns of_turns, times-kind first d Players players of_players)
-
--- what is asked of the kind of an option
-abbrev of_its_kind : RunOption → Options → Option ℕ
-of_its_kind (Seed n) options = options.seed
-of_its_kind (Height n) options = options.height
-of_its_kind (Turns n) options = options.turns
-of_its_kind (Players n) options = options.players
+times-asked_all : (first : ℕ) (options : Options) → times first (map option_text (all_asked options)) ≡ cond (115 == first) 1 0 * present options.seed + (cond (104 == first) 1 0 * present options.height + (cond (116 == first) 1 0 * present options.turns + cond (112 == first) 1 0 * present options.players))
+times-asked_all first options =
+    rw (
+      times-asked,
+      times-asked,
+      times-asked,
+      times-kind first (cond (115 == first) 1 0) Seed options.seed (λ n. refl),
+      times-kind first (cond (104 == first) 1 0) Height options.height (λ n. refl),
+      times-kind first (cond (116 == first) 1 0) Turns options.turns (λ n. refl),
+      times-kind first (cond (112 == first) 1 0) Players options.players (λ n. refl),
+    )
 
 -- as many words begin as an option's does as ask what is of its kind
-asked_once : (option : RunOption) (options : Options) → times (initial option) (map option_text (all_asked options)) ≡ present (of_its_kind option options)
+asked_once : (option : RunOption) (options : Options) → times (initial option) (map option_text (all_asked options)) ≡ present (of_its_kind options option)
 unfolding initial
-asked_once (Seed n) options = let is = times-parts 115 1 0 0 0 options.seed options.height options.turns options.players (λ n. refl) (λ n. refl) (λ n. refl) (λ n. refl) in omega (arith, is)
-asked_once (Height n) options = let is = times-parts 104 0 1 0 0 options.seed options.height options.turns options.players (λ n. refl) (λ n. refl) (λ n. refl) (λ n. refl) in omega (arith, is)
-asked_once (Turns n) options = let is = times-parts 116 0 0 1 0 options.seed options.height options.turns options.players (λ n. refl) (λ n. refl) (λ n. refl) (λ n. refl) in omega (arith, is)
-asked_once (Players n) options = let is = times-parts 112 0 0 0 1 options.seed options.height options.turns options.players (λ n. refl) (λ n. refl) (λ n. refl) (λ n. refl) in omega (arith, is)
+asked_once (Seed n) options = omega (arith, times-asked_all 115 options)
+asked_once (Height n) options = omega (arith, times-asked_all 104 options)
+asked_once (Turns n) options = omega (arith, times-asked_all 116 options)
+asked_once (Players n) options = omega (arith, times-asked_all 112 options)
 
 begins_so : (option : RunOption) → begins (initial option) (option_text option) ≡ 1
 unfolding initial
@@ -93,13 +89,6 @@ some_present : (o : Option ℕ) → IsSome o → present o ≡ 1
 some_present None some = cc
 some_present (Some n) some = refl
 
--- one that is there begins some word
-there_once : (option : RunOption) (options : Options) → IsThere options option → present (of_its_kind option options) ≡ 1
-there_once (Seed n) options there = some_present options.seed there
-there_once (Height n) options there = some_present options.height there
-there_once (Turns n) options there = some_present options.turns there
-there_once (Players n) options there = some_present options.players there
-
 -- Words that were read, and one more
 
 -- the options so far are those of the words that were read
@@ -109,6 +98,9 @@ pub record AreRead (words : List (List ℕ)) (options : Options) : Type 0 where
 
 pub none_read : AreRead [] (record { seed = None; height = None; turns = None; players = None })
 none_read = record { within = tt; given = IsPermutation-refl [] }
+
+abbrev parts : Option ℕ → Option ℕ → Option ℕ → Option ℕ → List RunOption
+parts seed height turns players = asked_if Seed seed ++ (asked_if Height height ++ (asked_if Turns turns ++ asked_if Players players))
 
 -- one more behind others is one more before them
 behind : (before asked : List RunOption) (option : RunOption) (later : List RunOption) → IsPermutation asked (option ∷ later) → IsPermutation (before ++ asked) (option ∷ before ++ later)
@@ -157,10 +149,10 @@ one_twice words more word so_far option read is there options give =
     let first = initial option in
     let whole = times-permuted first (map option_text (all_asked options)) (words ++ word ∷ more) give.1 in
     let asked = asked_once option options in
-    let once = at_most_one (of_its_kind option options) in
+    let once = at_most_one (of_its_kind options option) in
     let before = times-permuted first (map option_text (all_asked so_far)) words read.given in
     let asked' = asked_once option so_far in
-    let some = there_once option so_far there in
+    let some = some_present (of_its_kind so_far option) there in
     let here = ap (begins first) is ∙ begins_so option in
     let both = times-both first words (word ∷ more) in
     omega (arith, whole, asked, once, before, asked', some, here, both)

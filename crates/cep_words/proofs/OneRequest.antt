@@ -58,37 +58,27 @@ IsAmong options (Height n) = options.height ≡ Some n
 IsAmong options (Turns n) = options.turns ≡ Some n
 IsAmong options (Players n) = options.players ≡ Some n
 
-abbrev from_turns : Options → List RunOption
-from_turns options = asked_if Turns options.turns ++ asked_if Players options.players
+module _ (options : Options) (option : RunOption) where
+  of_kind : (kind : ℕ → RunOption) (o : Option ℕ) → ((n : ℕ) → o ≡ Some n → IsAmong options (kind n)) → Contains (asked_if kind o) option → IsAmong options option
+  of_kind kind o is there = let m = among kind o option there in subst (IsAmong options) m.2 (is m.0 m.1)
 
-abbrev from_height : Options → List RunOption
-from_height options = asked_if Height options.height ++ from_turns options
+  or_later : (kind : ℕ → RunOption) (o : Option ℕ) (later : List RunOption) → ((n : ℕ) → o ≡ Some n → IsAmong options (kind n)) → (Contains later option → IsAmong options option) → Contains (asked_if kind o ++ later) option → IsAmong options option
+  or_later kind o later is behind there = ⊎_elim (of_kind kind o is) behind (contains_either (asked_if kind o) later option there)
 
-of_kind : (options : Options) (kind : ℕ → RunOption) (o : Option ℕ) (option : RunOption) → ((n : ℕ) → o ≡ Some n → IsAmong options (kind n)) → Contains (asked_if kind o) option → IsAmong options option
-of_kind options kind o option is there = let m = among kind o option there in subst (IsAmong options) m.2 (is m.0 m.1)
-
-is_asked : (options : Options) (option : RunOption) → Contains (all_asked options) option → IsAmong options option
-is_asked options option there =
-    ⊎_elim (of_kind options Seed options.seed option (λ n is. is))
-    (λ later. ⊎_elim (of_kind options Height options.height option (λ n is. is))
-    (λ last. ⊎_elim (of_kind options Turns options.turns option (λ n is. is)) (of_kind options Players options.players option (λ n is. is))
-    (contains_either (asked_if Turns options.turns) (asked_if Players options.players) option last))
-    (contains_either (asked_if Height options.height) (from_turns options) option later))
-    (contains_either (asked_if Seed options.seed) (from_height options) option there)
+  is_asked : Contains (all_asked options) option → IsAmong options option
+  is_asked = or_later Seed options.seed _ (λ n is. is) (or_later Height options.height _ (λ n is. is) (or_later Turns options.turns _ (λ n is. is) (of_kind Players options.players (λ n is. is))))
 
 lone : (kind : ℕ → RunOption) (o : Option ℕ) (n : ℕ) → o ≡ Some n → Contains (asked_if kind o) (kind n)
 lone kind o n is = subst (λ p. Contains (asked_if kind p) (kind n)) (sym is) (contains_first (kind n) [])
 
 asks : (options : Options) (option : RunOption) → IsAmong options option → Contains (all_asked options) option
-asks options (Seed n) is = contains_left (asked_if Seed options.seed) (from_height options) (Seed n) (lone Seed options.seed n is)
-asks options (Height n) is =
-    contains_right (asked_if Seed options.seed) (from_height options) (Height n) (contains_left (asked_if Height options.height) (from_turns options) (Height n) (lone Height options.height n is))
+asks options (Seed n) is = contains_left (asked_if Seed options.seed) _ (Seed n) (lone Seed options.seed n is)
+asks options (Height n) is = contains_right (asked_if Seed options.seed) _ (Height n) (contains_left (asked_if Height options.height) _ (Height n) (lone Height options.height n is))
 asks options (Turns n) is =
-    contains_right (asked_if Seed options.seed) (from_height options) (Turns n)
-    (contains_right (asked_if Height options.height) (from_turns options) (Turns n) (contains_left (asked_if Turns options.turns) (asked_if Players options.players) (Turns n) (lone Turns options.turns n is)))
+    contains_right (asked_if Seed options.seed) _ (Turns n) (contains_right (asked_if Height options.height) _ (Turns n) (contains_left (asked_if Turns options.turns) _ (Turns n) (lone Turns options.turns n is)))
 asks options (Players n) is =
-    contains_right (asked_if Seed options.seed) (from_height options) (Players n)
-    (contains_right (asked_if Height options.height) (from_turns options) (Players n) (contains_right (asked_if Turns options.turns) (asked_if Players options.players) (Players n) (lone Players options.players n is)))
+    contains_right (asked_if Seed options.seed) _ (Players n) (contains_right (asked_if Height options.height) _ (Players n)
+    (contains_right (asked_if Turns options.turns) _ (Players n) (lone Players options.players n is)))
 
 -- what one list of options asks, each other one asks that has the same words
 also : (words : List (List ℕ)) (one other : Options) → Give words one → Give words other → (option : RunOption) → IsAmong one option → IsAmong other option

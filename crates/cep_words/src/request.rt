@@ -30,8 +30,8 @@ pub enum Task {
 /// What words ask of the program.
 #[derive(Clone, Copy)]
 pub enum Request<'a> {
-    /// To play the program in a file, with options: by one player, or by several in rounds where the
-    /// options say how many.
+    /// To play the program in a file, with options: by one player, or by several in rounds where
+    /// the options say how many.
     Play {
         file: &'a String,
         options: Options,
@@ -46,7 +46,8 @@ pub enum Request<'a> {
     Dead {
         file: &'a String,
     },
-    /// To run the generated world of so many rooms, from 1 to 5,000, with options. Nobody plays in it.
+    /// To run the generated world of so many rooms, from 1 to 5,000, with options. Nobody plays in
+    /// it, so the options say no number of players.
     World {
         rooms: u32,
         options: Options,
@@ -76,7 +77,7 @@ impl Request<'_> {
     }
 }
 
-// The request to play a program, if these words ask for that: by one player, or by several in rounds.
+// The request to play a program, by one player or by several in rounds, if these words ask for that.
 fn to_play(words: &[String]) -> Option<Request<'_>>
     ensures { MatchOption result
         ((file : List ℕ) (options : Options) → ¬ (AskFor (map string_bytes words.now) (Play file options)))

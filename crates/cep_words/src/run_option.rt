@@ -21,8 +21,8 @@ pub enum RunOption {
 }
 
 impl RunOption {
-    // What the word asks: `seed=N`, `height=N`, `turns=N` or `players=N`, N in decimal without leading
-    // zeros. `None` exactly where it asks nothing.
+    // What the word asks: `seed=N`, `height=N`, `turns=N` or `players=N`, N in decimal without
+    // leading zeros. `None` exactly where it asks nothing.
     pub(crate) fn of(word: &[u8]) -> Option<RunOption>
         ensures { MatchOption result
             ((option : RunOption) → IsInBounds option → word.now ≡ option_text option → ⊥)
@@ -71,8 +71,8 @@ fn turns_in(word: &[u8]) -> Option<u32>
 
 fn players_in(word: &[u8]) -> Option<u32>
     ensures { MatchOption result
-        ((players : ℕ) → IsInBounds (Players players) → word.now ≡ codes "players=" ++ decimal players → ⊥)
-        (λ players. IsInBounds (Players players) × (word.now ≡ codes "players=" ++ decimal players)) }
+        ((count : ℕ) → IsInBounds (Players count) → word.now ≡ codes "players=" ++ decimal count → ⊥)
+        (λ count. IsInBounds (Players count) × (word.now ≡ codes "players=" ++ decimal count)) }
 {
     number_within(word.strip_prefix(b"players=")?, 2, MOST_PLAYERS as u32)
 }
