@@ -8,13 +8,14 @@ _ceptre() {
         return
     fi
     case $COMP_CWORD:$command in
-    1:*) mapfile -t COMPREPLY < <(compgen -W 'play check renew world cause again weigh dead' -- "$word") ;;
-    2:play | 2:check | 2:renew | 2:cause | 2:again | 2:weigh | 2:dead) _ceptre_files cep "$word" ;;
+    1:*) mapfile -t COMPREPLY < <(compgen -W 'play check renew world cause again rounds weigh dead' -- "$word") ;;
+    2:play | 2:check | 2:renew | 2:cause | 2:again | 2:rounds | 2:weigh | 2:dead) _ceptre_files cep "$word" ;;
     3:check | 3:renew | 3:cause | 3:again) _ceptre_files log "$word" ;;
     3:weigh) _ceptre_files keeps "$word" ;;
     4:again) _ceptre_seed "$word" ;;
     2:world | *:check | *:renew | *:cause | *:again | *:weigh | *:dead) ;;
     *:play | *:world) _ceptre_options "$word" ;;
+    *:rounds) _ceptre_options "$word" players= ;;
     esac
 }
 
@@ -34,11 +35,11 @@ _ceptre_seed() {
     compopt -o nospace 2>/dev/null
 }
 
-# Completes with the options that are not given yet.
+# Completes with the options that are not given yet: those of a run, and further ones that are named.
 _ceptre_options() {
     local given=" ${COMP_WORDS[*]} " option
     given=${given// = /=}
-    for option in seed= height= turns=; do
+    for option in "${@:2}" seed= height= turns=; do
         if [[ $option == "$1"* && $given != *" $option"* ]]; then
             COMPREPLY+=("$option")
         fi

@@ -6,10 +6,10 @@ function __ceptre_at
     test (count $words) -eq $argv[1]; and contains -- "$words[2]" $argv[2..-1]
 end
 
-# Whether an option of a run may stand here, and was not given yet.
+# Whether an option of one of these commands may stand here, and was not given yet.
 function __ceptre_may
     set -l words (commandline -opc)
-    test (count $words) -ge 3; and contains -- "$words[2]" play world; and not string match -q -- "$argv[1]*" $words
+    test (count $words) -ge 3; and contains -- "$words[2]" $argv[2..-1]; and not string match -q -- "$argv[1]*" $words
 end
 
 complete -c ceptre -f
@@ -19,15 +19,17 @@ complete -c ceptre -n 'test (count (commandline -opc)) -eq 1' -a renew -d 'write
 complete -c ceptre -n 'test (count (commandline -opc)) -eq 1' -a world -d 'run a generated world'
 complete -c ceptre -n 'test (count (commandline -opc)) -eq 1' -a cause -d 'list what each step of a transcript rests on'
 complete -c ceptre -n 'test (count (commandline -opc)) -eq 1' -a again -d 'do the steps of a transcript again in another order'
+complete -c ceptre -n 'test (count (commandline -opc)) -eq 1' -a rounds -d 'play a world with several players at once'
 complete -c ceptre -n 'test (count (commandline -opc)) -eq 1' -a weigh -d 'judge claims about weights'
 complete -c ceptre -n 'test (count (commandline -opc)) -eq 1' -a dead -d 'list rules that can never apply'
-complete -c ceptre -n '__ceptre_at 2 play check renew cause again weigh dead' -k -a '(__fish_complete_suffix .cep)'
+complete -c ceptre -n '__ceptre_at 2 play check renew cause again rounds weigh dead' -k -a '(__fish_complete_suffix .cep)'
 complete -c ceptre -n '__ceptre_at 3 check renew cause again' -k -a '(__fish_complete_suffix .log)'
 complete -c ceptre -n '__ceptre_at 4 again' -a seed=
 complete -c ceptre -n '__ceptre_at 3 weigh' -k -a '(__fish_complete_suffix .keeps)'
 for option in seed height turns
-    complete -c ceptre -n "__ceptre_may $option=" -a "$option="
+    complete -c ceptre -n "__ceptre_may $option= play world rounds" -a "$option="
 end
+complete -c ceptre -n '__ceptre_may players= rounds' -a players=
 
 for script in explain follow grade player replay sample why
     complete -p "*/tools/$script" -f

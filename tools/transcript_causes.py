@@ -74,7 +74,7 @@ CHANGES = [
     ("spaces at the edges of lines", lambda text: trimmed(text) != text, trimmed),
     (
         "a copy of the terminal with what was typed",
-        lambda text: re.search(r"^\? (?:choose|no)\r?\n(?!\? |step |end )", text, re.MULTILINE),
+        lambda text: re.search(r"^\? (?:choose(?: \d+)?|no)\r?\n(?!\? |step |end )", text, re.MULTILINE),
         without_strange_lines,
     ),
     (

@@ -94,6 +94,9 @@ class Command(unittest.TestCase):
             ["renew", "a", "b", "c"],
             ["weigh", "a"],
             ["dead", "a", "b"],
+            ["rounds", "a"],
+            ["rounds", "a", "players=2", "players=3"],
+            ["play", "a", "players=2"],
             ["play", "a", "seed=x"],
             ["play", "a", "seed=1", "seed=2"],
             ["play", "a", "b"],
@@ -111,7 +114,7 @@ class Command(unittest.TestCase):
         self.assertIn("the Rattle kit's command rt is not on the PATH", errors)
 
     def test_words_that_may_have_a_form_are_for_the_program(self):
-        for words in (["world", "5001"], ["play", "a", "height=513"], ["play", "a", "turns=0"]):
+        for words in (["world", "5001"], ["play", "a", "height=513"], ["rounds", "a", "players=17"]):
             with self.subTest(words=words):
                 self.assertEqual(self.call(*words)[0], 2)
 

@@ -77,8 +77,8 @@ def usage():
     forms = lines[0].removeprefix("usage: ").split(" | ")
     return {
         form.split()[0]: (
-            [word for word in form.split()[1:] if not word.startswith("[")],
-            re.findall(r"\[(\w+=)N\]", form),
+            [word for word in form.split()[1:] if "=" not in word],
+            re.findall(r"(\w+=)N", form),
         )
         for form in forms
     }

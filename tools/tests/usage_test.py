@@ -18,7 +18,7 @@ class Manual(unittest.TestCase):
         for form in synopsis.split(".Nm\n")[1:]:
             command = re.search(r"^\.Cm (\w+)$", form, re.MULTILINE).group(1)
             arguments = re.findall(r"^\.Ar (.*)$", form, re.MULTILINE)[0].split()
-            forms[command] = (arguments, re.findall(r"^\.Op Cm (\w+=) Ns Ar N$", form, re.MULTILINE))
+            forms[command] = (arguments, re.findall(r"^\.(?:Op )?Cm (\w+=) Ns Ar N$", form, re.MULTILINE))
         self.assertEqual(forms, usage())
 
     def test_each_word_and_option_is_told(self):
