@@ -16,8 +16,7 @@ use Rattle.cep_run.specs.Turn.{supply_with}
 use Rattle.cep_players.specs.Runs.{TurnOrRound, RunsInRounds}
 use Rattle.cep_players.specs.Dialogues.{part_events, last_part_events, DialogueInRounds}
 use Rattle.cep_players.specs.Playing.{IsRunInRounds}
-use Rattle.cep_players.specs.Going.{DoesParts, EndsParts, IsWholeInRounds}
-use Rattle.cep_players.specs.Said.{IsDialogueWith}
+use Rattle.cep_players.specs.Going.{DoesParts, EndsParts, IsWholeInRounds, IsDialogueWith}
 use Rattle.cep_players.proofs.RoundsThere.{parts_more, runs_after}
 
 module _ (program : Parts) (settings : Settings) (players : ℕ) (start : Position) (nothing : Spent) where

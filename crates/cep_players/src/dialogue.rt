@@ -8,8 +8,8 @@ ghost use Rattle.cep_run.specs.Run.{whole_supply};
 ghost use Rattle.cep_run.specs.Fronts.{FellShort};
 ghost use Rattle.cep_run.specs.Turn.{position_of, supply_with, config_left, HasSpent, IsPlayed};
 ghost use Rattle.cep_players.specs.Playing.{IsRunInRounds};
-ghost use Rattle.cep_players.specs.Going.{IsWent, IsWholeInRounds};
-ghost use Rattle.cep_players.specs.Said.{IsDialogueWith, IsSomeDialogue};
+ghost use Rattle.cep_players.specs.Going.{IsWent, IsWholeInRounds, IsDialogueWith, IsSomeDialogue};
+ghost use Rattle.cep_players.specs.Said.{IsSaidInRounds, IsSomeSaidInRounds};
 
 use crate::acting::over;
 use crate::laws::{dialogues_in_rounds_are_there, players_are_lawful};

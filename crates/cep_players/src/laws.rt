@@ -7,7 +7,7 @@ ghost use Rattle.cep_rule.specs.Limits.{IsHeight};
 ghost use Rattle.cep_rule.specs.Program.{IsProgram};
 ghost use Rattle.cep_rule.specs.Stages.{IsQuiet};
 ghost use Rattle.cep_rule.specs.State.{IsState};
-ghost use Rattle.cep_step.specs.Deeds.{Position, AreDeeds};
+ghost use Rattle.cep_step.specs.Deeds.{Position, start_of, AreDeeds};
 ghost use Rattle.cep_lines.specs.declared.end_word.EndWord.{EndWord};
 ghost use Rattle.cep_lines.specs.declared.end_word.EndWord.TheVariants.{Quiet};
 ghost use Rattle.cep_log.specs.declared.log.Log.{Log};
@@ -18,9 +18,11 @@ ghost use Rattle.cep_run.specs.declared.settings.Settings.{Settings};
 ghost use Rattle.cep_run.specs.Deciding.{Supply};
 ghost use Rattle.cep_run.specs.Dialogue.{written_bytes};
 ghost use Rattle.cep_round.specs.Rounds.{IsRound};
-ghost use Rattle.cep_players.specs.Runs.{Round, IsRoundDone, TurnOrRound, EndOfRounds, all_done, done_before, RunsInRounds};
+ghost use Rattle.cep_players.specs.Runs.{Round, IsRoundDone, TurnOrRound, EndOfRounds, all_done, done_before, AreTogether, RunsInRounds};
 ghost use Rattle.cep_players.specs.Dialogues.{DialogueInRounds};
 ghost use Rattle.cep_players.specs.PlayersLaws.{PlayersLaws};
+ghost use Rattle.cep_players.specs.Going.{IsDialogueWith};
+ghost use Rattle.cep_players.specs.Said.{IsSaidInRounds};
 
 use cep_log::laws::{deeds_have_legal_logs, lines_are_read_as_written};
 use cep_round::laws::{
@@ -74,17 +76,39 @@ pub fn rounds_are_deeds()
 {}
 
 /// If a round is done, the state after it is the one to which the admitted offers lead together from
-/// the state before it.
+/// the state before it; and so is each round of a dialogue.
 pub fn rounds_end_together()
-    ensures { (program : Parts) (settings : Settings) (players : ℕ) (at last : Position)
+    ensures rounds { (program : Parts) (settings : Settings) (players : ℕ) (at last : Position)
         (from to : Supply) (round : Round)
         → IsProgram program
         → IsState program.signature at.spot.state
         → IsRoundDone program settings players at from round last to
         → IsRound program round.chosen round.flags at.spot.state last.spot.state }
+    ensures dialogues { (program : Parts) (settings : Settings) (players : ℕ) (come rest : List ℕ)
+        (parts : List TurnOrRound) (end : EndOfRounds) (word : EndWord) (last : Position)
+        (events : List Event)
+        → IsProgram program
+        → DialogueInRounds program settings players come parts end word last events rest
+        → AreTogether program (start_of program) parts }
 {
     what_is_needed_is_there();
     rounds_are_lawful();
+    players_are_lawful();
+}
+
+/// What a dialogue in rounds comes to.
+pub(crate) fn dialogues_in_rounds_are_said()
+    ensures { (program : Parts) (settings : Settings) (players : ℕ) (word : EndWord)
+        (come : List ℕ) (events : List Event) (rest : List ℕ)
+        → IsProgram program
+        → IsHeight settings.height
+        → IsDialogueWith program settings players word come events rest
+        → IsSaidInRounds program settings players word come events rest }
+{
+    rounds_are_deeds();
+    rounds_end_together();
+    rounds_have_logs();
+    one_dialogue_in_rounds();
 }
 
 /// What is written of a dialogue in rounds is a transcript, if it is not too long: its log holds what
