@@ -12,3 +12,4 @@ pub mod OffersDone
 pub mod Turning
 pub mod Rounding
 pub mod Whole
+pub mod OneInRounds

@@ -21,7 +21,7 @@ use Rattle.cep_run.specs.declared.choice.Choice.TheVariants.{Place, NoMore, NoRo
 use Rattle.cep_run.specs.declared.settings.Settings.{Settings}
 use Rattle.cep_run.specs.Choice.{Hears}
 use Rattle.cep_run.specs.Deciding.{Supply}
-use Rattle.cep_run.specs.Run.{Question, Turn, IsTurn, EndsAt}
+use Rattle.cep_run.specs.Run.{Question, Turn, IsTurn, EndsAt, unproved}
 use Rattle.cep_round.specs.Rounds.{AreAdmitted, admitted}
 
 -- All players choose at once: the stage is interactive, and its own rules are asked.
@@ -127,6 +127,20 @@ abbrev pub done_before : EndOfRounds → List Deed
 done_before (of_turn asked) = []
 done_before (of_player offers hearings events choice) = []
 done_before (of_offer round) = round.deeds
+
+-- rounds, what a run consists of, and how it ends, without the derivations of what is done
+abbrev pub unproved_round : Round → Round
+unproved_round round =
+    record round { deeds = map (λ (deed : Deed). record deed { proofs = [] }) round.deeds }
+
+abbrev pub unproved_part : TurnOrRound → TurnOrRound
+unproved_part (a_turn turn) = a_turn (unproved turn)
+unproved_part (a_round round last to) = a_round (unproved_round round) last to
+
+abbrev pub unproved_end : EndOfRounds → EndOfRounds
+unproved_end (of_turn asked) = of_turn asked
+unproved_end (of_player offers hearings events choice) = of_player offers hearings events choice
+unproved_end (of_offer round) = of_offer (unproved_round round)
 
 -- No more is typed, or no more may be.
 abbrev pub IsCutOff : Choice → EndWord → Type 0
