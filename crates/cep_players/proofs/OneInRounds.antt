@@ -1,5 +1,5 @@
 -- What is typed determines a dialogue in rounds but for the derivations of what is done.
-use Rattle.std.proofs.Common.{◌≡◌, ℕ, ◌+◌, ◌-◌, ◌<◌, ◌≤◌, ◌^◌, Bool, List, [], ◌∷◌, ◌++◌, map, length, Option, None, Some, append-nil, refl, sym, ap, ◌∙◌, subst, arith}
+use Rattle.std.proofs.Common.{◌≡◌, ◌⊎◌, inl, inr, ℕ, ◌+◌, ◌-◌, ◌<◌, ◌≤◌, ◌^◌, Bool, List, [], ◌∷◌, ◌++◌, map, length, Option, None, Some, append-nil, refl, sym, ap, ◌∙◌, subst, arith}
 use Rattle.std.specs.Prelude.{slice_get, IfSome}
 use Rattle.std.specs.FinMap as finite
 use Rattle.cep_base.specs.declared.console.Event.{Event}
@@ -44,13 +44,9 @@ one_word program most at rule values word word' stops stops' = grind arith
 -- Runs
 
 -- what a run comes to at a position: a turn or a round, or its end
-data Next : Type 0 where
+pub data Next : Type 0 where
   part : TurnOrRound → Next
   over : EndOfRounds → EndWord → Position → Supply → Next
-
-abbrev unproved_next : Next → Next
-unproved_next (part done) = part (unproved_part done)
-unproved_next (over end word last to) = over (unproved_end end) word last to
 
 -- a round that is done where no offer is later, and a run that ends in it where one is
 abbrev next_of : Round → Position → Supply → List Offer → EndWord → Next
@@ -108,6 +104,16 @@ module _ (one_list : (program : Parts) (height : ℕ) (state : Multiset) (group 
         let later = no_more_heard are.0 hearings hearings' between to to' events choice word are.2 is cut (subst (λ supply. AreHeard n supply hearings' to') (sym one.2) are'.2) in
         omega (arith, later)
 
+    one_heard_player : (from : Supply) (hearings hearings' : List Hearing) (between between' to to' : Supply) (events events' : List Event) (choice choice' : Choice) (word word' : EndWord)
+        → AreHeard n from hearings between → AreHeard n from hearings' between' → IsHeard n between events choice to → IsHeard n between' events' choice' to' → IsCutOff choice word → IsCutOff choice' word'
+        → (hearings ≡ hearings') × (events ≡ events') × (choice ≡ choice') × (word ≡ word') × (to ≡ to')
+    one_heard_player from hearings hearings' between between' to to' events events' choice choice' word word' are are' is is' cut cut' =
+        let fewer = no_more_heard from hearings hearings' between to between' events choice word are is cut are' in
+        let more = no_more_heard from hearings' hearings between' to' between events' choice' word' are' is' cut' are in
+        let before = same_heard from hearings hearings' between between' are are' (omega (arith, fewer, more)) in
+        let one = one_heard between events events' choice choice' to to' is (subst (λ supply. IsHeard n supply events' choice' to') (sym before.1) is') in
+        (before.0, one.0, one.1, one_cut choice word word' cut (subst (λ it. IsCutOff it word') (sym one.1) cut'), one.2)
+
   one_chosen : (offers : List Offer) (hearings : List Hearing) (chosen chosen' : List Offer) → HaveChosen offers hearings chosen → HaveChosen offers hearings chosen' → chosen ≡ chosen'
   one_chosen offers [] [] [] have have' = refl
   one_chosen offers (hearing ∷ hearings) (offer ∷ chosen) (offer' ∷ chosen') have have' = cc (have.0, have'.0, one_chosen offers hearings chosen chosen' have.1 have'.1)
@@ -124,7 +130,7 @@ module _ (one_list : (program : Parts) (height : ℕ) (state : Multiset) (group 
   done_or_passes : (deed : Deed) (at : Position) (rule : Rule) (passed : Limit) → deed.before ≡ at → IsDeed program settings.height deed → slice_get program.rules deed.offer.rule ≡ Some rule → Passes program.signature rule deed.offer.values at.spot.state passed → ⊥
   done_or_passes deed at rule passed here is of_rule passes = by passed (rw (here, rules) passes)
     where
-      rules : rule ≡ deed.rule
+      rules : deed.rule ≡ rule
       rules = cc (of_rule, is.step.numbered)
 
       by : (it : Limit) → Passes program.signature deed.rule deed.offer.values deed.before.spot.state it → ⊥
@@ -132,9 +138,7 @@ module _ (one_list : (program : Parts) (height : ℕ) (state : Multiset) (group 
       by limit.State full = full.1.2 (subst Fits (one_step program.signature deed.rule deed.offer.values deed.before.spot.state deed.after.spot.state full.1.0 is.step.steps.step full.1.1) is.step.steps.fits)
 
   done_or_stops : (deed : Deed) (at : Position) (rule : Rule) (word : EndWord) → deed.before ≡ at → IsDeed program settings.height deed → deed.after.turns ≤ settings.limit → slice_get program.rules deed.offer.rule ≡ Some rule → CannotBeDone program settings.limit at rule deed.offer.values word → ⊥
-  done_or_stops deed at rule Turns here is within of_rule stops = omega (arith, within, is.counted, stops, ap (λ (p : Position). p.turns) here)
-  done_or_stops deed at rule Atom here is within of_rule stops = done_or_passes deed at rule limit.Atom here is of_rule stops.1
-  done_or_stops deed at rule State here is within of_rule stops = done_or_passes deed at rule limit.State here is of_rule stops.1
+  done_or_stops deed at rule word here is within of_rule stops = grind (arith, ap (λ (p : Position). p.turns) here, is.counted, done_or_passes deed at rule limit.Atom here is of_rule, done_or_passes deed at rule limit.State here is of_rule)
 
   one_deed : (deed deed' : Deed) → deed.before ≡ deed'.before → deed.offer ≡ deed'.offer → IsDeed program settings.height deed → IsDeed program settings.height deed' → bare deed ≡ bare deed'
   one_deed deed deed' befores offers is is' =
@@ -220,13 +224,17 @@ module _ (one_list : (program : Parts) (height : ℕ) (state : Multiset) (group 
 
   chosen_or_not : (at : Position) (from : Supply) (round : Round) (left : Supply) (offers : List Offer) (hearings : List Hearing) (events : List Event) (choice : Choice) (word : EndWord) (to : Supply) → IsChosenHere program settings players at from round left → StopsAtPlayer program settings players at from offers hearings events choice to → IsCutOff choice word → ⊥
   chosen_or_not at from round left offers hearings events choice word to here stops cut =
-      let heard = rw (one_listed at offers round.offers stops.listed here.listed) here.heard in
+      let heard : AreHeard (length offers) from round.hearings left = rw (one_listed at offers round.offers stops.listed here.listed) here.heard in
       omega (arith, no_more_heard (length offers) stops.listed.few from hearings round.hearings stops.between to left events choice word stops.before stops.heard cut heard, here.of_each, stops.fewer)
 
+  one_next_of : (round : Round) (last : Position) (to : Supply) (later : List Offer) (word word' : EndWord) → Stops last later word → Stops last later word' → next_of round last to later word ≡ next_of round last to later word'
+  one_next_of round last to [] word word' stops stops' = refl
+  one_next_of round last to (next ∷ later) word word' stops stops' =
+      let rules : stops.0 ≡ stops'.0 = cc (stops.1, stops'.1) in
+      ap (λ it. over (of_offer round) it last to) (one_word program settings.limit last stops.0 next.values word word' stops.2 (rw rules stops'.2))
+
   not_more : (at : Position) (rule : Rule) (values : List Tree) (word : EndWord) → CannotBeDone program settings.limit at rule values word → at.turns ≤ settings.limit
-  not_more at rule values Turns stops = omega (arith, stops)
-  not_more at rule values Atom stops = omega (arith, stops.0)
-  not_more at rule values State stops = omega (arith, stops.0)
+  not_more at rule values word stops = grind arith
 
   -- What comes next
 
@@ -254,10 +262,32 @@ module _ (one_list : (program : Parts) (height : ℕ) (state : Multiset) (group 
       same ∙ (λ i. over (of_turn (endings i).question) (endings i).word at (tos i)) ∙ sym same'
 
   one_joint : (at : Position) (from : Supply) {next next' : Next} → Joint at from next → Joint at from next' → next ≡ next'
-  one_joint at from (player_next offers hearings events choice word to same stops cut) (player_next offers' hearings' events' choice' word' to' same' stops' cut') = ?
+  one_joint at from (player_next offers hearings events choice word to same stops cut) (player_next offers' hearings' events' choice' word' to' same' stops' cut') =
+      let offers_are = one_listed at offers offers' stops.listed stops'.listed in
+      let moved = subst (λ os. StopsAtPlayer program settings players at from os hearings' events' choice' to') (sym offers_are) stops' in
+      let heard = one_heard_player (length offers) stops.listed.few from hearings hearings' stops.between moved.between to to' events events' choice choice' word word' stops.before moved.before stops.heard moved.heard cut cut' in
+      let hearings_are = heard.0 in
+      let events_are = heard.1 in
+      let choices = heard.2 in
+      let words = heard.3 in
+      let tos = heard.4 in
+      same ∙ (λ i. over (of_player (offers_are i) (hearings_are i) (events_are i) (choices i)) (words i) at (tos i)) ∙ sym same'
   one_joint at from (player_next offers hearings events choice word to same stops cut) (round_next round' last' to' later' word' same' here' order' does') = absurd (chosen_or_not at from round' to' offers hearings events choice word to here' stops cut)
   one_joint at from (round_next round last to later word same here order does) (player_next offers' hearings' events' choice' word' to' same' stops' cut') = absurd (chosen_or_not at from round to offers' hearings' events' choice' word' to' here stops' cut')
-  one_joint at from (round_next round last to later word same here order does) (round_next round' last' to' later' word' same' here' order' does') = ?
+  one_joint at from (round_next round last to later word same here order does) (round_next round' last' to' later' word' same' here' order' does') =
+      let offers = one_listed at round.offers round'.offers here.listed here'.listed in
+      let heard = same_heard (length round.offers) here.listed.few from round.hearings round'.hearings to to' here.heard (rw offers here'.heard) (here.of_each ∙ sym here'.of_each) in
+      let hearings = heard.0 in
+      let tos = heard.1 in
+      let chosen = one_chosen round.offers round.hearings round.chosen round'.chosen here.chosen (rw (offers, hearings) here'.chosen) in
+      let flags = one_flags program at.spot.state finite.empty round.chosen round.flags round'.flags here.flagged (rw chosen here'.flagged) in
+      let way = one_way at round.deeds round'.deeds last last' later later' word word' does does' (sym order ∙ (λ i. admitted (chosen i) (flags i)) ∙ order') in
+      let deeds = way.0 in
+      let lasts = way.1 in
+      let laters = way.2 in
+      let stops = subst (λ p. Stops p later word') (sym lasts) (subst (λ os. Stops last' os word') (sym laters) does'.2) in
+      same ∙ one_next_of (unproved_round round) last to later word word' does.2 stops
+      ∙ (λ i. next_of (record { offers = offers i; hearings = hearings i; chosen = chosen i; flags = flags i; deeds = deeds i }) (lasts i) (tos i) (laters i) word') ∙ sym same'
 
   listed_all : (at : Position) (from : Supply) {next : Next} → Joint at from next → (offers : List Offer) × IsListedHere program settings at offers
   listed_all at from (player_next offers hearings events choice word to same stops cut) = (offers, stops.listed)
