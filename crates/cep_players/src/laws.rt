@@ -30,9 +30,7 @@ use cep_round::laws::{
 use cep_rule::laws::{
     one_list_of_offers, one_state_after_a_step, steps_lead_to_states, what_is_needed_is_there,
 };
-use cep_run::laws::{
-    offers_can_be_done, one_choice_is_heard, questions_lead_on, runs_are_there,
-};
+use cep_run::laws::{offers_can_be_done, one_choice_is_heard, questions_lead_on, runs_are_there};
 use cep_term::laws::bags_are_lawful;
 
 // What runs in rounds rest on.

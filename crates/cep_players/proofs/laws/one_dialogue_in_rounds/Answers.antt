@@ -1,5 +1,3 @@
-use Rattle.std.proofs.Common.{sym, ap, ◌∙◌}
-use Rattle.cep_run.specs.Deciding.{Supply}
 use Rattle.cep_players.proofs.OneInRounds.{one_dialogue}
 use Rattle.cep_players.proofs.laws.one_dialogue_in_rounds.Goals as goal
 
