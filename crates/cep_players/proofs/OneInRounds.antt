@@ -88,10 +88,8 @@ module _ (one_list : (program : Parts) (height : ℕ) (state : Multiset) (group 
         (before.0, one.0, one.1, one_cut choice word word' cut (rw one.1 cut'), one.2)
 
   one_chosen : (offers : List Offer) (hearings : List Hearing) (chosen chosen' : List Offer) → HaveChosen offers hearings chosen → HaveChosen offers hearings chosen' → chosen ≡ chosen'
-  one_chosen offers [] [] [] have have' = refl
+  one_chosen offers [] chosen chosen' have have' = grind arith
   one_chosen offers (hearing ∷ hearings) (offer ∷ chosen) (offer' ∷ chosen') have have' = cc (have.0, have'.0, one_chosen offers hearings chosen chosen' have.1 have'.1)
-  one_chosen offers [] (offer ∷ chosen) chosen' have have' = absurd have
-  one_chosen offers [] chosen (offer' ∷ chosen') have have' = absurd have'
   one_chosen offers (hearing ∷ hearings) [] chosen' have have' = absurd have
   one_chosen offers (hearing ∷ hearings) chosen [] have have' = absurd have'
 
@@ -101,14 +99,10 @@ module _ (one_list : (program : Parts) (height : ℕ) (state : Multiset) (group 
   bare deed = record deed { proofs = [] }
 
   done_or_passes : (deed : Deed) (at : Position) (rule : Rule) (passed : Limit) → deed.before ≡ at → IsDeed program settings.height deed → slice_get program.rules deed.offer.rule ≡ Some rule → Passes program.signature rule deed.offer.values at.spot.state passed → ⊥
-  done_or_passes deed at rule passed here is of_rule passes = by passed (rw (here, rules) passes)
-    where
-      rules : deed.rule ≡ rule
-      rules = cc (of_rule, is.step.numbered)
-
-      by : (it : Limit) → Passes program.signature deed.rule deed.offer.values deed.before.spot.state it → ⊥
-      by limit.Atom unfit = unfit is.step.steps.fit
-      by limit.State full = full.1.2 (subst Fits (one_step program.signature deed.rule deed.offer.values deed.before.spot.state deed.after.spot.state full.1.0 is.step.steps.step full.1.1) is.step.steps.fits)
+  done_or_passes deed at rule limit.Atom here is of_rule unfit = grind arith
+  done_or_passes deed at rule limit.State here is of_rule full =
+      let step : Step program.signature rule deed.offer.values at.spot.state deed.after.spot.state = grind arith in
+      full.1.2 (rw (one_step program.signature rule deed.offer.values at.spot.state full.1.0 deed.after.spot.state full.1.1 step) is.step.steps.fits)
 
   done_or_stops : (deed : Deed) (at : Position) (rule : Rule) (word : EndWord) → deed.before ≡ at → IsDeed program settings.height deed → deed.after.turns ≤ settings.limit → slice_get program.rules deed.offer.rule ≡ Some rule → CannotBeDone program settings.limit at rule deed.offer.values word → ⊥
   done_or_stops deed at rule word here is within of_rule stops = grind (arith, ap (λ (p : Position). p.turns) here, is.counted, done_or_passes deed at rule limit.Atom here is of_rule, done_or_passes deed at rule limit.State here is of_rule)
@@ -117,8 +111,8 @@ module _ (one_list : (program : Parts) (height : ℕ) (state : Multiset) (group 
   one_deed deed deed' befores offers is is' =
       let rules : deed.rule ≡ deed'.rule = cc (offers, is.step.numbered, is'.step.numbered) in
       let states = one_step program.signature deed.rule deed.offer.values deed.before.spot.state deed.after.spot.state deed'.after.spot.state is.step.steps.step (rw (rules, offers, befores) is'.step.steps.step) in
-      let stages : deed.after.spot.stage ≡ deed'.after.spot.stage = is.step.steps.stage ∙ rw (rules, befores) (sym is'.step.steps.stage) in
-      let turns : deed.after.turns ≡ deed'.after.turns = is.counted ∙ rw befores (sym is'.counted) in
+      let stages : deed.after.spot.stage ≡ deed'.after.spot.stage = cc (rules, befores, is.step.steps.stage, is'.step.steps.stage) in
+      let turns : deed.after.turns ≡ deed'.after.turns = cc (befores, is.counted, is'.counted) in
       λ i. record { before = befores i; offer = offers i; rule = rules i; proofs = []; after = record { spot = record { stage = stages i; state = states i }; turns = turns i } }
 
   -- where deeds stop: no offer is later, or the next one cannot be done
