@@ -13,3 +13,4 @@ pub mod Turning
 pub mod Rounding
 pub mod Whole
 pub mod Together
+pub mod OneInRounds

@@ -61,11 +61,6 @@ pub record Round : Type 0 where
   pub flags : List Bool
   pub deeds : List Deed
 
--- the round without the derivations of what was done
-abbrev pub unproved_round : Round → Round
-unproved_round round =
-    record round { deeds = map (λ (deed : Deed). record deed { proofs = [] }) round.deeds }
-
 -- The offers of a round are listed here: turns remain, all choose at once, and the offers are those
 -- of the stage's own rules and not too many.
 pub record IsListedHere (program : Parts) (settings : Settings) (at : Position)
@@ -103,11 +98,6 @@ pub data TurnOrRound : Type 0 where
 abbrev pub done_in : TurnOrRound → List Deed
 done_in (a_turn turn) = turn.deed ∷ []
 done_in (a_round round last to) = round.deeds
-
--- the same without the derivations of what was done
-abbrev pub unproved_part : TurnOrRound → TurnOrRound
-unproved_part (a_turn turn) = a_turn (unproved turn)
-unproved_part (a_round round last to) = a_round (unproved_round round) last to
 
 -- what was done in all of them
 abbrev pub all_done : List TurnOrRound → List Deed
@@ -147,7 +137,15 @@ done_before (of_turn asked) = []
 done_before (of_player offers hearings events choice) = []
 done_before (of_offer round) = round.deeds
 
--- the end without the derivations of what was done
+-- rounds, what a run consists of, and how it ends, without the derivations of what is done
+abbrev pub unproved_round : Round → Round
+unproved_round round =
+    record round { deeds = map (λ (deed : Deed). record deed { proofs = [] }) round.deeds }
+
+abbrev pub unproved_part : TurnOrRound → TurnOrRound
+unproved_part (a_turn turn) = a_turn (unproved turn)
+unproved_part (a_round round last to) = a_round (unproved_round round) last to
+
 abbrev pub unproved_end : EndOfRounds → EndOfRounds
 unproved_end (of_turn asked) = of_turn asked
 unproved_end (of_player offers hearings events choice) = of_player offers hearings events choice
