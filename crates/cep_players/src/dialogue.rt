@@ -48,6 +48,7 @@ pub fn play_in_rounds<M: Matcher, C: Console, L: Ledger>(
         (IsDialogueWith program.now settings players word)) }
     ensures begun { OnErr result (FellShort C.talk C.left console.old console.new (λ come. come)
         (IsSomeDialogue program.now settings players)) }
+    ensures counted { steps.old ≤ steps.new }
     ensures cause { ConsoleCause (C.faults console.old) (C.faults console.new) result }
 {
     dialogues_in_rounds_are_there();
@@ -80,6 +81,7 @@ fn all_parts<C: Console, M: Matcher, L: Ledger>(
     ensures begun { OnErr result (FellShort C.talk C.left console.old console.new whole_supply
         (IsRunInRounds program.now settings players (position_of start))) }
     ensures played { IfOk result (λ end. IsPlayed M.is_of M.height_held program.now settings end.config) }
+    ensures counted { steps.old ≤ steps.new }
     ensures cause { ConsoleCause (C.faults console.old) (C.faults console.new) result }
 {
     let mut config = start;
@@ -119,6 +121,7 @@ fn part<C: Console, M: Matcher, L: Ledger>(
         (λ come. supply_with come spent.old)
         (IsRunInRounds program.now settings players (position_of config))) }
     ensures spent { HasSpent settings.seed (config.turns + 1) spent.new }
+    ensures counted { steps.old ≤ steps.new }
     ensures cause { ConsoleCause (C.faults console.old) (C.faults console.new) result }
 {
     let Some(group) = config.asked() else {
