@@ -18,7 +18,7 @@ use Rattle.cep_step.specs.declared.limit.Limit.{Limit}
 use Rattle.cep_step.specs.declared.limit.Limit.TheVariants as limit
 use Rattle.cep_step.specs.Passing.{Passes}
 use Rattle.cep_lines.specs.declared.end_word.EndWord.{EndWord}
-use Rattle.cep_lines.specs.declared.end_word.EndWord.TheVariants.{Quiet, Turns}
+use Rattle.cep_lines.specs.declared.end_word.EndWord.TheVariants.{Quiet}
 use Rattle.cep_run.specs.declared.choice.Choice.{Choice}
 use Rattle.cep_run.specs.declared.choice.Choice.TheVariants.{Place}
 use Rattle.cep_run.specs.declared.settings.Settings.{Settings}
