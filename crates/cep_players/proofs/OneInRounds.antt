@@ -10,7 +10,6 @@ use Rattle.cep_rule.specs.declared.signature.Signature.{Signature}
 use Rattle.cep_rule.specs.declared.rule.Rule.{Rule}
 use Rattle.cep_rule.specs.declared.parts.Parts.{Parts}
 use Rattle.cep_rule.specs.declared.offer.Offer.{Offer}
-use Rattle.cep_rule.specs.State.{Fits}
 use Rattle.cep_rule.specs.Offers.{AreOffers}
 use Rattle.cep_rule.specs.Stages.{own_group, IsAsked}
 use Rattle.cep_rule.specs.Step.{Step}
@@ -19,7 +18,7 @@ use Rattle.cep_step.specs.declared.limit.Limit.{Limit}
 use Rattle.cep_step.specs.declared.limit.Limit.TheVariants as limit
 use Rattle.cep_step.specs.Passing.{Passes}
 use Rattle.cep_lines.specs.declared.end_word.EndWord.{EndWord}
-use Rattle.cep_lines.specs.declared.end_word.EndWord.TheVariants.{Quiet, Turns}
+use Rattle.cep_lines.specs.declared.end_word.EndWord.TheVariants.{Quiet}
 use Rattle.cep_run.specs.declared.choice.Choice.{Choice}
 use Rattle.cep_run.specs.declared.choice.Choice.TheVariants.{Place}
 use Rattle.cep_run.specs.declared.settings.Settings.{Settings}
