@@ -24,8 +24,7 @@ use Rattle.cep_run.specs.declared.choice.Choice.TheVariants.{Place}
 use Rattle.cep_run.specs.declared.settings.Settings.{Settings}
 use Rattle.cep_run.specs.Choice.{Hears}
 use Rattle.cep_run.specs.Deciding.{Supply}
-use Rattle.cep_run.specs.Run.{whole_supply, Question, Turn, IsQuestion, IsChosen, IsTurn, EndsAt, quiet_end, turns_end, offers_end, input_end, typed_end, atom_end, state_end}
-use Rattle.cep_run.proofs.OneRun.{one_question, one_turn, one_run}
+use Rattle.cep_run.specs.Run.{whole_supply, Question, Turn, Ending, Run, unproved, IsQuestion, IsChosen, IsTurn, EndsAt, quiet_end, turns_end, offers_end, input_end, typed_end, atom_end, state_end}
 use Rattle.cep_round.specs.Rounds.{AreAdmitted, admitted}
 use Rattle.cep_players.specs.Runs.{IsForAll, Hearing, IsHeard, AreHeard, HaveChosen, Round, IsListedHere, IsChosenHere, IsRoundDone, TurnOrRound, a_turn, a_round, EndOfRounds, of_turn, of_player, of_offer, unproved_round, unproved_part, unproved_end, IsCutOff, CannotBeDone, StopsInRound, StopsAtPlayer, EndsInRounds, RunsInRounds}
 use Rattle.cep_players.specs.Dialogues.{DialogueInRounds}
@@ -48,7 +47,10 @@ module _ (one_list : (program : Parts) (height : ℕ) (state : Multiset) (group 
     (one_step : (signature : Signature) (rule : Rule) (values : List Tree) (old one other : Multiset) → Step signature rule values old one → Step signature rule values old other → one ≡ other)
     (one_choice : (n taken many many' : ℕ) (come rest rest' : List ℕ) (events events' : List Event) (choice choice' : Choice) → n < 2 ^ 32 → Hears n come taken events choice rest many → Hears n come taken events' choice' rest' many' → (events ≡ events') × (choice ≡ choice') × (rest ≡ rest') × (many ≡ many'))
     (one_flags : (program : Parts) (state used : Multiset) (offers : List Offer) (one other : List Bool) → AreAdmitted program state used offers one → AreAdmitted program state used offers other → one ≡ other)
-    (program : Parts) (settings : Settings) (players : ℕ) where
+    (program : Parts) (settings : Settings) (players : ℕ)
+    (one_question : (at : Position) (from : Supply) (question question' : Question) (to to' : Supply) → IsQuestion program settings at from question to → IsQuestion program settings at from question' to' → (question ≡ question') × (to ≡ to'))
+    (one_turn : (at : Position) (from : Supply) (turn turn' : Turn) → IsTurn program settings at from turn → IsTurn program settings at from turn' → (unproved turn ≡ unproved turn') × (turn.deed.after ≡ turn'.deed.after) × (turn.left ≡ turn'.left))
+    (one_run : (at : Position) (from : Supply) (turns turns' : List Turn) (ending ending' : Ending) (to to' : Supply) → Run program settings at from turns ending to → Run program settings at from turns' ending' to' → (map unproved turns ≡ map unproved turns') × (ending ≡ ending') × (to ≡ to')) where
   -- What is heard
 
   module _ (n : ℕ) (few : n ≤ MOST_OFFERS) where
@@ -166,11 +168,11 @@ module _ (one_list : (program : Parts) (height : ℕ) (state : Multiset) (group 
 
   module _ (at : Position) (from : Supply) (turn : Turn) (is : IsTurn program settings at from turn) where
     its_choice : (question : Question) (to : Supply) → IsQuestion program settings at from question to → question.choice ≡ Place (is.chosen.place + 1)
-    its_choice question to asks = ap (λ (q : Question). q.choice) (one_question one_list one_step program settings at from question turn.question to turn.left asks is.asks).questions ∙ is.chosen.chosen
+    its_choice question to asks = ap (λ (q : Question). q.choice) (one_question at from question turn.question to turn.left asks is.asks).0 ∙ is.chosen.chosen
 
     turn_or_passes : (question : Question) (to : Supply) (offer : Offer) (rule : Rule) (passed : Limit) → IsQuestion program settings at from question to → IsChosen program question offer rule → Passes program.signature rule offer.values at.spot.state passed → ⊥
     turn_or_passes question to offer rule passed asks chosen passes =
-        let offers = ap (λ (q : Question). q.offers) (one_question one_list one_step program settings at from question turn.question to turn.left asks is.asks).questions in
+        let offers = ap (λ (q : Question). q.offers) (one_question at from question turn.question to turn.left asks is.asks).0 in
         let next : chosen.place + 1 ≡ is.chosen.place + 1 = cc (its_choice question to asks, chosen.chosen) in
         let places : chosen.place ≡ is.chosen.place = omega (arith, next) in
         let same : offer ≡ turn.deed.offer = cc (offers, places, chosen.at_place, is.chosen.at_place) in
@@ -229,7 +231,7 @@ module _ (one_list : (program : Parts) (height : ℕ) (state : Multiset) (group 
     one_end : (word word' : EndWord) (end end' : EndOfRounds) (last last' : Position) (to to' : Supply) → EndsInRounds program settings players at from word end last to → EndsInRounds program settings players at from word' end' last' to'
         → SameEnd end end' word word' last last' to to'
     one_end word word' (of_turn asked) (of_turn asked') last last' to to' ends ends' =
-        let one = one_run one_list one_step program settings at from [] [] (record { word = word; state = at.spot.state; question = asked }) (record { word = word'; state = at.spot.state; question = asked' }) to to'
+        let one = one_run at from [] [] (record { word = word; state = at.spot.state; question = asked }) (record { word = word'; state = at.spot.state; question = asked' }) to to'
         (record { last = at; between = from; done = (refl, refl); ends = ends.0; state = refl }) (record { last = at; between = from; done = (refl, refl); ends = ends'.0; state = refl }) in
         record { ends = ap (λ ending. of_turn ending.question) one.1; words = ap (λ ending. ending.word) one.1; lasts = ends.2 ∙ sym ends'.2; lefts = one.2 }
     one_end word word' (of_turn asked) (of_player offers' hearings' events' choice') last last' to to' ends ends' = absurd (listed_or_asked offers' word asked last to ends'.0.listed ends)
@@ -271,10 +273,10 @@ module _ (one_list : (program : Parts) (height : ℕ) (state : Multiset) (group 
   one_run_of at from (a_turn turn ∷ parts) (a_round round' here' left' ∷ parts') end end' word word' last last' to to' run run' = absurd (run.done.1 run'.done.0.choice.listed.for_all)
   one_run_of at from (a_round round here left ∷ parts) (a_turn turn' ∷ parts') end end' word word' last last' to to' run run' = absurd (run'.done.1 run.done.0.choice.listed.for_all)
   one_run_of at from (a_turn turn ∷ parts) (a_turn turn' ∷ parts') end end' word word' last last' to to' run run' =
-      let same = one_turn one_list one_step program settings at from turn turn' run.done.0 run'.done.0 in
+      let same = one_turn at from turn turn' run.done.0 run'.done.0 in
       let later = one_run_of turn.deed.after turn.left parts parts' end end' word word' last last' to to' (record { here = run.here; between = run.between; done = run.done.2; ends = run.ends })
-      (record { here = run'.here; between = run'.between; done = rw (same.afters, same.lefts) run'.done.2; ends = run'.ends }) in
-      (λ i. a_turn (same.turns i) ∷ later.0 i, later.1)
+      (record { here = run'.here; between = run'.between; done = rw (same.1, same.2) run'.done.2; ends = run'.ends }) in
+      (λ i. a_turn (same.0 i) ∷ later.0 i, later.1)
   one_run_of at from (a_round round here left ∷ parts) (a_round round' here' left' ∷ parts') end end' word word' last last' to to' run run' =
       let is = run.done.0 in
       let is' = run'.done.0 in
