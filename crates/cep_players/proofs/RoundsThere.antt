@@ -6,13 +6,14 @@ use Rattle.std.specs.FinMap as finite
 use Rattle.std.proofs.lemmas.Bool.{cases_Bool, cases_eq, cases_lt}
 use Rattle.std.proofs.lemmas.Option.{slice_get_within, get_or_from_slice_get}
 use Rattle.std.proofs.lemmas.Grind.{flat_map-append}
-use Rattle.std.proofs.lemmas.List.{map-append}
+use Rattle.std.proofs.lemmas.List.{map-append, length-map}
 use Rattle.cep_base.specs.declared.console.Event.{Event}
 use Rattle.cep_base.specs.declared.console.Event.TheVariants.{Out}
 use Rattle.cep_base.specs.Talk.{outs}
 use Rattle.cep_base.proofs.Elements.{contains_at}
 use Rattle.cep_base.proofs.Lists.{map_last}
 use Rattle.cep_term.specs.BagLaws.{BagLaws}
+use Rattle.cep_term.specs.Multiset.{Multiset}
 use Rattle.cep_rule.specs.declared.parts.Parts.{Parts}
 use Rattle.cep_rule.specs.declared.parts.Stage.{Stage}
 use Rattle.cep_rule.specs.declared.rule.Rule.{Rule}
@@ -85,6 +86,13 @@ asked_at program settings at from (typed_end asks full) = asks
 asked_at program settings at from (atom_end asks chosen passes) = asks
 asked_at program settings at from (state_end asks chosen passes) = asks
 
+-- of offers that apply one at least is admitted
+pub some_admitted : BagLaws → (program : Parts) (height : ℕ) (state : Multiset) (group : ℕ) (chosen : List Offer) (flags : List Bool) → AllByRecursion (IsOffer program height state group) chosen → AreAdmitted program state finite.empty chosen flags → 0 < length chosen → 0 < length (admitted chosen flags)
+some_admitted laws program height state group [] flags are flagged many = absurd (omega (arith, many))
+some_admitted laws program height state group (offer ∷ chosen) flags are flagged many =
+    let first = first_admitted laws program height state offer chosen flags are.0.applies flagged in
+    rw first.1 (let e : 0 < suc (length (admitted chosen first.0)) = omega arith in e)
+
 module _ (program : Parts) (settings : Settings) (players : ℕ) where
   pub parts_more : (at : Position) (from : Supply) (parts : List TurnOrRound) (here : Position) (between : Supply) (more : List TurnOrRound) (last : Position) (to : Supply) → AreTurnsAndRounds program settings players at from parts here between → AreTurnsAndRounds program settings players here between more last to
       → AreTurnsAndRounds program settings players at from (parts ++ more) last to
@@ -139,16 +147,6 @@ module _ (program : Parts) (settings : Settings) (players : ℕ) where
       are_offers = chosen_are (IsOffer program settings.height at.spot.state (own_group at.spot.stage)) round.offers
           (λ k offer there. choice.listed.offered.no_other offer (k, slice_get_within round.offers k offer there, get_or_from_slice_get round.offers k offer offer there)) round.hearings round.chosen choice.chosen
 
-      -- the first deed is done
-      some_chosen : (chosen : List Offer) (hearings : List Hearing) → AllByRecursion (IsOffer program settings.height at.spot.state (own_group at.spot.stage)) chosen → (flags : List Bool) → AreAdmitted program at.spot.state finite.empty chosen flags → 0 < length chosen → admitted chosen flags ≡ [] → ⊥
-      some_chosen [] hearings are flags flagged many none = omega (arith, many)
-      some_chosen (offer ∷ chosen) hearings are flags flagged many none =
-          let first = first_admitted laws.bags program settings.height at.spot.state offer chosen flags are.0.applies flagged in
-          cons_nil (admitted chosen first.0) (sym (ap (admitted (offer ∷ chosen)) first.1) ∙ none)
-        where
-          cons_nil : (xs : List Offer) → offer ∷ xs ≡ [] → ⊥
-          cons_nil xs e = cc
-
       as_many : (hearings : List Hearing) (chosen : List Offer) → HaveChosen round.offers hearings chosen → length chosen ≡ length hearings
       as_many [] [] have = refl
       as_many [] (offer ∷ chosen) have = absurd have
@@ -156,10 +154,10 @@ module _ (program : Parts) (settings : Settings) (players : ℕ) where
       as_many (hearing ∷ hearings) (offer ∷ chosen) have = ap suc (as_many hearings chosen have.1)
 
       some_deed : (deeds : List Deed) → admitted round.chosen round.flags ≡ map (λ deed. deed.offer) deeds → 0 < length deeds
-      some_deed [] order =
+      some_deed deeds order =
           let many = choice.of_each in
-          absurd (some_chosen round.chosen round.hearings are_offers round.flags choice.flagged (omega (arith, as_many round.hearings round.chosen choice.chosen, many, some)) order)
-      some_deed (deed ∷ deeds) order = omega arith
+          let are = some_admitted laws.bags program settings.height at.spot.state (own_group at.spot.stage) round.chosen round.flags are_offers choice.flagged (omega (arith, as_many round.hearings round.chosen choice.chosen, many, some)) in
+          omega (arith, are, ap length order, length-map deeds (λ (deed : Deed). deed.offer))
 
       counted : (p : Position) (deeds : List Deed) (last : Position) → AreDeeds program settings.height p deeds last → last.turns ≡ p.turns + length deeds
       counted p [] last done = let same = ap (λ (here : Position). here.turns) done in omega (arith, same)

@@ -321,11 +321,15 @@ module _ (program : Parts) (settings : Settings) (players : ℕ) (at : Position)
 
 -- What is offered here has texts, and is some
 
+pub has_text : (program : Parts) (height : ℕ) (state : Multiset) (group : ℕ) (offer : Offer) → IsOffer program height state group offer → IsOfferOf program offer
+has_text program height state group offer is =
+    let applies = is.applies in
+    subst (λ (o : Option Rule). IsSomeAnd o (λ rule. AreValues program.signature.cons rule.kinds offer.values)) (sym applies.numbered) applies.values
+
 pub offers_have_texts : (program : Parts) (height : ℕ) (state : Multiset) (group : ℕ) (offers : List Offer) → AreOffers program height state group offers → All (IsOfferOf program) offers
 offers_have_texts program height state group offers are k d h =
     let offer = get_or offers k d in
-    let applies = (are.no_other offer (k, h, get_or_default offers k offer d h)).applies in
-    subst (λ (o : Option Rule). IsSomeAnd o (λ rule. AreValues program.signature.cons rule.kinds offer.values)) (sym applies.numbered) applies.values
+    has_text program height state group offer (are.no_other offer (k, h, get_or_default offers k offer d h))
 
 some_there : (program : Parts) (height : ℕ) (state : Multiset) (group : ℕ) (offers : List Offer) → AreOffers program height state group offers → HasOffer program height state group → 0 < length offers
 some_there program height state group offers are has = let there = are.each has.0 has.1 in omega (arith, there.1)
