@@ -10,7 +10,6 @@ use Rattle.std.proofs.lemmas.List.{map-append, length-map}
 use Rattle.cep_base.specs.declared.console.Event.{Event}
 use Rattle.cep_base.specs.declared.console.Event.TheVariants.{Out}
 use Rattle.cep_base.specs.Talk.{outs}
-use Rattle.cep_base.proofs.Elements.{contains_at}
 use Rattle.cep_base.proofs.Lists.{map_last}
 use Rattle.cep_term.specs.BagLaws.{BagLaws}
 use Rattle.cep_term.specs.Multiset.{Multiset}
@@ -20,9 +19,9 @@ use Rattle.cep_rule.specs.declared.rule.Rule.{Rule}
 use Rattle.cep_rule.specs.declared.offer.Offer.{Offer}
 use Rattle.cep_rule.specs.State.{IsState}
 use Rattle.cep_rule.specs.Offers.{IsOffer, AreOffers}
-use Rattle.cep_rule.specs.Stages.{own_group, IsAsked, HasOffer}
+use Rattle.cep_rule.specs.Stages.{own_group, IsAsked}
 use Rattle.cep_rule.specs.Program.{IsProgram}
-use Rattle.cep_step.specs.Deeds.{Position, Deed, IsDeed, AreDeeds, start_of}
+use Rattle.cep_step.specs.Deeds.{Position, Deed, AreDeeds, start_of}
 use Rattle.cep_step.specs.declared.limit.Limit.{Limit}
 use Rattle.cep_step.specs.declared.limit.Limit.TheVariants as limit
 use Rattle.cep_step.specs.Passing.{Passes}
@@ -34,18 +33,18 @@ use Rattle.cep_log.specs.Holding.{lines_of_deed}
 use Rattle.cep_run.specs.declared.settings.Settings.{Settings}
 use Rattle.cep_run.specs.declared.deciding.Spent.{Spent}
 use Rattle.cep_run.specs.Deciding.{Supply}
-use Rattle.cep_run.specs.Run.{whole_supply, Question, Turn, Ending, IsQuestion, IsTurn, AreTurns, EndsAt, input_end, typed_end, atom_end, state_end, Run}
+use Rattle.cep_run.specs.Run.{whole_supply, Question, Turn, IsQuestion, IsTurn, AreTurns, EndsAt, input_end, typed_end, atom_end, state_end}
 use Rattle.cep_run.specs.Turn.{supply_with, limit_word}
 use Rattle.cep_run.specs.Fronts.{BeginsSome}
 use Rattle.cep_choice.specs.Draws.{generator_behind}
 use Rattle.cep_players.specs.PlayersLaws.{PlayersLaws}
-use Rattle.cep_players.specs.Runs.{IsForAll, Hearing, HaveChosen, Round, IsListedHere, IsChosenHere, IsRoundDone, TurnOrRound, a_turn, a_round, AreTurnsAndRounds, EndOfRounds, of_turn, of_player, of_offer, CannotBeDone, StopsInRound, StopsAtPlayer, EndsInRounds, RunsInRounds}
-use Rattle.cep_players.specs.Dialogues.{hearing_events, blocked_lines, choose_line, turn_question_events, round_question_events, round_events, part_events, last_part_events, DialogueInRounds}
-use Rattle.cep_players.specs.Playing.{AllChoose, OneDoesNot, ChooseSome, events_of_rounds, IsRunInRounds}
+use Rattle.cep_players.specs.Runs.{IsForAll, Hearing, HaveChosen, Round, IsListedHere, IsChosenHere, TurnOrRound, a_turn, a_round, AreTurnsAndRounds, EndOfRounds, of_turn, of_player, of_offer, CannotBeDone, EndsInRounds}
+use Rattle.cep_players.specs.Dialogues.{hearing_events, blocked_lines, turn_question_events, round_question_events, round_events, part_events, last_part_events, DialogueInRounds}
+use Rattle.cep_players.specs.Playing.{AllChoose, OneDoesNot, ChooseSome, IsRunInRounds}
 use Rattle.cep_players.proofs.Prefixes.{prefix_of_prefix}
 use Rattle.cep_players.proofs.AllPlayers.{none_chose, choose_on}
 use Rattle.cep_players.proofs.Contained.{flags_there, first_admitted}
-use Rattle.cep_players.proofs.RoundSteps.{chosen_are, deeds_states, deeds_more, same_stage, next_is_offer}
+use Rattle.cep_players.proofs.RoundSteps.{chosen_are, deeds_states, deeds_more, next_is_offer}
 
 -- a stage asks one group
 one_group : (program : Parts) (height : ℕ) (at : Position) (group : ℕ) → IsAsked program height at.spot.state at.spot.stage (own_group at.spot.stage) → IsAsked program height at.spot.state at.spot.stage group → group ≡ own_group at.spot.stage

@@ -1,11 +1,9 @@
-use Rattle.std.proofs.Common.{◌≡◌, ◌≤◌, sym, subst}
+use Rattle.std.proofs.Common.{sym, subst}
 use Rattle.std.proofs.lemmas.Result.{on_err_weaker}
-use Rattle.cep_base.specs.declared.limits.TheConstants.{MOST_HEIGHT}
 use Rattle.cep_base.proofs.Did.{did_map, did_then}
 use Rattle.cep_base.proofs.Outcomes.{on_err}
 use Rattle.cep_rule.specs.Limits.{IsHeight}
 use Rattle.cep_rule.specs.Matching.{offers_of}
-use Rattle.cep_rule.specs.Offers.{IsOffer}
 use Rattle.cep_rule.specs.Stages.{own_group}
 use Rattle.cep_round.specs.Rounds.{AreChosen}
 use Rattle.cep_run.specs.Turn.{position_of}
