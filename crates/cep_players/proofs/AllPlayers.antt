@@ -125,7 +125,7 @@ module _ (offers : List Offer) (old : Spent) where
 
   -- what was heard is gone
   module _ (within : AreWithin) where
-    heard_left : (player n : ℕ) (from : Supply) (hearings : List Hearing) (to : Supply) → AreHeard n from hearings to → LeavesUnheard from.come (hearing_events player hearings) to.come
+    pub heard_left : (player n : ℕ) (from : Supply) (hearings : List Hearing) (to : Supply) → AreHeard n from hearings to → LeavesUnheard from.come (hearing_events player hearings) to.come
     heard_left player n from [] to are = ap (λ (s : Supply). s.come) (sym are)
     heard_left player n from (hearing ∷ hearings) to are =
         let between = are.0 in

@@ -79,7 +79,7 @@ passes_stops program most at rule offer limit.Atom remain passes = (remain, pass
 passes_stops program most at rule offer limit.State remain passes = (remain, passes)
 
 -- the last question is one that is asked
-asked_at : (program : Parts) (settings : Settings) (at : Position) (from : Supply) {word : EndWord} {question : Question} {to : Supply} → EndsAt program settings at from word (Some question) to → IsQuestion program settings at from question to
+pub asked_at : (program : Parts) (settings : Settings) (at : Position) (from : Supply) {word : EndWord} {question : Question} {to : Supply} → EndsAt program settings at from word (Some question) to → IsQuestion program settings at from question to
 asked_at program settings at from (input_end asks none) = asks
 asked_at program settings at from (typed_end asks full) = asks
 asked_at program settings at from (atom_end asks chosen passes) = asks

@@ -286,7 +286,7 @@ module _ {C M : Type 0} (talk : C → Option (List Event)) (left : C → Option 
 
 -- Refused turns
 
-decides_left : AreWithin → (program : Parts) (seed stage group : ℕ) (offers : List Offer) (from : Supply) (how : How) (choice : Choice) (to : Supply) → Decides program seed stage group (length offers) from how choice to → LeavesUnheard from.come (turn_question_events program offers how) to.come
+pub decides_left : AreWithin → (program : Parts) (seed stage group : ℕ) (offers : List Offer) (from : Supply) (how : How) (choice : Choice) (to : Supply) → Decides program seed stage group (length offers) from how choice to → LeavesUnheard from.come (turn_question_events program offers how) to.come
 decides_left within program seed stage group offers from (Heard events) choice to decides =
     let asked = offer_lines program 1 offers ++ choose_line 1 in
     left_then from.come (outs asked) from.come events to.come (outs_left asked from.come (outs asked) from.come (refl, refl)) (within (length offers) from.taken to.taken from.come to.come events choice decides.1).1
