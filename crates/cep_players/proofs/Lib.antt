@@ -12,3 +12,5 @@ pub mod OffersDone
 pub mod Turning
 pub mod Rounding
 pub mod Whole
+pub mod Together
+pub mod OneInRounds

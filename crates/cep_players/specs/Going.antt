@@ -24,7 +24,7 @@ use Rattle.cep_run.specs.Deciding.{Supply, How, Decides}
 use Rattle.cep_run.specs.Run.{whole_supply}
 use Rattle.cep_run.specs.Turn.{position_of, supply_with}
 use Rattle.cep_players.specs.Runs.{TurnOrRound, EndOfRounds, AreTurnsAndRounds, EndsInRounds, CannotBeDone, RunsInRounds}
-use Rattle.cep_players.specs.Dialogues.{turn_question_events, part_events, last_part_events}
+use Rattle.cep_players.specs.Dialogues.{turn_question_events, part_events, last_part_events, DialogueInRounds}
 
 -- A group is asked here, and turns remain; these are its offers, and they are not too many.
 pub record IsOfferedHere (program : Parts) (settings : Settings) (at : Position) (group : ℕ)
@@ -185,3 +185,14 @@ pub record IsWholeInRounds (program : Parts) (settings : Settings) (players : �
   pub run : RunsInRounds program settings players at (whole_supply come) parts end word last left
   pub written : events ≡ flat_map (part_events program) parts ++ last_part_events program end
   pub rest_is : rest ≡ left.come
+
+-- these events are a dialogue in rounds that ends with the word
+abbrev pub IsDialogueWith : Parts → Settings → ℕ → EndWord → List ℕ → List Event → List ℕ → Type 0
+IsDialogueWith program settings players word come events rest =
+    (parts : List TurnOrRound) × (end : EndOfRounds) × (last : Position)
+    × DialogueInRounds program settings players come parts end word last events rest
+
+-- these events are a dialogue in rounds
+abbrev pub IsSomeDialogue : Parts → Settings → ℕ → List ℕ → List Event → List ℕ → Type 0
+IsSomeDialogue program settings players come events rest =
+    (word : EndWord) × IsDialogueWith program settings players word come events rest

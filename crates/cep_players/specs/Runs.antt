@@ -21,8 +21,8 @@ use Rattle.cep_run.specs.declared.choice.Choice.TheVariants.{Place, NoMore, NoRo
 use Rattle.cep_run.specs.declared.settings.Settings.{Settings}
 use Rattle.cep_run.specs.Choice.{Hears}
 use Rattle.cep_run.specs.Deciding.{Supply}
-use Rattle.cep_run.specs.Run.{Question, Turn, IsTurn, EndsAt}
-use Rattle.cep_round.specs.Rounds.{AreAdmitted, admitted}
+use Rattle.cep_run.specs.Run.{Question, Turn, IsTurn, EndsAt, unproved}
+use Rattle.cep_round.specs.Rounds.{AreAdmitted, admitted, IsRound}
 
 -- All players choose at once: the stage is interactive, and its own rules are asked.
 pub record IsForAll (program : Parts) (height : ℕ) (at : Position) : Type 0 where
@@ -114,6 +114,15 @@ AreTurnsAndRounds program settings players at from (a_round round here left ∷ 
     IsRoundDone program settings players at from round here left
     × AreTurnsAndRounds program settings players here left parts last to
 
+-- The state after each of the rounds is the one to which its admitted offers lead together from the
+-- state before it.
+abbrev pub AreTogether : Parts → Position → List TurnOrRound → Type 0
+AreTogether program at [] = Unit {0}
+AreTogether program at (a_turn turn ∷ parts) = AreTogether program turn.deed.after parts
+AreTogether program at (a_round round last to ∷ parts) =
+    IsRound program round.chosen round.flags at.spot.state last.spot.state
+    × AreTogether program last parts
+
 -- How a run in rounds ends: as a run for one player does, maybe after a last question; at a player
 -- of whom no choice is heard, with the offers, what was heard of those before, and what came of it;
 -- or at an admitted offer of a round that cannot be done, after those before it.
@@ -127,6 +136,20 @@ abbrev pub done_before : EndOfRounds → List Deed
 done_before (of_turn asked) = []
 done_before (of_player offers hearings events choice) = []
 done_before (of_offer round) = round.deeds
+
+-- rounds, what a run consists of, and how it ends, without the derivations of what is done
+abbrev pub unproved_round : Round → Round
+unproved_round round =
+    record round { deeds = map (λ (deed : Deed). record deed { proofs = [] }) round.deeds }
+
+abbrev pub unproved_part : TurnOrRound → TurnOrRound
+unproved_part (a_turn turn) = a_turn (unproved turn)
+unproved_part (a_round round last to) = a_round (unproved_round round) last to
+
+abbrev pub unproved_end : EndOfRounds → EndOfRounds
+unproved_end (of_turn asked) = of_turn asked
+unproved_end (of_player offers hearings events choice) = of_player offers hearings events choice
+unproved_end (of_offer round) = of_offer (unproved_round round)
 
 -- No more is typed, or no more may be.
 abbrev pub IsCutOff : Choice → EndWord → Type 0

@@ -56,6 +56,7 @@ pub(crate) fn act_all<C: Console, M: Matcher, L: Ledger>(
         (config_left turned)) }
     ensures begun { OnErr result (Did C.talk C.left console.old console.new
         (BeginsActs program.now settings (position_of start) (admitted chosen.now flags.now))) }
+    ensures risen { steps.old ≤ steps.new }
     ensures cause { ConsoleCause (C.faults console.old) (C.faults console.new) result }
 {
     players_are_lawful();
@@ -105,6 +106,7 @@ fn act_offer<C: Console, M: Matcher, L: Ledger>(
         (config_left turned)) }
     ensures begun { OnErr result (Did C.talk C.left console.old console.new
         (BeginsOffer program.now settings offer.now (position_of config))) }
+    ensures counted { steps.old ≤ steps.new }
     ensures cause { ConsoleCause (C.faults console.old) (C.faults console.new) result }
 {
     program.parts();

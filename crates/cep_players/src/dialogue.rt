@@ -1,18 +1,21 @@
 //! A run in rounds: turn after turn, and round after round, until it ends.
-ghost use Rattle.std.specs.Prelude.{◌≡◌, ◌+◌, ◌<◌, ◌≤◌, IfOk, OnErr};
+ghost use Rattle.std.specs.Prelude.{◌≡◌, ◌↔◌, ◌+◌, ◌<◌, ◌≤◌, length, slice_get, true, IfOk, IsSomeAnd, IsTrue, OnErr};
 ghost use Rattle.cep_base.specs.declared.limits.TheConstants.{MOST_TURNS};
 ghost use Rattle.cep_base.specs.Talk.{Did, ConsoleCause};
 ghost use Rattle.cep_rule.specs.Limits.{IsHeight};
+ghost use Rattle.cep_rule.specs.Stages.{own_group};
 ghost use Rattle.cep_round.specs.declared.limits.TheConstants.{MOST_PLAYERS};
 ghost use Rattle.cep_run.specs.Run.{whole_supply};
 ghost use Rattle.cep_run.specs.Fronts.{FellShort};
 ghost use Rattle.cep_run.specs.Turn.{position_of, supply_with, config_left, HasSpent, IsPlayed};
 ghost use Rattle.cep_players.specs.Playing.{IsRunInRounds};
-ghost use Rattle.cep_players.specs.Going.{IsWent, IsWholeInRounds};
-ghost use Rattle.cep_players.specs.Said.{IsDialogueWith, IsSomeDialogue};
+ghost use Rattle.cep_players.specs.Going.{IsWent, IsWholeInRounds, IsDialogueWith, IsSomeDialogue};
+ghost use Rattle.cep_players.specs.Said.{IsSaidInRounds, IsSomeSaidInRounds};
 
 use crate::acting::over;
-use crate::laws::{dialogues_in_rounds_are_there, players_are_lawful};
+use crate::laws::{
+    dialogues_in_rounds_are_said, dialogues_in_rounds_are_there, players_are_lawful,
+};
 use crate::round::round;
 use crate::turn::turn;
 use cep_base::{Console, ConsoleFault, Steps};
@@ -45,11 +48,38 @@ pub fn play_in_rounds<M: Matcher, C: Console, L: Ledger>(
     requires some { 0 < players }
     requires few { players ≤ MOST_PLAYERS }
     ensures said { IfOk result (λ word. Did C.talk C.left console.old console.new
+        (IsSaidInRounds program.now settings players word)) }
+    ensures begun { OnErr result (FellShort C.talk C.left console.old console.new (λ come. come)
+        (IsSomeSaidInRounds program.now settings players)) }
+    ensures counted { steps.old ≤ steps.new }
+    ensures cause { ConsoleCause (C.faults console.old) (C.faults console.new) result }
+{
+    dialogues_in_rounds_are_said();
+    program.parts();
+    dialogue::<M, C, L>(alloc, program, settings, players, console, steps)
+}
+
+// Has a whole dialogue: the header, turns and rounds until the run ends, and why it ended.
+fn dialogue<M: Matcher, C: Console, L: Ledger>(
+    alloc: Global,
+    program: &Program,
+    settings: Settings,
+    players: u32,
+    console: &mut C,
+    steps: &mut Steps<L>,
+) -> Result<EndWord, ConsoleFault>
+    requires height { IsHeight settings.height }
+    requires limit { settings.limit ≤ MOST_TURNS }
+    requires some { 0 < players }
+    requires few { players ≤ MOST_PLAYERS }
+    ensures said { IfOk result (λ word. Did C.talk C.left console.old console.new
         (IsDialogueWith program.now settings players word)) }
     ensures begun { OnErr result (FellShort C.talk C.left console.old console.new (λ come. come)
         (IsSomeDialogue program.now settings players)) }
+    ensures counted { steps.old ≤ steps.new }
     ensures cause { ConsoleCause (C.faults console.old) (C.faults console.new) result }
 {
+    players_are_lawful();
     dialogues_in_rounds_are_there();
     program.parts();
     let config = Config::<M>::begin(alloc, program, settings.height, steps)?;
@@ -80,8 +110,10 @@ fn all_parts<C: Console, M: Matcher, L: Ledger>(
     ensures begun { OnErr result (FellShort C.talk C.left console.old console.new whole_supply
         (IsRunInRounds program.now settings players (position_of start))) }
     ensures played { IfOk result (λ end. IsPlayed M.is_of M.height_held program.now settings end.config) }
+    ensures counted { steps.old ≤ steps.new }
     ensures cause { ConsoleCause (C.faults console.old) (C.faults console.new) result }
 {
+    players_are_lawful();
     let mut config = start;
     let mut spent = Spent::nothing(settings.seed);
     loop {
@@ -119,6 +151,7 @@ fn part<C: Console, M: Matcher, L: Ledger>(
         (λ come. supply_with come spent.old)
         (IsRunInRounds program.now settings players (position_of config))) }
     ensures spent { HasSpent settings.seed (config.turns + 1) spent.new }
+    ensures counted { steps.old ≤ steps.new }
     ensures cause { ConsoleCause (C.faults console.old) (C.faults console.new) result }
 {
     let Some(group) = config.asked() else {
@@ -131,9 +164,7 @@ fn part<C: Console, M: Matcher, L: Ledger>(
     if !config.matcher().len_ok(group) {
         return Ok(over(config, EndWord::Offers));
     }
-    let stage = config.stage();
-    let interactive = program.parts().stages.get(stage as usize).interactive;
-    if interactive && group == 2 * stage {
+    if is_for_all(program, &config, group) {
         round(
             alloc, program, settings, players, config, group, console, spent, steps,
         )
@@ -142,4 +173,15 @@ fn part<C: Console, M: Matcher, L: Ledger>(
             alloc, program, settings, players, config, group, console, spent, steps,
         )
     }
+}
+
+// All players choose at once: the stage is interactive, and the group is that of its own rules.
+fn is_for_all<M: Matcher>(program: &Program, config: &Config<M>, group: u32) -> bool
+    requires { config.now.stage < length program.now.stages }
+    ensures { IsTrue result ↔ (IsSomeAnd (slice_get program.now.stages config.now.stage)
+        (λ stage. stage.interactive ≡ true) × (group ≡ own_group config.now.stage)) }
+{
+    let stage = config.stage();
+    let parts = program.parts();
+    parts.stages.get(stage as usize).interactive && group == 2 * stage
 }

@@ -54,12 +54,14 @@ pub(crate) fn round<C: Console, M: Matcher, L: Ledger>(
         (λ come. supply_with come spent.old)
         (IsRunInRounds program.now settings players (position_of config))) }
     ensures spent { HasSpent settings.seed (config.turns + 1) spent.new }
+    ensures counted { steps.old ≤ steps.new }
     ensures cause { ConsoleCause (C.faults console.old) (C.faults console.new) result }
 {
     players_are_lawful();
     program.parts();
-    tell(alloc, program, config.matcher(), group, console)?;
-    match choices(alloc, players, config.matcher(), group, console, spent)? {
+    let matcher = config.matcher();
+    tell(alloc, program, matcher, group, console)?;
+    match choices(alloc, players, matcher, group, console, spent)? {
         Chosen::All(chosen) => {
             let flags = admit(alloc, program, config.state(), &chosen)?;
             tell_blocked(alloc, program, &chosen, &flags, console)?;

@@ -97,6 +97,7 @@ pub(crate) fn turn<C: Console, M: Matcher, L: Ledger>(
         (λ come. supply_with come spent.old)
         (IsRunInRounds program.now settings players (position_of config))) }
     ensures spent { HasSpent settings.seed (config.turns + 1) spent.new }
+    ensures counted { steps.old ≤ steps.new }
     ensures cause { ConsoleCause (C.faults console.old) (C.faults console.new) result }
 {
     players_are_lawful();

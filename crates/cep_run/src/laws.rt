@@ -81,6 +81,25 @@ pub fn questions_lead_on()
     drawn_places_are_within();
 }
 
+/// From a position with a supply one question is asked at most, and one turn is done at most but for
+/// its derivations.
+pub fn one_turn()
+    ensures questions { (program : Parts) (settings : Settings) (at : Position) (from : Supply)
+        (question question' : Question) (to to' : Supply)
+        → IsQuestion program settings at from question to
+        → IsQuestion program settings at from question' to'
+        → (question ≡ question') × (to ≡ to') }
+    ensures turns { (program : Parts) (settings : Settings) (at : Position) (from : Supply)
+        (turn turn' : Turn)
+        → IsTurn program settings at from turn
+        → IsTurn program settings at from turn'
+        → (unproved turn ≡ unproved turn') × (turn.deed.after ≡ turn'.deed.after)
+        × (turn.left ≡ turn'.left) }
+{
+    one_list_of_offers();
+    one_state_after_a_step();
+}
+
 /// From a position, what is typed and the seed determine the run: its turns, but for the derivations
 /// that they carry, how it ends, and what is left of the supply.
 pub fn one_run()

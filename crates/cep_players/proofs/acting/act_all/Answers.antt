@@ -3,8 +3,6 @@ use Rattle.std.specs.Prelude.{slice_get, drop}
 use Rattle.cep_base.specs.Talk.{Did}
 use Rattle.cep_base.proofs.Did.{did_same, did_map, did_then}
 use Rattle.cep_base.proofs.Outcomes.{on_err}
-use Rattle.cep_rule.specs.Offers.{IsOffer}
-use Rattle.cep_rule.specs.Stages.{own_group}
 use Rattle.cep_round.specs.Rounds.{admitted}
 use Rattle.cep_round.specs.Orders.{AreOffersDone}
 use Rattle.cep_run.specs.Turn.{position_of, IsPlayed, config_left}
@@ -27,6 +25,7 @@ loop-i-init g c =
       moved = refl;
       stage = refl;
       counted = omega arith;
+      risen = omega arith;
       calm = refl;
       so_far = did_map g.C.Console.talk g.C.Console.left console console _ _ (acts_none c.args.program.now c.args.settings (position_of c.args.start) (admitted c.args.chosen.now c.args.flags.now)) (did_same g.C.Console.talk g.C.Console.left console console refl refl);
     }
@@ -76,6 +75,7 @@ loop-i-preserved g c =
                 (done_more program settings.height c.args.start.state (admitted (take i chosen) (take i flags)) config.state next.state offer before.moved moved.0));
             stage = ap (λ k. k.stage) w.config-is ∙ moved.1 ∙ before.stage;
             counted = omega (arith, turns, one, so_far, many);
+            risen = let rose = w.act_offer.ensures.counted in let so_far = before.risen in subst (λ k. c.args.steps.now ≤ k) (sym w.steps-is) (omega (arith, rose, so_far));
             calm = ap g.C.Console.faults w.console-is ∙ w.in_ok-next.ensures.cause ∙ before.calm;
             so_far =
                 subst (λ k. Did talk left c.args.console.now k (ActsSome program settings.height start (position_of c.if-get.config) (admitted chosen flags) (admitted (drop (i + 1) chosen) (drop (i + 1) flags)))) (sym w.console-is)
@@ -95,6 +95,7 @@ loop-i-preserved g c =
             moved = subst (λ offers. AreOffersDone program settings.height c.args.start.state offers c.if-get.config.state) (sym same)
                 (subst (λ k. AreOffersDone program settings.height c.args.start.state (admitted (take i chosen) (take i flags)) k.state) (sym w.config-is) before.moved);
             stage = ap (λ k. k.stage) w.config-is ∙ before.stage;
+            risen = subst (λ k. c.args.steps.now ≤ k) (sym w.steps-is) before.risen;
             counted = ap (λ k. k.turns) w.config-is ∙ before.counted ∙ ap (λ offers. c.args.start.turns + length offers) (sym same);
             calm = ap g.C.Console.faults w.console-is ∙ before.calm;
             so_far =

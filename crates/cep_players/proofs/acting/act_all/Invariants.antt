@@ -15,6 +15,7 @@ invariant-loop-i g l =
       moved : AreOffersDone l.program l.settings.height l.fn.start.state (admitted (take l.i l.chosen) (take l.i l.flags)) l.config.state;
       stage : l.config.stage ≡ l.fn.start.stage;
       counted : l.config.turns ≡ l.fn.start.turns + length (admitted (take l.i l.chosen) (take l.i l.flags));
+      risen : l.fn.steps ≤ l.steps;
       calm : g.C.Console.faults l.console ≡ g.C.Console.faults l.fn.console;
       so_far : Did g.C.Console.talk g.C.Console.left l.fn.console l.console
           (ActsSome l.program l.settings.height (position_of l.fn.start) (position_of l.config) (admitted l.chosen l.flags) (admitted (drop l.i l.chosen) (drop l.i l.flags)));

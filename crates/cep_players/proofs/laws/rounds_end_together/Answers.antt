@@ -1,13 +1,22 @@
 use Rattle.std.proofs.Common.{subst}
 use Rattle.std.proofs.lemmas.List.Sorted.{IsPermutation-refl}
+use Rattle.cep_step.specs.Deeds.{start_of}
+use Rattle.cep_run.specs.Run.{whole_supply}
 use Rattle.cep_round.specs.Rounds.{admitted}
 use Rattle.cep_round.specs.Orders.{AreOffersDone}
 use Rattle.cep_players.proofs.RunDeeds.{deeds_done}
+use Rattle.cep_players.proofs.Together.{together}
 use Rattle.cep_players.proofs.laws.rounds_end_together.Goals as goal
 
-pub returns : goal.returns
-returns c = λ program settings players at last from to round kept is done.
+pub returns-clause-rounds : goal.returns-clause-rounds
+returns-clause-rounds c = λ program settings players at last from to round kept is done.
     c.rounds_are_lawful.ensures.last program settings.height at.spot.state last.spot.state round.chosen (admitted round.chosen round.flags) round.flags kept is done.choice.flagged
     (IsPermutation-refl (admitted round.chosen round.flags))
     (subst (λ offers. AreOffersDone program settings.height at.spot.state offers last.spot.state) done.all
     (deeds_done program settings.height (c.what_is_needed_is_there.ensures.contained program.signature) at round.deeds last done.done))
+
+pub returns-clause-dialogues : goal.returns-clause-dialogues
+returns-clause-dialogues c = λ program settings players come rest parts end word last events kept said.
+    together c.players_are_lawful.ensures.rounds program settings players kept
+    (λ at last from to round is done. returns-clause-rounds c program settings players at last from to round kept is done)
+    (start_of program) (whole_supply come) parts said.run.here said.run.between kept.start said.run.done

@@ -1,0 +1,292 @@
+-- What is typed determines a dialogue in rounds but for the derivations of what is done.
+use Rattle.std.proofs.Common.{◌≡◌, ℕ, ◌+◌, ◌<◌, ◌≤◌, ◌^◌, Bool, List, [], ◌∷◌, ◌++◌, map, length, Option, None, Some, append-nil, refl, sym, ap, ◌∙◌, subst, arith}
+use Rattle.std.specs.Prelude.{slice_get}
+use Rattle.std.specs.FinMap as finite
+use Rattle.cep_base.specs.declared.console.Event.{Event}
+use Rattle.cep_base.specs.declared.limits.TheConstants.{MOST_OFFERS}
+use Rattle.cep_term.specs.Tree.{Tree}
+use Rattle.cep_term.specs.Multiset.{Multiset}
+use Rattle.cep_rule.specs.declared.signature.Signature.{Signature}
+use Rattle.cep_rule.specs.declared.rule.Rule.{Rule}
+use Rattle.cep_rule.specs.declared.parts.Parts.{Parts}
+use Rattle.cep_rule.specs.declared.offer.Offer.{Offer}
+use Rattle.cep_rule.specs.Offers.{AreOffers}
+use Rattle.cep_rule.specs.Stages.{own_group, IsAsked}
+use Rattle.cep_rule.specs.Step.{Step}
+use Rattle.cep_step.specs.Deeds.{Position, Deed, IsDeed, AreDeeds, start_of}
+use Rattle.cep_step.specs.declared.limit.Limit.{Limit}
+use Rattle.cep_step.specs.declared.limit.Limit.TheVariants as limit
+use Rattle.cep_step.specs.Passing.{Passes}
+use Rattle.cep_lines.specs.declared.end_word.EndWord.{EndWord}
+use Rattle.cep_lines.specs.declared.end_word.EndWord.TheVariants.{Quiet}
+use Rattle.cep_run.specs.declared.choice.Choice.{Choice}
+use Rattle.cep_run.specs.declared.choice.Choice.TheVariants.{Place}
+use Rattle.cep_run.specs.declared.settings.Settings.{Settings}
+use Rattle.cep_run.specs.Choice.{Hears}
+use Rattle.cep_run.specs.Deciding.{Supply}
+use Rattle.cep_run.specs.Run.{whole_supply, Question, Turn, Ending, Run, unproved, IsQuestion, IsChosen, IsTurn, EndsAt, quiet_end, turns_end, offers_end, input_end, typed_end, atom_end, state_end}
+use Rattle.cep_round.specs.Rounds.{AreAdmitted, admitted}
+use Rattle.cep_players.specs.Runs.{IsForAll, Hearing, IsHeard, AreHeard, HaveChosen, Round, IsListedHere, IsChosenHere, IsRoundDone, TurnOrRound, a_turn, a_round, EndOfRounds, of_turn, of_player, of_offer, unproved_round, unproved_part, unproved_end, IsCutOff, CannotBeDone, StopsInRound, StopsAtPlayer, EndsInRounds, RunsInRounds}
+use Rattle.cep_players.specs.Dialogues.{DialogueInRounds}
+
+one_cut : (choice : Choice) (word word' : EndWord) → IsCutOff choice word → IsCutOff choice word' → word ≡ word'
+one_cut choice word word' cut cut' = grind arith
+
+one_word : (program : Parts) (most : ℕ) (at : Position) (next : Offer) (rule rule' : Rule) (word word' : EndWord) → slice_get program.rules next.rule ≡ Some rule → slice_get program.rules next.rule ≡ Some rule'
+    → CannotBeDone program most at rule next.values word → CannotBeDone program most at rule' next.values word' → word ≡ word'
+one_word program most at next rule rule' word word' of_rule of_rule' stops stops' = grind arith
+
+-- two ends of runs are the same but for derivations
+record SameEnd (end end' : EndOfRounds) (word word' : EndWord) (last last' : Position) (to to' : Supply) : Type 0 where
+  ends : unproved_end end ≡ unproved_end end'
+  words : word ≡ word'
+  lasts : last ≡ last'
+  lefts : to ≡ to'
+
+module _ (one_list : (program : Parts) (height : ℕ) (state : Multiset) (group : ℕ) (one other : List Offer) → AreOffers program height state group one → AreOffers program height state group other → one ≡ other)
+    (one_step : (signature : Signature) (rule : Rule) (values : List Tree) (old one other : Multiset) → Step signature rule values old one → Step signature rule values old other → one ≡ other)
+    (one_choice : (n taken many many' : ℕ) (come rest rest' : List ℕ) (events events' : List Event) (choice choice' : Choice) → n < 2 ^ 32 → Hears n come taken events choice rest many → Hears n come taken events' choice' rest' many' → (events ≡ events') × (choice ≡ choice') × (rest ≡ rest') × (many ≡ many'))
+    (one_flags : (program : Parts) (state used : Multiset) (offers : List Offer) (one other : List Bool) → AreAdmitted program state used offers one → AreAdmitted program state used offers other → one ≡ other)
+    (program : Parts) (settings : Settings) (players : ℕ)
+    (one_question : (at : Position) (from : Supply) (question question' : Question) (to to' : Supply) → IsQuestion program settings at from question to → IsQuestion program settings at from question' to' → (question ≡ question') × (to ≡ to'))
+    (one_turn : (at : Position) (from : Supply) (turn turn' : Turn) → IsTurn program settings at from turn → IsTurn program settings at from turn' → (unproved turn ≡ unproved turn') × (turn.deed.after ≡ turn'.deed.after) × (turn.left ≡ turn'.left))
+    (one_run : (at : Position) (from : Supply) (turns turns' : List Turn) (ending ending' : Ending) (to to' : Supply) → Run program settings at from turns ending to → Run program settings at from turns' ending' to' → (map unproved turns ≡ map unproved turns') × (ending ≡ ending') × (to ≡ to')) where
+  -- What is heard
+
+  module _ (n : ℕ) (few : n ≤ MOST_OFFERS) where
+    one_heard : (from : Supply) (events events' : List Event) (choice choice' : Choice) (to to' : Supply) → IsHeard n from events choice to → IsHeard n from events' choice' to' → (events ≡ events') × (choice ≡ choice') × (to ≡ to')
+    one_heard from events events' choice choice' to to' is is' =
+        let same = one_choice n from.taken to.taken to'.taken from.come to.come to'.come events events' choice choice' (omega (arith, few)) is.0 is'.0 in
+        (same.0, same.1, λ i. record { come = same.2 i; taken = same.3 i; drawn = (is.1 ∙ sym is'.1) i })
+
+    same_heard : (from : Supply) (hearings hearings' : List Hearing) (to to' : Supply) → AreHeard n from hearings to → AreHeard n from hearings' to' → length hearings ≡ length hearings' → (hearings ≡ hearings') × (to ≡ to')
+    same_heard from [] [] to to' are are' same = (refl, are ∙ sym are')
+    same_heard from [] (hearing' ∷ hearings') to to' are are' same = absurd cc
+    same_heard from (hearing ∷ hearings) [] to to' are are' same = absurd cc
+    same_heard from (hearing ∷ hearings) (hearing' ∷ hearings') to to' are are' same =
+        let one = one_heard from hearing.events hearing'.events (Place hearing.place) (Place hearing'.place) are.0 are'.0 are.1 are'.1 in
+        let later = same_heard are.0 hearings hearings' to to' are.2 (rw one.2 are'.2) (omega (arith, same)) in
+        let places : hearing.place ≡ hearing'.place = cc (one.1) in
+        (λ i. record { events = one.0 i; place = places i } ∷ later.0 i, later.1)
+
+    -- no more players choose than before one of whom no choice is heard
+    no_more_heard : (from : Supply) (hearings hearings' : List Hearing) (between to to' : Supply) (events : List Event) (choice : Choice) (word : EndWord) → AreHeard n from hearings between → IsHeard n between events choice to → IsCutOff choice word → AreHeard n from hearings' to' → length hearings' ≤ length hearings
+    no_more_heard from hearings [] between to to' events choice word are is cut are' = omega arith
+    no_more_heard from [] (hearing' ∷ hearings') between to to' events choice word are is cut are' =
+        absurd (rw (one_heard from events hearing'.events choice (Place hearing'.place) to are'.0 (rw (← are) is) are'.1).1 at cut)
+    no_more_heard from (hearing ∷ hearings) (hearing' ∷ hearings') between to to' events choice word are is cut are' =
+        let one = one_heard from hearing.events hearing'.events (Place hearing.place) (Place hearing'.place) are.0 are'.0 are.1 are'.1 in
+        omega (arith, no_more_heard are.0 hearings hearings' between to to' events choice word are.2 is cut (rw one.2 are'.2))
+
+    one_heard_player : (from : Supply) (hearings hearings' : List Hearing) (between between' to to' : Supply) (events events' : List Event) (choice choice' : Choice) (word word' : EndWord)
+        → AreHeard n from hearings between → AreHeard n from hearings' between' → IsHeard n between events choice to → IsHeard n between' events' choice' to' → IsCutOff choice word → IsCutOff choice' word'
+        → (hearings ≡ hearings') × (events ≡ events') × (choice ≡ choice') × (word ≡ word') × (to ≡ to')
+    one_heard_player from hearings hearings' between between' to to' events events' choice choice' word word' are are' is is' cut cut' =
+        let fewer = no_more_heard from hearings hearings' between to between' events choice word are is cut are' in
+        let more = no_more_heard from hearings' hearings between' to' between events' choice' word' are' is' cut' are in
+        let before = same_heard from hearings hearings' between between' are are' (omega (arith, fewer, more)) in
+        let one = one_heard between events events' choice choice' to to' is (rw before.1 is') in
+        (before.0, one.0, one.1, one_cut choice word word' cut (rw one.1 cut'), one.2)
+
+  one_chosen : (offers : List Offer) (hearings : List Hearing) (chosen chosen' : List Offer) → HaveChosen offers hearings chosen → HaveChosen offers hearings chosen' → chosen ≡ chosen'
+  one_chosen offers [] chosen chosen' have have' = grind arith
+  one_chosen offers (hearing ∷ hearings) (offer ∷ chosen) (offer' ∷ chosen') have have' = cc (have.0, have'.0, one_chosen offers hearings chosen chosen' have.1 have'.1)
+  one_chosen offers (hearing ∷ hearings) [] chosen' have have' = absurd have
+  one_chosen offers (hearing ∷ hearings) chosen [] have have' = absurd have'
+
+  -- What is done
+
+  abbrev bare : Deed → Deed
+  bare deed = record deed { proofs = [] }
+
+  done_or_passes : (deed : Deed) (at : Position) (rule : Rule) (passed : Limit) → deed.before ≡ at → IsDeed program settings.height deed → slice_get program.rules deed.offer.rule ≡ Some rule → Passes program.signature rule deed.offer.values at.spot.state passed → ⊥
+  done_or_passes deed at rule limit.Atom here is of_rule unfit = grind arith
+  done_or_passes deed at rule limit.State here is of_rule full =
+      let step : Step program.signature rule deed.offer.values at.spot.state deed.after.spot.state = grind arith in
+      full.1.2 (rw (one_step program.signature rule deed.offer.values at.spot.state full.1.0 deed.after.spot.state full.1.1 step) is.step.steps.fits)
+
+  done_or_stops : (deed : Deed) (at : Position) (rule : Rule) (word : EndWord) → deed.before ≡ at → IsDeed program settings.height deed → deed.after.turns ≤ settings.limit → slice_get program.rules deed.offer.rule ≡ Some rule → CannotBeDone program settings.limit at rule deed.offer.values word → ⊥
+  done_or_stops deed at rule word here is within of_rule stops = grind (arith, ap (λ (p : Position). p.turns) here, is.counted, done_or_passes deed at rule limit.Atom here is of_rule, done_or_passes deed at rule limit.State here is of_rule)
+
+  one_deed : (deed deed' : Deed) → deed.before ≡ deed'.before → deed.offer ≡ deed'.offer → IsDeed program settings.height deed → IsDeed program settings.height deed' → bare deed ≡ bare deed'
+  one_deed deed deed' befores offers is is' =
+      let rules : deed.rule ≡ deed'.rule = cc (offers, is.step.numbered, is'.step.numbered) in
+      let states = one_step program.signature deed.rule deed.offer.values deed.before.spot.state deed.after.spot.state deed'.after.spot.state is.step.steps.step (rw (rules, offers, befores) is'.step.steps.step) in
+      let stages : deed.after.spot.stage ≡ deed'.after.spot.stage = cc (rules, befores, is.step.steps.stage, is'.step.steps.stage) in
+      let turns : deed.after.turns ≡ deed'.after.turns = cc (befores, is.counted, is'.counted) in
+      λ i. record { before = befores i; offer = offers i; rule = rules i; proofs = []; after = record { spot = record { stage = stages i; state = states i }; turns = turns i } }
+
+  -- where deeds stop: no offer is later, or the next one cannot be done
+  abbrev Stops : Position → List Offer → EndWord → Type 0
+  Stops last [] word = Unit {0}
+  Stops last (next ∷ later) word = (rule : Rule) × (slice_get program.rules next.rule ≡ Some rule) × CannotBeDone program settings.limit last rule next.values word
+
+  -- of all offers the first ones are done, and the later ones are not
+  abbrev Does : Position → List Deed → Position → List Offer → EndWord → Type 0
+  Does at deeds last later word = AreDeeds program settings.height at deeds last × (last.turns ≤ settings.limit) × Stops last later word
+
+  -- of the admitted offers of a round
+  abbrev IsDoneTo : Position → Round → Position → List Offer → EndWord → Type 0
+  IsDoneTo at round last later word = (admitted round.chosen round.flags ≡ map (λ (it : Deed). it.offer) round.deeds ++ later) × Does at round.deeds last later word
+
+  not_more : (at : Position) (rule : Rule) (values : List Tree) (word : EndWord) → CannotBeDone program settings.limit at rule values word → at.turns ≤ settings.limit
+  not_more at rule values word stops = grind arith
+
+  not_fewer : (at : Position) (deeds : List Deed) (last : Position) → AreDeeds program settings.height at deeds last → at.turns ≤ last.turns
+  not_fewer at [] last done = omega (arith, ap (λ (p : Position). p.turns) done)
+  not_fewer at (deed ∷ deeds) last done = omega (arith, not_fewer deed.after deeds last done.2, done.1.counted, ap (λ (p : Position). p.turns) done.0)
+
+  -- where an offer is done, deeds do not stop before it
+  goes_on : (at last last' : Position) (deed : Deed) (deeds : List Deed) (later later' : List Offer) (word word' : EndWord) → Does at [] last later word → Does at (deed ∷ deeds) last' later' word' → later ≡ map (λ (it : Deed). it.offer) (deed ∷ deeds) ++ later' → ⊥
+  goes_on at last last' deed deeds later later' word word' does does' same =
+      let stops = subst (λ (offers : List Offer). Stops at offers word) same (subst (λ (p : Position). Stops p later word) does.0 does.2) in
+      let within = not_fewer deed.after deeds last' does'.0.2 in
+      done_or_stops deed at stops.0 word does'.0.0 does'.0.1 (omega (arith, within, does'.1)) stops.1 stops.2
+
+  one_way : (at : Position) (deeds deeds' : List Deed) (last last' : Position) (later later' : List Offer) (word word' : EndWord) → Does at deeds last later word → Does at deeds' last' later' word'
+      → map (λ (it : Deed). it.offer) deeds ++ later ≡ map (λ (it : Deed). it.offer) deeds' ++ later' → (map bare deeds ≡ map bare deeds') × (last ≡ last') × (later ≡ later')
+  one_way at [] [] last last' later later' word word' does does' same = (refl, does.0 ∙ sym does'.0, same)
+  one_way at [] (deed' ∷ deeds') last last' later later' word word' does does' same = absurd (goes_on at last last' deed' deeds' later later' word word' does does' same)
+  one_way at (deed ∷ deeds) [] last last' later later' word word' does does' same = absurd (goes_on at last' last deed deeds later' later word' word does' does (sym same))
+  one_way at (deed ∷ deeds) (deed' ∷ deeds') last last' later later' word word' does does' same =
+      let first = one_deed deed deed' (does.0.0 ∙ sym does'.0.0) (cc (same)) does.0.1 does'.0.1 in
+      let others = one_way deed.after deeds deeds' last last' later later' word word' (does.0.2, does.1, does.2) (rw (ap (λ (it : Deed). it.after) first) does'.0.2, does'.1, does'.2) (cc (same)) in
+      (λ i. first i ∷ others.0 i, others.1, others.2)
+
+  -- Turns and ends as for one player
+
+  one_group : (at : Position) (group group' : ℕ) → IsAsked program settings.height at.spot.state at.spot.stage group → IsAsked program settings.height at.spot.state at.spot.stage group' → group ≡ group'
+  one_group at group group' asked asked' = grind arith
+
+  -- where turns remain and offers are listed, no run ends without a question
+  listed_or_ends : (at : Position) (from : Supply) (group : ℕ) (offers : List Offer) {word : EndWord} {to : Supply} → at.turns < settings.limit → IsAsked program settings.height at.spot.state at.spot.stage group → AreOffers program settings.height at.spot.state group offers → length offers ≤ MOST_OFFERS → EndsAt program settings at from word None to → ⊥
+  listed_or_ends at from group offers remain asked are few (quiet_end is left) = grind arith
+  listed_or_ends at from group offers remain asked are few (turns_end asked' done left) = omega (arith, remain, done)
+  listed_or_ends at from group offers remain asked are few (offers_end {group = group'} {offers = offers'} remain' asked' are' many left) =
+      let same = one_list program settings.height at.spot.state group offers offers' are (rw (one_group at group group' asked asked') are') in
+      omega (arith, many, few, ap length same)
+
+  module _ (at : Position) (from : Supply) (turn : Turn) (is : IsTurn program settings at from turn) where
+    its_choice : (question : Question) (to : Supply) → IsQuestion program settings at from question to → question.choice ≡ Place (is.chosen.place + 1)
+    its_choice question to asks = ap (λ (q : Question). q.choice) (one_question at from question turn.question to turn.left asks is.asks).0 ∙ is.chosen.chosen
+
+    turn_or_passes : (question : Question) (to : Supply) (offer : Offer) (rule : Rule) (passed : Limit) → IsQuestion program settings at from question to → IsChosen program question offer rule → Passes program.signature rule offer.values at.spot.state passed → ⊥
+    turn_or_passes question to offer rule passed asks chosen passes =
+        let offers = ap (λ (q : Question). q.offers) (one_question at from question turn.question to turn.left asks is.asks).0 in
+        let next : chosen.place + 1 ≡ is.chosen.place + 1 = cc (its_choice question to asks, chosen.chosen) in
+        let places : chosen.place ≡ is.chosen.place = omega (arith, next) in
+        let same : offer ≡ turn.deed.offer = cc (offers, places, chosen.at_place, is.chosen.at_place) in
+        done_or_passes turn.deed at rule passed is.here is.does (rw (sym same) chosen.of_rule) (rw (sym same) passes)
+
+    turn_or_end : {word : EndWord} {asked : Option Question} {to : Supply} → EndsAt program settings at from word asked to → ⊥
+    turn_or_end {asked = None} ends = listed_or_ends at from turn.question.group turn.question.offers is.asks.remain is.asks.asked is.asks.offered is.asks.few ends
+    turn_or_end {to = to} (input_end {question = question} asks none) = cc (its_choice question to asks, none)
+    turn_or_end {to = to} (typed_end {question = question} asks full) = cc (its_choice question to asks, full)
+    turn_or_end {to = to} (atom_end {question = question} {offer = offer} {rule = rule} asks chosen passes) = turn_or_passes question to offer rule limit.Atom asks chosen passes
+    turn_or_end {to = to} (state_end {question = question} {offer = offer} {rule = rule} asks chosen passes) = turn_or_passes question to offer rule limit.State asks chosen passes
+
+  module _ (at : Position) (from : Supply) where
+    -- Where all choose
+
+    one_listed : (offers offers' : List Offer) → IsListedHere program settings at offers → IsListedHere program settings at offers' → offers ≡ offers'
+    one_listed offers offers' listed listed' = one_list program settings.height at.spot.state (own_group at.spot.stage) offers offers' listed.offered listed'.offered
+
+    chosen_or_not : (round : Round) (left : Supply) (offers : List Offer) (hearings : List Hearing) (events : List Event) (choice : Choice) (word : EndWord) (to : Supply) → IsChosenHere program settings players at from round left → StopsAtPlayer program settings players at from offers hearings events choice to → IsCutOff choice word → ⊥
+    chosen_or_not round left offers hearings events choice word to here stops cut =
+        let heard : AreHeard (length offers) from round.hearings left = rw (one_listed offers round.offers stops.listed here.listed) here.heard in
+        omega (arith, no_more_heard (length offers) stops.listed.few from hearings round.hearings stops.between to left events choice word stops.before stops.heard cut heard, here.of_each, stops.fewer)
+
+    one_round : (round round' : Round) (last last' : Position) (to to' : Supply) (later later' : List Offer) (word word' : EndWord) → IsChosenHere program settings players at from round to → IsChosenHere program settings players at from round' to'
+        → IsDoneTo at round last later word → IsDoneTo at round' last' later' word' → (unproved_round round ≡ unproved_round round') × (last ≡ last') × (to ≡ to') × (later ≡ later')
+    one_round round round' last last' to to' later later' word word' here here' done done' =
+        let offers = one_listed round.offers round'.offers here.listed here'.listed in
+        let heard = same_heard (length round.offers) here.listed.few from round.hearings round'.hearings to to' here.heard (rw offers here'.heard) (here.of_each ∙ sym here'.of_each) in
+        let chosen = one_chosen round.offers round.hearings round.chosen round'.chosen here.chosen (rw (offers, heard.0) here'.chosen) in
+        let flags = one_flags program at.spot.state finite.empty round.chosen round.flags round'.flags here.flagged (rw chosen here'.flagged) in
+        let way = one_way at round.deeds round'.deeds last last' later later' word word' done.1 done'.1 (sym done.0 ∙ (λ i. admitted (chosen i) (flags i)) ∙ done'.0) in
+        (λ i. record { offers = offers i; hearings = heard.0 i; chosen = chosen i; flags = flags i; deeds = way.0 i }, way.1, heard.1, way.2)
+
+    done_to : (round : Round) (last : Position) (to : Supply) → IsRoundDone program settings players at from round last to → IsDoneTo at round last [] Quiet
+    done_to round last to is = (sym is.all ∙ sym (append-nil _), (is.done, is.remain, tt))
+
+    stops_at : (round : Round) (word : EndWord) (last : Position) (stops : StopsInRound program settings at round word last) → IsDoneTo at round last (stops.next ∷ stops.later) word
+    stops_at round word last stops = (stops.in_order, (stops.done, not_more last stops.rule stops.next.values word stops.stops, (stops.rule, stops.of_rule, stops.stops)))
+
+    -- What excludes what
+
+    listed_or_asked : (offers : List Offer) (word : EndWord) (asked : Option Question) (last : Position) (to : Supply) → IsListedHere program settings at offers → EndsInRounds program settings players at from word (of_turn asked) last to → ⊥
+    listed_or_asked offers word None last to listed ends = listed_or_ends at from (own_group at.spot.stage) offers listed.remain listed.for_all.asked listed.offered listed.few ends.0
+    listed_or_asked offers word (Some question) last to listed ends = ends.1 listed.for_all
+
+    end_or_turn : (word : EndWord) (end : EndOfRounds) (last : Position) (to : Supply) (turn : Turn) → EndsInRounds program settings players at from word end last to → IsTurn program settings at from turn → ¬ IsForAll program settings.height at → ⊥
+    end_or_turn word (of_turn asked) last to turn ends is single = turn_or_end at from turn is ends.0
+    end_or_turn word (of_player offers hearings events choice) last to turn ends is single = single ends.0.listed.for_all
+    end_or_turn word (of_offer round) last to turn ends is single = single ends.0.listed.for_all
+
+    end_or_round : (word : EndWord) (end : EndOfRounds) (last here : Position) (to left : Supply) (round : Round) → EndsInRounds program settings players at from word end last to → IsRoundDone program settings players at from round here left → ⊥
+    end_or_round word (of_turn asked) last here to left round ends is = listed_or_asked round.offers word asked last to is.choice.listed ends
+    end_or_round word (of_player offers hearings events choice) last here to left round ends is = chosen_or_not round left offers hearings events choice word to is.choice ends.0 ends.1
+    end_or_round word (of_offer stopped) last here to left round ends is = cc (one_round stopped round last here to left _ [] word Quiet ends.0 is.choice (stops_at stopped word last ends.1) (done_to round here left is)).3
+
+    one_end : (word word' : EndWord) (end end' : EndOfRounds) (last last' : Position) (to to' : Supply) → EndsInRounds program settings players at from word end last to → EndsInRounds program settings players at from word' end' last' to'
+        → SameEnd end end' word word' last last' to to'
+    one_end word word' (of_turn asked) (of_turn asked') last last' to to' ends ends' =
+        let one = one_run at from [] [] (record { word = word; state = at.spot.state; question = asked }) (record { word = word'; state = at.spot.state; question = asked' }) to to'
+        (record { last = at; between = from; done = (refl, refl); ends = ends.0; state = refl }) (record { last = at; between = from; done = (refl, refl); ends = ends'.0; state = refl }) in
+        record { ends = ap (λ ending. of_turn ending.question) one.1; words = ap (λ ending. ending.word) one.1; lasts = ends.2 ∙ sym ends'.2; lefts = one.2 }
+    one_end word word' (of_turn asked) (of_player offers' hearings' events' choice') last last' to to' ends ends' = absurd (listed_or_asked offers' word asked last to ends'.0.listed ends)
+    one_end word word' (of_turn asked) (of_offer round') last last' to to' ends ends' = absurd (listed_or_asked round'.offers word asked last to ends'.0.listed ends)
+    one_end word word' (of_player offers hearings events choice) (of_turn asked') last last' to to' ends ends' = absurd (listed_or_asked offers word' asked' last' to' ends.0.listed ends')
+    one_end word word' (of_offer round) (of_turn asked') last last' to to' ends ends' = absurd (listed_or_asked round.offers word' asked' last' to' ends.0.listed ends')
+    one_end word word' (of_player offers hearings events choice) (of_offer round') last last' to to' ends ends' = absurd (chosen_or_not round' to' offers hearings events choice word to ends'.0 ends.0 ends.1)
+    one_end word word' (of_offer round) (of_player offers' hearings' events' choice') last last' to to' ends ends' = absurd (chosen_or_not round to offers' hearings' events' choice' word' to' ends.0 ends'.0 ends'.1)
+    one_end word word' (of_player offers hearings events choice) (of_player offers' hearings' events' choice') last last' to to' ends ends' =
+        let stops = ends.0 in
+        let listed = one_listed offers offers' stops.listed ends'.0.listed in
+        let stops' = subst (λ os. StopsAtPlayer program settings players at from os hearings' events' choice' to') (sym listed) ends'.0 in
+        let one = one_heard_player (length offers) stops.listed.few from hearings hearings' stops.between stops'.between to to' events events' choice choice' word word' stops.before stops'.before stops.heard stops'.heard ends.1 ends'.1 in
+        record { ends = cc (listed, one.0, one.1, one.2); words = one.3; lasts = ends.2 ∙ sym ends'.2; lefts = one.4 }
+    one_end word word' (of_offer round) (of_offer round') last last' to to' ends ends' =
+        let stops = ends.1 in
+        let stops' = ends'.1 in
+        let one = one_round round round' last last' to to' _ _ word word' ends.0 ends'.0 (stops_at round word last stops) (stops_at round' word' last' stops') in
+        let next : stops.next ≡ stops'.next = cc (one.3) in
+        record {
+          ends = ap (λ it. of_offer it) one.0;
+          words = one_word program settings.limit last stops.next stops.rule stops'.rule word word' stops.of_rule (rw next stops'.of_rule) stops.stops (rw (next, one.1) stops'.stops);
+          lasts = one.1;
+          lefts = one.2;
+        }
+
+  -- Whole runs
+
+  ends_here : (at : Position) (from : Supply) (end : EndOfRounds) (word : EndWord) (last : Position) (to : Supply) → RunsInRounds program settings players at from [] end word last to → EndsInRounds program settings players at from word end last to
+  ends_here at from end word last to run = rw (← run.done.0, ← run.done.1) run.ends
+
+  one_run_of : (at : Position) (from : Supply) (parts parts' : List TurnOrRound) (end end' : EndOfRounds) (word word' : EndWord) (last last' : Position) (to to' : Supply) → RunsInRounds program settings players at from parts end word last to → RunsInRounds program settings players at from parts' end' word' last' to'
+      → (map unproved_part parts ≡ map unproved_part parts') × SameEnd end end' word word' last last' to to'
+  one_run_of at from [] [] end end' word word' last last' to to' run run' = (refl, one_end at from word word' end end' last last' to to' (ends_here at from end word last to run) (ends_here at from end' word' last' to' run'))
+  one_run_of at from [] (a_turn turn' ∷ parts') end end' word word' last last' to to' run run' = absurd (end_or_turn at from word end last to turn' (ends_here at from end word last to run) run'.done.0 run'.done.1)
+  one_run_of at from [] (a_round round' here' left' ∷ parts') end end' word word' last last' to to' run run' = absurd (end_or_round at from word end last here' to left' round' (ends_here at from end word last to run) run'.done.0)
+  one_run_of at from (a_turn turn ∷ parts) [] end end' word word' last last' to to' run run' = absurd (end_or_turn at from word' end' last' to' turn (ends_here at from end' word' last' to' run') run.done.0 run.done.1)
+  one_run_of at from (a_round round here left ∷ parts) [] end end' word word' last last' to to' run run' = absurd (end_or_round at from word' end' last' here to' left round (ends_here at from end' word' last' to' run') run.done.0)
+  one_run_of at from (a_turn turn ∷ parts) (a_round round' here' left' ∷ parts') end end' word word' last last' to to' run run' = absurd (run.done.1 run'.done.0.choice.listed.for_all)
+  one_run_of at from (a_round round here left ∷ parts) (a_turn turn' ∷ parts') end end' word word' last last' to to' run run' = absurd (run'.done.1 run.done.0.choice.listed.for_all)
+  one_run_of at from (a_turn turn ∷ parts) (a_turn turn' ∷ parts') end end' word word' last last' to to' run run' =
+      let same = one_turn at from turn turn' run.done.0 run'.done.0 in
+      let later = one_run_of turn.deed.after turn.left parts parts' end end' word word' last last' to to' (record { here = run.here; between = run.between; done = run.done.2; ends = run.ends })
+      (record { here = run'.here; between = run'.between; done = rw (same.1, same.2) run'.done.2; ends = run'.ends }) in
+      (λ i. a_turn (same.0 i) ∷ later.0 i, later.1)
+  one_run_of at from (a_round round here left ∷ parts) (a_round round' here' left' ∷ parts') end end' word word' last last' to to' run run' =
+      let is = run.done.0 in
+      let is' = run'.done.0 in
+      let same = one_round at from round round' here here' left left' [] [] Quiet Quiet is.choice is'.choice (done_to at from round here left is) (done_to at from round' here' left' is') in
+      let later = one_run_of here left parts parts' end end' word word' last last' to to' (record { here = run.here; between = run.between; done = run.done.1; ends = run.ends })
+      (record { here = run'.here; between = run'.between; done = rw (same.1, same.2) run'.done.1; ends = run'.ends }) in
+      (λ i. a_round (same.0 i) (same.1 i) (same.2 i) ∷ later.0 i, later.1)
+
+  pub one_dialogue : (come rest rest' : List ℕ) (parts parts' : List TurnOrRound) (end end' : EndOfRounds) (word word' : EndWord) (last last' : Position) (events events' : List Event) → DialogueInRounds program settings players come parts end word last events rest → DialogueInRounds program settings players come parts' end' word' last' events' rest'
+      → (map unproved_part parts ≡ map unproved_part parts') × (unproved_end end ≡ unproved_end end') × (word ≡ word') × (last ≡ last') × (rest ≡ rest')
+  one_dialogue come rest rest' parts parts' end end' word word' last last' events events' said said' =
+      let same = one_run_of (start_of program) (whole_supply come) parts parts' end end' word word' last last' said.left said'.left said.run said'.run in
+      (same.0, same.1.ends, same.1.words, same.1.lasts, said.rest_is ∙ ap (λ supply. supply.come) same.1.lefts ∙ sym said'.rest_is)
