@@ -1,5 +1,5 @@
 -- Players are asked one after another.
-use Rattle.std.proofs.Common.{◌≡◌, inl, inr, ℕ, zero, suc, ◌+◌, ◌-◌, ◌<◌, ◌≤◌, List, [], ◌∷◌, ◌++◌, length, Some, append_assoc, append-nil, length-append, refl, sym, ap, ◌∙◌, subst, arith}
+use Rattle.std.proofs.Common.{◌≡◌, inl, inr, ℕ, zero, suc, ◌+◌, ◌-◌, ◌<◌, List, [], ◌∷◌, ◌++◌, length, Some, append_assoc, append-nil, length-append, refl, sym, ap, ◌∙◌, subst, arith}
 use Rattle.std.specs.Prelude.{slice_get}
 use Rattle.cep_base.specs.declared.console.Event.{Event}
 use Rattle.cep_base.specs.Talk.{outs}
@@ -10,12 +10,12 @@ use Rattle.cep_lines.specs.declared.end_word.EndWord.TheVariants.{Input, Typed}
 use Rattle.cep_run.specs.declared.choice.Choice.{Choice}
 use Rattle.cep_run.specs.declared.choice.Choice.TheVariants.{Place, NoMore, NoRoom}
 use Rattle.cep_run.specs.declared.deciding.Spent.{Spent}
-use Rattle.cep_run.specs.Choice.{Hears, IsChoiceWithin}
+use Rattle.cep_run.specs.Choice.{IsChoiceWithin}
 use Rattle.cep_run.specs.Deciding.{Supply}
 use Rattle.cep_run.specs.Turn.{supply_with}
 use Rattle.cep_run.specs.Fronts.{BeginsSome, LeavesUnheard}
 use Rattle.cep_players.specs.PlayersLaws.{ChoicesAreHeard, AreWithin}
-use Rattle.cep_players.specs.Runs.{Hearing, IsHeard, AreHeard, HaveChosen, IsCutOff}
+use Rattle.cep_players.specs.Runs.{Hearing, IsHeard, AreHeard, IsCutOff}
 use Rattle.cep_players.specs.Dialogues.{choose_line, hearing_events}
 use Rattle.cep_players.specs.Playing.{AsksOne, AsksSome, AllChoose, OneDoesNot, ChooseSome}
 use Rattle.cep_players.proofs.Prefixes.{left_then, outs_left}

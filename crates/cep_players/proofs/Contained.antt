@@ -1,5 +1,5 @@
 -- Whether a multiset is contained in another can be told, and so can which offers are admitted.
-use Rattle.std.proofs.Common.{◌≡◌, ◌⊎◌, inl, inr, ℕ, zero, suc, ◌+◌, ◌≤◌, ◌<◌, Bool, true, false, List, [], ◌∷◌, Some, refl, sym, subst, ap, ◌∙◌, arith}
+use Rattle.std.proofs.Common.{◌≡◌, ◌⊎◌, inl, inr, ℕ, zero, suc, ◌≤◌, Bool, true, false, List, [], ◌∷◌, Some, refl, sym, subst, arith}
 use Rattle.std.specs.Prelude.{slice_get}
 use Rattle.std.specs.List.{AllByRecursion}
 use Rattle.std.specs.FinMap as finite
@@ -11,8 +11,6 @@ use Rattle.cep_term.specs.Multiset.{Multiset, count_of, IsContained, held}
 use Rattle.cep_rule.specs.declared.parts.Parts.{Parts}
 use Rattle.cep_rule.specs.declared.offer.Offer.{Offer}
 use Rattle.cep_rule.specs.Typing.{is_fact}
-use Rattle.cep_rule.specs.Instances.{left_of}
-use Rattle.cep_rule.specs.State.{joined}
 use Rattle.cep_rule.specs.Offers.{Applies}
 use Rattle.cep_round.specs.Rounds.{needs, used_with, AreAdmitted}
 

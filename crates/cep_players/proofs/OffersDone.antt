@@ -1,5 +1,5 @@
 -- Offers of a round are done, one after another.
-use Rattle.std.proofs.Common.{◌≡◌, ◌⊎◌, inl, inr, ℕ, zero, suc, ◌+◌, ◌<◌, ◌≤◌, Bool, true, false, List, [], ◌∷◌, ◌++◌, map, length, length-append, take, Option, Some, append_assoc, append-nil, refl, sym, ap, ◌∙◌, subst, arith}
+use Rattle.std.proofs.Common.{◌≡◌, inl, inr, ℕ, zero, suc, ◌+◌, ◌<◌, ◌≤◌, Bool, true, false, List, [], ◌∷◌, ◌++◌, map, length, take, Option, Some, append_assoc, append-nil, refl, sym, ap, ◌∙◌, subst, arith}
 use Rattle.std.specs.Prelude.{slice_get, drop, Contains, Result, Ok, Err, IfOk}
 use Rattle.std.specs.List.{AllByRecursion, flat_map}
 use Rattle.std.specs.FinMap as finite
@@ -7,20 +7,20 @@ use Rattle.std.proofs.lemmas.Grind.{flat_map-append}
 use Rattle.std.proofs.lemmas.List.{map-append}
 use Rattle.cep_base.specs.declared.console.Event.{Event}
 use Rattle.cep_base.specs.declared.console.Event.TheVariants.{Out}
-use Rattle.cep_base.specs.Talk.{outs, Did}
+use Rattle.cep_base.specs.Talk.{outs}
 use Rattle.cep_base.proofs.Did.{did_map, did_same}
 use Rattle.cep_base.proofs.Lists.{holds_at, none_some, some_same, map_last}
-use Rattle.cep_term.specs.Multiset.{Multiset, IsContained}
+use Rattle.cep_term.specs.Multiset.{Multiset}
 use Rattle.cep_rule.specs.declared.rule.Rule.{Rule}
 use Rattle.cep_rule.specs.declared.parts.Parts.{Parts}
 use Rattle.cep_rule.specs.declared.offer.Offer.{Offer}
-use Rattle.cep_rule.specs.Instances.{full_instances, left_of}
+use Rattle.cep_rule.specs.Instances.{full_instances}
 use Rattle.cep_rule.specs.Typing.{AreValues}
-use Rattle.cep_rule.specs.Offers.{Applies, IsOffer, AreOffers}
+use Rattle.cep_rule.specs.Offers.{IsOffer}
 use Rattle.cep_rule.specs.Stages.{own_group, leaving_group}
 use Rattle.cep_rule.specs.Matching.{offers_of, AreListed}
 use Rattle.cep_rule.specs.Step.{Step}
-use Rattle.cep_rule.specs.Steps.{StepsTo, AreProofs, stage_after}
+use Rattle.cep_rule.specs.Steps.{StepsTo, AreProofs}
 use Rattle.cep_rule.specs.Program.{IsGroupedRule, IsProgram}
 use Rattle.cep_step.specs.Deeds.{Position, Deed, IsDeed, AreDeeds}
 use Rattle.cep_step.specs.Passing.{Passes}
@@ -36,7 +36,7 @@ use Rattle.cep_run.specs.declared.settings.Settings.{Settings}
 use Rattle.cep_run.specs.declared.turn.Turned.{Turned}
 use Rattle.cep_run.specs.declared.turn.Turned.TheVariants.{Done, Over}
 use Rattle.cep_run.specs.Begun.{BeginsAct}
-use Rattle.cep_run.specs.Turn.{position_of, IsPlaced, Acts, WouldPass, IsActed, IsMoved}
+use Rattle.cep_run.specs.Turn.{position_of, Acts, WouldPass, IsActed, IsMoved}
 use Rattle.cep_players.specs.Runs.{CannotBeDone}
 use Rattle.cep_players.specs.PlayersLaws.{RoundLaws}
 use Rattle.cep_players.specs.Going.{DoesOffer, CannotDo, IsOfferActed, IsOfferMoved, BeginsOffer, ActsSome, StopsAct, BeginsActs}

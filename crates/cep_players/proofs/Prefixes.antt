@@ -1,10 +1,10 @@
 -- Prefixes of what is said, and what is left where something was heard.
-use Rattle.std.proofs.Common.{◌≡◌, ℕ, List, [], ◌∷◌, ◌++◌, take, append_assoc, append-nil, refl, sym, ap, ◌∙◌, subst, Option}
+use Rattle.std.proofs.Common.{◌≡◌, ℕ, List, [], ◌∷◌, ◌++◌, take, append_assoc, refl, sym, ap, ◌∙◌, subst, Option}
 use Rattle.std.specs.Prelude.{drop}
 use Rattle.cep_base.specs.declared.console.Event.{Event}
 use Rattle.cep_base.specs.declared.console.Event.TheVariants.{Out, In, End}
 use Rattle.cep_base.specs.Talk.{outs, GoesOn, Did}
-use Rattle.cep_base.proofs.Did.{outs_cut, did_same, did_put, did_map}
+use Rattle.cep_base.proofs.Did.{outs_cut, did_same, did_put, did_map, did_then}
 use Rattle.cep_run.specs.Fronts.{BeginsSome, heard_bytes, LeavesUnheard}
 use Rattle.cep_run.specs.Begun.{PutsFront}
 
@@ -24,6 +24,25 @@ module _ {C : Type 0} (talk : C → Option (List Event)) (left : C → Option (L
   -- nothing was put
   pub did_nothing : (console : C) (text : List ℕ) → Did talk left console console (PutsFront text)
   did_nothing console text = did_map talk left console console _ (PutsFront text) (λ come events rest same. record { size = 0; said = same.0; untaken = same.1 }) (did_same talk left console console refl refl)
+
+  -- what holds after a stretch of which P holds
+  abbrev After : (P T : List ℕ → List Event → List ℕ → Type 0) → List ℕ → List Event → List ℕ → Type 0
+  After P T middle events rest = (come : List ℕ) (first : List Event) → P come first middle → T come (first ++ events) rest
+
+  -- three stretches, and four
+  pub did_three : (old one two new : C) (P Q R T : List ℕ → List Event → List ℕ → Type 0)
+      → ((come : List ℕ) (first : List Event) (middle : List ℕ) (second : List Event) (late : List ℕ) (third : List Event) (rest : List ℕ) → P come first middle → Q middle second late → R late third rest → T come (first ++ (second ++ third)) rest)
+      → Did talk left old one P → Did talk left one two Q → Did talk left two new R → Did talk left old new T
+  did_three old one two new P Q R T join p q r =
+      did_then talk left old one new P (After P T) T (λ come first middle events rest is on. on come first is) p
+      (did_then talk left one two new Q R (After P T) (λ middle second late third rest is on come first was. join come first middle second late third rest was is on) q r)
+
+  pub did_four : (old one two three new : C) (P Q R S T : List ℕ → List Event → List ℕ → Type 0)
+      → ((come : List ℕ) (first : List Event) (middle : List ℕ) (second : List Event) (late : List ℕ) (third : List Event) (last : List ℕ) (fourth : List Event) (rest : List ℕ) → P come first middle → Q middle second late → R late third last → S last fourth rest → T come (first ++ (second ++ (third ++ fourth))) rest)
+      → Did talk left old one P → Did talk left one two Q → Did talk left two three R → Did talk left three new S → Did talk left old new T
+  did_four old one two three new P Q R S T join p q r s =
+      did_then talk left old one new P (After P T) T (λ come first middle events rest is on. on come first is) p
+      (did_three one two three new Q R S (After P T) (λ middle second late third last fourth rest two three four come first one. join come first middle second late third last fourth rest one two three four) q r s)
 
 -- What is left
 

@@ -1,29 +1,19 @@
 -- Within a round, each admitted offer can be done where those before it were.
-use Rattle.std.proofs.Common.{◌≡◌, ◌⊎◌, inl, inr, ℕ, ◌+◌, ◌-◌, ◌*◌, ◌%◌, ◌<◌, ◌≤◌, Bool, true, false, List, [], ◌∷◌, ◌++◌, map, length, Option, None, Some, IsSome, is_some, unwrap_or, ◌↔◌, append_assoc, append-nil, refl, sym, ap, ◌∙◌, subst, arith}
+use Rattle.std.proofs.Common.{◌≡◌, ℕ, ◌-◌, ◌*◌, ◌%◌, Bool, true, false, List, [], ◌∷◌, ◌++◌, map, Option, None, Some, IsSome, is_some, unwrap_or, ◌↔◌, refl, sym, ap, ◌∙◌, subst, arith}
 use Rattle.std.specs.Prelude.{slice_get}
 use Rattle.std.specs.List.{AllByRecursion}
-use Rattle.std.proofs.lemmas.Option.{slice_get_within, get_or_from_slice_get}
 use Rattle.std.specs.FinMap as finite
-use Rattle.std.proofs.lemmas.List.Sorted.{IsPermutation-refl}
 use Rattle.cep_base.proofs.Lists.{holds_at, some_same}
-use Rattle.cep_base.proofs.Elements.{all_at, contains_at}
-use Rattle.cep_term.specs.Tree.{Tree}
-use Rattle.cep_term.specs.Multiset.{Multiset, IsContained}
-use Rattle.cep_rule.specs.declared.signature.Signature.{Signature}
 use Rattle.cep_rule.specs.declared.rule.Rule.{Rule}
 use Rattle.cep_rule.specs.declared.parts.Parts.{Parts}
 use Rattle.cep_rule.specs.declared.offer.Offer.{Offer}
-use Rattle.cep_rule.specs.Instances.{left_of}
 use Rattle.cep_rule.specs.State.{IsState}
-use Rattle.cep_rule.specs.Typing.{AreValues}
-use Rattle.cep_rule.specs.Offers.{Applies, IsInGroup, IsOffer, AreOffers}
+use Rattle.cep_rule.specs.Offers.{IsInGroup, IsOffer}
 use Rattle.cep_rule.specs.Stages.{own_group}
-use Rattle.cep_rule.specs.Step.{Step}
-use Rattle.cep_rule.specs.Steps.{MakesFit, stage_after}
+use Rattle.cep_rule.specs.Steps.{stage_after}
 use Rattle.cep_rule.specs.Program.{IsTypedRule, IsDividedRule, IsGroupedRule, IsProgram}
 use Rattle.cep_step.specs.Deeds.{Position, Deed, IsDeed, AreDeeds}
 use Rattle.cep_round.specs.Rounds.{AreAdmitted, admitted}
-use Rattle.cep_round.specs.Orders.{AreOffersDone, KeepHeights}
 use Rattle.cep_players.specs.PlayersLaws.{RoundLaws}
 use Rattle.cep_players.specs.Runs.{Hearing, HaveChosen}
 use Rattle.cep_players.proofs.RunDeeds.{deeds_done}

@@ -6,22 +6,22 @@ use Rattle.std.specs.FinMap as finite
 use Rattle.std.proofs.lemmas.Bool.{cases_Bool, cases_eq, cases_lt}
 use Rattle.std.proofs.lemmas.Option.{slice_get_within, get_or_from_slice_get}
 use Rattle.std.proofs.lemmas.Grind.{flat_map-append}
-use Rattle.std.proofs.lemmas.List.{map-append}
+use Rattle.std.proofs.lemmas.List.{map-append, length-map}
 use Rattle.cep_base.specs.declared.console.Event.{Event}
 use Rattle.cep_base.specs.declared.console.Event.TheVariants.{Out}
 use Rattle.cep_base.specs.Talk.{outs}
-use Rattle.cep_base.proofs.Elements.{contains_at}
 use Rattle.cep_base.proofs.Lists.{map_last}
 use Rattle.cep_term.specs.BagLaws.{BagLaws}
+use Rattle.cep_term.specs.Multiset.{Multiset}
 use Rattle.cep_rule.specs.declared.parts.Parts.{Parts}
 use Rattle.cep_rule.specs.declared.parts.Stage.{Stage}
 use Rattle.cep_rule.specs.declared.rule.Rule.{Rule}
 use Rattle.cep_rule.specs.declared.offer.Offer.{Offer}
 use Rattle.cep_rule.specs.State.{IsState}
 use Rattle.cep_rule.specs.Offers.{IsOffer, AreOffers}
-use Rattle.cep_rule.specs.Stages.{own_group, IsAsked, HasOffer}
+use Rattle.cep_rule.specs.Stages.{own_group, IsAsked}
 use Rattle.cep_rule.specs.Program.{IsProgram}
-use Rattle.cep_step.specs.Deeds.{Position, Deed, IsDeed, AreDeeds, start_of}
+use Rattle.cep_step.specs.Deeds.{Position, Deed, AreDeeds, start_of}
 use Rattle.cep_step.specs.declared.limit.Limit.{Limit}
 use Rattle.cep_step.specs.declared.limit.Limit.TheVariants as limit
 use Rattle.cep_step.specs.Passing.{Passes}
@@ -33,18 +33,18 @@ use Rattle.cep_log.specs.Holding.{lines_of_deed}
 use Rattle.cep_run.specs.declared.settings.Settings.{Settings}
 use Rattle.cep_run.specs.declared.deciding.Spent.{Spent}
 use Rattle.cep_run.specs.Deciding.{Supply}
-use Rattle.cep_run.specs.Run.{whole_supply, Question, Turn, Ending, IsQuestion, IsTurn, AreTurns, EndsAt, input_end, typed_end, atom_end, state_end, Run}
+use Rattle.cep_run.specs.Run.{whole_supply, Question, Turn, IsQuestion, IsTurn, AreTurns, EndsAt, input_end, typed_end, atom_end, state_end}
 use Rattle.cep_run.specs.Turn.{supply_with, limit_word}
 use Rattle.cep_run.specs.Fronts.{BeginsSome}
 use Rattle.cep_choice.specs.Draws.{generator_behind}
 use Rattle.cep_players.specs.PlayersLaws.{PlayersLaws}
-use Rattle.cep_players.specs.Runs.{IsForAll, Hearing, HaveChosen, Round, IsListedHere, IsChosenHere, IsRoundDone, TurnOrRound, a_turn, a_round, AreTurnsAndRounds, EndOfRounds, of_turn, of_player, of_offer, CannotBeDone, StopsInRound, StopsAtPlayer, EndsInRounds, RunsInRounds}
-use Rattle.cep_players.specs.Dialogues.{hearing_events, blocked_lines, choose_line, turn_question_events, round_question_events, round_events, part_events, last_part_events, DialogueInRounds}
-use Rattle.cep_players.specs.Playing.{AllChoose, OneDoesNot, ChooseSome, events_of_rounds, IsRunInRounds}
+use Rattle.cep_players.specs.Runs.{IsForAll, Hearing, HaveChosen, Round, IsListedHere, IsChosenHere, TurnOrRound, a_turn, a_round, AreTurnsAndRounds, EndOfRounds, of_turn, of_player, of_offer, CannotBeDone, EndsInRounds}
+use Rattle.cep_players.specs.Dialogues.{hearing_events, blocked_lines, turn_question_events, round_question_events, round_events, part_events, last_part_events, DialogueInRounds}
+use Rattle.cep_players.specs.Playing.{AllChoose, OneDoesNot, ChooseSome, IsRunInRounds}
 use Rattle.cep_players.proofs.Prefixes.{prefix_of_prefix}
 use Rattle.cep_players.proofs.AllPlayers.{none_chose, choose_on}
 use Rattle.cep_players.proofs.Contained.{flags_there, first_admitted}
-use Rattle.cep_players.proofs.RoundSteps.{chosen_are, deeds_states, deeds_more, same_stage, next_is_offer}
+use Rattle.cep_players.proofs.RoundSteps.{chosen_are, deeds_states, deeds_more, next_is_offer}
 
 -- a stage asks one group
 one_group : (program : Parts) (height : ℕ) (at : Position) (group : ℕ) → IsAsked program height at.spot.state at.spot.stage (own_group at.spot.stage) → IsAsked program height at.spot.state at.spot.stage group → group ≡ own_group at.spot.stage
@@ -84,6 +84,13 @@ asked_at program settings at from (input_end asks none) = asks
 asked_at program settings at from (typed_end asks full) = asks
 asked_at program settings at from (atom_end asks chosen passes) = asks
 asked_at program settings at from (state_end asks chosen passes) = asks
+
+-- of offers that apply one at least is admitted
+pub some_admitted : BagLaws → (program : Parts) (height : ℕ) (state : Multiset) (group : ℕ) (chosen : List Offer) (flags : List Bool) → AllByRecursion (IsOffer program height state group) chosen → AreAdmitted program state finite.empty chosen flags → 0 < length chosen → 0 < length (admitted chosen flags)
+some_admitted laws program height state group [] flags are flagged many = absurd (omega (arith, many))
+some_admitted laws program height state group (offer ∷ chosen) flags are flagged many =
+    let first = first_admitted laws program height state offer chosen flags are.0.applies flagged in
+    rw first.1 (let e : 0 < suc (length (admitted chosen first.0)) = omega arith in e)
 
 module _ (program : Parts) (settings : Settings) (players : ℕ) where
   pub parts_more : (at : Position) (from : Supply) (parts : List TurnOrRound) (here : Position) (between : Supply) (more : List TurnOrRound) (last : Position) (to : Supply) → AreTurnsAndRounds program settings players at from parts here between → AreTurnsAndRounds program settings players here between more last to
@@ -139,16 +146,6 @@ module _ (program : Parts) (settings : Settings) (players : ℕ) where
       are_offers = chosen_are (IsOffer program settings.height at.spot.state (own_group at.spot.stage)) round.offers
           (λ k offer there. choice.listed.offered.no_other offer (k, slice_get_within round.offers k offer there, get_or_from_slice_get round.offers k offer offer there)) round.hearings round.chosen choice.chosen
 
-      -- the first deed is done
-      some_chosen : (chosen : List Offer) (hearings : List Hearing) → AllByRecursion (IsOffer program settings.height at.spot.state (own_group at.spot.stage)) chosen → (flags : List Bool) → AreAdmitted program at.spot.state finite.empty chosen flags → 0 < length chosen → admitted chosen flags ≡ [] → ⊥
-      some_chosen [] hearings are flags flagged many none = omega (arith, many)
-      some_chosen (offer ∷ chosen) hearings are flags flagged many none =
-          let first = first_admitted laws.bags program settings.height at.spot.state offer chosen flags are.0.applies flagged in
-          cons_nil (admitted chosen first.0) (sym (ap (admitted (offer ∷ chosen)) first.1) ∙ none)
-        where
-          cons_nil : (xs : List Offer) → offer ∷ xs ≡ [] → ⊥
-          cons_nil xs e = cc
-
       as_many : (hearings : List Hearing) (chosen : List Offer) → HaveChosen round.offers hearings chosen → length chosen ≡ length hearings
       as_many [] [] have = refl
       as_many [] (offer ∷ chosen) have = absurd have
@@ -156,10 +153,10 @@ module _ (program : Parts) (settings : Settings) (players : ℕ) where
       as_many (hearing ∷ hearings) (offer ∷ chosen) have = ap suc (as_many hearings chosen have.1)
 
       some_deed : (deeds : List Deed) → admitted round.chosen round.flags ≡ map (λ deed. deed.offer) deeds → 0 < length deeds
-      some_deed [] order =
+      some_deed deeds order =
           let many = choice.of_each in
-          absurd (some_chosen round.chosen round.hearings are_offers round.flags choice.flagged (omega (arith, as_many round.hearings round.chosen choice.chosen, many, some)) order)
-      some_deed (deed ∷ deeds) order = omega arith
+          let are = some_admitted laws.bags program settings.height at.spot.state (own_group at.spot.stage) round.chosen round.flags are_offers choice.flagged (omega (arith, as_many round.hearings round.chosen choice.chosen, many, some)) in
+          omega (arith, are, ap length order, length-map deeds (λ (deed : Deed). deed.offer))
 
       counted : (p : Position) (deeds : List Deed) (last : Position) → AreDeeds program settings.height p deeds last → last.turns ≡ p.turns + length deeds
       counted p [] last done = let same = ap (λ (here : Position). here.turns) done in omega (arith, same)

@@ -1,14 +1,14 @@
 -- A turn is decided, and done or not.
-use Rattle.std.proofs.Common.{◌≡◌, ◌⊎◌, inl, inr, ℕ, ◌+◌, ◌-◌, ◌<◌, ◌≤◌, Bool, true, false, List, [], ◌∷◌, ◌++◌, length, get_or, Option, None, Some, append_assoc, append-nil, refl, sym, ap, ◌∙◌, subst, arith}
-use Rattle.std.specs.Prelude.{slice_get, IsTrue, ◌↔◌, All, IsSomeAnd}
-use Rattle.std.proofs.lemmas.Bool.{cases_eq, cases_lt}
+use Rattle.std.proofs.Common.{◌≡◌, ◌⊎◌, inl, inr, ℕ, ◌+◌, ◌<◌, ◌≤◌, Bool, true, false, List, [], ◌∷◌, ◌++◌, length, get_or, Option, Some, append_assoc, append-nil, refl, sym, ap, ◌∙◌, subst, arith}
+use Rattle.std.specs.Prelude.{IsTrue, ◌↔◌, All, IsSomeAnd}
+use Rattle.std.proofs.lemmas.Bool.{cases_lt}
 use Rattle.std.proofs.lemmas.List.{map-append, get_or_default}
 use Rattle.std.proofs.lemmas.Option.{slice_get_within, get_or_from_slice_get}
 use Rattle.cep_base.specs.declared.limits.TheConstants.{MOST_TYPED}
 use Rattle.cep_base.specs.declared.console.Event.{Event}
 use Rattle.cep_base.specs.declared.console.Event.TheVariants.{Out}
 use Rattle.cep_base.specs.Talk.{outs, Did}
-use Rattle.cep_base.proofs.Did.{did_map, did_then}
+use Rattle.cep_base.proofs.Did.{did_then}
 use Rattle.cep_base.proofs.Lists.{some_same}
 use Rattle.cep_term.specs.Multiset.{Multiset}
 use Rattle.cep_rule.specs.declared.rule.Rule.{Rule}
@@ -22,7 +22,7 @@ use Rattle.cep_rule.specs.Stages.{own_group, leaving_group, HasOffer, IsAsked}
 use Rattle.cep_rule.specs.Matching.{offers_of}
 use Rattle.cep_rule.specs.Program.{IsProgram}
 use Rattle.cep_choice.specs.Draws.{generator_behind, place_drawn}
-use Rattle.cep_step.specs.Deeds.{Position, Deed, IsDeed}
+use Rattle.cep_step.specs.Deeds.{Position}
 use Rattle.cep_step.specs.declared.limit.Limit.{Limit}
 use Rattle.cep_step.specs.declared.limit.Limit.TheVariants as limit
 use Rattle.cep_step.specs.Passing.{Passes}
@@ -30,7 +30,6 @@ use Rattle.cep_machine.specs.Configuration.{Configuration}
 use Rattle.cep_lines.specs.declared.end_word.EndWord.{EndWord}
 use Rattle.cep_lines.specs.declared.end_word.EndWord.TheVariants.{Input, Typed}
 use Rattle.cep_lines.specs.Lines.{offer_lines, deed_lines}
-use Rattle.cep_log.specs.Holding.{lines_of_deed}
 use Rattle.cep_run.specs.declared.choice.Choice.{Choice}
 use Rattle.cep_run.specs.declared.choice.Choice.TheVariants.{Place, NoMore, NoRoom}
 use Rattle.cep_run.specs.declared.deciding.Spent.{Spent}
@@ -321,11 +320,15 @@ module _ (program : Parts) (settings : Settings) (players : ℕ) (at : Position)
 
 -- What is offered here has texts, and is some
 
+pub has_text : (program : Parts) (height : ℕ) (state : Multiset) (group : ℕ) (offer : Offer) → IsOffer program height state group offer → IsOfferOf program offer
+has_text program height state group offer is =
+    let applies = is.applies in
+    subst (λ (o : Option Rule). IsSomeAnd o (λ rule. AreValues program.signature.cons rule.kinds offer.values)) (sym applies.numbered) applies.values
+
 pub offers_have_texts : (program : Parts) (height : ℕ) (state : Multiset) (group : ℕ) (offers : List Offer) → AreOffers program height state group offers → All (IsOfferOf program) offers
 offers_have_texts program height state group offers are k d h =
     let offer = get_or offers k d in
-    let applies = (are.no_other offer (k, h, get_or_default offers k offer d h)).applies in
-    subst (λ (o : Option Rule). IsSomeAnd o (λ rule. AreValues program.signature.cons rule.kinds offer.values)) (sym applies.numbered) applies.values
+    has_text program height state group offer (are.no_other offer (k, h, get_or_default offers k offer d h))
 
 some_there : (program : Parts) (height : ℕ) (state : Multiset) (group : ℕ) (offers : List Offer) → AreOffers program height state group offers → HasOffer program height state group → 0 < length offers
 some_there program height state group offers are has = let there = are.each has.0 has.1 in omega (arith, there.1)

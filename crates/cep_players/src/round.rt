@@ -58,8 +58,9 @@ pub(crate) fn round<C: Console, M: Matcher, L: Ledger>(
 {
     players_are_lawful();
     program.parts();
-    tell(alloc, program, config.matcher(), group, console)?;
-    match choices(alloc, players, config.matcher(), group, console, spent)? {
+    let matcher = config.matcher();
+    tell(alloc, program, matcher, group, console)?;
+    match choices(alloc, players, matcher, group, console, spent)? {
         Chosen::All(chosen) => {
             let flags = admit(alloc, program, config.state(), &chosen)?;
             tell_blocked(alloc, program, &chosen, &flags, console)?;

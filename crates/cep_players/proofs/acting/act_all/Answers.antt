@@ -3,8 +3,6 @@ use Rattle.std.specs.Prelude.{slice_get, drop}
 use Rattle.cep_base.specs.Talk.{Did}
 use Rattle.cep_base.proofs.Did.{did_same, did_map, did_then}
 use Rattle.cep_base.proofs.Outcomes.{on_err}
-use Rattle.cep_rule.specs.Offers.{IsOffer}
-use Rattle.cep_rule.specs.Stages.{own_group}
 use Rattle.cep_round.specs.Rounds.{admitted}
 use Rattle.cep_round.specs.Orders.{AreOffersDone}
 use Rattle.cep_run.specs.Turn.{position_of, IsPlayed, config_left}

@@ -1,11 +1,9 @@
-use Rattle.std.proofs.Common.{◌≡◌, ◌<◌, length, refl, sym, subst, ap, ◌∙◌, arith, Some}
+use Rattle.std.proofs.Common.{◌≡◌, ◌<◌, length, refl, sym, subst, arith, Some}
 use Rattle.std.specs.Prelude.{slice_get, Contains}
 use Rattle.std.proofs.lemmas.Option.{slice_get_within}
 use Rattle.std.proofs.lemmas.Result.{IfOk-weaker, on_err_weaker}
-use Rattle.cep_base.proofs.Did.{did_same, did_map}
-use Rattle.cep_rule.specs.declared.offer.Offer.{Offer}
+use Rattle.cep_base.proofs.Did.{did_map}
 use Rattle.cep_rule.specs.Offers.{IsOffer}
-use Rattle.cep_rule.specs.Stages.{own_group}
 use Rattle.cep_rule.specs.Matching.{offers_of}
 use Rattle.cep_run.specs.Turn.{position_of}
 use Rattle.cep_players.specs.Going.{IsOfferMoved}
