@@ -39,9 +39,13 @@ module _ (player n : ℕ) (old : Spent) where
       record {
         more = begun.more;
         left = begun.left;
-        whole = (whole.0, record old { taken = whole.1 }, record {
-          heard = others ++ begun.more;
-          hears = (subst (λ from. Hears n from old.taken (others ++ begun.more) whole.0 begun.left whole.1) put.1 whole.2, refl);
-          whole = append_assoc first others begun.more ∙ ap (λ es. es ++ (others ++ begun.more)) (put.0 ∙ ap outs is);
-        });
+        whole = (
+          whole.0,
+          record old { taken = whole.1 },
+          record {
+            heard = others ++ begun.more;
+            hears = (subst (λ from. Hears n from old.taken (others ++ begun.more) whole.0 begun.left whole.1) put.1 whole.2, refl);
+            whole = append_assoc first others begun.more ∙ ap (λ es. es ++ (others ++ begun.more)) (put.0 ∙ ap outs is);
+          },
+        );
       }

@@ -37,6 +37,8 @@ returns-clause-begun g c =
     let put = did_put talk left c.args.console.now c.put.new.self c.bytes.result.now c.in_ok-put.ensures.written c.in_ok-put.ensures.left in
     on_err_weaker c.choose.result
     (λ begun. did_then talk left c.args.console.now c.put.new.self c.choose.new.console _ _ _
-    (λ come first middle others rest put begun. (hears_after c.args.player c.args.n c.args.spent.now c.bytes.result.now come middle first others (c.bytes.ensures ∙ c.in_ok-line.ensures) put begun.0,
-    left_then come first middle others rest (outs_left c.bytes.result.now come first middle put) begun.1)) put begun)
+    (λ come first middle others rest put begun. (
+      hears_after c.args.player c.args.n c.args.spent.now c.bytes.result.now come middle first others (c.bytes.ensures ∙ c.in_ok-line.ensures) put begun.0,
+      left_then come first middle others rest (outs_left c.bytes.result.now come first middle put) begun.1,
+    )) put begun)
     c.choose.ensures.begun
