@@ -1,5 +1,5 @@
 -- Turns and rounds, one after another, to a whole run and its dialogue.
-use Rattle.std.proofs.Common.{◌≡◌, ℕ, ◌+◌, ◌*◌, ◌<◌, ◌≤◌, Bool, true, false, List, [], ◌∷◌, ◌++◌, length, Option, None, Some, append_assoc, append-nil, refl, sym, ap, ◌∙◌, subst, arith}
+use Rattle.std.proofs.Common.{◌≡◌, ℕ, ◌+◌, ◌*◌, ◌<◌, ◌≤◌, Bool, true, false, List, [], ◌∷◌, ◌++◌, length, Option, None, Some, append_assoc, refl, sym, ap, ◌∙◌, subst, arith}
 use Rattle.std.specs.Prelude.{◌↔◌, IsTrue}
 use Rattle.std.specs.List.{flat_map}
 use Rattle.std.proofs.lemmas.Grind.{flat_map-append}
@@ -26,7 +26,7 @@ use Rattle.cep_run.specs.declared.turn.Turned.{Turned}
 use Rattle.cep_run.specs.declared.turn.Turned.TheVariants.{Over}
 use Rattle.cep_run.specs.Deciding.{Supply}
 use Rattle.cep_run.specs.Run.{whole_supply, EndsAt, quiet_end, turns_end, offers_end}
-use Rattle.cep_run.specs.Fronts.{BeginsSome, LeavesUnheard, FellShort}
+use Rattle.cep_run.specs.Fronts.{LeavesUnheard, FellShort}
 use Rattle.cep_run.specs.Begun.{PutsFront}
 use Rattle.cep_run.specs.Turn.{position_of, supply_with, HasSpent, IsPlayed}
 use Rattle.cep_run.proofs.Turns.{IsAskedHere, asked_here, group_listed, too_many}

@@ -1,5 +1,5 @@
 -- What is said of a run in rounds where it is played.
-use Rattle.std.specs.Prelude.{◌≡◌, ℕ, List}
+use Rattle.std.specs.Prelude.{ℕ, List}
 use Rattle.cep_base.specs.declared.console.Event.{Event}
 use Rattle.cep_rule.specs.declared.parts.Parts.{Parts}
 use Rattle.cep_step.specs.Deeds.{Position}
