@@ -1,5 +1,5 @@
 -- Turns and rounds, one after another, to a whole run and its dialogue.
-use Rattle.std.proofs.Common.{◌≡◌, ℕ, ◌+◌, ◌*◌, ◌<◌, ◌≤◌, Bool, true, false, List, [], ◌∷◌, ◌++◌, length, Option, None, Some, append_assoc, append-nil, refl, sym, ap, ◌∙◌, subst, arith}
+use Rattle.std.proofs.Common.{◌≡◌, ℕ, ◌+◌, ◌*◌, ◌<◌, ◌≤◌, Bool, true, false, List, [], ◌∷◌, ◌++◌, length, Option, None, Some, append_assoc, refl, sym, ap, ◌∙◌, subst, arith}
 use Rattle.std.specs.Prelude.{◌↔◌, IsTrue}
 use Rattle.std.specs.List.{flat_map}
 use Rattle.std.proofs.lemmas.Grind.{flat_map-append}
@@ -26,7 +26,7 @@ use Rattle.cep_run.specs.declared.turn.Turned.{Turned}
 use Rattle.cep_run.specs.declared.turn.Turned.TheVariants.{Over}
 use Rattle.cep_run.specs.Deciding.{Supply}
 use Rattle.cep_run.specs.Run.{whole_supply, EndsAt, quiet_end, turns_end, offers_end}
-use Rattle.cep_run.specs.Fronts.{BeginsSome, LeavesUnheard, FellShort}
+use Rattle.cep_run.specs.Fronts.{LeavesUnheard, FellShort}
 use Rattle.cep_run.specs.Begun.{PutsFront}
 use Rattle.cep_run.specs.Turn.{position_of, supply_with, HasSpent, IsPlayed}
 use Rattle.cep_run.proofs.Turns.{IsAskedHere, asked_here, group_listed, too_many}
@@ -35,7 +35,7 @@ use Rattle.cep_players.specs.Runs.{AreHeard, Round, TurnOrRound, a_turn, a_round
 use Rattle.cep_players.specs.Dialogues.{choose_line, hearing_events, blocked_lines, turn_question_events, round_question_events, round_events, part_events, last_part_events, DialogueInRounds}
 use Rattle.cep_players.specs.Playing.{IsRunInRounds}
 use Rattle.cep_players.specs.Going.{IsOfferedHere, DoesParts, EndsParts, IsWent, IsWholeInRounds, IsDialogueWith, IsSomeDialogue}
-use Rattle.cep_players.proofs.Prefixes.{put_on, put_left, left_then, outs_left}
+use Rattle.cep_players.proofs.Prefixes.{did_three, put_on, put_left, left_then, outs_left}
 use Rattle.cep_players.proofs.AllPlayers.{heard_left}
 use Rattle.cep_players.proofs.RoundsThere.{asked_at, parts_more, runs_after}
 use Rattle.cep_players.proofs.Turning.{decides_left}
@@ -163,19 +163,6 @@ module _ (program : Parts) (settings : Settings) (players : ℕ) (start : Positi
 
 -- Dialogues
 
-module _ (program : Parts) (settings : Settings) (players : ℕ) where
-  -- the header was put, and a whole run is done
-  abbrev AfterHeader : EndWord → Position → List ℕ → List Event → List ℕ → Type 0
-  AfterHeader word last come events rest = (said : List Event) × (events ≡ outs (header program settings.height) ++ said) × IsWholeInRounds program settings players (start_of program) word last come said rest
-
-  -- with its last lines it is a dialogue
-  ended : (word : EndWord) (last : Position) (come late rest : List ℕ) (first second : List Event) → AfterHeader word last come first late → second ≡ outs (end_lines program.signature word last.spot.state) → rest ≡ late → IsDialogueWith program settings players word come (first ++ second) rest
-  ended word last come late rest first second run told same =
-      let whole = run.2 in
-      let parts = flat_map (part_events program) whole.parts in
-      let end = last_part_events program whole.end in
-      (whole.parts, whole.end, last, record { left = whole.left; run = whole.run; whole = rw (run.1, whole.written, told, append_assoc (outs (header program settings.height)) (parts ++ end) (outs (end_lines program.signature word last.spot.state)), append_assoc parts end (outs (end_lines program.signature word last.spot.state))) refl; rest_is = same ∙ whole.rest_is })
-
 module _ {C : Type 0} (talk : C → Option (List Event)) (left : C → Option (List ℕ)) (program : Parts) (settings : Settings) (players : ℕ) where
   -- a prefix of the header was put
   pub header_refused : ((come : List ℕ) → (parts : List TurnOrRound) × (end : EndOfRounds) × (word : EndWord) × (last : Position) × (events : List Event) × (rest : List ℕ) × DialogueInRounds program settings players come parts end word last events rest)
@@ -202,21 +189,28 @@ module _ {C : Type 0} (talk : C → Option (List Event)) (left : C → Option (L
         )) begun (subst (λ p. FellShort talk left between new whole_supply (IsRunInRounds program settings players p)) at short)
 
     module _ (word : EndWord) (last : Position) (state : Multiset) (is : state ≡ last.spot.state) (late new : C) (ran : Did talk left between late (IsWholeInRounds program settings players start word last)) where
-      run_after : Did talk left old late (AfterHeader program settings players word last)
-      run_after = did_then talk left old between late _ _ (AfterHeader program settings players word last)
-          (λ come first middle second rest put whole. (second, ap (λ es. es ++ second) put.0, subst (λ bytes. IsWholeInRounds program settings players (start_of program) word last bytes second rest) put.1 whole))
-          begun (subst (λ p. Did talk left between late (IsWholeInRounds program settings players p word last)) at ran)
+      ended : (come middle behind rest : List ℕ) (first second third : List Event) → (first ≡ outs (header program settings.height)) × (middle ≡ come) → IsWholeInRounds program settings players start word last middle second behind → (third ≡ outs (end_lines program.signature word state)) × (rest ≡ behind) → IsDialogueWith program settings players word come (first ++ (second ++ third)) rest
+      ended come middle behind rest first second third put whole told = (
+        whole.parts,
+        whole.end,
+        last,
+        record {
+          left = whole.left;
+          run = rw (sym put.1, sym at) whole.run;
+          whole = rw (put.0, whole.written, told.0, is, append_assoc (flat_map (part_events program) whole.parts) (last_part_events program whole.end) (outs (end_lines program.signature word last.spot.state))) refl;
+          rest_is = told.1 ∙ whole.rest_is;
+        },
+      )
 
       -- the last lines were put
       pub dialogue_said : Did talk left late new (λ come events rest. (events ≡ outs (end_lines program.signature word state)) × (rest ≡ come)) → Did talk left old new (IsDialogueWith program settings players word)
-      dialogue_said = did_then talk left old late new _ _ (IsDialogueWith program settings players word)
-          (λ come first middle second rest run put. ended program settings players word last come middle rest first second run (put.0 ∙ ap (λ s. outs (end_lines program.signature word s)) is) put.1) run_after
+      dialogue_said = did_three talk left old between late new _ _ _ (IsDialogueWith program settings players word) (λ come first middle second behind third rest put whole told. ended come middle behind rest first second third put whole told) begun ran
 
       -- or a prefix of them
       pub end_refused : AreWithin → Did talk left late new (PutsFront (end_lines program.signature word state)) → FellShort talk left old new (λ come. come) (IsSomeDialogue program settings players)
-      end_refused within = did_then talk left old late new _ _ _
-          (λ come first middle second rest run put.
-          let missing = put_on (end_lines program.signature word state) middle second rest put in (
-            record { more = missing.0; left = middle; whole = (word, subst (λ es. IsDialogueWith program settings players word come es middle) (sym (append_assoc first second missing.0)) (ended program settings players word last come middle middle first (second ++ missing.0) run (missing.1 ∙ ap (λ s. outs (end_lines program.signature word s)) is) refl)) },
-            left_then come first middle second rest (rw run.1 (lines_first come middle (header program settings.height) run.0 (whole_left within program settings players (start_of program) word last come run.0 middle run.2))) (put_left (end_lines program.signature word state) middle second rest put),
-          )) run_after
+      end_refused within = did_three talk left old between late new _ _ _ _
+          (λ come first middle second behind third rest put whole front.
+          let missing = put_on (end_lines program.signature word state) behind third rest front in (
+            record { more = missing.0; left = behind; whole = (word, rw (append_assoc first (second ++ third) missing.0, append_assoc second third missing.0) (ended come middle behind behind first second (third ++ missing.0) put whole (missing.1, refl))) },
+            left_then come first middle (second ++ third) rest (outs_left (header program settings.height) come first middle put) (left_then middle second behind third rest (whole_left within program settings players start word last middle second behind whole) (put_left (end_lines program.signature word state) behind third rest front)),
+          )) begun ran

@@ -3,7 +3,6 @@ use Rattle.std.specs.Prelude.{IsNone}
 use Rattle.cep_rule.specs.Stages.{IsAsked, IsQuiet}
 use Rattle.cep_lines.specs.declared.end_word.EndWord.TheVariants.{Quiet, Turns, Offers}
 use Rattle.cep_run.specs.Run.{quiet_end, turns_end}
-use Rattle.cep_run.specs.Turn.{position_of}
 use Rattle.cep_players.proofs.Whole.{ends_before, offered_here, crowds_here}
 use Rattle.cep_players.proofs.dialogue.part.Goals as goal
 
