@@ -19,3 +19,4 @@ pub mod OneAnswer
 pub mod Walked
 pub mod Taken
 pub mod Writing
+pub mod NextRules

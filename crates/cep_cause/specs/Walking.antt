@@ -1,6 +1,6 @@
 -- Private.
 -- How the steps of a log are done in an order, one after another.
-use Rattle.std.specs.Prelude.{◌≡◌, ◌⊎◌, ℕ, ◌<◌, ◌≤◌, List, [], ◌++◌, length, Some, slice_get}
+use Rattle.std.specs.Prelude.{◌≡◌, ◌⊎◌, ℕ, ◌+◌, ◌-◌, ◌%◌, ◌<◌, ◌≤◌, List, [], ◌++◌, length, Some, slice_get}
 use Rattle.cep_base.specs.declared.limits.TheConstants.{MOST_LOG}
 use Rattle.cep_term.specs.Multiset.{Multiset}
 use Rattle.cep_rule.specs.declared.rule.Rule.{Rule}
@@ -68,3 +68,15 @@ pub record IsToldIn (program : Parts) (log : Log) (places : List ℕ) (text : Li
   pub legal : IsLegal program (log_of log steps)
   pub number : ℕ
   pub told : IsToldAt program (log_of log steps) number [] text here
+
+-- The rules of the steps in the same block of 64 of an order as a place, up to its end.
+pub record AreRulesAt (steps : List LogStep) (order : List ℕ) (place : ℕ) (rules : List ℕ)
+    : Type 0 where
+  pub each : (k number : ℕ) (step : LogStep) → k < 64
+      → slice_get order (place - place % 64 + k) ≡ Some number
+      → slice_get steps (number - 1) ≡ Some step
+      → slice_get rules k ≡ Some step.offer.rule
+
+-- The rules are those of the block, where the place does not begin one.
+abbrev pub AreDueAt : List LogStep → List ℕ → ℕ → List ℕ → Type 0
+AreDueAt steps order place rules = 0 < place % 64 → AreRulesAt steps order place rules

@@ -6,6 +6,7 @@
 //! `laws` that it is so.
 #![tactic(auto)]
 
+mod ahead;
 mod going;
 pub mod laws;
 mod reordered;

@@ -9,9 +9,10 @@ ghost use Rattle.cep_cause.specs.Reorderings.{IsOrder, step_places};
 ghost use Rattle.cep_cause.specs.Reordered.{IsUnfitIn};
 ghost use Rattle.cep_cause.specs.Walking.{WritesUnlessLong, IsToldIn};
 
+use crate::ahead::{BLOCK, rules_at};
 use crate::going::go_on;
 use crate::laws::causes_are_lawful;
-use cep_base::Text;
+use cep_base::{List, Text};
 use cep_check::is_long;
 use cep_check::laws::logs_are_renewed_step_by_step;
 use cep_lines::put_deed;
@@ -44,10 +45,13 @@ pub(crate) fn walk(
     logs_are_renewed_step_by_step();
     program.parts();
     let mut spot = Spot::start(alloc, program)?;
+    let mut rules = List::new(alloc);
     for i in 0..order.len() {
+        rules = rules_at(alloc, log, order, i, rules)?;
         let number = i as u32 + 1;
         let step = log.steps.get(*order.get(i) as usize - 1);
-        spot = match go_on(alloc, program, step, spot)? {
+        let rule = *rules.get(i % BLOCK);
+        spot = match go_on(alloc, program, rule, step, spot)? {
             Some(next) => next,
             None => return Ok(Err(number)),
         };
