@@ -1,17 +1,13 @@
 -- A legal log in an order is a legal log; what it is renewed to is the old one renewed in the order; and the written order is one of the orders.
-use Rattle.std.proofs.Common.{◌≡◌, ◌⊎◌, ⊎_elim, ℕ, suc, ◌+◌, ◌-◌, ◌<◌, ◌≤◌, List, [], ◌∷◌, ◌++◌, map, length, take, Option, Some, None, refl, sym, ap, ◌∙◌, subst, arith, Contains}
+use Rattle.std.proofs.Common.{◌≡◌, ◌⊎◌, ⊎_elim, ℕ, suc, ◌+◌, ◌-◌, ◌<◌, ◌≤◌, List, [], ◌∷◌, ◌++◌, map, length, take, refl, sym, ap, ◌∙◌, subst, arith, Contains}
 use Rattle.std.proofs.lemmas.Grind.{common_steps}
-use Rattle.std.specs.Prelude.{slice_get, ◌↔◌, Result, Ok, Err, IfOk, IfSome, IfNone}
-use Rattle.std.specs.declared.alloc.AllocError.{AllocError}
+use Rattle.std.specs.Prelude.{slice_get, ◌↔◌}
 use Rattle.std.specs.List.{AllByRecursion, AllZip}
-use Rattle.std.proofs.lemmas.List.{map-append}
-use Rattle.cep_base.proofs.Lists.{some_same, all_mapped, all_from_places, holds_at, get_mapped, take_next}
+use Rattle.cep_base.proofs.Lists.{some_same, all_mapped, all_from_places, holds_at, get_mapped}
 use Rattle.cep_base.proofs.Elements.{contains_none, contains_cases, contains_same, contains_behind, contains_at, all_of}
-use Rattle.cep_term.specs.Tree.{AtomTree}
 use Rattle.cep_rule.specs.declared.parts.Parts.{Parts}
 use Rattle.cep_lines.specs.declared.version.Version.TheVariants.{One}
 use Rattle.cep_log.specs.declared.log.Log.{Log}
-use Rattle.cep_log.specs.declared.log.LogEnd.{LogEnd}
 use Rattle.cep_log.specs.declared.log.LogStep.{LogStep}
 use Rattle.cep_log.specs.Legal.{IsStepOf, HaveListings, AreLegalSteps, start_spot, IsLegal}
 use Rattle.cep_log.specs.Written.{DoTheSame, EndTheSame, IsRenewal}
@@ -120,54 +116,12 @@ stand_both all (place ∷ places) later (x ∷ xs) ys at at' = (at.0, stand_both
 pub whole : (places : List ℕ) (i : ℕ) → length places ≤ i → take i places ≡ places
 whole places i all = grind (arith, common_steps)
 
--- Nothing stands at no places.
-pub unlisted_none : (all steps : List LogStep) → steps ≡ [] → AreUnlistedSteps all [] steps
-unlisted_none all steps none = record { listed = []; stand = tt; unlist = none }
-
--- One step more stands in the order.
-pub unlisted_more : (all : List LogStep) (order : List ℕ) (i number : ℕ) (step : LogStep) (steps : List LogStep) → slice_get order i ≡ Some number → slice_get all (number - 1) ≡ Some step
-    → AreUnlistedSteps all (take i (step_places order)) steps → AreUnlistedSteps all (take (i + 1) (step_places order)) (steps ++ (unlisted step ∷ []))
-unlisted_more all order i number step steps at there are =
-    let places = step_places order in
-    let more = take_next places i (number - 1) (get_mapped (λ (number : ℕ). number - 1) order i number at) in
-    record {
-      listed = are.listed ++ (step ∷ []);
-      stand = subst (λ (places : List ℕ). StandAt all places (are.listed ++ (step ∷ []))) (sym more) (stand_both all (take i places) ((number - 1) ∷ []) are.listed (step ∷ []) are.stand (there, tt));
-      unlist = ap (λ rest. rest ++ (unlisted step ∷ [])) are.unlist ∙ sym (map-append unlisted are.listed (step ∷ []));
-    }
-
--- All stand in it.
-pub unlisted_all : (all : List LogStep) (order : List ℕ) (i : ℕ) (steps : List LogStep) → length order ≤ i → AreUnlistedSteps all (take i (step_places order)) steps → AreUnlistedSteps all (step_places order) steps
-unlisted_all all order i steps long are = subst (λ (places : List ℕ). AreUnlistedSteps all places steps) (whole (step_places order) i (let same = length_map (λ (number : ℕ). number - 1) order in omega arith)) are
-
--- A log with the same parts, and the steps in the order.
-pub in_order_by : (log : Log) (places : List ℕ) (start : List (AtomTree × ℕ)) (steps : List LogStep) (end : Option LogEnd) → start ≡ log.start → end ≡ log.end → AreUnlistedSteps log.steps places steps
-    → IsInOrder log places (record { version = One; height = log.height; stage_line = log.stage_line; stage = log.stage; start = start; steps = steps; end = end; lines = log.lines })
-in_order_by log places start steps end same same' are = record {
-  steps = are;
-  rest =
-      ap (λ (start : List (AtomTree × ℕ)). let other : Log = record { version = One; height = log.height; stage_line = log.stage_line; stage = log.stage; start = start; steps = steps; end = end; lines = log.lines } in other) same
-      ∙ ap (λ (end : Option LogEnd). let other : Log = record { version = One; height = log.height; stage_line = log.stage_line; stage = log.stage; start = log.start; steps = steps; end = end; lines = log.lines } in other) same';
-}
-
 -- What the text of the log in the order is, is the text in the order.
 pub text_in_order : (program : Parts) (log : Log) (places : List ℕ) (other : Log) (text : List ℕ) → IsInOrder log places other → IsRenewedText program other text → IsTextIn program places log text
 text_in_order program log places other text is renewed = record { new = renewed.new; renews = renewed_in_order program log places other renewed.new is renewed.renews; read = renewed.read; written = renewed.written }
 
 pub too_long_in_order : (program : Parts) (log : Log) (places : List ℕ) (other : Log) → IsInOrder log places other → IsTooLongRenewed program other → IsTooLongIn program places log
 too_long_in_order program log places other is long = record { new = long.new; renews = renewed_in_order program log places other long.new is long.renews; long = long.long }
-
-pub text_or_none : (program : Parts) (log : Log) (places : List ℕ) (other : Log) (answer : Result (Option (List ℕ)) AllocError) → IsInOrder log places other
-    → IfOk answer (λ text. IfSome text (IsRenewedText program other)) → IfOk answer (λ text. IfSome text (IsTextIn program places log))
-text_or_none program log places other (Ok (Some text)) is renewed = text_in_order program log places other text is renewed
-text_or_none program log places other (Ok None) is renewed = tt
-text_or_none program log places other (Err e) is renewed = tt
-
-pub none_or_text : (program : Parts) (log : Log) (places : List ℕ) (other : Log) (answer : Result (Option (List ℕ)) AllocError) → IsInOrder log places other
-    → IfOk answer (λ text. IfNone text (IsTooLongRenewed program other)) → IfOk answer (λ text. IfNone text (IsTooLongIn program places log))
-none_or_text program log places other (Ok (Some text)) is long = tt
-none_or_text program log places other (Ok None) is long = too_long_in_order program log places other is long
-none_or_text program log places other (Err e) is long = tt
 
 -- The written order
 

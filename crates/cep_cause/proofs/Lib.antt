@@ -18,3 +18,5 @@ pub mod InOrder
 pub mod OneAnswer
 pub mod Walked
 pub mod Taken
+pub mod Writing
+pub mod NextRules

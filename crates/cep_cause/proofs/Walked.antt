@@ -3,7 +3,7 @@ use Rattle.std.proofs.Common.{◌≡◌, ℕ, zero, suc, ◌+◌, ◌-◌, ◌<�
 use Rattle.std.proofs.lemmas.Grind.{common_steps}
 use Rattle.std.specs.Prelude.{slice_get, unwrap_or}
 use Rattle.std.proofs.lemmas.List.{map-append}
-use Rattle.cep_base.proofs.Lists.{none_some, some_same, take_next, get_mapped}
+use Rattle.cep_base.proofs.Lists.{none_some, some_same, holds_at, take_next, get_mapped}
 use Rattle.cep_base.proofs.Elements.{contains_right, contains_behind}
 use Rattle.cep_term.specs.Multiset.{Multiset}
 use Rattle.cep_rule.specs.declared.rule.Rule.{Rule}
@@ -18,7 +18,9 @@ use Rattle.cep_step.specs.Passing.{Passes}
 use Rattle.cep_step.specs.Spots.{IsSpotOf}
 use Rattle.cep_log.specs.declared.log.Log.{Log}
 use Rattle.cep_log.specs.declared.log.LogStep.{LogStep}
-use Rattle.cep_log.specs.Legal.{IsLegalStep, AreLegalSteps, start_spot, IsLegal}
+use Rattle.cep_log.specs.Legal.{IsStepOf, IsLegalStep, AreLegalSteps, start_spot, IsLegal}
+use Rattle.cep_check.specs.Renewing.{CanBePut}
+use Rattle.cep_check.specs.StepwiseLaws.{StepwiseLaws}
 use Rattle.cep_cause.specs.CauseLaws.{CauseLaws}
 use Rattle.cep_cause.specs.Touches.{Touch, AreTouchesOf}
 use Rattle.cep_cause.specs.Reorderings.{IsOrder, step_places}
@@ -122,6 +124,12 @@ module _ (program : Parts) (log : Log) (order : List ℕ) (given : IsGiven progr
         contained = contained run turn;
       };
     }
+
+    -- Its lines can be written.
+    pub can_put : StepwiseLaws → CanBePut program step
+    can_put stepwise =
+        let written = as_written run turn in
+        stepwise.put program log.height written.old written.new step given.is (holds_at (IsStepOf program) log.steps (number - 1) step given.legal.of_program.steps at_step) written.legal
 
     -- It leads where it leads in the law.
     same_way : (new : Spot) → GoesTo program step here new → leads_to run turn ≡ new

@@ -6,13 +6,12 @@
 //! `laws` that it is so.
 #![tactic(auto)]
 
-mod copying;
+mod ahead;
 mod going;
-mod in_order;
 pub mod laws;
 mod reordered;
 mod reordering;
-mod unfit;
+mod walking;
 
 pub use reordered::Reordered;
 pub use reordering::again;

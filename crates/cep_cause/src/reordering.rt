@@ -1,19 +1,22 @@
 // Writes a log again, with its steps in another order.
-ghost use Rattle.std.specs.Prelude.{List, IfOk, IfSome, IfNone};
+ghost use Rattle.std.specs.Prelude.{ℕ, List, IfOk};
+ghost use Rattle.cep_step.specs.Spots.{IsSpotOf};
 ghost use Rattle.cep_log.specs.Legal.{IsLegal};
 ghost use Rattle.cep_cause.specs.Touches.{Touch, AreTouchesOf};
 ghost use Rattle.cep_cause.specs.Reorderings.{IsOrder, step_places};
-ghost use Rattle.cep_cause.specs.Reordered.{AreLegalIn, IsTextIn, IsTooLongIn, ComesTo};
+ghost use Rattle.cep_cause.specs.Reordered.{ComesTo};
+ghost use Rattle.cep_cause.specs.Walking.{IsToldIn};
 
-use crate::in_order::in_order;
-use crate::laws::orders_can_be_renewed;
 use crate::reordered::Reordered;
-use crate::unfit::first_unfit;
+use crate::walking::walk;
 use cep_base::Text;
-use cep_check::renew;
+use cep_check::laws::logs_are_renewed_step_by_step;
+use cep_check::{is_long, put_last};
+use cep_lines::put_start;
 use cep_log::Log;
 use cep_order::Numbers;
 use cep_rule::Program;
+use cep_step::Spot;
 use std::alloc::{AllocError, Global};
 
 /// The text in version 2 of a legal log whose steps are done in an order that respects what they do
@@ -33,32 +36,31 @@ pub fn again(
         × IsOrder touches order.now }
     ensures { IfOk result (ComesTo program.now (step_places order.now) log.now) }
 {
-    if let Some(at) = first_unfit(alloc, program, log, order)? {
-        return Ok(Reordered::Unfit { at });
-    }
-    match renew_in(alloc, program, log, order)? {
-        Some(text) => Ok(Reordered::Done(text)),
-        None => Ok(Reordered::TooLong),
+    let mut text = Text::new(alloc);
+    put_start(program, log.height, &mut text)?;
+    match walk(alloc, program, log, order, &mut text)? {
+        Ok(last) => finish(program, log, &last, text),
+        Err(at) => Ok(Reordered::Unfit { at }),
     }
 }
 
-// The text of the log renewed in an order in which all steps are legal, or none if it is too long.
-fn renew_in(
-    alloc: Global,
+// What the log comes to where all steps are done: the text with the end, if it is not too long.
+fn finish(
     program: &Program,
     log: &Log,
-    order: &Numbers,
-) -> Result<Option<Text>, AllocError>
-    requires legal { IsLegal program.now log.now }
-    requires order { (touches : List Touch) × AreTouchesOf program.now log.now touches
-        × IsOrder touches order.now }
-    requires steps { AreLegalIn program.now log.now (step_places order.now) }
-    ensures done { IfOk result (λ answer.
-        IfSome answer (IsTextIn program.now (step_places order.now) log.now)) }
-    ensures too_long { IfOk result (λ answer.
-        IfNone answer (IsTooLongIn program.now (step_places order.now) log.now)) }
+    last: &Spot,
+    mut text: Text,
+) -> Result<Reordered, AllocError>
+    requires last { IsSpotOf program.now last.now }
+    ensures { IfOk result (λ reordered. (places : List ℕ)
+        → IsToldIn program.now log.now places text last.now
+        → ComesTo program.now places log.now reordered) }
 {
-    orders_can_be_renewed();
-    let ordered = in_order(alloc, log, order)?;
-    renew(alloc, program, &ordered)
+    logs_are_renewed_step_by_step();
+    program.parts();
+    put_last(program, &log.end, last.state(), &mut text)?;
+    if is_long(&text) {
+        return Ok(Reordered::TooLong);
+    }
+    Ok(Reordered::Done(text))
 }

@@ -19,17 +19,16 @@ use Rattle.cep_step.specs.Spots.{IsSpotOf}
 use Rattle.cep_rule.specs.Instances.{full_instances}
 use Rattle.cep_rule.specs.Derivations.{ProofTree}
 use Rattle.cep_rule.specs.Shapes.{IsProofOf}
-use Rattle.cep_rule.specs.Step.{Step}
 use Rattle.cep_rule.specs.Steps.{Spot, StepsTo, AreProofs}
 use Rattle.cep_rule.specs.Program.{IsTypedRule, IsDividedRule, IsProgram}
 use Rattle.cep_lines.specs.declared.version.Version.TheVariants.{Two}
 use Rattle.cep_lines.specs.Lines.{line, has_listing}
 use Rattle.cep_log.specs.declared.log.Log.{Log}
 use Rattle.cep_log.specs.declared.log.LogStep.{LogStep}
-use Rattle.cep_log.specs.Legal.{IsListing, IsStepOf, IsLegalStep, AreLegalSteps, start_spot, IsLegalEnd, IsLegal}
+use Rattle.cep_log.specs.Legal.{IsListing, IsStepOf, IsLegalStep, AreLegalSteps, start_spot, IsLegal}
 use Rattle.cep_log.specs.Written.{step_texts, steps_texts}
 use Rattle.cep_check.specs.RenewLaws.{RenewLaws}
-use Rattle.cep_check.specs.Renewing.{CanBePut, CanBeDone, LeadsTo, PassesAt, renewed_lines, AreRenewedLines, AreAllRenewed, AreRenewedOrLong}
+use Rattle.cep_check.specs.Renewing.{CanBePut, CanBeDone, LeadsTo, PassesAt, renewed_lines, AreRenewedLines, AreAllRenewed, AreRenewedOrLong, IsRenewingAt}
 use Rattle.cep_check.proofs.RenewedBytes.{listed, due_mid, step_written}
 
 -- Places
@@ -155,16 +154,6 @@ module _ (laws : RenewLaws) (program : Parts) (is : IsProgram program) (height :
       let later = lines_there (number + 1) steps legal.0 last after of.1 legal.2 in
       (renewed_lines program number step legal.0.state ++ later.0, lines_more number step steps old legal.0 last of.0 legal.1 after later.0 later.1)
 
--- A log is being renewed after a text: these steps are left, of which the first has this number; they are legal from this spot on; and whatever their lines are, with those so far they are the lines of all steps.
-pub record IsRenewingAt (program : Parts) (log : Log) (number : ℕ) (left : List LogStep) (before text : List ℕ) (spot : Spot) : Type 0 where
-  pub here : IsSpotOf program spot
-  pub last : Spot
-  pub of_program : AllByRecursion (IsStepOf program) left
-  pub legal : AreLegalSteps program log.height left spot last
-  pub ending : IsSomeAnd log.end (IsLegalEnd program log.height last)
-  pub whole : (rest : List ℕ) → AreRenewedLines program log.height number left spot last rest
-      → (bytes : List ℕ) × AreRenewedLines program log.height 1 log.steps (start_spot program) last bytes × (before ++ bytes ≡ text ++ rest)
-
 module _ (laws : RenewLaws) (program : Parts) (is : IsProgram program) (log : Log) where
   -- Nothing is renewed yet.
   pub renewing_begins : (before : List ℕ) (spot : Spot) → IsLegal program log → spot ≡ start_spot program → IsSpotOf program spot → IsRenewingAt program log 1 log.steps before before spot
@@ -178,6 +167,24 @@ module _ (laws : RenewLaws) (program : Parts) (is : IsProgram program) (log : Lo
   }
 
   module _ (number : ℕ) (before text : List ℕ) (spot : Spot) where
+    -- One step more is renewed.
+    pub one_more_renewed : (step : LogStep) (left : List LogStep) → IsRenewingAt program log number (step ∷ left) before text spot → (new : Spot) → LeadsTo program step spot new → IsSpotOf program new
+        → IsRenewingAt program log (number + 1) left before (text ++ renewed_lines program number step new.state) new
+    one_more_renewed step left at new leads of_program =
+        let same : at.legal.0 ≡ new = legal_leads laws program is log.height spot at.legal.0 new step at.legal.1 leads in
+        let legal = subst (λ (here : Spot). IsLegalStep program log.height spot here step) same at.legal.1 in
+        let lines = renewed_lines program number step new.state in
+        record {
+          here = of_program;
+          last = at.last;
+          of_program = at.of_program.1;
+          legal = subst (λ (here : Spot). AreLegalSteps program log.height left here at.last) same at.legal.2;
+          ending = at.ending;
+          whole = λ rest are.
+              let more = at.whole (lines ++ rest) (lines_more laws program is log.height number step left spot new at.last at.of_program.0 legal of_program.is_state rest are) in
+              (more.0, more.1, more.2 ∙ sym (append_assoc text lines rest));
+        }
+
     module _ (steps : List LogStep) (i : ℕ) (step : LogStep) (there : slice_get steps i ≡ Some step) (at : IsRenewingAt program log number (drop i steps) before text spot) where
       -- The step at a place is the first of those that are left.
       next : IsRenewingAt program log number (step ∷ drop (i + 1) steps) before text spot
@@ -193,24 +200,11 @@ module _ (laws : RenewLaws) (program : Parts) (is : IsProgram program) (log : Lo
       pub next_fits : (limit : Limit) → PassesAt program step spot.state limit → ⊥
       next_fits limit passes = legal_fits laws program is log.height spot next.legal.0 step limit next.legal.1 passes
 
-      -- One step more is renewed.
+      -- The same of a step at a place.
       pub renewing_goes_on : (new : Spot) (longer : List ℕ) → LeadsTo program step spot new × IsSpotOf program new × (longer ≡ text ++ renewed_lines program number step new.state)
           → IsRenewingAt program log (number + 1) (drop (i + 1) steps) before longer new
-      unfolding next
       renewing_goes_on new longer done =
-          let same : next.legal.0 ≡ new = legal_leads laws program is log.height spot next.legal.0 new step next.legal.1 done.0 in
-          let legal = subst (λ (at : Spot). IsLegalStep program log.height spot at step) same next.legal.1 in
-          let lines = renewed_lines program number step new.state in
-          record {
-            here = done.1;
-            last = next.last;
-            of_program = next.of_program.1;
-            legal = subst (λ (at : Spot). AreLegalSteps program log.height (drop (i + 1) steps) at next.last) same next.legal.2;
-            ending = next.ending;
-            whole = λ rest are.
-                let more = next.whole (lines ++ rest) (lines_more laws program is log.height number step (drop (i + 1) steps) spot new next.last next.of_program.0 legal done.1.is_state rest are) in
-                (more.0, more.1, more.2 ∙ sym (append_assoc text lines rest) ∙ ap (λ front. front ++ rest) (sym done.2));
-          }
+          subst (λ (longer : List ℕ). IsRenewingAt program log (number + 1) (drop (i + 1) steps) before longer new) (sym done.2) (one_more_renewed step (drop (i + 1) steps) next new done.0 done.1)
 
     -- All steps are renewed.
     pub renewing_ends : (left : List LogStep) → left ≡ [] → IsRenewingAt program log number left before text spot → AreRenewedOrLong program log before text (Some spot)

@@ -5,3 +5,4 @@ pub mod Walking
 pub mod Renewed
 pub mod Renewing
 pub mod RenewLaws
+pub mod StepwiseLaws

@@ -1,4 +1,3 @@
--- Private.
 -- How a log is renewed, step by step.
 use Rattle.std.specs.Prelude.{◌≡◌, ℕ, ◌<◌, List, [], ◌++◌, length, Option, Some, None, slice_get, IfSome, IsSomeAnd}
 use Rattle.std.specs.List.{AllByRecursion, AllZip, flat_map}
@@ -83,3 +82,19 @@ AreRenewedOrLong program log before after (Some last) =
 AreRenewedOrLong program log before after None =
     (last : Spot) × (bytes : List ℕ) × AreAllRenewed program log last bytes
     × (MOST_LOG < length (before ++ bytes))
+
+-- A log is being renewed after a text: these steps are left, of which the first has this number;
+-- they are legal from this spot on; and whatever their lines are, with those so far they are the
+-- lines of all steps.
+pub record IsRenewingAt (program : Parts) (log : Log) (number : ℕ) (left : List LogStep)
+    (before text : List ℕ) (spot : Spot) : Type 0 where
+  pub here : IsSpotOf program spot
+  pub last : Spot
+  pub of_program : AllByRecursion (IsStepOf program) left
+  pub legal : AreLegalSteps program log.height left spot last
+  pub ending : IsSomeAnd log.end (IsLegalEnd program log.height last)
+  pub whole : (rest : List ℕ)
+      → AreRenewedLines program log.height number left spot last rest
+      → (bytes : List ℕ)
+      × AreRenewedLines program log.height 1 log.steps (start_spot program) last bytes
+      × (before ++ bytes ≡ text ++ rest)

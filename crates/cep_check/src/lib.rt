@@ -20,5 +20,5 @@ mod telling;
 
 pub use cause::{Cause, Verdict};
 pub use checking::check;
-pub use renewing::renew;
+pub use renewing::{is_long, put_last, renew};
 pub use telling::{put_fault, put_verdict};

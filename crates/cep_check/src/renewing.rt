@@ -2,14 +2,15 @@
 //!
 //! The steps of the log are done one after another, and their lines are written with the listings
 //! that version 2 has.
-ghost use Rattle.std.specs.Prelude.{◌≡◌, ◌↔◌, ◌<◌, ◌++◌, length, IfOk, IfSome, IfNone, IsTrue, OnOk};
+ghost use Rattle.std.specs.Prelude.{◌≡◌, ◌↔◌, ◌<◌, ◌++◌, length, IfOk, IfSome, IfNone, IsTrue, OnOk, OnErr};
 ghost use Rattle.cep_base.specs.declared.limits.TheConstants.{MOST_LOG};
 ghost use Rattle.cep_rule.specs.State.{IsState};
+ghost use Rattle.cep_text.specs.Writing.{IsBegun};
 ghost use Rattle.cep_log.specs.Legal.{IsLegal, start_spot};
 ghost use Rattle.cep_check.specs.Renewed.{IsRenewedText, IsTooLongRenewed};
 ghost use Rattle.cep_check.specs.Renewing.{AreRenewedOrLong, last_lines};
 
-mod laws;
+pub(crate) mod laws;
 mod step;
 
 use crate::renewing::laws::renewing_is_lawful;
@@ -75,16 +76,18 @@ fn renew_steps(
     Ok(Some(spot))
 }
 
-// The end of the log, where it has one, at this state.
-fn put_last(
+/// The end of a log, where it has one, at this state. Only out of memory is refused.
+pub fn put_last(
     program: &Program,
     end: &Option<LogEnd>,
     state: &Bag,
     out: &mut Text,
 ) -> Result<(), AllocError>
     requires { IsState program.now.signature state.now }
-    ensures { OnOk result (out.new
+    ensures ok { OnOk result (out.new
         ≡ out.old ++ last_lines program.now.signature end.now state.now) }
+    ensures err { OnErr result (IsBegun out.old
+        (last_lines program.now.signature end.now state.now) out.new) }
 {
     match end {
         None => Ok(()),
@@ -92,8 +95,8 @@ fn put_last(
     }
 }
 
-// Whether the text has more bytes than a transcript may have.
-fn is_long(text: &Text) -> bool
+/// Whether the text has more bytes than a transcript may have. It takes no memory.
+pub fn is_long(text: &Text) -> bool
     ensures { IsTrue result ↔ (MOST_LOG < length text.now) }
 {
     text.bytes().len() > MOST_LOG

@@ -126,12 +126,12 @@ fn place_in(flags: &[bool], from: usize, k: u32) -> usize
     let mut place = from;
     let mut left = k;
     loop {
-        if flags[place] {
-            if left == 0 {
-                return place;
-            }
-            left -= 1;
+        let count = u32::from(flags[place]);
+        if count > left {
+            return place;
         }
+        // no branch on a flag, which would be guessed wrong half of the time
+        left -= count;
         place += 1;
     }
 }

@@ -62,6 +62,9 @@ impl Waits {
         requires { CanRelease self.old ready.old place }
         ensures { IsReleased self.old self.new ready.old ready.new place end }
     {
+        if self.links.is_empty() {
+            return;
+        }
         let mut from = self.begins[place];
         while from > 0 {
             let link = self.links[from as usize - 1];

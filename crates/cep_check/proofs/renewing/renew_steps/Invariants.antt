@@ -1,5 +1,5 @@
 use Rattle.std.proofs.Common.{◌+◌, drop}
-use Rattle.cep_check.proofs.RenewedSteps.{IsRenewingAt}
+use Rattle.cep_check.specs.Renewing.{IsRenewingAt}
 use Rattle.cep_check.proofs.renewing.renew_steps.Given as goal
 
 abbrev pub invariant-loop-i : goal.invariant-loop-i

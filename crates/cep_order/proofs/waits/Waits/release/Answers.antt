@@ -4,7 +4,7 @@ use Rattle.std.proofs.lemmas.List.{get_or_read, get_or_default, get_or-set_same}
 use Rattle.std.proofs.lemmas.Option.{slice_get-get_or}
 use Rattle.cep_order.specs.declared.waits.Link.{Link}
 use Rattle.cep_order.proofs.Flagging.{on_or_off}
-use Rattle.cep_order.proofs.Releasing.{waits_some, step_within, not_ready, released_ready, released_waiting}
+use Rattle.cep_order.proofs.Releasing.{releasing_begins, releasing_ends, waits_some, step_within, not_ready, released_ready, released_waiting}
 use Rattle.cep_order.proofs.waits.Waits.release.Goals as goal
 
 -- The link that is read is one of the old ones.
@@ -13,6 +13,14 @@ read_link old new from link same some within read = slice_get-get_or old (from -
 
 unset : (flags : List Bool) (step : ℕ) → step < length flags → (get_or flags step false ≡ true → ⊥) → get_or flags step true ≡ false
 unset flags step within not_set = get_or_default flags step true false within ∙ ⊎_elim (λ set. absurd (not_set set)) (λ off. off) (on_or_off (get_or flags step false))
+
+pub returns-then-is_empty : goal.returns-then-is_empty
+returns-then-is_empty c =
+    let old = c.args.self.now in
+    let was = c.args.ready.now in
+    let from = get_or old.begins.items c.args.place 0 in
+    let none : length old.links.items ≡ 0 = grind (arith, c.is_empty.ensures, c.if-is_empty.true) in
+    releasing_ends old was c.args.place c.args.end c.requires old was from (releasing_begins old was c.args.place c.args.end c.requires from refl) (omega (arith, c.requires.lead.begin c.args.place, none))
 
 pub index_mut-requires : goal.index_mut-requires
 index_mut-requires c =
