@@ -15,16 +15,15 @@ use Rattle.cep_ground.specs.Texts.{Spells}
 use Rattle.cep_words.specs.declared.options.Options.{Options}
 use Rattle.cep_words.specs.Words.{Request, Play, Examine, Dead, World}
 use Rattle.cep_run.specs.Fronts.{BeginsSome, LeavesUnheard, heard_bytes}
-use Rattle.cep_run.specs.Said.{IsSomeSaid}
 use Rattle.cep_play.specs.Exchange.{Talked, Loaded, AskedFor, Went}
 use Rattle.cep_play.specs.Command.{AsksUpTo, settings_of}
 use Rattle.cep_play.specs.Outside.{Due, Report, report_due, code_told}
 use Rattle.cep_play.specs.Due.{IsDueOf}
 use Rattle.cep_play.specs.Answered.{AsksAtMost}
 use Rattle.cep_play.specs.Begun.{BeginsWhatIsDue, AsksPrefixOfAll}
-use Rattle.cep_play.specs.Outcome.{InVain, WrotePrefix, IsReportOn, IsToPlay}
+use Rattle.cep_play.specs.Outcome.{InVain, WrotePrefix, IsSomePlaySaid, IsReportOn, IsToPlay}
 use Rattle.cep_play.proofs.Reported.{IsOneRequest, asked_due, adds_none}
-use Rattle.cep_play.proofs.Done.{went_map}
+use Rattle.cep_play.proofs.Playing.{went_map, some_dialogue}
 
 -- Faults
 
@@ -64,15 +63,15 @@ module _ (words : List (List ℕ)) (talk : Talked) (loads : Loaded) where
 
   -- a dialogue that is due was begun
   pub dialogue_begun : (program : Parts) (options : Options) → IsToPlay words loads program options
-      → Went talk (λ come events rest. BeginsSome (IsSomeSaid program (settings_of program options)) come events × LeavesUnheard come events rest) → Went talk (BeginsWhatIsDue words loads)
+      → Went talk (λ come events rest. BeginsSome (IsSomePlaySaid options.players program (settings_of program options)) come events × LeavesUnheard come events rest) → Went talk (BeginsWhatIsDue words loads)
   dialogue_begun program options play =
       let spelled = play.is_in in
       went_map talk _ _ (λ come events rest begun.
-      let said = begun.0.whole in
-      let due : Due = record { events = events ++ begun.0.more; rest = begun.0.left; code = code_told said.ending.word; names = play.file ∷ [] } in
+      let said = some_dialogue options.players program (settings_of program options) come (events ++ begun.0.more) begun.0.left begun.0.whole in
+      let due : Due = record { events = events ++ begun.0.more; rest = begun.0.left; code = code_told said.0; names = play.file ∷ [] } in
       record {
         due = due;
-        is = inl (inr (Play play.file options, play.ask, (spelled.0, spelled.1, inr (program, spelled.2, (record { turns = said.turns; ending = said.ending; dialogue = said.dialogue; holds = refl; deeds = said.deeds; counted = said.counted; only = said.only; logged = said.logged; to_the_byte = said.to_the_byte }, refl)))));
+        is = inl (inr (Play play.file options, play.ask, (spelled.0, spelled.1, inr (program, spelled.2, (said.0, said.1, refl, refl)))));
         missing = begun.0.more;
         said = refl;
         left = begun.1;
@@ -97,7 +96,7 @@ module _ (loads : Loaded) (held : Files) (told : loads.files ≡ Some held) (com
 
   asks_prefix : (request : Request) → AsksUpTo loads request → IsDueOf request (record { files = loads.files; come = come }) due → AsksPrefix
   asks_prefix (Play file options) adds (text, has, inl (report, refused, is)) = due_prefix 1 _ is adds
-  asks_prefix (Play file options) adds (text, has, inr (program, spelled, said)) = prefix_of 1 (file ∷ []) said.1 adds
+  asks_prefix (Play file options) adds (text, has, inr (program, spelled, said)) = prefix_of 1 (file ∷ []) said.3 adds
   asks_prefix (Examine task file log) (inl ((other, has', (program, spells)), adds)) (text, has, inl (report, refused, is)) = absurd (refused.no_program program (subst (λ t. Spells t program) (one_text file other text has' has) spells))
   asks_prefix (Examine task file log) (inl (of, adds)) (text, has, inr (program, spelled, (bytes, has', (report, reports, is)))) = due_prefix 2 _ is adds
   asks_prefix (Examine task file log) (inr adds) (text, has, inl (report, refused, is)) = due_prefix 1 _ is adds

@@ -5,10 +5,10 @@ use Rattle.cep_base.specs.declared.limits.TheConstants.{DEFAULT_SEED}
 use Rattle.cep_base.specs.declared.console.Event.{Event}
 use Rattle.cep_base.specs.Talk.{outs}
 use Rattle.cep_rule.specs.declared.parts.Parts.{Parts}
+use Rattle.cep_lines.specs.declared.end_word.EndWord.{EndWord}
 use Rattle.cep_words.specs.declared.options.Options.{Options}
 use Rattle.cep_words.specs.Words.{Request, Play, Examine, Dead, World}
 use Rattle.cep_term.specs.Multiset.{copies_in}
-use Rattle.cep_run.specs.declared.settings.Settings.{Settings}
 use Rattle.cep_run.specs.declared.tally.Tally.{Tally}
 use Rattle.cep_run.specs.Run.{Turn, Ending, unproved, offers_listed}
 use Rattle.cep_run.specs.Said.{IsSaid, IsTally}
@@ -17,17 +17,9 @@ use Rattle.cep_play.specs.Command.{OfFile, IsSpelledBy, settings_of}
 use Rattle.cep_play.specs.Outside.{Report, report_due, code_told}
 use Rattle.cep_play.specs.World.{summary, IsTallied}
 use Rattle.cep_play.specs.Answered.{DoesWhatIsDue}
-use Rattle.cep_play.specs.Outcome.{all_read, IsRunSaid, IsSilentRun, ReportsRun, IsReportOn, IsToPlay, CommandDid}
+use Rattle.cep_play.specs.Outcome.{all_read, IsPlaySaid, IsSilentRun, ReportsRun, IsReportOn, IsToPlay, CommandDid}
 use Rattle.cep_play.proofs.Reported.{IsOneRequest, told_is, told_low, rose_by_all}
-
--- what holds may be told by a weaker predicate
-pub went_map : (talk : Talked) (P Q : List ℕ → List Event → List ℕ → Type 0) → ((come : List ℕ) (events : List Event) (rest : List ℕ) → P come events rest → Q come events rest) → Went talk P → Went talk Q
-went_map talk P Q weaker went come coming = let it = went come coming in (it.0, it.1, it.2, it.3, weaker come it.0 it.1 it.4)
-
--- less may be said of the turns and the end
-pub said_less : (program : Parts) (settings : Settings) (P Q : List Turn → Ending → Type 0) → ((turns : List Turn) (ending : Ending) → P turns ending → Q turns ending) → (come : List ℕ) (events : List Event) (rest : List ℕ) → IsSaid program settings P come events rest → IsSaid program settings Q come events rest
-said_less program settings P Q less come events rest said =
-    record { turns = said.turns; ending = said.ending; dialogue = said.dialogue; holds = less said.turns said.ending said.holds; deeds = said.deeds; counted = said.counted; logged = said.logged; only = said.only; to_the_byte = said.to_the_byte }
+use Rattle.cep_play.proofs.Playing.{went_map, said_less, dialogue_said, rose_by_play}
 
 -- derivations do not count
 turns_counted : (turns : List Turn) → length (map unproved turns) ≡ length turns
@@ -89,16 +81,16 @@ module _ (words : List (List ℕ)) (talk : Talked) (loads : Loaded) (ticks ticks
     does come = record { due = report_due report is.names come; is = is.due come; said = refl; left = refl; names = is.asked; status = refl }
 
   -- a dialogue that is due was said
-  pub dialogue_done : IsOneRequest → (program : Parts) (options : Options) (tally : Tally) (code : ℕ) → code ≡ code_told tally.word → IsToPlay words loads program options
-      → Went talk (IsRunSaid program (settings_of program options) ticks ticks' tally) → CommandDid words talk loads ticks ticks' code
-  dialogue_done one program options tally code is play says =
+  pub dialogue_done : IsOneRequest → (program : Parts) (options : Options) (word : EndWord) (code : ℕ) → code ≡ code_told word → IsToPlay words loads program options
+      → Went talk (IsPlaySaid options.players program (settings_of program options) ticks ticks' word) → CommandDid words talk loads ticks ticks' code
+  dialogue_done one program options word code is play says =
       let settings = settings_of program options in
-      let run : (code ≡ 0) ⊎ (code ≡ 4) = subst (λ n. (n ≡ 0) ⊎ (n ≡ 4)) (sym is) (told_is tally.word) in
+      let run : (code ≡ 0) ⊎ (code ≡ 4) = subst (λ n. (n ≡ 0) ⊎ (n ≡ 4)) (sym is) (told_is word) in
       let spelled = play.is_in in
       record {
         answered = went_map talk _ _ (λ come events rest said. record {
           due = record { events = events; rest = rest; code = code; names = play.file ∷ [] };
-          is = inl (inr (Play play.file options, play.ask, (spelled.0, spelled.1, inr (program, spelled.2, (said_less program settings _ _ (λ turns ending holds. is ∙ ap code_told holds.0.word) come events rest said, refl)))));
+          is = inl (inr (Play play.file options, play.ask, (spelled.0, spelled.1, inr (program, spelled.2, (word, dialogue_said options.players program settings ticks ticks' word come events rest said, is, refl)))));
           said = refl;
           left = refl;
           names = play.asked;
@@ -107,7 +99,6 @@ module _ (words : List (List ℕ)) (talk : Talked) (loads : Loaded) (ticks ticks
         written = λ alone. let not = alone play.file options play.ask in absurd (⊎_elim (λ e. not.0 e) (λ e. not.1 e) run);
         spelled = λ other options' ask' ran. subst (λ name. OfFile loads.files name (λ text. (program : Parts) × IsSpelledBy program text)) (ap file_played (one words (Play play.file options) (Play other options') play.ask ask')) (spelled.0, spelled.1, (program, spelled.2));
         as_said = inl (Play play.file options, play.ask, play.asked);
-        comes = all_read (told_low tally.word code is) play.read;
-        rose = λ _. rose_by_all talk loads.files ticks ticks' words one (Play play.file options) play.ask
-            (program, spelled, went_map talk _ _ (λ come events rest said. said_less program settings _ _ (λ turns ending holds. holds.1) come events rest said) says);
+        comes = all_read (told_low word code is) play.read;
+        rose = λ _. rose_by_all talk loads.files ticks ticks' words one (Play play.file options) play.ask (program, spelled, rose_by_play options.players talk program settings ticks ticks' word says);
       }

@@ -1,5 +1,6 @@
 pub mod Reporting
 pub mod Reported
+pub mod Playing
 pub mod Done
 pub mod Begins
 pub mod OneDue

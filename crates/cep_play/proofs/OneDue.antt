@@ -8,16 +8,15 @@ use Rattle.cep_world.specs.World.{world}
 use Rattle.cep_words.specs.declared.request.Task.{Task}
 use Rattle.cep_words.specs.declared.options.Options.{Options}
 use Rattle.cep_words.specs.Words.{Request, Play, Examine, Dead, World}
-use Rattle.cep_run.specs.Run.{Ending}
-use Rattle.cep_run.specs.Said.{IsSaid}
 use Rattle.cep_play.specs.Command.{OfFile, settings_of}
 use Rattle.cep_play.specs.Outside.{Outside, Due, Report, IsReportDue, OfText, code_told}
-use Rattle.cep_play.specs.Play.{IsDialogueDue}
+use Rattle.cep_play.specs.Play.{IsDialogueOf, IsDialogueDue}
 use Rattle.cep_play.specs.Reports.{Reports}
 use Rattle.cep_play.specs.DeadRules.{ReportsDead}
 use Rattle.cep_play.specs.World.{ReportsWorld}
 use Rattle.cep_play.specs.Due.{IsDueOf, IsDue}
 use Rattle.cep_play.proofs.Reporting.{code, ReadsOnce, one_code}
+use Rattle.cep_play.proofs.Playing.{one_dialogue}
 use Rattle.cep_play.proofs.Reported.{IsOneRequest}
 
 -- two that are due have one status, one rest and the same names
@@ -46,10 +45,10 @@ module _ (reads : (text : List ℕ) (program : Parts) → Spells text program �
   plays_are_one : (file : List ℕ) (options : Options) (due other : Due) → IsDueOf (Play file options) over due → IsDueOf (Play file options) over other → AreOne due other
   plays_are_one file options due other (text, has, is) (text', has', is') = of_text text text' (file ∷ []) come (λ program. IsDialogueDue program options (file ∷ []) come due) (λ program. IsDialogueDue program options (file ∷ []) come other) due other (one_file file text text' has has') is is'
       (λ program program' spells same one two.
-      let said : IsSaid program (settings_of program options) (λ turns ending. other.code ≡ code_told ending.word) come other.events other.rest =
-      subst (λ (p : Parts). IsSaid p (settings_of p options) (λ turns ending. other.code ≡ code_told ending.word) come other.events other.rest) (sym same) two.0 in
-      let only = said.only one.0.turns one.0.ending due.events due.rest one.0.dialogue in
-      (one.0.holds ∙ ap (λ (e : Ending). code_told e.word) only.1 ∙ sym said.holds, only.2, one.1 ∙ sym two.1))
+      let said : IsDialogueOf options.players program (settings_of program options) two.0 come other.events other.rest =
+      subst (λ (p : Parts). IsDialogueOf options.players p (settings_of p options) two.0 come other.events other.rest) (sym same) two.1 in
+      let ends = one_dialogue options.players program (settings_of program options) one.0 two.0 come due.events other.events due.rest other.rest one.1 said in
+      (one.2 ∙ ap code_told ends.0 ∙ sym two.2, ends.1, one.3 ∙ sym two.3))
 
   reports_are_one : (P : Report → Type 0) (names : List (List ℕ)) (due other : Due) → ((one two : Report) → P one → P two → one.code ≡ two.code) → IsReportDue P names come due → IsReportDue P names come other → AreOne due other
   reports_are_one P names due other same (one, is, e) (two, is', e') = both_told due other _ _ e e' (same one two is is', refl, refl)

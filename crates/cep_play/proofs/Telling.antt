@@ -1,6 +1,5 @@
 -- The status tells what is due.
 use Rattle.std.proofs.Common.{◌≡◌, ◌⊎◌, inl, inr, ⊎_elim, ℕ, zero, suc, ◌<◌, ◌≤◌, List, [], ◌∷◌, refl, sym, ap, ◌∙◌, subst, lit<, arith, Contains, Option, None, Some}
-use Rattle.cep_base.specs.declared.console.Event.{Event}
 use Rattle.cep_base.specs.Files.{Files, HasFile}
 use Rattle.cep_base.proofs.Elements.{contains_none, contains_cases, contains_behind, contains_same}
 use Rattle.cep_base.proofs.Lists.{some_same}
@@ -12,17 +11,16 @@ use Rattle.cep_words.specs.declared.request.Task.{Task}
 use Rattle.cep_words.specs.declared.options.Options.{Options}
 use Rattle.cep_words.specs.Words.{Request, Play, Examine, Dead, World, AskFor}
 use Rattle.cep_run.specs.declared.settings.Settings.{Settings}
-use Rattle.cep_run.specs.Run.{Turn, Ending}
-use Rattle.cep_run.specs.Dialogue.{Dialogue}
 use Rattle.cep_play.specs.Exchange.{Talked, Loaded, IsUnread}
 use Rattle.cep_play.specs.Command.{settings_of}
 use Rattle.cep_play.specs.Outside.{Outside, Due, Report, code_told}
 use Rattle.cep_play.specs.Reports.{Reports}
 use Rattle.cep_play.specs.Due.{IsDueOf, IsDueAtAll, IsDueUnreadOf}
-use Rattle.cep_play.specs.Answered.{IsOnShelf, EndsBy, ReportsBy, TellsWhatIsDue}
+use Rattle.cep_play.specs.Answered.{IsOnShelf, EndsWith, EndsBy, ReportsBy, TellsWhatIsDue}
 use Rattle.cep_play.specs.Outcome.{ComesWith, all_read, one_unread, CommandDid}
 use Rattle.cep_play.proofs.Reporting.{code, ReadsOnce, one_code}
 use Rattle.cep_play.proofs.Reported.{IsOneRequest, asked_due}
+use Rattle.cep_play.proofs.Playing.{SomePlay, players_within, some_play, ends_with, AreThere, AreThereInRounds, some_end}
 
 -- Statuses
 
@@ -67,25 +65,25 @@ told_text None name text other told has = absurd told
 told_text (Some file) name text other told has = some_same text other (sym told ∙ has)
 
 module _ (one : IsOneRequest)
-    (there : (program : Parts) (settings : Settings) (come : List ℕ) → IsProgram program → (turns : List Turn) × (ending : Ending) × (events : List Event) × (rest : List ℕ) × Dialogue program settings come turns ending events rest)
+    (there : AreThere) (in_rounds : AreThereInRounds)
     (is_program : (text : List ℕ) (program : Parts) → Spells text program → IsProgram program)
     (reads : (text : List ℕ) (program : Parts) → Spells text program → ReadsOnce program)
     (words : List (List ℕ)) (loads : Loaded) where
   -- these statuses may come however a run ends
-  ends_anyway : (text : List ℕ) (program : Parts) (settings : Settings) (come others : List ℕ) (status : ℕ) → Spells text program → Contains others status → EndsBy program settings come others status
-  ends_anyway text program settings come others status spells among =
-      let due = there program settings come (is_program text program spells) in
-      (due.0, due.1, due.2, due.3, due.4, contains_behind (code_told due.1.word) others status among)
+  ends_anyway : (players : Option ℕ) → SomePlay players → (text : List ℕ) (program : Parts) (settings : Settings) (come others : List ℕ) (status : ℕ) → Spells text program → Contains others status → EndsBy players program settings come others status
+  ends_anyway players some text program settings come others status spells among =
+      let end = some_end there in_rounds players some program settings come (is_program text program spells) in
+      (end.0, end.1, contains_behind (code_told end.0) others status among)
 
   reports_anyway : (P : Report → Type 0) (others : List ℕ) (status : ℕ) → Contains others status → ReportsBy P others status
   reports_anyway P others status among = ((λ report is. contains_behind report.code others status among), inl among)
 
   -- these statuses may come whatever is due
-  pub tells_anyway : (left : Option (List ℕ)) (request : Request) (status : ℕ) → Contains (6 ∷ 9 ∷ []) status → TellsWhatIsDue request loads.files left status
-  tells_anyway left (Play file options) status among = λ text program come told spells coming. ends_anyway text program (settings_of program options) come (6 ∷ 7 ∷ 9 ∷ []) status spells (with_unread status among)
-  tells_anyway left (Examine task file log) status among = λ text program bytes told spells there'. reports_anyway (Reports task program bytes) (6 ∷ 7 ∷ 9 ∷ []) status (with_unread status among)
-  tells_anyway left (Dead file) status among = λ text program told spells. contains_behind 0 (6 ∷ 7 ∷ 9 ∷ []) status (with_unread status among)
-  tells_anyway left (World rooms options) status among = λ program spells. ends_anyway (world rooms) program (settings_of program options) [] (6 ∷ 9 ∷ []) status spells among
+  pub tells_anyway : (left : Option (List ℕ)) (request : Request) (status : ℕ) → AskFor words request → Contains (6 ∷ 9 ∷ []) status → TellsWhatIsDue request loads.files left status
+  tells_anyway left (Play file options) status ask among = λ text program come told spells coming. ends_anyway options.players (some_play options.players (players_within options ask.2.0)) text program (settings_of program options) come (6 ∷ 7 ∷ 9 ∷ []) status spells (with_unread status among)
+  tells_anyway left (Examine task file log) status ask among = λ text program bytes told spells there'. reports_anyway (Reports task program bytes) (6 ∷ 7 ∷ 9 ∷ []) status (with_unread status among)
+  tells_anyway left (Dead file) status ask among = λ text program told spells. contains_behind 0 (6 ∷ 7 ∷ 9 ∷ []) status (with_unread status among)
+  tells_anyway left (World rooms options) status ask among = λ program spells. ends_anyway None tt (world rooms) program (settings_of program options) [] (6 ∷ 9 ∷ []) status spells among
 
   abbrev over : List ℕ → Outside
   over come = record { files = loads.files; come = come }
@@ -101,19 +99,17 @@ module _ (one : IsOneRequest)
     unread_among other seven is = subst (Contains (6 ∷ 7 ∷ 9 ∷ [])) (sym (same ∙ ap (λ (d : Due). d.code) is ∙ seven)) (1, lit< tt, refl)
 
     -- a dialogue that is due
-    plays : (file : List ℕ) (options : Options) (text : List ℕ) (program : Parts) (come : List ℕ) → IsOnShelf loads.files file text → Spells text program
-        → IsDueOf (Play file options) (over come) due ⊎ IsDueUnreadOf (Play file options) (over come) due → EndsBy program (settings_of program options) come (6 ∷ 7 ∷ 9 ∷ []) status
-    plays file options text program come told spells (inl (other, has, inl (report, refused, is))) = absurd (refused.no_program program (subst (λ t. Spells t program) (told_text loads.files file text other told has) spells))
-    plays file options text program come told spells (inl (other, has, inr (spelled, is, said))) =
+    plays : (file : List ℕ) (options : Options) → AskFor words (Play file options) → (text : List ℕ) (program : Parts) (come : List ℕ) → IsOnShelf loads.files file text → Spells text program
+        → IsDueOf (Play file options) (over come) due ⊎ IsDueUnreadOf (Play file options) (over come) due → EndsBy options.players program (settings_of program options) come (6 ∷ 7 ∷ 9 ∷ []) status
+    plays file options ask text program come told spells (inl (other, has, inl (report, refused, is))) = absurd (refused.no_program program (subst (λ t. Spells t program) (told_text loads.files file text other told has) spells))
+    plays file options ask text program come told spells (inl (other, has, inr (spelled, is, (word, said, code_is, names)))) =
         let programs = is.1 program (subst (λ t. Spells t program) (told_text loads.files file text other told has) spells) in (
-          said.0.turns,
-          said.0.ending,
-          due.events,
-          due.rest,
-          subst (λ (p : Parts). Dialogue p (settings_of p options) come said.0.turns said.0.ending due.events due.rest) (sym programs) said.0.dialogue,
-          contains_same (code_told said.0.ending.word) (6 ∷ 7 ∷ 9 ∷ []) status (sym (same ∙ said.0.holds)),
+          word,
+          subst (λ (p : Parts). EndsWith options.players p (settings_of p options) come word) (sym programs) (ends_with options.players spelled (settings_of spelled options) word come due.events due.rest said),
+          contains_same (code_told word) (6 ∷ 7 ∷ 9 ∷ []) status (sym (same ∙ code_is)),
         )
-    plays file options text program come told spells (inr is) = ends_anyway text program (settings_of program options) come (6 ∷ 7 ∷ 9 ∷ []) status spells (unread_among _ refl is)
+    plays file options ask text program come told spells (inr is) =
+        ends_anyway options.players (some_play options.players (players_within options ask.2.0)) text program (settings_of program options) come (6 ∷ 7 ∷ 9 ∷ []) status spells (unread_among _ refl is)
 
     -- a report on a transcript
     examines : (task : Task) (file log text : List ℕ) (program : Parts) (bytes : List ℕ) → IsOnShelf loads.files file text → Spells text program → IsOnShelf loads.files log bytes
@@ -136,16 +132,13 @@ module _ (one : IsOneRequest)
 
     -- a summary that is due
     tours : (rooms : ℕ) (options : Options) (program : Parts) → Spells (world rooms) program
-        → IsDueOf (World rooms options) (over []) due ⊎ IsDueUnreadOf (World rooms options) (over []) due → EndsBy program (settings_of program options) [] (6 ∷ 9 ∷ []) status
+        → IsDueOf (World rooms options) (over []) due ⊎ IsDueUnreadOf (World rooms options) (over []) due → EndsBy None program (settings_of program options) [] (6 ∷ 9 ∷ []) status
     tours rooms options program spells (inl (inl (report, refused, is))) = absurd (refused.no_program program spells)
     tours rooms options program spells (inl (inr (spelled, is, (report, (tally, tallied, e), e')))) =
         let programs = is.1 program spells in
         let said = tallied.said in (
-          said.turns,
-          said.ending,
-          tallied.events,
-          tallied.rest,
-          subst (λ (p : Parts). Dialogue p (settings_of p options) [] said.turns said.ending tallied.events tallied.rest) (sym programs) said.dialogue,
+          said.ending.word,
+          subst (λ (p : Parts). EndsWith None p (settings_of p options) [] said.ending.word) (sym programs) (said.turns, said.ending, tallied.events, tallied.rest, said.dialogue, refl),
           contains_same (code_told said.ending.word) (6 ∷ 9 ∷ []) status (ap code_told (sym said.holds.word) ∙ sym (same ∙ ap (λ (d : Due). d.code) e' ∙ ap code e)),
         )
     tours rooms options program spells (inr none) = absurd none
@@ -154,7 +147,7 @@ module _ (one : IsOneRequest)
     pub tells_what_is_due : (request : Request) → AskFor words request → TellsWhatIsDue request loads.files talk.left_before status
     tells_what_is_due (Play file options) ask = λ text program come told spells coming.
         let did = (done.answered come coming).4 in
-        plays did.due status did.status file options text program come told spells (due_of (IsUnread loads) (Play file options) come did.due ask did.is)
+        plays did.due status did.status file options ask text program come told spells (due_of (IsUnread loads) (Play file options) come did.due ask did.is)
     tells_what_is_due (Examine task file log) ask = λ text program bytes told spells there'.
         let did = (done.written (λ other options ask'. let same : Examine task file log ≡ Play other options = one words (Examine task file log) (Play other options) ask ask' in absurd (cc)) []).3 in
         examines did.due status did.status task file log text program bytes told spells there' (due_of (IsUnread loads) (Examine task file log) [] did.due ask did.is)

@@ -1,5 +1,5 @@
 -- What the command promises of its words: what is due was done.
-use Rattle.std.specs.Prelude.{◌≡◌, ◌≢◌, ◌⊎◌, ℕ, List, [], ◌∷◌, Option, Some, Contains}
+use Rattle.std.specs.Prelude.{◌≡◌, ◌≢◌, ◌⊎◌, ℕ, List, [], ◌∷◌, Option, None, Some, Contains}
 use Rattle.std.specs.Option.{IsSomeAnd}
 use Rattle.cep_base.specs.declared.console.Event.{Event}
 use Rattle.cep_base.specs.Files.{Files}
@@ -9,9 +9,13 @@ use Rattle.cep_ground.specs.Texts.{Spells}
 use Rattle.cep_world.specs.World.{world}
 use Rattle.cep_words.specs.declared.options.Options.{Options}
 use Rattle.cep_words.specs.Words.{Request, Play, Examine, Dead, World, AskFor, HaveNoForm}
+use Rattle.cep_step.specs.Deeds.{Position}
+use Rattle.cep_lines.specs.declared.end_word.EndWord.{EndWord}
 use Rattle.cep_run.specs.declared.settings.Settings.{Settings}
 use Rattle.cep_run.specs.Run.{Turn, Ending}
 use Rattle.cep_run.specs.Dialogue.{Dialogue}
+use Rattle.cep_players.specs.Runs.{TurnOrRound, EndOfRounds}
+use Rattle.cep_players.specs.Dialogues.{DialogueInRounds}
 use Rattle.cep_play.specs.Exchange.{Talked, Loaded, IsUnread, AskedFor}
 use Rattle.cep_play.specs.Command.{OfRequest, OfFile, AsksFor, AsksUpTo, IsSpelledBy, settings_of}
 use Rattle.cep_play.specs.Outside.{Due, Report, code_told}
@@ -47,11 +51,19 @@ IsWritten words talk loads code =
 abbrev pub IsOnShelf : Option Files → List ℕ → List ℕ → Type 0
 IsOnShelf files name text = IsSomeAnd files (λ file. file name ≡ Some text)
 
--- There is a dialogue of the program for what is typed, and the status says how it ends, or is one of the others.
-abbrev pub EndsBy : Parts → Settings → List ℕ → List ℕ → ℕ → Type 0
-EndsBy program settings come others status =
+-- For what is typed there is a dialogue of the program that ends with the word: of one player, or of several in rounds.
+abbrev pub EndsWith : Option ℕ → Parts → Settings → List ℕ → EndWord → Type 0
+EndsWith None program settings come word =
     (turns : List Turn) × (ending : Ending) × (events : List Event) × (rest : List ℕ)
-    × Dialogue program settings come turns ending events rest × Contains (code_told ending.word ∷ others) status
+    × Dialogue program settings come turns ending events rest × (ending.word ≡ word)
+EndsWith (Some players) program settings come word =
+    (parts : List TurnOrRound) × (end : EndOfRounds) × (last : Position) × (events : List Event) × (rest : List ℕ)
+    × DialogueInRounds program settings players come parts end word last events rest
+
+-- There is such a dialogue, and the status says how it ends, or is one of the others.
+abbrev pub EndsBy : Option ℕ → Parts → Settings → List ℕ → List ℕ → ℕ → Type 0
+EndsBy players program settings come others status =
+    (word : EndWord) × EndsWith players program settings come word × Contains (code_told word ∷ others) status
 
 -- The status is that of each report that has P, and there is one, or it is one of the others.
 abbrev pub ReportsBy : (Report → Type 0) → List ℕ → ℕ → Type 0
@@ -64,7 +76,7 @@ abbrev pub TellsWhatIsDue : Request → Option Files → Option (List ℕ) → �
 TellsWhatIsDue (Play file options) files left status =
     (text : List ℕ) (program : Parts) (come : List ℕ)
     → IsOnShelf files file text → Spells text program → left ≡ Some come
-    → EndsBy program (settings_of program options) come (6 ∷ 7 ∷ 9 ∷ []) status
+    → EndsBy options.players program (settings_of program options) come (6 ∷ 7 ∷ 9 ∷ []) status
 TellsWhatIsDue (Examine task file log) files left status =
     (text : List ℕ) (program : Parts) (bytes : List ℕ)
     → IsOnShelf files file text → Spells text program → IsOnShelf files log bytes
@@ -72,7 +84,7 @@ TellsWhatIsDue (Examine task file log) files left status =
 TellsWhatIsDue (Dead file) files left status =
     (text : List ℕ) (program : Parts) → IsOnShelf files file text → Spells text program → Contains (0 ∷ 6 ∷ 7 ∷ 9 ∷ []) status
 TellsWhatIsDue (World rooms options) files left status =
-    (program : Parts) → Spells (world rooms) program → EndsBy program (settings_of program options) [] (6 ∷ 9 ∷ []) status
+    (program : Parts) → Spells (world rooms) program → EndsBy None program (settings_of program options) [] (6 ∷ 9 ∷ []) status
 
 -- Whatever the words ask for, the status tells what is due of it so.
 abbrev pub TellsAllThatIsDue : List (List ℕ) → Option Files → Option (List ℕ) → ℕ → Type 0

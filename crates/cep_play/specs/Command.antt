@@ -47,7 +47,7 @@ AsksUpTo loads (Dead file) = AskedFor loads (file ∷ [])
 AsksUpTo loads (World rooms options) = AskedFor loads []
 
 abbrev pub usage : List ℕ
-usage = codes "usage: play FILE [seed=N] [height=N] [turns=N] | check FILE LOG | world N [seed=N] [height=N] [turns=N] | renew FILE LOG | cause FILE LOG | again FILE LOG [seed=N] | weigh FILE KEEPS | dead FILE"
+usage = codes "usage: play FILE [seed=N] [height=N] [turns=N] | check FILE LOG | world N [seed=N] [height=N] [turns=N] | renew FILE LOG | cause FILE LOG | again FILE LOG [seed=N] | rounds FILE players=N [seed=N] [height=N] [turns=N] | weigh FILE KEEPS | dead FILE"
 
 -- `refused LINE:COL NUMBER NAME`
 unfoldable pub refusal_text : Refusal → List ℕ

@@ -1,5 +1,5 @@
 -- How the counter of matching steps rises where a program is played to an end: by no more than what the network may tick for the very turns that were done, and by one for each backward premise of what was done in them.
-use Rattle.std.specs.Prelude.{ℕ, List, [], Option}
+use Rattle.std.specs.Prelude.{ℕ, List, [], Option, None, Some}
 use Rattle.cep_base.specs.declared.console.Event.{Event}
 use Rattle.cep_base.specs.Files.{Files}
 use Rattle.cep_rule.specs.declared.parts.Parts.{Parts}
@@ -32,11 +32,16 @@ OfTour program settings P =
     (turns : List Turn) × (ending : Ending) × (events : List Event) × (rest : List ℕ)
     × Dialogue program settings [] turns ending events rest × P turns ending
 
--- The counter rose by what was done of a request: where a program was to be played, by the run whose dialogue was said; where a world was to be run, by its run; and of all others nothing is said.
+-- The counter rose by what was done where a program was played: by the run of one player whose dialogue was said; and of rounds nothing is said.
+abbrev pub RoseByPlay : Option ℕ → Talked → Parts → Settings → ℕ → ℕ → Type 0
+RoseByPlay None talk program settings ticks ticks' = Went talk (IsSaid program settings (RoseByRun program settings ticks ticks'))
+RoseByPlay (Some players) talk program settings ticks ticks' = Unit {0}
+
+-- The counter rose by what was done of a request: where a program was to be played, by that; where a world was to be run, by its run; and of all others nothing is said.
 abbrev pub RoseByRequest : Talked → Option Files → ℕ → ℕ → Request → Type 0
 RoseByRequest talk files ticks ticks' (Play file options) =
     (program : Parts) × OfFile files file (IsSpelledBy program)
-    × Went talk (IsSaid program (settings_of program options) (RoseByRun program (settings_of program options) ticks ticks'))
+    × RoseByPlay options.players talk program (settings_of program options) ticks ticks'
 RoseByRequest talk files ticks ticks' (Examine task file log) = Unit {0}
 RoseByRequest talk files ticks ticks' (Dead file) = Unit {0}
 RoseByRequest talk files ticks ticks' (World rooms options) =

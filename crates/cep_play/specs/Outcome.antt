@@ -1,10 +1,11 @@
 -- Private.
 -- What the parts of the command come to.
-use Rattle.std.specs.Prelude.{◌≡◌, ◌≢◌, ◌⊎◌, ℕ, ◌≤◌, List, [], ◌∷◌, take, unwrap_or, Result, Ok, Err}
+use Rattle.std.specs.Prelude.{◌≡◌, ◌≢◌, ◌⊎◌, ℕ, ◌≤◌, List, [], ◌∷◌, take, unwrap_or, Option, None, Some, Result, Ok, Err}
 use Rattle.cep_base.specs.declared.limits.TheConstants.{MOST_LOG, DEFAULT_SEED}
 use Rattle.cep_base.specs.declared.console.ConsoleFault.{ConsoleFault}
 use Rattle.cep_base.specs.declared.console.ConsoleFault.TheVariants as faults
 use Rattle.cep_rule.specs.declared.parts.Parts.{Parts}
+use Rattle.cep_lines.specs.declared.end_word.EndWord.{EndWord}
 use Rattle.cep_lines.specs.Lines.{line}
 use Rattle.cep_world.specs.World.{world}
 use Rattle.cep_words.specs.declared.options.Options.{Options}
@@ -22,7 +23,8 @@ use Rattle.cep_words.specs.Words.{Request, Play, AskFor}
 use Rattle.cep_base.specs.declared.console.Event.{Event}
 use Rattle.cep_run.specs.declared.settings.Settings.{Settings}
 use Rattle.cep_run.specs.declared.tally.Tally.{Tally}
-use Rattle.cep_run.specs.Said.{IsSaid, IsTally}
+use Rattle.cep_run.specs.Said.{IsSaid, IsSomeSaid, IsTally}
+use Rattle.cep_players.specs.Said.{IsSaidInRounds, IsSomeSaidInRounds}
 use Rattle.cep_play.specs.Counted.{RoseByRun, RoseByRequest, RoseByAll, OfTour}
 use Rattle.cep_play.specs.declared.reply.Reply.{Reply}
 use Rattle.cep_play.specs.declared.reply.Reply.TheVariants as reply
@@ -154,7 +156,18 @@ IsRunSaid program settings ticks ticks' tally =
     IsSaid program settings
     (λ turns ending. IsTally turns ending tally × RoseByRun program settings ticks ticks' turns ending)
 
--- the same with nothing typed and nothing heard
+-- What is said is a dialogue that ends with the word, of one player, whose run the counter rose by; or of several in rounds.
+abbrev pub IsPlaySaid : Option ℕ → Parts → Settings → ℕ → ℕ → EndWord → List ℕ → List Event → List ℕ → Type 0
+IsPlaySaid None program settings ticks ticks' word =
+    IsSaid program settings (λ turns ending. (ending.word ≡ word) × RoseByRun program settings ticks ticks' turns ending)
+IsPlaySaid (Some players) program settings ticks ticks' word = IsSaidInRounds program settings players word
+
+-- what is said is a dialogue, of one player or of several in rounds
+abbrev pub IsSomePlaySaid : Option ℕ → Parts → Settings → List ℕ → List Event → List ℕ → Type 0
+IsSomePlaySaid None program settings = IsSomeSaid program settings
+IsSomePlaySaid (Some players) program settings = IsSomeSaidInRounds program settings players
+
+-- a run of one player with nothing typed and nothing heard
 abbrev pub IsSilentRun : Parts → Settings → ℕ → ℕ → Tally → Type 0
 IsSilentRun program settings ticks ticks' tally =
     (events : List Event) × (rest : List ℕ) × IsRunSaid program settings ticks ticks' tally [] events rest

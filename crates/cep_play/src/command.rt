@@ -10,12 +10,13 @@ ghost use Rattle.cep_play.specs.Begun.{BeginsWhatIsDue, AsksPrefixOfAll};
 ghost use Rattle.cep_play.specs.Outcome.{CommandDid, InVain};
 
 use crate::laws::one_due;
-use crate::play::run;
+use crate::play::dialogue;
 use crate::reply::{Reply, reply_to};
 use crate::report::Status;
 use cep_base::{Console, ConsoleFault, Shelf, Steps};
 use cep_ground::laws::clean_parts_are_a_program;
 use cep_log::laws::one_log;
+use cep_players::laws::dialogues_in_rounds_are_there;
 use cep_reorder::laws::one_reordering_by_a_seed;
 use cep_replay::laws::{interactive_logs_are_answered, legal_logs_can_be_played};
 use cep_run::laws::dialogues_are_there;
@@ -51,15 +52,16 @@ fn command<C: Console, H: Shelf, L: Ledger>(
     match reply_to(alloc, words, shelf, steps)? {
         Reply::Report(report) => report.put(console),
         Reply::Dialogue { program, options } => {
-            let tally = run(alloc, &program, options, console, steps)?;
-            Ok(Status::of_run(tally.word).code())
+            let word = dialogue(alloc, &program, options, console, steps)?;
+            Ok(Status::of_run(word).code())
         }
     }
 }
 
 /// Does all that the program does: reads the program that the words name from the shelf, plays it
-/// with the person at the console or checks a transcript against it, which it may renew, list the
-/// graph of, or do again in another order, or runs a generated world, and answers the status that the process ends with.
+/// with the person at the console, or with several in rounds, or checks a transcript against it,
+/// which it may renew, list the graph of, or do again in another order, or runs a generated world,
+/// and answers the status that the process ends with.
 ///
 /// | status | comes |
 /// |---|---|
@@ -132,8 +134,9 @@ pub fn ceptre<C: Console, H: Shelf, L: Ledger>(
         (loaded H.files H.asked H.faults shelf.old shelf.new) }
     ensures files { H.files shelf.new ≡ H.files shelf.old }
 
-    // The counter of matching steps rises by no more than what the network may tick for the turns
-    // that were done, and one for each backward premise of what was done in them. It never falls.
+    // Where one plays, or nobody, the counter of matching steps rises by no more than what the
+    // network may tick for the turns that were done, and one for each backward premise of what was
+    // done in them. It never falls.
     ensures ticked { (result ≡ 0) ⊎ (result ≡ 4)
         → RoseByAll (talked C.talk C.left console.old console.new) (H.files shelf.old)
         steps.old steps.new (map string_bytes words.now) }
@@ -142,6 +145,7 @@ pub fn ceptre<C: Console, H: Shelf, L: Ledger>(
     one_request();
     one_due();
     dialogues_are_there();
+    dialogues_in_rounds_are_there();
     clean_parts_are_a_program();
     legal_logs_can_be_played();
     interactive_logs_are_answered();

@@ -1,6 +1,7 @@
-//! The whole command over any console and shelf: reads a program's text, plays it with a person
-//! or checks a transcript against it, or runs a generated world, and answers the status that the
-//! process ends with. A module for each command, and a file of definitions for what is due of it.
+//! The whole command over any console and shelf: reads a program's text, plays it with a person, or
+//! with several in rounds, or checks a transcript against it, or runs a generated world, and answers
+//! the status that the process ends with. A module for each command, and a file of definitions for
+//! what is due of it.
 #![tactic(auto)]
 
 mod again;

@@ -17,7 +17,7 @@ use std::alloc::{AllocError, Global};
 use std::sync::ledger::Ledger;
 
 const USAGE: &[u8] =
-    b"usage: play FILE [seed=N] [height=N] [turns=N] | check FILE LOG | world N [seed=N] [height=N] [turns=N] | renew FILE LOG | cause FILE LOG | again FILE LOG [seed=N] | weigh FILE KEEPS | dead FILE\n";
+    b"usage: play FILE [seed=N] [height=N] [turns=N] | check FILE LOG | world N [seed=N] [height=N] [turns=N] | renew FILE LOG | cause FILE LOG | again FILE LOG [seed=N] | rounds FILE players=N [seed=N] [height=N] [turns=N] | weigh FILE KEEPS | dead FILE\n";
 
 /// What words come to.
 #[derive(Drop)]

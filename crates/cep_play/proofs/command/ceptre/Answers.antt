@@ -24,7 +24,7 @@ returns-in-Ok-clause-begun_or_silent g c = λ nine. absurd (no_fault c.in-Ok.ens
 
 pub returns-in-Ok-clause-due : goal.returns-in-Ok-clause-due
 returns-in-Ok-clause-due g c =
-    tells_what_is_due c.one_request.ensures c.dialogues_are_there.ensures (λ text program spells. c.clean_parts_are_a_program.ensures.program spells.source program spells.clean spells.bound spells.declared spells.grounded)
+    tells_what_is_due c.one_request.ensures c.dialogues_are_there.ensures c.dialogues_in_rounds_are_there.ensures (λ text program spells. c.clean_parts_are_a_program.ensures.program spells.source program spells.clean spells.bound spells.declared spells.grounded)
     (λ text program spells.
     let kept = c.clean_parts_are_a_program.ensures.program spells.source program spells.clean spells.bound spells.declared spells.grounded in
     record {
@@ -64,7 +64,7 @@ returns-in-Err-Failed-clause-asked g c = λ _. (rw c.in-Err-Failed.field-0-is at
 
 pub returns-in-Err-Failed-clause-due : goal.returns-in-Err-Failed-clause-due
 returns-in-Err-Failed-clause-due g c = λ request ask.
-    tells_anyway c.one_request.ensures c.dialogues_are_there.ensures (λ text program spells. c.clean_parts_are_a_program.ensures.program spells.source program spells.clean spells.bound spells.declared spells.grounded)
+    tells_anyway c.one_request.ensures c.dialogues_are_there.ensures c.dialogues_in_rounds_are_there.ensures (λ text program spells. c.clean_parts_are_a_program.ensures.program spells.source program spells.clean spells.bound spells.declared spells.grounded)
     (λ text program spells.
     let kept = c.clean_parts_are_a_program.ensures.program spells.source program spells.clean spells.bound spells.declared spells.grounded in
     record {
@@ -73,7 +73,7 @@ returns-in-Err-Failed-clause-due g c = λ request ask.
       logs = λ bytes one other. c.one_log.ensures.once program bytes one other kept;
       answers = c.one_reordering_by_a_seed.ensures program;
     })
-    (map string_bytes c.args.words.now) (loaded g.H.Shelf.files g.H.Shelf.asked g.H.Shelf.faults c.args.shelf.now c.command.new.shelf) (g.C.Console.left c.args.console.now) request 6 (0, lit< tt, refl)
+    (map string_bytes c.args.words.now) (loaded g.H.Shelf.files g.H.Shelf.asked g.H.Shelf.faults c.args.shelf.now c.command.new.shelf) (g.C.Console.left c.args.console.now) request 6 ask (0, lit< tt, refl)
 
 pub returns-in-Err-Failed-clause-no_other : goal.returns-in-Err-Failed-clause-no_other
 returns-in-Err-Failed-clause-no_other g c = (6, lit< tt, refl)
@@ -95,7 +95,7 @@ returns-in-Err-Memory-clause-asked_at_most g c = λ _.
 
 pub returns-in-Err-Memory-clause-due : goal.returns-in-Err-Memory-clause-due
 returns-in-Err-Memory-clause-due g c = λ request ask.
-    tells_anyway c.one_request.ensures c.dialogues_are_there.ensures (λ text program spells. c.clean_parts_are_a_program.ensures.program spells.source program spells.clean spells.bound spells.declared spells.grounded)
+    tells_anyway c.one_request.ensures c.dialogues_are_there.ensures c.dialogues_in_rounds_are_there.ensures (λ text program spells. c.clean_parts_are_a_program.ensures.program spells.source program spells.clean spells.bound spells.declared spells.grounded)
     (λ text program spells.
     let kept = c.clean_parts_are_a_program.ensures.program spells.source program spells.clean spells.bound spells.declared spells.grounded in
     record {
@@ -104,7 +104,7 @@ returns-in-Err-Memory-clause-due g c = λ request ask.
       logs = λ bytes one other. c.one_log.ensures.once program bytes one other kept;
       answers = c.one_reordering_by_a_seed.ensures program;
     })
-    (map string_bytes c.args.words.now) (loaded g.H.Shelf.files g.H.Shelf.asked g.H.Shelf.faults c.args.shelf.now c.command.new.shelf) (g.C.Console.left c.args.console.now) request 9 (1, lit< tt, refl)
+    (map string_bytes c.args.words.now) (loaded g.H.Shelf.files g.H.Shelf.asked g.H.Shelf.faults c.args.shelf.now c.command.new.shelf) (g.C.Console.left c.args.console.now) request 9 ask (1, lit< tt, refl)
 
 pub returns-in-Err-Memory-clause-no_other : goal.returns-in-Err-Memory-clause-no_other
 returns-in-Err-Memory-clause-no_other g c = (8, lit< tt, refl)

@@ -5,7 +5,7 @@ use Rattle.cep_base.proofs.Outcomes.{on_err}
 use Rattle.cep_words.specs.Words.{Play}
 use Rattle.cep_play.specs.Exchange.{talked, loaded, Went}
 use Rattle.cep_play.specs.Command.{settings_of}
-use Rattle.cep_play.specs.Outcome.{report_of, IsRunSaid}
+use Rattle.cep_play.specs.Outcome.{report_of, IsPlaySaid}
 use Rattle.cep_play.proofs.Done.{report_done, dialogue_done}
 use Rattle.cep_play.proofs.Begins.{cut_off, out_of_memory, report_begun, dialogue_begun}
 use Rattle.cep_play.proofs.command.command.Goals as goal
@@ -27,27 +27,27 @@ returns-in-Report-clause-cut_short g c =
       is.as_said,
     )) c.put.ensures.begun)
 
-pub returns-in_ok-tally-in-Dialogue-clause-done : goal.returns-in_ok-tally-in-Dialogue-clause-done
-returns-in_ok-tally-in-Dialogue-clause-done g c =
+pub returns-in_ok-word-in-Dialogue-clause-done : goal.returns-in_ok-word-in-Dialogue-clause-done
+returns-in_ok-word-in-Dialogue-clause-done g c =
     let is = rw c.in-Dialogue.is at c.in_ok-report.ensures.replied in
     let program = c.in-Dialogue.program in
     let options = c.in-Dialogue.options in
-    let tally = c.in_ok-tally-in-Dialogue.tally in
-    let talk = talked g.C.Console.talk g.C.Console.left c.args.console.now c.run.new.console in
-    dialogue_done (map string_bytes c.args.words.now) talk (loaded g.H.Shelf.files g.H.Shelf.asked g.H.Shelf.faults c.args.shelf.now c.reply_to.new.shelf) c.args.steps.now c.run.new.steps c.one_request.ensures program options tally _ (c.code.ensures ∙ c.of_run.ensures) is.0
-    (subst (λ ticks. Went talk (IsRunSaid program (settings_of program options) ticks c.run.new.steps tally)) is.1 c.in_ok-tally-in-Dialogue.ensures.said)
+    let word = c.in_ok-word-in-Dialogue.word in
+    let talk = talked g.C.Console.talk g.C.Console.left c.args.console.now c.dialogue.new.console in
+    dialogue_done (map string_bytes c.args.words.now) talk (loaded g.H.Shelf.files g.H.Shelf.asked g.H.Shelf.faults c.args.shelf.now c.reply_to.new.shelf) c.args.steps.now c.dialogue.new.steps c.one_request.ensures program options word _ (c.code.ensures ∙ c.of_run.ensures) is.0
+    (subst (λ ticks. Went talk (IsPlaySaid options.players program (settings_of program options) ticks c.dialogue.new.steps word)) is.1 c.in_ok-word-in-Dialogue.ensures.said)
 
-pub returns-in_err-tally-in-Dialogue-clause-cut_short : goal.returns-in_err-tally-in-Dialogue-clause-cut_short
-returns-in_err-tally-in-Dialogue-clause-cut_short g c =
+pub returns-in_err-word-in-Dialogue-clause-cut_short : goal.returns-in_err-word-in-Dialogue-clause-cut_short
+returns-in_err-word-in-Dialogue-clause-cut_short g c =
     let is = (rw c.in-Dialogue.is at c.in_ok-report.ensures.replied).0 in
-    cut_off c.from_residual-in_err-tally-in-Dialogue.result _ _ (on_err c.from_residual-in_err-tally-in-Dialogue.result _ (
-      dialogue_begun (map string_bytes c.args.words.now) (talked g.C.Console.talk g.C.Console.left c.args.console.now c.run.new.console)
-          (loaded g.H.Shelf.files g.H.Shelf.asked g.H.Shelf.faults c.args.shelf.now c.reply_to.new.shelf) c.in-Dialogue.program c.in-Dialogue.options is c.in_err-tally-in-Dialogue.ensures.begun,
+    cut_off c.from_residual-in_err-word-in-Dialogue.result _ _ (on_err c.from_residual-in_err-word-in-Dialogue.result _ (
+      dialogue_begun (map string_bytes c.args.words.now) (talked g.C.Console.talk g.C.Console.left c.args.console.now c.dialogue.new.console)
+          (loaded g.H.Shelf.files g.H.Shelf.asked g.H.Shelf.faults c.args.shelf.now c.reply_to.new.shelf) c.in-Dialogue.program c.in-Dialogue.options is c.in_err-word-in-Dialogue.ensures.begun,
       inl (Play is.file c.in-Dialogue.options, is.ask, is.asked),
     ))
 
 pub returns-in_err-report-clause-cut_short : goal.returns-in_err-report-clause-cut_short
 returns-in_err-report-clause-cut_short g c = out_of_memory c.from_residual.result _ _ _ c.from_residual.ensures.1 (refl, c.in_err-report.ensures.asked)
 
-pub run-requires : goal.run-requires
-run-requires g c = record { within = (rw c.in-Dialogue.is at c.in_ok-report.ensures.replied).0.ask.2.0 }
+pub dialogue-requires : goal.dialogue-requires
+dialogue-requires g c = record { within = (rw c.in-Dialogue.is at c.in_ok-report.ensures.replied).0.ask.2.0 }
