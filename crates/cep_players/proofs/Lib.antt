@@ -2,7 +2,6 @@ pub mod RunDeeds
 pub mod Remarks
 pub mod Told
 pub mod Prefixes
-pub mod OnePlayer
 pub mod BlockedLines
 pub mod AllPlayers
 pub mod Contained
