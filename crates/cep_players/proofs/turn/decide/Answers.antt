@@ -1,46 +1,36 @@
+use Rattle.std.proofs.Common.{◌<◌}
 use Rattle.std.proofs.lemmas.Result.{IfOk-weaker, on_err_weaker}
-use Rattle.cep_rule.specs.Matching.{offers_of}
 use Rattle.cep_base.proofs.Did.{did_map, did_then}
 use Rattle.cep_base.proofs.Outcomes.{on_err}
-use Rattle.cep_run.specs.declared.choice.Choice.TheVariants.{Place}
 use Rattle.cep_run.proofs.Settling as settling
-use Rattle.cep_players.proofs.Turning.{player_settles, asking_refused, others, unasked_settles, offers_refused}
+use Rattle.cep_players.proofs.Turning.{player_settles, asking_refused, unasked_settles, offers_refused}
 use Rattle.cep_players.proofs.turn.decide.Goals as goal
 
 pub returns-then-asked-clause-settled : goal.returns-then-asked-clause-settled
 returns-then-asked-clause-settled g c =
-    let offers = offers_of (g.M.Matcher.offers_held c.args.config.now.matcher) c.args.group in
     let many = rw c.matcher-matcher.ensures.matcher at c.count-offers.ensures in
-    let settles = player_settles c.args.program.now c.args.seed c.args.config.now.stage c.args.group offers c.args.spent.now c.is_players-asked.result (rw (c.stage.ensures, many) at c.is_players-asked.ensures) c.if-asked.true in
-    IfOk-weaker c.ask.result _ _ (λ choice. did_then g.C.Console.talk g.C.Console.left _ _ _ _ _ _ (settles choice c.ask.new.spent) (rw c.matcher-matcher.ensures.matcher at c.in_ok-tell.ensures.told)) (rw many at c.ask.ensures.heard)
+    let iff = rw (c.stage.ensures, many) at c.is_players-asked.ensures in
+    IfOk-weaker c.ask.result _ _ (λ choice. did_then g.C.Console.talk g.C.Console.left _ _ _ _ _ _ (player_settles c.args.spent.now _ iff c.if-asked.true choice c.ask.new.spent) (rw c.matcher-matcher.ensures.matcher at c.in_ok-tell.ensures.told)) (rw many at c.ask.ensures.heard)
 
 pub returns-then-asked-clause-spent : goal.returns-then-asked-clause-spent
 returns-then-asked-clause-spent g c = rw c.ask.ensures.spent (settling.player_spends c.args.seed c.args.config.now.turns c.args.spent.now c.ask.new.spent.taken c.requires.spent c.ask.ensures.within)
 
 pub returns-then-asked-clause-begun : goal.returns-then-asked-clause-begun
 returns-then-asked-clause-begun g c =
-    let offers = offers_of (g.M.Matcher.offers_held c.args.config.now.matcher) c.args.group in
     let many = rw c.matcher-matcher.ensures.matcher at c.count-offers.ensures in
-    let refused = asking_refused c.args.program.now c.args.seed c.args.config.now.stage c.args.group offers c.args.spent.now c.is_players-asked.result (rw (c.stage.ensures, many) at c.is_players-asked.ensures) c.if-asked.true in
-    on_err_weaker c.ask.result (did_then g.C.Console.talk g.C.Console.left _ _ _ _ _ _ refused (rw c.matcher-matcher.ensures.matcher at c.in_ok-tell.ensures.told)) (rw many at c.ask.ensures.begun)
+    let iff = rw (c.stage.ensures, many) at c.is_players-asked.ensures in
+    on_err_weaker c.ask.result (did_then g.C.Console.talk g.C.Console.left _ _ _ _ _ _ (asking_refused c.args.spent.now _ iff c.if-asked.true) (rw c.matcher-matcher.ensures.matcher at c.in_ok-tell.ensures.told)) (rw many at c.ask.ensures.begun)
 
 pub returns-in_err-tell-clause-begun : goal.returns-in_err-tell-clause-begun
 returns-in_err-tell-clause-begun g c =
-    let offers = offers_of (g.M.Matcher.offers_held c.args.config.now.matcher) c.args.group in
     let iff = rw (c.stage.ensures, rw c.matcher-matcher.ensures.matcher at c.count-offers.ensures) at c.is_players-asked.ensures in
-    let refused = offers_refused c.args.program.now c.args.seed c.args.config.now.stage c.args.group offers c.args.spent.now c.is_players-asked.result iff c.players_are_lawful.ensures.heard c.requires.some in
-    on_err c.from_residual.result _ (did_map g.C.Console.talk g.C.Console.left _ _ _ _ refused (rw c.matcher-matcher.ensures.matcher at c.in_err-tell.ensures.begun))
+    on_err c.from_residual.result _ (did_map g.C.Console.talk g.C.Console.left _ _ _ _ (offers_refused c.args.spent.now _ iff c.players_are_lawful.ensures.heard c.requires.some) (rw c.matcher-matcher.ensures.matcher at c.in_err-tell.ensures.begun))
 
 pub returns-clause-settled : goal.returns-clause-settled
 returns-clause-settled g c =
-    let offers = offers_of (g.M.Matcher.offers_held c.args.config.now.matcher) c.args.group in
     let many = rw c.matcher-matcher.ensures.matcher at c.count-offers.ensures in
-    let iff = rw (c.stage.ensures, many) at c.is_players-asked.ensures in
-    let nobody = others c.args.program.now c.args.seed c.args.config.now.stage c.args.group offers c.args.spent.now c.is_players-asked.result iff c.if-asked.false in
-    let settles = settling.unasked_settles c.args.program.now c.args.seed c.args.config.now.stage c.args.group offers c.args.spent.now c.place.new.self c.place.result c.count-offers.result c.args.config.now.turns many (rw many c.requires.some) c.requires.spent c.place.ensures.lone c.place.ensures.drawn nobody in
-    did_map g.C.Console.talk g.C.Console.left _ _ _ _
-    (λ come events rest told. unasked_settles c.args.program.now c.args.seed c.args.config.now.stage c.args.group offers c.args.spent.now c.is_players-asked.result iff c.if-asked.false (Place c.place.result) c.place.new.self come events rest (settles come events rest told))
-    (rw c.matcher-matcher.ensures.matcher at c.in_ok-tell.ensures.told)
+    let settles = unasked_settles c.args.spent.now _ (rw (c.stage.ensures, many) at c.is_players-asked.ensures) c.if-asked.false c.args.config.now.turns c.place.result _ c.place.new.self many (rw many c.requires.some) c.requires.spent c.place.ensures.lone c.place.ensures.drawn in
+    did_map g.C.Console.talk g.C.Console.left _ _ _ _ settles (rw c.matcher-matcher.ensures.matcher at c.in_ok-tell.ensures.told)
 
 pub returns-clause-spent : goal.returns-clause-spent
 returns-clause-spent g c =
