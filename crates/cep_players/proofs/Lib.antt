@@ -8,8 +8,6 @@ pub mod Contained
 pub mod RoundSteps
 pub mod RoundsThere
 pub mod OffersDone
-pub mod Turning
-pub mod Rounding
-pub mod Whole
+pub mod Going
 pub mod Together
 pub mod OneInRounds

@@ -3,7 +3,7 @@ use Rattle.cep_base.proofs.Did.{did_same, did_map, did_then}
 use Rattle.cep_base.proofs.Outcomes.{on_err}
 use Rattle.cep_run.specs.Turn.{position_of}
 use Rattle.cep_run.proofs.Settling.{nothing_spent}
-use Rattle.cep_players.proofs.Whole.{spent_within, no_parts, parts_then, parts_end, parts_refused}
+use Rattle.cep_players.proofs.Going.{spent_within, no_parts, parts_then, parts_end, parts_refused}
 use Rattle.cep_players.proofs.dialogue.all_parts.Goals as goal
 
 pub loop-next-init : goal.loop-next-init

@@ -4,7 +4,7 @@ use Rattle.cep_lines.specs.Lines.{header}
 use Rattle.cep_run.specs.Turn.{position_of}
 use Rattle.cep_run.proofs.Fronts.{did_nothing}
 use Rattle.cep_run.proofs.Runs.{started_at}
-use Rattle.cep_players.proofs.Whole.{header_refused, run_refused, played_out, dialogue_said, end_refused}
+use Rattle.cep_players.proofs.Going.{header_refused, run_refused, played_out, dialogue_said, end_refused}
 use Rattle.cep_players.proofs.dialogue.dialogue.Goals as goal
 
 pub all_parts-requires-clause-played : goal.all_parts-requires-clause-played

@@ -1,6 +1,6 @@
 use Rattle.std.proofs.Common.{◌≡◌, refl, arith}
 use Rattle.cep_run.specs.Run.{quiet_end, turns_end}
-use Rattle.cep_players.proofs.Whole.{ends_before, offered_here, crowds_here}
+use Rattle.cep_players.proofs.Going.{ends_before, offered_here, crowds_here}
 use Rattle.cep_players.proofs.dialogue.part.Goals as goal
 
 pub returns-in_default-clause-went : goal.returns-in_default-clause-went

@@ -13,7 +13,7 @@ use Rattle.cep_run.proofs.Counting.{both_ok}
 use Rattle.cep_run.proofs.StepLines.{applied_has_text}
 use Rattle.cep_run.proofs.Turns.{offers_have_texts}
 use Rattle.cep_players.proofs.OffersDone.{as_many_flags}
-use Rattle.cep_players.proofs.Rounding.{listing_refused, choosing_refused, round_cut, admitting_refused, did_ask, did_tell_some, acting_refused, round_acted}
+use Rattle.cep_players.proofs.Going.{listing_refused, choosing_refused, round_cut, admitting_refused, did_ask, did_tell_some, acting_refused, round_acted}
 use Rattle.cep_players.proofs.round.round.Goals as goal
 
 -- what applies within a height applies within a greater one

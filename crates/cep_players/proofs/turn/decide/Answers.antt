@@ -3,7 +3,7 @@ use Rattle.std.proofs.lemmas.Result.{IfOk-weaker, on_err_weaker}
 use Rattle.cep_base.proofs.Did.{did_map, did_then}
 use Rattle.cep_base.proofs.Outcomes.{on_err}
 use Rattle.cep_run.proofs.Settling as settling
-use Rattle.cep_players.proofs.Turning.{player_settles, asking_refused, unasked_settles, offers_refused}
+use Rattle.cep_players.proofs.Going.{player_settles, asking_refused, unasked_settles, offers_refused}
 use Rattle.cep_players.proofs.turn.decide.Goals as goal
 
 pub returns-then-asked-clause-settled : goal.returns-then-asked-clause-settled

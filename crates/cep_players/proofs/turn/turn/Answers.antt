@@ -10,7 +10,7 @@ use Rattle.cep_run.specs.Choice.{IsChoiceWithin}
 use Rattle.cep_run.specs.Run.{input_end, typed_end}
 use Rattle.cep_run.specs.Turn.{position_of}
 use Rattle.cep_run.proofs.Turns.{offers_have_texts}
-use Rattle.cep_players.proofs.Turning.{some_offers, not_chosen, turn_acted, decision_refused, act_refused}
+use Rattle.cep_players.proofs.Going.{some_offers, not_chosen, turn_acted, decision_refused, act_refused}
 use Rattle.cep_players.proofs.turn.turn.Goals as goal
 
 -- a place that is chosen comes after one, counted from 0
