@@ -2,15 +2,12 @@ pub mod RunDeeds
 pub mod Remarks
 pub mod Told
 pub mod Prefixes
-pub mod OnePlayer
 pub mod BlockedLines
 pub mod AllPlayers
 pub mod Contained
 pub mod RoundSteps
 pub mod RoundsThere
 pub mod OffersDone
-pub mod Turning
-pub mod Rounding
-pub mod Whole
+pub mod Going
 pub mod Together
 pub mod OneInRounds
