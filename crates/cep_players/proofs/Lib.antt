@@ -1,12 +1,11 @@
 pub mod RunDeeds
-pub mod Remarks
-pub mod Told
 pub mod Prefixes
 pub mod OnePlayer
 pub mod BlockedLines
 pub mod AllPlayers
 pub mod Contained
 pub mod RoundSteps
+pub mod Told
 pub mod RoundsThere
 pub mod OffersDone
 pub mod Turning
