@@ -1,9 +1,7 @@
-pub mod RunDeeds
 pub mod Prefixes
 pub mod OnePlayer
 pub mod BlockedLines
 pub mod AllPlayers
-pub mod Contained
 pub mod RoundSteps
 pub mod Told
 pub mod RoundsThere
@@ -11,5 +9,4 @@ pub mod OffersDone
 pub mod Turning
 pub mod Rounding
 pub mod Whole
-pub mod Together
 pub mod OneInRounds
