@@ -45,7 +45,7 @@ use Rattle.cep_players.specs.PlayersLaws.{PlayersLaws}
 use Rattle.cep_players.specs.Runs.{IsForAll, Round, IsListedHere, IsChosenHere, TurnOrRound, a_turn, a_round, AreTurnsAndRounds, EndOfRounds, of_turn, of_player, of_offer, CannotBeDone, EndsInRounds}
 use Rattle.cep_players.specs.Dialogues.{hearing_events, blocked_lines, turn_question_events, round_question_events, round_events, part_events, last_part_events, DialogueInRounds}
 use Rattle.cep_players.specs.Playing.{AllChoose, OneDoesNot, ChooseSome, IsRunInRounds}
-use Rattle.cep_players.proofs.Prefixes.{prefix_of_prefix}
+use Rattle.cep_run.proofs.Fronts.{front_of_front}
 use Rattle.cep_players.proofs.AllPlayers.{none_chose, choose_on}
 use Rattle.cep_players.proofs.RoundSteps.{chosen_are, deeds_states, then_deeds, next_is_offer, order_more, lines_more}
 
@@ -185,7 +185,7 @@ module _ (program : Parts) (settings : Settings) (players : ℕ) where
               | inl (deed, starts, same, lawful) ↦ (
                   let done' = then_deeds program settings players at deeds here (deed ∷ []) deed.after done (starts, lawful, refl) in
                   let on = act_on later (deeds ++ deed ∷ []) deed.after done' (order_more deeds deed offer later (admitted round.chosen round.flags) order same) (omega (arith, lawful.counted, ap (λ (p : Position). p.turns) starts, remain)) in
-                  prefix_of_prefix (IsRunInRounds program settings players at) from (round_events program (so_far deeds)) (outs (lines_of_deed program deed))
+                  front_of_front (IsRunInRounds program settings players at) from (round_events program (so_far deeds)) (outs (lines_of_deed program deed))
                   (rw (lines_more program deeds deed, ← append_assoc (round_question_events program round) (outs (flat_map (lines_of_deed program) deeds)) (outs (lines_of_deed program deed))) at on)
                   )
             ]
@@ -205,7 +205,7 @@ module _ (program : Parts) (settings : Settings) (players : ℕ) where
           let on = act_on at (supply_with come spent) (supply_with rest new) is_state round (record { listed = listed; of_each = all.of_each; heard = all.heard; chosen = all.chosen; flagged = flags.1 }) next (admitted chosen flags.0) [] at refl refl (omega (arith, listed.remain)) in
           let blocked = outs (blocked_lines program 1 chosen flags.0) in
           let lines = outs (offer_lines program 1 offers) in
-          prefix_of_prefix (IsRunInRounds program settings players at) (supply_with come spent) (lines ++ events) blocked
+          front_of_front (IsRunInRounds program settings players at) (supply_with come spent) (lines ++ events) blocked
           (rw (append-nil (round_question_events program round), ← append_assoc lines (hearing_events 1 all.hearings) blocked, ← all.written) at on)
       chosen_on come events rest (inr (word, new, stops)) =
           rw stops.written (ends_here at (supply_with come spent) word (of_player offers stops.hearings stops.last stops.choice) at (supply_with rest new)
@@ -214,7 +214,7 @@ module _ (program : Parts) (settings : Settings) (players : ℕ) where
       -- a prefix of what is heard was heard
       pub hearing_on : (come : List ℕ) (events : List Event) → BeginsSome (ChooseSome players offers spent) come events → Listed come events
       hearing_on come events begun =
-          prefix_of_prefix (IsRunInRounds program settings players at) (supply_with come spent) (outs (offer_lines program 1 offers) ++ events) begun.more
+          front_of_front (IsRunInRounds program settings players at) (supply_with come spent) (outs (offer_lines program 1 offers) ++ events) begun.more
           (rw (append_assoc (outs (offer_lines program 1 offers)) events begun.more) (chosen_on come (events ++ begun.more) begun.left begun.whole))
 
       -- the offers were written
@@ -236,18 +236,18 @@ module _ (program : Parts) (settings : Settings) (players : ℕ) where
     pub question_on : (at : Position) (from : Supply) → IsState program.signature at.spot.state → (question : Question) (to : Supply) → IsQuestion program settings at from question to → (IsForAll program settings.height at → ⊥) → Goes at → Begins at from (turn_question_events program question.offers question.how)
     question_on at from is_state question to asks none next = elim (laws.lead_on program settings at from question to kept is_state asks) [
       | inr out ↦ ends_here at from out.0 (of_turn (Some question)) at to (out.1, none, refl)
-      | inl (turn, is, same) ↦ prefix_of_prefix (IsRunInRounds program settings players at) from (turn_question_events program question.offers question.how) (outs (lines_of_deed program turn.deed)) (rw same at (turn_on at from is_state turn is none next))
+      | inl (turn, is, same) ↦ front_of_front (IsRunInRounds program settings players at) from (turn_question_events program question.offers question.how) (outs (lines_of_deed program turn.deed)) (rw same at (turn_on at from is_state turn is none next))
     ]
 
     -- Whole runs
 
     from_question : (at : Position) (from : Supply) → IsState program.signature at.spot.state → (question : Question) (to : Supply) → IsQuestion program settings at from question to → Goes at → Begins at from []
     from_question at from is_state question to asks next = elim (for_all_or_not program settings.height at question.group asks.asked) [
-      | inr none ↦ prefix_of_prefix (IsRunInRounds program settings players at) from [] (turn_question_events program question.offers question.how) (question_on at from is_state question to asks none next)
+      | inr none ↦ front_of_front (IsRunInRounds program settings players at) from [] (turn_question_events program question.offers question.how) (question_on at from is_state question to asks none next)
       | inl (all, own) ↦ (
           let spent : Spent = record { taken = from.taken; drawn = from.drawn; draw = generator_behind 0 0 } in
           let listed : IsListedHere program settings at question.offers = record { remain = asks.remain; for_all = all; offered = rw own at asks.offered; few = asks.few } in
-          prefix_of_prefix (IsRunInRounds program settings players at) from [] (outs (offer_lines program 1 question.offers)) (listed_on at spent is_state question.offers listed next from.come)
+          front_of_front (IsRunInRounds program settings players at) from [] (outs (offer_lines program 1 question.offers)) (listed_on at spent is_state question.offers listed next from.come)
           )
     ]
 

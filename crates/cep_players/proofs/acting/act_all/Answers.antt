@@ -8,7 +8,7 @@ use Rattle.cep_players.proofs.acting.act_all.Goals as goal
 use Rattle.cep_players.proofs.acting.act_all.Goals.{then-get+in_ok-next+in-Done, else-get}
 
 pub get-requires : goal.get-requires
-get-requires g c = let same = as_many_flags c.args.program.now c.args.start.state _ c.args.chosen.now c.args.flags.now c.requires.flagged in omega arith
+get-requires g c = omega (arith, as_many_flags c.args.program.now c.args.start.state _ c.args.chosen.now c.args.flags.now c.requires.flagged)
 
 pub loop-i-init : goal.loop-i-init
 loop-i-init g c = record { played = c.requires.played; gone = gone_nowhere g.C.Console.talk g.C.Console.left c.args.program.now c.args.settings c.args.chosen.now c.args.flags.now c.args.start c.args.console.now c.requires.turns; risen = omega arith; calm = refl }

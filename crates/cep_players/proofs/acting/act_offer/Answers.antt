@@ -6,9 +6,6 @@ use Rattle.cep_rule.specs.Matching.{offers_of}
 use Rattle.cep_players.proofs.OffersDone.{asked_are_own, acts_begin, offer_acted, offer_moved, both_ok, there_in, turns_over}
 use Rattle.cep_players.proofs.acting.act_offer.Goals as goal
 
-pub place_in-place-requires-clause-listed : goal.place_in-place-requires-clause-listed
-place_in-place-requires-clause-listed g c = rw c.matcher.ensures.matcher (omega (arith, c.matcher.ensures.listed, c.requires.own))
-
 pub place_in-place-requires-clause-there : goal.place_in-place-requires-clause-there
 place_in-place-requires-clause-there g c =
     let matcher = c.args.config.matcher in
@@ -17,9 +14,6 @@ place_in-place-requires-clause-there g c =
 
 pub act-requires-clause-asked : goal.act-requires-clause-asked
 act-requires-clause-asked g c = asked_are_own (g.M.Matcher.offers_held c.args.config.matcher) c.args.config.stage c.args.group c.place_in-place.result c.args.offer.now c.requires.own (rw c.matcher.ensures.matcher at c.place_in-place.ensures)
-
-pub act-requires-clause-within : goal.act-requires-clause-within
-act-requires-clause-within g c = slice_get_within (offers_of (g.M.Matcher.offers_held c.args.config.matcher) c.args.group) c.place_in-place.result c.args.offer.now (rw c.matcher.ensures.matcher at c.place_in-place.ensures)
 
 pub returns-clause-begun : goal.returns-clause-begun
 returns-clause-begun g c =
@@ -45,6 +39,3 @@ returns-clause-moved g c =
 pub returns-then-turns-limit-clause-acted : goal.returns-then-turns-limit-clause-acted
 returns-then-turns-limit-clause-acted g c =
     rw c.over.ensures (turns_over g.C.Console.talk g.C.Console.left c.args.console.now c.args.program.now c.args.settings c.args.offer.now c.args.config c.args.group c.requires.offer (omega (arith, c.if-turns-limit.true, c.requires.turns, c.turns.ensures)))
-
-pub returns-then-turns-limit-clause-moved : goal.returns-then-turns-limit-clause-moved
-returns-then-turns-limit-clause-moved g c = rw c.over.ensures refl
