@@ -157,9 +157,7 @@ module _ (one_list : (program : Parts) (height : ℕ) (state : Multiset) (group 
   listed_or_ends : (at : Position) (from : Supply) (group : ℕ) (offers : List Offer) {word : EndWord} {to : Supply} → at.turns < settings.limit → IsAsked program settings.height at.spot.state at.spot.stage group → AreOffers program settings.height at.spot.state group offers → length offers ≤ MOST_OFFERS → EndsAt program settings at from word None to → ⊥
   listed_or_ends at from group offers remain asked are few (quiet_end is left) = grind arith
   listed_or_ends at from group offers remain asked are few (turns_end asked' done left) = omega (arith, remain, done)
-  listed_or_ends at from group offers remain asked are few (offers_end {group = group'} {offers = offers'} remain' asked' are' many left) =
-      let same = one_list program settings.height at.spot.state group offers offers' are (rw (one_group at group group' asked asked') are') in
-      omega (arith, many, few, ap length same)
+  listed_or_ends at from group offers remain asked are few (offers_end {group = group'} {offers = offers'} remain' asked' are' many left) = grind (arith, one_list program settings.height at.spot.state group offers offers' are)
 
   module _ (at : Position) (from : Supply) (turn : Turn) (is : IsTurn program settings at from turn) where
     turn_or_passes : (question : Question) (to : Supply) (offer : Offer) (rule : Rule) (passed : Limit) → IsQuestion program settings at from question to → IsChosen program question offer rule → Passes program.signature rule offer.values at.spot.state passed → ⊥

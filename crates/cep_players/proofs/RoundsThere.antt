@@ -58,13 +58,7 @@ interactive_or_not stage = grind arith
 
 -- whether all choose at once, where a group is asked
 for_all_or_not : (program : Parts) (height : ℕ) (at : Position) (group : ℕ) → IsAsked program height at.spot.state at.spot.stage group → (IsForAll program height at × (group ≡ own_group at.spot.stage)) ⊎ (IsForAll program height at → ⊥)
-for_all_or_not program height at group asked = elim (cases_eq group (own_group at.spot.stage)) [
-  | inr other ↦ inr (λ all. other (one_group program height at group all.asked asked))
-  | inl own ↦ elim (interactive_or_not (slice_get program.stages at.spot.stage)) [
-    | inr idle ↦ inr (λ all. idle all.interactive)
-    | inl interactive ↦ inl (record { interactive = interactive; asked = rw own at asked }, own)
-  ]
-]
+for_all_or_not program height at group asked = grind (arith, one_group program height at group, interactive_or_not (slice_get program.stages at.spot.stage))
 
 -- a limit that is passed is a reason for which an offer cannot be done
 pub passes_stops : (program : Parts) (most : ℕ) (at : Position) (rule : Rule) (offer : Offer) (passed : Limit) → at.turns < most → Passes program.signature rule offer.values at.spot.state passed → CannotBeDone program most at rule offer.values (limit_word passed)
