@@ -150,9 +150,6 @@ module _ (one_list : (program : Parts) (height : ℕ) (state : Multiset) (group 
 
   -- Turns and ends as for one player
 
-  one_group : (at : Position) (group group' : ℕ) → IsAsked program settings.height at.spot.state at.spot.stage group → IsAsked program settings.height at.spot.state at.spot.stage group' → group ≡ group'
-  one_group at group group' asked asked' = grind arith
-
   -- where turns remain and offers are listed, no run ends without a question
   listed_or_ends : (at : Position) (from : Supply) (group : ℕ) (offers : List Offer) {word : EndWord} {to : Supply} → at.turns < settings.limit → IsAsked program settings.height at.spot.state at.spot.stage group → AreOffers program settings.height at.spot.state group offers → length offers ≤ MOST_OFFERS → EndsAt program settings at from word None to → ⊥
   listed_or_ends at from group offers remain asked are few (quiet_end is left) = grind arith
@@ -163,9 +160,7 @@ module _ (one_list : (program : Parts) (height : ℕ) (state : Multiset) (group 
     turn_or_passes : (question : Question) (to : Supply) (offer : Offer) (rule : Rule) (passed : Limit) → IsQuestion program settings at from question to → IsChosen program question offer rule → Passes program.signature rule offer.values at.spot.state passed → ⊥
     turn_or_passes question to offer rule passed asks chosen passes =
         let one : question ≡ turn.question = (one_question at from question turn.question to turn.left asks is.asks).0 in
-        let next : chosen.place + 1 ≡ is.chosen.place + 1 = cc (one, is.chosen.chosen, chosen.chosen) in
-        let places : chosen.place ≡ is.chosen.place = omega (arith, next) in
-        let same : offer ≡ turn.deed.offer = cc (one, places, chosen.at_place, is.chosen.at_place) in
+        let same : offer ≡ turn.deed.offer = grind (arith, one, chosen.chosen, is.chosen.chosen, chosen.at_place, is.chosen.at_place) in
         done_or_passes turn.deed at rule passed is.here is.does (rw same at chosen.of_rule) (rw same at passes)
 
     turn_or_end : {word : EndWord} {asked : Option Question} {to : Supply} → EndsAt program settings at from word asked to → ⊥

@@ -58,9 +58,7 @@ module _ (program : Parts) (settings : Settings) (players : ℕ) where
   parts_deeds at from (a_round round here left ∷ parts) last to done = then_deeds at round.deeds here (all_done parts) last done.0.done (parts_deeds here left parts last to done.1)
 
   end_deeds : (at : Position) (from : Supply) (word : EndWord) (end : EndOfRounds) (last : Position) (to : Supply) → EndsInRounds program settings players at from word end last to → AreDeeds program settings.height at (done_before end) last
-  end_deeds at from word (of_turn asked) last to ends = ends.2
-  end_deeds at from word (of_player offers hearings events choice) last to ends = ends.2
-  end_deeds at from word (of_offer round) last to ends = ends.1.done
+  end_deeds at from word end last to ends = grind arith
 
   pub run_deeds : (at : Position) (from : Supply) (parts : List TurnOrRound) (end : EndOfRounds) (word : EndWord) (last : Position) (to : Supply) → RunsInRounds program settings players at from parts end word last to → AreDeeds program settings.height at (all_done parts ++ done_before end) last
   run_deeds at from parts end word last to run = then_deeds at (all_done parts) run.here (done_before end) last (parts_deeds at from parts run.here run.between run.done) (end_deeds run.here run.between word end last to run.ends)

@@ -49,21 +49,16 @@ use Rattle.cep_run.proofs.Fronts.{front_of_front}
 use Rattle.cep_players.proofs.AllPlayers.{none_chose, choose_on}
 use Rattle.cep_players.proofs.RoundSteps.{chosen_are, deeds_states, then_deeds, next_is_offer, order_more, lines_more}
 
--- a stage asks one group
-one_group : (program : Parts) (height : ℕ) (at : Position) (group : ℕ) → IsAsked program height at.spot.state at.spot.stage (own_group at.spot.stage) → IsAsked program height at.spot.state at.spot.stage group → group ≡ own_group at.spot.stage
-one_group program height at group own asked = grind arith
-
 interactive_or_not : (stage : Option Stage) → IsSomeAnd stage (λ it. it.interactive ≡ true) ⊎ (IsSomeAnd stage (λ it. it.interactive ≡ true) → ⊥)
 interactive_or_not stage = grind arith
 
 -- whether all choose at once, where a group is asked
 for_all_or_not : (program : Parts) (height : ℕ) (at : Position) (group : ℕ) → IsAsked program height at.spot.state at.spot.stage group → (IsForAll program height at × (group ≡ own_group at.spot.stage)) ⊎ (IsForAll program height at → ⊥)
-for_all_or_not program height at group asked = grind (arith, one_group program height at group, interactive_or_not (slice_get program.stages at.spot.stage))
+for_all_or_not program height at group asked = grind (arith, interactive_or_not (slice_get program.stages at.spot.stage))
 
 -- a limit that is passed is a reason for which an offer cannot be done
 pub passes_stops : (program : Parts) (most : ℕ) (at : Position) (rule : Rule) (offer : Offer) (passed : Limit) → at.turns < most → Passes program.signature rule offer.values at.spot.state passed → CannotBeDone program most at rule offer.values (limit_word passed)
-passes_stops program most at rule offer limit.Atom remain passes = (remain, passes)
-passes_stops program most at rule offer limit.State remain passes = (remain, passes)
+passes_stops program most at rule offer passed remain passes = grind arith
 
 -- the last question is one that is asked
 pub asked_at : (program : Parts) (settings : Settings) (at : Position) (from : Supply) {word : EndWord} {question : Question} {to : Supply} → EndsAt program settings at from word (Some question) to → IsQuestion program settings at from question to
@@ -76,10 +71,7 @@ at_most_or_not n m = grind arith
 
 all_or_not : {A : Type 0} (P : A → Type 0) → ((x : A) → P x ⊎ (P x → ⊥)) → (xs : List A) → AllByRecursion P xs ⊎ (AllByRecursion P xs → ⊥)
 all_or_not P decide [] = inl tt
-all_or_not P decide (x ∷ xs) = elim (decide x) [
-  | inr fails ↦ inr (λ all. fails all.0)
-  | inl here ↦ elim (all_or_not P decide xs) [ inl all ↦ inl (here, all) | inr fails ↦ inr (λ all. fails all.1) ]
-]
+all_or_not P decide (x ∷ xs) = grind (arith, decide x, all_or_not P decide xs)
 
 contained_or_not : BagLaws → (few many : Multiset) → IsContained few many ⊎ (IsContained few many → ⊥)
 contained_or_not laws few many = elim (all_or_not (λ (e : AtomTree × ℕ). e.1 ≤ count_of many e.0) (λ e. at_most_or_not e.1 (count_of many e.0)) (finite.entries few)) [
