@@ -39,20 +39,12 @@ use Rattle.cep_players.proofs.RoundsThere.{passes_stops}
 
 -- offers that are there are those that are asked
 pub asked_are_own : (lists : List (List Offer)) (stage group : ℕ) (place : ℕ) (offer : Offer) → group ≡ own_group stage → slice_get (offers_of lists group) place ≡ Some offer → offers_of lists group ≡ asked_offers lists stage
-asked_are_own lists stage group place offer own there = rw (← own) (by (offers_of lists group) _ there)
-  where
-    by : (xs others : List Offer) → slice_get xs place ≡ Some offer → xs ≡ unless_none xs others
-    by [] others got = absurd cc
-    by (x ∷ xs) others got = refl
+asked_are_own lists stage group place offer own there = grind arith
 
 module _ {M : Type 0} (program : Parts) (settings : Settings) (kept : IsProgram program) (offer : Offer) (config : Configuration M) (group : ℕ) (own : group ≡ own_group config.stage) (is : IsOffer program settings.height config.state group offer) (offers : List Offer) (place : ℕ) (there : slice_get offers place ≡ Some offer) (remain : config.turns < settings.limit) where
   -- what stands at the place is the offer, and its rule is of the stage
   found : (other : Offer) (rule : Rule) → IsPlaced program offers place other rule → (other ≡ offer) × (is.applies.rule ≡ rule) × (rule.group ≡ own_group config.stage)
-  found other rule placed =
-      let same : other ≡ offer = cc (placed.at_place, there) in
-      let one : is.applies.rule ≡ rule = cc (is.applies.numbered, placed.of_rule, same) in
-      let grouped : rule.group ≡ own_group config.stage = cc (is.in_group.numbered, placed.of_rule, same, is.in_group.grouped, own) in
-      (same, one, grouped)
+  found other rule placed = grind (arith, placed.at_place, placed.of_rule, is.applies.numbered, is.in_group.numbered, is.in_group.grouped)
 
   acts_deed : (next : Position) → next.turns ≡ config.turns + 1 → (come : List ℕ) (events : List Event) (rest : List ℕ) → Acts program settings.height offers place (position_of config) next come events rest → DoesOffer program settings offer (position_of config) next come events rest
   acts_deed next counted come events rest acts =

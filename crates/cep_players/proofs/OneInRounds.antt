@@ -129,9 +129,6 @@ module _ (one_list : (program : Parts) (height : ℕ) (state : Multiset) (group 
   abbrev IsDoneTo : Position → Round → Position → List Offer → EndWord → Type 0
   IsDoneTo at round last later word = (admitted round.chosen round.flags ≡ map (λ (it : Deed). it.offer) round.deeds ++ later) × Does at round.deeds last later word
 
-  not_more : (at : Position) (rule : Rule) (values : List Tree) (word : EndWord) → CannotBeDone program settings.limit at rule values word → at.turns ≤ settings.limit
-  not_more at rule values word stops = grind arith
-
   -- where an offer is done, deeds do not stop before it
   goes_on : (at last last' : Position) (deed : Deed) (deeds : List Deed) (later later' : List Offer) (word word' : EndWord) → Does at [] last later word → Does at (deed ∷ deeds) last' later' word' → later ≡ map (λ (it : Deed). it.offer) (deed ∷ deeds) ++ later' → ⊥
   goes_on at last last' deed deeds later later' word word' does does' same =
@@ -195,7 +192,7 @@ module _ (one_list : (program : Parts) (height : ℕ) (state : Multiset) (group 
     done_to round last to is = (sym is.all ∙ sym (append-nil _), (is.done, is.remain, tt))
 
     stops_at : (round : Round) (word : EndWord) (last : Position) (stops : StopsInRound program settings at round word last) → IsDoneTo at round last (stops.next ∷ stops.later) word
-    stops_at round word last stops = (stops.in_order, (stops.done, not_more last stops.rule stops.next.values word stops.stops, (stops.rule, stops.of_rule, stops.stops)))
+    stops_at round word last stops = (stops.in_order, (stops.done, grind (arith, stops.stops), (stops.rule, stops.of_rule, stops.stops)))
 
     -- What excludes what
 
