@@ -1,9 +1,9 @@
 -- Offers of a round are done, one after another.
-use Rattle.std.proofs.Common.{◌≡◌, inl, inr, ℕ, zero, suc, ◌+◌, ◌<◌, ◌≤◌, Bool, true, false, List, [], ◌∷◌, ◌++◌, map, length, length-append, take, Option, Some, append_assoc, append-nil, refl, sym, ap, ◌∙◌, arith}
-use Rattle.std.specs.Prelude.{slice_get, drop, Contains, Result, Ok, Err, IfOk}
+use Rattle.std.proofs.Common.{◌≡◌, inl, inr, ℕ, zero, suc, ◌+◌, ◌<◌, ◌≤◌, Bool, true, false, List, [], ◌∷◌, ◌++◌, length, length-append, take, Option, Some, append_assoc, append-nil, refl, sym, ap, ◌∙◌, arith}
+use Rattle.std.specs.Prelude.{slice_get, drop, Result, Ok, Err, IfOk}
 use Rattle.std.proofs.Math.ListN.{drop_of_length-le}
 use Rattle.cep_base.specs.declared.console.Event.{Event}
-use Rattle.cep_base.specs.Talk.{outs, Did}
+use Rattle.cep_base.specs.Talk.{Did}
 use Rattle.cep_base.proofs.Did.{did_map, did_same, did_then}
 use Rattle.cep_base.proofs.Drops.{drop_at}
 use Rattle.cep_base.proofs.Lists.{holds_at}
@@ -13,15 +13,11 @@ use Rattle.cep_rule.specs.declared.rule.Rule.{Rule}
 use Rattle.cep_rule.specs.declared.parts.Parts.{Parts}
 use Rattle.cep_rule.specs.declared.offer.Offer.{Offer}
 use Rattle.cep_rule.specs.Offers.{IsOffer}
-use Rattle.cep_rule.specs.Stages.{own_group, leaving_group}
-use Rattle.cep_rule.specs.Matching.{offers_of, AreListed}
+use Rattle.cep_rule.specs.Stages.{own_group}
 use Rattle.cep_rule.specs.Program.{IsGroupedRule, IsProgram}
 use Rattle.cep_step.specs.Deeds.{Position}
 use Rattle.cep_machine.specs.Configuration.{Configuration}
-use Rattle.cep_machine.specs.Asking.{asked_offers, unless_none}
 use Rattle.cep_lines.specs.declared.end_word.EndWord.{EndWord}
-use Rattle.cep_lines.specs.declared.end_word.EndWord.TheVariants.{Turns}
-use Rattle.cep_log.specs.Holding.{lines_of_deed}
 use Rattle.cep_round.specs.Rounds.{admitted}
 use Rattle.cep_round.specs.Orders.{IsOfferDone, AreOffersDone}
 pub use Rattle.cep_round.proofs.Admitted.{as_many_flags, next_admitted, next_blocked}
@@ -36,11 +32,6 @@ use Rattle.cep_players.proofs.RoundSteps.{stays_in_stage, then_deeds, order_more
 use Rattle.cep_players.proofs.RoundsThere.{passes_stops}
 
 -- One offer
-
--- offers that are there are those that are asked
-pub asked_are_own : (lists : List (List Offer)) (stage group : ℕ) (place : ℕ) (offer : Offer) → group ≡ own_group stage → slice_get (offers_of lists group) place ≡ Some offer → offers_of lists group ≡ asked_offers lists stage
-asked_are_own lists stage group place offer own there = grind arith
-
 module _ {M : Type 0} (program : Parts) (settings : Settings) (kept : IsProgram program) (offer : Offer) (config : Configuration M) (group : ℕ) (own : group ≡ own_group config.stage) (is : IsOffer program settings.height config.state group offer) (offers : List Offer) (place : ℕ) (there : slice_get offers place ≡ Some offer) (remain : config.turns < settings.limit) where
   -- what stands at the place is the offer, and its rule is of the stage
   found : (other : Offer) (rule : Rule) → IsPlaced program offers place other rule → (other ≡ offer) × (is.applies.rule ≡ rule) × (rule.group ≡ own_group config.stage)
@@ -82,24 +73,12 @@ module _ {M : Type 0} (program : Parts) (settings : Settings) (kept : IsProgram 
         (record { applies = is.applies; step = rw (same, ← one) at steps.step }, steps.stage ∙ sym (stays_in_stage rule config.stage grouped is_grouped.leaves), acted.1, remain)
     offer_moved (Over last) acted moved = acted.1
 
--- an offer of the program here stands in the matcher's list
-pub there_in : (program : Parts) (settings : Settings) (height : ℕ) (held state : Multiset) (lists : List (List Offer)) (group : ℕ) (offer : Offer) → AreListed program height held lists → height ≡ settings.height → held ≡ state → group < length lists → IsOffer program settings.height state group offer
-    → Contains (offers_of lists group) offer
-there_in program settings height held state lists group offer are high same listed is = (are.each group listed).each offer (rw (same, high) is)
-
--- no turn remains
-pub turns_over : {C M : Type 0} (talk : C → Option (List Event)) (left : C → Option (List ℕ)) (console : C) (program : Parts) (settings : Settings) (offer : Offer) (config : Configuration M) (group : ℕ) → IsOffer program settings.height config.state group offer → config.turns ≡ settings.limit
-    → IsOfferActed talk left console console program settings offer config (Over (record { config = config; word = Turns }))
-turns_over talk left console program settings offer config group is all =
-    did_map talk left console console _ _ (λ come events rest nothing. record { rule = is.applies.rule; numbered = is.applies.numbered; stops = all; unwritten = nothing.0; untaken = nothing.1 }) (did_same talk left console console refl refl)
-
 -- what holds of an outcome by two clauses
 pub both_ok : {T E : Type 0} (r : Result T E) (P Q R : T → Type 0) → ((x : T) → P x → Q x → R x) → IfOk r P → IfOk r Q → IfOk r R
 both_ok (Ok x) P Q R follows p q = follows x p q
 both_ok (Err x) P Q R follows p q = tt
 
 -- All admitted offers
-
 pub split_admitted : (chosen : List Offer) (flags : List Bool) (i : ℕ) → admitted chosen flags ≡ admitted (take i chosen) (take i flags) ++ admitted (drop i chosen) (drop i flags)
 split_admitted chosen flags zero = refl
 split_admitted [] flags (suc i) = refl

@@ -1,5 +1,5 @@
 -- What is typed determines a dialogue in rounds but for the derivations of what is done.
-use Rattle.std.proofs.Common.{◌≡◌, ℕ, ◌+◌, ◌<◌, ◌≤◌, ◌^◌, Bool, List, [], ◌∷◌, ◌++◌, map, length, Option, None, Some, append-nil, refl, sym, ap, ◌∙◌, subst, arith}
+use Rattle.std.proofs.Common.{◌≡◌, ℕ, ◌<◌, ◌≤◌, ◌^◌, Bool, List, [], ◌∷◌, ◌++◌, map, length, Option, None, Some, append-nil, refl, sym, ap, ◌∙◌, arith}
 use Rattle.std.specs.Prelude.{slice_get}
 use Rattle.std.specs.FinMap as finite
 use Rattle.cep_base.specs.declared.console.Event.{Event}
@@ -27,7 +27,7 @@ use Rattle.cep_run.specs.Deciding.{Supply}
 use Rattle.cep_run.proofs.TurnSteps.{deeds_counted}
 use Rattle.cep_run.specs.Run.{whole_supply, Question, Turn, Ending, Run, unproved, IsQuestion, IsChosen, IsTurn, EndsAt, quiet_end, turns_end, offers_end, input_end, typed_end, atom_end, state_end}
 use Rattle.cep_round.specs.Rounds.{AreAdmitted, admitted}
-use Rattle.cep_players.specs.Runs.{IsForAll, Hearing, IsHeard, AreHeard, HaveChosen, Round, IsListedHere, IsChosenHere, IsRoundDone, TurnOrRound, a_turn, a_round, AreTurnsAndRounds, EndOfRounds, of_turn, of_player, of_offer, unproved_round, unproved_part, unproved_end, IsCutOff, CannotBeDone, StopsInRound, StopsAtPlayer, EndsInRounds, RunsInRounds}
+use Rattle.cep_players.specs.Runs.{Hearing, IsHeard, AreHeard, HaveChosen, Round, IsListedHere, IsChosenHere, IsRoundDone, TurnOrRound, a_turn, a_round, AreTurnsAndRounds, EndOfRounds, of_turn, of_player, of_offer, unproved_round, unproved_part, unproved_end, IsCutOff, CannotBeDone, StopsInRound, StopsAtPlayer, EndsInRounds, RunsInRounds}
 use Rattle.cep_players.specs.Dialogues.{DialogueInRounds}
 
 one_cut : (choice : Choice) (word word' : EndWord) → IsCutOff choice word → IsCutOff choice word' → word ≡ word'
@@ -67,7 +67,6 @@ module _ (one_list : (program : Parts) (height : ℕ) (state : Multiset) (group 
         let later = same_heard are.0 hearings hearings' to to' are.2 (rw one.2 are'.2) (omega (arith, same)) in
         let places : hearing.place ≡ hearing'.place = cc (one.1) in
         (λ i. record { events = one.0 i; place = places i } ∷ later.0 i, later.1)
-
     same_heard from hearings hearings' to to' are are' same = absurd cc
 
     -- no more players choose than before one of whom no choice is heard
@@ -95,7 +94,6 @@ module _ (one_list : (program : Parts) (height : ℕ) (state : Multiset) (group 
   one_chosen offers (hearing ∷ hearings) chosen chosen' have have' = grind arith
 
   -- What is done
-
   abbrev bare : Deed → Deed
   bare deed = record deed { proofs = [] }
 
@@ -146,7 +144,6 @@ module _ (one_list : (program : Parts) (height : ℕ) (state : Multiset) (group 
       (λ i. first i ∷ others.0 i, others.1, others.2)
 
   -- Turns and ends as for one player
-
   -- where turns remain and offers are listed, no run ends without a question
   listed_or_ends : (at : Position) (from : Supply) (group : ℕ) (offers : List Offer) {word : EndWord} {to : Supply} → at.turns < settings.limit → IsAsked program settings.height at.spot.state at.spot.stage group → AreOffers program settings.height at.spot.state group offers → length offers ≤ MOST_OFFERS → EndsAt program settings at from word None to → ⊥
   listed_or_ends at from group offers remain asked are few (quiet_end is left) = grind arith
@@ -195,7 +192,6 @@ module _ (one_list : (program : Parts) (height : ℕ) (state : Multiset) (group 
     stops_at round word last stops = (stops.in_order, (stops.done, grind (arith, stops.stops), (stops.rule, stops.of_rule, stops.stops)))
 
     -- What excludes what
-
     listed_or_asked : (offers : List Offer) (word : EndWord) (asked : Option Question) (last : Position) (to : Supply) → IsListedHere program settings at offers → EndsInRounds program settings players at from word (of_turn asked) last to → ⊥
     listed_or_asked offers word None last to listed ends = listed_or_ends at from (own_group at.spot.stage) offers listed.remain listed.for_all.asked listed.offered listed.few ends.0
     listed_or_asked offers word (Some question) last to listed ends = ends.1 listed.for_all
@@ -239,7 +235,6 @@ module _ (one_list : (program : Parts) (height : ℕ) (state : Multiset) (group 
         }
 
   -- Whole runs
-
   ends_here : (at : Position) (from : Supply) (end : EndOfRounds) (word : EndWord) (last : Position) (to : Supply) → RunsInRounds program settings players at from [] end word last to → EndsInRounds program settings players at from word end last to
   ends_here at from end word last to run = rw (← run.done.0, ← run.done.1) run.ends
 

@@ -1,5 +1,5 @@
 -- What is done in rounds are deeds, and within a round each admitted offer can be done where those before it were.
-use Rattle.std.proofs.Common.{◌≡◌, ℕ, ◌-◌, ◌*◌, ◌%◌, Bool, List, [], ◌∷◌, ◌++◌, map, append_assoc, append-nil, Option, None, Some, IsSome, unwrap_or, ◌↔◌, refl, sym, ap, ◌∙◌, arith, Contains}
+use Rattle.std.proofs.Common.{◌≡◌, ℕ, ◌-◌, ◌%◌, Bool, List, [], ◌∷◌, ◌++◌, map, append_assoc, append-nil, Some, IsSome, ◌↔◌, refl, sym, ap, ◌∙◌, arith, Contains}
 use Rattle.std.specs.Prelude.{slice_get}
 use Rattle.std.specs.List.{AllByRecursion, flat_map}
 use Rattle.std.specs.FinMap as finite
@@ -46,7 +46,6 @@ pub stays_in_stage : (rule : Rule) (stage : ℕ) → rule.group ≡ own_group st
 stays_in_stage rule stage grouped leaves = grind arith
 
 -- Deeds
-
 module _ (program : Parts) (settings : Settings) (players : ℕ) where
   pub then_deeds : (at : Position) (deeds : List Deed) (between : Position) (more : List Deed) (last : Position) → AreDeeds program settings.height at deeds between → AreDeeds program settings.height between more last → AreDeeds program settings.height at (deeds ++ more) last
   then_deeds at [] between more last done later = rw (← done) later

@@ -3,7 +3,7 @@ use Rattle.std.proofs.Common.{◌≡◌, ◌⊎◌, inl, inr, ℕ, zero, suc, �
 use Rattle.std.specs.Prelude.{slice_get, IsSomeAnd}
 use Rattle.std.specs.List.{AllByRecursion, flat_map}
 use Rattle.std.specs.FinMap as finite
-use Rattle.std.proofs.lemmas.Bool.{cases_eq, cases_lt}
+use Rattle.std.proofs.lemmas.Bool.{cases_lt}
 use Rattle.std.proofs.lemmas.Grind.{flat_map-append}
 use Rattle.std.proofs.lemmas.List.{length-map}
 use Rattle.std.proofs.lemmas.Slice.Zip.{AllZip-long}
@@ -25,7 +25,6 @@ use Rattle.cep_rule.specs.Typing.{is_fact}
 use Rattle.cep_rule.specs.Program.{IsProgram}
 use Rattle.cep_step.specs.Deeds.{Position, Deed, AreDeeds, start_of}
 use Rattle.cep_step.specs.declared.limit.Limit.{Limit}
-use Rattle.cep_step.specs.declared.limit.Limit.TheVariants as limit
 use Rattle.cep_step.specs.Passing.{Passes}
 use Rattle.cep_round.specs.Rounds.{needs, used_with, AreAdmitted, admitted}
 use Rattle.cep_round.proofs.Counts.{join_count}
@@ -44,7 +43,7 @@ use Rattle.cep_choice.specs.Draws.{generator_behind}
 use Rattle.cep_players.specs.PlayersLaws.{PlayersLaws}
 use Rattle.cep_players.specs.Runs.{IsForAll, Round, IsListedHere, IsChosenHere, TurnOrRound, a_turn, a_round, AreTurnsAndRounds, EndOfRounds, of_turn, of_player, of_offer, CannotBeDone, EndsInRounds}
 use Rattle.cep_players.specs.Dialogues.{hearing_events, blocked_lines, turn_question_events, round_question_events, round_events, part_events, last_part_events, DialogueInRounds}
-use Rattle.cep_players.specs.Playing.{AllChoose, OneDoesNot, ChooseSome, IsRunInRounds}
+use Rattle.cep_players.specs.Playing.{ChooseSome, IsRunInRounds}
 use Rattle.cep_run.proofs.Fronts.{front_of_front}
 use Rattle.cep_players.proofs.AllPlayers.{none_chose, choose_on}
 use Rattle.cep_players.proofs.RoundSteps.{chosen_are, deeds_states, then_deeds, next_is_offer, order_more, lines_more}
@@ -65,7 +64,6 @@ pub asked_at : (program : Parts) (settings : Settings) (at : Position) (from : S
 asked_at program settings at from ends = left_by program settings at from ends
 
 -- Which offers are admitted can be told
-
 at_most_or_not : (n m : ℕ) → (n ≤ m) ⊎ (n ≤ m → ⊥)
 at_most_or_not n m = grind arith
 
@@ -135,7 +133,6 @@ module _ (program : Parts) (settings : Settings) (players : ℕ) where
     Goes at = (here : Position) (from : Supply) → at.turns < here.turns → here.turns ≤ settings.limit → IsState program.signature here.spot.state → Begins here from []
 
     -- A round of which some deeds are done
-
     module _ (at : Position) (from to : Supply) (is_state : IsState program.signature at.spot.state) (round : Round) (choice : IsChosenHere program settings players at from round to) (next : Goes at) where
       abbrev so_far : List Deed → Round
       so_far deeds = record round { deeds = deeds }
@@ -178,7 +175,6 @@ module _ (program : Parts) (settings : Settings) (players : ℕ) where
           ]
 
     -- A round whose offers are listed
-
     module _ (at : Position) (spent : Spent) (is_state : IsState program.signature at.spot.state) (offers : List Offer) (listed : IsListedHere program settings at offers) (next : Goes at) where
       abbrev Listed : List ℕ → List Event → Type 0
       Listed come events = Begins at (supply_with come spent) (outs (offer_lines program 1 offers) ++ events)
@@ -209,7 +205,6 @@ module _ (program : Parts) (settings : Settings) (players : ℕ) where
           (hearing_on come [] (choose_on offers spent laws.heard laws.within players players 0 (omega arith) [] spent come come [] (none_chose offers spent come [] come (refl, refl))))
 
     -- A turn, and a question
-
     pub turn_on : (at : Position) (from : Supply) → IsState program.signature at.spot.state → (turn : Turn) → IsTurn program settings at from turn → (IsForAll program settings.height at → ⊥) → Goes at → Begins at from (part_events program (a_turn turn))
     turn_on at from is_state turn is none next =
         let one = is.does.counted in
@@ -226,7 +221,6 @@ module _ (program : Parts) (settings : Settings) (players : ℕ) where
     ]
 
     -- Whole runs
-
     from_question : (at : Position) (from : Supply) → IsState program.signature at.spot.state → (question : Question) (to : Supply) → IsQuestion program settings at from question to → Goes at → Begins at from []
     from_question at from is_state question to asks next = elim (for_all_or_not program settings.height at question.group asks.asked) [
       | inr none ↦ front_of_front (IsRunInRounds program settings players at) from [] (turn_question_events program question.offers question.how) (question_on at from is_state question to asks none next)

@@ -1,5 +1,5 @@
 -- What is written of a run in rounds tells its deeds, with remarks between them: lines that a transcript passes over.
-use Rattle.std.proofs.Common.{◌≡◌, ◌≢◌, ℕ, ◌+◌, ◌-◌, Bool, true, false, List, [], ◌∷◌, ◌++◌, length, append_assoc, append-nil, refl, sym, ap, ◌∙◌, None, Some, arith}
+use Rattle.std.proofs.Common.{◌≡◌, ◌≢◌, ℕ, ◌+◌, Bool, true, false, List, [], ◌∷◌, ◌++◌, length, append_assoc, append-nil, refl, sym, ap, ◌∙◌, None, Some, arith}
 use Rattle.std.specs.Prelude.{codes, decimal}
 use Rattle.std.specs.List.{AllByRecursion, flat_map}
 use Rattle.std.proofs.lemmas.Grind.{flat_map-append}
@@ -32,7 +32,6 @@ use Rattle.cep_players.specs.Dialogues.{choose_line, blocked_line, blocked_lines
 use Rattle.cep_players.proofs.RoundSteps.{chosen_are}
 
 -- Remarks
-
 both_remarks : (one other : List ℕ) → AreRemarks one → AreRemarks other → AreRemarks (one ++ other)
 both_remarks one other a b = record { lines = a.lines ++ b.lines; passed = both_all IsRemark a.lines b.lines a.passed b.passed; written = rw (a.written, b.written, flat_map-append line a.lines b.lines) refl }
 

@@ -1,4 +1,4 @@
-use Rattle.std.proofs.Common.{◌≡◌, ◌+◌, ◌<◌, ◌∙◌, true, false, refl, sym, ap, arith, Some}
+use Rattle.std.proofs.Common.{◌≡◌, ◌+◌, ◌<◌, ◌∙◌, true, refl, ap, arith, Some}
 use Rattle.std.specs.Prelude.{slice_get, drop, take}
 use Rattle.cep_base.proofs.Outcomes.{on_err}
 use Rattle.cep_round.specs.Rounds.{admitted}

@@ -1,19 +1,17 @@
-use Rattle.std.proofs.Common.{◌≡◌, length, refl, arith}
-use Rattle.std.proofs.lemmas.Option.{slice_get_within}
+use Rattle.std.proofs.Common.{refl, arith}
 use Rattle.std.proofs.lemmas.Result.{IfOk-weaker, on_err_weaker}
-use Rattle.cep_base.proofs.Did.{did_map}
+use Rattle.cep_base.proofs.Did.{did_map, did_same}
 use Rattle.cep_rule.specs.Matching.{offers_of}
-use Rattle.cep_players.proofs.OffersDone.{asked_are_own, acts_begin, offer_acted, offer_moved, both_ok, there_in, turns_over}
+use Rattle.cep_players.proofs.OffersDone.{acts_begin, offer_acted, offer_moved, both_ok}
 use Rattle.cep_players.proofs.acting.act_offer.Goals as goal
 
 pub place_in-place-requires-clause-there : goal.place_in-place-requires-clause-there
 place_in-place-requires-clause-there g c =
-    let matcher = c.args.config.matcher in
-    rw c.matcher.ensures.matcher (there_in c.args.program.now c.args.settings (g.M.Matcher.height_held matcher) (g.M.Matcher.state_held matcher) c.args.config.state (g.M.Matcher.offers_held matcher) c.args.group c.args.offer.now
-    (g.met.M.Matcher.exact c.args.program.now matcher c.requires.played.of_program.matcher) c.requires.played.height c.matcher.ensures.same_state (omega (arith, c.matcher.ensures.listed, c.requires.own)) c.requires.offer)
+    let listed = g.met.M.Matcher.exact c.args.program.now c.args.config.matcher c.requires.played.of_program.matcher in
+    rw c.matcher.ensures.matcher ((listed.each c.args.group (omega (arith, c.matcher.ensures.listed, c.requires.own))).each c.args.offer.now (rw (c.matcher.ensures.same_state, c.requires.played.height) c.requires.offer))
 
 pub act-requires-clause-asked : goal.act-requires-clause-asked
-act-requires-clause-asked g c = asked_are_own (g.M.Matcher.offers_held c.args.config.matcher) c.args.config.stage c.args.group c.place_in-place.result c.args.offer.now c.requires.own (rw c.matcher.ensures.matcher at c.place_in-place.ensures)
+act-requires-clause-asked g c = grind (arith, c.requires.own, rw c.matcher.ensures.matcher at c.place_in-place.ensures)
 
 pub returns-clause-begun : goal.returns-clause-begun
 returns-clause-begun g c =
@@ -38,4 +36,7 @@ returns-clause-moved g c =
 
 pub returns-then-turns-limit-clause-acted : goal.returns-then-turns-limit-clause-acted
 returns-then-turns-limit-clause-acted g c =
-    rw c.over.ensures (turns_over g.C.Console.talk g.C.Console.left c.args.console.now c.args.program.now c.args.settings c.args.offer.now c.args.config c.args.group c.requires.offer (omega (arith, c.if-turns-limit.true, c.requires.turns, c.turns.ensures)))
+    let is = c.requires.offer.applies in
+    let console = c.args.console.now in
+    rw c.over.ensures (did_map g.C.Console.talk g.C.Console.left console console _ _ (λ come events rest nothing. record { rule = is.rule; numbered = is.numbered; stops = omega (arith, c.if-turns-limit.true, c.requires.turns, c.turns.ensures); unwritten = nothing.0; untaken = nothing.1 })
+    (did_same g.C.Console.talk g.C.Console.left console console refl refl))
