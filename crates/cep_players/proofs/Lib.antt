@@ -1,13 +1,9 @@
-pub mod RunDeeds
-pub mod Remarks
-pub mod Told
 pub mod Prefixes
 pub mod BlockedLines
 pub mod AllPlayers
-pub mod Contained
 pub mod RoundSteps
+pub mod Told
 pub mod RoundsThere
 pub mod OffersDone
 pub mod Going
-pub mod Together
 pub mod OneInRounds
