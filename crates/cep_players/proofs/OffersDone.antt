@@ -1,268 +1,192 @@
 -- Offers of a round are done, one after another.
-use Rattle.std.proofs.Common.{◌≡◌, inl, inr, ℕ, zero, suc, ◌+◌, ◌<◌, ◌≤◌, Bool, true, false, List, [], ◌∷◌, ◌++◌, map, length, take, Option, Some, append_assoc, append-nil, refl, sym, ap, ◌∙◌, subst, arith}
-use Rattle.std.specs.Prelude.{slice_get, drop, Contains, Result, Ok, Err, IfOk}
-use Rattle.std.specs.List.{AllByRecursion, flat_map}
-use Rattle.std.specs.FinMap as finite
-use Rattle.std.proofs.lemmas.Grind.{flat_map-append}
-use Rattle.std.proofs.lemmas.List.{map-append}
+use Rattle.std.proofs.Common.{◌≡◌, inl, inr, ℕ, zero, suc, ◌+◌, ◌<◌, ◌≤◌, Bool, true, false, List, [], ◌∷◌, ◌++◌, length, length-append, take, Option, Some, append_assoc, append-nil, refl, sym, ap, ◌∙◌, arith}
+use Rattle.std.specs.Prelude.{slice_get, drop, Result, Ok, Err, IfOk}
+use Rattle.std.proofs.Math.ListN.{drop_of_length-le}
 use Rattle.cep_base.specs.declared.console.Event.{Event}
-use Rattle.cep_base.specs.declared.console.Event.TheVariants.{Out}
-use Rattle.cep_base.specs.Talk.{outs}
-use Rattle.cep_base.proofs.Did.{did_map, did_same}
-use Rattle.cep_base.proofs.Lists.{holds_at, none_some, some_same, map_last}
+use Rattle.cep_base.specs.Talk.{Did}
+use Rattle.cep_base.proofs.Did.{did_map, did_same, did_then}
+use Rattle.cep_base.proofs.Drops.{drop_at}
+use Rattle.cep_base.proofs.Lists.{holds_at}
+use Rattle.cep_base.proofs.Options.{item_at}
 use Rattle.cep_term.specs.Multiset.{Multiset}
 use Rattle.cep_rule.specs.declared.rule.Rule.{Rule}
 use Rattle.cep_rule.specs.declared.parts.Parts.{Parts}
 use Rattle.cep_rule.specs.declared.offer.Offer.{Offer}
-use Rattle.cep_rule.specs.Instances.{full_instances}
-use Rattle.cep_rule.specs.Typing.{AreValues}
 use Rattle.cep_rule.specs.Offers.{IsOffer}
-use Rattle.cep_rule.specs.Stages.{own_group, leaving_group}
-use Rattle.cep_rule.specs.Matching.{offers_of, AreListed}
-use Rattle.cep_rule.specs.Step.{Step}
-use Rattle.cep_rule.specs.Steps.{StepsTo, AreProofs}
+use Rattle.cep_rule.specs.Stages.{own_group}
 use Rattle.cep_rule.specs.Program.{IsGroupedRule, IsProgram}
-use Rattle.cep_step.specs.Deeds.{Position, Deed, IsDeed, AreDeeds}
-use Rattle.cep_step.specs.Passing.{Passes}
+use Rattle.cep_step.specs.Deeds.{Position}
 use Rattle.cep_machine.specs.Configuration.{Configuration}
-use Rattle.cep_machine.specs.Asking.{asked_offers, unless_none}
 use Rattle.cep_lines.specs.declared.end_word.EndWord.{EndWord}
-use Rattle.cep_lines.specs.declared.end_word.EndWord.TheVariants.{Turns}
-use Rattle.cep_lines.specs.Lines.{deed_lines}
-use Rattle.cep_log.specs.Holding.{lines_of_deed}
-use Rattle.cep_round.specs.Rounds.{AreAdmitted, admitted, used_with}
+use Rattle.cep_round.specs.Rounds.{admitted}
 use Rattle.cep_round.specs.Orders.{IsOfferDone, AreOffersDone}
+pub use Rattle.cep_round.proofs.Admitted.{as_many_flags, next_admitted, next_blocked}
 use Rattle.cep_run.specs.declared.settings.Settings.{Settings}
 use Rattle.cep_run.specs.declared.turn.Turned.{Turned}
 use Rattle.cep_run.specs.declared.turn.Turned.TheVariants.{Done, Over}
+use Rattle.cep_run.specs.declared.turn.Ended.{Ended}
 use Rattle.cep_run.specs.Begun.{BeginsAct}
-use Rattle.cep_run.specs.Turn.{position_of, Acts, WouldPass, IsActed, IsMoved}
-use Rattle.cep_players.specs.Runs.{CannotBeDone}
-use Rattle.cep_players.specs.PlayersLaws.{RoundLaws}
+use Rattle.cep_run.specs.Turn.{position_of, IsPlaced, Acts, WouldPass, IsActed, IsMoved}
 use Rattle.cep_players.specs.Going.{DoesOffer, CannotDo, IsOfferActed, IsOfferMoved, BeginsOffer, ActsSome, StopsAct, BeginsActs}
-use Rattle.cep_players.proofs.BlockedLines.{drop_next, none_left}
-use Rattle.cep_players.proofs.RoundSteps.{each_admitted, stays_in_stage}
+use Rattle.cep_players.proofs.RoundSteps.{stays_in_stage, then_deeds, order_more, lines_more}
 use Rattle.cep_players.proofs.RoundsThere.{passes_stops}
 
 -- One offer
+module _ {M : Type 0} (program : Parts) (settings : Settings) (kept : IsProgram program) (offer : Offer) (config : Configuration M) (group : ℕ) (own : group ≡ own_group config.stage) (is : IsOffer program settings.height config.state group offer) (offers : List Offer) (place : ℕ) (there : slice_get offers place ≡ Some offer) (remain : config.turns < settings.limit) where
+  -- what stands at the place is the offer, and its rule is of the stage
+  found : (other : Offer) (rule : Rule) → IsPlaced program offers place other rule → (other ≡ offer) × (is.applies.rule ≡ rule) × (rule.group ≡ own_group config.stage)
+  found other rule placed = grind (arith, placed.at_place, placed.of_rule, is.applies.numbered, is.in_group.numbered, is.in_group.grouped)
 
--- offers that are there are those that are asked
-pub asked_are_own : (lists : List (List Offer)) (stage group : ℕ) (place : ℕ) (offer : Offer) → group ≡ own_group stage → slice_get (offers_of lists group) place ≡ Some offer → offers_of lists group ≡ asked_offers lists stage
-asked_are_own lists stage group place offer own there = by (offers_of lists (own_group stage)) (ap (offers_of lists) own) there
-  where
-    by : (xs : List Offer) → offers_of lists group ≡ xs → slice_get (offers_of lists group) place ≡ Some offer → offers_of lists group ≡ unless_none xs (offers_of lists (leaving_group stage))
-    by [] same got = none_some offer (sym (ap (λ ys. slice_get ys place) same) ∙ got)
-    by (x ∷ xs) same got = same
-
-module _ (program : Parts) (settings : Settings) (offer : Offer) (at : Position) (is : IsOffer program settings.height at.spot.state (own_group at.spot.stage) offer) (offers : List Offer) (place : ℕ) (there : slice_get offers place ≡ Some offer) (remain : at.turns < settings.limit) where
-  acts_deed : (next : Position) → next.turns ≡ at.turns + 1 → (come : List ℕ) (events : List Event) (rest : List ℕ) → Acts program settings.height offers place at next come events rest → DoesOffer program settings offer at next come events rest
+  acts_deed : (next : Position) → next.turns ≡ config.turns + 1 → (come : List ℕ) (events : List Event) (rest : List ℕ) → Acts program settings.height offers place (position_of config) next come events rest → DoesOffer program settings offer (position_of config) next come events rest
   acts_deed next counted come events rest acts =
-      let same : acts.offer ≡ offer = some_same acts.offer offer (sym acts.placed.at_place ∙ there) in
-      let applies = is.applies in
-      let in_group = is.in_group in
-      let numbered : slice_get program.rules offer.rule ≡ Some acts.rule = ap (λ (o : Offer). slice_get program.rules o.rule) (sym same) ∙ acts.placed.of_rule in
-      let one : applies.rule ≡ acts.rule = some_same applies.rule acts.rule (sym applies.numbered ∙ numbered) in
-      let other : in_group.rule ≡ acts.rule = some_same in_group.rule acts.rule (sym in_group.numbered ∙ numbered) in
+      let same = found acts.offer acts.rule acts.placed in
       record {
-        deed = record { before = at; offer = offer; rule = acts.rule; proofs = acts.proofs; after = next };
+        deed = record { before = position_of config; offer = acts.offer; rule = acts.rule; proofs = acts.proofs; after = next };
         here = refl;
         leads = refl;
-        of_offer = refl;
-        lawful = record {
-          step = record {
-            numbered = numbered;
-            values = subst (λ (r : Rule). AreValues program.signature.cons r.kinds offer.values) one applies.values;
-            in_turn = inl (ap (λ (r : Rule). r.group) (sym other) ∙ in_group.grouped);
-            proved = subst (λ (o : Offer). AreProofs program settings.height acts.proofs (full_instances o.values acts.rule.backs)) same acts.proved;
-            steps = subst (λ (o : Offer). StepsTo program acts.rule o.values at.spot next.spot) same acts.steps;
-          };
-          counted = counted;
-        };
+        of_offer = same.0;
+        lawful = record { step = record { numbered = acts.placed.of_rule; values = rw (same.1, ← same.0) at is.applies.values; in_turn = inl same.2; proved = acts.proved; steps = acts.steps }; counted = counted };
         remain = remain;
-        written = acts.written ∙ ap (λ (o : Offer). outs (deed_lines program o acts.proofs acts.rule.next next.turns next.spot.state)) same;
+        written = acts.written;
         untaken = acts.untaken;
       }
 
-  acts_fail : (word : EndWord) (come : List ℕ) (events : List Event) (rest : List ℕ) → WouldPass program offers place word at come events rest → CannotDo program settings.limit offer at word come events rest
+  acts_fail : (word : EndWord) (come : List ℕ) (events : List Event) (rest : List ℕ) → WouldPass program offers place word (position_of config) come events rest → CannotDo program settings.limit offer (position_of config) word come events rest
   acts_fail word come events rest fails =
-      let same : fails.offer ≡ offer = some_same fails.offer offer (sym fails.placed.at_place ∙ there) in
-      record {
-        rule = fails.rule;
-        numbered = ap (λ (o : Offer). slice_get program.rules o.rule) (sym same) ∙ fails.placed.of_rule;
-        stops = subst (CannotBeDone program settings.limit at fails.rule offer.values) (sym fails.named)
-            (passes_stops program settings.limit at fails.rule offer fails.passed remain (subst (λ (o : Offer). Passes program.signature fails.rule o.values at.spot.state fails.passed) same fails.passes));
-        unwritten = fails.unwritten;
-        untaken = fails.untaken;
-      }
+      let same = found fails.offer fails.rule fails.placed in
+      let stops = passes_stops program settings.limit (position_of config) fails.rule offer fails.passed remain (rw same.0 at fails.passes) in
+      record { rule = fails.rule; numbered = rw same.0 at fails.placed.of_rule; stops = rw fails.named stops; unwritten = fails.unwritten; untaken = fails.untaken }
 
-  pub acts_begin : (come : List ℕ) (events : List Event) (rest : List ℕ) → BeginsAct program settings.height offers place at come events rest → BeginsOffer program settings offer at come events rest
+  pub acts_begin : (come : List ℕ) (events : List Event) (rest : List ℕ) → BeginsAct program settings.height offers place (position_of config) come events rest → BeginsOffer program settings offer (position_of config) come events rest
   acts_begin come events rest (inl nothing) = inl nothing
   acts_begin come events rest (inr on) = inr (record { next = on.next; more = on.more; does = acts_deed on.next on.counted come (events ++ on.more) rest on.acts })
 
-module _ {M : Type 0} (program : Parts) (settings : Settings) (kept : IsProgram program) (offer : Offer) (config : Configuration M) (group : ℕ) (own : group ≡ own_group config.stage) (is : IsOffer program settings.height config.state group offer) (offers : List Offer) (place : ℕ) (there : slice_get offers place ≡ Some offer) (remain : config.turns < settings.limit) where
-  is_own : IsOffer program settings.height config.state (own_group config.stage) offer
-  is_own = subst (λ g. IsOffer program settings.height config.state g offer) own is
+  module _ {C : Type 0} (talk : C → Option (List Event)) (left : C → Option (List ℕ)) (old new : C) where
+    pub offer_acted : (turned : Turned M) → IsActed talk left old new program settings.height offers place config turned → IsOfferActed talk left old new program settings offer config turned
+    offer_acted (Done next) acted = did_map talk left old new _ _ (acts_deed (position_of next) acted.1) acted.0
+    offer_acted (Over last) acted = did_map talk left old new _ _ (acts_fail last.word) acted.0
 
-  pub offer_acted : {C : Type 0} (talk : C → Option (List Event)) (left : C → Option (List ℕ)) (old new : C) (turned : Turned M) → IsActed talk left old new program settings.height offers place config turned → IsOfferActed talk left old new program settings offer config turned
-  offer_acted talk left old new (Done next) acted = did_map talk left old new _ _ (acts_deed program settings offer (position_of config) is_own offers place there remain (position_of next) acted.1) acted.0
-  offer_acted talk left old new (Over last) acted = did_map talk left old new _ _ (acts_fail program settings offer (position_of config) is_own offers place there remain last.word) acted.0
-
-  pub offer_moved : {C : Type 0} (talk : C → Option (List Event)) (left : C → Option (List ℕ)) (old new : C) (turned : Turned M) → IsActed talk left old new program settings.height offers place config turned → IsMoved program offers place config turned → IsOfferMoved program settings offer config turned
-  offer_moved talk left old new (Done next) acted moved =
-      let same : moved.0 ≡ offer = some_same moved.0 offer (sym moved.2.at_place ∙ there) in
-      let rule = moved.1 in
-      let steps = subst (λ (o : Offer). StepsTo program rule o.values (position_of config).spot (position_of next).spot) same moved.3 in
-      let applies = is.applies in
-      let in_group = is.in_group in
-      let numbered : slice_get program.rules offer.rule ≡ Some rule = ap (λ (o : Offer). slice_get program.rules o.rule) (sym same) ∙ moved.2.of_rule in
-      let one : rule ≡ applies.rule = some_same rule applies.rule (sym numbered ∙ applies.numbered) in
-      let other : in_group.rule ≡ rule = some_same in_group.rule rule (sym in_group.numbered ∙ numbered) in
-      let is_grouped = holds_at (IsGroupedRule _) program.rules offer.rule rule kept.grouped numbered in (
-        record { applies = applies; step = subst (λ (r : Rule). Step program.signature r offer.values config.state next.state) one steps.step },
-        steps.stage ∙ sym (stays_in_stage rule config.stage (ap (λ (r : Rule). r.group) (sym other) ∙ in_group.grouped ∙ own) is_grouped.leaves),
-        acted.1,
-        remain,
-      )
-  offer_moved talk left old new (Over last) acted moved = acted.1
-
--- All admitted offers
-
-pub split_admitted : (chosen : List Offer) (flags : List Bool) (i : ℕ) → admitted chosen flags ≡ admitted (take i chosen) (take i flags) ++ admitted (drop i chosen) (drop i flags)
-split_admitted chosen flags zero = refl
-split_admitted [] flags (suc i) = refl
-split_admitted (offer ∷ chosen) [] (suc i) = by (drop i chosen)
-  where
-    by : (xs : List Offer) → [] ≡ admitted xs []
-    by [] = refl
-    by (x ∷ xs) = refl
-split_admitted (offer ∷ chosen) (true ∷ flags) (suc i) = ap (λ offers. offer ∷ offers) (split_admitted chosen flags i)
-split_admitted (offer ∷ chosen) (false ∷ flags) (suc i) = split_admitted chosen flags i
-
-pub next_left : (chosen : List Offer) (flags : List Bool) (i : ℕ) (offer : Offer) → slice_get chosen i ≡ Some offer → slice_get flags i ≡ Some true → admitted (drop i chosen) (drop i flags) ≡ offer ∷ admitted (drop (i + 1) chosen) (drop (i + 1) flags)
-next_left chosen flags i offer is flagged = rw (drop_next chosen i offer is, drop_next flags i true flagged) refl
-
-pub same_left : (chosen : List Offer) (flags : List Bool) (i : ℕ) (offer : Offer) → slice_get chosen i ≡ Some offer → slice_get flags i ≡ Some false → admitted (drop i chosen) (drop i flags) ≡ admitted (drop (i + 1) chosen) (drop (i + 1) flags)
-same_left chosen flags i offer is flagged = rw (drop_next chosen i offer is, drop_next flags i false flagged) refl
-
--- one more is done
-pub done_more : (program : Parts) (height : ℕ) (state : Multiset) (prefix : List Offer) (found next : Multiset) (offer : Offer) → AreOffersDone program height state prefix found → IsOfferDone program height found next offer → AreOffersDone program height state (prefix ++ offer ∷ []) next
-done_more program height state [] found next offer done is = (next, subst (λ s. IsOfferDone program height s next offer) done is, refl)
-done_more program height state (first ∷ prefix) found next offer done is = (done.0, done.1, done_more program height done.0 prefix found next offer done.2 is)
-
--- the next admitted offer is one where it comes
-pub next_offer : RoundLaws → (program : Parts) (height : ℕ) → IsProgram program → (state : Multiset) (group : ℕ) (chosen : List Offer) (flags : List Bool) → AllByRecursion (IsOffer program height state group) chosen → AreAdmitted program state finite.empty chosen flags
-    → (prefix later : List Offer) (offer : Offer) (found : Multiset) → admitted chosen flags ≡ prefix ++ offer ∷ later → AreOffersDone program height state prefix found → IsOffer program height found group offer
-next_offer laws program height kept state group chosen flags are flagged prefix later offer found order done =
-    let was = first (prefix) (subst (λ offers. AllByRecursion (IsOffer program height state group) offers) order (each_admitted _ chosen flags are)) in
-    record { in_group = was.in_group; applies = laws.heights program state chosen flags kept flagged prefix later offer height height found order done was.applies }
-  where
-    first : (xs : List Offer) → AllByRecursion (IsOffer program height state group) (xs ++ offer ∷ later) → IsOffer program height state group offer
-    first [] all = all.0
-    first (x ∷ xs) all = first xs all.1
-
-module _ (program : Parts) (settings : Settings) (at : Position) (offers : List Offer) where
-  pub acts_none : (come : List ℕ) (events : List Event) (rest : List ℕ) → (events ≡ []) × (rest ≡ come) → ActsSome program settings.height at at offers offers come events rest
-  acts_none come events rest same = record { deeds = []; done = refl; order = refl; written = same.0; untaken = same.1 }
-
-  deeds_then : (here : Position) (deeds : List Deed) (deed : Deed) (from : Position) → AreDeeds program settings.height from deeds here → deed.before ≡ here → IsDeed program settings.height deed → AreDeeds program settings.height from (deeds ++ deed ∷ []) deed.after
-  deeds_then here [] deed from done is lawful = (is ∙ done, lawful, refl)
-  deeds_then here (first ∷ deeds) deed from done is lawful = (done.0, done.1, deeds_then here deeds deed first.after done.2 is lawful)
-
-  pub acts_more : (here next : Position) (offer : Offer) (later : List Offer) (come middle rest : List ℕ) (first second : List Event) → ActsSome program settings.height at here offers (offer ∷ later) come first middle → DoesOffer program settings offer here next middle second rest → ActsSome program settings.height at next offers later come (first ++ second) rest
-  acts_more here next offer later come middle rest first second acts does =
-      let deeds = acts.deeds in
-      let deed = does.deed in
-      record {
-        deeds = deeds ++ deed ∷ [];
-        done = subst (AreDeeds program settings.height at (deeds ++ deed ∷ [])) does.leads (deeds_then here deeds deed at acts.done does.here does.lawful);
-        order = acts.order ∙ sym (append_assoc (map (λ deed. deed.offer) deeds) (offer ∷ []) later) ∙ ap (λ (o : Offer). (map (λ deed. deed.offer) deeds ++ o ∷ []) ++ later) (sym does.of_offer) ∙ ap (λ xs. xs ++ later) (sym (map_last (λ (d : Deed). d.offer) deeds deed));
-        written = rw (acts.written, does.written, flat_map-append (lines_of_deed program) deeds (deed ∷ []), map-append Out (flat_map (lines_of_deed program) deeds) (flat_map (lines_of_deed program) (deed ∷ [])), append-nil (lines_of_deed program deed)) refl;
-        untaken = does.untaken ∙ acts.untaken;
-      }
-
-  pub acts_stop : (here : Position) (offer : Offer) (later : List Offer) (word : EndWord) (come middle rest : List ℕ) (first second : List Event) → ActsSome program settings.height at here offers (offer ∷ later) come first middle → CannotDo program settings.limit offer here word middle second rest → StopsAct program settings at here offers word come (first ++ second) rest
-  acts_stop here offer later word come middle rest first second acts cannot = record {
-    next = offer;
-    later = later;
-    acts = record { deeds = acts.deeds; done = acts.done; order = acts.order; written = ap (λ es. first ++ es) cannot.unwritten ∙ append-nil first ∙ acts.written; untaken = cannot.untaken ∙ acts.untaken };
-    rule = cannot.rule;
-    numbered = cannot.numbered;
-    stops = cannot.stops;
-  }
-
-  -- the next one was refused
-  pub acts_refused : (here : Position) (offer : Offer) (later : List Offer) → here.turns ≤ settings.limit → (come middle rest : List ℕ) (first second : List Event) → ActsSome program settings.height at here offers (offer ∷ later) come first middle → BeginsOffer program settings offer here middle second rest → BeginsActs program settings at offers come (first ++ second) rest
-  acts_refused here offer later few come middle rest first second acts (inl nothing) = record {
-    here = here;
-    later = offer ∷ later;
-    few = few;
-    more = [];
-    acts = record { deeds = acts.deeds; done = acts.done; order = acts.order; written = append-nil (first ++ second) ∙ ap (λ es. first ++ es) nothing.0 ∙ append-nil first ∙ acts.written; untaken = nothing.1 ∙ acts.untaken };
-  }
-  acts_refused here offer later few come middle rest first second acts (inr on) =
-      let does = on.does in
-      let one = does.lawful.counted in
-      let start = ap (λ (p : Position). p.turns) does.here in
-      let stop = ap (λ (p : Position). p.turns) does.leads in
-      let remain = does.remain in
-      record {
-        here = on.next;
-        later = later;
-        few = omega (arith, one, start, stop, remain);
-        more = on.more;
-        acts = subst (λ es. ActsSome program settings.height at on.next offers later come es rest) (sym (append_assoc first second on.more)) (acts_more here on.next offer later come middle rest first (second ++ on.more) acts does);
-      }
+    pub offer_moved : (turned : Turned M) → IsActed talk left old new program settings.height offers place config turned → IsMoved program offers place config turned → IsOfferMoved program settings offer config turned
+    offer_moved (Done next) acted (other, rule, placed, steps) =
+        let (same, one, grouped) = found other rule placed in
+        let is_grouped = holds_at (IsGroupedRule _) program.rules other.rule rule kept.grouped placed.of_rule in
+        (record { applies = is.applies; step = rw (same, ← one) at steps.step }, steps.stage ∙ sym (stays_in_stage rule config.stage grouped is_grouped.leaves), acted.1, remain)
+    offer_moved (Over last) acted moved = acted.1
 
 -- what holds of an outcome by two clauses
 pub both_ok : {T E : Type 0} (r : Result T E) (P Q R : T → Type 0) → ((x : T) → P x → Q x → R x) → IfOk r P → IfOk r Q → IfOk r R
 both_ok (Ok x) P Q R follows p q = follows x p q
 both_ok (Err x) P Q R follows p q = tt
 
--- an offer of the program here stands in the matcher's list
-pub there_in : (program : Parts) (settings : Settings) (height : ℕ) (held state : Multiset) (lists : List (List Offer)) (group : ℕ) (offer : Offer) → AreListed program height held lists → height ≡ settings.height → held ≡ state → group < length lists → IsOffer program settings.height state group offer
-    → Contains (offers_of lists group) offer
-there_in program settings height held state lists group offer are high same listed is =
-    (are.each group listed).each offer (subst (λ s. IsOffer program height s group offer) (sym same) (subst (λ h. IsOffer program h state group offer) (sym high) is))
+-- All admitted offers
+pub split_admitted : (chosen : List Offer) (flags : List Bool) (i : ℕ) → admitted chosen flags ≡ admitted (take i chosen) (take i flags) ++ admitted (drop i chosen) (drop i flags)
+split_admitted chosen flags zero = refl
+split_admitted [] flags (suc i) = refl
+split_admitted (offer ∷ chosen) [] (suc i) = none (drop i chosen)
+  where
+    none : (xs : List Offer) → [] ≡ admitted xs []
+    none [] = refl
+    none (x ∷ xs) = refl
+split_admitted (offer ∷ chosen) (true ∷ flags) (suc i) = ap (λ offers. offer ∷ offers) (split_admitted chosen flags i)
+split_admitted (offer ∷ chosen) (false ∷ flags) (suc i) = split_admitted chosen flags i
 
--- no turn remains
-pub turns_over : {C M : Type 0} (talk : C → Option (List Event)) (left : C → Option (List ℕ)) (console : C) (program : Parts) (settings : Settings) (offer : Offer) (config : Configuration M) (group : ℕ) → IsOffer program settings.height config.state group offer → config.turns ≡ settings.limit → (turned : Turned M) → turned ≡ Over (record { config = config; word = Turns })
-    → IsOfferActed talk left console console program settings offer config turned
-turns_over talk left console program settings offer config group is all turned same =
-    subst (IsOfferActed talk left console console program settings offer config) (sym same)
-    (did_map talk left console console _ _ (λ come events rest nothing. record { rule = is.applies.rule; numbered = is.applies.numbered; stops = all; unwritten = nothing.0; untaken = nothing.1 }) (did_same talk left console console refl refl))
+pub next_left : (chosen : List Offer) (flags : List Bool) (i : ℕ) (offer : Offer) → slice_get chosen i ≡ Some offer → slice_get flags i ≡ Some true → admitted (drop i chosen) (drop i flags) ≡ offer ∷ admitted (drop (i + 1) chosen) (drop (i + 1) flags)
+next_left chosen flags i offer is flagged = rw (drop_at chosen i offer is, drop_at flags i true flagged) refl
 
-pub as_many_flags : (program : Parts) (state used : Multiset) (offers : List Offer) (flags : List Bool) → AreAdmitted program state used offers flags → length flags ≡ length offers
-as_many_flags program state used [] [] are = refl
-as_many_flags program state used [] (flag ∷ flags) are = absurd are
-as_many_flags program state used (offer ∷ offers) [] are = absurd are
-as_many_flags program state used (offer ∷ offers) (true ∷ flags) are = ap suc (as_many_flags program state (used_with program used offer) offers flags are.1)
-as_many_flags program state used (offer ∷ offers) (false ∷ flags) are = ap suc (as_many_flags program state used offers flags are.1)
+-- one more is done
+done_more : (program : Parts) (height : ℕ) (state : Multiset) (prefix : List Offer) (found next : Multiset) (offer : Offer) → AreOffersDone program height state prefix found → IsOfferDone program height found next offer → AreOffersDone program height state (prefix ++ offer ∷ []) next
+done_more program height state [] found next offer done is = (next, rw (← done) is, refl)
+done_more program height state (first ∷ prefix) found next offer done is = (done.0, done.1, done_more program height done.0 prefix found next offer done.2 is)
 
--- one admitted offer more, or none
-more_by_suc : (offers : List Offer) (flags : List Bool) (n : ℕ) (offer : Offer) → slice_get offers n ≡ Some offer → slice_get flags n ≡ Some true → admitted (take (suc n) offers) (take (suc n) flags) ≡ admitted (take n offers) (take n flags) ++ offer ∷ []
-more_by_suc [] flags n offer is is' = absurd cc
-more_by_suc (first ∷ offers) [] n offer is is' = absurd cc
-more_by_suc (first ∷ offers) (true ∷ flags) zero offer is is' = grind arith
-more_by_suc (first ∷ offers) (false ∷ flags) zero offer is is' = grind arith
-more_by_suc (first ∷ offers) (true ∷ flags) (suc n) offer is is' = ap (λ more. first ∷ more) (more_by_suc offers flags n offer is is')
-more_by_suc (first ∷ offers) (false ∷ flags) (suc n) offer is is' = more_by_suc offers flags n offer is is'
+module _ (program : Parts) (settings : Settings) (at : Position) (offers : List Offer) where
+  pub acts_none : (come : List ℕ) (events : List Event) (rest : List ℕ) → (events ≡ []) × (rest ≡ come) → ActsSome program settings.height at at offers offers come events rest
+  acts_none come events rest same = record { deeds = []; done = refl; order = refl; written = same.0; untaken = same.1 }
 
-same_by_suc : (offers : List Offer) (flags : List Bool) (n : ℕ) → slice_get flags n ≡ Some false → admitted (take (suc n) offers) (take (suc n) flags) ≡ admitted (take n offers) (take n flags)
-same_by_suc [] flags zero is = refl
-same_by_suc [] flags (suc n) is = refl
-same_by_suc (first ∷ offers) [] n is = absurd cc
-same_by_suc (first ∷ offers) (true ∷ flags) zero is = grind arith
-same_by_suc (first ∷ offers) (false ∷ flags) zero is = grind arith
-same_by_suc (first ∷ offers) (true ∷ flags) (suc n) is = ap (λ more. first ∷ more) (same_by_suc offers flags n is)
-same_by_suc (first ∷ offers) (false ∷ flags) (suc n) is = same_by_suc offers flags n is
+  module _ (here : Position) (offer : Offer) (later : List Offer) (come middle rest : List ℕ) (first second : List Event) (acts : ActsSome program settings.height at here offers (offer ∷ later) come first middle) where
+    acts_more : (next : Position) → DoesOffer program settings offer here next middle second rest → ActsSome program settings.height at next offers later come (first ++ second) rest
+    acts_more next does = record {
+      deeds = acts.deeds ++ does.deed ∷ [];
+      done = then_deeds program settings 0 at acts.deeds here (does.deed ∷ []) next acts.done (does.here, does.lawful, sym does.leads);
+      order = order_more acts.deeds does.deed offer later offers acts.order does.of_offer;
+      written = rw (acts.written, does.written, lines_more program acts.deeds does.deed) refl;
+      untaken = does.untaken ∙ acts.untaken;
+    }
 
-pub next_admitted : (offers : List Offer) (flags : List Bool) (n : ℕ) (offer : Offer) → slice_get offers n ≡ Some offer → slice_get flags n ≡ Some true → admitted (take (n + 1) offers) (take (n + 1) flags) ≡ admitted (take n offers) (take n flags) ++ offer ∷ []
-next_admitted offers flags n offer is is' = let e : n + 1 ≡ suc n = omega arith in rw e (more_by_suc offers flags n offer is is')
+    acts_stop : (word : EndWord) → CannotDo program settings.limit offer here word middle second rest → StopsAct program settings at here offers word come (first ++ second) rest
+    acts_stop word cannot = record {
+      next = offer;
+      later = later;
+      acts = record { deeds = acts.deeds; done = acts.done; order = acts.order; written = rw (cannot.unwritten, append-nil first) acts.written; untaken = cannot.untaken ∙ acts.untaken };
+      rule = cannot.rule;
+      numbered = cannot.numbered;
+      stops = cannot.stops;
+    }
 
-pub next_blocked : (offers : List Offer) (flags : List Bool) (n : ℕ) → slice_get flags n ≡ Some false → admitted (take (n + 1) offers) (take (n + 1) flags) ≡ admitted (take n offers) (take n flags)
-next_blocked offers flags n is = let e : n + 1 ≡ suc n = omega arith in rw e (same_by_suc offers flags n is)
+  -- the next one was refused
+  acts_refused : (here : Position) (offer : Offer) (later : List Offer) → here.turns ≤ settings.limit → (come middle rest : List ℕ) (first second : List Event) → ActsSome program settings.height at here offers (offer ∷ later) come first middle → BeginsOffer program settings offer here middle second rest → BeginsActs program settings at offers come (first ++ second) rest
+  acts_refused here offer later few come middle rest first second acts (inl nothing) = record {
+    here = here;
+    later = offer ∷ later;
+    few = few;
+    more = [];
+    acts = record { deeds = acts.deeds; done = acts.done; order = acts.order; written = rw (append-nil (first ++ second), nothing.0, append-nil first) acts.written; untaken = nothing.1 ∙ acts.untaken };
+  }
+  acts_refused here offer later few come middle rest first second acts (inr on) = record {
+    here = on.next;
+    later = later;
+    few = omega (arith, on.does.lawful.counted, ap (λ (p : Position). p.turns) on.does.here, ap (λ (p : Position). p.turns) on.does.leads, on.does.remain);
+    more = on.more;
+    acts = rw (append_assoc first second on.more) (acts_more here offer later come middle rest first (second ++ on.more) acts on.next on.does);
+  }
 
--- after the last one all are gone through
-pub all_admitted : (chosen : List Offer) (flags : List Bool) (i : ℕ) → length chosen ≤ i → admitted chosen flags ≡ admitted (take i chosen) (take i flags)
-all_admitted chosen flags i over =
-    split_admitted chosen flags i ∙ ap (λ xs. admitted (take i chosen) (take i flags) ++ admitted xs (drop i flags)) (none_left chosen i over) ∙ append-nil (admitted (take i chosen) (take i flags))
+module _ {C M : Type 0} (talk : C → Option (List Event)) (left : C → Option (List ℕ)) (program : Parts) (settings : Settings) (chosen : List Offer) (flags : List Bool) (start : Configuration M) (old : C) where
+  -- The offers before a place were gone through: the admitted ones of them are done.
+  pub record GoneTo (i : ℕ) (config : Configuration M) (console : C) : Type 0 where
+    pub few : config.turns ≤ settings.limit
+    pub moved : AreOffersDone program settings.height start.state (admitted (take i chosen) (take i flags)) config.state
+    pub stage : config.stage ≡ start.stage
+    pub counted : config.turns ≡ start.turns + length (admitted (take i chosen) (take i flags))
+    pub so_far : Did talk left old console (ActsSome program settings.height (position_of start) (position_of config) (admitted chosen flags) (admitted (drop i chosen) (drop i flags)))
+
+  pub gone_nowhere : start.turns ≤ settings.limit → GoneTo 0 start old
+  gone_nowhere few = record { few = few; moved = refl; stage = refl; counted = omega arith; so_far = did_map talk left old old _ _ (acts_none program settings (position_of start) (admitted chosen flags)) (did_same talk left old old refl refl) }
+
+  module _ (i : ℕ) (config : Configuration M) (console : C) (gone : GoneTo i config console) where
+    -- all were gone through
+    pub gone_all : length chosen ≤ i → (config.turns ≡ start.turns + length (admitted chosen flags)) × Did talk left old console (ActsSome program settings.height (position_of start) (position_of config) (admitted chosen flags) [])
+    gone_all over =
+        let all : admitted chosen flags ≡ admitted (take i chosen) (take i flags) = rw (split_admitted chosen flags i, drop_of_length-le chosen over, append-nil (admitted (take i chosen) (take i flags))) refl in
+        (rw all gone.counted, rw (drop_of_length-le chosen over) at gone.so_far)
+
+    -- the next one is blocked
+    pub gone_past : i < length chosen → slice_get flags i ≡ Some false → GoneTo (i + 1) config console
+    gone_past within flagged =
+        let there = item_at chosen i within in
+        let same = next_blocked chosen flags i flagged in
+        record { few = gone.few; moved = rw same gone.moved; stage = gone.stage; counted = rw same gone.counted; so_far = rw (drop_at chosen i there.0 there.1, drop_at flags i false flagged) at gone.so_far }
+
+    -- the next one is admitted
+    module _ (new : C) (offer : Offer) (there : slice_get chosen i ≡ Some offer) (flagged : slice_get flags i ≡ Some true) where
+      abbrev later : List Offer
+      later = admitted (drop (i + 1) chosen) (drop (i + 1) flags)
+
+      waiting : Did talk left old console (ActsSome program settings.height (position_of start) (position_of config) (admitted chosen flags) (offer ∷ later))
+      waiting = rw (next_left chosen flags i offer there flagged) at gone.so_far
+
+      pub gone_on : (next : Configuration M) → IsOfferMoved program settings offer config (Done next) → IsOfferActed talk left console new program settings offer config (Done next) → GoneTo (i + 1) next new
+      gone_on next (done, stage, counted, remain) acted =
+          let more = next_admitted chosen flags i offer there flagged in
+          let many = ap length more ∙ length-append (admitted (take i chosen) (take i flags)) (offer ∷ []) in
+          record {
+            few = omega (arith, counted, remain);
+            moved = rw more (done_more program settings.height start.state (admitted (take i chosen) (take i flags)) config.state next.state offer gone.moved done);
+            stage = stage ∙ gone.stage;
+            counted = omega (arith, counted, gone.counted, many);
+            so_far = did_then talk left old console new _ _ _ (λ come first middle second rest acts does. acts_more program settings (position_of start) (admitted chosen flags) (position_of config) offer later come middle rest first second acts (position_of next) does) waiting acted;
+          }
+
+      pub gone_out : (last : Ended M) → IsOfferMoved program settings offer config (Over last) → IsOfferActed talk left console new program settings offer config (Over last) → Did talk left old new (StopsAct program settings (position_of start) (position_of last.config) (admitted chosen flags) last.word)
+      gone_out last same acted = rw same (did_then talk left old console new _ _ _ (λ come first middle second rest acts cannot. acts_stop program settings (position_of start) (admitted chosen flags) (position_of config) offer later come middle rest first second acts last.word cannot) waiting acted)
+
+      pub gone_short : Did talk left console new (BeginsOffer program settings offer (position_of config)) → Did talk left old new (BeginsActs program settings (position_of start) (admitted chosen flags))
+      gone_short begun = did_then talk left old console new _ _ _ (λ come first middle second rest acts on. acts_refused program settings (position_of start) (admitted chosen flags) (position_of config) offer later gone.few come middle rest first second acts on) waiting begun

@@ -1,5 +1,5 @@
 -- What is typed determines a dialogue in rounds but for the derivations of what is done.
-use Rattle.std.proofs.Common.{◌≡◌, ℕ, ◌+◌, ◌<◌, ◌≤◌, ◌^◌, Bool, List, [], ◌∷◌, ◌++◌, map, length, Option, None, Some, append-nil, refl, sym, ap, ◌∙◌, subst, arith}
+use Rattle.std.proofs.Common.{◌≡◌, ℕ, ◌<◌, ◌≤◌, ◌^◌, Bool, List, [], ◌∷◌, ◌++◌, map, length, Option, None, Some, append-nil, refl, sym, ap, ◌∙◌, arith}
 use Rattle.std.specs.Prelude.{slice_get}
 use Rattle.std.specs.FinMap as finite
 use Rattle.cep_base.specs.declared.console.Event.{Event}
@@ -24,9 +24,10 @@ use Rattle.cep_run.specs.declared.choice.Choice.TheVariants.{Place}
 use Rattle.cep_run.specs.declared.settings.Settings.{Settings}
 use Rattle.cep_run.specs.Choice.{Hears}
 use Rattle.cep_run.specs.Deciding.{Supply}
+use Rattle.cep_run.proofs.TurnSteps.{deeds_counted}
 use Rattle.cep_run.specs.Run.{whole_supply, Question, Turn, Ending, Run, unproved, IsQuestion, IsChosen, IsTurn, EndsAt, quiet_end, turns_end, offers_end, input_end, typed_end, atom_end, state_end}
 use Rattle.cep_round.specs.Rounds.{AreAdmitted, admitted}
-use Rattle.cep_players.specs.Runs.{IsForAll, Hearing, IsHeard, AreHeard, HaveChosen, Round, IsListedHere, IsChosenHere, IsRoundDone, TurnOrRound, a_turn, a_round, EndOfRounds, of_turn, of_player, of_offer, unproved_round, unproved_part, unproved_end, IsCutOff, CannotBeDone, StopsInRound, StopsAtPlayer, EndsInRounds, RunsInRounds}
+use Rattle.cep_players.specs.Runs.{Hearing, IsHeard, AreHeard, HaveChosen, Round, IsListedHere, IsChosenHere, IsRoundDone, TurnOrRound, a_turn, a_round, AreTurnsAndRounds, EndOfRounds, of_turn, of_player, of_offer, unproved_round, unproved_part, unproved_end, IsCutOff, CannotBeDone, StopsInRound, StopsAtPlayer, EndsInRounds, RunsInRounds}
 use Rattle.cep_players.specs.Dialogues.{DialogueInRounds}
 
 one_cut : (choice : Choice) (word word' : EndWord) → IsCutOff choice word → IsCutOff choice word' → word ≡ word'
@@ -61,13 +62,12 @@ module _ (one_list : (program : Parts) (height : ℕ) (state : Multiset) (group 
 
     same_heard : (from : Supply) (hearings hearings' : List Hearing) (to to' : Supply) → AreHeard n from hearings to → AreHeard n from hearings' to' → length hearings ≡ length hearings' → (hearings ≡ hearings') × (to ≡ to')
     same_heard from [] [] to to' are are' same = (refl, are ∙ sym are')
-    same_heard from [] (hearing' ∷ hearings') to to' are are' same = absurd cc
-    same_heard from (hearing ∷ hearings) [] to to' are are' same = absurd cc
     same_heard from (hearing ∷ hearings) (hearing' ∷ hearings') to to' are are' same =
         let one = one_heard from hearing.events hearing'.events (Place hearing.place) (Place hearing'.place) are.0 are'.0 are.1 are'.1 in
         let later = same_heard are.0 hearings hearings' to to' are.2 (rw one.2 are'.2) (omega (arith, same)) in
         let places : hearing.place ≡ hearing'.place = cc (one.1) in
         (λ i. record { events = one.0 i; place = places i } ∷ later.0 i, later.1)
+    same_heard from hearings hearings' to to' are are' same = absurd cc
 
     -- no more players choose than before one of whom no choice is heard
     no_more_heard : (from : Supply) (hearings hearings' : List Hearing) (between to to' : Supply) (events : List Event) (choice : Choice) (word : EndWord) → AreHeard n from hearings between → IsHeard n between events choice to → IsCutOff choice word → AreHeard n from hearings' to' → length hearings' ≤ length hearings
@@ -91,11 +91,9 @@ module _ (one_list : (program : Parts) (height : ℕ) (state : Multiset) (group 
   one_chosen : (offers : List Offer) (hearings : List Hearing) (chosen chosen' : List Offer) → HaveChosen offers hearings chosen → HaveChosen offers hearings chosen' → chosen ≡ chosen'
   one_chosen offers [] chosen chosen' have have' = grind arith
   one_chosen offers (hearing ∷ hearings) (offer ∷ chosen) (offer' ∷ chosen') have have' = cc (have.0, have'.0, one_chosen offers hearings chosen chosen' have.1 have'.1)
-  one_chosen offers (hearing ∷ hearings) [] chosen' have have' = absurd have
-  one_chosen offers (hearing ∷ hearings) chosen [] have have' = absurd have'
+  one_chosen offers (hearing ∷ hearings) chosen chosen' have have' = grind arith
 
   -- What is done
-
   abbrev bare : Deed → Deed
   bare deed = record deed { proofs = [] }
 
@@ -129,19 +127,11 @@ module _ (one_list : (program : Parts) (height : ℕ) (state : Multiset) (group 
   abbrev IsDoneTo : Position → Round → Position → List Offer → EndWord → Type 0
   IsDoneTo at round last later word = (admitted round.chosen round.flags ≡ map (λ (it : Deed). it.offer) round.deeds ++ later) × Does at round.deeds last later word
 
-  not_more : (at : Position) (rule : Rule) (values : List Tree) (word : EndWord) → CannotBeDone program settings.limit at rule values word → at.turns ≤ settings.limit
-  not_more at rule values word stops = grind arith
-
-  not_fewer : (at : Position) (deeds : List Deed) (last : Position) → AreDeeds program settings.height at deeds last → at.turns ≤ last.turns
-  not_fewer at [] last done = omega (arith, ap (λ (p : Position). p.turns) done)
-  not_fewer at (deed ∷ deeds) last done = omega (arith, not_fewer deed.after deeds last done.2, done.1.counted, ap (λ (p : Position). p.turns) done.0)
-
   -- where an offer is done, deeds do not stop before it
   goes_on : (at last last' : Position) (deed : Deed) (deeds : List Deed) (later later' : List Offer) (word word' : EndWord) → Does at [] last later word → Does at (deed ∷ deeds) last' later' word' → later ≡ map (λ (it : Deed). it.offer) (deed ∷ deeds) ++ later' → ⊥
   goes_on at last last' deed deeds later later' word word' does does' same =
-      let stops = subst (λ (offers : List Offer). Stops at offers word) same (subst (λ (p : Position). Stops p later word) does.0 does.2) in
-      let within = not_fewer deed.after deeds last' does'.0.2 in
-      done_or_stops deed at stops.0 word does'.0.0 does'.0.1 (omega (arith, within, does'.1)) stops.1 stops.2
+      let stops = rw (does.0, same) at does.2 in
+      done_or_stops deed at stops.0 word does'.0.0 does'.0.1 (omega (arith, deeds_counted program settings.height deed.after deeds last' does'.0.2, does'.1)) stops.1 stops.2
 
   one_way : (at : Position) (deeds deeds' : List Deed) (last last' : Position) (later later' : List Offer) (word word' : EndWord) → Does at deeds last later word → Does at deeds' last' later' word'
       → map (λ (it : Deed). it.offer) deeds ++ later ≡ map (λ (it : Deed). it.offer) deeds' ++ later' → (map bare deeds ≡ map bare deeds') × (last ≡ last') × (later ≡ later')
@@ -154,34 +144,23 @@ module _ (one_list : (program : Parts) (height : ℕ) (state : Multiset) (group 
       (λ i. first i ∷ others.0 i, others.1, others.2)
 
   -- Turns and ends as for one player
-
-  one_group : (at : Position) (group group' : ℕ) → IsAsked program settings.height at.spot.state at.spot.stage group → IsAsked program settings.height at.spot.state at.spot.stage group' → group ≡ group'
-  one_group at group group' asked asked' = grind arith
-
   -- where turns remain and offers are listed, no run ends without a question
   listed_or_ends : (at : Position) (from : Supply) (group : ℕ) (offers : List Offer) {word : EndWord} {to : Supply} → at.turns < settings.limit → IsAsked program settings.height at.spot.state at.spot.stage group → AreOffers program settings.height at.spot.state group offers → length offers ≤ MOST_OFFERS → EndsAt program settings at from word None to → ⊥
   listed_or_ends at from group offers remain asked are few (quiet_end is left) = grind arith
   listed_or_ends at from group offers remain asked are few (turns_end asked' done left) = omega (arith, remain, done)
-  listed_or_ends at from group offers remain asked are few (offers_end {group = group'} {offers = offers'} remain' asked' are' many left) =
-      let same = one_list program settings.height at.spot.state group offers offers' are (rw (one_group at group group' asked asked') are') in
-      omega (arith, many, few, ap length same)
+  listed_or_ends at from group offers remain asked are few (offers_end {group = group'} {offers = offers'} remain' asked' are' many left) = grind (arith, one_list program settings.height at.spot.state group offers offers' are)
 
   module _ (at : Position) (from : Supply) (turn : Turn) (is : IsTurn program settings at from turn) where
-    its_choice : (question : Question) (to : Supply) → IsQuestion program settings at from question to → question.choice ≡ Place (is.chosen.place + 1)
-    its_choice question to asks = ap (λ (q : Question). q.choice) (one_question at from question turn.question to turn.left asks is.asks).0 ∙ is.chosen.chosen
-
     turn_or_passes : (question : Question) (to : Supply) (offer : Offer) (rule : Rule) (passed : Limit) → IsQuestion program settings at from question to → IsChosen program question offer rule → Passes program.signature rule offer.values at.spot.state passed → ⊥
     turn_or_passes question to offer rule passed asks chosen passes =
-        let offers = ap (λ (q : Question). q.offers) (one_question at from question turn.question to turn.left asks is.asks).0 in
-        let next : chosen.place + 1 ≡ is.chosen.place + 1 = cc (its_choice question to asks, chosen.chosen) in
-        let places : chosen.place ≡ is.chosen.place = omega (arith, next) in
-        let same : offer ≡ turn.deed.offer = cc (offers, places, chosen.at_place, is.chosen.at_place) in
-        done_or_passes turn.deed at rule passed is.here is.does (rw (sym same) chosen.of_rule) (rw (sym same) passes)
+        let one : question ≡ turn.question = (one_question at from question turn.question to turn.left asks is.asks).0 in
+        let same : offer ≡ turn.deed.offer = grind (arith, one, chosen.chosen, is.chosen.chosen, chosen.at_place, is.chosen.at_place) in
+        done_or_passes turn.deed at rule passed is.here is.does (rw same at chosen.of_rule) (rw same at passes)
 
     turn_or_end : {word : EndWord} {asked : Option Question} {to : Supply} → EndsAt program settings at from word asked to → ⊥
     turn_or_end {asked = None} ends = listed_or_ends at from turn.question.group turn.question.offers is.asks.remain is.asks.asked is.asks.offered is.asks.few ends
-    turn_or_end {to = to} (input_end {question = question} asks none) = cc (its_choice question to asks, none)
-    turn_or_end {to = to} (typed_end {question = question} asks full) = cc (its_choice question to asks, full)
+    turn_or_end {to = to} (input_end {question = question} asks none) = cc ((one_question at from question turn.question to turn.left asks is.asks).0, is.chosen.chosen, none)
+    turn_or_end {to = to} (typed_end {question = question} asks full) = cc ((one_question at from question turn.question to turn.left asks is.asks).0, is.chosen.chosen, full)
     turn_or_end {to = to} (atom_end {question = question} {offer = offer} {rule = rule} asks chosen passes) = turn_or_passes question to offer rule limit.Atom asks chosen passes
     turn_or_end {to = to} (state_end {question = question} {offer = offer} {rule = rule} asks chosen passes) = turn_or_passes question to offer rule limit.State asks chosen passes
 
@@ -210,23 +189,20 @@ module _ (one_list : (program : Parts) (height : ℕ) (state : Multiset) (group 
     done_to round last to is = (sym is.all ∙ sym (append-nil _), (is.done, is.remain, tt))
 
     stops_at : (round : Round) (word : EndWord) (last : Position) (stops : StopsInRound program settings at round word last) → IsDoneTo at round last (stops.next ∷ stops.later) word
-    stops_at round word last stops = (stops.in_order, (stops.done, not_more last stops.rule stops.next.values word stops.stops, (stops.rule, stops.of_rule, stops.stops)))
+    stops_at round word last stops = (stops.in_order, (stops.done, grind (arith, stops.stops), (stops.rule, stops.of_rule, stops.stops)))
 
     -- What excludes what
-
     listed_or_asked : (offers : List Offer) (word : EndWord) (asked : Option Question) (last : Position) (to : Supply) → IsListedHere program settings at offers → EndsInRounds program settings players at from word (of_turn asked) last to → ⊥
     listed_or_asked offers word None last to listed ends = listed_or_ends at from (own_group at.spot.stage) offers listed.remain listed.for_all.asked listed.offered listed.few ends.0
     listed_or_asked offers word (Some question) last to listed ends = ends.1 listed.for_all
 
-    end_or_turn : (word : EndWord) (end : EndOfRounds) (last : Position) (to : Supply) (turn : Turn) → EndsInRounds program settings players at from word end last to → IsTurn program settings at from turn → ¬ IsForAll program settings.height at → ⊥
-    end_or_turn word (of_turn asked) last to turn ends is single = turn_or_end at from turn is ends.0
-    end_or_turn word (of_player offers hearings events choice) last to turn ends is single = single ends.0.listed.for_all
-    end_or_turn word (of_offer round) last to turn ends is single = single ends.0.listed.for_all
-
-    end_or_round : (word : EndWord) (end : EndOfRounds) (last here : Position) (to left : Supply) (round : Round) → EndsInRounds program settings players at from word end last to → IsRoundDone program settings players at from round here left → ⊥
-    end_or_round word (of_turn asked) last here to left round ends is = listed_or_asked round.offers word asked last to is.choice.listed ends
-    end_or_round word (of_player offers hearings events choice) last here to left round ends is = chosen_or_not round left offers hearings events choice word to is.choice ends.0 ends.1
-    end_or_round word (of_offer stopped) last here to left round ends is = cc (one_round stopped round last here to left _ [] word Quiet ends.0 is.choice (stops_at stopped word last ends.1) (done_to round here left is)).3
+    end_or_part : (word : EndWord) (end : EndOfRounds) (last : Position) (to : Supply) → EndsInRounds program settings players at from word end last to → (part : TurnOrRound) (parts : List TurnOrRound) (last' : Position) (to' : Supply) → AreTurnsAndRounds program settings players at from (part ∷ parts) last' to' → ⊥
+    end_or_part word (of_turn asked) last to ends (a_turn turn) parts last' to' done = turn_or_end at from turn done.0 ends.0
+    end_or_part word (of_player offers hearings events choice) last to ends (a_turn turn) parts last' to' done = done.1 ends.0.listed.for_all
+    end_or_part word (of_offer round) last to ends (a_turn turn) parts last' to' done = done.1 ends.0.listed.for_all
+    end_or_part word (of_turn asked) last to ends (a_round round here left) parts last' to' done = listed_or_asked round.offers word asked last to done.0.choice.listed ends
+    end_or_part word (of_player offers hearings events choice) last to ends (a_round round here left) parts last' to' done = chosen_or_not round left offers hearings events choice word to done.0.choice ends.0 ends.1
+    end_or_part word (of_offer stopped) last to ends (a_round round here left) parts last' to' done = cc (one_round stopped round last here to left _ [] word Quiet ends.0 done.0.choice (stops_at stopped word last ends.1) (done_to round here left done.0)).3
 
     one_end : (word word' : EndWord) (end end' : EndOfRounds) (last last' : Position) (to to' : Supply) → EndsInRounds program settings players at from word end last to → EndsInRounds program settings players at from word' end' last' to'
         → SameEnd end end' word word' last last' to to'
@@ -243,7 +219,7 @@ module _ (one_list : (program : Parts) (height : ℕ) (state : Multiset) (group 
     one_end word word' (of_player offers hearings events choice) (of_player offers' hearings' events' choice') last last' to to' ends ends' =
         let stops = ends.0 in
         let listed = one_listed offers offers' stops.listed ends'.0.listed in
-        let stops' = subst (λ os. StopsAtPlayer program settings players at from os hearings' events' choice' to') (sym listed) ends'.0 in
+        let stops' = rw (← listed) at ends'.0 in
         let one = one_heard_player (length offers) stops.listed.few from hearings hearings' stops.between stops'.between to to' events events' choice choice' word word' stops.before stops'.before stops.heard stops'.heard ends.1 ends'.1 in
         record { ends = cc (listed, one.0, one.1, one.2); words = one.3; lasts = ends.2 ∙ sym ends'.2; lefts = one.4 }
     one_end word word' (of_offer round) (of_offer round') last last' to to' ends ends' =
@@ -259,17 +235,14 @@ module _ (one_list : (program : Parts) (height : ℕ) (state : Multiset) (group 
         }
 
   -- Whole runs
-
   ends_here : (at : Position) (from : Supply) (end : EndOfRounds) (word : EndWord) (last : Position) (to : Supply) → RunsInRounds program settings players at from [] end word last to → EndsInRounds program settings players at from word end last to
   ends_here at from end word last to run = rw (← run.done.0, ← run.done.1) run.ends
 
   one_run_of : (at : Position) (from : Supply) (parts parts' : List TurnOrRound) (end end' : EndOfRounds) (word word' : EndWord) (last last' : Position) (to to' : Supply) → RunsInRounds program settings players at from parts end word last to → RunsInRounds program settings players at from parts' end' word' last' to'
       → (map unproved_part parts ≡ map unproved_part parts') × SameEnd end end' word word' last last' to to'
   one_run_of at from [] [] end end' word word' last last' to to' run run' = (refl, one_end at from word word' end end' last last' to to' (ends_here at from end word last to run) (ends_here at from end' word' last' to' run'))
-  one_run_of at from [] (a_turn turn' ∷ parts') end end' word word' last last' to to' run run' = absurd (end_or_turn at from word end last to turn' (ends_here at from end word last to run) run'.done.0 run'.done.1)
-  one_run_of at from [] (a_round round' here' left' ∷ parts') end end' word word' last last' to to' run run' = absurd (end_or_round at from word end last here' to left' round' (ends_here at from end word last to run) run'.done.0)
-  one_run_of at from (a_turn turn ∷ parts) [] end end' word word' last last' to to' run run' = absurd (end_or_turn at from word' end' last' to' turn (ends_here at from end' word' last' to' run') run.done.0 run.done.1)
-  one_run_of at from (a_round round here left ∷ parts) [] end end' word word' last last' to to' run run' = absurd (end_or_round at from word' end' last' here to' left round (ends_here at from end' word' last' to' run') run.done.0)
+  one_run_of at from [] (part' ∷ parts') end end' word word' last last' to to' run run' = absurd (end_or_part at from word end last to (ends_here at from end word last to run) part' parts' run'.here run'.between run'.done)
+  one_run_of at from (part ∷ parts) [] end end' word word' last last' to to' run run' = absurd (end_or_part at from word' end' last' to' (ends_here at from end' word' last' to' run') part parts run.here run.between run.done)
   one_run_of at from (a_turn turn ∷ parts) (a_round round' here' left' ∷ parts') end end' word word' last last' to to' run run' = absurd (run.done.1 run'.done.0.choice.listed.for_all)
   one_run_of at from (a_round round here left ∷ parts) (a_turn turn' ∷ parts') end end' word word' last last' to to' run run' = absurd (run'.done.1 run.done.0.choice.listed.for_all)
   one_run_of at from (a_turn turn ∷ parts) (a_turn turn' ∷ parts') end end' word word' last last' to to' run run' =

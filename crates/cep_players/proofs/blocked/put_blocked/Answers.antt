@@ -1,4 +1,4 @@
-use Rattle.std.proofs.Common.{◌<◌, ◌≤◌, ap, ◌∙◌, Some, subst}
+use Rattle.std.proofs.Common.{ap, ◌∙◌, Some}
 use Rattle.cep_base.proofs.Lists.{holds_at}
 use Rattle.cep_rule.specs.Shapes.{IsOfferOf}
 use Rattle.cep_players.proofs.BlockedLines.{step_blocked, step_admitted, end_blocked}
@@ -10,11 +10,9 @@ put_blocked_line-requires c = holds_at (IsOfferOf c.args.program.now) c.args.cho
 
 pub loop-i-preserved : goal.loop-i-preserved
 loop-i-preserved c = elim c.if-not-get.branch [
-  | then-not-get+in_ok-put_blocked_line w ↦
-      step_blocked c.args.program.now c.args.chosen.now c.args.flags.now c.loop-i.i w.get-then-not-get.result.now w.get-then-not-get.ensures (c.get.ensures ∙ ap Some w.if-not-get.true) _ c.loop-i.out _ c.if-not-get.out c.loop-i.invariant w.in_ok-put_blocked_line.ensures w.out-is
-  | else-not-get w ↦
-      step_admitted c.args.program.now c.args.chosen.now c.args.flags.now c.loop-i.i (subst (λ n. c.loop-i.i < n) c.len-i-end.ensures c.loop-i-test.true) (c.get.ensures ∙ ap Some w.if-not-get.false) _ c.loop-i.out c.if-not-get.out c.loop-i.invariant w.out-is
+  | then-not-get+in_ok-put_blocked_line w ↦ step_blocked c.args.program.now c.args.chosen.now c.args.flags.now c.loop-i.i c.loop-i.out c.loop-i.invariant w.get-then-not-get.result.now w.get-then-not-get.ensures (c.get.ensures ∙ ap Some w.if-not-get.true) w.in_ok-put_blocked_line.ensures w.out-is
+  | else-not-get w ↦ step_admitted c.args.program.now c.args.chosen.now c.args.flags.now c.loop-i.i c.loop-i.out c.loop-i.invariant (rw c.len-i-end.ensures at c.loop-i-test.true) (c.get.ensures ∙ ap Some w.if-not-get.false) w.out-is
 ]
 
 pub returns : goal.returns
-returns c = end_blocked c.args.program.now c.args.chosen.now c.args.flags.now c.loop-i.i (subst (λ n. n ≤ c.loop-i.i) c.len-i-end.ensures c.loop-i-test.false) _ c.loop-i.out c.loop-i.invariant
+returns c = end_blocked c.args.program.now c.args.chosen.now c.args.flags.now c.loop-i.i c.loop-i.out c.loop-i.invariant (rw c.len-i-end.ensures at c.loop-i-test.false)

@@ -1,19 +1,14 @@
-use Rattle.std.proofs.Common.{subst}
 use Rattle.std.proofs.lemmas.List.Sorted.{IsPermutation-refl}
 use Rattle.cep_step.specs.Deeds.{start_of}
 use Rattle.cep_run.specs.Run.{whole_supply}
 use Rattle.cep_round.specs.Rounds.{admitted}
-use Rattle.cep_round.specs.Orders.{AreOffersDone}
-use Rattle.cep_players.proofs.RunDeeds.{deeds_done}
-use Rattle.cep_players.proofs.Together.{together}
+use Rattle.cep_players.proofs.RoundSteps.{deeds_done, together}
 use Rattle.cep_players.proofs.laws.rounds_end_together.Goals as goal
 
 pub returns-clause-rounds : goal.returns-clause-rounds
 returns-clause-rounds c = λ program settings players at last from to round kept is done.
     c.rounds_are_lawful.ensures.last program settings.height at.spot.state last.spot.state round.chosen (admitted round.chosen round.flags) round.flags kept is done.choice.flagged
-    (IsPermutation-refl (admitted round.chosen round.flags))
-    (subst (λ offers. AreOffersDone program settings.height at.spot.state offers last.spot.state) done.all
-    (deeds_done program settings.height (c.what_is_needed_is_there.ensures.contained program.signature) at round.deeds last done.done))
+    (IsPermutation-refl (admitted round.chosen round.flags)) (rw done.all at (deeds_done c.players_are_lawful.ensures.rounds program settings.height at round.deeds last done.done))
 
 pub returns-clause-dialogues : goal.returns-clause-dialogues
 returns-clause-dialogues c = λ program settings players come rest parts end word last events kept said.
