@@ -30,9 +30,6 @@ use Rattle.cep_round.specs.Rounds.{AreAdmitted, admitted}
 use Rattle.cep_players.specs.Runs.{Hearing, IsHeard, AreHeard, HaveChosen, Round, IsListedHere, IsChosenHere, IsRoundDone, TurnOrRound, a_turn, a_round, AreTurnsAndRounds, EndOfRounds, of_turn, of_player, of_offer, unproved_round, unproved_part, unproved_end, IsCutOff, CannotBeDone, StopsInRound, StopsAtPlayer, EndsInRounds, RunsInRounds}
 use Rattle.cep_players.specs.Dialogues.{DialogueInRounds}
 
-one_cut : (choice : Choice) (word word' : EndWord) → IsCutOff choice word → IsCutOff choice word' → word ≡ word'
-one_cut choice word word' cut cut' = grind arith
-
 one_word : (program : Parts) (most : ℕ) (at : Position) (next : Offer) (rule rule' : Rule) (word word' : EndWord) → slice_get program.rules next.rule ≡ Some rule → slice_get program.rules next.rule ≡ Some rule'
     → CannotBeDone program most at rule next.values word → CannotBeDone program most at rule' next.values word' → word ≡ word'
 one_word program most at next rule rule' word word' of_rule of_rule' stops stops' = grind arith
@@ -86,7 +83,7 @@ module _ (one_list : (program : Parts) (height : ℕ) (state : Multiset) (group 
         let more = no_more_heard from hearings' hearings between' to' between events' choice' word' are' is' cut' are in
         let before = same_heard from hearings hearings' between between' are are' (omega (arith, fewer, more)) in
         let one = one_heard between events events' choice choice' to to' is (rw before.1 is') in
-        (before.0, one.0, one.1, one_cut choice word word' cut (rw one.1 cut'), one.2)
+        (before.0, one.0, one.1, grind (arith, cut, cut', one.1), one.2)
 
   one_chosen : (offers : List Offer) (hearings : List Hearing) (chosen chosen' : List Offer) → HaveChosen offers hearings chosen → HaveChosen offers hearings chosen' → chosen ≡ chosen'
   one_chosen offers [] chosen chosen' have have' = grind arith
@@ -130,8 +127,8 @@ module _ (one_list : (program : Parts) (height : ℕ) (state : Multiset) (group 
   -- where an offer is done, deeds do not stop before it
   goes_on : (at last last' : Position) (deed : Deed) (deeds : List Deed) (later later' : List Offer) (word word' : EndWord) → Does at [] last later word → Does at (deed ∷ deeds) last' later' word' → later ≡ map (λ (it : Deed). it.offer) (deed ∷ deeds) ++ later' → ⊥
   goes_on at last last' deed deeds later later' word word' does does' same =
-      let stops = rw (does.0, same) at does.2 in
-      done_or_stops deed at stops.0 word does'.0.0 does'.0.1 (omega (arith, deeds_counted program settings.height deed.after deeds last' does'.0.2, does'.1)) stops.1 stops.2
+      let (rule, of_rule, stops) = rw (does.0, same) at does.2 in
+      done_or_stops deed at rule word does'.0.0 does'.0.1 (omega (arith, deeds_counted program settings.height deed.after deeds last' does'.0.2, does'.1)) of_rule stops
 
   one_way : (at : Position) (deeds deeds' : List Deed) (last last' : Position) (later later' : List Offer) (word word' : EndWord) → Does at deeds last later word → Does at deeds' last' later' word'
       → map (λ (it : Deed). it.offer) deeds ++ later ≡ map (λ (it : Deed). it.offer) deeds' ++ later' → (map bare deeds ≡ map bare deeds') × (last ≡ last') × (later ≡ later')

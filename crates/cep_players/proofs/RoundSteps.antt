@@ -62,12 +62,9 @@ module _ (program : Parts) (settings : Settings) (players : ℕ) where
   pub run_deeds : (at : Position) (from : Supply) (parts : List TurnOrRound) (end : EndOfRounds) (word : EndWord) (last : Position) (to : Supply) → RunsInRounds program settings players at from parts end word last to → AreDeeds program settings.height at (all_done parts ++ done_before end) last
   run_deeds at from parts end word last to run = then_deeds at (all_done parts) run.here (done_before end) last (parts_deeds at from parts run.here run.between run.done) (end_deeds run.here run.between word end last to run.ends)
 
-  not_cut : (choice : Choice) → IsCutOff choice Quiet → ⊥
-  not_cut choice cut = grind arith
-
   end_quiet : (at : Position) (from : Supply) (end : EndOfRounds) (last : Position) (to : Supply) → EndsInRounds program settings players at from Quiet end last to → IsQuiet program settings.height last.spot.state last.spot.stage
   end_quiet at from (of_turn asked) last to ends = rw ends.2 (quiet_here program settings at from refl ends.0)
-  end_quiet at from (of_player offers hearings events choice) last to ends = absurd (not_cut choice ends.1)
+  end_quiet at from (of_player offers hearings events choice) last to ends = absurd (grind (arith, ends.1))
   end_quiet at from (of_offer round) last to ends = absurd ends.1.stops
 
   pub run_quiet : (at : Position) (from : Supply) (parts : List TurnOrRound) (end : EndOfRounds) (word : EndWord) (last : Position) (to : Supply) → RunsInRounds program settings players at from parts end word last to → word ≡ Quiet → IsQuiet program settings.height last.spot.state last.spot.stage

@@ -64,15 +64,12 @@ pub asked_at : (program : Parts) (settings : Settings) (at : Position) (from : S
 asked_at program settings at from ends = left_by program settings at from ends
 
 -- Which offers are admitted can be told
-at_most_or_not : (n m : ℕ) → (n ≤ m) ⊎ (n ≤ m → ⊥)
-at_most_or_not n m = grind arith
-
 all_or_not : {A : Type 0} (P : A → Type 0) → ((x : A) → P x ⊎ (P x → ⊥)) → (xs : List A) → AllByRecursion P xs ⊎ (AllByRecursion P xs → ⊥)
 all_or_not P decide [] = inl tt
 all_or_not P decide (x ∷ xs) = grind (arith, decide x, all_or_not P decide xs)
 
 contained_or_not : BagLaws → (few many : Multiset) → IsContained few many ⊎ (IsContained few many → ⊥)
-contained_or_not laws few many = elim (all_or_not (λ (e : AtomTree × ℕ). e.1 ≤ count_of many e.0) (λ e. at_most_or_not e.1 (count_of many e.0)) (finite.entries few)) [
+contained_or_not laws few many = elim (all_or_not (λ (e : AtomTree × ℕ). e.1 ≤ count_of many e.0) (λ e. grind arith) (finite.entries few)) [
   | inl all ↦ inl (λ a. elim (cases_lt 0 (count_of few a)) [
     | inr none ↦ omega (arith, none)
     | inl some ↦ (let there = laws.entry_there few a some in holds_at (λ (e : AtomTree × ℕ). e.1 ≤ count_of many e.0) (finite.entries few) there.0 (a, count_of few a) all there.1)
@@ -87,9 +84,6 @@ flags_there laws program state used (offer ∷ offers) = elim (contained_or_not 
   | inr outside ↦ (let later = flags_there laws program state used offers in (false ∷ later.0, (outside, later.1)))
 ]
 
-held_within : (t : Bool) (none n m all : ℕ) → none ≡ 0 → all ≡ held t (none + n) → n ≤ m → all ≤ m
-held_within t none n m all nothing is within = grind arith
-
 -- of offers that apply one at least is admitted, as the first one is
 pub some_admitted : BagLaws → (program : Parts) (height : ℕ) (state : Multiset) (group : ℕ) (chosen : List Offer) (flags : List Bool) → AllByRecursion (IsOffer program height state group) chosen → AreAdmitted program state finite.empty chosen flags → 0 < length chosen → 0 < length (admitted chosen flags)
 some_admitted laws program height state group [] flags are flagged many = absurd (omega (arith, many))
@@ -98,7 +92,7 @@ some_admitted laws program height state group (offer ∷ chosen) (true ∷ flags
 some_admitted laws program height state group (offer ∷ chosen) (false ∷ flags) are flagged many =
     let applies = are.0.applies in
     let needed : IsContained (needs program offer) state = rw applies.numbered applies.contained in
-    absurd (flagged.0 (λ a. held_within (is_fact program.signature a) _ (count_of (needs program offer) a) (count_of state a) _ (laws.empty a) (join_count laws program finite.empty (needs program offer) a) (needed a)))
+    absurd (flagged.0 (λ a. grind (arith, laws.empty a, join_count laws program finite.empty (needs program offer) a, needed a)))
 
 module _ (program : Parts) (settings : Settings) (players : ℕ) where
   -- these events begin a run in rounds from here
