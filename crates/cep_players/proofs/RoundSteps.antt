@@ -28,12 +28,11 @@ use Rattle.cep_lines.specs.declared.end_word.EndWord.TheVariants.{Quiet}
 use Rattle.cep_round.specs.Rounds.{AreAdmitted, admitted, IsRound}
 use Rattle.cep_round.specs.Orders.{AreOffersDone}
 use Rattle.cep_round.proofs.Counts.{each_admitted}
-use Rattle.cep_run.specs.declared.choice.Choice.{Choice}
 use Rattle.cep_run.specs.declared.settings.Settings.{Settings}
 use Rattle.cep_run.specs.Deciding.{Supply}
 use Rattle.cep_run.proofs.TurnSteps.{quiet_here}
 use Rattle.cep_players.specs.PlayersLaws.{RoundLaws}
-use Rattle.cep_players.specs.Runs.{Hearing, HaveChosen, Round, IsRoundDone, TurnOrRound, a_turn, a_round, AreTurnsAndRounds, AreTogether, all_done, EndOfRounds, of_turn, of_player, of_offer, done_before, IsCutOff, EndsInRounds, RunsInRounds}
+use Rattle.cep_players.specs.Runs.{Hearing, HaveChosen, Round, IsRoundDone, TurnOrRound, a_turn, a_round, AreTurnsAndRounds, AreTogether, all_done, EndOfRounds, of_turn, of_player, of_offer, done_before, EndsInRounds, RunsInRounds}
 
 -- offers that were chosen are offers of the list
 pub chosen_are : (P : Offer → Type 0) (offers : List Offer) → ((k : ℕ) (offer : Offer) → slice_get offers k ≡ Some offer → P offer) → (hearings : List Hearing) (chosen : List Offer) → HaveChosen offers hearings chosen → AllByRecursion P chosen

@@ -13,7 +13,7 @@ use Rattle.cep_base.proofs.Elements.{contains_at}
 use Rattle.cep_base.proofs.Lists.{all_from_places, holds_at}
 use Rattle.cep_term.specs.Tree.{AtomTree}
 use Rattle.cep_term.specs.BagLaws.{BagLaws}
-use Rattle.cep_term.specs.Multiset.{Multiset, count_of, IsContained, held}
+use Rattle.cep_term.specs.Multiset.{Multiset, count_of, IsContained}
 use Rattle.cep_rule.specs.declared.parts.Parts.{Parts}
 use Rattle.cep_rule.specs.declared.parts.Stage.{Stage}
 use Rattle.cep_rule.specs.declared.rule.Rule.{Rule}
@@ -21,7 +21,6 @@ use Rattle.cep_rule.specs.declared.offer.Offer.{Offer}
 use Rattle.cep_rule.specs.State.{IsState}
 use Rattle.cep_rule.specs.Offers.{IsOffer}
 use Rattle.cep_rule.specs.Stages.{own_group, IsAsked}
-use Rattle.cep_rule.specs.Typing.{is_fact}
 use Rattle.cep_rule.specs.Program.{IsProgram}
 use Rattle.cep_step.specs.Deeds.{Position, Deed, AreDeeds, start_of}
 use Rattle.cep_step.specs.declared.limit.Limit.{Limit}

@@ -10,9 +10,6 @@ place_in-place-requires-clause-there g c =
     let listed = g.met.M.Matcher.exact c.args.program.now c.args.config.matcher c.requires.played.of_program.matcher in
     rw c.matcher.ensures.matcher ((listed.each c.args.group (omega (arith, c.matcher.ensures.listed, c.requires.own))).each c.args.offer.now (rw (c.matcher.ensures.same_state, c.requires.played.height) c.requires.offer))
 
-pub act-requires-clause-asked : goal.act-requires-clause-asked
-act-requires-clause-asked g c = grind (arith, c.requires.own, rw c.matcher.ensures.matcher at c.place_in-place.ensures)
-
 pub returns-clause-begun : goal.returns-clause-begun
 returns-clause-begun g c =
     on_err_weaker c.act.result
