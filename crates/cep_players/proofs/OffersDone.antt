@@ -123,7 +123,8 @@ module _ (program : Parts) (settings : Settings) (at : Position) (offers : List 
     }
 
   -- the next one was refused
-  acts_refused : (here : Position) (offer : Offer) (later : List Offer) → here.turns ≤ settings.limit → (come middle rest : List ℕ) (first second : List Event) → ActsSome program settings.height at here offers (offer ∷ later) come first middle → BeginsOffer program settings offer here middle second rest → BeginsActs program settings at offers come (first ++ second) rest
+  acts_refused : (here : Position) (offer : Offer) (later : List Offer) → here.turns ≤ settings.limit → (come middle rest : List ℕ) (first second : List Event) → ActsSome program settings.height at here offers (offer ∷ later) come first middle
+      → BeginsOffer program settings offer here middle second rest → BeginsActs program settings at offers come (first ++ second) rest
   acts_refused here offer later few come middle rest first second acts (inl nothing) = record {
     here = here;
     later = offer ∷ later;
@@ -185,7 +186,8 @@ module _ {C M : Type 0} (talk : C → Option (List Event)) (left : C → Option 
             so_far = did_then talk left old console new _ _ _ (λ come first middle second rest acts does. acts_more program settings (position_of start) (admitted chosen flags) (position_of config) offer later come middle rest first second acts (position_of next) does) waiting acted;
           }
 
-      pub gone_out : (last : Ended M) → IsOfferMoved program settings offer config (Over last) → IsOfferActed talk left console new program settings offer config (Over last) → Did talk left old new (StopsAct program settings (position_of start) (position_of last.config) (admitted chosen flags) last.word)
+      pub gone_out : (last : Ended M) → IsOfferMoved program settings offer config (Over last) → IsOfferActed talk left console new program settings offer config (Over last)
+          → Did talk left old new (StopsAct program settings (position_of start) (position_of last.config) (admitted chosen flags) last.word)
       gone_out last same acted = rw same (did_then talk left old console new _ _ _ (λ come first middle second rest acts cannot. acts_stop program settings (position_of start) (admitted chosen flags) (position_of config) offer later come middle rest first second acts last.word cannot) waiting acted)
 
       pub gone_short : Did talk left console new (BeginsOffer program settings offer (position_of config)) → Did talk left old new (BeginsActs program settings (position_of start) (admitted chosen flags))

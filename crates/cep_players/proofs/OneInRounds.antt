@@ -193,7 +193,8 @@ module _ (one_list : (program : Parts) (height : ℕ) (state : Multiset) (group 
     listed_or_asked offers word None last to listed ends = listed_or_ends at from (own_group at.spot.stage) offers listed.remain listed.for_all.asked listed.offered listed.few ends.0
     listed_or_asked offers word (Some question) last to listed ends = ends.1 listed.for_all
 
-    end_or_part : (word : EndWord) (end : EndOfRounds) (last : Position) (to : Supply) → EndsInRounds program settings players at from word end last to → (part : TurnOrRound) (parts : List TurnOrRound) (last' : Position) (to' : Supply) → AreTurnsAndRounds program settings players at from (part ∷ parts) last' to' → ⊥
+    end_or_part : (word : EndWord) (end : EndOfRounds) (last : Position) (to : Supply) → EndsInRounds program settings players at from word end last to → (part : TurnOrRound) (parts : List TurnOrRound) (last' : Position) (to' : Supply)
+        → AreTurnsAndRounds program settings players at from (part ∷ parts) last' to' → ⊥
     end_or_part word (of_turn asked) last to ends (a_turn turn) parts last' to' done = turn_or_end at from turn done.0 ends.0
     end_or_part word (of_player offers hearings events choice) last to ends (a_turn turn) parts last' to' done = done.1 ends.0.listed.for_all
     end_or_part word (of_offer round) last to ends (a_turn turn) parts last' to' done = done.1 ends.0.listed.for_all

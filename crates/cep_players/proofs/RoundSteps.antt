@@ -88,7 +88,13 @@ module _ (laws : RoundLaws) (program : Parts) (height : ℕ) where
   deeds_done at (deed ∷ deeds) last done =
       let step = done.1.step in
       let move : Step program.signature deed.rule deed.offer.values at.spot.state deed.after.spot.state = rw (← done.0) step.steps.step in
-      let applies : Applies program height at.spot.state deed.offer = record { rule = deed.rule; numbered = step.numbered; values = step.values; contained = laws.needed program.signature deed.rule deed.offer.values at.spot.state deed.after.spot.state move; derivable = derivable deed.proofs _ step.proved } in
+      let applies : Applies program height at.spot.state deed.offer = record {
+        rule = deed.rule;
+        numbered = step.numbered;
+        values = step.values;
+        contained = laws.needed program.signature deed.rule deed.offer.values at.spot.state deed.after.spot.state move;
+        derivable = derivable deed.proofs _ step.proved;
+      } in
       (deed.after.spot.state, record { applies = applies; step = move }, deeds_done deed.after deeds last done.2)
 
   module _ (kept : IsProgram program) where

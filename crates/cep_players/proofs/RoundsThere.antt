@@ -105,7 +105,8 @@ module _ (program : Parts) (settings : Settings) (players : ℕ) where
   parts_more at from (a_round round after left ∷ parts) here between more last to done later = (done.0, parts_more after left parts here between more last to done.1 later)
 
   -- a run goes on after turns and rounds that were done
-  pub runs_after : (at : Position) (from : Supply) (parts : List TurnOrRound) (here : Position) (between : Supply) (events : List Event) → AreTurnsAndRounds program settings players at from parts here between → Begins here between events → Begins at from (flat_map (part_events program) parts ++ events)
+  pub runs_after : (at : Position) (from : Supply) (parts : List TurnOrRound) (here : Position) (between : Supply) (events : List Event) → AreTurnsAndRounds program settings players at from parts here between → Begins here between events
+      → Begins at from (flat_map (part_events program) parts ++ events)
   runs_after at from parts here between events done begun =
       let (later, end, word, last, run, is) = begun.whole in
       let said = flat_map (part_events program) parts in
@@ -207,7 +208,8 @@ module _ (program : Parts) (settings : Settings) (players : ℕ) where
         let events = part_events program (a_turn turn) in
         rw (append-nil (events ++ []), append-nil events) at (runs_after at from (a_turn turn ∷ []) turn.deed.after turn.left [] (is, none, (refl, refl)) on)
 
-    pub question_on : (at : Position) (from : Supply) → IsState program.signature at.spot.state → (question : Question) (to : Supply) → IsQuestion program settings at from question to → (IsForAll program settings.height at → ⊥) → Goes at → Begins at from (turn_question_events program question.offers question.how)
+    pub question_on : (at : Position) (from : Supply) → IsState program.signature at.spot.state → (question : Question) (to : Supply) → IsQuestion program settings at from question to → (IsForAll program settings.height at → ⊥) → Goes at
+        → Begins at from (turn_question_events program question.offers question.how)
     question_on at from is_state question to asks none next = elim (laws.lead_on program settings at from question to kept is_state asks) [
       | inr out ↦ ends_here at from out.0 (of_turn (Some question)) at to (out.1, none, refl)
       | inl (turn, is, same) ↦ front_of_front (IsRunInRounds program settings players at) from (turn_question_events program question.offers question.how) (outs (lines_of_deed program turn.deed)) (rw same at (turn_on at from is_state turn is none next))
@@ -224,7 +226,8 @@ module _ (program : Parts) (settings : Settings) (players : ℕ) where
           )
     ]
 
-    by_turns : (at : Position) (from : Supply) → IsState program.signature at.spot.state → Goes at → (turns : List Turn) (last : Position) (between : Supply) → AreTurns program settings at from turns last between → (word : EndWord) (asked : Option Question) (to : Supply) → EndsAt program settings last between word asked to → Begins at from []
+    by_turns : (at : Position) (from : Supply) → IsState program.signature at.spot.state → Goes at → (turns : List Turn) (last : Position) (between : Supply) → AreTurns program settings at from turns last between → (word : EndWord) (asked : Option Question) (to : Supply)
+        → EndsAt program settings last between word asked to → Begins at from []
     by_turns at from is_state next [] last between done word None to ends = ends_here at from word (of_turn None) at to (rw (← done.0, ← done.1) ends, tt, refl)
     by_turns at from is_state next [] last between done word (Some question) to ends = from_question at from is_state question to (left_by program settings at from (rw (done.0, done.1) at ends)) next
     by_turns at from is_state next (turn ∷ turns) last between done word asked to ends = from_question at from is_state turn.question turn.left done.0.asks next

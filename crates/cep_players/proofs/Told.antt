@@ -180,6 +180,7 @@ module _ (program : Parts) where
         let steps = flat_map (part_events program) parts in
         let stop = last_part_events program end in
         let ended = end_lines program.signature word last.spot.state in
-        let then = apart (all_done parts ++ done_before end) (written_bytes (steps ++ stop)) (parts_then settings players (start_of program) (whole_supply come) parts run.here run.between (done_before end) stop run.done (end_then settings players run.here run.between word end last said.left run.ends)) in
+        let then = apart (all_done parts ++ done_before end) (written_bytes (steps ++ stop)) (parts_then settings players (start_of program) (whole_supply come) parts run.here run.between (done_before end) stop run.done
+        (end_then settings players run.here run.between word end last said.left run.ends)) in
         let all : written_bytes events ≡ head ++ (written_bytes (steps ++ stop) ++ ended) = rw (said.whole, ← append_assoc steps stop (outs ended), written_both (outs head) ((steps ++ stop) ++ outs ended), written_outs head, written_both (steps ++ stop) (outs ended), written_outs ended) refl in
         record { told = then.0; remarks = then.1; tell = then.2; passed = then.3; whole = all ∙ ap (λ bytes. head ++ bytes) (ap (λ bytes. bytes ++ ended) then.4 ∙ append_assoc then.0 then.1 ended) }

@@ -14,21 +14,22 @@ pub returns-clause-begun : goal.returns-clause-begun
 returns-clause-begun g c =
     on_err_weaker c.act.result
     (did_map g.C.Console.talk g.C.Console.left c.args.console.now c.act.new.console _ _
-    (acts_begin c.args.program.now c.args.settings c.parts.ensures.kept c.args.offer.now c.args.config c.args.group c.requires.own c.requires.offer (offers_of (g.M.Matcher.offers_held c.args.config.matcher) c.args.group) c.place_in-place.result (rw c.matcher.ensures.matcher at c.place_in-place.ensures) (omega (arith, c.if-turns-limit.false))))
+    (acts_begin c.args.program.now c.args.settings c.parts.ensures.kept c.args.offer.now c.args.config c.args.group c.requires.own c.requires.offer (offers_of (g.M.Matcher.offers_held c.args.config.matcher) c.args.group) c.place_in-place.result
+    (rw c.matcher.ensures.matcher at c.place_in-place.ensures) (omega (arith, c.if-turns-limit.false))))
     c.act.ensures.begun
 
 pub returns-clause-acted : goal.returns-clause-acted
 returns-clause-acted g c =
     IfOk-weaker c.act.result _ _
-    (offer_acted c.args.program.now c.args.settings c.parts.ensures.kept c.args.offer.now c.args.config c.args.group c.requires.own c.requires.offer (offers_of (g.M.Matcher.offers_held c.args.config.matcher) c.args.group) c.place_in-place.result (rw c.matcher.ensures.matcher at c.place_in-place.ensures) (omega (arith, c.if-turns-limit.false))
-    g.C.Console.talk g.C.Console.left c.args.console.now c.act.new.console)
+    (offer_acted c.args.program.now c.args.settings c.parts.ensures.kept c.args.offer.now c.args.config c.args.group c.requires.own c.requires.offer (offers_of (g.M.Matcher.offers_held c.args.config.matcher) c.args.group) c.place_in-place.result
+    (rw c.matcher.ensures.matcher at c.place_in-place.ensures) (omega (arith, c.if-turns-limit.false)) g.C.Console.talk g.C.Console.left c.args.console.now c.act.new.console)
     c.act.ensures.acted
 
 pub returns-clause-moved : goal.returns-clause-moved
 returns-clause-moved g c =
     both_ok c.act.result _ _ _
-    (offer_moved c.args.program.now c.args.settings c.parts.ensures.kept c.args.offer.now c.args.config c.args.group c.requires.own c.requires.offer (offers_of (g.M.Matcher.offers_held c.args.config.matcher) c.args.group) c.place_in-place.result (rw c.matcher.ensures.matcher at c.place_in-place.ensures) (omega (arith, c.if-turns-limit.false))
-    g.C.Console.talk g.C.Console.left c.args.console.now c.act.new.console)
+    (offer_moved c.args.program.now c.args.settings c.parts.ensures.kept c.args.offer.now c.args.config c.args.group c.requires.own c.requires.offer (offers_of (g.M.Matcher.offers_held c.args.config.matcher) c.args.group) c.place_in-place.result
+    (rw c.matcher.ensures.matcher at c.place_in-place.ensures) (omega (arith, c.if-turns-limit.false)) g.C.Console.talk g.C.Console.left c.args.console.now c.act.new.console)
     c.act.ensures.acted c.act.ensures.moved
 
 pub returns-then-turns-limit-clause-acted : goal.returns-then-turns-limit-clause-acted
