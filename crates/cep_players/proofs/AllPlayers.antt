@@ -1,22 +1,11 @@
 -- Players are asked one after another.
 use Rattle.std.proofs.Common.{◌≡◌, inl, inr, ℕ, zero, suc, ◌+◌, ◌-◌, ◌<◌, List, [], ◌∷◌, ◌++◌, length, Option, Some, append_assoc, append-nil, length-append, refl, sym, ap, arith}
 use Rattle.std.specs.Prelude.{slice_get}
-use Rattle.cep_base.specs.declared.console.Event.{Event}
-use Rattle.cep_base.specs.Talk.{outs, Did}
 use Rattle.cep_base.proofs.Did.{did_map, did_then}
 use Rattle.cep_base.proofs.Lists.{zip_push}
 use Rattle.cep_base.proofs.Options.{item_at}
-use Rattle.cep_rule.specs.declared.offer.Offer.{Offer}
-use Rattle.cep_lines.specs.declared.end_word.EndWord.{EndWord}
-use Rattle.cep_lines.specs.declared.end_word.EndWord.TheVariants.{Input, Typed}
-use Rattle.cep_run.specs.declared.choice.Choice.{Choice}
-use Rattle.cep_run.specs.declared.choice.Choice.TheVariants.{Place, NoMore, NoRoom}
-use Rattle.cep_run.specs.declared.deciding.Spent.{Spent}
-use Rattle.cep_run.specs.Choice.{IsChoiceWithin}
-use Rattle.cep_run.specs.Deciding.{Supply}
-use Rattle.cep_run.specs.Turn.{supply_with}
-use Rattle.cep_run.specs.Fronts.{BeginsSome, LeavesUnheard, FellShort}
 use Rattle.cep_run.proofs.Unheard.{left_then, outs_left, hears_left}
+use Rattle.cep_players.proofs.Words.{Event, outs, Did, Offer, EndWord, Input, Typed, Choice, Place, NoMore, NoRoom, Spent, IsChoiceWithin, Supply, supply_with, BeginsSome, LeavesUnheard, FellShort}
 use Rattle.cep_players.specs.PlayersLaws.{ChoicesAreHeard, AreWithin}
 use Rattle.cep_players.specs.Runs.{Hearing, IsHeard, AreHeard, IsCutOff}
 use Rattle.cep_players.specs.Dialogues.{choose_line, hearing_events}

@@ -2,31 +2,12 @@
 use Rattle.std.proofs.Common.{◌≡◌, ℕ, ◌<◌, ◌≤◌, ◌^◌, Bool, List, [], ◌∷◌, ◌++◌, map, length, Option, None, Some, append-nil, refl, sym, ap, ◌∙◌, arith}
 use Rattle.std.specs.Prelude.{slice_get}
 use Rattle.std.specs.FinMap as finite
-use Rattle.cep_base.specs.declared.console.Event.{Event}
 use Rattle.cep_base.specs.declared.limits.TheConstants.{MOST_OFFERS}
-use Rattle.cep_term.specs.Tree.{Tree}
-use Rattle.cep_term.specs.Multiset.{Multiset}
 use Rattle.cep_rule.specs.declared.signature.Signature.{Signature}
-use Rattle.cep_rule.specs.declared.rule.Rule.{Rule}
-use Rattle.cep_rule.specs.declared.parts.Parts.{Parts}
-use Rattle.cep_rule.specs.declared.offer.Offer.{Offer}
-use Rattle.cep_rule.specs.Offers.{AreOffers}
-use Rattle.cep_rule.specs.Stages.{own_group, IsAsked}
-use Rattle.cep_rule.specs.Step.{Step}
-use Rattle.cep_step.specs.Deeds.{Position, Deed, IsDeed, AreDeeds, start_of}
-use Rattle.cep_step.specs.declared.limit.Limit.{Limit}
 use Rattle.cep_step.specs.declared.limit.Limit.TheVariants as limit
-use Rattle.cep_step.specs.Passing.{Passes}
-use Rattle.cep_lines.specs.declared.end_word.EndWord.{EndWord}
-use Rattle.cep_lines.specs.declared.end_word.EndWord.TheVariants.{Quiet}
-use Rattle.cep_run.specs.declared.choice.Choice.{Choice}
-use Rattle.cep_run.specs.declared.choice.Choice.TheVariants.{Place}
-use Rattle.cep_run.specs.declared.settings.Settings.{Settings}
-use Rattle.cep_run.specs.Choice.{Hears}
-use Rattle.cep_run.specs.Deciding.{Supply}
 use Rattle.cep_run.proofs.TurnSteps.{deeds_counted}
-use Rattle.cep_run.specs.Run.{whole_supply, Question, Turn, Ending, Run, unproved, IsQuestion, IsChosen, IsTurn, EndsAt, quiet_end, turns_end, offers_end, input_end, typed_end, atom_end, state_end}
-use Rattle.cep_round.specs.Rounds.{AreAdmitted, admitted}
+use Rattle.cep_players.proofs.Words.{Event, Tree, Multiset, Rule, Parts, Offer, AreOffers, own_group, IsAsked, Step, Position, Deed, IsDeed, AreDeeds, start_of, Limit, Passes, EndWord, Quiet, Choice, Place, Settings, Hears, Supply}
+use Rattle.cep_players.proofs.Words.{whole_supply, Question, Turn, Ending, Run, unproved, IsQuestion, IsChosen, IsTurn, EndsAt, quiet_end, turns_end, offers_end, input_end, typed_end, atom_end, state_end, AreAdmitted, admitted}
 use Rattle.cep_players.specs.Runs.{Hearing, IsHeard, AreHeard, HaveChosen, Round, IsListedHere, IsChosenHere, IsRoundDone, TurnOrRound, a_turn, a_round, AreTurnsAndRounds, EndOfRounds, of_turn, of_player, of_offer, unproved_round, unproved_part, unproved_end, IsCutOff, CannotBeDone, StopsInRound, StopsAtPlayer, EndsInRounds, RunsInRounds}
 use Rattle.cep_players.specs.Dialogues.{DialogueInRounds}
 

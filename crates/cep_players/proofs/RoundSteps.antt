@@ -5,32 +5,14 @@ use Rattle.std.specs.List.{AllByRecursion, flat_map}
 use Rattle.std.specs.FinMap as finite
 use Rattle.std.proofs.lemmas.Grind.{flat_map-append}
 use Rattle.std.proofs.lemmas.List.{map-append}
-use Rattle.cep_base.specs.declared.console.Event.TheVariants.{Out}
-use Rattle.cep_base.specs.Talk.{outs}
 use Rattle.cep_base.proofs.Elements.{all_at, all_of, contains_first, contains_left, contains_right}
 use Rattle.cep_base.proofs.Lists.{holds_at, map_last}
-use Rattle.cep_term.specs.Tree.{AtomTree}
-use Rattle.cep_term.specs.Multiset.{Multiset}
-use Rattle.cep_rule.specs.declared.rule.Rule.{Rule}
-use Rattle.cep_rule.specs.declared.parts.Parts.{Parts}
-use Rattle.cep_rule.specs.declared.offer.Offer.{Offer}
 use Rattle.cep_rule.specs.Derivations.{ProofTree, IsDerivable}
-use Rattle.cep_rule.specs.State.{IsState}
-use Rattle.cep_rule.specs.Offers.{Applies, IsInGroup, IsOffer}
-use Rattle.cep_rule.specs.Stages.{own_group, IsQuiet}
-use Rattle.cep_rule.specs.Step.{Step}
 use Rattle.cep_rule.specs.Steps.{AreProofs, stage_after}
-use Rattle.cep_rule.specs.Program.{IsTypedRule, IsDividedRule, IsGroupedRule, IsProgram}
-use Rattle.cep_step.specs.Deeds.{Position, Deed, AreDeeds}
-use Rattle.cep_lines.specs.declared.end_word.EndWord.{EndWord}
-use Rattle.cep_log.specs.Holding.{lines_of_deed}
-use Rattle.cep_lines.specs.declared.end_word.EndWord.TheVariants.{Quiet}
-use Rattle.cep_round.specs.Rounds.{AreAdmitted, admitted, IsRound}
-use Rattle.cep_round.specs.Orders.{AreOffersDone}
 use Rattle.cep_round.proofs.Counts.{each_admitted}
-use Rattle.cep_run.specs.declared.settings.Settings.{Settings}
-use Rattle.cep_run.specs.Deciding.{Supply}
 use Rattle.cep_run.proofs.TurnSteps.{quiet_here}
+use Rattle.cep_players.proofs.Words.{Out, outs, AtomTree, Multiset, Rule, Parts, Offer, IsState, Applies, IsInGroup, IsOffer, own_group, IsQuiet, Step, IsTypedRule, IsDividedRule, IsGroupedRule, IsProgram, Position, Deed, AreDeeds, EndWord}
+use Rattle.cep_players.proofs.Words.{lines_of_deed, Quiet, AreAdmitted, admitted, IsRound, AreOffersDone, Settings, Supply}
 use Rattle.cep_players.specs.PlayersLaws.{RoundLaws}
 use Rattle.cep_players.specs.Runs.{Hearing, HaveChosen, Round, IsRoundDone, TurnOrRound, a_turn, a_round, AreTurnsAndRounds, AreTogether, all_done, EndOfRounds, of_turn, of_player, of_offer, done_before, EndsInRounds, RunsInRounds}
 

@@ -7,38 +7,16 @@ use Rattle.std.proofs.lemmas.Bool.{cases_lt}
 use Rattle.std.proofs.lemmas.Grind.{flat_map-append}
 use Rattle.std.proofs.lemmas.List.{length-map}
 use Rattle.std.proofs.lemmas.Slice.Zip.{AllZip-long}
-use Rattle.cep_base.specs.declared.console.Event.{Event}
-use Rattle.cep_base.specs.Talk.{outs}
 use Rattle.cep_base.proofs.Elements.{contains_at}
 use Rattle.cep_base.proofs.Lists.{all_from_places, holds_at}
-use Rattle.cep_term.specs.Tree.{AtomTree}
 use Rattle.cep_term.specs.BagLaws.{BagLaws}
-use Rattle.cep_term.specs.Multiset.{Multiset, count_of, IsContained}
-use Rattle.cep_rule.specs.declared.parts.Parts.{Parts}
 use Rattle.cep_rule.specs.declared.parts.Stage.{Stage}
-use Rattle.cep_rule.specs.declared.rule.Rule.{Rule}
-use Rattle.cep_rule.specs.declared.offer.Offer.{Offer}
-use Rattle.cep_rule.specs.State.{IsState}
-use Rattle.cep_rule.specs.Offers.{IsOffer}
-use Rattle.cep_rule.specs.Stages.{own_group, IsAsked}
-use Rattle.cep_rule.specs.Program.{IsProgram}
-use Rattle.cep_step.specs.Deeds.{Position, Deed, AreDeeds, start_of}
-use Rattle.cep_step.specs.declared.limit.Limit.{Limit}
-use Rattle.cep_step.specs.Passing.{Passes}
-use Rattle.cep_round.specs.Rounds.{needs, used_with, AreAdmitted, admitted}
 use Rattle.cep_round.proofs.Counts.{join_count}
-use Rattle.cep_lines.specs.declared.end_word.EndWord.{EndWord}
-use Rattle.cep_lines.specs.declared.end_word.EndWord.TheVariants.{Turns}
-use Rattle.cep_lines.specs.Lines.{offer_lines, end_lines, header}
-use Rattle.cep_log.specs.Holding.{lines_of_deed}
-use Rattle.cep_run.specs.declared.settings.Settings.{Settings}
-use Rattle.cep_run.specs.declared.deciding.Spent.{Spent}
-use Rattle.cep_run.specs.Deciding.{Supply}
-use Rattle.cep_run.specs.Run.{whole_supply, Question, Turn, IsQuestion, IsTurn, AreTurns, EndsAt}
-use Rattle.cep_run.specs.Turn.{supply_with, limit_word}
-use Rattle.cep_run.specs.Fronts.{BeginsSome}
+use Rattle.cep_lines.specs.Lines.{offer_lines}
 use Rattle.cep_run.proofs.TurnSteps.{left_by, deeds_counted}
 use Rattle.cep_choice.specs.Draws.{generator_behind}
+use Rattle.cep_players.proofs.Words.{Event, outs, AtomTree, Multiset, count_of, IsContained, Parts, Rule, Offer, IsState, IsOffer, own_group, IsAsked, IsProgram, Position, Deed, AreDeeds, start_of, Limit, Passes, needs, used_with}
+use Rattle.cep_players.proofs.Words.{AreAdmitted, admitted, EndWord, Turns, end_lines, header, lines_of_deed, Settings, Spent, Supply, whole_supply, Question, Turn, IsQuestion, IsTurn, AreTurns, EndsAt, supply_with, limit_word, BeginsSome}
 use Rattle.cep_players.specs.PlayersLaws.{PlayersLaws}
 use Rattle.cep_players.specs.Runs.{IsForAll, Round, IsListedHere, IsChosenHere, TurnOrRound, a_turn, a_round, AreTurnsAndRounds, EndOfRounds, of_turn, of_player, of_offer, CannotBeDone, EndsInRounds}
 use Rattle.cep_players.specs.Dialogues.{hearing_events, blocked_lines, turn_question_events, round_question_events, round_events, part_events, last_part_events, DialogueInRounds}
