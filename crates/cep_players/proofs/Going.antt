@@ -33,11 +33,12 @@ use Rattle.cep_run.specs.declared.deciding.Spent.{Spent}
 use Rattle.cep_run.specs.declared.settings.Settings.{Settings}
 use Rattle.cep_run.specs.declared.turn.Turned.{Turned}
 use Rattle.cep_run.specs.declared.turn.Turned.TheVariants.{Done, Over}
+use Rattle.cep_run.specs.Choice.{Hears}
 use Rattle.cep_run.specs.Deciding.{Supply, How, Heard, Lone, Drawn, IsPlayers, Decides}
 use Rattle.cep_run.specs.Dialogue.{asked_events}
 use Rattle.cep_run.specs.Run.{Question, Turn, IsQuestion, IsChosen, IsTurn, whole_supply, EndsAt, offers_end}
 use Rattle.cep_run.specs.Fronts.{BeginsSome, LeavesUnheard}
-use Rattle.cep_run.specs.Begun.{PutsFront, BeginsAct}
+use Rattle.cep_run.specs.Begun.{PutsFront, HearsSome, BeginsAct}
 use Rattle.cep_run.specs.Turn.{position_of, supply_with, HasSpent, IsPlaced, Settles, Acts, WouldPass, IsActed, IsPlayed}
 use Rattle.cep_run.proofs.Fronts.{put_on, unasked_on}
 use Rattle.cep_run.proofs.Turns.{EndsBy, IsAskedHere, asked_here, group_listed, too_many}
@@ -54,6 +55,29 @@ use Rattle.cep_players.proofs.AllPlayers.{heard_left, all_left}
 use Rattle.cep_players.proofs.OffersDone.{acts_none}
 use Rattle.cep_run.proofs.Settling as settling
 use Rattle.std.specs.FinMap as finite
+
+-- One player is asked
+
+module _ (player n : ℕ) (old : Spent) where
+  pub asks_after : (bytes : List ℕ) → bytes ≡ choose_line player → (choice : Choice) (many : ℕ) → Joins (IsPut bytes) (λ come events rest. Hears n come old.taken events choice rest many) (AsksOne player n old choice (record old { taken = many }))
+  asks_after bytes is choice many come first middle others rest put hears = record { heard = others; hears = (rw (sym put.1) hears, refl); whole = rw (put.0, is) refl }
+
+  -- a prefix of the line was put
+  pub puts_some : ChoicesAreHeard → Maps (PutsFront (choose_line player)) (Short (λ come. come) (AsksSome player n old))
+  puts_some there come events rest put =
+      let (more, written) = put_on (choose_line player) come events rest put in
+      let (later, choice, left, many, hears) = there n old.taken come in (
+        record { more = more ++ later; left = left; whole = (choice, record old { taken = many }, record { heard = later; hears = (hears, refl); whole = rw (sym (append_assoc events more later), written) refl }) },
+        put_left (choose_line player) come events rest put,
+      )
+
+  -- the line was put, and a prefix of a choice was heard
+  pub hears_some : (bytes : List ℕ) → bytes ≡ choose_line player → Joins (IsPut bytes) (Short (λ come. come) (HearsSome n old.taken)) (Short (λ come. come) (AsksSome player n old))
+  hears_some bytes is come first middle others rest put (begun, left) =
+      let (choice, many, hears) = begun.whole in (
+        record { more = begun.more; left = begun.left; whole = (choice, record old { taken = many }, rw (append_assoc first others begun.more) (asks_after bytes is choice many come first middle (others ++ begun.more) begun.left put hears)) },
+        text_then bytes come first middle others rest put left,
+      )
 
 -- Deciding, by the code's test of who does
 
@@ -318,10 +342,6 @@ module _ {C M : Type 0} (talk : C → Option (List Event)) (left : C → Option 
       let many = some_admitted laws.bags program settings.height config.state (own_group config.stage) chosen flags (all_weaker _ _ chosen listed.offered.no_other picked.1) flagged (omega (arith, each, some)) in
       (did_then talk left old between new _ _ _ (round_goes listed players spent laws kept some is_state spent' chosen flags flagged (position_of next) counted.1) asked acted, omega (arith, many, sum), counted.1)
   round_acted (Over last) acted counted = did_then talk left old between new _ _ _ (round_stops listed players spent laws kept some is_state spent' chosen flags flagged (position_of last.config) last.word) asked acted
-
--- what was spent in some turns was spent in more
-pub spent_within : (seed turns more : ℕ) (spent : Spent) → turns ≤ more → HasSpent seed turns spent → HasSpent seed more spent
-spent_within seed turns more spent few has = record { taken = has.taken; drawn = let drawn = has.drawn in omega (arith, drawn, few); draw = has.draw }
 
 -- the run ends before a turn or a round
 pub ends_before : {C M : Type 0} (talk : C → Option (List Event)) (left : C → Option (List ℕ)) (console : C) (program : Parts) (settings : Settings) (players : ℕ) (config : Configuration M) (spent : Spent) (word : EndWord)
