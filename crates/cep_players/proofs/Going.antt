@@ -66,25 +66,22 @@ module _ (player n : ℕ) (old : Spent) where
   pub puts_some : ChoicesAreHeard → Maps (PutsFront (choose_line player)) (Short (λ come. come) (AsksSome player n old))
   puts_some there come events rest put =
       let (more, written) = put_on (choose_line player) come events rest put in
-      let (later, choice, left, many, hears) = there n old.taken come in (
-        record { more = more ++ later; left = left; whole = (choice, record old { taken = many }, record { heard = later; hears = (hears, refl); whole = rw (sym (append_assoc events more later), written) refl }) },
-        put_left (choose_line player) come events rest put,
-      )
+      let (later, choice, left, many, hears) = there n old.taken come in
+      (record { more = more ++ later; left = left; whole = (choice, record old { taken = many }, record { heard = later; hears = (hears, refl); whole = rw (sym (append_assoc events more later), written) refl }) }, put_left (choose_line player) come events rest put)
 
   -- the line was put, and a prefix of a choice was heard
   pub hears_some : (bytes : List ℕ) → bytes ≡ choose_line player → Joins (IsPut bytes) (Short (λ come. come) (HearsSome n old.taken)) (Short (λ come. come) (AsksSome player n old))
   hears_some bytes is come first middle others rest put (begun, left) =
-      let (choice, many, hears) = begun.whole in (
-        record { more = begun.more; left = begun.left; whole = (choice, record old { taken = many }, rw (append_assoc first others begun.more) (asks_after bytes is choice many come first middle (others ++ begun.more) begun.left put hears)) },
-        text_then bytes come first middle others rest put left,
-      )
+      let (choice, many, hears) = begun.whole in
+      (record { more = begun.more; left = begun.left; whole = (choice, record old { taken = many }, rw (append_assoc first others begun.more) (asks_after bytes is choice many come first middle (others ++ begun.more) begun.left put hears)) }, text_then bytes come first middle others rest put left)
 
 -- Deciding, by the code's test of who does
 
 nobody : (P : Type 0) (asked : Bool) → (IsTrue asked ↔ P) → asked ≡ false → ¬ P
 nobody P asked iff is p = let set = iff.1 p in cc
 
-said_alone : (program : Parts) (seed stage group : ℕ) (offers : List Offer) (how : How) (choice : Choice) (from to : Supply) → ¬ IsPlayers program stage group (length offers) → Decides program seed stage group (length offers) from how choice to → asked_events program offers how ≡ turn_question_events program offers how
+said_alone : (program : Parts) (seed stage group : ℕ) (offers : List Offer) (how : How) (choice : Choice) (from to : Supply) → ¬ IsPlayers program stage group (length offers) → Decides program seed stage group (length offers) from how choice to
+    → asked_events program offers how ≡ turn_question_events program offers how
 said_alone program seed stage group offers (Heard events) choice from to others decides = absurd (others decides.0)
 said_alone program seed stage group offers Lone choice from to others decides = refl
 said_alone program seed stage group offers Drawn choice from to others decides = refl
@@ -310,7 +307,8 @@ module _ {program : Parts} {settings : Settings} {at : Position} {offers : List 
         pub acting_refused : Joins IsAskedOfAll (BeginsActs program settings at (admitted chosen flags)) Begins
         acting_refused come first middle second rest is begun =
             let acts = begun.acts in
-            let on = act_on program settings players laws kept some at (supply_with come spent) (supply_with rest spent') is_state (round_of is.hearings acts.deeds) (rw acts.untaken (is.choice acts.deeds)) (goes_from program settings players laws kept some at) begun.later acts.deeds begun.here acts.done acts.order begun.few in (
+            let on = act_on program settings players laws kept some at (supply_with come spent) (supply_with rest spent') is_state (round_of is.hearings acts.deeds) (rw acts.untaken (is.choice acts.deeds))
+            (goes_from program settings players laws kept some at) begun.later acts.deeds begun.here acts.done acts.order begun.few in (
               prefix_of_prefix _ _ (first ++ second) begun.more (rw (append_assoc first second begun.more, is.written, acts.written) on),
               left_then come first middle second rest (rw is.written (asked_left program spent laws.within (supply_with come spent) (round_of is.hearings []) (supply_with middle spent') (is.choice []).heard))
                   (prefix_left (flat_map (lines_of_deed program) acts.deeds) middle second begun.more rest acts.written acts.untaken),
@@ -333,7 +331,8 @@ module _ {program : Parts} {settings : Settings} {at : Position} {offers : List 
         did_tell_some talk left old one two new listing all put = did_then talk left old one new _ _ _ blocking_refused listing (did_then talk left one two new _ _ _ telling_refused all put)
 
 -- what a round comes to
-module _ {C M : Type 0} (talk : C → Option (List Event)) (left : C → Option (List ℕ)) (old between new : C) {program : Parts} {settings : Settings} (config : Configuration M) {offers : List Offer} (listed : IsListedHere program settings (position_of config) offers) (players : ℕ) (spent : Spent) (laws : PlayersLaws) (kept : IsProgram program) (some : 0 < players) (is_state : IsState program.signature config.state) (spent' : Spent) (chosen : List Offer) (flags : List Bool) (flagged : AreAdmitted program config.state finite.empty chosen flags)
+module _ {C M : Type 0} (talk : C → Option (List Event)) (left : C → Option (List ℕ)) (old between new : C) {program : Parts} {settings : Settings} (config : Configuration M) {offers : List Offer} (listed : IsListedHere program settings (position_of config) offers)
+    (players : ℕ) (spent : Spent) (laws : PlayersLaws) (kept : IsProgram program) (some : 0 < players) (is_state : IsState program.signature config.state) (spent' : Spent) (chosen : List Offer) (flags : List Bool) (flagged : AreAdmitted program config.state finite.empty chosen flags)
     (picked : (length chosen ≡ players) × AllByRecursion (Contains offers) chosen) (asked : Did talk left old between (IsAskedOfAll listed players spent laws kept some is_state spent' chosen flags flagged)) where
   pub round_acted : (turned : Turned M) → AreActed talk left between new program settings (admitted chosen flags) config turned → AreCounted settings (admitted chosen flags) config turned → IsWent talk left old new program settings players config spent spent' turned
   round_acted (Done next) acted counted =
@@ -351,7 +350,8 @@ ends_before talk left console program settings players config spent word ends = 
 
 -- What is asked here
 
-module _ {M : Type 0} (is_of : Parts → M → Type 0) (height_held : M → ℕ) (state_held : M → Multiset) (offers_held : M → List (List Offer)) (program : Parts) (settings : Settings) (config : Configuration M) (group : ℕ) (played : IsPlayed is_of height_held program settings config) (exact : AreListed program (height_held config.matcher) (state_held config.matcher) (offers_held config.matcher))
+module _ {M : Type 0} (is_of : Parts → M → Type 0) (height_held : M → ℕ) (state_held : M → Multiset) (offers_held : M → List (List Offer)) (program : Parts) (settings : Settings) (config : Configuration M) (group : ℕ)
+    (played : IsPlayed is_of height_held program settings config) (exact : AreListed program (height_held config.matcher) (state_held config.matcher) (offers_held config.matcher))
     (same : state_held config.matcher ≡ config.state) (two : 2 * config.stage + 1 < length (offers_held config.matcher)) (listed : IsAskedIn (offers_held config.matcher) config.stage group) (asked : IsAsked program (height_held config.matcher) config.state config.stage group)
     (remain : config.turns < settings.limit) (seen : M) (view : seen ≡ config.matcher) (ok : Bool) (counted : IsTrue ok ↔ (length (offers_of (offers_held seen) group) ≤ MOST_OFFERS)) where
   is_asked : IsAskedHere program settings (position_of config) group (offers_of (offers_held config.matcher) group)
@@ -394,14 +394,16 @@ module _ (within : AreWithin) (program : Parts) (settings : Settings) (players :
       let stops = ends.0 in
       let between = stops.between in
       let last_asked = outs (choose_line (length hearings + 1)) in
-      text_then (offer_lines program 1 offers) from.come _ from.come (hearing_events 1 hearings ++ (last_asked ++ events)) to.come (refl, refl) (left_then from.come (hearing_events 1 hearings) between.come (last_asked ++ events) to.come (heard_left offers unspent within 1 (length offers) from hearings between stops.before)
+      text_then (offer_lines program 1 offers) from.come _ from.come (hearing_events 1 hearings ++ (last_asked ++ events)) to.come (refl, refl)
+      (left_then from.come (hearing_events 1 hearings) between.come (last_asked ++ events) to.come (heard_left offers unspent within 1 (length offers) from hearings between stops.before)
       (text_then (choose_line (length hearings + 1)) between.come _ between.come events to.come (refl, refl) (hears_left (length offers) stops.heard.0)))
   end_left at from word (of_offer round) last to ends = round_left from round to ends.0.heard
 
   whole_left : (start : Position) (word : EndWord) (last : Position) → Maps (IsWholeInRounds program settings players start word last) LeavesUnheard
   whole_left start word last come events rest whole =
       let run = whole.run in
-      rw (whole.written, whole.rest_is) (left_then come (flat_map (part_events program) whole.parts) run.between.come (last_part_events program whole.end) whole.left.come (done_left start (whole_supply come) whole.parts run.here run.between run.done) (end_left run.here run.between word whole.end last whole.left run.ends))
+      rw (whole.written, whole.rest_is) (left_then come (flat_map (part_events program) whole.parts) run.between.come (last_part_events program whole.end) whole.left.come
+      (done_left start (whole_supply come) whole.parts run.here run.between run.done) (end_left run.here run.between word whole.end last whole.left run.ends))
 
 -- Turn after turn and round after round
 
@@ -468,22 +470,26 @@ module _ (program : Parts) (settings : Settings) (players : ℕ) where
 
       -- the last lines were put, or a prefix of them
       pub dialogue_said : Joins IsPlayedOut (IsPut (end_lines program.signature word state)) (IsDialogueWith program settings players word)
-      dialogue_said come first middle second rest (run, whole, written) told = (
-        whole.parts,
-        whole.end,
-        last,
-        record {
-          left = whole.left;
-          run = rw (sym at) whole.run;
-          whole = rw (written, whole.written, told.0, is, append_assoc (outs (header program settings.height)) (flat_map (part_events program) whole.parts ++ last_part_events program whole.end) (outs (end_lines program.signature word last.spot.state)), append_assoc (flat_map (part_events program) whole.parts) (last_part_events program whole.end) (outs (end_lines program.signature word last.spot.state))) refl;
-          rest_is = told.1 ∙ whole.rest_is;
-        },
-      )
+      dialogue_said come first middle second rest (run, whole, written) told =
+          let parts = flat_map (part_events program) whole.parts in
+          let ending = last_part_events program whole.end in
+          let lines = outs (end_lines program.signature word last.spot.state) in (
+            whole.parts,
+            whole.end,
+            last,
+            record {
+              left = whole.left;
+              run = rw (sym at) whole.run;
+              whole = rw (written, whole.written, told.0, is, append_assoc (outs (header program settings.height)) (parts ++ ending) lines, append_assoc parts ending lines) refl;
+              rest_is = told.1 ∙ whole.rest_is;
+            },
+          )
 
       pub end_refused : AreWithin → Joins IsPlayedOut (PutsFront (end_lines program.signature word state)) (Short (λ come. come) (IsSomeDialogue program settings players))
       end_refused within come first middle second rest so_far put =
           let (more, written) = put_on (end_lines program.signature word state) middle second rest put in
           let (run, whole, said) = so_far in (
             record { more = more; left = middle; whole = (word, rw (append_assoc first second more) (dialogue_said come first middle (second ++ more) middle so_far (written, refl))) },
-            left_then come first middle second rest (rw said (text_then (header program settings.height) come _ come run middle (refl, refl) (whole_left within program settings players start word last come run middle whole))) (put_left (end_lines program.signature word state) middle second rest put),
+            left_then come first middle second rest (rw said (text_then (header program settings.height) come _ come run middle (refl, refl) (whole_left within program settings players start word last come run middle whole)))
+                (put_left (end_lines program.signature word state) middle second rest put),
           )

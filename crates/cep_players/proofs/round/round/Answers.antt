@@ -75,12 +75,16 @@ act_all-requires-clause-offers g c = rw c.requires.own (all_weaker _ _ _ c.requi
 pub returns-in_ok-tell_blocked-in-All-clause-went : goal.returns-in_ok-tell_blocked-in-All-clause-went
 returns-in_ok-tell_blocked-in-All-clause-went g c =
     let flagged = rw c.state.ensures at c.in_ok-flags-in-All.ensures in
-    let asked = did_ask c.requires.here c.args.players c.args.spent.now c.players_are_lawful.ensures c.parts.ensures.kept c.requires.some c.requires.played.of_program.spot.is_state c.choices.new.spent c.in-All.chosen c.in_ok-flags-in-All.flags flagged g.C.Console.talk g.C.Console.left _ _ _ _ (rw c.matcher-matcher.ensures.matcher at c.in_ok-tell.ensures.told) (rw (c.in-All.is, c.matcher-matcher.ensures.matcher) at c.in_ok-chosen.ensures.heard) c.in_ok-tell_blocked-in-All.ensures.told in
+    let asked = did_ask c.requires.here c.args.players c.args.spent.now c.players_are_lawful.ensures c.parts.ensures.kept c.requires.some c.requires.played.of_program.spot.is_state c.choices.new.spent c.in-All.chosen c.in_ok-flags-in-All.flags flagged
+    g.C.Console.talk g.C.Console.left _ _ _ _ (rw c.matcher-matcher.ensures.matcher at c.in_ok-tell.ensures.told) (rw (c.in-All.is, c.matcher-matcher.ensures.matcher) at c.in_ok-chosen.ensures.heard) c.in_ok-tell_blocked-in-All.ensures.told in
     let picked = rw (c.in-All.is, c.matcher-matcher.ensures.matcher) at c.in_ok-chosen.ensures.picked in
-    both_ok c.act_all.result _ _ _ (round_acted g.C.Console.talk g.C.Console.left _ _ _ c.args.config c.requires.here c.args.players c.args.spent.now c.players_are_lawful.ensures c.parts.ensures.kept c.requires.some c.requires.played.of_program.spot.is_state c.choices.new.spent c.in-All.chosen c.in_ok-flags-in-All.flags flagged picked asked) c.act_all.ensures.acted c.act_all.ensures.counted
+    both_ok c.act_all.result _ _ _ (round_acted g.C.Console.talk g.C.Console.left _ _ _ c.args.config
+    c.requires.here c.args.players c.args.spent.now c.players_are_lawful.ensures c.parts.ensures.kept c.requires.some c.requires.played.of_program.spot.is_state c.choices.new.spent c.in-All.chosen c.in_ok-flags-in-All.flags flagged picked asked) c.act_all.ensures.acted c.act_all.ensures.counted
 
 pub returns-in_ok-tell_blocked-in-All-clause-begun : goal.returns-in_ok-tell_blocked-in-All-clause-begun
 returns-in_ok-tell_blocked-in-All-clause-begun g c =
     let flagged = rw c.state.ensures at c.in_ok-flags-in-All.ensures in
-    let asked = did_ask c.requires.here c.args.players c.args.spent.now c.players_are_lawful.ensures c.parts.ensures.kept c.requires.some c.requires.played.of_program.spot.is_state c.choices.new.spent c.in-All.chosen c.in_ok-flags-in-All.flags flagged g.C.Console.talk g.C.Console.left _ _ _ _ (rw c.matcher-matcher.ensures.matcher at c.in_ok-tell.ensures.told) (rw (c.in-All.is, c.matcher-matcher.ensures.matcher) at c.in_ok-chosen.ensures.heard) c.in_ok-tell_blocked-in-All.ensures.told in
-    on_err_weaker c.act_all.result (did_then g.C.Console.talk g.C.Console.left _ _ _ _ _ _ (acting_refused c.requires.here c.args.players c.args.spent.now c.players_are_lawful.ensures c.parts.ensures.kept c.requires.some c.requires.played.of_program.spot.is_state c.choices.new.spent c.in-All.chosen c.in_ok-flags-in-All.flags flagged) asked) c.act_all.ensures.begun
+    let asked = did_ask c.requires.here c.args.players c.args.spent.now c.players_are_lawful.ensures c.parts.ensures.kept c.requires.some c.requires.played.of_program.spot.is_state c.choices.new.spent c.in-All.chosen c.in_ok-flags-in-All.flags flagged
+    g.C.Console.talk g.C.Console.left _ _ _ _ (rw c.matcher-matcher.ensures.matcher at c.in_ok-tell.ensures.told) (rw (c.in-All.is, c.matcher-matcher.ensures.matcher) at c.in_ok-chosen.ensures.heard) c.in_ok-tell_blocked-in-All.ensures.told in
+    on_err_weaker c.act_all.result (did_then g.C.Console.talk g.C.Console.left _ _ _ _ _ _
+    (acting_refused c.requires.here c.args.players c.args.spent.now c.players_are_lawful.ensures c.parts.ensures.kept c.requires.some c.requires.played.of_program.spot.is_state c.choices.new.spent c.in-All.chosen c.in_ok-flags-in-All.flags flagged) asked) c.act_all.ensures.begun
