@@ -209,8 +209,7 @@ pub turn_acted : {C M : Type 0} (talk : C → Option (List Event)) (left : C →
     (players : ℕ) → (IsForAll program settings.height (position_of config) → ⊥) → (spent spent' : Spent) (place : ℕ) → Did talk left old between (SettlesTurn program settings.seed config.stage group offers spent (Place (place + 1)) spent')
     → (turned : Turned M) → IsActed talk left between new program settings.height offers place config turned → IsWent talk left old new program settings players config spent spent' turned
 turn_acted talk left old between new config here players none spent spent' place settled (Done next) (acted, counted) =
-    let remain = here.remain in
-    (did_then talk left old between new _ _ _ (λ come first middle second rest settles. turn_done here players none spent spent' place come first middle second rest settles (position_of next) counted) settled acted, omega (arith, counted), omega (arith, counted, remain))
+    (did_then talk left old between new _ _ _ (λ come first middle second rest settles. turn_done here players none spent spent' place come first middle second rest settles (position_of next) counted) settled acted, omega (arith, counted), omega (arith, counted, here.remain))
 turn_acted talk left old between new config here players none spent spent' place settled (Over last) (acted, same) =
     rw same (did_then talk left old between new _ _ _ (λ come first middle second rest settles. turn_fails here players none spent spent' place come first middle second rest settles last.word) settled acted)
 
@@ -322,8 +321,7 @@ module _ {program : Parts} {settings : Settings} {at : Position} {offers : List 
 
         blocking_refused : Joins (IsPut (offer_lines program 1 offers)) (Short (λ come. come) AreTold) Begins
         blocking_refused come first middle second rest put (begun, left) =
-            let remain = listed.remain in
-            let none : BeginsActs program settings at (admitted chosen flags) begun.left [] begun.left = record { here = at; later = admitted chosen flags; few = omega (arith, remain); more = []; acts = acts_none program settings at (admitted chosen flags) begun.left [] begun.left (refl, refl) } in
+            let none : BeginsActs program settings at (admitted chosen flags) begun.left [] begun.left = record { here = at; later = admitted chosen flags; few = omega (arith, listed.remain); more = []; acts = acts_none program settings at (admitted chosen flags) begun.left [] begun.left (refl, refl) } in
             let on = (acting_refused come (first ++ (second ++ begun.more)) begun.left [] begun.left (asked_of_all come first middle (second ++ begun.more) begun.left put begun.whole) none).0 in
             (prefix_of_prefix _ _ (first ++ second) begun.more (rw (append_assoc first second begun.more) (rw (append-nil (first ++ (second ++ begun.more))) at on)), text_then (offer_lines program 1 offers) come first middle second rest put left)
 
@@ -336,10 +334,8 @@ module _ {C M : Type 0} (talk : C → Option (List Event)) (left : C → Option 
     (picked : (length chosen ≡ players) × AllByRecursion (Contains offers) chosen) (asked : Did talk left old between (IsAskedOfAll listed players spent laws kept some is_state spent' chosen flags flagged)) where
   pub round_acted : (turned : Turned M) → AreActed talk left between new program settings (admitted chosen flags) config turned → AreCounted settings (admitted chosen flags) config turned → IsWent talk left old new program settings players config spent spent' turned
   round_acted (Done next) acted counted =
-      let each = picked.0 in
-      let sum = counted.0 in
-      let many = some_admitted laws.bags program settings.height config.state (own_group config.stage) chosen flags (all_weaker _ _ chosen listed.offered.no_other picked.1) flagged (omega (arith, each, some)) in
-      (did_then talk left old between new _ _ _ (round_goes listed players spent laws kept some is_state spent' chosen flags flagged (position_of next) counted.1) asked acted, omega (arith, many, sum), counted.1)
+      let many = some_admitted laws.bags program settings.height config.state (own_group config.stage) chosen flags (all_weaker _ _ chosen listed.offered.no_other picked.1) flagged (omega (arith, picked.0, some)) in
+      (did_then talk left old between new _ _ _ (round_goes listed players spent laws kept some is_state spent' chosen flags flagged (position_of next) counted.1) asked acted, omega (arith, many, counted.0), counted.1)
   round_acted (Over last) acted counted = did_then talk left old between new _ _ _ (round_stops listed players spent laws kept some is_state spent' chosen flags flagged (position_of last.config) last.word) asked acted
 
 -- the run ends before a turn or a round

@@ -23,7 +23,7 @@ higher program height most state within offer applies = record {
   numbered = applies.numbered;
   values = applies.values;
   contained = applies.contained;
-  derivable = all_weaker (IsDerivable program height) (IsDerivable program most) _ (λ atom is. record { proof = is.proof; proves = is.proves; low = let low = is.low in omega (arith, low, within) }) applies.derivable;
+  derivable = all_weaker (IsDerivable program height) (IsDerivable program most) _ (λ atom is. record { proof = is.proof; proves = is.proves; low = omega (arith, is.low, within) }) applies.derivable;
 }
 
 pub tell-requires-clause-offers : goal.tell-requires-clause-offers
@@ -49,9 +49,7 @@ admit-requires g c =
     let spot = c.requires.played.of_program.spot in
     let height = (subst IsHeight c.requires.played.height (g.met.M.Matcher.low c.args.program.now c.args.config.matcher c.requires.played.of_program.matcher)).low in
     let picked = rw (c.in-All.is, c.matcher-matcher.ensures.matcher) at c.in_ok-chosen.ensures.picked in
-    let many = picked.0 in
-    let few = c.requires.few in
-    rw c.state.ensures (record { is_state = spot.is_state; fits = spot.fits; few = omega (arith, many, few); apply = all_weaker _ _ _ (λ offer there. higher _ _ _ _ height offer (c.requires.here.offered.no_other offer there).applies) picked.1 })
+    rw c.state.ensures (record { is_state = spot.is_state; fits = spot.fits; few = omega (arith, picked.0, c.requires.few); apply = all_weaker _ _ _ (λ offer there. higher _ _ _ _ height offer (c.requires.here.offered.no_other offer there).applies) picked.1 })
 
 pub returns-in_err-flags-in-All-clause-begun : goal.returns-in_err-flags-in-All-clause-begun
 returns-in_err-flags-in-All-clause-begun g c =
