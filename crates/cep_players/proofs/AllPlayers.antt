@@ -1,22 +1,11 @@
 -- Players are asked one after another.
 use Rattle.std.proofs.Common.{◌≡◌, inl, inr, ℕ, zero, suc, ◌+◌, ◌-◌, ◌<◌, List, [], ◌∷◌, ◌++◌, length, Option, Some, append_assoc, append-nil, length-append, refl, sym, ap, arith}
 use Rattle.std.specs.Prelude.{slice_get}
-use Rattle.cep_base.specs.declared.console.Event.{Event}
-use Rattle.cep_base.specs.Talk.{outs, Did}
 use Rattle.cep_base.proofs.Did.{did_map, did_then}
 use Rattle.cep_base.proofs.Lists.{zip_push}
 use Rattle.cep_base.proofs.Options.{item_at}
-use Rattle.cep_rule.specs.declared.offer.Offer.{Offer}
-use Rattle.cep_lines.specs.declared.end_word.EndWord.{EndWord}
-use Rattle.cep_lines.specs.declared.end_word.EndWord.TheVariants.{Input, Typed}
-use Rattle.cep_run.specs.declared.choice.Choice.{Choice}
-use Rattle.cep_run.specs.declared.choice.Choice.TheVariants.{Place, NoMore, NoRoom}
-use Rattle.cep_run.specs.declared.deciding.Spent.{Spent}
-use Rattle.cep_run.specs.Choice.{IsChoiceWithin}
-use Rattle.cep_run.specs.Deciding.{Supply}
-use Rattle.cep_run.specs.Turn.{supply_with}
-use Rattle.cep_run.specs.Fronts.{BeginsSome, LeavesUnheard, FellShort}
 use Rattle.cep_run.proofs.Unheard.{left_then, outs_left, hears_left}
+use Rattle.cep_players.proofs.Words.{Event, outs, Did, Offer, EndWord, Input, Typed, Choice, Place, NoMore, NoRoom, Spent, IsChoiceWithin, Supply, supply_with, BeginsSome, LeavesUnheard, FellShort}
 use Rattle.cep_players.specs.PlayersLaws.{ChoicesAreHeard, AreWithin}
 use Rattle.cep_players.specs.Runs.{Hearing, IsHeard, AreHeard, IsCutOff}
 use Rattle.cep_players.specs.Dialogues.{choose_line, hearing_events}
@@ -45,7 +34,8 @@ module _ (offers : List Offer) (old : Spent) where
   none_chose come events rest same = record { hearings = []; of_each = refl; heard = ap (λ bytes. supply_with bytes old) same.1; chosen = tt; written = same.0 }
 
   -- one player more is asked, and chooses or does not
-  module _ (i : ℕ) (chosen : List Offer) (now new : Spent) (choice : Choice) (come : List ℕ) (first : List Event) (middle : List ℕ) (second : List Event) (rest : List ℕ) (all : AllChoose i offers chosen old now come first middle) (one : AsksOne (i + 1) (length offers) now choice new middle second rest) where
+  module _ (i : ℕ) (chosen : List Offer) (now new : Spent) (choice : Choice) (come : List ℕ) (first : List Event) (middle : List ℕ) (second : List Event) (rest : List ℕ) (all : AllChoose i offers chosen old now come first middle)
+      (one : AsksOne (i + 1) (length offers) now choice new middle second rest) where
     one_more : (place : ℕ) (offer : Offer) → choice ≡ Place place → slice_get offers (place - 1) ≡ Some offer → AllChoose (i + 1) offers (chosen ++ offer ∷ []) old new come (first ++ second) rest
     one_more place offer is there =
         let hearing : Hearing = record { events = one.heard; place = place } in
@@ -74,7 +64,8 @@ module _ (offers : List Offer) (old : Spent) where
     one_stops : (players : ℕ) (word : EndWord) → IsCutOff choice word → i < players → BeginsSome (ChooseSome players offers old) come (first ++ second)
     one_stops players word cut few = record { more = []; left = rest; whole = inr (word, new, rw (append-nil (first ++ second)) (one_does_not players word cut few)) }
 
-    one_chooses : (players : ℕ) → i < players → (it : Choice) → choice ≡ it → IsChoiceWithin (length offers) it → ((more : List Offer) → AllChoose (i + 1) offers more old new come (first ++ second) rest → BeginsSome (ChooseSome players offers old) come (first ++ second)) → BeginsSome (ChooseSome players offers old) come (first ++ second)
+    one_chooses : (players : ℕ) → i < players → (it : Choice) → choice ≡ it → IsChoiceWithin (length offers) it → ((more : List Offer) → AllChoose (i + 1) offers more old new come (first ++ second) rest → BeginsSome (ChooseSome players offers old) come (first ++ second))
+        → BeginsSome (ChooseSome players offers old) come (first ++ second)
     one_chooses players few (Place place) same is on =
         let offer = item_at offers (place - 1) (omega (arith, is.0, is.1)) in
         on (chosen ++ offer.0 ∷ []) (one_more place offer.0 same offer.1)
@@ -96,7 +87,8 @@ module _ (offers : List Offer) (old : Spent) where
         record { more = second ++ begun.more; left = begun.left; whole = rw (← append_assoc first second begun.more) begun.whole }
 
     -- one was asked, and that was refused
-    refused_at : (i : ℕ) → i < players → (chosen : List Offer) (now : Spent) (come middle : List ℕ) (first second : List Event) → AllChoose i offers chosen old now come first middle → BeginsSome (AsksSome (i + 1) (length offers) now) middle second → BeginsSome (ChooseSome players offers old) come (first ++ second)
+    refused_at : (i : ℕ) → i < players → (chosen : List Offer) (now : Spent) (come middle : List ℕ) (first second : List Event) → AllChoose i offers chosen old now come first middle → BeginsSome (AsksSome (i + 1) (length offers) now) middle second
+        → BeginsSome (ChooseSome players offers old) come (first ++ second)
     refused_at i few chosen now come middle first second all begun =
         let (choice, new, one) = begun.whole in
         let on = one_chooses i chosen now new choice come first middle (second ++ begun.more) begun.left all one players few choice refl (within (length offers) now.taken new.taken middle begun.left one.heard choice one.hears.0).0
@@ -116,7 +108,8 @@ module _ (offers : List Offer) (old : Spent) where
 
   -- of what is said on a console
   module _ {C : Type 0} (talk : C → Option (List Event)) (left : C → Option (List ℕ)) (start between end : C) (i : ℕ) (chosen : List Offer) (now : Spent) (before : Did talk left start between (AllChoose i offers chosen old now)) where
-    pub did_more : (new : Spent) (choice : Choice) → Did talk left between end (AsksOne (i + 1) (length offers) now choice new) → (place : ℕ) (offer : Offer) → choice ≡ Place place → slice_get offers (place - 1) ≡ Some offer → Did talk left start end (AllChoose (i + 1) offers (chosen ++ offer ∷ []) old new)
+    pub did_more : (new : Spent) (choice : Choice) → Did talk left between end (AsksOne (i + 1) (length offers) now choice new) → (place : ℕ) (offer : Offer) → choice ≡ Place place → slice_get offers (place - 1) ≡ Some offer
+        → Did talk left start end (AllChoose (i + 1) offers (chosen ++ offer ∷ []) old new)
     did_more new choice asks place offer is there = did_then talk left start between end _ _ _ (λ come first middle second rest all one. one_more i chosen now new choice come first middle second rest all one place offer is there) before asks
 
     pub did_stop : (new : Spent) (choice : Choice) → Did talk left between end (AsksOne (i + 1) (length offers) now choice new) → (players : ℕ) (word : EndWord) → IsCutOff choice word → i < players → Did talk left start end (OneDoesNot players offers word old new)

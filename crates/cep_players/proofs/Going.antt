@@ -33,11 +33,12 @@ use Rattle.cep_run.specs.declared.deciding.Spent.{Spent}
 use Rattle.cep_run.specs.declared.settings.Settings.{Settings}
 use Rattle.cep_run.specs.declared.turn.Turned.{Turned}
 use Rattle.cep_run.specs.declared.turn.Turned.TheVariants.{Done, Over}
+use Rattle.cep_run.specs.Choice.{Hears}
 use Rattle.cep_run.specs.Deciding.{Supply, How, Heard, Lone, Drawn, IsPlayers, Decides}
 use Rattle.cep_run.specs.Dialogue.{asked_events}
 use Rattle.cep_run.specs.Run.{Question, Turn, IsQuestion, IsChosen, IsTurn, whole_supply, EndsAt, offers_end}
 use Rattle.cep_run.specs.Fronts.{BeginsSome, LeavesUnheard}
-use Rattle.cep_run.specs.Begun.{PutsFront, BeginsAct}
+use Rattle.cep_run.specs.Begun.{PutsFront, HearsSome, BeginsAct}
 use Rattle.cep_run.specs.Turn.{position_of, supply_with, HasSpent, IsPlaced, Settles, Acts, WouldPass, IsActed, IsPlayed}
 use Rattle.cep_run.proofs.Fronts.{put_on, unasked_on}
 use Rattle.cep_run.proofs.Turns.{EndsBy, IsAskedHere, asked_here, group_listed, too_many}
@@ -55,12 +56,32 @@ use Rattle.cep_players.proofs.OffersDone.{acts_none}
 use Rattle.cep_run.proofs.Settling as settling
 use Rattle.std.specs.FinMap as finite
 
+-- One player is asked
+
+module _ (player n : ℕ) (old : Spent) where
+  pub asks_after : (bytes : List ℕ) → bytes ≡ choose_line player → (choice : Choice) (many : ℕ) → Joins (IsPut bytes) (λ come events rest. Hears n come old.taken events choice rest many) (AsksOne player n old choice (record old { taken = many }))
+  asks_after bytes is choice many come first middle others rest put hears = record { heard = others; hears = (rw (sym put.1) hears, refl); whole = rw (put.0, is) refl }
+
+  -- a prefix of the line was put
+  pub puts_some : ChoicesAreHeard → Maps (PutsFront (choose_line player)) (Short (λ come. come) (AsksSome player n old))
+  puts_some there come events rest put =
+      let (more, written) = put_on (choose_line player) come events rest put in
+      let (later, choice, left, many, hears) = there n old.taken come in
+      (record { more = more ++ later; left = left; whole = (choice, record old { taken = many }, record { heard = later; hears = (hears, refl); whole = rw (sym (append_assoc events more later), written) refl }) }, put_left (choose_line player) come events rest put)
+
+  -- the line was put, and a prefix of a choice was heard
+  pub hears_some : (bytes : List ℕ) → bytes ≡ choose_line player → Joins (IsPut bytes) (Short (λ come. come) (HearsSome n old.taken)) (Short (λ come. come) (AsksSome player n old))
+  hears_some bytes is come first middle others rest put (begun, left) =
+      let (choice, many, hears) = begun.whole in
+      (record { more = begun.more; left = begun.left; whole = (choice, record old { taken = many }, rw (append_assoc first others begun.more) (asks_after bytes is choice many come first middle (others ++ begun.more) begun.left put hears)) }, text_then bytes come first middle others rest put left)
+
 -- Deciding, by the code's test of who does
 
 nobody : (P : Type 0) (asked : Bool) → (IsTrue asked ↔ P) → asked ≡ false → ¬ P
 nobody P asked iff is p = let set = iff.1 p in cc
 
-said_alone : (program : Parts) (seed stage group : ℕ) (offers : List Offer) (how : How) (choice : Choice) (from to : Supply) → ¬ IsPlayers program stage group (length offers) → Decides program seed stage group (length offers) from how choice to → asked_events program offers how ≡ turn_question_events program offers how
+said_alone : (program : Parts) (seed stage group : ℕ) (offers : List Offer) (how : How) (choice : Choice) (from to : Supply) → ¬ IsPlayers program stage group (length offers) → Decides program seed stage group (length offers) from how choice to
+    → asked_events program offers how ≡ turn_question_events program offers how
 said_alone program seed stage group offers (Heard events) choice from to others decides = absurd (others decides.0)
 said_alone program seed stage group offers Lone choice from to others decides = refl
 said_alone program seed stage group offers Drawn choice from to others decides = refl
@@ -188,8 +209,7 @@ pub turn_acted : {C M : Type 0} (talk : C → Option (List Event)) (left : C →
     (players : ℕ) → (IsForAll program settings.height (position_of config) → ⊥) → (spent spent' : Spent) (place : ℕ) → Did talk left old between (SettlesTurn program settings.seed config.stage group offers spent (Place (place + 1)) spent')
     → (turned : Turned M) → IsActed talk left between new program settings.height offers place config turned → IsWent talk left old new program settings players config spent spent' turned
 turn_acted talk left old between new config here players none spent spent' place settled (Done next) (acted, counted) =
-    let remain = here.remain in
-    (did_then talk left old between new _ _ _ (λ come first middle second rest settles. turn_done here players none spent spent' place come first middle second rest settles (position_of next) counted) settled acted, omega (arith, counted), omega (arith, counted, remain))
+    (did_then talk left old between new _ _ _ (λ come first middle second rest settles. turn_done here players none spent spent' place come first middle second rest settles (position_of next) counted) settled acted, omega (arith, counted), omega (arith, counted, here.remain))
 turn_acted talk left old between new config here players none spent spent' place settled (Over last) (acted, same) =
     rw same (did_then talk left old between new _ _ _ (λ come first middle second rest settles. turn_fails here players none spent spent' place come first middle second rest settles last.word) settled acted)
 
@@ -286,7 +306,8 @@ module _ {program : Parts} {settings : Settings} {at : Position} {offers : List 
         pub acting_refused : Joins IsAskedOfAll (BeginsActs program settings at (admitted chosen flags)) Begins
         acting_refused come first middle second rest is begun =
             let acts = begun.acts in
-            let on = act_on program settings players laws kept some at (supply_with come spent) (supply_with rest spent') is_state (round_of is.hearings acts.deeds) (rw acts.untaken (is.choice acts.deeds)) (goes_from program settings players laws kept some at) begun.later acts.deeds begun.here acts.done acts.order begun.few in (
+            let on = act_on program settings players laws kept some at (supply_with come spent) (supply_with rest spent') is_state (round_of is.hearings acts.deeds) (rw acts.untaken (is.choice acts.deeds))
+            (goes_from program settings players laws kept some at) begun.later acts.deeds begun.here acts.done acts.order begun.few in (
               prefix_of_prefix _ _ (first ++ second) begun.more (rw (append_assoc first second begun.more, is.written, acts.written) on),
               left_then come first middle second rest (rw is.written (asked_left program spent laws.within (supply_with come spent) (round_of is.hearings []) (supply_with middle spent') (is.choice []).heard))
                   (prefix_left (flat_map (lines_of_deed program) acts.deeds) middle second begun.more rest acts.written acts.untaken),
@@ -300,8 +321,7 @@ module _ {program : Parts} {settings : Settings} {at : Position} {offers : List 
 
         blocking_refused : Joins (IsPut (offer_lines program 1 offers)) (Short (λ come. come) AreTold) Begins
         blocking_refused come first middle second rest put (begun, left) =
-            let remain = listed.remain in
-            let none : BeginsActs program settings at (admitted chosen flags) begun.left [] begun.left = record { here = at; later = admitted chosen flags; few = omega (arith, remain); more = []; acts = acts_none program settings at (admitted chosen flags) begun.left [] begun.left (refl, refl) } in
+            let none : BeginsActs program settings at (admitted chosen flags) begun.left [] begun.left = record { here = at; later = admitted chosen flags; few = omega (arith, listed.remain); more = []; acts = acts_none program settings at (admitted chosen flags) begun.left [] begun.left (refl, refl) } in
             let on = (acting_refused come (first ++ (second ++ begun.more)) begun.left [] begun.left (asked_of_all come first middle (second ++ begun.more) begun.left put begun.whole) none).0 in
             (prefix_of_prefix _ _ (first ++ second) begun.more (rw (append_assoc first second begun.more) (rw (append-nil (first ++ (second ++ begun.more))) at on)), text_then (offer_lines program 1 offers) come first middle second rest put left)
 
@@ -309,19 +329,14 @@ module _ {program : Parts} {settings : Settings} {at : Position} {offers : List 
         did_tell_some talk left old one two new listing all put = did_then talk left old one new _ _ _ blocking_refused listing (did_then talk left one two new _ _ _ telling_refused all put)
 
 -- what a round comes to
-module _ {C M : Type 0} (talk : C → Option (List Event)) (left : C → Option (List ℕ)) (old between new : C) {program : Parts} {settings : Settings} (config : Configuration M) {offers : List Offer} (listed : IsListedHere program settings (position_of config) offers) (players : ℕ) (spent : Spent) (laws : PlayersLaws) (kept : IsProgram program) (some : 0 < players) (is_state : IsState program.signature config.state) (spent' : Spent) (chosen : List Offer) (flags : List Bool) (flagged : AreAdmitted program config.state finite.empty chosen flags)
+module _ {C M : Type 0} (talk : C → Option (List Event)) (left : C → Option (List ℕ)) (old between new : C) {program : Parts} {settings : Settings} (config : Configuration M) {offers : List Offer} (listed : IsListedHere program settings (position_of config) offers)
+    (players : ℕ) (spent : Spent) (laws : PlayersLaws) (kept : IsProgram program) (some : 0 < players) (is_state : IsState program.signature config.state) (spent' : Spent) (chosen : List Offer) (flags : List Bool) (flagged : AreAdmitted program config.state finite.empty chosen flags)
     (picked : (length chosen ≡ players) × AllByRecursion (Contains offers) chosen) (asked : Did talk left old between (IsAskedOfAll listed players spent laws kept some is_state spent' chosen flags flagged)) where
   pub round_acted : (turned : Turned M) → AreActed talk left between new program settings (admitted chosen flags) config turned → AreCounted settings (admitted chosen flags) config turned → IsWent talk left old new program settings players config spent spent' turned
   round_acted (Done next) acted counted =
-      let each = picked.0 in
-      let sum = counted.0 in
-      let many = some_admitted laws.bags program settings.height config.state (own_group config.stage) chosen flags (all_weaker _ _ chosen listed.offered.no_other picked.1) flagged (omega (arith, each, some)) in
-      (did_then talk left old between new _ _ _ (round_goes listed players spent laws kept some is_state spent' chosen flags flagged (position_of next) counted.1) asked acted, omega (arith, many, sum), counted.1)
+      let many = some_admitted laws.bags program settings.height config.state (own_group config.stage) chosen flags (all_weaker _ _ chosen listed.offered.no_other picked.1) flagged (omega (arith, picked.0, some)) in
+      (did_then talk left old between new _ _ _ (round_goes listed players spent laws kept some is_state spent' chosen flags flagged (position_of next) counted.1) asked acted, omega (arith, many, counted.0), counted.1)
   round_acted (Over last) acted counted = did_then talk left old between new _ _ _ (round_stops listed players spent laws kept some is_state spent' chosen flags flagged (position_of last.config) last.word) asked acted
-
--- what was spent in some turns was spent in more
-pub spent_within : (seed turns more : ℕ) (spent : Spent) → turns ≤ more → HasSpent seed turns spent → HasSpent seed more spent
-spent_within seed turns more spent few has = record { taken = has.taken; drawn = let drawn = has.drawn in omega (arith, drawn, few); draw = has.draw }
 
 -- the run ends before a turn or a round
 pub ends_before : {C M : Type 0} (talk : C → Option (List Event)) (left : C → Option (List ℕ)) (console : C) (program : Parts) (settings : Settings) (players : ℕ) (config : Configuration M) (spent : Spent) (word : EndWord)
@@ -331,7 +346,8 @@ ends_before talk left console program settings players config spent word ends = 
 
 -- What is asked here
 
-module _ {M : Type 0} (is_of : Parts → M → Type 0) (height_held : M → ℕ) (state_held : M → Multiset) (offers_held : M → List (List Offer)) (program : Parts) (settings : Settings) (config : Configuration M) (group : ℕ) (played : IsPlayed is_of height_held program settings config) (exact : AreListed program (height_held config.matcher) (state_held config.matcher) (offers_held config.matcher))
+module _ {M : Type 0} (is_of : Parts → M → Type 0) (height_held : M → ℕ) (state_held : M → Multiset) (offers_held : M → List (List Offer)) (program : Parts) (settings : Settings) (config : Configuration M) (group : ℕ)
+    (played : IsPlayed is_of height_held program settings config) (exact : AreListed program (height_held config.matcher) (state_held config.matcher) (offers_held config.matcher))
     (same : state_held config.matcher ≡ config.state) (two : 2 * config.stage + 1 < length (offers_held config.matcher)) (listed : IsAskedIn (offers_held config.matcher) config.stage group) (asked : IsAsked program (height_held config.matcher) config.state config.stage group)
     (remain : config.turns < settings.limit) (seen : M) (view : seen ≡ config.matcher) (ok : Bool) (counted : IsTrue ok ↔ (length (offers_of (offers_held seen) group) ≤ MOST_OFFERS)) where
   is_asked : IsAskedHere program settings (position_of config) group (offers_of (offers_held config.matcher) group)
@@ -374,14 +390,16 @@ module _ (within : AreWithin) (program : Parts) (settings : Settings) (players :
       let stops = ends.0 in
       let between = stops.between in
       let last_asked = outs (choose_line (length hearings + 1)) in
-      text_then (offer_lines program 1 offers) from.come _ from.come (hearing_events 1 hearings ++ (last_asked ++ events)) to.come (refl, refl) (left_then from.come (hearing_events 1 hearings) between.come (last_asked ++ events) to.come (heard_left offers unspent within 1 (length offers) from hearings between stops.before)
+      text_then (offer_lines program 1 offers) from.come _ from.come (hearing_events 1 hearings ++ (last_asked ++ events)) to.come (refl, refl)
+      (left_then from.come (hearing_events 1 hearings) between.come (last_asked ++ events) to.come (heard_left offers unspent within 1 (length offers) from hearings between stops.before)
       (text_then (choose_line (length hearings + 1)) between.come _ between.come events to.come (refl, refl) (hears_left (length offers) stops.heard.0)))
   end_left at from word (of_offer round) last to ends = round_left from round to ends.0.heard
 
   whole_left : (start : Position) (word : EndWord) (last : Position) → Maps (IsWholeInRounds program settings players start word last) LeavesUnheard
   whole_left start word last come events rest whole =
       let run = whole.run in
-      rw (whole.written, whole.rest_is) (left_then come (flat_map (part_events program) whole.parts) run.between.come (last_part_events program whole.end) whole.left.come (done_left start (whole_supply come) whole.parts run.here run.between run.done) (end_left run.here run.between word whole.end last whole.left run.ends))
+      rw (whole.written, whole.rest_is) (left_then come (flat_map (part_events program) whole.parts) run.between.come (last_part_events program whole.end) whole.left.come
+      (done_left start (whole_supply come) whole.parts run.here run.between run.done) (end_left run.here run.between word whole.end last whole.left run.ends))
 
 -- Turn after turn and round after round
 
@@ -448,22 +466,26 @@ module _ (program : Parts) (settings : Settings) (players : ℕ) where
 
       -- the last lines were put, or a prefix of them
       pub dialogue_said : Joins IsPlayedOut (IsPut (end_lines program.signature word state)) (IsDialogueWith program settings players word)
-      dialogue_said come first middle second rest (run, whole, written) told = (
-        whole.parts,
-        whole.end,
-        last,
-        record {
-          left = whole.left;
-          run = rw (sym at) whole.run;
-          whole = rw (written, whole.written, told.0, is, append_assoc (outs (header program settings.height)) (flat_map (part_events program) whole.parts ++ last_part_events program whole.end) (outs (end_lines program.signature word last.spot.state)), append_assoc (flat_map (part_events program) whole.parts) (last_part_events program whole.end) (outs (end_lines program.signature word last.spot.state))) refl;
-          rest_is = told.1 ∙ whole.rest_is;
-        },
-      )
+      dialogue_said come first middle second rest (run, whole, written) told =
+          let parts = flat_map (part_events program) whole.parts in
+          let ending = last_part_events program whole.end in
+          let lines = outs (end_lines program.signature word last.spot.state) in (
+            whole.parts,
+            whole.end,
+            last,
+            record {
+              left = whole.left;
+              run = rw (sym at) whole.run;
+              whole = rw (written, whole.written, told.0, is, append_assoc (outs (header program settings.height)) (parts ++ ending) lines, append_assoc parts ending lines) refl;
+              rest_is = told.1 ∙ whole.rest_is;
+            },
+          )
 
       pub end_refused : AreWithin → Joins IsPlayedOut (PutsFront (end_lines program.signature word state)) (Short (λ come. come) (IsSomeDialogue program settings players))
       end_refused within come first middle second rest so_far put =
           let (more, written) = put_on (end_lines program.signature word state) middle second rest put in
           let (run, whole, said) = so_far in (
             record { more = more; left = middle; whole = (word, rw (append_assoc first second more) (dialogue_said come first middle (second ++ more) middle so_far (written, refl))) },
-            left_then come first middle second rest (rw said (text_then (header program settings.height) come _ come run middle (refl, refl) (whole_left within program settings players start word last come run middle whole))) (put_left (end_lines program.signature word state) middle second rest put),
+            left_then come first middle second rest (rw said (text_then (header program settings.height) come _ come run middle (refl, refl) (whole_left within program settings players start word last come run middle whole)))
+                (put_left (end_lines program.signature word state) middle second rest put),
           )

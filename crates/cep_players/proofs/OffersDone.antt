@@ -2,31 +2,18 @@
 use Rattle.std.proofs.Common.{◌≡◌, inl, inr, ℕ, zero, suc, ◌+◌, ◌<◌, ◌≤◌, Bool, true, false, List, [], ◌∷◌, ◌++◌, length, length-append, take, Option, Some, append_assoc, append-nil, refl, sym, ap, ◌∙◌, arith}
 use Rattle.std.specs.Prelude.{slice_get, drop, Result, Ok, Err, IfOk}
 use Rattle.std.proofs.Math.ListN.{drop_of_length-le}
-use Rattle.cep_base.specs.declared.console.Event.{Event}
-use Rattle.cep_base.specs.Talk.{Did}
 use Rattle.cep_base.proofs.Did.{did_map, did_same, did_then}
 use Rattle.cep_base.proofs.Drops.{drop_at}
 use Rattle.cep_base.proofs.Lists.{holds_at}
 use Rattle.cep_base.proofs.Options.{item_at}
-use Rattle.cep_term.specs.Multiset.{Multiset}
-use Rattle.cep_rule.specs.declared.rule.Rule.{Rule}
-use Rattle.cep_rule.specs.declared.parts.Parts.{Parts}
-use Rattle.cep_rule.specs.declared.offer.Offer.{Offer}
-use Rattle.cep_rule.specs.Offers.{IsOffer}
-use Rattle.cep_rule.specs.Stages.{own_group}
-use Rattle.cep_rule.specs.Program.{IsGroupedRule, IsProgram}
-use Rattle.cep_step.specs.Deeds.{Position}
 use Rattle.cep_machine.specs.Configuration.{Configuration}
-use Rattle.cep_lines.specs.declared.end_word.EndWord.{EndWord}
-use Rattle.cep_round.specs.Rounds.{admitted}
-use Rattle.cep_round.specs.Orders.{IsOfferDone, AreOffersDone}
 pub use Rattle.cep_round.proofs.Admitted.{as_many_flags, next_admitted, next_blocked}
-use Rattle.cep_run.specs.declared.settings.Settings.{Settings}
 use Rattle.cep_run.specs.declared.turn.Turned.{Turned}
 use Rattle.cep_run.specs.declared.turn.Turned.TheVariants.{Done, Over}
 use Rattle.cep_run.specs.declared.turn.Ended.{Ended}
 use Rattle.cep_run.specs.Begun.{BeginsAct}
-use Rattle.cep_run.specs.Turn.{position_of, IsPlaced, Acts, WouldPass, IsActed, IsMoved}
+use Rattle.cep_players.proofs.Words.{Event, Did, Multiset, Rule, Parts, Offer, IsOffer, own_group, IsGroupedRule, IsProgram, Position, EndWord, admitted, IsOfferDone, AreOffersDone, Settings, position_of, IsPlaced, Acts, WouldPass, IsActed}
+use Rattle.cep_players.proofs.Words.{IsMoved}
 use Rattle.cep_players.specs.Going.{DoesOffer, CannotDo, IsOfferActed, IsOfferMoved, BeginsOffer, ActsSome, StopsAct, BeginsActs}
 use Rattle.cep_players.proofs.RoundSteps.{stays_in_stage, then_deeds, order_more, lines_more}
 use Rattle.cep_players.proofs.RoundsThere.{passes_stops}
@@ -123,7 +110,8 @@ module _ (program : Parts) (settings : Settings) (at : Position) (offers : List 
     }
 
   -- the next one was refused
-  acts_refused : (here : Position) (offer : Offer) (later : List Offer) → here.turns ≤ settings.limit → (come middle rest : List ℕ) (first second : List Event) → ActsSome program settings.height at here offers (offer ∷ later) come first middle → BeginsOffer program settings offer here middle second rest → BeginsActs program settings at offers come (first ++ second) rest
+  acts_refused : (here : Position) (offer : Offer) (later : List Offer) → here.turns ≤ settings.limit → (come middle rest : List ℕ) (first second : List Event) → ActsSome program settings.height at here offers (offer ∷ later) come first middle
+      → BeginsOffer program settings offer here middle second rest → BeginsActs program settings at offers come (first ++ second) rest
   acts_refused here offer later few come middle rest first second acts (inl nothing) = record {
     here = here;
     later = offer ∷ later;
@@ -185,7 +173,8 @@ module _ {C M : Type 0} (talk : C → Option (List Event)) (left : C → Option 
             so_far = did_then talk left old console new _ _ _ (λ come first middle second rest acts does. acts_more program settings (position_of start) (admitted chosen flags) (position_of config) offer later come middle rest first second acts (position_of next) does) waiting acted;
           }
 
-      pub gone_out : (last : Ended M) → IsOfferMoved program settings offer config (Over last) → IsOfferActed talk left console new program settings offer config (Over last) → Did talk left old new (StopsAct program settings (position_of start) (position_of last.config) (admitted chosen flags) last.word)
+      pub gone_out : (last : Ended M) → IsOfferMoved program settings offer config (Over last) → IsOfferActed talk left console new program settings offer config (Over last)
+          → Did talk left old new (StopsAct program settings (position_of start) (position_of last.config) (admitted chosen flags) last.word)
       gone_out last same acted = rw same (did_then talk left old console new _ _ _ (λ come first middle second rest acts cannot. acts_stop program settings (position_of start) (admitted chosen flags) (position_of config) offer later come middle rest first second acts last.word cannot) waiting acted)
 
       pub gone_short : Did talk left console new (BeginsOffer program settings offer (position_of config)) → Did talk left old new (BeginsActs program settings (position_of start) (admitted chosen flags))

@@ -2,36 +2,14 @@
 use Rattle.std.proofs.Common.{◌≡◌, ℕ, ◌<◌, ◌≤◌, ◌^◌, Bool, List, [], ◌∷◌, ◌++◌, map, length, Option, None, Some, append-nil, refl, sym, ap, ◌∙◌, arith}
 use Rattle.std.specs.Prelude.{slice_get}
 use Rattle.std.specs.FinMap as finite
-use Rattle.cep_base.specs.declared.console.Event.{Event}
 use Rattle.cep_base.specs.declared.limits.TheConstants.{MOST_OFFERS}
-use Rattle.cep_term.specs.Tree.{Tree}
-use Rattle.cep_term.specs.Multiset.{Multiset}
 use Rattle.cep_rule.specs.declared.signature.Signature.{Signature}
-use Rattle.cep_rule.specs.declared.rule.Rule.{Rule}
-use Rattle.cep_rule.specs.declared.parts.Parts.{Parts}
-use Rattle.cep_rule.specs.declared.offer.Offer.{Offer}
-use Rattle.cep_rule.specs.Offers.{AreOffers}
-use Rattle.cep_rule.specs.Stages.{own_group, IsAsked}
-use Rattle.cep_rule.specs.Step.{Step}
-use Rattle.cep_step.specs.Deeds.{Position, Deed, IsDeed, AreDeeds, start_of}
-use Rattle.cep_step.specs.declared.limit.Limit.{Limit}
 use Rattle.cep_step.specs.declared.limit.Limit.TheVariants as limit
-use Rattle.cep_step.specs.Passing.{Passes}
-use Rattle.cep_lines.specs.declared.end_word.EndWord.{EndWord}
-use Rattle.cep_lines.specs.declared.end_word.EndWord.TheVariants.{Quiet}
-use Rattle.cep_run.specs.declared.choice.Choice.{Choice}
-use Rattle.cep_run.specs.declared.choice.Choice.TheVariants.{Place}
-use Rattle.cep_run.specs.declared.settings.Settings.{Settings}
-use Rattle.cep_run.specs.Choice.{Hears}
-use Rattle.cep_run.specs.Deciding.{Supply}
 use Rattle.cep_run.proofs.TurnSteps.{deeds_counted}
-use Rattle.cep_run.specs.Run.{whole_supply, Question, Turn, Ending, Run, unproved, IsQuestion, IsChosen, IsTurn, EndsAt, quiet_end, turns_end, offers_end, input_end, typed_end, atom_end, state_end}
-use Rattle.cep_round.specs.Rounds.{AreAdmitted, admitted}
+use Rattle.cep_players.proofs.Words.{Event, Tree, Multiset, Rule, Parts, Offer, AreOffers, own_group, IsAsked, Step, Position, Deed, IsDeed, AreDeeds, start_of, Limit, Passes, EndWord, Quiet, Choice, Place, Settings, Hears, Supply}
+use Rattle.cep_players.proofs.Words.{whole_supply, Question, Turn, Ending, Run, unproved, IsQuestion, IsChosen, IsTurn, EndsAt, quiet_end, turns_end, offers_end, input_end, typed_end, atom_end, state_end, AreAdmitted, admitted}
 use Rattle.cep_players.specs.Runs.{Hearing, IsHeard, AreHeard, HaveChosen, Round, IsListedHere, IsChosenHere, IsRoundDone, TurnOrRound, a_turn, a_round, AreTurnsAndRounds, EndOfRounds, of_turn, of_player, of_offer, unproved_round, unproved_part, unproved_end, IsCutOff, CannotBeDone, StopsInRound, StopsAtPlayer, EndsInRounds, RunsInRounds}
 use Rattle.cep_players.specs.Dialogues.{DialogueInRounds}
-
-one_cut : (choice : Choice) (word word' : EndWord) → IsCutOff choice word → IsCutOff choice word' → word ≡ word'
-one_cut choice word word' cut cut' = grind arith
 
 one_word : (program : Parts) (most : ℕ) (at : Position) (next : Offer) (rule rule' : Rule) (word word' : EndWord) → slice_get program.rules next.rule ≡ Some rule → slice_get program.rules next.rule ≡ Some rule'
     → CannotBeDone program most at rule next.values word → CannotBeDone program most at rule' next.values word' → word ≡ word'
@@ -86,7 +64,7 @@ module _ (one_list : (program : Parts) (height : ℕ) (state : Multiset) (group 
         let more = no_more_heard from hearings' hearings between' to' between events' choice' word' are' is' cut' are in
         let before = same_heard from hearings hearings' between between' are are' (omega (arith, fewer, more)) in
         let one = one_heard between events events' choice choice' to to' is (rw before.1 is') in
-        (before.0, one.0, one.1, one_cut choice word word' cut (rw one.1 cut'), one.2)
+        (before.0, one.0, one.1, grind (arith, cut, cut', one.1), one.2)
 
   one_chosen : (offers : List Offer) (hearings : List Hearing) (chosen chosen' : List Offer) → HaveChosen offers hearings chosen → HaveChosen offers hearings chosen' → chosen ≡ chosen'
   one_chosen offers [] chosen chosen' have have' = grind arith
@@ -130,8 +108,8 @@ module _ (one_list : (program : Parts) (height : ℕ) (state : Multiset) (group 
   -- where an offer is done, deeds do not stop before it
   goes_on : (at last last' : Position) (deed : Deed) (deeds : List Deed) (later later' : List Offer) (word word' : EndWord) → Does at [] last later word → Does at (deed ∷ deeds) last' later' word' → later ≡ map (λ (it : Deed). it.offer) (deed ∷ deeds) ++ later' → ⊥
   goes_on at last last' deed deeds later later' word word' does does' same =
-      let stops = rw (does.0, same) at does.2 in
-      done_or_stops deed at stops.0 word does'.0.0 does'.0.1 (omega (arith, deeds_counted program settings.height deed.after deeds last' does'.0.2, does'.1)) stops.1 stops.2
+      let (rule, of_rule, stops) = rw (does.0, same) at does.2 in
+      done_or_stops deed at rule word does'.0.0 does'.0.1 (omega (arith, deeds_counted program settings.height deed.after deeds last' does'.0.2, does'.1)) of_rule stops
 
   one_way : (at : Position) (deeds deeds' : List Deed) (last last' : Position) (later later' : List Offer) (word word' : EndWord) → Does at deeds last later word → Does at deeds' last' later' word'
       → map (λ (it : Deed). it.offer) deeds ++ later ≡ map (λ (it : Deed). it.offer) deeds' ++ later' → (map bare deeds ≡ map bare deeds') × (last ≡ last') × (later ≡ later')
@@ -196,7 +174,8 @@ module _ (one_list : (program : Parts) (height : ℕ) (state : Multiset) (group 
     listed_or_asked offers word None last to listed ends = listed_or_ends at from (own_group at.spot.stage) offers listed.remain listed.for_all.asked listed.offered listed.few ends.0
     listed_or_asked offers word (Some question) last to listed ends = ends.1 listed.for_all
 
-    end_or_part : (word : EndWord) (end : EndOfRounds) (last : Position) (to : Supply) → EndsInRounds program settings players at from word end last to → (part : TurnOrRound) (parts : List TurnOrRound) (last' : Position) (to' : Supply) → AreTurnsAndRounds program settings players at from (part ∷ parts) last' to' → ⊥
+    end_or_part : (word : EndWord) (end : EndOfRounds) (last : Position) (to : Supply) → EndsInRounds program settings players at from word end last to → (part : TurnOrRound) (parts : List TurnOrRound) (last' : Position) (to' : Supply)
+        → AreTurnsAndRounds program settings players at from (part ∷ parts) last' to' → ⊥
     end_or_part word (of_turn asked) last to ends (a_turn turn) parts last' to' done = turn_or_end at from turn done.0 ends.0
     end_or_part word (of_player offers hearings events choice) last to ends (a_turn turn) parts last' to' done = done.1 ends.0.listed.for_all
     end_or_part word (of_offer round) last to ends (a_turn turn) parts last' to' done = done.1 ends.0.listed.for_all

@@ -5,35 +5,16 @@ use Rattle.std.specs.List.{AllByRecursion, flat_map}
 use Rattle.std.specs.FinMap as finite
 use Rattle.std.proofs.lemmas.Grind.{flat_map-append}
 use Rattle.std.proofs.lemmas.List.{map-append}
-use Rattle.cep_base.specs.declared.console.Event.TheVariants.{Out}
-use Rattle.cep_base.specs.Talk.{outs}
 use Rattle.cep_base.proofs.Elements.{all_at, all_of, contains_first, contains_left, contains_right}
 use Rattle.cep_base.proofs.Lists.{holds_at, map_last}
-use Rattle.cep_term.specs.Tree.{AtomTree}
-use Rattle.cep_term.specs.Multiset.{Multiset}
-use Rattle.cep_rule.specs.declared.rule.Rule.{Rule}
-use Rattle.cep_rule.specs.declared.parts.Parts.{Parts}
-use Rattle.cep_rule.specs.declared.offer.Offer.{Offer}
 use Rattle.cep_rule.specs.Derivations.{ProofTree, IsDerivable}
-use Rattle.cep_rule.specs.State.{IsState}
-use Rattle.cep_rule.specs.Offers.{Applies, IsInGroup, IsOffer}
-use Rattle.cep_rule.specs.Stages.{own_group, IsQuiet}
-use Rattle.cep_rule.specs.Step.{Step}
 use Rattle.cep_rule.specs.Steps.{AreProofs, stage_after}
-use Rattle.cep_rule.specs.Program.{IsTypedRule, IsDividedRule, IsGroupedRule, IsProgram}
-use Rattle.cep_step.specs.Deeds.{Position, Deed, AreDeeds}
-use Rattle.cep_lines.specs.declared.end_word.EndWord.{EndWord}
-use Rattle.cep_log.specs.Holding.{lines_of_deed}
-use Rattle.cep_lines.specs.declared.end_word.EndWord.TheVariants.{Quiet}
-use Rattle.cep_round.specs.Rounds.{AreAdmitted, admitted, IsRound}
-use Rattle.cep_round.specs.Orders.{AreOffersDone}
 use Rattle.cep_round.proofs.Counts.{each_admitted}
-use Rattle.cep_run.specs.declared.choice.Choice.{Choice}
-use Rattle.cep_run.specs.declared.settings.Settings.{Settings}
-use Rattle.cep_run.specs.Deciding.{Supply}
 use Rattle.cep_run.proofs.TurnSteps.{quiet_here}
+use Rattle.cep_players.proofs.Words.{Out, outs, AtomTree, Multiset, Rule, Parts, Offer, IsState, Applies, IsInGroup, IsOffer, own_group, IsQuiet, Step, IsTypedRule, IsDividedRule, IsGroupedRule, IsProgram, Position, Deed, AreDeeds, EndWord}
+use Rattle.cep_players.proofs.Words.{lines_of_deed, Quiet, AreAdmitted, admitted, IsRound, AreOffersDone, Settings, Supply}
 use Rattle.cep_players.specs.PlayersLaws.{RoundLaws}
-use Rattle.cep_players.specs.Runs.{Hearing, HaveChosen, Round, IsRoundDone, TurnOrRound, a_turn, a_round, AreTurnsAndRounds, AreTogether, all_done, EndOfRounds, of_turn, of_player, of_offer, done_before, IsCutOff, EndsInRounds, RunsInRounds}
+use Rattle.cep_players.specs.Runs.{Hearing, HaveChosen, Round, IsRoundDone, TurnOrRound, a_turn, a_round, AreTurnsAndRounds, AreTogether, all_done, EndOfRounds, of_turn, of_player, of_offer, done_before, EndsInRounds, RunsInRounds}
 
 -- offers that were chosen are offers of the list
 pub chosen_are : (P : Offer → Type 0) (offers : List Offer) → ((k : ℕ) (offer : Offer) → slice_get offers k ≡ Some offer → P offer) → (hearings : List Hearing) (chosen : List Offer) → HaveChosen offers hearings chosen → AllByRecursion P chosen
@@ -62,12 +43,9 @@ module _ (program : Parts) (settings : Settings) (players : ℕ) where
   pub run_deeds : (at : Position) (from : Supply) (parts : List TurnOrRound) (end : EndOfRounds) (word : EndWord) (last : Position) (to : Supply) → RunsInRounds program settings players at from parts end word last to → AreDeeds program settings.height at (all_done parts ++ done_before end) last
   run_deeds at from parts end word last to run = then_deeds at (all_done parts) run.here (done_before end) last (parts_deeds at from parts run.here run.between run.done) (end_deeds run.here run.between word end last to run.ends)
 
-  not_cut : (choice : Choice) → IsCutOff choice Quiet → ⊥
-  not_cut choice cut = grind arith
-
   end_quiet : (at : Position) (from : Supply) (end : EndOfRounds) (last : Position) (to : Supply) → EndsInRounds program settings players at from Quiet end last to → IsQuiet program settings.height last.spot.state last.spot.stage
   end_quiet at from (of_turn asked) last to ends = rw ends.2 (quiet_here program settings at from refl ends.0)
-  end_quiet at from (of_player offers hearings events choice) last to ends = absurd (not_cut choice ends.1)
+  end_quiet at from (of_player offers hearings events choice) last to ends = absurd (grind (arith, ends.1))
   end_quiet at from (of_offer round) last to ends = absurd ends.1.stops
 
   pub run_quiet : (at : Position) (from : Supply) (parts : List TurnOrRound) (end : EndOfRounds) (word : EndWord) (last : Position) (to : Supply) → RunsInRounds program settings players at from parts end word last to → word ≡ Quiet → IsQuiet program settings.height last.spot.state last.spot.stage
@@ -92,7 +70,13 @@ module _ (laws : RoundLaws) (program : Parts) (height : ℕ) where
   deeds_done at (deed ∷ deeds) last done =
       let step = done.1.step in
       let move : Step program.signature deed.rule deed.offer.values at.spot.state deed.after.spot.state = rw (← done.0) step.steps.step in
-      let applies : Applies program height at.spot.state deed.offer = record { rule = deed.rule; numbered = step.numbered; values = step.values; contained = laws.needed program.signature deed.rule deed.offer.values at.spot.state deed.after.spot.state move; derivable = derivable deed.proofs _ step.proved } in
+      let applies : Applies program height at.spot.state deed.offer = record {
+        rule = deed.rule;
+        numbered = step.numbered;
+        values = step.values;
+        contained = laws.needed program.signature deed.rule deed.offer.values at.spot.state deed.after.spot.state move;
+        derivable = derivable deed.proofs _ step.proved;
+      } in
       (deed.after.spot.state, record { applies = applies; step = move }, deeds_done deed.after deeds last done.2)
 
   module _ (kept : IsProgram program) where

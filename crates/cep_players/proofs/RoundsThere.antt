@@ -7,39 +7,16 @@ use Rattle.std.proofs.lemmas.Bool.{cases_lt}
 use Rattle.std.proofs.lemmas.Grind.{flat_map-append}
 use Rattle.std.proofs.lemmas.List.{length-map}
 use Rattle.std.proofs.lemmas.Slice.Zip.{AllZip-long}
-use Rattle.cep_base.specs.declared.console.Event.{Event}
-use Rattle.cep_base.specs.Talk.{outs}
 use Rattle.cep_base.proofs.Elements.{contains_at}
 use Rattle.cep_base.proofs.Lists.{all_from_places, holds_at}
-use Rattle.cep_term.specs.Tree.{AtomTree}
 use Rattle.cep_term.specs.BagLaws.{BagLaws}
-use Rattle.cep_term.specs.Multiset.{Multiset, count_of, IsContained, held}
-use Rattle.cep_rule.specs.declared.parts.Parts.{Parts}
 use Rattle.cep_rule.specs.declared.parts.Stage.{Stage}
-use Rattle.cep_rule.specs.declared.rule.Rule.{Rule}
-use Rattle.cep_rule.specs.declared.offer.Offer.{Offer}
-use Rattle.cep_rule.specs.State.{IsState}
-use Rattle.cep_rule.specs.Offers.{IsOffer}
-use Rattle.cep_rule.specs.Stages.{own_group, IsAsked}
-use Rattle.cep_rule.specs.Typing.{is_fact}
-use Rattle.cep_rule.specs.Program.{IsProgram}
-use Rattle.cep_step.specs.Deeds.{Position, Deed, AreDeeds, start_of}
-use Rattle.cep_step.specs.declared.limit.Limit.{Limit}
-use Rattle.cep_step.specs.Passing.{Passes}
-use Rattle.cep_round.specs.Rounds.{needs, used_with, AreAdmitted, admitted}
 use Rattle.cep_round.proofs.Counts.{join_count}
-use Rattle.cep_lines.specs.declared.end_word.EndWord.{EndWord}
-use Rattle.cep_lines.specs.declared.end_word.EndWord.TheVariants.{Turns}
-use Rattle.cep_lines.specs.Lines.{offer_lines, end_lines, header}
-use Rattle.cep_log.specs.Holding.{lines_of_deed}
-use Rattle.cep_run.specs.declared.settings.Settings.{Settings}
-use Rattle.cep_run.specs.declared.deciding.Spent.{Spent}
-use Rattle.cep_run.specs.Deciding.{Supply}
-use Rattle.cep_run.specs.Run.{whole_supply, Question, Turn, IsQuestion, IsTurn, AreTurns, EndsAt}
-use Rattle.cep_run.specs.Turn.{supply_with, limit_word}
-use Rattle.cep_run.specs.Fronts.{BeginsSome}
+use Rattle.cep_lines.specs.Lines.{offer_lines}
 use Rattle.cep_run.proofs.TurnSteps.{left_by, deeds_counted}
 use Rattle.cep_choice.specs.Draws.{generator_behind}
+use Rattle.cep_players.proofs.Words.{Event, outs, AtomTree, Multiset, count_of, IsContained, Parts, Rule, Offer, IsState, IsOffer, own_group, IsAsked, IsProgram, Position, Deed, AreDeeds, start_of, Limit, Passes, needs, used_with}
+use Rattle.cep_players.proofs.Words.{AreAdmitted, admitted, EndWord, Turns, end_lines, header, lines_of_deed, Settings, Spent, Supply, whole_supply, Question, Turn, IsQuestion, IsTurn, AreTurns, EndsAt, supply_with, limit_word, BeginsSome}
 use Rattle.cep_players.specs.PlayersLaws.{PlayersLaws}
 use Rattle.cep_players.specs.Runs.{IsForAll, Round, IsListedHere, IsChosenHere, TurnOrRound, a_turn, a_round, AreTurnsAndRounds, EndOfRounds, of_turn, of_player, of_offer, CannotBeDone, EndsInRounds}
 use Rattle.cep_players.specs.Dialogues.{hearing_events, blocked_lines, turn_question_events, round_question_events, round_events, part_events, last_part_events, DialogueInRounds}
@@ -64,15 +41,12 @@ pub asked_at : (program : Parts) (settings : Settings) (at : Position) (from : S
 asked_at program settings at from ends = left_by program settings at from ends
 
 -- Which offers are admitted can be told
-at_most_or_not : (n m : ℕ) → (n ≤ m) ⊎ (n ≤ m → ⊥)
-at_most_or_not n m = grind arith
-
 all_or_not : {A : Type 0} (P : A → Type 0) → ((x : A) → P x ⊎ (P x → ⊥)) → (xs : List A) → AllByRecursion P xs ⊎ (AllByRecursion P xs → ⊥)
 all_or_not P decide [] = inl tt
 all_or_not P decide (x ∷ xs) = grind (arith, decide x, all_or_not P decide xs)
 
 contained_or_not : BagLaws → (few many : Multiset) → IsContained few many ⊎ (IsContained few many → ⊥)
-contained_or_not laws few many = elim (all_or_not (λ (e : AtomTree × ℕ). e.1 ≤ count_of many e.0) (λ e. at_most_or_not e.1 (count_of many e.0)) (finite.entries few)) [
+contained_or_not laws few many = elim (all_or_not (λ (e : AtomTree × ℕ). e.1 ≤ count_of many e.0) (λ e. grind arith) (finite.entries few)) [
   | inl all ↦ inl (λ a. elim (cases_lt 0 (count_of few a)) [
     | inr none ↦ omega (arith, none)
     | inl some ↦ (let there = laws.entry_there few a some in holds_at (λ (e : AtomTree × ℕ). e.1 ≤ count_of many e.0) (finite.entries few) there.0 (a, count_of few a) all there.1)
@@ -87,9 +61,6 @@ flags_there laws program state used (offer ∷ offers) = elim (contained_or_not 
   | inr outside ↦ (let later = flags_there laws program state used offers in (false ∷ later.0, (outside, later.1)))
 ]
 
-held_within : (t : Bool) (none n m all : ℕ) → none ≡ 0 → all ≡ held t (none + n) → n ≤ m → all ≤ m
-held_within t none n m all nothing is within = grind arith
-
 -- of offers that apply one at least is admitted, as the first one is
 pub some_admitted : BagLaws → (program : Parts) (height : ℕ) (state : Multiset) (group : ℕ) (chosen : List Offer) (flags : List Bool) → AllByRecursion (IsOffer program height state group) chosen → AreAdmitted program state finite.empty chosen flags → 0 < length chosen → 0 < length (admitted chosen flags)
 some_admitted laws program height state group [] flags are flagged many = absurd (omega (arith, many))
@@ -98,7 +69,7 @@ some_admitted laws program height state group (offer ∷ chosen) (true ∷ flags
 some_admitted laws program height state group (offer ∷ chosen) (false ∷ flags) are flagged many =
     let applies = are.0.applies in
     let needed : IsContained (needs program offer) state = rw applies.numbered applies.contained in
-    absurd (flagged.0 (λ a. held_within (is_fact program.signature a) _ (count_of (needs program offer) a) (count_of state a) _ (laws.empty a) (join_count laws program finite.empty (needs program offer) a) (needed a)))
+    absurd (flagged.0 (λ a. grind (arith, laws.empty a, join_count laws program finite.empty (needs program offer) a, needed a)))
 
 module _ (program : Parts) (settings : Settings) (players : ℕ) where
   -- these events begin a run in rounds from here
@@ -112,7 +83,8 @@ module _ (program : Parts) (settings : Settings) (players : ℕ) where
   parts_more at from (a_round round after left ∷ parts) here between more last to done later = (done.0, parts_more after left parts here between more last to done.1 later)
 
   -- a run goes on after turns and rounds that were done
-  pub runs_after : (at : Position) (from : Supply) (parts : List TurnOrRound) (here : Position) (between : Supply) (events : List Event) → AreTurnsAndRounds program settings players at from parts here between → Begins here between events → Begins at from (flat_map (part_events program) parts ++ events)
+  pub runs_after : (at : Position) (from : Supply) (parts : List TurnOrRound) (here : Position) (between : Supply) (events : List Event) → AreTurnsAndRounds program settings players at from parts here between → Begins here between events
+      → Begins at from (flat_map (part_events program) parts ++ events)
   runs_after at from parts here between events done begun =
       let (later, end, word, last, run, is) = begun.whole in
       let said = flat_map (part_events program) parts in
@@ -214,7 +186,8 @@ module _ (program : Parts) (settings : Settings) (players : ℕ) where
         let events = part_events program (a_turn turn) in
         rw (append-nil (events ++ []), append-nil events) at (runs_after at from (a_turn turn ∷ []) turn.deed.after turn.left [] (is, none, (refl, refl)) on)
 
-    pub question_on : (at : Position) (from : Supply) → IsState program.signature at.spot.state → (question : Question) (to : Supply) → IsQuestion program settings at from question to → (IsForAll program settings.height at → ⊥) → Goes at → Begins at from (turn_question_events program question.offers question.how)
+    pub question_on : (at : Position) (from : Supply) → IsState program.signature at.spot.state → (question : Question) (to : Supply) → IsQuestion program settings at from question to → (IsForAll program settings.height at → ⊥) → Goes at
+        → Begins at from (turn_question_events program question.offers question.how)
     question_on at from is_state question to asks none next = elim (laws.lead_on program settings at from question to kept is_state asks) [
       | inr out ↦ ends_here at from out.0 (of_turn (Some question)) at to (out.1, none, refl)
       | inl (turn, is, same) ↦ front_of_front (IsRunInRounds program settings players at) from (turn_question_events program question.offers question.how) (outs (lines_of_deed program turn.deed)) (rw same at (turn_on at from is_state turn is none next))
@@ -231,7 +204,8 @@ module _ (program : Parts) (settings : Settings) (players : ℕ) where
           )
     ]
 
-    by_turns : (at : Position) (from : Supply) → IsState program.signature at.spot.state → Goes at → (turns : List Turn) (last : Position) (between : Supply) → AreTurns program settings at from turns last between → (word : EndWord) (asked : Option Question) (to : Supply) → EndsAt program settings last between word asked to → Begins at from []
+    by_turns : (at : Position) (from : Supply) → IsState program.signature at.spot.state → Goes at → (turns : List Turn) (last : Position) (between : Supply) → AreTurns program settings at from turns last between → (word : EndWord) (asked : Option Question) (to : Supply)
+        → EndsAt program settings last between word asked to → Begins at from []
     by_turns at from is_state next [] last between done word None to ends = ends_here at from word (of_turn None) at to (rw (← done.0, ← done.1) ends, tt, refl)
     by_turns at from is_state next [] last between done word (Some question) to ends = from_question at from is_state question to (left_by program settings at from (rw (done.0, done.1) at ends)) next
     by_turns at from is_state next (turn ∷ turns) last between done word asked to ends = from_question at from is_state turn.question turn.left done.0.asks next

@@ -3,30 +3,20 @@ use Rattle.std.proofs.Common.{◌≡◌, ◌≢◌, ℕ, ◌+◌, Bool, true, fa
 use Rattle.std.specs.Prelude.{codes, decimal}
 use Rattle.std.specs.List.{AllByRecursion, flat_map}
 use Rattle.std.proofs.lemmas.Grind.{flat_map-append}
-use Rattle.cep_base.specs.declared.console.Event.{Event}
-use Rattle.cep_base.specs.declared.console.Event.TheVariants.{End}
-use Rattle.cep_base.specs.Talk.{outs, ins}
 use Rattle.cep_base.proofs.Elements.{both_all, all_of, contains_at}
-use Rattle.cep_rule.specs.declared.parts.Parts.{Parts}
-use Rattle.cep_rule.specs.declared.offer.Offer.{Offer}
 use Rattle.cep_rule.specs.Shapes.{IsOfferOf}
 use Rattle.cep_text.specs.Texts.{offer_text}
-use Rattle.cep_step.specs.Deeds.{Position, Deed, start_of}
-use Rattle.cep_lines.specs.Lines.{line, offer_line, offer_lines, end_lines, header}
-use Rattle.cep_lines.specs.declared.end_word.EndWord.{EndWord}
+use Rattle.cep_lines.specs.Lines.{offer_line, offer_lines}
 use Rattle.cep_log.specs.Transcript.{IsPassedOver, IsOneLine}
 use Rattle.cep_log.specs.Written.{IsRemark}
-use Rattle.cep_log.specs.Holding.{AreRemarks, lines_of_deed, TellDeeds, TellRun}
 use Rattle.cep_choice.specs.TypedLine.{Cut, Ended, Last, Nothing, Full, ReadsLine}
-use Rattle.cep_run.specs.declared.choice.Choice.{Choice}
-use Rattle.cep_run.specs.declared.settings.Settings.{Settings}
-use Rattle.cep_run.specs.Choice.{room_after, no_line, Hears, chosen, again, no_more, no_room}
-use Rattle.cep_run.specs.Deciding.{Supply, How, Heard, Decides}
-use Rattle.cep_run.specs.Run.{Question, IsQuestion, whole_supply}
+use Rattle.cep_run.specs.Choice.{no_line}
 use Rattle.cep_run.specs.Dialogue.{written_bytes}
 use Rattle.cep_run.proofs.Asides.{written_both, written_outs, no_remarks}
 use Rattle.cep_run.proofs.StepLines.{applied_has_text}
 use Rattle.cep_run.proofs.TurnSteps.{left_by}
+use Rattle.cep_players.proofs.Words.{Event, End, outs, ins, Parts, Offer, Position, Deed, start_of, line, end_lines, header, EndWord, AreRemarks, lines_of_deed, TellDeeds, TellRun, Choice, Settings, room_after, Hears, chosen, again}
+use Rattle.cep_players.proofs.Words.{no_more, no_room, Supply, How, Heard, Decides, Question, IsQuestion, whole_supply}
 use Rattle.cep_players.specs.Runs.{Hearing, AreHeard, Round, IsListedHere, IsChosenHere, TurnOrRound, a_turn, a_round, AreTurnsAndRounds, all_done, EndOfRounds, of_turn, of_player, of_offer, done_before, EndsInRounds}
 use Rattle.cep_players.specs.Dialogues.{choose_line, blocked_line, blocked_lines, hearing_events, turn_question_events, round_question_events, part_events, last_part_events, DialogueInRounds}
 use Rattle.cep_players.proofs.RoundSteps.{chosen_are}
@@ -180,6 +170,7 @@ module _ (program : Parts) where
         let steps = flat_map (part_events program) parts in
         let stop = last_part_events program end in
         let ended = end_lines program.signature word last.spot.state in
-        let then = apart (all_done parts ++ done_before end) (written_bytes (steps ++ stop)) (parts_then settings players (start_of program) (whole_supply come) parts run.here run.between (done_before end) stop run.done (end_then settings players run.here run.between word end last said.left run.ends)) in
+        let then = apart (all_done parts ++ done_before end) (written_bytes (steps ++ stop)) (parts_then settings players (start_of program) (whole_supply come) parts run.here run.between (done_before end) stop run.done
+        (end_then settings players run.here run.between word end last said.left run.ends)) in
         let all : written_bytes events ≡ head ++ (written_bytes (steps ++ stop) ++ ended) = rw (said.whole, ← append_assoc steps stop (outs ended), written_both (outs head) ((steps ++ stop) ++ outs ended), written_outs head, written_both (steps ++ stop) (outs ended), written_outs ended) refl in
         record { told = then.0; remarks = then.1; tell = then.2; passed = then.3; whole = all ∙ ap (λ bytes. head ++ bytes) (ap (λ bytes. bytes ++ ended) then.4 ∙ append_assoc then.0 then.1 ended) }

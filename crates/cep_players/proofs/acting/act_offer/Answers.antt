@@ -10,28 +10,26 @@ place_in-place-requires-clause-there g c =
     let listed = g.met.M.Matcher.exact c.args.program.now c.args.config.matcher c.requires.played.of_program.matcher in
     rw c.matcher.ensures.matcher ((listed.each c.args.group (omega (arith, c.matcher.ensures.listed, c.requires.own))).each c.args.offer.now (rw (c.matcher.ensures.same_state, c.requires.played.height) c.requires.offer))
 
-pub act-requires-clause-asked : goal.act-requires-clause-asked
-act-requires-clause-asked g c = grind (arith, c.requires.own, rw c.matcher.ensures.matcher at c.place_in-place.ensures)
-
 pub returns-clause-begun : goal.returns-clause-begun
 returns-clause-begun g c =
     on_err_weaker c.act.result
     (did_map g.C.Console.talk g.C.Console.left c.args.console.now c.act.new.console _ _
-    (acts_begin c.args.program.now c.args.settings c.parts.ensures.kept c.args.offer.now c.args.config c.args.group c.requires.own c.requires.offer (offers_of (g.M.Matcher.offers_held c.args.config.matcher) c.args.group) c.place_in-place.result (rw c.matcher.ensures.matcher at c.place_in-place.ensures) (omega (arith, c.if-turns-limit.false))))
+    (acts_begin c.args.program.now c.args.settings c.parts.ensures.kept c.args.offer.now c.args.config c.args.group c.requires.own c.requires.offer (offers_of (g.M.Matcher.offers_held c.args.config.matcher) c.args.group) c.place_in-place.result
+    (rw c.matcher.ensures.matcher at c.place_in-place.ensures) (omega (arith, c.if-turns-limit.false))))
     c.act.ensures.begun
 
 pub returns-clause-acted : goal.returns-clause-acted
 returns-clause-acted g c =
     IfOk-weaker c.act.result _ _
-    (offer_acted c.args.program.now c.args.settings c.parts.ensures.kept c.args.offer.now c.args.config c.args.group c.requires.own c.requires.offer (offers_of (g.M.Matcher.offers_held c.args.config.matcher) c.args.group) c.place_in-place.result (rw c.matcher.ensures.matcher at c.place_in-place.ensures) (omega (arith, c.if-turns-limit.false))
-    g.C.Console.talk g.C.Console.left c.args.console.now c.act.new.console)
+    (offer_acted c.args.program.now c.args.settings c.parts.ensures.kept c.args.offer.now c.args.config c.args.group c.requires.own c.requires.offer (offers_of (g.M.Matcher.offers_held c.args.config.matcher) c.args.group) c.place_in-place.result
+    (rw c.matcher.ensures.matcher at c.place_in-place.ensures) (omega (arith, c.if-turns-limit.false)) g.C.Console.talk g.C.Console.left c.args.console.now c.act.new.console)
     c.act.ensures.acted
 
 pub returns-clause-moved : goal.returns-clause-moved
 returns-clause-moved g c =
     both_ok c.act.result _ _ _
-    (offer_moved c.args.program.now c.args.settings c.parts.ensures.kept c.args.offer.now c.args.config c.args.group c.requires.own c.requires.offer (offers_of (g.M.Matcher.offers_held c.args.config.matcher) c.args.group) c.place_in-place.result (rw c.matcher.ensures.matcher at c.place_in-place.ensures) (omega (arith, c.if-turns-limit.false))
-    g.C.Console.talk g.C.Console.left c.args.console.now c.act.new.console)
+    (offer_moved c.args.program.now c.args.settings c.parts.ensures.kept c.args.offer.now c.args.config c.args.group c.requires.own c.requires.offer (offers_of (g.M.Matcher.offers_held c.args.config.matcher) c.args.group) c.place_in-place.result
+    (rw c.matcher.ensures.matcher at c.place_in-place.ensures) (omega (arith, c.if-turns-limit.false)) g.C.Console.talk g.C.Console.left c.args.console.now c.act.new.console)
     c.act.ensures.acted c.act.ensures.moved
 
 pub returns-then-turns-limit-clause-acted : goal.returns-then-turns-limit-clause-acted

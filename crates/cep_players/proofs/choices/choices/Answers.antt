@@ -50,9 +50,6 @@ returns-in-NoRoom-clause-heard g c =
     did_stop (offers_of (g.M.Matcher.offers_held c.args.matcher.now) c.args.group) c.args.spent.now g.C.Console.talk g.C.Console.left c.args.console.now c.loop-player.console c.ask.new.console c.loop-player.player c.loop-player.chosen c.loop-player.spent c.loop-player.invariant.so_far
     c.ask.new.spent _ (rw c.count-n.ensures at c.in_ok-place.ensures.heard) c.args.players Typed (rw c.in-NoRoom.is refl) c.loop-player-test.true
 
-pub returns-clause-heard : goal.returns-clause-heard
-returns-clause-heard g c = let same : c.loop-player.player ≡ c.args.players = omega (arith, c.loop-player-test.false, c.loop-player.auto.player-end) in rw (← same) c.loop-player.invariant.so_far
-
 pub returns-in_err-place-clause-begun : goal.returns-in_err-place-clause-begun
 returns-in_err-place-clause-begun g c =
     on_err c.from_residual.result _

@@ -1,18 +1,17 @@
-use Rattle.std.proofs.Common.{◌+◌, refl, arith, ◌∙◌}
+use Rattle.std.proofs.Common.{refl, arith, ◌∙◌}
 use Rattle.cep_base.proofs.Did.{did_same, did_map, did_then}
 use Rattle.cep_base.proofs.Outcomes.{on_err}
 use Rattle.cep_run.specs.Turn.{position_of}
 use Rattle.cep_run.proofs.Settling.{nothing_spent}
-use Rattle.cep_players.proofs.Going.{spent_within, no_parts, parts_then, parts_end, parts_refused}
+use Rattle.cep_players.proofs.Going.{no_parts, parts_then, parts_end, parts_refused}
 use Rattle.cep_players.proofs.dialogue.all_parts.Goals as goal
 
 pub loop-next-init : goal.loop-next-init
 loop-next-init g c =
-    let begins = c.requires.begins in
     let nothing = c.nothing-spent.ensures in
     record {
       played = c.requires.played;
-      few = omega (arith, begins);
+      few = omega (arith, c.requires.begins);
       spent = nothing_spent c.args.settings.seed c.args.start.turns c.nothing-spent.result nothing.taken nothing.drawn nothing.draw;
       counted = omega arith;
       calm = refl;
@@ -23,13 +22,12 @@ pub loop-next-preserved : goal.loop-next-preserved
 loop-next-preserved g c =
     let before = c.loop-next.invariant in
     let (does, more, few) = rw c.in-Done.is at c.in_ok-next.ensures.went in
-    let rose = c.part.ensures.counted in
-    let so_far = before.counted in
+    let spent = c.part.ensures.spent in
     record {
       played = rw c.in-Done.is at c.in_ok-next.ensures.played;
       few = few;
-      spent = spent_within c.args.settings.seed (c.loop-next.config.turns + 1) c.in-Done.next.turns c.part.new.spent (omega (arith, more)) c.part.ensures.spent;
-      counted = omega (arith, rose, so_far);
+      spent = record { taken = spent.taken; drawn = omega (arith, spent.drawn, more); draw = spent.draw };
+      counted = omega (arith, c.part.ensures.counted, before.counted);
       calm = c.in_ok-next.ensures.cause ∙ before.calm;
       so_far = did_then g.C.Console.talk g.C.Console.left _ _ _ _ _ _ (parts_then _ _ _ (position_of c.args.start) (position_of c.loop-next.config) c.loop-next.spent (position_of c.in-Done.next) c.part.new.spent) before.so_far does;
     }

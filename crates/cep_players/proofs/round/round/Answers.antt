@@ -23,7 +23,7 @@ higher program height most state within offer applies = record {
   numbered = applies.numbered;
   values = applies.values;
   contained = applies.contained;
-  derivable = all_weaker (IsDerivable program height) (IsDerivable program most) _ (λ atom is. record { proof = is.proof; proves = is.proves; low = let low = is.low in omega (arith, low, within) }) applies.derivable;
+  derivable = all_weaker (IsDerivable program height) (IsDerivable program most) _ (λ atom is. record { proof = is.proof; proves = is.proves; low = omega (arith, is.low, within) }) applies.derivable;
 }
 
 pub tell-requires-clause-offers : goal.tell-requires-clause-offers
@@ -49,9 +49,7 @@ admit-requires g c =
     let spot = c.requires.played.of_program.spot in
     let height = (subst IsHeight c.requires.played.height (g.met.M.Matcher.low c.args.program.now c.args.config.matcher c.requires.played.of_program.matcher)).low in
     let picked = rw (c.in-All.is, c.matcher-matcher.ensures.matcher) at c.in_ok-chosen.ensures.picked in
-    let many = picked.0 in
-    let few = c.requires.few in
-    rw c.state.ensures (record { is_state = spot.is_state; fits = spot.fits; few = omega (arith, many, few); apply = all_weaker _ _ _ (λ offer there. higher _ _ _ _ height offer (c.requires.here.offered.no_other offer there).applies) picked.1 })
+    rw c.state.ensures (record { is_state = spot.is_state; fits = spot.fits; few = omega (arith, picked.0, c.requires.few); apply = all_weaker _ _ _ (λ offer there. higher _ _ _ _ height offer (c.requires.here.offered.no_other offer there).applies) picked.1 })
 
 pub returns-in_err-flags-in-All-clause-begun : goal.returns-in_err-flags-in-All-clause-begun
 returns-in_err-flags-in-All-clause-begun g c =
@@ -75,12 +73,16 @@ act_all-requires-clause-offers g c = rw c.requires.own (all_weaker _ _ _ c.requi
 pub returns-in_ok-tell_blocked-in-All-clause-went : goal.returns-in_ok-tell_blocked-in-All-clause-went
 returns-in_ok-tell_blocked-in-All-clause-went g c =
     let flagged = rw c.state.ensures at c.in_ok-flags-in-All.ensures in
-    let asked = did_ask c.requires.here c.args.players c.args.spent.now c.players_are_lawful.ensures c.parts.ensures.kept c.requires.some c.requires.played.of_program.spot.is_state c.choices.new.spent c.in-All.chosen c.in_ok-flags-in-All.flags flagged g.C.Console.talk g.C.Console.left _ _ _ _ (rw c.matcher-matcher.ensures.matcher at c.in_ok-tell.ensures.told) (rw (c.in-All.is, c.matcher-matcher.ensures.matcher) at c.in_ok-chosen.ensures.heard) c.in_ok-tell_blocked-in-All.ensures.told in
+    let asked = did_ask c.requires.here c.args.players c.args.spent.now c.players_are_lawful.ensures c.parts.ensures.kept c.requires.some c.requires.played.of_program.spot.is_state c.choices.new.spent c.in-All.chosen c.in_ok-flags-in-All.flags flagged
+    g.C.Console.talk g.C.Console.left _ _ _ _ (rw c.matcher-matcher.ensures.matcher at c.in_ok-tell.ensures.told) (rw (c.in-All.is, c.matcher-matcher.ensures.matcher) at c.in_ok-chosen.ensures.heard) c.in_ok-tell_blocked-in-All.ensures.told in
     let picked = rw (c.in-All.is, c.matcher-matcher.ensures.matcher) at c.in_ok-chosen.ensures.picked in
-    both_ok c.act_all.result _ _ _ (round_acted g.C.Console.talk g.C.Console.left _ _ _ c.args.config c.requires.here c.args.players c.args.spent.now c.players_are_lawful.ensures c.parts.ensures.kept c.requires.some c.requires.played.of_program.spot.is_state c.choices.new.spent c.in-All.chosen c.in_ok-flags-in-All.flags flagged picked asked) c.act_all.ensures.acted c.act_all.ensures.counted
+    both_ok c.act_all.result _ _ _ (round_acted g.C.Console.talk g.C.Console.left _ _ _ c.args.config
+    c.requires.here c.args.players c.args.spent.now c.players_are_lawful.ensures c.parts.ensures.kept c.requires.some c.requires.played.of_program.spot.is_state c.choices.new.spent c.in-All.chosen c.in_ok-flags-in-All.flags flagged picked asked) c.act_all.ensures.acted c.act_all.ensures.counted
 
 pub returns-in_ok-tell_blocked-in-All-clause-begun : goal.returns-in_ok-tell_blocked-in-All-clause-begun
 returns-in_ok-tell_blocked-in-All-clause-begun g c =
     let flagged = rw c.state.ensures at c.in_ok-flags-in-All.ensures in
-    let asked = did_ask c.requires.here c.args.players c.args.spent.now c.players_are_lawful.ensures c.parts.ensures.kept c.requires.some c.requires.played.of_program.spot.is_state c.choices.new.spent c.in-All.chosen c.in_ok-flags-in-All.flags flagged g.C.Console.talk g.C.Console.left _ _ _ _ (rw c.matcher-matcher.ensures.matcher at c.in_ok-tell.ensures.told) (rw (c.in-All.is, c.matcher-matcher.ensures.matcher) at c.in_ok-chosen.ensures.heard) c.in_ok-tell_blocked-in-All.ensures.told in
-    on_err_weaker c.act_all.result (did_then g.C.Console.talk g.C.Console.left _ _ _ _ _ _ (acting_refused c.requires.here c.args.players c.args.spent.now c.players_are_lawful.ensures c.parts.ensures.kept c.requires.some c.requires.played.of_program.spot.is_state c.choices.new.spent c.in-All.chosen c.in_ok-flags-in-All.flags flagged) asked) c.act_all.ensures.begun
+    let asked = did_ask c.requires.here c.args.players c.args.spent.now c.players_are_lawful.ensures c.parts.ensures.kept c.requires.some c.requires.played.of_program.spot.is_state c.choices.new.spent c.in-All.chosen c.in_ok-flags-in-All.flags flagged
+    g.C.Console.talk g.C.Console.left _ _ _ _ (rw c.matcher-matcher.ensures.matcher at c.in_ok-tell.ensures.told) (rw (c.in-All.is, c.matcher-matcher.ensures.matcher) at c.in_ok-chosen.ensures.heard) c.in_ok-tell_blocked-in-All.ensures.told in
+    on_err_weaker c.act_all.result (did_then g.C.Console.talk g.C.Console.left _ _ _ _ _ _
+    (acting_refused c.requires.here c.args.players c.args.spent.now c.players_are_lawful.ensures c.parts.ensures.kept c.requires.some c.requires.played.of_program.spot.is_state c.choices.new.spent c.in-All.chosen c.in_ok-flags-in-All.flags flagged) asked) c.act_all.ensures.begun

@@ -1,4 +1,3 @@
-use Rattle.std.proofs.Common.{◌<◌}
 use Rattle.std.proofs.lemmas.Result.{IfOk-weaker, on_err_weaker}
 use Rattle.cep_base.proofs.Did.{did_map, did_then}
 use Rattle.cep_base.proofs.Outcomes.{on_err}

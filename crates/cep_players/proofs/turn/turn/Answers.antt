@@ -3,12 +3,10 @@ use Rattle.std.proofs.lemmas.Result.{IfOk-weaker, on_err_weaker}
 use Rattle.cep_base.proofs.Did.{did_map, did_then}
 use Rattle.cep_base.proofs.Outcomes.{on_err}
 use Rattle.cep_lines.specs.declared.end_word.EndWord.TheVariants.{Input, Typed}
-use Rattle.cep_rule.specs.Matching.{offers_of}
 use Rattle.cep_run.specs.declared.choice.Choice.{Choice}
 use Rattle.cep_run.specs.declared.choice.Choice.TheVariants.{Place, NoMore, NoRoom}
 use Rattle.cep_run.specs.Choice.{IsChoiceWithin}
 use Rattle.cep_run.specs.Run.{input_end, typed_end}
-use Rattle.cep_run.specs.Turn.{position_of}
 use Rattle.cep_run.proofs.Turns.{offers_have_texts}
 use Rattle.cep_players.proofs.Going.{some_offers, not_chosen, turn_acted, decision_refused, act_refused}
 use Rattle.cep_players.proofs.turn.turn.Goals as goal
