@@ -80,10 +80,11 @@ def end_listing(world, turns):
     typed, words = typed_and_words(world)
     if not any(word.startswith("height=") for word in words):
         words = [*words, "height=12"]
+    command = "rounds" if any(word.startswith("players=") for word in words) else "play"
     path = os.path.join(WORLDS, world + ".cep")
     with open(typed, "rb") as file:
         done = subprocess.run(
-            [os.environ["CEPTRE"], "play", path, *words, f"turns={turns}"],
+            [os.environ["CEPTRE"], command, path, *words, f"turns={turns}"],
             stdin=file,
             stdout=subprocess.PIPE,
             text=True,
