@@ -6,10 +6,10 @@ use Rattle.cep_base.proofs.Lists.{zip_push}
 use Rattle.cep_base.proofs.Options.{item_at}
 use Rattle.cep_run.proofs.Unheard.{left_then, outs_left, hears_left}
 use Rattle.cep_players.proofs.Words.{Event, outs, Did, Offer, EndWord, Input, Typed, Choice, Place, NoMore, NoRoom, Spent, IsChoiceWithin, Supply, supply_with, BeginsSome, LeavesUnheard, FellShort}
-use Rattle.cep_players.specs.PlayersLaws.{ChoicesAreHeard, AreWithin}
+use Rattle.cep_players.specs.PlayersLaws.{ChoicesAreHeard, ChoicesAreWithin}
 use Rattle.cep_players.specs.Runs.{Hearing, IsHeard, AreHeard, IsCutOff}
 use Rattle.cep_players.specs.Dialogues.{choose_line, hearing_events}
-use Rattle.cep_players.specs.Playing.{AsksOne, AsksSome, AllChoose, OneDoesNot, ChooseSome}
+use Rattle.cep_players.specs.Playing.{AsksOne, AsksAny, AllChoose, OneDoesNot, ChooseSome}
 
 -- one hearing more
 heard_more : (n : ℕ) (from : Supply) (hearings : List Hearing) (between : Supply) (hearing : Hearing) (to : Supply) → AreHeard n from hearings between → IsHeard n between hearing.events (Place hearing.place) to → AreHeard n from (hearings ++ hearing ∷ []) to
@@ -73,7 +73,7 @@ module _ (offers : List Offer) (old : Spent) where
     one_chooses players few NoRoom same is on = one_stops players Typed (rw same refl) few
 
   -- the players after these choose, or one does not
-  module _ (there : ChoicesAreHeard) (within : AreWithin) (players : ℕ) where
+  module _ (there : ChoicesAreHeard) (within : ChoicesAreWithin) (players : ℕ) where
     pub choose_on : (left i : ℕ) → i + left ≡ players → (chosen : List Offer) (now : Spent) (come middle : List ℕ) (first : List Event) → AllChoose i offers chosen old now come first middle → BeginsSome (ChooseSome players offers old) come first
     choose_on zero i sum chosen now come middle first all =
         let e : i ≡ players = omega (arith, sum) in
@@ -87,7 +87,7 @@ module _ (offers : List Offer) (old : Spent) where
         record { more = second ++ begun.more; left = begun.left; whole = rw (← append_assoc first second begun.more) begun.whole }
 
     -- one was asked, and that was refused
-    refused_at : (i : ℕ) → i < players → (chosen : List Offer) (now : Spent) (come middle : List ℕ) (first second : List Event) → AllChoose i offers chosen old now come first middle → BeginsSome (AsksSome (i + 1) (length offers) now) middle second
+    refused_at : (i : ℕ) → i < players → (chosen : List Offer) (now : Spent) (come middle : List ℕ) (first second : List Event) → AllChoose i offers chosen old now come first middle → BeginsSome (AsksAny (i + 1) (length offers) now) middle second
         → BeginsSome (ChooseSome players offers old) come (first ++ second)
     refused_at i few chosen now come middle first second all begun =
         let (choice, new, one) = begun.whole in
@@ -96,7 +96,7 @@ module _ (offers : List Offer) (old : Spent) where
         record { more = begun.more ++ on.more; left = on.left; whole = rw (← append_assoc (first ++ second) begun.more on.more, append_assoc first second begun.more) on.whole }
 
   -- what was heard is gone
-  module _ (within : AreWithin) where
+  module _ (within : ChoicesAreWithin) where
     pub heard_left : (player n : ℕ) (from : Supply) (hearings : List Hearing) (to : Supply) → AreHeard n from hearings to → LeavesUnheard from.come (hearing_events player hearings) to.come
     heard_left player n from [] to are = ap (λ (s : Supply). s.come) (sym are)
     heard_left player n from (hearing ∷ hearings) to are =
@@ -115,8 +115,8 @@ module _ (offers : List Offer) (old : Spent) where
     pub did_stop : (new : Spent) (choice : Choice) → Did talk left between end (AsksOne (i + 1) (length offers) now choice new) → (players : ℕ) (word : EndWord) → IsCutOff choice word → i < players → Did talk left start end (OneDoesNot players offers word old new)
     did_stop new choice asks players word cut few = did_then talk left start between end _ _ _ (λ come first middle second rest all one. one_does_not i chosen now new choice come first middle second rest all one players word cut few) before asks
 
-    module _ (there : ChoicesAreHeard) (within : AreWithin) (players : ℕ) (few : i < players) where
-      pub fell_short : FellShort talk left between end (λ come. come) (AsksSome (i + 1) (length offers) now) → FellShort talk left start end (λ come. come) (ChooseSome players offers old)
+    module _ (there : ChoicesAreHeard) (within : ChoicesAreWithin) (players : ℕ) (few : i < players) where
+      pub fell_short : FellShort talk left between end (λ come. come) (AsksAny (i + 1) (length offers) now) → FellShort talk left start end (λ come. come) (ChooseSome players offers old)
       fell_short begun = did_then talk left start between end _ _ _
           (λ come first middle second rest all short. (refused_at there within players i few chosen now come middle first second all short.0, left_then come first middle second rest (all_left within i chosen now come first middle all) short.1)) before begun
 

@@ -46,9 +46,9 @@ use Rattle.cep_run.proofs.TurnSteps.{lawful_step, limit_end, left_by}
 use Rattle.cep_run.proofs.Unheard.{hears_left, put_left, act_left}
 use Rattle.cep_players.specs.Runs.{IsForAll, a_turn, of_turn, Hearing, Round, AreHeard, IsListedHere, IsChosenHere, a_round, of_player, of_offer, TurnOrRound, AreTurnsAndRounds, EndOfRounds, EndsInRounds}
 use Rattle.cep_players.specs.Dialogues.{choose_line, turn_question_events, part_events, hearing_events, blocked_lines, round_question_events, round_events, last_part_events, DialogueInRounds}
-use Rattle.cep_players.specs.Playing.{AsksOne, AsksSome, IsRunInRounds, AllChoose, OneDoesNot, ChooseSome, events_of_rounds}
-use Rattle.cep_players.specs.PlayersLaws.{ChoicesAreHeard, PlayersLaws, AreWithin}
-use Rattle.cep_players.specs.Going.{IsOfferedHere, SettlesTurn, SettlesSomeTurn, DoesParts, EndsParts, IsWent, ActsSome, StopsAct, BeginsActs, AreActed, AreCounted, IsWholeInRounds, IsDialogueWith, IsSomeDialogue}
+use Rattle.cep_players.specs.Playing.{AsksOne, AsksAny, IsRunInRounds, AllChoose, OneDoesNot, ChooseSome, events_of_rounds}
+use Rattle.cep_players.specs.PlayersLaws.{ChoicesAreHeard, PlayersLaws, ChoicesAreWithin}
+use Rattle.cep_players.specs.Going.{IsOfferedHere, SettlesTurn, SettlesSomeTurn, DoesParts, EndsParts, IsWent, ActsSome, StopsAct, BeginsActs, AreActed, AreTurnsAdded, IsWholeInRounds, IsDialogueWith, IsSomeDialogue}
 use Rattle.cep_players.proofs.Prefixes.{IsPut, Short, Joins, Maps, prefix_of_prefix, left_then, outs_left, text_then, prefix_left}
 use Rattle.cep_players.proofs.RoundsThere.{question_on, turn_on, goes_from, some_admitted, act_on, hearing_on, listed_on, parts_more, runs_after}
 use Rattle.cep_players.proofs.AllPlayers.{heard_left, all_left}
@@ -63,14 +63,14 @@ module _ (player n : ℕ) (old : Spent) where
   asks_after bytes is choice many come first middle others rest put hears = record { heard = others; hears = (rw (sym put.1) hears, refl); whole = rw (put.0, is) refl }
 
   -- a prefix of the line was put
-  pub puts_some : ChoicesAreHeard → Maps (PutsFront (choose_line player)) (Short (λ come. come) (AsksSome player n old))
+  pub puts_some : ChoicesAreHeard → Maps (PutsFront (choose_line player)) (Short (λ come. come) (AsksAny player n old))
   puts_some there come events rest put =
       let (more, written) = put_on (choose_line player) come events rest put in
       let (later, choice, left, many, hears) = there n old.taken come in
       (record { more = more ++ later; left = left; whole = (choice, record old { taken = many }, record { heard = later; hears = (hears, refl); whole = rw (sym (append_assoc events more later), written) refl }) }, put_left (choose_line player) come events rest put)
 
   -- the line was put, and a prefix of a choice was heard
-  pub hears_some : (bytes : List ℕ) → bytes ≡ choose_line player → Joins (IsPut bytes) (Short (λ come. come) (HearsSome n old.taken)) (Short (λ come. come) (AsksSome player n old))
+  pub hears_some : (bytes : List ℕ) → bytes ≡ choose_line player → Joins (IsPut bytes) (Short (λ come. come) (HearsSome n old.taken)) (Short (λ come. come) (AsksAny player n old))
   hears_some bytes is come first middle others rest put (begun, left) =
       let (choice, many, hears) = begun.whole in
       (record { more = begun.more; left = begun.left; whole = (choice, record old { taken = many }, rw (append_assoc first others begun.more) (asks_after bytes is choice many come first middle (others ++ begun.more) begun.left put hears)) }, text_then bytes come first middle others rest put left)
@@ -96,7 +96,7 @@ module _ {program : Parts} {seed stage group : ℕ} {offers : List Offer} (old :
   }
 
   -- that was refused
-  pub asking_refused : asked ≡ true → Joins (IsPut (offer_lines program 1 offers)) (Short (λ come. come) (AsksSome 1 (length offers) old)) (Short (λ come. come) (SettlesSomeTurn program seed stage group offers old))
+  pub asking_refused : asked ≡ true → Joins (IsPut (offer_lines program 1 offers)) (Short (λ come. come) (AsksAny 1 (length offers) old)) (Short (λ come. come) (SettlesSomeTurn program seed stage group offers old))
   asking_refused is come first middle second rest put (begun, left) =
       let (choice, new, asks) = begun.whole in
       (record { more = begun.more; left = begun.left; whole = (choice, new, rw (append_assoc first second begun.more) (player_settles is choice new come first middle (second ++ begun.more) begun.left put asks)) }, text_then (offer_lines program 1 offers) come first middle second rest put left)
@@ -223,7 +223,7 @@ some_offers here = elim here.asked [
 -- Rounds
 
 -- what was heard before anything is done is gone
-pub asked_left : (program : Parts) (spent : Spent) → AreWithin → (from : Supply) (round : Round) (to : Supply) → AreHeard (length round.offers) from round.hearings to → LeavesUnheard from.come (round_question_events program round) to.come
+pub asked_left : (program : Parts) (spent : Spent) → ChoicesAreWithin → (from : Supply) (round : Round) (to : Supply) → AreHeard (length round.offers) from round.hearings to → LeavesUnheard from.come (round_question_events program round) to.come
 asked_left program spent within from round to heard =
     let blocked = blocked_lines program 1 round.chosen round.flags in
     text_then (offer_lines program 1 round.offers) from.come _ from.come (hearing_events 1 round.hearings ++ outs blocked) to.come (refl, refl)
@@ -332,7 +332,7 @@ module _ {program : Parts} {settings : Settings} {at : Position} {offers : List 
 module _ {C M : Type 0} (talk : C → Option (List Event)) (left : C → Option (List ℕ)) (old between new : C) {program : Parts} {settings : Settings} (config : Configuration M) {offers : List Offer} (listed : IsListedHere program settings (position_of config) offers)
     (players : ℕ) (spent : Spent) (laws : PlayersLaws) (kept : IsProgram program) (some : 0 < players) (is_state : IsState program.signature config.state) (spent' : Spent) (chosen : List Offer) (flags : List Bool) (flagged : AreAdmitted program config.state finite.empty chosen flags)
     (picked : (length chosen ≡ players) × AllByRecursion (Contains offers) chosen) (asked : Did talk left old between (IsAskedOfAll listed players spent laws kept some is_state spent' chosen flags flagged)) where
-  pub round_acted : (turned : Turned M) → AreActed talk left between new program settings (admitted chosen flags) config turned → AreCounted settings (admitted chosen flags) config turned → IsWent talk left old new program settings players config spent spent' turned
+  pub round_acted : (turned : Turned M) → AreActed talk left between new program settings (admitted chosen flags) config turned → AreTurnsAdded settings (admitted chosen flags) config turned → IsWent talk left old new program settings players config spent spent' turned
   round_acted (Done next) acted counted =
       let many = some_admitted laws.bags program settings.height config.state (own_group config.stage) chosen flags (all_weaker _ _ chosen listed.offered.no_other picked.1) flagged (omega (arith, picked.0, some)) in
       (did_then talk left old between new _ _ _ (round_goes listed players spent laws kept some is_state spent' chosen flags flagged (position_of next) counted.1) asked acted, omega (arith, many, counted.0), counted.1)
@@ -370,7 +370,7 @@ lines_last lines come events rest left = left_then come events rest (outs lines)
 abbrev pub unspent : Spent
 unspent = record { taken = 0; drawn = 0; draw = generator_behind 0 0 }
 
-module _ (within : AreWithin) (program : Parts) (settings : Settings) (players : ℕ) where
+module _ (within : ChoicesAreWithin) (program : Parts) (settings : Settings) (players : ℕ) where
   round_left : (from : Supply) (round : Round) (to : Supply) → AreHeard (length round.offers) from round.hearings to → LeavesUnheard from.come (round_events program round) to.come
   round_left from round to heard = lines_last (flat_map (lines_of_deed program) round.deeds) from.come (round_question_events program round) to.come (asked_left program unspent within from round to heard)
 
@@ -429,7 +429,7 @@ module _ (program : Parts) (settings : Settings) (players : ℕ) (start : Positi
     }
 
     -- or goes on somehow
-    pub parts_refused : AreWithin → Joins (DoesParts program settings players start unspent here spent) (Short (λ come. supply_with come spent) (IsRunInRounds program settings players here)) (Short whole_supply (IsRunInRounds program settings players start))
+    pub parts_refused : ChoicesAreWithin → Joins (DoesParts program settings players start unspent here spent) (Short (λ come. supply_with come spent) (IsRunInRounds program settings players here)) (Short whole_supply (IsRunInRounds program settings players start))
     parts_refused within come first middle second rest one (begun, left) = rw one.written (
       runs_after program settings players start (whole_supply come) one.parts here (supply_with middle spent) second one.done begun,
       left_then come (flat_map (part_events program) one.parts) middle second rest (done_left within program settings players start (whole_supply come) one.parts here (supply_with middle spent) one.done) left,
@@ -481,7 +481,7 @@ module _ (program : Parts) (settings : Settings) (players : ℕ) where
             },
           )
 
-      pub end_refused : AreWithin → Joins IsPlayedOut (PutsFront (end_lines program.signature word state)) (Short (λ come. come) (IsSomeDialogue program settings players))
+      pub end_refused : ChoicesAreWithin → Joins IsPlayedOut (PutsFront (end_lines program.signature word state)) (Short (λ come. come) (IsSomeDialogue program settings players))
       end_refused within come first middle second rest so_far put =
           let (more, written) = put_on (end_lines program.signature word state) middle second rest put in
           let (run, whole, said) = so_far in (

@@ -13,7 +13,7 @@ use Rattle.cep_round.proofs.Counts.{each_admitted}
 use Rattle.cep_run.proofs.TurnSteps.{quiet_here}
 use Rattle.cep_players.proofs.Words.{Out, outs, AtomTree, Multiset, Rule, Parts, Offer, IsState, Applies, IsInGroup, IsOffer, own_group, IsQuiet, Step, IsTypedRule, IsDividedRule, IsGroupedRule, IsProgram, Position, Deed, AreDeeds, EndWord}
 use Rattle.cep_players.proofs.Words.{lines_of_deed, Quiet, AreAdmitted, admitted, IsRound, AreOffersDone, Settings, Supply}
-use Rattle.cep_players.specs.PlayersLaws.{RoundLaws}
+use Rattle.cep_players.specs.PlayersLaws.{RoundsAreLawful}
 use Rattle.cep_players.specs.Runs.{Hearing, HaveChosen, Round, IsRoundDone, TurnOrRound, a_turn, a_round, AreTurnsAndRounds, AreTogether, all_done, EndOfRounds, of_turn, of_player, of_offer, done_before, EndsInRounds, RunsInRounds}
 
 -- offers that were chosen are offers of the list
@@ -58,7 +58,7 @@ order_more deeds deed offer later all order same = rw (map_last (λ (d : Deed). 
 pub lines_more : (program : Parts) (deeds : List Deed) (deed : Deed) → outs (flat_map (lines_of_deed program) (deeds ++ deed ∷ [])) ≡ outs (flat_map (lines_of_deed program) deeds) ++ outs (lines_of_deed program deed)
 lines_more program deeds deed = rw (flat_map-append (lines_of_deed program) deeds (deed ∷ []), append-nil (lines_of_deed program deed), map-append Out (flat_map (lines_of_deed program) deeds) (lines_of_deed program deed)) refl
 
-module _ (laws : RoundLaws) (program : Parts) (height : ℕ) where
+module _ (laws : RoundsAreLawful) (program : Parts) (height : ℕ) where
   derivable : (proofs : List ProofTree) (atoms : List AtomTree) → AreProofs program height proofs atoms → AllByRecursion (IsDerivable program height) atoms
   derivable [] [] are = tt
   derivable (proof ∷ proofs) (a ∷ atoms) are = (record { proof = proof; proves = are.0; low = are.1 }, derivable proofs atoms are.2)
@@ -119,7 +119,7 @@ module _ (laws : RoundLaws) (program : Parts) (height : ℕ) where
         rw (deeds_stay at.spot.stage at deeds here refl grouped done) (next_offer at.spot.state group chosen flags are flagged before later offer here.spot.state order (deeds_done at deeds here done))
 
 -- each round of a dialogue ends where its admitted offers lead together
-module _ (laws : RoundLaws) (program : Parts) (settings : Settings) (players : ℕ) (kept : IsProgram program) (ends : (at last : Position) (from to : Supply) (round : Round) → IsState program.signature at.spot.state → IsRoundDone program settings players at from round last to → IsRound program round.chosen round.flags at.spot.state last.spot.state) where
+module _ (laws : RoundsAreLawful) (program : Parts) (settings : Settings) (players : ℕ) (kept : IsProgram program) (ends : (at last : Position) (from to : Supply) (round : Round) → IsState program.signature at.spot.state → IsRoundDone program settings players at from round last to → IsRound program round.chosen round.flags at.spot.state last.spot.state) where
   pub together : (at : Position) (from : Supply) (parts : List TurnOrRound) (last : Position) (to : Supply) → IsState program.signature at.spot.state → AreTurnsAndRounds program settings players at from parts last to → AreTogether program at parts
   together at from [] last to is done = tt
   together at from (a_turn turn ∷ parts) last to is done = together turn.deed.after turn.left parts last to (deeds_states laws program settings.height kept at (turn.deed ∷ []) turn.deed.after is (done.0.here, done.0.does, refl)) done.2

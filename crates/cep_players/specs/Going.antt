@@ -132,10 +132,10 @@ AreActed talk left old new program settings offers config (Over last) =
     (position_of last.config) offers last.word)
 
 -- if all these offers are done, as many turns more are done, whether it is reported or not
-abbrev pub AreCounted : {M : Type 0} → Settings → List Offer → Configuration M → Turned M → Type 0
-AreCounted settings offers config (Done next) =
+abbrev pub AreTurnsAdded : {M : Type 0} → Settings → List Offer → Configuration M → Turned M → Type 0
+AreTurnsAdded settings offers config (Done next) =
     (next.turns ≡ config.turns + length offers) × (next.turns ≤ settings.limit)
-AreCounted settings offers config (Over last) = Unit {0}
+AreTurnsAdded settings offers config (Over last) = Unit {0}
 
 -- With further events some of these offers are done.
 pub record BeginsActs (program : Parts) (settings : Settings) (at : Position)

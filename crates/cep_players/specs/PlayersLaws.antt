@@ -36,11 +36,11 @@ abbrev pub ChoicesAreHeard : Type 0
 ChoicesAreHeard = (n taken : ℕ) (come : List ℕ) → (events : List Event) × (choice : Choice) × (rest : List ℕ) × (many : ℕ) × Hears n come taken events choice rest many
 
 -- That a place that is heard is one of those there are, and what was heard is gone.
-abbrev pub AreWithin : Type 0
-AreWithin = (n taken many : ℕ) (come rest : List ℕ) (events : List Event) (choice : Choice) → Hears n come taken events choice rest many → IsChoiceWithin n choice × LeavesUnheard come events rest
+abbrev pub ChoicesAreWithin : Type 0
+ChoicesAreWithin = (n taken many : ℕ) (come rest : List ℕ) (events : List Event) (choice : Choice) → Hears n come taken events choice rest many → IsChoiceWithin n choice × LeavesUnheard come events rest
 
 -- what rounds rest on: steps lead to states, what is needed is there, and admitted offers go on applying
-pub record RoundLaws : Type 0 where
+pub record RoundsAreLawful : Type 0 where
   pub lead : (signature : Signature) (rule : Rule) (values : List Tree) (old new : Multiset) → IsTypedRule signature rule → IsDividedRule signature rule → AreValues signature.cons rule.kinds values → IsState signature old → MakesFit rule values → Step signature rule values old new → IsState signature new
   pub needed : (signature : Signature) (rule : Rule) (values : List Tree) (old new : Multiset) → Step signature rule values old new → IsContained (left_of signature rule values) old
   pub heights : (program : Parts) (state : Multiset) (offers : List Offer) (flags : List Bool) → IsProgram program → AreAdmitted program state finite.empty offers flags → KeepHeights program state (admitted offers flags)
@@ -48,9 +48,9 @@ pub record RoundLaws : Type 0 where
 -- What runs in rounds rest on: runs of one player are there, choices are heard, and offers can be done.
 pub record PlayersLaws : Type 0 where
   pub bags : BagLaws
-  pub rounds : RoundLaws
+  pub rounds : RoundsAreLawful
   pub heard : ChoicesAreHeard
-  pub within : AreWithin
+  pub within : ChoicesAreWithin
   pub runs : (program : Parts) (settings : Settings) (at : Position) (from : Supply) → IsProgram program → IsState program.signature at.spot.state → at.turns ≤ settings.limit → (turns : List Turn) × (ending : Ending) × (to : Supply) × Run program settings at from turns ending to
   pub can_be_done : (program : Parts) (height : ℕ) (at : Position) (group : ℕ) (offer : Offer) → IsProgram program → IsState program.signature at.spot.state → IsAsked program height at.spot.state at.spot.stage group → IsOffer program height at.spot.state group offer
       → ((deed : Deed) × (deed.before ≡ at) × (deed.offer ≡ offer) × IsDeed program height deed) ⊎ ((rule : Rule) × (passed : Limit) × (slice_get program.rules offer.rule ≡ Some rule) × Passes program.signature rule offer.values at.spot.state passed)

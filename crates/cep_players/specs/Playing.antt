@@ -25,8 +25,8 @@ pub record AsksOne (player n : ℕ) (old : Spent) (choice : Choice) (new : Spent
   pub whole : events ≡ outs (choose_line player) ++ heard
 
 -- the line is written, and some choice is heard
-abbrev pub AsksSome : ℕ → ℕ → Spent → List ℕ → List Event → List ℕ → Type 0
-AsksSome player n old come events rest =
+abbrev pub AsksAny : ℕ → ℕ → Spent → List ℕ → List Event → List ℕ → Type 0
+AsksAny player n old come events rest =
     (choice : Choice) × (new : Spent) × AsksOne player n old choice new come events rest
 
 -- So many players are asked, one after another, and each chooses one of the offers.

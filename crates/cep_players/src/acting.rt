@@ -10,7 +10,7 @@ ghost use Rattle.cep_rule.specs.Matching.{offers_of};
 ghost use Rattle.cep_round.specs.Rounds.{AreAdmitted, admitted};
 ghost use Rattle.cep_run.specs.declared.turn.Turned.TheVariants.{Over};
 ghost use Rattle.cep_run.specs.Turn.{position_of, config_left, IsPlayed};
-ghost use Rattle.cep_players.specs.Going.{IsOfferActed, IsOfferMoved, BeginsOffer, AreActed, AreCounted, BeginsActs};
+ghost use Rattle.cep_players.specs.Going.{IsOfferActed, IsOfferMoved, BeginsOffer, AreActed, AreTurnsAdded, BeginsActs};
 
 use crate::laws::players_are_lawful;
 use cep_base::{Console, ConsoleFault, Steps};
@@ -51,7 +51,7 @@ pub(crate) fn act_all<C: Console, M: Matcher, L: Ledger>(
     requires limit { settings.limit ≤ MOST_TURNS }
     ensures acted { IfOk result (AreActed C.talk C.left console.old console.new program.now settings
         (admitted chosen.now flags.now) start) }
-    ensures counted { IfOk result (AreCounted settings (admitted chosen.now flags.now) start) }
+    ensures counted { IfOk result (AreTurnsAdded settings (admitted chosen.now flags.now) start) }
     ensures played { IfOk result (λ turned. IsPlayed M.is_of M.height_held program.now settings
         (config_left turned)) }
     ensures begun { OnErr result (Did C.talk C.left console.old console.new

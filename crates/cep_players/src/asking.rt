@@ -5,7 +5,7 @@ ghost use Rattle.cep_base.specs.declared.limits.TheConstants.{MOST_TYPED};
 ghost use Rattle.cep_run.specs.Choice.{IsChoiceWithin};
 ghost use Rattle.cep_run.specs.Fronts.{FellShort};
 ghost use Rattle.cep_players.specs.Dialogues.{choose_line};
-ghost use Rattle.cep_players.specs.Playing.{AsksOne, AsksSome};
+ghost use Rattle.cep_players.specs.Playing.{AsksOne, AsksAny};
 
 use cep_base::{Console, ConsoleFault, Text};
 use cep_run::choice::{Choice, choose};
@@ -25,7 +25,7 @@ pub(crate) fn ask<C: Console>(
     ensures heard { IfOk result (λ choice. Did C.talk C.left console.old console.new
         (AsksOne player n spent.old choice spent.new)) }
     ensures begun { OnErr result (FellShort C.talk C.left console.old console.new (λ come. come)
-        (AsksSome player n spent.old)) }
+        (AsksAny player n spent.old)) }
     ensures place { IfOk result (λ choice. IsChoiceWithin n choice) }
     ensures spent { spent.new ≡ record spent.old { taken = spent.new.taken } }
     ensures within { spent.new.taken ≤ MOST_TYPED }
