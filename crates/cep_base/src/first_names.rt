@@ -8,7 +8,6 @@ use std::alloc::{AllocError, Global};
 use std::marker::Model;
 
 /// Different names in the order in which they came, each with what it came with first.
-#[derive(Drop)]
 pub struct FirstNames<T> {
     entries: IndexMap<Vec<u8>, T>,
 }
@@ -19,6 +18,14 @@ impl<T> Model for FirstNames<T> {
     ghost Value = { List (List ℕ × T) };
 
     ghost view = { λ firsts. map (λ entry. (entry.0.items, entry.1)) firsts.entries.entries };
+}
+
+// Written out: what holds names then drops them by one call.
+impl<T: Drop> Drop for FirstNames<T> {
+    fn drop(self) {
+        let FirstNames { entries } = self;
+        drop(entries);
+    }
 }
 
 impl<T: Copy> FirstNames<T> {

@@ -12,10 +12,18 @@ use cep_parse::{RawFile, RawItem, Span, Spans};
 use std::alloc::{AllocError, Global};
 
 /// The constructors and the clauses, in written order.
-#[derive(Drop)]
 pub(crate) struct Clauses<'a> {
     pub cons: Table<RawCon<'a>>,
     pub clauses: Vec<ClauseRef<'a>>,
+}
+
+// Written out: what holds the clauses then drops them by one call.
+impl Drop for Clauses<'_> {
+    fn drop(self) {
+        let Clauses { cons, clauses } = self;
+        drop(cons);
+        drop(clauses);
+    }
 }
 
 // Whether `x a : y.` is a clause with a label, and no constructor: it has no arguments, and y is a

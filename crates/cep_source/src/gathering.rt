@@ -11,7 +11,6 @@ use std::alloc::{AllocError, Global};
 
 /// What a file declares, but for constructors and clauses, which the names of types and predicates
 /// tell apart.
-#[derive(Drop)]
 pub(crate) struct Kinds<'a> {
     pub sorts: Table<Span>,
     pub preds: Table<RawPred<'a>>,
@@ -22,6 +21,28 @@ pub(crate) struct Kinds<'a> {
     pub traces: Vec<TraceRef<'a>>,
 }
 
+// Written out: what holds the kinds then drops them by one call.
+impl Drop for Kinds<'_> {
+    fn drop(self) {
+        let Kinds {
+            sorts,
+            preds,
+            rules,
+            stages,
+            interactives,
+            contexts,
+            traces,
+        } = self;
+        drop(sorts);
+        drop(preds);
+        drop(rules);
+        drop(stages);
+        drop(interactives);
+        drop(contexts);
+        drop(traces);
+    }
+}
+
 impl<'a> Kinds<'a> {
     // One item more.
     fn gather(&mut self, text: &[u8], item: &'a RawItem) -> Result<(), AllocError>
@@ -29,40 +50,33 @@ impl<'a> Kinds<'a> {
         ensures named { OnOk result (HaveTheirNames text.now self.old → HaveTheirNames text.now self.new) }
     {
         match item {
-            RawItem::Sort { name } => self.sorts.declare(*name, text, *name)?,
+            RawItem::Sort { name } => self.sorts.declare(*name, text, *name),
             RawItem::Pred { name, args, kind } => {
                 let (name, args, kind) = (*name, args.as_slice(), *kind);
-                let pred = RawPred { name, args, kind };
-                self.preds.declare(pred, text, name)?;
+                self.preds.declare(RawPred { name, args, kind }, text, name)
             }
-            RawItem::Outer(raw) => self.rules.add_rule(text, RuleRef { home: None, raw })?,
+            RawItem::Outer(raw) => self.rules.add_rule(text, RuleRef { home: None, raw }),
             RawItem::Stage { name, rules } => {
                 self.stages.declare(*name, text, *name)?;
-                self.rules.add_stage(text, *name, rules.as_slice())?;
+                self.rules.add_stage(text, *name, rules.as_slice())
             }
             RawItem::Context { name, atoms } => {
                 let (name, atoms) = (*name, atoms.as_slice());
-                let context = RawContext { name, atoms };
-                self.contexts.declare(context, text, name)?;
+                self.contexts.declare(RawContext { name, atoms }, text, name)
             }
-            RawItem::Interactive { name } => self.interactives.declare(*name, text, *name)?,
+            RawItem::Interactive { name } => self.interactives.declare(*name, text, *name),
             RawItem::Trace {
                 at,
                 limit,
                 stage,
                 start,
             } => {
-                let trace = TraceRef {
-                    at: *at,
-                    limit: *limit,
-                    stage: *stage,
-                    start,
-                };
-                self.traces.push(trace)?;
+                let (at, limit, stage) = (*at, *limit, *stage);
+                self.traces.push(TraceRef { at, limit, stage, start })?;
+                Ok(())
             }
-            RawItem::Colon { .. } | RawItem::Clause { .. } => (),
+            RawItem::Colon { .. } | RawItem::Clause { .. } => Ok(()),
         }
-        Ok(())
     }
 
     // What all items declare.

@@ -10,11 +10,23 @@ use cep_parse::{RawRule, Span};
 use std::alloc::AllocError;
 
 /// The rules, their names, and how many of them have no label.
-#[derive(Drop)]
 pub(crate) struct Rules<'a> {
     pub table: Table<RuleRef<'a>>,
     pub names: Vec<Text>,
     pub unlabelled: u64,
+}
+
+// Written out: what holds the rules then drops them by one call.
+impl Drop for Rules<'_> {
+    fn drop(self) {
+        let Rules {
+            table,
+            names,
+            unlabelled: _,
+        } = self;
+        drop(table);
+        drop(names);
+    }
 }
 
 impl<'a> Rules<'a> {

@@ -15,11 +15,23 @@ use std::alloc::{AllocError, Global};
 
 /// Items in the order in which they were declared: of each name the place of its first
 /// declaration, from 0, and the first fault of one that is declared again.
-#[derive(Drop)]
 pub(crate) struct Table<T> {
     pub items: Vec<T>,
     pub places: FirstNames<usize>,
     pub twice: Option<Fault>,
+}
+
+// Written out: what holds a table then drops it by one call.
+impl<T: Drop> Drop for Table<T> {
+    fn drop(self) {
+        let Table {
+            items,
+            places,
+            twice: _,
+        } = self;
+        drop(items);
+        drop(places);
+    }
 }
 
 impl<T: Copy> Table<T> {

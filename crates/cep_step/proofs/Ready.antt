@@ -4,11 +4,11 @@ use Rattle.std.specs.Prelude.{filter, IfSome}
 use Rattle.std.specs.List.{AllByRecursion}
 use Rattle.std.proofs.lemmas.List.{map-append, length-map, length-append}
 use Rattle.cep_base.specs.declared.limits.TheConstants.{MOST_NODES, MOST_PREMISES, MOST_RIGHT}
-use Rattle.cep_term.specs.Tree.{Tree, AtomTree, atom_nodes, IsFit}
+use Rattle.cep_term.specs.Tree.{Tree, AtomTree, atom_nodes, IsFit, IsAtomInRange}
 use Rattle.cep_term.specs.Multiset.{without}
 use Rattle.cep_rule.specs.declared.signature.Signature.{Signature}
 use Rattle.cep_rule.specs.declared.rule.Rule.{Rule}
-use Rattle.cep_rule.specs.Typing.{is_fact}
+use Rattle.cep_rule.specs.Typing.{is_fact, IsTyped, AreValues}
 use Rattle.cep_rule.specs.Limits.{IsSmallPattern, IsSmallRule}
 use Rattle.cep_rule.specs.Binding.{needed_of}
 use Rattle.cep_rule.specs.Steps.{Spot, MakesFit}
@@ -43,6 +43,11 @@ all_passing P test values [] all = tt
 all_passing P test values (premise ∷ premises) all =
     let rest = all_passing P test values premises all.1 in
     elim (test premise) as (λ t. AllByRecursion P (full_instances values (premise_atoms (cond t (premise ∷ filter test premises) (filter test premises))))) [ true ↦ (all.0, rest) | false ↦ rest ]
+
+-- typed atoms have a value for each of their variables
+pub in_range : StepLaws → (signature : Signature) (kinds : List ℕ) (values : List Tree) → AreValues signature.cons kinds values → (atoms : List AtomTree) → AllByRecursion (IsTyped signature kinds) atoms → AllByRecursion (IsAtomInRange (length values)) atoms
+in_range laws signature kinds values are atoms all =
+    all_weaker (IsTyped signature kinds) (IsAtomInRange (length values)) atoms (λ a (typed : IsTyped signature kinds a). rw (laws.types.as_many signature.cons kinds values are) (laws.types.in_range signature kinds a typed)) all
 
 few_pass : {A : Type 0} (test : A → Bool) (xs : List A) → length (filter test xs) ≤ length xs
 few_pass test [] = omega arith

@@ -10,12 +10,27 @@ use std::alloc::{AllocError, Global};
 use std::marker::Model;
 
 // The names of a program, by what they name.
-#[derive(Drop)]
 struct Tables {
     cons: NameTable,
     preds: NameTable,
     stages: NameTable,
     rules: NameTable,
+}
+
+// Written out: what holds one drops it by one call.
+impl Drop for Tables {
+    fn drop(self) {
+        let Tables {
+            cons,
+            preds,
+            stages,
+            rules,
+        } = self;
+        drop(cons);
+        drop(preds);
+        drop(stages);
+        drop(rules);
+    }
 }
 
 impl Tables {

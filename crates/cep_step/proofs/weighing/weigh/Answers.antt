@@ -6,7 +6,7 @@ use Rattle.cep_rule.specs.Steps.{Spot}
 use Rattle.cep_step.specs.Passing.{IsFirstUnfit}
 use Rattle.cep_step.specs.Sizes.{IsBeyond}
 use Rattle.cep_step.proofs.Weights.{not_all_fit}
-use Rattle.cep_step.proofs.Ready.{exact_number}
+use Rattle.cep_step.proofs.Ready.{exact_number, in_range}
 use Rattle.cep_step.proofs.Edits.{can_weigh, taken_few, too_full, within}
 use Rattle.cep_step.proofs.weighing.weigh.Goals as goal
 
@@ -42,3 +42,12 @@ returns c =
     within c.steps_are_lawful.ensures c.args.parts.now c.args.rule.now c.args.values.now spot c.requires.ready c.in_ok-taken.taken c.in_ok-added.added c.in_ok-gains.gains c.in_ok-taken.ensures c.in_ok-added.ensures c.in_ok-gains.ensures
     (subst (λ (values : List Tree). AllByRecursion IsFit (full_instances values c.args.rule.now.right)) c.in_ok-measured.ensures c.in_default.ensures)
     c.in_ok-of-in-Fits.field-0 c.in-Fits.nodes c.unwrap_or.result c.in_ok-of-in-Fits.ensures c.unwrap_or.ensures c.in-Fits.ensures
+
+pub taken_atoms-requires : goal.taken_atoms-requires
+taken_atoms-requires c = in_range c.steps_are_lawful.ensures c.args.parts.now.signature c.args.rule.now.kinds c.args.values.now c.requires.ready.are _ c.requires.ready.typed.premises
+
+pub added_atoms-requires-clause-right : goal.added_atoms-requires-clause-right
+added_atoms-requires-clause-right c = in_range c.steps_are_lawful.ensures c.args.parts.now.signature c.args.rule.now.kinds c.args.values.now c.requires.ready.are _ c.requires.ready.typed.right
+
+pub added_atoms-requires-clause-needed : goal.added_atoms-requires-clause-needed
+added_atoms-requires-clause-needed c = in_range c.steps_are_lawful.ensures c.args.parts.now.signature c.args.rule.now.kinds c.args.values.now c.requires.ready.are _ c.requires.ready.typed.premises
