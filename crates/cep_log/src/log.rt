@@ -9,7 +9,7 @@ use cep_rule::Offer;
 /// Contracts see a log as the record of its fields, each listing as a list of atoms with their
 /// counts, and each derivation as its tree. `IsLogOf` says which logs are of a program, and
 /// `IsLegal` which of these are legal.
-#[derive(Debug, Drop)]
+#[derive(Debug)]
 pub struct Log {
     pub version: Version,
     /// How high a derivation may be.
@@ -27,6 +27,25 @@ pub struct Log {
     pub lines: u32,
 }
 
+// Written out: what holds one drops it by one call.
+impl Drop for Log {
+    fn drop(self) {
+        let Log {
+            version: _,
+            height: _,
+            stage_line: _,
+            stage: _,
+            start,
+            steps,
+            end,
+            lines: _,
+        } = self;
+        drop(start);
+        drop(steps);
+        drop(end);
+    }
+}
+
 /// The steps of a log, in order.
 pub type LogSteps = List<LogStep>;
 
@@ -34,7 +53,7 @@ pub type LogSteps = List<LogStep>;
 /// offer's rule, the stage that is written below it, which stands there exactly where the rule
 /// leaves a stage, and the listing of the state after it, which stands there exactly where the
 /// version lists it.
-#[derive(Debug, Drop)]
+#[derive(Debug)]
 pub struct LogStep {
     pub line: u32,
     pub offer: Offer,
@@ -43,17 +62,54 @@ pub struct LogStep {
     pub mid: Option<LogMid>,
 }
 
+// Written out: what holds one drops it by one call.
+impl Drop for LogStep {
+    fn drop(self) {
+        let LogStep {
+            line: _,
+            offer,
+            proofs,
+            stage: _,
+            mid,
+        } = self;
+        drop(offer);
+        drop(proofs);
+        drop(mid);
+    }
+}
+
 /// A listing behind a step: the number of its first line, and what it lists.
-#[derive(Debug, Drop)]
+#[derive(Debug)]
 pub struct LogMid {
     pub line: u32,
     pub state: Haves,
 }
 
+// Written out: what holds one drops it by one call.
+impl Drop for LogMid {
+    fn drop(self) {
+        let LogMid { line: _, state } = self;
+        drop(state);
+    }
+}
+
 /// The end of a log: the number of its line, the word, and the listing of the last state.
-#[derive(Debug, Drop)]
+#[derive(Debug)]
 pub struct LogEnd {
     pub line: u32,
     pub word: EndWord,
     pub state: Haves,
+}
+
+// Written out: what holds one drops it by one call.
+impl Drop for LogEnd {
+    fn drop(self) {
+        let LogEnd {
+            line: _,
+            word,
+            state,
+        } = self;
+        drop(word);
+        drop(state);
+    }
 }

@@ -4,6 +4,8 @@ use Rattle.cep_source.proofs.Lookups.{taken}
 use Rattle.cep_source.proofs.Declaring.{none_named}
 use Rattle.cep_source.proofs.Numbering.{none_ruled}
 use Rattle.cep_source.proofs.gathering.Kinds.of_file.Goals as goal
+use Rattle.std.proofs.Common.{arith}
+use Rattle.std.proofs.lemmas.Grind.{common_steps}
 
 pub loop-item-init : goal.loop-item-init
 loop-item-init c = record {
@@ -24,3 +26,6 @@ loop-item-preserved c = record {
       (c.in_ok-gather.ensures.kinds (take c.loop-item.item-index c.as_slice-item-items.result.now) c.loop-item.invariant.kinds);
   named = c.in_ok-gather.ensures.named c.loop-item.invariant.named;
 }
+
+pub returns-clause-kinds : goal.returns-clause-kinds
+returns-clause-kinds c = grind (arith, common_steps)
