@@ -18,7 +18,7 @@ pub type Stages = List<Stage>;
 /// What a program is made of. Stages, rules and clauses are numbered in written order, from 0. The
 /// rules of stage k are those of group 2k, and those that leave it at quiescence are those of group
 /// 2k + 1; this numbering is this profile's. A program may say how many turns are done at most.
-#[derive(Debug, Drop)]
+#[derive(Debug)]
 pub struct Parts {
     pub signature: Signature,
     pub stages: Stages,
@@ -27,4 +27,24 @@ pub struct Parts {
     pub start_stage: u32,
     pub start: Bag,
     pub turns: Option<u32>,
+}
+
+// Written out: what holds one drops it by one call.
+impl Drop for Parts {
+    fn drop(self) {
+        let Parts {
+            signature,
+            stages,
+            rules,
+            clauses,
+            start_stage: _,
+            start,
+            turns: _,
+        } = self;
+        drop(signature);
+        drop(stages);
+        drop(rules);
+        drop(clauses);
+        drop(start);
+    }
 }

@@ -33,9 +33,19 @@ pub struct PredDecl {
 /// What a program declares of terms and atoms. Types, constructors and predicates are numbered in
 /// written order, from 0; the order of terms and atoms, which is this profile's, goes by these
 /// numbers.
-#[derive(Debug, Drop)]
+#[derive(Debug)]
 pub struct Signature {
     pub sorts: Names,
     pub cons: Cons,
     pub preds: Preds,
+}
+
+// Written out: what holds one drops it by one call.
+impl Drop for Signature {
+    fn drop(self) {
+        let Signature { sorts, cons, preds } = self;
+        drop(sorts);
+        drop(cons);
+        drop(preds);
+    }
 }
