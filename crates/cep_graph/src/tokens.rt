@@ -13,11 +13,23 @@ use std::collections::VecDeque;
 use std::marker::Model;
 
 /// The tokens that are present: of each atom, by its id, their traces, the oldest token first.
-#[derive(Drop)]
 pub struct Tokens {
     alloc: Global,
     store: Store,
     queues: Vec<VecDeque<Trace>>,
+}
+
+// Written out: what holds one drops it by one call.
+impl Drop for Tokens {
+    fn drop(self) {
+        let Tokens {
+            alloc: _,
+            store,
+            queues,
+        } = self;
+        drop(store);
+        drop(queues);
+    }
 }
 
 impl Model for Tokens {

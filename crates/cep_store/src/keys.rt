@@ -7,9 +7,16 @@ use std::alloc::{AllocError, Global};
 use std::marker::Model;
 
 /// Different keys in the order in which they were added. A key's id is its place.
-#[derive(Drop)]
 pub(crate) struct Keys {
     keys: IndexSet<Vec<u64>>,
+}
+
+// Written out: what holds one drops it by one call.
+impl Drop for Keys {
+    fn drop(self) {
+        let Keys { keys } = self;
+        drop(keys);
+    }
 }
 
 impl Model for Keys {

@@ -14,11 +14,23 @@ use std::marker::Model;
 /// Ground terms and atoms, each kept once under an id. An id is the place of its tree among the
 /// terms, or among the atoms, counted from 0, and stays what it is while the store grows. Nothing is
 /// ever taken out. Ids are this project's own.
-#[derive(Drop)]
 pub struct Store {
     alloc: Global,
     terms: Keys,
     atoms: Keys,
+}
+
+// Written out: what holds one drops it by one call.
+impl Drop for Store {
+    fn drop(self) {
+        let Store {
+            alloc: _,
+            terms,
+            atoms,
+        } = self;
+        drop(terms);
+        drop(atoms);
+    }
 }
 
 impl Model for Store {

@@ -49,9 +49,16 @@ impl Named for Rule {
 }
 
 // Different names in order. The number of a name is found in one look-up.
-#[derive(Drop)]
 pub(crate) struct NameTable {
     names: IndexSet<Vec<u8>>,
+}
+
+// Written out: what holds one drops it by one call.
+impl Drop for NameTable {
+    fn drop(self) {
+        let NameTable { names } = self;
+        drop(names);
+    }
 }
 
 impl Model for NameTable {
