@@ -1,5 +1,4 @@
 pub mod Words
-pub mod Prefixes
 pub mod BlockedLines
 pub mod AllPlayers
 pub mod RoundSteps

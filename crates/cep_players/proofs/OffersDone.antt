@@ -1,20 +1,10 @@
 -- Offers of a round are done, one after another.
 use Rattle.std.proofs.Common.{◌≡◌, inl, inr, ℕ, zero, suc, ◌+◌, ◌<◌, ◌≤◌, Bool, true, false, List, [], ◌∷◌, ◌++◌, length, length-append, take, Option, Some, append_assoc, append-nil, refl, sym, ap, ◌∙◌, arith}
-use Rattle.std.specs.Prelude.{slice_get, drop, Result, Ok, Err, IfOk}
-use Rattle.std.proofs.Math.ListN.{drop_of_length-le}
-use Rattle.cep_base.proofs.Did.{did_map, did_same, did_then}
-use Rattle.cep_base.proofs.Drops.{drop_at}
-use Rattle.cep_base.proofs.Lists.{holds_at}
-use Rattle.cep_base.proofs.Options.{item_at}
-use Rattle.cep_machine.specs.Configuration.{Configuration}
+use Rattle.cep_players.proofs.Words.{slice_get, drop, drop_of_length-le, did_map, did_same, did_then, drop_at, holds_at, item_at, Configuration, Turned, Done, Over, Event, Did, Multiset, Rule, Parts, Offer, IsOffer, own_group, IsGroupedRule, IsProgram, Position, EndWord, admitted, IsOfferDone}
+use Rattle.cep_players.proofs.Words.{AreOffersDone, Settings, position_of, IsPlaced, Acts, WouldPass, IsActed, IsMoved, DoesOffer, CannotDo, IsOfferActed, IsOfferMoved, BeginsOffer, ActsSome, StopsAct, BeginsActs}
 pub use Rattle.cep_round.proofs.Admitted.{as_many_flags, next_admitted, next_blocked}
-use Rattle.cep_run.specs.declared.turn.Turned.{Turned}
-use Rattle.cep_run.specs.declared.turn.Turned.TheVariants.{Done, Over}
 use Rattle.cep_run.specs.declared.turn.Ended.{Ended}
 use Rattle.cep_run.specs.Begun.{BeginsAct}
-use Rattle.cep_players.proofs.Words.{Event, Did, Multiset, Rule, Parts, Offer, IsOffer, own_group, IsGroupedRule, IsProgram, Position, EndWord, admitted, IsOfferDone, AreOffersDone, Settings, position_of, IsPlaced, Acts, WouldPass, IsActed}
-use Rattle.cep_players.proofs.Words.{IsMoved}
-use Rattle.cep_players.specs.Going.{DoesOffer, CannotDo, IsOfferActed, IsOfferMoved, BeginsOffer, ActsSome, StopsAct, BeginsActs}
 use Rattle.cep_players.proofs.RoundSteps.{stays_in_stage, then_deeds, order_more, lines_more}
 use Rattle.cep_players.proofs.RoundsThere.{passes_stops}
 
@@ -59,11 +49,6 @@ module _ {M : Type 0} (program : Parts) (settings : Settings) (kept : IsProgram 
         let is_grouped = holds_at (IsGroupedRule _) program.rules other.rule rule kept.grouped placed.of_rule in
         (record { applies = is.applies; step = rw (same, ← one) at steps.step }, steps.stage ∙ sym (stays_in_stage rule config.stage grouped is_grouped.leaves), acted.1, remain)
     offer_moved (Over last) acted moved = acted.1
-
--- what holds of an outcome by two clauses
-pub both_ok : {T E : Type 0} (r : Result T E) (P Q R : T → Type 0) → ((x : T) → P x → Q x → R x) → IfOk r P → IfOk r Q → IfOk r R
-both_ok (Ok x) P Q R follows p q = follows x p q
-both_ok (Err x) P Q R follows p q = tt
 
 -- All admitted offers
 pub split_admitted : (chosen : List Offer) (flags : List Bool) (i : ℕ) → admitted chosen flags ≡ admitted (take i chosen) (take i flags) ++ admitted (drop i chosen) (drop i flags)

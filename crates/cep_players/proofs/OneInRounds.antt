@@ -1,15 +1,13 @@
 -- What is typed determines a dialogue in rounds but for the derivations of what is done.
 use Rattle.std.proofs.Common.{◌≡◌, ℕ, ◌<◌, ◌≤◌, ◌^◌, Bool, List, [], ◌∷◌, ◌++◌, map, length, Option, None, Some, append-nil, refl, sym, ap, ◌∙◌, arith}
-use Rattle.std.specs.Prelude.{slice_get}
-use Rattle.std.specs.FinMap as finite
+use Rattle.cep_players.proofs.Words.{slice_get, deeds_counted, Event, Tree, Multiset, Rule, Parts, Offer, AreOffers, own_group, Step, Position, Deed, IsDeed, AreDeeds, start_of, Limit, Passes, EndWord, Quiet, Choice, Place, Settings, Hears, Supply, whole_supply, Question, AreAdmitted, admitted}
+use Rattle.cep_players.proofs.Words.{Hearing, IsHeard, AreHeard, HaveChosen, Round, IsListedHere, IsChosenHere, IsRoundDone, TurnOrRound, a_turn, a_round, AreTurnsAndRounds, EndOfRounds, of_turn, of_player, of_offer, unproved_round, unproved_part, unproved_end, IsCutOff, CannotBeDone, StopsInRound}
+use Rattle.cep_players.proofs.Words.{StopsAtPlayer, EndsInRounds, RunsInRounds, DialogueInRounds}
 use Rattle.cep_base.specs.declared.limits.TheConstants.{MOST_OFFERS}
 use Rattle.cep_rule.specs.declared.signature.Signature.{Signature}
+use Rattle.std.specs.FinMap as finite
 use Rattle.cep_step.specs.declared.limit.Limit.TheVariants as limit
-use Rattle.cep_run.proofs.TurnSteps.{deeds_counted}
-use Rattle.cep_players.proofs.Words.{Event, Tree, Multiset, Rule, Parts, Offer, AreOffers, own_group, IsAsked, Step, Position, Deed, IsDeed, AreDeeds, start_of, Limit, Passes, EndWord, Quiet, Choice, Place, Settings, Hears, Supply}
-use Rattle.cep_players.proofs.Words.{whole_supply, Question, Turn, Ending, Run, unproved, IsQuestion, IsChosen, IsTurn, EndsAt, quiet_end, turns_end, offers_end, input_end, typed_end, atom_end, state_end, AreAdmitted, admitted}
-use Rattle.cep_players.specs.Runs.{Hearing, IsHeard, AreHeard, HaveChosen, Round, IsListedHere, IsChosenHere, IsRoundDone, TurnOrRound, a_turn, a_round, AreTurnsAndRounds, EndOfRounds, of_turn, of_player, of_offer, unproved_round, unproved_part, unproved_end, IsCutOff, CannotBeDone, StopsInRound, StopsAtPlayer, EndsInRounds, RunsInRounds}
-use Rattle.cep_players.specs.Dialogues.{DialogueInRounds}
+use Rattle.cep_run.proofs.OneRun as one
 
 one_word : (program : Parts) (most : ℕ) (at : Position) (next : Offer) (rule rule' : Rule) (word word' : EndWord) → slice_get program.rules next.rule ≡ Some rule → slice_get program.rules next.rule ≡ Some rule'
     → CannotBeDone program most at rule next.values word → CannotBeDone program most at rule' next.values word' → word ≡ word'
@@ -26,10 +24,7 @@ module _ (one_list : (program : Parts) (height : ℕ) (state : Multiset) (group 
     (one_step : (signature : Signature) (rule : Rule) (values : List Tree) (old one other : Multiset) → Step signature rule values old one → Step signature rule values old other → one ≡ other)
     (one_choice : (n taken many many' : ℕ) (come rest rest' : List ℕ) (events events' : List Event) (choice choice' : Choice) → n < 2 ^ 32 → Hears n come taken events choice rest many → Hears n come taken events' choice' rest' many' → (events ≡ events') × (choice ≡ choice') × (rest ≡ rest') × (many ≡ many'))
     (one_flags : (program : Parts) (state used : Multiset) (offers : List Offer) (one other : List Bool) → AreAdmitted program state used offers one → AreAdmitted program state used offers other → one ≡ other)
-    (program : Parts) (settings : Settings) (players : ℕ)
-    (one_question : (at : Position) (from : Supply) (question question' : Question) (to to' : Supply) → IsQuestion program settings at from question to → IsQuestion program settings at from question' to' → (question ≡ question') × (to ≡ to'))
-    (one_turn : (at : Position) (from : Supply) (turn turn' : Turn) → IsTurn program settings at from turn → IsTurn program settings at from turn' → (unproved turn ≡ unproved turn') × (turn.deed.after ≡ turn'.deed.after) × (turn.left ≡ turn'.left))
-    (one_run : (at : Position) (from : Supply) (turns turns' : List Turn) (ending ending' : Ending) (to to' : Supply) → Run program settings at from turns ending to → Run program settings at from turns' ending' to' → (map unproved turns ≡ map unproved turns') × (ending ≡ ending') × (to ≡ to')) where
+    (program : Parts) (settings : Settings) (players : ℕ) where
   -- What is heard
 
   module _ (n : ℕ) (few : n ≤ MOST_OFFERS) where
@@ -75,22 +70,19 @@ module _ (one_list : (program : Parts) (height : ℕ) (state : Multiset) (group 
   abbrev bare : Deed → Deed
   bare deed = record deed { proofs = [] }
 
-  done_or_passes : (deed : Deed) (at : Position) (rule : Rule) (passed : Limit) → deed.before ≡ at → IsDeed program settings.height deed → slice_get program.rules deed.offer.rule ≡ Some rule → Passes program.signature rule deed.offer.values at.spot.state passed → ⊥
-  done_or_passes deed at rule limit.Atom here is of_rule unfit = grind arith
-  done_or_passes deed at rule limit.State here is of_rule full =
-      let step : Step program.signature rule deed.offer.values at.spot.state deed.after.spot.state = grind arith in
-      full.1.2 (rw (one_step program.signature rule deed.offer.values at.spot.state full.1.0 deed.after.spot.state full.1.1 step) is.step.steps.fits)
-
   done_or_stops : (deed : Deed) (at : Position) (rule : Rule) (word : EndWord) → deed.before ≡ at → IsDeed program settings.height deed → deed.after.turns ≤ settings.limit → slice_get program.rules deed.offer.rule ≡ Some rule → CannotBeDone program settings.limit at rule deed.offer.values word → ⊥
-  done_or_stops deed at rule word here is within of_rule stops = grind (arith, ap (λ (p : Position). p.turns) here, is.counted, done_or_passes deed at rule limit.Atom here is of_rule, done_or_passes deed at rule limit.State here is of_rule)
+  done_or_stops deed at rule word here is within of_rule stops =
+      let passes : (passed : Limit) → Passes program.signature deed.rule deed.offer.values deed.before.spot.state passed → ⊥ = λ passed. one.done_or_passes one_list one_step program settings deed.rule deed.offer.values deed.before.spot deed.after.spot passed is.step.steps in
+      let same : rule ≡ deed.rule = cc (of_rule, is.step.numbered) in
+      let stops' : CannotBeDone program settings.limit deed.before deed.rule deed.offer.values word = rw (← same, here) stops in
+      grind (arith, is.counted, passes limit.Atom, passes limit.State)
 
   one_deed : (deed deed' : Deed) → deed.before ≡ deed'.before → deed.offer ≡ deed'.offer → IsDeed program settings.height deed → IsDeed program settings.height deed' → bare deed ≡ bare deed'
   one_deed deed deed' befores offers is is' =
       let rules : deed.rule ≡ deed'.rule = cc (offers, is.step.numbered, is'.step.numbered) in
-      let states = one_step program.signature deed.rule deed.offer.values deed.before.spot.state deed.after.spot.state deed'.after.spot.state is.step.steps.step (rw (rules, offers, befores) is'.step.steps.step) in
-      let stages : deed.after.spot.stage ≡ deed'.after.spot.stage = cc (rules, befores, is.step.steps.stage, is'.step.steps.stage) in
+      let spots = one.one_spot one_list one_step program settings deed.rule deed.offer.values deed.before.spot deed.after.spot deed'.after.spot is.step.steps (rw (rules, offers, befores) is'.step.steps) in
       let turns : deed.after.turns ≡ deed'.after.turns = cc (befores, is.counted, is'.counted) in
-      λ i. record { before = befores i; offer = offers i; rule = rules i; proofs = []; after = record { spot = record { stage = stages i; state = states i }; turns = turns i } }
+      λ i. record { before = befores i; offer = offers i; rule = rules i; proofs = []; after = record { spot = spots i; turns = turns i } }
 
   -- where deeds stop: no offer is later, or the next one cannot be done
   abbrev Stops : Position → List Offer → EndWord → Type 0
@@ -121,27 +113,6 @@ module _ (one_list : (program : Parts) (height : ℕ) (state : Multiset) (group 
       let others = one_way deed.after deeds deeds' last last' later later' word word' (does.0.2, does.1, does.2) (rw (ap (λ (it : Deed). it.after) first) does'.0.2, does'.1, does'.2) (cc (same)) in
       (λ i. first i ∷ others.0 i, others.1, others.2)
 
-  -- Turns and ends as for one player
-  -- where turns remain and offers are listed, no run ends without a question
-  listed_or_ends : (at : Position) (from : Supply) (group : ℕ) (offers : List Offer) {word : EndWord} {to : Supply} → at.turns < settings.limit → IsAsked program settings.height at.spot.state at.spot.stage group → AreOffers program settings.height at.spot.state group offers → length offers ≤ MOST_OFFERS → EndsAt program settings at from word None to → ⊥
-  listed_or_ends at from group offers remain asked are few (quiet_end is left) = grind arith
-  listed_or_ends at from group offers remain asked are few (turns_end asked' done left) = omega (arith, remain, done)
-  listed_or_ends at from group offers remain asked are few (offers_end {group = group'} {offers = offers'} remain' asked' are' many left) = grind (arith, one_list program settings.height at.spot.state group offers offers' are)
-
-  module _ (at : Position) (from : Supply) (turn : Turn) (is : IsTurn program settings at from turn) where
-    turn_or_passes : (question : Question) (to : Supply) (offer : Offer) (rule : Rule) (passed : Limit) → IsQuestion program settings at from question to → IsChosen program question offer rule → Passes program.signature rule offer.values at.spot.state passed → ⊥
-    turn_or_passes question to offer rule passed asks chosen passes =
-        let one : question ≡ turn.question = (one_question at from question turn.question to turn.left asks is.asks).0 in
-        let same : offer ≡ turn.deed.offer = grind (arith, one, chosen.chosen, is.chosen.chosen, chosen.at_place, is.chosen.at_place) in
-        done_or_passes turn.deed at rule passed is.here is.does (rw same at chosen.of_rule) (rw same at passes)
-
-    turn_or_end : {word : EndWord} {asked : Option Question} {to : Supply} → EndsAt program settings at from word asked to → ⊥
-    turn_or_end {asked = None} ends = listed_or_ends at from turn.question.group turn.question.offers is.asks.remain is.asks.asked is.asks.offered is.asks.few ends
-    turn_or_end {to = to} (input_end {question = question} asks none) = cc ((one_question at from question turn.question to turn.left asks is.asks).0, is.chosen.chosen, none)
-    turn_or_end {to = to} (typed_end {question = question} asks full) = cc ((one_question at from question turn.question to turn.left asks is.asks).0, is.chosen.chosen, full)
-    turn_or_end {to = to} (atom_end {question = question} {offer = offer} {rule = rule} asks chosen passes) = turn_or_passes question to offer rule limit.Atom asks chosen passes
-    turn_or_end {to = to} (state_end {question = question} {offer = offer} {rule = rule} asks chosen passes) = turn_or_passes question to offer rule limit.State asks chosen passes
-
   module _ (at : Position) (from : Supply) where
     -- Where all choose
 
@@ -171,12 +142,12 @@ module _ (one_list : (program : Parts) (height : ℕ) (state : Multiset) (group 
 
     -- What excludes what
     listed_or_asked : (offers : List Offer) (word : EndWord) (asked : Option Question) (last : Position) (to : Supply) → IsListedHere program settings at offers → EndsInRounds program settings players at from word (of_turn asked) last to → ⊥
-    listed_or_asked offers word None last to listed ends = listed_or_ends at from (own_group at.spot.stage) offers listed.remain listed.for_all.asked listed.offered listed.few ends.0
+    listed_or_asked offers word None last to listed ends = one.offered_or_end one_list one_step program settings from (record { remain = listed.remain; asked = listed.for_all.asked; offered = listed.offered; few = listed.few }) ends.0
     listed_or_asked offers word (Some question) last to listed ends = ends.1 listed.for_all
 
     end_or_part : (word : EndWord) (end : EndOfRounds) (last : Position) (to : Supply) → EndsInRounds program settings players at from word end last to → (part : TurnOrRound) (parts : List TurnOrRound) (last' : Position) (to' : Supply)
         → AreTurnsAndRounds program settings players at from (part ∷ parts) last' to' → ⊥
-    end_or_part word (of_turn asked) last to ends (a_turn turn) parts last' to' done = turn_or_end at from turn done.0 ends.0
+    end_or_part word (of_turn asked) last to ends (a_turn turn) parts last' to' done = one.turn_or_end one_list one_step program settings at from turn word asked to done.0 ends.0
     end_or_part word (of_player offers hearings events choice) last to ends (a_turn turn) parts last' to' done = done.1 ends.0.listed.for_all
     end_or_part word (of_offer round) last to ends (a_turn turn) parts last' to' done = done.1 ends.0.listed.for_all
     end_or_part word (of_turn asked) last to ends (a_round round here left) parts last' to' done = listed_or_asked round.offers word asked last to done.0.choice.listed ends
@@ -186,9 +157,8 @@ module _ (one_list : (program : Parts) (height : ℕ) (state : Multiset) (group 
     one_end : (word word' : EndWord) (end end' : EndOfRounds) (last last' : Position) (to to' : Supply) → EndsInRounds program settings players at from word end last to → EndsInRounds program settings players at from word' end' last' to'
         → SameEnd end end' word word' last last' to to'
     one_end word word' (of_turn asked) (of_turn asked') last last' to to' ends ends' =
-        let one = one_run at from [] [] (record { word = word; state = at.spot.state; question = asked }) (record { word = word'; state = at.spot.state; question = asked' }) to to'
-        (record { last = at; between = from; done = (refl, refl); ends = ends.0; state = refl }) (record { last = at; between = from; done = (refl, refl); ends = ends'.0; state = refl }) in
-        record { ends = ap (λ ending. of_turn ending.question) one.1; words = ap (λ ending. ending.word) one.1; lasts = ends.2 ∙ sym ends'.2; lefts = one.2 }
+        let same = one.one_end one_list one_step program settings at from word word' asked asked' to to' ends.0 ends'.0 in
+        record { ends = ap of_turn same.questions; words = same.words; lasts = ends.2 ∙ sym ends'.2; lefts = same.supplies }
     one_end word word' (of_turn asked) (of_player offers' hearings' events' choice') last last' to to' ends ends' = absurd (listed_or_asked offers' word asked last to ends'.0.listed ends)
     one_end word word' (of_turn asked) (of_offer round') last last' to to' ends ends' = absurd (listed_or_asked round'.offers word asked last to ends'.0.listed ends)
     one_end word word' (of_player offers hearings events choice) (of_turn asked') last last' to to' ends ends' = absurd (listed_or_asked offers word' asked' last' to' ends.0.listed ends')
@@ -225,10 +195,10 @@ module _ (one_list : (program : Parts) (height : ℕ) (state : Multiset) (group 
   one_run_of at from (a_turn turn ∷ parts) (a_round round' here' left' ∷ parts') end end' word word' last last' to to' run run' = absurd (run.done.1 run'.done.0.choice.listed.for_all)
   one_run_of at from (a_round round here left ∷ parts) (a_turn turn' ∷ parts') end end' word word' last last' to to' run run' = absurd (run'.done.1 run.done.0.choice.listed.for_all)
   one_run_of at from (a_turn turn ∷ parts) (a_turn turn' ∷ parts') end end' word word' last last' to to' run run' =
-      let same = one_turn at from turn turn' run.done.0 run'.done.0 in
+      let same = one.one_turn one_list one_step program settings at from turn turn' run.done.0 run'.done.0 in
       let later = one_run_of turn.deed.after turn.left parts parts' end end' word word' last last' to to' (record { here = run.here; between = run.between; done = run.done.2; ends = run.ends })
-      (record { here = run'.here; between = run'.between; done = rw (same.1, same.2) run'.done.2; ends = run'.ends }) in
-      (λ i. a_turn (same.0 i) ∷ later.0 i, later.1)
+      (record { here = run'.here; between = run'.between; done = rw (same.afters, same.lefts) run'.done.2; ends = run'.ends }) in
+      (λ i. a_turn (same.turns i) ∷ later.0 i, later.1)
   one_run_of at from (a_round round here left ∷ parts) (a_round round' here' left' ∷ parts') end end' word word' last last' to to' run run' =
       let is = run.done.0 in
       let is' = run'.done.0 in

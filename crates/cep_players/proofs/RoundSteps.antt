@@ -1,20 +1,13 @@
 -- What is done in rounds are deeds, and within a round each admitted offer can be done where those before it were.
 use Rattle.std.proofs.Common.{◌≡◌, ℕ, ◌-◌, ◌%◌, Bool, List, [], ◌∷◌, ◌++◌, map, append_assoc, append-nil, Some, IsSome, ◌↔◌, refl, sym, ap, ◌∙◌, arith, Contains}
-use Rattle.std.specs.Prelude.{slice_get}
-use Rattle.std.specs.List.{AllByRecursion, flat_map}
-use Rattle.std.specs.FinMap as finite
-use Rattle.std.proofs.lemmas.Grind.{flat_map-append}
 use Rattle.std.proofs.lemmas.List.{map-append}
-use Rattle.cep_base.proofs.Elements.{all_at, all_of, contains_first, contains_left, contains_right}
-use Rattle.cep_base.proofs.Lists.{holds_at, map_last}
-use Rattle.cep_rule.specs.Derivations.{ProofTree, IsDerivable}
+use Rattle.cep_players.proofs.Words.{slice_get, AllByRecursion, flat_map, flat_map-append, all_at, all_of, contains_first, contains_left, contains_right, holds_at, map_last, ProofTree, IsDerivable, quiet_here, outs, AtomTree, Multiset, Rule, Parts, Offer, IsState, Applies, IsInGroup, IsOffer}
+use Rattle.cep_players.proofs.Words.{own_group, IsQuiet, Step, IsTypedRule, IsDividedRule, IsGroupedRule, IsProgram, Position, Deed, AreDeeds, EndWord, lines_of_deed, Quiet, AreAdmitted, admitted, IsRound, AreOffersDone, Settings, Supply, RoundsAreLawful, Hearing, HaveChosen, Round, IsRoundDone}
+use Rattle.cep_players.proofs.Words.{TurnOrRound, a_turn, a_round, AreTurnsAndRounds, AreTogether, all_done, EndOfRounds, of_turn, of_player, of_offer, done_before, EndsInRounds, RunsInRounds}
 use Rattle.cep_rule.specs.Steps.{AreProofs, stage_after}
 use Rattle.cep_round.proofs.Counts.{each_admitted}
-use Rattle.cep_run.proofs.TurnSteps.{quiet_here}
-use Rattle.cep_players.proofs.Words.{Out, outs, AtomTree, Multiset, Rule, Parts, Offer, IsState, Applies, IsInGroup, IsOffer, own_group, IsQuiet, Step, IsTypedRule, IsDividedRule, IsGroupedRule, IsProgram, Position, Deed, AreDeeds, EndWord}
-use Rattle.cep_players.proofs.Words.{lines_of_deed, Quiet, AreAdmitted, admitted, IsRound, AreOffersDone, Settings, Supply}
-use Rattle.cep_players.specs.PlayersLaws.{RoundsAreLawful}
-use Rattle.cep_players.specs.Runs.{Hearing, HaveChosen, Round, IsRoundDone, TurnOrRound, a_turn, a_round, AreTurnsAndRounds, AreTogether, all_done, EndOfRounds, of_turn, of_player, of_offer, done_before, EndsInRounds, RunsInRounds}
+use Rattle.cep_base.specs.declared.console.Event.TheVariants.{Out}
+use Rattle.std.specs.FinMap as finite
 
 -- offers that were chosen are offers of the list
 pub chosen_are : (P : Offer → Type 0) (offers : List Offer) → ((k : ℕ) (offer : Offer) → slice_get offers k ≡ Some offer → P offer) → (hearings : List Hearing) (chosen : List Offer) → HaveChosen offers hearings chosen → AllByRecursion P chosen

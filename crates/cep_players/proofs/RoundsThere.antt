@@ -1,32 +1,18 @@
 -- From every position a run in rounds is there, whatever is typed; and it goes on from what is said so far.
 use Rattle.std.proofs.Common.{◌≡◌, ◌⊎◌, inl, inr, ℕ, zero, suc, ◌+◌, ◌<◌, ◌≤◌, Bool, true, false, List, [], ◌∷◌, ◌++◌, map, length, Option, None, Some, append_assoc, append-nil, refl, sym, ap, ◌∙◌, arith}
-use Rattle.std.specs.Prelude.{slice_get, IsSomeAnd}
-use Rattle.std.specs.List.{AllByRecursion, flat_map}
-use Rattle.std.specs.FinMap as finite
 use Rattle.std.proofs.lemmas.Bool.{cases_lt}
-use Rattle.std.proofs.lemmas.Grind.{flat_map-append}
 use Rattle.std.proofs.lemmas.List.{length-map}
 use Rattle.std.proofs.lemmas.Slice.Zip.{AllZip-long}
-use Rattle.cep_base.proofs.Elements.{contains_at}
-use Rattle.cep_base.proofs.Lists.{all_from_places, holds_at}
+use Rattle.cep_players.proofs.Words.{slice_get, AllByRecursion, flat_map, flat_map-append, contains_at, all_from_places, holds_at, offer_lines, left_by, deeds_counted, generator_behind, Event, outs, AtomTree, Multiset, count_of, IsContained, Parts, Rule, Offer, IsState, IsOffer, own_group, IsAsked}
+use Rattle.cep_players.proofs.Words.{IsProgram, Position, Deed, AreDeeds, start_of, Limit, Passes, needs, used_with, AreAdmitted, admitted, EndWord, Turns, end_lines, header, lines_of_deed, Settings, Spent, Supply, whole_supply, Question, Turn, IsQuestion, IsTurn, AreTurns, EndsAt, supply_with}
+use Rattle.cep_players.proofs.Words.{limit_word, BeginsSome, PlayersLaws, IsForAll, Round, IsListedHere, IsChosenHere, TurnOrRound, a_turn, a_round, AreTurnsAndRounds, EndOfRounds, of_turn, of_player, of_offer, CannotBeDone, EndsInRounds, hearing_events, blocked_lines, turn_question_events}
+use Rattle.cep_players.proofs.Words.{round_question_events, round_events, part_events, last_part_events, DialogueInRounds, ChooseSome, IsRunInRounds, front_of_front}
 use Rattle.cep_term.specs.BagLaws.{BagLaws}
-use Rattle.cep_rule.specs.declared.parts.Stage.{Stage}
 use Rattle.cep_round.proofs.Counts.{join_count}
-use Rattle.cep_lines.specs.Lines.{offer_lines}
-use Rattle.cep_run.proofs.TurnSteps.{left_by, deeds_counted}
-use Rattle.cep_choice.specs.Draws.{generator_behind}
-use Rattle.cep_players.proofs.Words.{Event, outs, AtomTree, Multiset, count_of, IsContained, Parts, Rule, Offer, IsState, IsOffer, own_group, IsAsked, IsProgram, Position, Deed, AreDeeds, start_of, Limit, Passes, needs, used_with}
-use Rattle.cep_players.proofs.Words.{AreAdmitted, admitted, EndWord, Turns, end_lines, header, lines_of_deed, Settings, Spent, Supply, whole_supply, Question, Turn, IsQuestion, IsTurn, AreTurns, EndsAt, supply_with, limit_word, BeginsSome}
-use Rattle.cep_players.specs.PlayersLaws.{PlayersLaws}
-use Rattle.cep_players.specs.Runs.{IsForAll, Round, IsListedHere, IsChosenHere, TurnOrRound, a_turn, a_round, AreTurnsAndRounds, EndOfRounds, of_turn, of_player, of_offer, CannotBeDone, EndsInRounds}
-use Rattle.cep_players.specs.Dialogues.{hearing_events, blocked_lines, turn_question_events, round_question_events, round_events, part_events, last_part_events, DialogueInRounds}
-use Rattle.cep_players.specs.Playing.{ChooseSome, IsRunInRounds}
-use Rattle.cep_run.proofs.Fronts.{front_of_front}
 use Rattle.cep_players.proofs.AllPlayers.{none_chose, choose_on}
 use Rattle.cep_players.proofs.RoundSteps.{chosen_are, deeds_states, then_deeds, next_is_offer, order_more, lines_more}
-
-interactive_or_not : (stage : Option Stage) → IsSomeAnd stage (λ it. it.interactive ≡ true) ⊎ (IsSomeAnd stage (λ it. it.interactive ≡ true) → ⊥)
-interactive_or_not stage = grind arith
+use Rattle.cep_run.proofs.DecisionThere.{interactive_or_not}
+use Rattle.std.specs.FinMap as finite
 
 -- whether all choose at once, where a group is asked
 for_all_or_not : (program : Parts) (height : ℕ) (at : Position) (group : ℕ) → IsAsked program height at.spot.state at.spot.stage group → (IsForAll program height at × (group ≡ own_group at.spot.stage)) ⊎ (IsForAll program height at → ⊥)
@@ -35,10 +21,6 @@ for_all_or_not program height at group asked = grind (arith, interactive_or_not 
 -- a limit that is passed is a reason for which an offer cannot be done
 pub passes_stops : (program : Parts) (most : ℕ) (at : Position) (rule : Rule) (offer : Offer) (passed : Limit) → at.turns < most → Passes program.signature rule offer.values at.spot.state passed → CannotBeDone program most at rule offer.values (limit_word passed)
 passes_stops program most at rule offer passed remain passes = grind arith
-
--- the last question is one that is asked
-pub asked_at : (program : Parts) (settings : Settings) (at : Position) (from : Supply) {word : EndWord} {question : Question} {to : Supply} → EndsAt program settings at from word (Some question) to → IsQuestion program settings at from question to
-asked_at program settings at from ends = left_by program settings at from ends
 
 -- Which offers are admitted can be told
 all_or_not : {A : Type 0} (P : A → Type 0) → ((x : A) → P x ⊎ (P x → ⊥)) → (xs : List A) → AllByRecursion P xs ⊎ (AllByRecursion P xs → ⊥)

@@ -1,6 +1,6 @@
 -- The dialogue of a run in rounds: the text of its turns and rounds and of its end, with what was
 -- heard.
-use Rattle.std.specs.Prelude.{◌≡◌, ℕ, ◌+◌, Bool, true, false, List, [], ◌∷◌, ◌++◌, codes, decimal, None, Some, length}
+use Rattle.std.specs.Prelude.{◌≡◌, ℕ, ◌+◌, Bool, true, false, List, [], ◌∷◌, ◌++◌, codes, decimal, length}
 use Rattle.std.specs.List.{flat_map}
 use Rattle.cep_base.specs.declared.console.Event.{Event}
 use Rattle.cep_base.specs.Talk.{outs}
@@ -11,7 +11,8 @@ use Rattle.cep_lines.specs.declared.end_word.EndWord.{EndWord}
 use Rattle.cep_lines.specs.Lines.{line, offer_lines, end_lines, header}
 use Rattle.cep_log.specs.Holding.{lines_of_deed}
 use Rattle.cep_run.specs.declared.settings.Settings.{Settings}
-use Rattle.cep_run.specs.Deciding.{Supply, How, Heard, Lone, Drawn}
+use Rattle.cep_run.specs.Deciding.{Supply, How}
+use Rattle.cep_run.specs.Dialogue.{asked_events, last_asked}
 use Rattle.cep_run.specs.Run.{whole_supply}
 use Rattle.cep_step.specs.Deeds.{Position, start_of}
 use Rattle.cep_players.specs.Runs.{Hearing, Round, TurnOrRound, a_turn, a_round, EndOfRounds, of_turn, of_player, of_offer, RunsInRounds}
@@ -28,10 +29,7 @@ blocked_line program player offer =
 -- the events of a question of a turn: its offers, and where the player decides the line that asks
 -- the first player, and what was heard
 abbrev pub turn_question_events : Parts → List Offer → How → List Event
-turn_question_events program offers (Heard events) =
-    outs (offer_lines program 1 offers ++ choose_line 1) ++ events
-turn_question_events program offers Lone = outs (offer_lines program 1 offers)
-turn_question_events program offers Drawn = outs (offer_lines program 1 offers)
+turn_question_events program offers how = asked_events (choose_line 1) program offers how
 
 -- each player, from this one on, is asked and heard
 abbrev pub hearing_events : ℕ → List Hearing → List Event
@@ -69,8 +67,7 @@ part_events program (a_round round last to) = round_events program round
 
 -- the events before the end of a run
 abbrev pub last_part_events : Parts → EndOfRounds → List Event
-last_part_events program (of_turn None) = []
-last_part_events program (of_turn (Some asked)) = turn_question_events program asked.offers asked.how
+last_part_events program (of_turn asked) = last_asked (choose_line 1) program asked
 last_part_events program (of_player offers hearings events choice) =
     outs (offer_lines program 1 offers)
     ++ (hearing_events 1 hearings ++ (outs (choose_line (length hearings + 1)) ++ events))

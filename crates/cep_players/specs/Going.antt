@@ -3,52 +3,25 @@
 use Rattle.std.specs.Prelude.{◌≡◌, ◌⊎◌, ℕ, ◌+◌, ◌<◌, ◌≤◌, List, [], ◌∷◌, ◌++◌, length, map, Option, Some, slice_get}
 use Rattle.std.specs.List.{flat_map}
 use Rattle.cep_base.specs.declared.console.Event.{Event}
-use Rattle.cep_base.specs.declared.limits.TheConstants.{MOST_OFFERS}
 use Rattle.cep_base.specs.Talk.{outs, Did}
 use Rattle.cep_rule.specs.declared.rule.Rule.{Rule}
 use Rattle.cep_rule.specs.declared.parts.Parts.{Parts}
 use Rattle.cep_rule.specs.declared.offer.Offer.{Offer}
-use Rattle.cep_rule.specs.Offers.{AreOffers}
-use Rattle.cep_rule.specs.Stages.{IsAsked}
 use Rattle.cep_step.specs.Deeds.{Position, Deed, IsDeed, AreDeeds}
 use Rattle.cep_machine.specs.Configuration.{Configuration}
 use Rattle.cep_lines.specs.declared.end_word.EndWord.{EndWord}
 use Rattle.cep_log.specs.Holding.{lines_of_deed}
 use Rattle.cep_round.specs.Orders.{IsOfferDone}
-use Rattle.cep_run.specs.declared.choice.Choice.{Choice}
 use Rattle.cep_run.specs.declared.deciding.Spent.{Spent}
 use Rattle.cep_run.specs.declared.settings.Settings.{Settings}
 use Rattle.cep_run.specs.declared.turn.Turned.{Turned}
 use Rattle.cep_run.specs.declared.turn.Turned.TheVariants.{Done, Over}
-use Rattle.cep_run.specs.Deciding.{Supply, How, Decides}
+use Rattle.cep_run.specs.Deciding.{Supply}
+use Rattle.cep_run.specs.Fronts.{LeavesUnheard}
 use Rattle.cep_run.specs.Run.{whole_supply}
 use Rattle.cep_run.specs.Turn.{position_of, supply_with}
 use Rattle.cep_players.specs.Runs.{TurnOrRound, EndOfRounds, AreTurnsAndRounds, EndsInRounds, CannotBeDone, RunsInRounds}
-use Rattle.cep_players.specs.Dialogues.{turn_question_events, part_events, last_part_events, DialogueInRounds}
-
--- A group is asked here, and turns remain; these are its offers, and they are not too many.
-pub record IsOfferedHere (program : Parts) (settings : Settings) (at : Position) (group : ℕ)
-    (offers : List Offer) : Type 0 where
-  pub remain : at.turns < settings.limit
-  pub asked : IsAsked program settings.height at.spot.state at.spot.stage group
-  pub offered : AreOffers program settings.height at.spot.state group offers
-  pub few : length offers ≤ MOST_OFFERS
-
--- A choice among the offers of a turn is decided, and what is said of it is said.
-pub record SettlesTurn (program : Parts) (seed stage group : ℕ) (offers : List Offer) (old : Spent)
-    (choice : Choice) (new : Spent) (come : List ℕ) (events : List Event)
-    (rest : List ℕ) : Type 0 where
-  pub how : How
-  pub decides : Decides program seed stage group (length offers) (supply_with come old) how choice
-      (supply_with rest new)
-  pub whole : events ≡ turn_question_events program offers how
-
--- some choice is decided
-abbrev pub SettlesSomeTurn : Parts → ℕ → ℕ → ℕ → List Offer → Spent → List ℕ → List Event
-    → List ℕ → Type 0
-SettlesSomeTurn program seed stage group offers old come events rest =
-    (choice : Choice) × (new : Spent)
-    × SettlesTurn program seed stage group offers old choice new come events rest
+use Rattle.cep_players.specs.Dialogues.{part_events, last_part_events, DialogueInRounds}
 
 -- An offer is done as a deed from one position to another, and its lines are written.
 pub record DoesOffer (program : Parts) (settings : Settings) (offer : Offer) (at next : Position)
@@ -146,7 +119,8 @@ pub record BeginsActs (program : Parts) (settings : Settings) (at : Position)
   pub more : List Event
   pub acts : ActsSome program settings.height at here offers later come (events ++ more) rest
 
--- Turns and rounds are done from one position to another, and what is said is their events.
+-- Turns and rounds are done from one position to another, what is said is their events, and what was
+-- heard is gone.
 pub record DoesParts (program : Parts) (settings : Settings) (players : ℕ) (at : Position)
     (spent : Spent) (next : Position) (spent' : Spent) (come : List ℕ) (events : List Event)
     (rest : List ℕ) : Type 0 where
@@ -154,8 +128,9 @@ pub record DoesParts (program : Parts) (settings : Settings) (players : ℕ) (at
   pub done : AreTurnsAndRounds program settings players at (supply_with come spent) parts next
       (supply_with rest spent')
   pub written : events ≡ flat_map (part_events program) parts
+  pub gone : LeavesUnheard come events rest
 
--- A run in rounds ends here, and what comes before its last lines is said.
+-- A run in rounds ends here, what comes before its last lines is said, and what was heard is gone.
 pub record EndsParts (program : Parts) (settings : Settings) (players : ℕ) (at : Position)
     (spent : Spent) (word : EndWord) (last : Position) (spent' : Spent) (come : List ℕ)
     (events : List Event) (rest : List ℕ) : Type 0 where
@@ -163,6 +138,7 @@ pub record EndsParts (program : Parts) (settings : Settings) (players : ℕ) (at
   pub ends : EndsInRounds program settings players at (supply_with come spent) word end last
       (supply_with rest spent')
   pub written : events ≡ last_part_events program end
+  pub gone : LeavesUnheard come events rest
 
 -- what a turn or a round comes to: it is done, and at least one turn more with it; or the run ends
 abbrev pub IsWent : {C M : Type 0} → (C → Option (List Event)) → (C → Option (List ℕ)) → C → C
@@ -174,8 +150,8 @@ IsWent talk left old new program settings players config spent spent' (Over last
     Did talk left old new (EndsParts program settings players (position_of config) spent last.word
     (position_of last.config) spent')
 
--- All turns and rounds of a run are done, and what is said is their events and what comes before
--- its last lines.
+-- All turns and rounds of a run are done, what is said is their events and what comes before its last
+-- lines, and what was heard is gone.
 pub record IsWholeInRounds (program : Parts) (settings : Settings) (players : ℕ)
     (at : Position) (word : EndWord) (last : Position) (come : List ℕ) (events : List Event)
     (rest : List ℕ) : Type 0 where
@@ -185,6 +161,7 @@ pub record IsWholeInRounds (program : Parts) (settings : Settings) (players : �
   pub run : RunsInRounds program settings players at (whole_supply come) parts end word last left
   pub written : events ≡ flat_map (part_events program) parts ++ last_part_events program end
   pub rest_is : rest ≡ left.come
+  pub gone : LeavesUnheard come events rest
 
 -- these events are a dialogue in rounds that ends with the word
 abbrev pub IsDialogueWith : Parts → Settings → ℕ → EndWord → List ℕ → List Event → List ℕ → Type 0

@@ -17,18 +17,6 @@ use Rattle.cep_run.specs.Turn.{supply_with}
 use Rattle.cep_players.specs.Runs.{Hearing, IsHeard, AreHeard, HaveChosen, IsCutOff, TurnOrRound, EndOfRounds, RunsInRounds}
 use Rattle.cep_players.specs.Dialogues.{choose_line, hearing_events, part_events, last_part_events}
 
--- The line that asks a player is written, and a choice among n is heard.
-pub record AsksOne (player n : ℕ) (old : Spent) (choice : Choice) (new : Spent) (come : List ℕ)
-    (events : List Event) (rest : List ℕ) : Type 0 where
-  pub heard : List Event
-  pub hears : IsHeard n (supply_with come old) heard choice (supply_with rest new)
-  pub whole : events ≡ outs (choose_line player) ++ heard
-
--- the line is written, and some choice is heard
-abbrev pub AsksAny : ℕ → ℕ → Spent → List ℕ → List Event → List ℕ → Type 0
-AsksAny player n old come events rest =
-    (choice : Choice) × (new : Spent) × AsksOne player n old choice new come events rest
-
 -- So many players are asked, one after another, and each chooses one of the offers.
 pub record AllChoose (players : ℕ) (offers picked : List Offer) (old new : Spent)
     (come : List ℕ) (events : List Event) (rest : List ℕ) : Type 0 where

@@ -1,22 +1,22 @@
 // What all players choose.
 ghost use Rattle.std.specs.Prelude.{◌≡◌, ◌<◌, ◌≤◌, length, IfOk, OnErr};
-ghost use Rattle.cep_base.specs.Talk.{Did, ConsoleCause};
+ghost use Rattle.cep_base.specs.Talk.{ConsoleCause};
 ghost use Rattle.cep_base.specs.declared.limits.TheConstants.{MOST_OFFERS, MOST_TYPED};
 ghost use Rattle.cep_rule.specs.Matching.{offers_of};
 ghost use Rattle.cep_run.specs.Fronts.{FellShort};
 ghost use Rattle.cep_players.specs.Choosing.{IsChoosing, ArePicked};
+ghost use Rattle.cep_players.specs.Dialogues.{choose_line};
 ghost use Rattle.cep_players.specs.Playing.{ChooseSome};
 
-use crate::asking::ask;
-use cep_base::{Console, ConsoleFault};
+use cep_base::{Console, ConsoleFault, Text};
 use cep_lines::EndWord;
 use cep_round::Offers;
 use cep_rule::Matcher;
 use cep_run::choice::Choice;
 use cep_run::copying::copy_offer;
-use cep_run::deciding::Spent;
+use cep_run::deciding::{Spent, ask};
 use cep_run::laws::one_choice_is_heard;
-use std::alloc::Global;
+use std::alloc::{AllocError, Global};
 
 // What the players chose: an offer each, or the end of the run.
 #[derive(Drop)]
@@ -50,7 +50,8 @@ pub(crate) fn choices<C: Console, M: Matcher>(
     let n = matcher.count(group) as u32;
     let mut chosen = Offers::new(alloc);
     for player in 0..players {
-        match ask(alloc, player + 1, n, console, spent)? {
+        let line = line_for(alloc, player + 1)?;
+        match ask(line.bytes(), n, console, &mut spent.taken)? {
             Choice::Place(place) => {
                 let offer = copy_offer(alloc, matcher.offer(group, place as usize - 1))?;
                 chosen.push(offer)?;
@@ -60,4 +61,16 @@ pub(crate) fn choices<C: Console, M: Matcher>(
         }
     }
     Ok(Chosen::All(chosen))
+}
+
+// The line that asks a player, by number from 1 on.
+#[tactic(auto, using(std::proofs::Common::append_assoc), unfolding(crate::specs::Dialogues::choose_line))]
+fn line_for(alloc: Global, player: u32) -> Result<Text, AllocError>
+    ensures { IfOk result (λ text. text ≡ choose_line player) }
+{
+    let mut line = Text::new(alloc);
+    line.append(b"? choose ")?;
+    line.number(u64::from(player))?;
+    line.append(b"\n")?;
+    Ok(line)
 }

@@ -8,6 +8,7 @@ ghost use Rattle.cep_round.specs.declared.limits.TheConstants.{MOST_PLAYERS};
 ghost use Rattle.cep_run.specs.Run.{whole_supply};
 ghost use Rattle.cep_run.specs.Fronts.{FellShort};
 ghost use Rattle.cep_run.specs.Turn.{position_of, supply_with, config_left, HasSpent, IsPlayed};
+ghost use Rattle.cep_players.specs.Dialogues.{choose_line};
 ghost use Rattle.cep_players.specs.Playing.{IsRunInRounds};
 ghost use Rattle.cep_players.specs.Going.{IsWent, IsWholeInRounds, IsDialogueWith, IsSomeDialogue};
 ghost use Rattle.cep_players.specs.Said.{IsSaidInRounds, IsSomeSaidInRounds};
@@ -17,7 +18,6 @@ use crate::laws::{
     dialogues_in_rounds_are_said, dialogues_in_rounds_are_there, players_are_lawful,
 };
 use crate::round::round;
-use crate::turn::turn;
 use cep_base::{Console, ConsoleFault, Steps};
 use cep_lines::EndWord;
 use cep_machine::Config;
@@ -25,7 +25,7 @@ use cep_rule::{Matcher, Program};
 use cep_run::Settings;
 use cep_run::deciding::Spent;
 use cep_run::dialogue::{begin, finish};
-use cep_run::turn::{Ended, Turned};
+use cep_run::turn::{Ended, Turned, asked_turn};
 use std::alloc::Global;
 use std::sync::ledger::Ledger;
 
@@ -79,7 +79,6 @@ fn dialogue<M: Matcher, C: Console, L: Ledger>(
     ensures counted { steps.old ≤ steps.new }
     ensures cause { ConsoleCause (C.faults console.old) (C.faults console.new) result }
 {
-    players_are_lawful();
     dialogues_in_rounds_are_there();
     program.parts();
     let config = Config::<M>::begin(alloc, program, settings.height, steps)?;
@@ -113,7 +112,6 @@ fn all_parts<C: Console, M: Matcher, L: Ledger>(
     ensures counted { steps.old ≤ steps.new }
     ensures cause { ConsoleCause (C.faults console.old) (C.faults console.new) result }
 {
-    players_are_lawful();
     let mut config = start;
     let mut spent = Spent::nothing(settings.seed);
     loop {
@@ -169,10 +167,28 @@ fn part<C: Console, M: Matcher, L: Ledger>(
             alloc, program, settings, players, config, group, console, spent, steps,
         )
     } else {
-        turn(
-            alloc, program, settings, players, config, group, console, spent, steps,
+        players_are_lawful();
+        program.parts();
+        asked_turn(
+            alloc,
+            program,
+            settings,
+            config,
+            group,
+            first_line(),
+            console,
+            spent,
+            steps,
         )
     }
+}
+
+// The line that asks the first player.
+#[tactic(auto, using(std::proofs::lemmas::Fmt::decimal_digit), unfolding(crate::specs::Dialogues::choose_line))]
+fn first_line() -> &'static [u8]
+    ensures { result.now ≡ choose_line 1 }
+{
+    b"? choose 1\n"
 }
 
 // All players choose at once: the stage is interactive, and the group is that of its own rules.

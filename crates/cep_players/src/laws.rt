@@ -32,9 +32,7 @@ use cep_round::laws::{
 use cep_rule::laws::{
     one_list_of_offers, one_state_after_a_step, steps_lead_to_states, what_is_needed_is_there,
 };
-use cep_run::laws::{
-    offers_can_be_done, one_choice_is_heard, one_run, one_turn, questions_lead_on, runs_are_there,
-};
+use cep_run::laws::{offers_can_be_done, one_choice_is_heard, questions_lead_on, runs_are_there};
 use cep_term::laws::bags_are_lawful;
 
 // What runs in rounds rest on.
@@ -129,8 +127,6 @@ pub fn one_dialogue_in_rounds()
     one_state_after_a_step();
     one_choice_is_heard();
     one_state_after_a_round();
-    one_turn();
-    one_run();
 }
 
 /// What is written of a dialogue in rounds is a transcript, if it is not too long: its log holds what

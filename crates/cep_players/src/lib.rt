@@ -7,12 +7,10 @@
 #![tactic(auto)]
 
 mod acting;
-mod asking;
 mod blocked;
 mod choices;
 mod dialogue;
 pub mod laws;
 mod round;
-mod turn;
 
 pub use dialogue::play_in_rounds;

@@ -1,22 +1,17 @@
 -- What is written of a question is remarks: lines that a transcript passes over.
-use Rattle.std.proofs.Common.{◌≡◌, ◌≢◌, ℕ, ◌+◌, ◌==◌, ◌&&◌, not, Bool, true, false, List, [], ◌∷◌, ◌++◌, length, append-nil, refl, sym, ap, ◌∙◌, subst, Option}
-use Rattle.std.specs.Prelude.{codes, decimal, IsSomeAnd}
+use Rattle.std.proofs.Common.{◌≡◌, ◌≢◌, ℕ, ◌+◌, List, [], ◌∷◌, ◌++◌, length, append-nil, refl, sym, ap, ◌∙◌, arith}
+use Rattle.std.specs.Prelude.{codes, decimal}
 use Rattle.std.specs.List.{AllByRecursion}
-use Rattle.std.proofs.lemmas.Bool.{and_parts}
 use Rattle.std.proofs.lemmas.Grind.{flat_map-append}
 use Rattle.cep_base.specs.declared.console.Event.{Event}
 use Rattle.cep_base.specs.declared.console.Event.TheVariants.{Out, In, End}
 use Rattle.cep_base.specs.Talk.{outs, ins}
 use Rattle.cep_base.proofs.Elements.{both_all, all_of}
-use Rattle.cep_term.specs.Multiset.{Multiset}
-use Rattle.cep_rule.specs.declared.rule.Rule.{Rule}
 use Rattle.cep_rule.specs.declared.parts.Parts.{Parts}
 use Rattle.cep_rule.specs.declared.offer.Offer.{Offer}
-use Rattle.cep_rule.specs.Typing.{AreValues}
-use Rattle.cep_rule.specs.Offers.{IsOffer}
 use Rattle.cep_rule.specs.Shapes.{IsOfferOf}
 use Rattle.cep_text.specs.Texts.{offer_text}
-use Rattle.cep_lines.specs.Lines.{line, offer_line, offer_lines, question}
+use Rattle.cep_lines.specs.Lines.{line, offer_line, offer_lines}
 use Rattle.cep_log.specs.Transcript.{IsPassedOver, IsOneLine}
 use Rattle.cep_log.specs.Written.{IsRemark}
 use Rattle.cep_log.specs.Holding.{AreRemarks}
@@ -24,10 +19,11 @@ use Rattle.cep_choice.specs.TypedLine.{Cut, Ended, Last, Nothing, Full, ReadsLin
 use Rattle.cep_run.specs.declared.choice.Choice.{Choice}
 use Rattle.cep_run.specs.declared.settings.Settings.{Settings}
 use Rattle.cep_run.specs.Choice.{room_after, no_line, Hears, chosen, again, no_more, no_room}
-use Rattle.cep_run.specs.Deciding.{Supply, How, Heard, Lone, Drawn, Decides}
+use Rattle.cep_run.specs.Deciding.{Supply, How, Heard, Decides}
 use Rattle.cep_step.specs.Deeds.{Position}
 use Rattle.cep_run.specs.Run.{Question, IsQuestion}
-use Rattle.cep_run.specs.Dialogue.{asked_events, question_events, written_bytes}
+use Rattle.cep_run.specs.Dialogue.{asking_line, asked_events, written_bytes}
+use Rattle.cep_run.proofs.StepLines.{applied_has_text}
 
 -- Which bytes are written
 
@@ -41,91 +37,70 @@ pub written_outs : (bytes : List ℕ) → written_bytes (outs bytes) ≡ bytes
 written_outs [] = refl
 written_outs (byte ∷ bytes) = ap (λ rest. byte ∷ rest) (written_outs bytes)
 
-written_ins : (bytes : List ℕ) → written_bytes (ins bytes) ≡ []
-written_ins [] = refl
-written_ins (byte ∷ bytes) = written_ins bytes
-
--- the reading of a line writes nothing
-reads_unwritten : (room : ℕ) (come : List ℕ) (events : List Event) (cut : Cut) (rest : List ℕ) (taken : ℕ) → ReadsLine room come events cut rest taken → written_bytes events ≡ []
-reads_unwritten room come events (Ended text) rest taken reads = ap written_bytes reads.3 ∙ written_ins (text ++ 10 ∷ [])
-reads_unwritten room come events (Last text) rest taken reads = rw (reads.5, written_both (ins text) (End ∷ []), written_ins text) refl
-reads_unwritten room come events Nothing rest taken reads = ap written_bytes reads.3
-reads_unwritten room come events (Full bytes) rest taken reads = ap written_bytes reads.3 ∙ written_ins bytes
-
--- Literals are told by a test.
-
-abbrev all_plain : List ℕ → Bool
-all_plain [] = true
-all_plain (byte ∷ bytes) = (not (byte == 10) && not (byte == 13)) && all_plain bytes
-
-not_plain : (bad byte : ℕ) → (not (bad == 10) && not (bad == 13)) ≡ false → (not (byte == 10) && not (byte == 13)) ≡ true → byte ≢ bad
-not_plain bad byte fails plain same = let both : false ≡ true = sym fails ∙ sym (ap (λ b. not (b == 10) && not (b == 13)) same) ∙ plain in cc
-
-literal : (bytes : List ℕ) → all_plain bytes ≡ true → IsOneLine bytes
-literal [] all = tt
-literal (byte ∷ bytes) all =
-    let parts = and_parts (not (byte == 10) && not (byte == 13)) (all_plain bytes) all in
-    ((not_plain 10 byte refl parts.0, not_plain 13 byte refl parts.0), literal bytes parts.1)
-
 -- Remarks
 
 pub no_remarks : (bytes : List ℕ) → bytes ≡ [] → AreRemarks bytes
 no_remarks bytes none = record { lines = []; passed = tt; written = none }
 
-both_remarks : (one other : List ℕ) → AreRemarks one → AreRemarks other → AreRemarks (one ++ other)
-both_remarks one other a b = record {
-  lines = a.lines ++ b.lines;
-  passed = both_all IsRemark a.lines b.lines a.passed b.passed;
-  written = rw (a.written, b.written, flat_map-append line a.lines b.lines) refl;
-}
+pub both_remarks : (one other : List ℕ) → AreRemarks one → AreRemarks other → AreRemarks (one ++ other)
+both_remarks one other a b = record { lines = a.lines ++ b.lines; passed = both_all IsRemark a.lines b.lines a.passed b.passed; written = rw (a.written, b.written, flat_map-append line a.lines b.lines) refl }
 
-line_remark : (text : List ℕ) → IsOneLine text → IsPassedOver text → AreRemarks (line text)
+pub said_both : (one other : List Event) → AreRemarks (written_bytes one) → AreRemarks (written_bytes other) → AreRemarks (written_bytes (one ++ other))
+said_both one other a b = rw (written_both one other) (both_remarks (written_bytes one) (written_bytes other) a b)
+
+pub said_outs : (bytes : List ℕ) → AreRemarks bytes → AreRemarks (written_bytes (outs bytes))
+said_outs bytes are = rw (written_outs bytes) are
+
+pub line_remark : (text : List ℕ) → IsOneLine text → IsPassedOver text → AreRemarks (line text)
 line_remark text one passed = record { lines = text ∷ []; passed = (record { passed = passed; one = one }, tt); written = sym (append-nil (line text)) }
 
+-- the reading of a line writes nothing
+written_ins : (bytes : List ℕ) → written_bytes (ins bytes) ≡ []
+written_ins [] = refl
+written_ins (byte ∷ bytes) = written_ins bytes
+
+reads_remarks : (room : ℕ) (come : List ℕ) (events : List Event) (cut : Cut) (rest : List ℕ) (taken : ℕ) → ReadsLine room come events cut rest taken → AreRemarks (written_bytes events)
+reads_remarks room come events (Ended text) rest taken reads = no_remarks _ (ap written_bytes reads.3 ∙ written_ins (text ++ 10 ∷ []))
+reads_remarks room come events (Last text) rest taken reads = no_remarks _ (rw (reads.5, written_both (ins text) (End ∷ []), written_ins text) refl)
+reads_remarks room come events Nothing rest taken reads = no_remarks _ (ap written_bytes reads.3)
+reads_remarks room come events (Full bytes) rest taken reads = no_remarks _ (ap written_bytes reads.3 ∙ written_ins bytes)
+
 -- what was heard, with the answers to lines that choose nothing
-heard_remarks : (n : ℕ) {come rest : List ℕ} {taken taken' : ℕ} {events : List Event} {choice : Choice} → Hears n come taken events choice rest taken' → AreRemarks (written_bytes events)
+pub heard_remarks : (n : ℕ) {come rest : List ℕ} {taken taken' : ℕ} {events : List Event} {choice : Choice} → Hears n come taken events choice rest taken' → AreRemarks (written_bytes events)
 unfolding no_line
-heard_remarks n {come} {rest} {taken} {events = events} (chosen cut text more reads is chooses many) = no_remarks _ (reads_unwritten (room_after taken) come events cut rest more reads)
+heard_remarks n {come} {rest} {taken} {events = events} (chosen cut text more reads is chooses many) = reads_remarks (room_after taken) come events cut rest more reads
 heard_remarks n {come} {taken = taken} {events = events} (again cut text between more first others reads is none hears whole) =
-    let written : written_bytes events ≡ no_line ++ written_bytes others =
-    rw (whole, written_both first (outs no_line ++ others), reads_unwritten (room_after taken) come first cut between more reads) refl in
-    subst AreRemarks (sym written) (both_remarks no_line (written_bytes others) (line_remark (codes "? no") (literal (codes "? no") refl) refl) (heard_remarks n hears))
-heard_remarks n {come} {rest} {taken} {events = events} (no_more more reads many) = no_remarks _ (reads_unwritten (room_after taken) come events Nothing rest more reads)
-heard_remarks n {come} {rest} {taken} {events = events} (no_room bytes more reads many) = no_remarks _ (reads_unwritten (room_after taken) come events (Full bytes) rest more reads)
+    rw whole (said_both first (outs no_line ++ others) (reads_remarks (room_after taken) come first cut between more reads)
+    (said_both (outs no_line) others (said_outs no_line (line_remark (codes "? no") (grind arith) refl)) (heard_remarks n hears)))
+heard_remarks n {come} {rest} {taken} {events = events} (no_more more reads many) = reads_remarks (room_after taken) come events Nothing rest more reads
+heard_remarks n {come} {rest} {taken} {events = events} (no_room bytes more reads many) = reads_remarks (room_after taken) come events (Full bytes) rest more reads
+
+-- the line that asks one player
+pub asking_remark : AreRemarks asking_line
+asking_remark = line_remark (codes "? choose") (grind arith) refl
+
+pub both_one : (one other : List ℕ) → IsOneLine one → IsOneLine other → IsOneLine (one ++ other)
+both_one one other here there = both_all (λ byte. (byte ≢ 10) × (byte ≢ 13)) one other here there
 
 module _ (program : Parts) (numbers : (number : ℕ) → IsOneLine (decimal number)) (offers_one : (offer : Offer) → IsOfferOf program offer → IsOneLine (offer_text program offer)) where
-  one_line_both : (one other : List ℕ) → IsOneLine one → IsOneLine other → IsOneLine (one ++ other)
-  one_line_both one other here there = both_all (λ byte. (byte ≢ 10) × (byte ≢ 13)) one other here there
+  -- a line with a number and an offer
+  pub numbered_remark : (word : List ℕ) (number : ℕ) (offer : Offer) → IsOneLine word → IsOfferOf program offer → IsPassedOver (word ++ decimal number ++ codes " " ++ offer_text program offer) → AreRemarks (line (word ++ decimal number ++ codes " " ++ offer_text program offer))
+  numbered_remark word number offer one is passed =
+      let start = both_one (word ++ decimal number) (codes " ") (both_one word (decimal number) one (numbers number)) (grind arith) in
+      line_remark (word ++ decimal number ++ codes " " ++ offer_text program offer) (both_one (word ++ decimal number ++ codes " ") (offer_text program offer) start (offers_one offer is)) passed
 
-  offer_remark : (place : ℕ) (offer : Offer) → IsOfferOf program offer → AreRemarks (offer_line program place offer)
-  unfolding offer_line
-  offer_remark place offer is = line_remark (codes "? " ++ decimal place ++ codes " " ++ offer_text program offer)
-      (one_line_both (codes "? " ++ decimal place ++ codes " ") (offer_text program offer)
-      (one_line_both (codes "? " ++ decimal place) (codes " ") (one_line_both (codes "? ") (decimal place) (literal (codes "? ") refl) (numbers place)) (literal (codes " ") refl))
-      (offers_one offer is))
-      refl
-
-  offers_remarks : (place : ℕ) (offers : List Offer) → AllByRecursion (IsOfferOf program) offers → AreRemarks (offer_lines program place offers)
-  unfolding offer_lines
+  pub offers_remarks : (place : ℕ) (offers : List Offer) → AllByRecursion (IsOfferOf program) offers → AreRemarks (offer_lines program place offers)
+  unfolding offer_lines offer_line
   offers_remarks place [] all = no_remarks [] refl
-  offers_remarks place (offer ∷ offers) all = both_remarks (offer_line program place offer) (offer_lines program (place + 1) offers) (offer_remark place offer all.0) (offers_remarks (place + 1) offers all.1)
+  offers_remarks place (offer ∷ offers) all = both_remarks (offer_line program place offer) (offer_lines program (place + 1) offers) (numbered_remark (codes "? ") place offer (grind arith) all.0 refl) (offers_remarks (place + 1) offers all.1)
 
-  choose_remarks : (offers : List Offer) → AllByRecursion (IsOfferOf program) offers → AreRemarks (question program offers)
-  unfolding question
-  choose_remarks offers all = both_remarks (offer_lines program 1 offers) (line (codes "? choose")) (offers_remarks 1 offers all) (line_remark (codes "? choose") (literal (codes "? choose") refl) refl)
+  asked_remarks : (asking : List ℕ) → AreRemarks asking → (seed stage group : ℕ) (offers : List Offer) (from to : Supply) (how : How) (choice : Choice) → AllByRecursion (IsOfferOf program) offers → Decides program seed stage group (length offers) from how choice to
+      → AreRemarks (written_bytes (asked_events asking program offers how))
+  asked_remarks asking are seed stage group offers from to (Heard events) choice all decides =
+      said_both (outs (offer_lines program 1 offers ++ asking)) events (said_outs _ (both_remarks (offer_lines program 1 offers) asking (offers_remarks 1 offers all) are)) (heard_remarks (length offers) decides.1)
+  asked_remarks asking are seed stage group offers from to how choice all decides = said_outs (offer_lines program 1 offers) (offers_remarks 1 offers all)
 
-  asked_remarks : (seed stage group : ℕ) (offers : List Offer) (from to : Supply) (how : How) (choice : Choice) → AllByRecursion (IsOfferOf program) offers → Decides program seed stage group (length offers) from how choice to → AreRemarks (written_bytes (asked_events program offers how))
-  asked_remarks seed stage group offers from to (Heard events) choice all decides =
-      subst AreRemarks (sym (rw (written_both (outs (question program offers)) events, written_outs (question program offers)) refl))
-      (both_remarks (question program offers) (written_bytes events) (choose_remarks offers all) (heard_remarks (length offers) decides.1))
-  asked_remarks seed stage group offers from to Lone choice all decides = subst AreRemarks (sym (written_outs (offer_lines program 1 offers))) (offers_remarks 1 offers all)
-  asked_remarks seed stage group offers from to Drawn choice all decides = subst AreRemarks (sym (written_outs (offer_lines program 1 offers))) (offers_remarks 1 offers all)
-
-  -- an offer has a rule of the program, with values for its variables
-  offer_of : (height : ℕ) (state : Multiset) (group : ℕ) (offer : Offer) → IsOffer program height state group offer → IsOfferOf program offer
-  offer_of height state group offer is = subst (λ (rule : Option Rule). IsSomeAnd rule (λ r. AreValues program.signature.cons r.kinds offer.values)) (sym is.applies.numbered) is.applies.values
-
-  pub question_remarks : (settings : Settings) (at : Position) (from : Supply) (asked : Question) (to : Supply) → IsQuestion program settings at from asked to → AreRemarks (written_bytes (question_events program asked))
-  question_remarks settings at from asked to is =
-      asked_remarks settings.seed at.spot.stage asked.group asked.offers from to asked.how asked.choice
-      (all_of (IsOfferOf program) asked.offers (λ offer there. offer_of settings.height at.spot.state asked.group offer (is.offered.no_other offer there))) is.decided
+  pub question_remarks : (asking : List ℕ) → AreRemarks asking → (settings : Settings) (at : Position) (from : Supply) (asked : Question) (to : Supply) → IsQuestion program settings at from asked to → AreRemarks (written_bytes (asked_events asking program asked.offers asked.how))
+  question_remarks asking are settings at from asked to is =
+      asked_remarks asking are settings.seed at.spot.stage asked.group asked.offers from to asked.how asked.choice
+      (all_of (IsOfferOf program) asked.offers (λ offer there. applied_has_text program settings.height at.spot.state offer (is.offered.no_other offer there).applies)) is.decided

@@ -1,17 +1,12 @@
 -- What deeds cost is counted one after another.
 use Rattle.std.proofs.Common.{ℕ, ◌+◌, List, [], ◌∷◌, ◌++◌, refl, sym, subst, arith}
-use Rattle.std.specs.Prelude.{Result, Ok, Err, IfOk, OnOk}
+use Rattle.std.specs.Prelude.{Result, Ok, Err, IfOk}
 use Rattle.std.proofs.lemmas.List.{map-append}
 use Rattle.cep_rule.specs.declared.parts.Parts.{Parts}
 use Rattle.cep_rule.specs.Matching.{RoseBy}
 use Rattle.cep_step.specs.Deeds.{Deed}
 use Rattle.cep_run.specs.Run.{Turn, deeds_of}
 use Rattle.cep_run.specs.Costs.{Beginnings, Edits, IsDeedCost, AreDeedCosts, IsRunCost}
-
--- what holds whatever the outcome was
-pub on_ok : {T E : Type 0} (r : Result T E) (P : Type 0) → P → OnOk r P
-on_ok (Ok x) P p = p
-on_ok (Err x) P p = tt
 
 -- what follows from two things that hold of an outcome
 pub both_ok : {T E : Type 0} (r : Result T E) (P Q R : T → Type 0) → ((x : T) → P x → Q x → R x) → IfOk r P → IfOk r Q → IfOk r R

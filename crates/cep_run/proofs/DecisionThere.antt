@@ -1,7 +1,7 @@
 -- Among some offers one choice or another is made, whoever decides.
-use Rattle.std.proofs.Common.{◌≡◌, ◌⊎◌, inl, inr, ℕ, ◌+◌, ◌<◌, Bool, true, false, Option, None, Some, refl, arith}
+use Rattle.std.proofs.Common.{◌≡◌, ◌⊎◌, inl, inr, ℕ, ◌+◌, ◌<◌, true, Option, refl, arith}
 use Rattle.std.specs.Prelude.{slice_get, IsSomeAnd}
-use Rattle.std.proofs.lemmas.Bool.{cases_Bool, cases_eq, cases_lt}
+use Rattle.std.proofs.lemmas.Bool.{cases_eq, cases_lt}
 use Rattle.cep_rule.specs.declared.parts.Parts.{Parts}
 use Rattle.cep_rule.specs.declared.parts.Stage.{Stage}
 use Rattle.cep_rule.specs.Stages.{own_group}
@@ -13,15 +13,8 @@ use Rattle.cep_run.specs.Deciding.{Supply, How, Heard, Lone, Drawn, IsPlayers, D
 use Rattle.cep_run.proofs.HearsThere.{hears_there}
 use Rattle.cep_run.proofs.StepThere.{ThereLaws}
 
-false_true : {b : Bool} {X : Type 0} → b ≡ false → b ≡ true → X
-false_true p q = absurd (cc)
-
-interactive_or_not : (stage : Option Stage) → IsSomeAnd stage (λ it. it.interactive ≡ true) ⊎ (IsSomeAnd stage (λ it. it.interactive ≡ true) → ⊥)
-interactive_or_not None = inr (λ none. none)
-interactive_or_not (Some stage) = elim (cases_Bool stage.interactive) [
-  | inl set ↦ inl set
-  | inr clear ↦ inr (λ set. false_true clear set)
-]
+pub interactive_or_not : (stage : Option Stage) → IsSomeAnd stage (λ it. it.interactive ≡ true) ⊎ (IsSomeAnd stage (λ it. it.interactive ≡ true) → ⊥)
+interactive_or_not stage = grind arith
 
 own_or_several : (stage group n : ℕ) → ((group ≡ own_group stage) ⊎ (1 < n)) ⊎ ((group ≡ own_group stage) ⊎ (1 < n) → ⊥)
 own_or_several stage group n = elim (cases_eq group (own_group stage)) [

@@ -12,16 +12,19 @@ use Rattle.cep_rule.specs.declared.parts.Parts.{Parts}
 use Rattle.cep_rule.specs.declared.offer.Offer.{Offer}
 use Rattle.cep_choice.specs.Draws.{generator_behind, place_drawn}
 use Rattle.cep_choice.specs.TypedLine.{Cut, Ended, Last, Nothing, Full, ReadsLine, IsLine, IsCutShort}
-use Rattle.cep_lines.specs.Lines.{question, offer_lines}
+use Rattle.cep_lines.specs.Lines.{offer_lines}
+use Rattle.cep_run.specs.declared.choice.Choice.{Choice}
 use Rattle.cep_run.specs.declared.choice.Choice.TheVariants.{Place, NoMore, NoRoom}
 use Rattle.cep_run.specs.declared.deciding.Spent.{Spent}
 use Rattle.cep_run.specs.Choice.{room_after, no_line, Hears, chosen, again, no_more, no_room}
 use Rattle.cep_run.specs.Deciding.{IsPlayers}
 use Rattle.cep_run.specs.Fronts.{BeginsSome}
 use Rattle.cep_run.specs.Begun.{PutsFront, HearsSome, AsksSome, SettlesSome}
+use Rattle.cep_run.specs.Turn.{AsksPlayer}
 use Rattle.cep_run.proofs.Hearing.{HearsFront, line_cut, answer_cut, behind_bad}
 use Rattle.cep_run.proofs.HearsThere.{chooses_or_not, HasLine, one_more, one_more-says, line_there, hears_there}
 use Rattle.cep_run.proofs.Settling.{player_settles, lone_settles, drawn_settles}
+use Rattle.cep_run.proofs.Unheard.{IsPut, Short, Joins, Maps, put_left, text_then}
 
 -- what further events complete to a front is a front
 pub front_of_front : {A B : Type 0} (P : A → List Event → B → Type 0) (from : A) (events more : List Event) → BeginsSome P from (events ++ more) → BeginsSome P from events
@@ -111,38 +114,42 @@ module _ (n : ℕ) where
 
 -- Questions
 
-module _ (program : Parts) (offers : List Offer) (taken : ℕ) where
-  -- a front of the question was put
-  pub asks_on : (come : List ℕ) (events : List Event) (rest : List ℕ) → PutsFront (question program offers) come events rest → BeginsSome (AsksSome program offers taken) come events
+module _ (text : List ℕ) (n taken : ℕ) where
+  -- the text was put, and a choice was heard
+  pub asks_after : (choice : Choice) (taken' : ℕ) → Joins (IsPut text) (λ come events rest. Hears n come taken events choice rest taken') (AsksPlayer text n taken choice taken')
+  asks_after choice taken' come first middle others rest put hears = record { heard = others; hears = rw (sym put.1) hears; whole = rw put.0 refl }
+
+  -- a front of the text was put
+  pub asks_on : Maps (PutsFront text) (Short (λ come. come) (AsksSome text n taken))
   asks_on come events rest put =
-      let whole = put_on (question program offers) come events rest put in
-      let later = hears_there (length offers) come taken in
-      let said : events ++ (whole.0 ++ later.events) ≡ outs (question program offers) ++ later.events = sym (append_assoc events whole.0 later.events) ∙ ap (λ es. es ++ later.events) whole.1 in
-      record { more = whole.0 ++ later.events; left = later.rest; whole = (later.choice, later.all, record { heard = later.events; hears = later.hears; whole = said }) }
+      let (more, written) = put_on text come events rest put in
+      let later = hears_there n come taken in
+      (record { more = more ++ later.events; left = later.rest; whole = (later.choice, later.all, record { heard = later.events; hears = later.hears; whole = rw (sym (append_assoc events more later.events), written) refl }) }, put_left text come events rest put)
 
-  -- the question was put, and a front of a choice was heard
-  pub hears_behind : (bytes come middle : List ℕ) (first others : List Event) → bytes ≡ question program offers → (first ≡ outs bytes) × (middle ≡ come) → BeginsSome (HearsSome (length offers) taken) middle others → BeginsSome (AsksSome program offers taken) come (first ++ others)
-  hears_behind bytes come middle first others is put front =
-      let whole = front.whole in
-      let said = append_assoc first others front.more ∙ ap (λ es. es ++ (others ++ front.more)) (put.0 ∙ ap outs is) in
-      record { more = front.more; left = front.left; whole = (whole.0, whole.1, record { heard = others ++ front.more; hears = subst (λ from. Hears (length offers) from taken (others ++ front.more) whole.0 front.left whole.1) put.1 whole.2; whole = said }) }
+  -- the text was put, and a front of a choice was heard
+  pub hears_behind : Joins (IsPut text) (Short (λ come. come) (HearsSome n taken)) (Short (λ come. come) (AsksSome text n taken))
+  hears_behind come first middle others rest put (begun, left) =
+      let (choice, all, hears) = begun.whole in
+      (record { more = begun.more; left = begun.left; whole = (choice, all, rw (append_assoc first others begun.more) (asks_after choice all come first middle (others ++ begun.more) begun.left put hears)) }, text_then text come first middle others rest put left)
 
-module _ (program : Parts) (seed stage group : ℕ) (offers : List Offer) (old : Spent) where
+module _ (asking : List ℕ) (program : Parts) (seed stage group : ℕ) (offers : List Offer) (old : Spent) where
   -- the player was asked
-  pub player_on : (come : List ℕ) (events : List Event) → IsPlayers program stage group (length offers) → BeginsSome (AsksSome program offers old.taken) come events → BeginsSome (SettlesSome program seed stage group offers old) come events
-  player_on come events players front =
-      let whole = front.whole in
-      record { more = front.more; left = front.left; whole = (whole.0, record old { taken = whole.1 }, player_settles program seed stage group offers old whole.1 whole.0 come (events ++ front.more) front.left players whole.2) }
+  pub player_on : IsPlayers program stage group (length offers) → Maps (Short (λ come. come) (AsksSome (offer_lines program 1 offers ++ asking) (length offers) old.taken)) (Short (λ come. come) (SettlesSome asking program seed stage group offers old))
+  player_on players come events rest (begun, left) =
+      let (choice, all, asks) = begun.whole in
+      (record { more = begun.more; left = begun.left; whole = (choice, record old { taken = all }, player_settles asking program seed stage group offers old all choice players come (events ++ begun.more) begun.left asks) }, left)
 
   -- nobody was asked
-  pub unasked_on : (come : List ℕ) (events : List Event) (rest : List ℕ) → ¬ IsPlayers program stage group (length offers) → 0 < length offers → PutsFront (offer_lines program 1 offers) come events rest → BeginsSome (SettlesSome program seed stage group offers old) come events
-  unasked_on come events rest others some put =
-      let whole = put_on (offer_lines program 1 offers) come events rest put in
-      elim (cases_lt 1 (length offers)) [
-        | inl several ↦ (
-            let place = place_drawn seed old.drawn (length offers) in
-            let new : Spent = record { taken = old.taken; drawn = old.drawn + 1; draw = generator_behind seed (old.drawn + 1) } in
-            record { more = whole.0; left = come; whole = (Place place, new, drawn_settles program seed stage group offers old new place come (events ++ whole.0) come others several refl refl (whole.1, refl)) }
-            )
-        | inr few ↦ record { more = whole.0; left = come; whole = (Place 1, old, lone_settles program seed stage group offers old old 1 come (events ++ whole.0) come others (omega (arith, some, few)) refl refl (whole.1, refl)) }
-      ]
+  pub unasked_on : ¬ IsPlayers program stage group (length offers) → 0 < length offers → Maps (PutsFront (offer_lines program 1 offers)) (Short (λ come. come) (SettlesSome asking program seed stage group offers old))
+  unasked_on others some come events rest put =
+      let (more, written) = put_on (offer_lines program 1 offers) come events rest put in (
+        elim (cases_lt 1 (length offers)) [
+          | inl several ↦ (
+              let place = place_drawn seed old.drawn (length offers) in
+              let new : Spent = record { taken = old.taken; drawn = old.drawn + 1; draw = generator_behind seed (old.drawn + 1) } in
+              record { more = more; left = come; whole = (Place place, new, drawn_settles asking program seed stage group offers old new place others several refl refl come (events ++ more) come (written, refl)) }
+              )
+          | inr few ↦ record { more = more; left = come; whole = (Place 1, old, lone_settles asking program seed stage group offers old old 1 others (omega (arith, some, few)) refl refl come (events ++ more) come (written, refl)) }
+        ],
+        put_left (offer_lines program 1 offers) come events rest put,
+      )

@@ -19,6 +19,7 @@ pub mod Asides
 pub mod Transcribed
 pub mod Saying
 pub mod Fronts
+pub mod Framed
 pub mod RunFronts
 pub mod Unread
 pub mod OfferDone

@@ -23,7 +23,7 @@ use Rattle.cep_step.specs.declared.limit.Limit.TheVariants as limit
 use Rattle.cep_step.specs.Passing.{Passes}
 use Rattle.cep_base.specs.declared.limits.TheConstants.{MOST_OFFERS}
 use Rattle.cep_run.specs.Run.{Question, Turn, Ending, IsQuestion, IsChosen, IsTurn, AreTurns, EndsAt, quiet_end, turns_end, offers_end, input_end, typed_end, atom_end, state_end, Run, unproved}
-use Rattle.cep_run.specs.Turn.{limit_word}
+use Rattle.cep_run.specs.Turn.{limit_word, IsOfferedHere}
 use Rattle.cep_run.proofs.OneReading.{one_hearing}
 use Rattle.cep_run.proofs.TurnSteps.{steps_here, counted_here}
 
@@ -104,7 +104,7 @@ module _ (one_list : (program : Parts) (height : ℕ) (state : Multiset) (group 
       record { questions = λ i. record { group = groups i; offers = offers i; how = hows i; choice = choices i }; supplies = same.supplies }
 
   -- a step leads to one spot
-  one_spot : (rule : Rule) (values : List Tree) (old one other : Spot) → StepsTo program rule values old one → StepsTo program rule values old other → one ≡ other
+  pub one_spot : (rule : Rule) (values : List Tree) (old one other : Spot) → StepsTo program rule values old one → StepsTo program rule values old other → one ≡ other
   one_spot rule values old one other is is' =
       let states = one_step program.signature rule values old.state one.state other.state is.step is'.step in
       let stages = is.stage ∙ sym is'.stage in
@@ -136,7 +136,7 @@ module _ (one_list : (program : Parts) (height : ℕ) (state : Multiset) (group 
       record { turns = λ i. record { question = questions i; deed = deeds i; left = lefts i }; afters = afters; lefts = lefts }
 
   -- a step that is done passes no limit
-  done_or_passes : {X : Type 0} (rule : Rule) (values : List Tree) (old new : Spot) (passed : Limit) → StepsTo program rule values old new → Passes program.signature rule values old.state passed → X
+  pub done_or_passes : {X : Type 0} (rule : Rule) (values : List Tree) (old new : Spot) (passed : Limit) → StepsTo program rule values old new → Passes program.signature rule values old.state passed → X
   done_or_passes rule values old new limit.Atom is passes = absurd (passes is.fit)
   done_or_passes rule values old new limit.State is passes = absurd (passes.1.2 (subst Fits (one_step program.signature rule values old.state new.state passes.1.0 is.step passes.1.1) is.fits))
 
@@ -172,12 +172,21 @@ module _ (one_list : (program : Parts) (height : ℕ) (state : Multiset) (group 
   way at from (atom_end {question = question} {offer = offer} {rule = rule} asks chosen passes) = inr (question, refl, asks, inr (inr (limit.Atom, offer, rule, refl, chosen, passes)))
   way at from (state_end {question = question} {offer = offer} {rule = rule} asks chosen passes) = inr (question, refl, asks, inr (inr (limit.State, offer, rule, refl, chosen, passes)))
 
-  -- where a question is asked, no run ends unasked
+  -- where offers are asked about, no run ends unasked
+  offered_or_ends : {X : Type 0} {at : Position} {group : ℕ} {offers : List Offer} (word : EndWord) → IsOfferedHere program settings at group offers → Unasked at word → X
+  offered_or_ends {at = at} {group = group} word is (inl quiet) = absurd (quiet_or_asked program settings.height at.spot.state at.spot.stage group quiet.1 is.asked)
+  offered_or_ends word is (inr (inl over)) = absurd (omega (arith, is.remain, over.2))
+  offered_or_ends {at = at} {group = group} {offers = offers} word is (inr (inr many)) = absurd (omega (arith, many.2.4, is.few, ap length (one_asked at group many.2.0 offers many.2.1 is.asked many.2.2 is.offered many.2.3)))
+
   asked_or_ends : {X : Type 0} (at : Position) (from : Supply) (question : Question) (to : Supply) (word : EndWord) → IsQuestion program settings at from question to → Unasked at word → X
-  asked_or_ends at from question to word is (inl quiet) = absurd (quiet_or_asked program settings.height at.spot.state at.spot.stage question.group quiet.1 is.asked)
-  asked_or_ends at from question to word is (inr (inl over)) = absurd (omega (arith, is.remain, over.2))
-  asked_or_ends at from question to word is (inr (inr many)) =
-      absurd (omega (arith, many.2.4, is.few, ap length (one_asked at question.group many.2.0 question.offers many.2.1 is.asked many.2.2 is.offered many.2.3)))
+  asked_or_ends at from question to word is ends = offered_or_ends word (record { remain = is.remain; asked = is.asked; offered = is.offered; few = is.few }) ends
+
+  -- nor does it end with no question at all
+  pub offered_or_end : {X : Type 0} {at : Position} {group : ℕ} {offers : List Offer} (from : Supply) {word : EndWord} {to : Supply} → IsOfferedHere program settings at group offers → EndsAt program settings at from word None to → X
+  offered_or_end {at = at} from {word} is ends = elim (way at from ends) [
+    | inl (none, left, unasked) ↦ offered_or_ends word is unasked
+    | inr (question, there, asks, nowhere) ↦ absurd (cc there)
+  ]
 
   one_unasked : (at : Position) (word word' : EndWord) → Unasked at word → Unasked at word' → word ≡ word'
   one_unasked at word word' (inl quiet) (inl quiet') = quiet.0 ∙ sym quiet'.0
@@ -215,7 +224,7 @@ module _ (one_list : (program : Parts) (height : ℕ) (state : Multiset) (group 
       named ∙ ap limit_word (one_limit rule offer.values at.spot.state passed passed' passes passes_too) ∙ sym named'
 
   -- where a turn is done, no run ends
-  turn_or_end : {X : Type 0} (at : Position) (from : Supply) (turn : Turn) (word : EndWord) (asked : Option Question) (to : Supply) → IsTurn program settings at from turn → EndsAt program settings at from word asked to → X
+  pub turn_or_end : {X : Type 0} (at : Position) (from : Supply) (turn : Turn) (word : EndWord) (asked : Option Question) (to : Supply) → IsTurn program settings at from turn → EndsAt program settings at from word asked to → X
   turn_or_end {X} at from turn word asked to is ends = by (way at from ends) where
     leads : Nowhere at turn.question word → X
     leads (inl none) = place_or_none turn.question.choice (is.chosen.place + 1) is.chosen.chosen none.1
@@ -248,7 +257,7 @@ module _ (one_list : (program : Parts) (height : ℕ) (state : Multiset) (group 
         supplies = same.supplies;
       }
 
-  one_end : (at : Position) (from : Supply) (word word' : EndWord) (asked asked' : Option Question) (to to' : Supply) → EndsAt program settings at from word asked to → EndsAt program settings at from word' asked' to' → SameEnd word word' asked asked' to to'
+  pub one_end : (at : Position) (from : Supply) (word word' : EndWord) (asked asked' : Option Question) (to to' : Supply) → EndsAt program settings at from word asked to → EndsAt program settings at from word' asked' to' → SameEnd word word' asked asked' to to'
   one_end at from word word' asked asked' to to' ends ends' = one_way at from word word' asked asked' to to' (way at from ends) (way at from ends')
 
   -- what is there after two runs is the same

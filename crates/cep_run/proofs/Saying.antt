@@ -1,5 +1,5 @@
 -- What is told of a run is what is said of it, by the laws of dialogues.
-use Rattle.std.proofs.Common.{◌≡◌, ℕ, ◌+◌, ◌≤◌, List, [], ◌++◌, length, map, ap, ◌∙◌, sym, arith}
+use Rattle.std.proofs.Common.{◌≡◌, ℕ, ◌+◌, ◌≤◌, List, [], length, map, ap, ◌∙◌, sym, arith}
 use Rattle.std.specs.List.{AllByRecursion}
 use Rattle.std.proofs.lemmas.List.{length-map}
 use Rattle.cep_base.specs.declared.console.Event.{Event}
@@ -10,8 +10,7 @@ use Rattle.cep_run.specs.declared.settings.Settings.{Settings}
 use Rattle.cep_run.specs.Deciding.{Supply}
 use Rattle.cep_step.specs.Deeds.{Position, start_of, Deed, AreDeeds}
 use Rattle.cep_run.specs.Run.{whole_supply, Turn, Ending, AreTurns, deeds_of, unproved}
-use Rattle.cep_run.specs.Dialogue.{Dialogue}
-use Rattle.cep_run.specs.Dialogue.{written_bytes}
+use Rattle.cep_run.specs.Dialogue.{Dialogue, written_bytes}
 use Rattle.cep_log.specs.Holding.{HoldsDeeds}
 use Rattle.cep_base.specs.declared.limits.TheConstants.{MOST_LOG}
 use Rattle.cep_rule.specs.Limits.{IsHeight}
@@ -20,7 +19,6 @@ use Rattle.cep_log.specs.declared.log.Log.{Log}
 use Rattle.cep_log.specs.Legal.{IsLegal}
 use Rattle.cep_log.specs.Transcript.{HasLog}
 use Rattle.cep_run.specs.declared.tally.Tally.{Tally}
-use Rattle.cep_run.specs.Fronts.{BeginsSome}
 use Rattle.cep_run.specs.Said.{IsSaid, IsTally, IsSomeSaid}
 use Rattle.cep_run.proofs.Runs.{IsDialogueOf, IsTold}
 
@@ -77,11 +75,8 @@ module _ (program : Parts) (settings : Settings) (one : IsOneDialogue) (to_the_b
         to_the_byte = λ plain turns' ending' events' rest' other. to_the_byte program settings come turns' turns ending' ending events' events rest' rest plain other dialogue;
       }
 
-  -- what begins some dialogue begins one that is said
-  pub some_said : (come : List ℕ) (events : List Event) → BeginsSome (IsDialogueOf program settings) come events → BeginsSome (IsSomeSaid program settings) come events
-  some_said come events front =
-      let whole = front.whole in
-      record { more = front.more; left = front.left; whole = dialogue_said (λ turns ending. Unit {0}) whole.0 whole.1 come (events ++ front.more) front.left whole.2 tt }
+  pub some_said : (come : List ℕ) (events : List Event) (rest : List ℕ) → IsDialogueOf program settings come events rest → IsSomeSaid program settings come events rest
+  some_said come events rest (turns, ending, dialogue) = dialogue_said (λ turns ending. Unit {0}) turns ending come events rest dialogue tt
 
 -- what is told is what is said, with its tally
 pub is_said : (program : Parts) (settings : Settings) (counts : List Deed → Type 0) (tally : Tally) (last : Position) → IsOneDialogue → IsOneToTheByte → AreAllDeeds → AreAllCounted → HaveLogs → IsProgram program → IsHeight settings.height

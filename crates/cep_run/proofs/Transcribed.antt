@@ -16,9 +16,9 @@ use Rattle.cep_log.specs.Holding.{AreRemarks, lines_of_deed, TellDeeds, TellRun}
 use Rattle.cep_run.specs.declared.settings.Settings.{Settings}
 use Rattle.cep_run.specs.Deciding.{Supply}
 use Rattle.cep_run.specs.Run.{Question, Turn, Ending, whole_supply, deeds_of, AreTurns}
-use Rattle.cep_run.specs.Dialogue.{question_events, last_events, turn_events, written_bytes, Dialogue}
+use Rattle.cep_run.specs.Dialogue.{asking_line, question_events, last_events, turn_events, written_bytes, Dialogue}
 use Rattle.cep_run.proofs.TurnSteps.{LeftBy, left_by}
-use Rattle.cep_run.proofs.Asides.{written_both, written_outs, no_remarks, question_remarks}
+use Rattle.cep_run.proofs.Asides.{written_both, written_outs, no_remarks, asking_remark, question_remarks}
 
 module _ (program : Parts) (numbers : (number : ℕ) → IsOneLine (decimal number)) (offers_one : (offer : Offer) → IsOfferOf program offer → IsOneLine (offer_text program offer)) (settings : Settings) where
   turns_told : (at : Position) (from : Supply) (turns : List Turn) (last : Position) (to : Supply) → AreTurns program settings at from turns last to → TellDeeds program (deeds_of turns) (written_bytes (flat_map (turn_events program) turns))
@@ -29,14 +29,14 @@ module _ (program : Parts) (numbers : (number : ℕ) → IsOneLine (decimal numb
       let rest = flat_map (turn_events program) turns in (
         written_bytes asked,
         written_bytes rest,
-        question_remarks program numbers offers_one settings at from turn.question turn.left done.0.asks,
+        question_remarks program numbers offers_one asking_line asking_remark settings at from turn.question turn.left done.0.asks,
         turns_told turn.deed.after turn.left turns last to done.1,
         rw (written_both (asked ++ outs lines) rest, written_both asked (outs lines), written_outs lines) (append_assoc (written_bytes asked) lines (written_bytes rest)),
       )
 
   last_told : (at : Position) (from : Supply) (asked : Option Question) (to : Supply) → LeftBy program settings at from asked to → AreRemarks (written_bytes (last_events program asked))
   last_told at from None to left = no_remarks [] refl
-  last_told at from (Some asked) to asks = question_remarks program numbers offers_one settings at from asked to asks
+  last_told at from (Some asked) to asks = question_remarks program numbers offers_one asking_line asking_remark settings at from asked to asks
 
   pub run_told : (come : List ℕ) (turns : List Turn) (ending : Ending) (events : List Event) (rest : List ℕ) → (said : Dialogue program settings come turns ending events rest) → TellRun program settings.height (deeds_of turns) ending.word said.run.last.spot.state (written_bytes events)
   run_told come turns ending events rest said =

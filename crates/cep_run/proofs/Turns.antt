@@ -1,7 +1,6 @@
 -- Each way through a turn is a turn of a run, or the end of one.
 use Rattle.std.proofs.Common.{◌≡◌, ℕ, zero, suc, ◌+◌, ◌*◌, ◌<◌, ◌≤◌, List, [], ◌∷◌, ◌++◌, length, append_assoc, get_or, inl, inr, refl, sym, ap, ◌∙◌, subst, arith, Option, None, Some, Bool, true, false}
-use Rattle.std.specs.Prelude.{slice_get, All, IsSomeAnd, IsTrue, ◌↔◌, nat_lt}
-use borrow.Author.Tests.{ltb-true, ltb-false}
+use Rattle.std.specs.Prelude.{slice_get, All, IsSomeAnd, IsTrue, ◌↔◌}
 use Rattle.std.specs.List.{AllByRecursion}
 use Rattle.std.proofs.lemmas.List.{append-nil, get_or_default}
 use Rattle.std.proofs.lemmas.Option.{slice_get_within, get_or_from_slice_get}
@@ -13,12 +12,10 @@ use Rattle.cep_term.specs.Multiset.{Multiset, gathered}
 use Rattle.cep_rule.specs.declared.rule.Rule.{Rule}
 use Rattle.cep_rule.specs.declared.parts.Parts.{Parts}
 use Rattle.cep_rule.specs.declared.offer.Offer.{Offer}
-use Rattle.cep_rule.specs.State.{IsState}
 use Rattle.cep_rule.specs.Instances.{full_instances, taken_by, added_by}
 use Rattle.cep_rule.specs.Offers.{Applies, AreOffers, IsOffer}
-use Rattle.cep_rule.specs.Stages.{IsAsked, IsQuiet}
+use Rattle.cep_rule.specs.Stages.{IsAsked}
 use Rattle.cep_rule.specs.Steps.{AreProofs}
-use Rattle.cep_rule.specs.Program.{IsProgram}
 use Rattle.cep_rule.specs.Typing.{AreValues}
 use Rattle.cep_rule.specs.Matching.{offers_of, AreListed, RoseBy}
 use Rattle.cep_rule.specs.Shapes.{IsOfferOf}
@@ -30,9 +27,9 @@ use Rattle.cep_machine.specs.declared.stepped.Stepped.{Stepped}
 use Rattle.cep_machine.specs.declared.stepped.Stepped.TheVariants as stepping
 use Rattle.cep_machine.specs.Stepping.{IsAskedAt, IsNext, IsStepped, RoseIfDone}
 use Rattle.cep_run.specs.declared.choice.Choice.{Choice}
-use Rattle.cep_run.specs.declared.choice.Choice.TheVariants.{Place, NoMore, NoRoom}
+use Rattle.cep_run.specs.declared.choice.Choice.TheVariants.{Place}
 use Rattle.cep_lines.specs.declared.end_word.EndWord.{EndWord}
-use Rattle.cep_lines.specs.declared.end_word.EndWord.TheVariants.{Quiet, Offers, Input, Typed}
+use Rattle.cep_lines.specs.declared.end_word.EndWord.TheVariants.{Offers}
 use Rattle.cep_run.specs.declared.settings.Settings.{Settings}
 use Rattle.cep_run.specs.declared.turn.Turned.{Turned}
 use Rattle.cep_run.specs.declared.turn.Turned.TheVariants.{Done, Over}
@@ -42,15 +39,16 @@ use Rattle.cep_rule.specs.Derivations.{ProofTree}
 use Rattle.cep_lines.specs.Lines.{deed_lines}
 use Rattle.cep_step.specs.Deeds.{Position, Deed}
 use Rattle.cep_run.specs.Costs.{Edits, IsStepCost, IsDeedCost}
-use Rattle.cep_run.specs.Run.{Question, Turn, IsQuestion, IsChosen, IsTurn, EndsAt, quiet_end, offers_end, input_end, typed_end}
-use Rattle.cep_run.specs.Dialogue.{asked_events, question_events, turn_events}
-use Rattle.cep_run.specs.Fronts.{BeginsSome, FellShort, IsRunOf}
-use Rattle.cep_run.specs.Begun.{SettlesSome, BeginsAct}
-use Rattle.cep_run.specs.Turn.{position_of, supply_with, IsPlayed, Settles, IsPlaced, ProveBacks, TellsDeed, BeginsDeed, Acts, WouldPass, limit_word, IsActed, IsMoved, RoseByAct, DoesTurn, Stops, IsTurned, config_left}
+use Rattle.cep_log.specs.Holding.{lines_of_deed}
+use Rattle.cep_run.specs.Run.{Question, Turn, IsQuestion, IsChosen, IsTurn, EndsAt, offers_end}
+use Rattle.cep_run.specs.Dialogue.{asked_events}
+use Rattle.cep_run.specs.Fronts.{BeginsSome}
+use Rattle.cep_run.specs.Begun.{SettlesSome, BeginsAct, IsQuestionOrTurn}
+use Rattle.cep_run.specs.Turn.{position_of, supply_with, IsPlayed, IsOfferedHere, Settles, IsPlaced, ProveBacks, TellsDeed, BeginsDeed, Acts, WouldPass, limit_word, IsActed, IsMoved, RoseByAct, DoesTurn, Stops, IsTurned, config_left}
 use Rattle.cep_base.proofs.Did.{did_same, did_map, did_then}
 use Rattle.cep_run.proofs.TurnSteps.{lawful_step, limit_end}
 use Rattle.cep_run.proofs.Fronts.{front_of_front}
-use Rattle.cep_run.proofs.Unheard.{left_then, settles_left, act_left}
+use Rattle.cep_run.proofs.Unheard.{Short, Joins, Maps, left_then, settles_left, act_left}
 
 none_some : {A B : Type 0} (x : A) → ◌≡◌ {A = Option A} None (Some x) → B
 none_some x e = cc
@@ -71,52 +69,42 @@ module _ (program : Parts) (height : ℕ) (state : Multiset) (group : ℕ) (offe
   is_offer : (k : ℕ) (offer : Offer) → slice_get offers k ≡ Some offer → IsOffer program height state group offer
   is_offer k offer at = are.no_other offer (k, slice_get_within offers k offer at, get_or_from_slice_get offers k offer offer at)
 
-  -- and it has a text
-  pub offer_has_text : (k : ℕ) (offer : Offer) → slice_get offers k ≡ Some offer → IsOfferOf program offer
-  offer_has_text k offer at =
-      let applies = (is_offer k offer at).applies in
-      subst (λ o. IsSomeAnd o (λ rule. AreValues program.signature.cons rule.kinds offer.values)) (sym applies.numbered) applies.values
-
+  -- and each has a text
   pub offers_have_texts : All (IsOfferOf program) offers
   offers_have_texts k d h =
       let offer = get_or offers k d in
       let applies = (are.no_other offer (k, h, get_or_default offers k offer d h)).applies in
       subst (λ o. IsSomeAnd o (λ rule. AreValues program.signature.cons rule.kinds offer.values)) (sym applies.numbered) applies.values
 
--- What a stage asks, with its offers.
-pub record IsAskedHere (program : Parts) (settings : Settings) (at : Position) (group : ℕ) (offers : List Offer) : Type 0 where
-  pub asked : IsAsked program settings.height at.spot.state at.spot.stage group
-  pub offered : AreOffers program settings.height at.spot.state group offers
-
-true_false : {A : Type 0} → false ≡ true → A
-true_false e = cc
-
--- the lists of a matcher are the offers of the group that is asked
-pub asked_here : {M : Type 0} (is_of : Parts → M → Type 0) (height_held : M → ℕ) (program : Parts) (settings : Settings) (group height : ℕ) (held : Multiset) (lists : List (List Offer)) (config : Configuration M)
-    → height ≡ settings.height → held ≡ config.state → AreListed program height held lists → group < length lists → IsAsked program height config.state config.stage group
-    → IsAskedHere program settings (position_of config) group (offers_of lists group)
-asked_here is_of height_held program settings group height held lists config high same are listed asked = record {
-  asked = subst (λ h. IsAsked program h config.state config.stage group) high asked;
-  offered = subst (λ h. AreOffers program h config.state group (offers_of lists group)) high
-      (subst (λ s. AreOffers program height s group (offers_of lists group)) same (are.each group listed));
-}
+-- what is offered here is some
+pub some_offers : {program : Parts} {settings : Settings} {at : Position} {group : ℕ} {offers : List Offer} → IsOfferedHere program settings at group offers → 0 < length offers
+some_offers here = elim here.asked [
+  | inl own ↦ let there = here.offered.each own.1.0 own.1.1 in omega (arith, there.1)
+  | inr leaving ↦ let there = here.offered.each leaving.2.0 leaving.2.1 in omega (arith, there.1)
+]
 
 -- the group that is asked has a list
 pub group_listed : (lists : List (List Offer)) (stage group : ℕ) → IsAskedIn lists stage group → 2 * stage + 1 < length lists → group < length lists
-group_listed lists stage group (inl own) low = let same = own.0 in omega arith
-group_listed lists stage group (inr leaving) low = let same = leaving.0 in omega arith
+group_listed lists stage group (inl own) low = omega (arith, own.0)
+group_listed lists stage group (inr leaving) low = omega (arith, leaving.0)
 
--- and some offer
-pub group_offers : (lists : List (List Offer)) (stage group : ℕ) → IsAskedIn lists stage group → 0 < length (offers_of lists group)
-group_offers lists stage group (inl own) = own.1
-group_offers lists stage group (inr leaving) = leaving.2
+-- what is asked, by the lists of a matcher, whatever view of it is counted
+module _ {M : Type 0} (height_held : M → ℕ) (state_held : M → Multiset) (offers_held : M → List (List Offer)) (program : Parts) (settings : Settings) (config : Configuration M) (group : ℕ)
+    (height : height_held config.matcher ≡ settings.height) (exact : AreListed program (height_held config.matcher) (state_held config.matcher) (offers_held config.matcher))
+    (same : state_held config.matcher ≡ config.state) (two : 2 * config.stage + 1 < length (offers_held config.matcher)) (listed : IsAskedIn (offers_held config.matcher) config.stage group) (asked : IsAsked program (height_held config.matcher) config.state config.stage group)
+    (remain : config.turns < settings.limit) (seen : M) (view : seen ≡ config.matcher) (ok : Bool) (counted : IsTrue ok ↔ (length (offers_of (offers_held seen) group) ≤ MOST_OFFERS)) where
+  are_offers : AreOffers program settings.height config.state group (offers_of (offers_held config.matcher) group)
+  are_offers = rw (height, same) at (exact.each group (group_listed (offers_held config.matcher) config.stage group listed two))
 
--- there are too many, or there are not
-pub too_many : (ok : Bool) (n most : ℕ) → (IsTrue ok ↔ (n ≤ most)) → ok ≡ false → most < n
-too_many ok n most iff not = elim (nat_lt most n) as (λ t. nat_lt most n ≡ t → most < n) [
-  | true ↦ λ e. ltb-true most n e
-  | false ↦ λ e. true_false (sym not ∙ iff.1 (ltb-false most n e))
-] refl
+  -- its offers are not too many
+  pub offered_here : ok ≡ true → IsOfferedHere program settings (position_of config) group (offers_of (offers_held config.matcher) group)
+  offered_here set = record { remain = remain; asked = rw height at asked; offered = are_offers; few = rw (sym view) (counted.0 set) }
+
+  -- or they are
+  pub crowds_here : ok ≡ false → (from to : Supply) → to ≡ from → EndsAt program settings (position_of config) from Offers None to
+  crowds_here clear from to unspent =
+      let many : MOST_OFFERS < length (offers_of (offers_held seen) group) = grind arith in
+      offers_end remain (rw height at asked) are_offers (rw (sym view) many) unspent
 
 -- Steps
 
@@ -290,198 +278,101 @@ over_moves program offers place old config word turned is = subst (IsMoved progr
 abbrev pub EndsBy : Parts → Settings → Position → Choice → EndWord → Type 0
 EndsBy program settings at choice word = (from : Supply) (question : Question) (to : Supply) → IsQuestion program settings at from question to → question.choice ≡ choice → EndsAt program settings at from word (Some question) to
 
-module _ (program : Parts) (settings : Settings) (at : Position) (spent : Spent) where
-  -- no rule applies
-  pub quiet_turn : (come : List ℕ) (events : List Event) (rest : List ℕ) → IsQuiet program settings.height at.spot.state at.spot.stage → (events ≡ []) × (rest ≡ come) → Stops program settings at spent Quiet spent come events rest
-  quiet_turn come events rest is same = record {
-    asked = None;
-    ends = quiet_end is (ap (λ bytes. supply_with bytes spent) same.1);
-    written = same.0;
-  }
+-- a run ends before a question
+pub ends_unasked : {C : Type 0} (talk : C → Option (List Event)) (left : C → Option (List ℕ)) (console : C) (asking : List ℕ) (program : Parts) (settings : Settings) (at : Position) (spent : Spent) (word : EndWord)
+    → ((from to : Supply) → to ≡ from → EndsAt program settings at from word None to) → Did talk left console console (Stops asking program settings at spent word spent)
+ends_unasked talk left console asking program settings at spent word ends = did_map talk left console console _ _
+    (λ come events rest same. record { asked = None; ends = ends (supply_with come spent) (supply_with rest spent) (ap (λ bytes. supply_with bytes spent) same.1); written = same.0 }) (did_same talk left console console refl refl)
 
-  module _ (group : ℕ) (offers : List Offer) (here : IsAskedHere program settings at group offers) (remain : at.turns < settings.limit) where
-    -- the offers are too many
-    pub crowded_turn : MOST_OFFERS < length offers → (come : List ℕ) (events : List Event) (rest : List ℕ) → (events ≡ []) × (rest ≡ come) → Stops program settings at spent Offers spent come events rest
-    crowded_turn many come events rest same = record {
-      asked = None;
-      ends = offers_end remain here.asked here.offered many (ap (λ bytes. supply_with bytes spent) same.1);
-      written = same.0;
-    }
+module _ (asking : List ℕ) {program : Parts} {settings : Settings} {at : Position} {group : ℕ} {offers : List Offer} (here : IsOfferedHere program settings at group offers) (spent : Spent) where
+  abbrev Settled : Choice → Spent → List ℕ → List Event → List ℕ → Type 0
+  Settled choice spent' = Settles asking program settings.seed at.spot.stage group offers spent choice spent'
 
-    module _ (few : length offers ≤ MOST_OFFERS) (spent' : Spent) where
-      -- a question that was decided
-      abbrev answered : How → Choice → Question
-      answered how choice = record { group = group; offers = offers; how = how; choice = choice }
+  -- what is said of a question or a turn, or a prefix of it
+  abbrev Begins : List ℕ → List Event → List ℕ → Type 0
+  Begins = Short (λ come. supply_with come spent) (IsQuestionOrTurn asking program settings at)
 
-      module _ (come rest : List ℕ) (choice : Choice) (events : List Event) (settles : Settles program settings.seed at.spot.stage group offers spent choice spent' come events rest) where
-        is_answered : IsQuestion program settings at (supply_with come spent) (answered settles.how choice) (supply_with rest spent')
-        is_answered = record { remain = remain; asked = here.asked; offered = here.offered; few = few; decided = settles.decides }
+  -- a question that was decided
+  abbrev answered : How → Choice → Question
+  answered how choice = record { group = group; offers = offers; how = how; choice = choice }
 
-        -- the choice is not made
-        pub unmade_turn : (word : EndWord) → EndsBy program settings at choice word → Stops program settings at spent word spent' come events rest
-        unmade_turn word ends = record { asked = Some (answered settles.how choice); ends = ends (supply_with come spent) (answered settles.how choice) (supply_with rest spent') is_answered refl; written = settles.whole }
+  is_answered : (choice : Choice) (spent' : Spent) (come : List ℕ) (events : List Event) (rest : List ℕ) (settles : Settled choice spent' come events rest) → IsQuestion program settings at (supply_with come spent) (answered settles.how choice) (supply_with rest spent')
+  is_answered choice spent' come events rest settles = record { remain = here.remain; asked = here.asked; offered = here.offered; few = here.few; decided = settles.decides }
 
-      module _ (place : ℕ) (come between rest : List ℕ) (first second : List Event) (settles : Settles program settings.seed at.spot.stage group offers spent (Place (place + 1)) spent' come first between) where
-        untaken : rest ≡ between → IsQuestion program settings at (supply_with come spent) (answered settles.how (Place (place + 1))) (supply_with rest spent')
-        untaken same = subst (λ bytes. IsQuestion program settings at (supply_with come spent) (answered settles.how (Place (place + 1))) (supply_with bytes spent')) (sym same) (is_answered come between (Place (place + 1)) first settles)
+  -- the choice is not made
+  pub unmade_turn : (choice : Choice) (word : EndWord) (spent' : Spent) → EndsBy program settings at choice word → Maps (Settled choice spent') (Stops asking program settings at spent word spent')
+  unmade_turn choice word spent' ends come events rest settles = record { asked = Some (answered settles.how choice); ends = ends _ (answered settles.how choice) _ (is_answered choice spent' come events rest settles) refl; written = settles.whole }
 
-        is_chosen : (offer : Offer) (rule : Rule) → IsPlaced program offers place offer rule → IsChosen program (answered settles.how (Place (place + 1))) offer rule
-        is_chosen offer rule placed = record { place = place; chosen = refl; at_place = placed.at_place; of_rule = placed.of_rule }
+  -- the decision was refused
+  pub decision_refused : Maps (Short (λ come. come) (SettlesSome asking program settings.seed at.spot.stage group offers spent)) Begins
+  decision_refused come events rest (begun, left) =
+      let (choice, spent', settles) = begun.whole in
+      (record { more = begun.more; left = supply_with begun.left spent'; whole = inl (answered settles.how choice, is_answered choice spent' come (events ++ begun.more) begun.left settles, settles.whole) }, left)
 
-        -- one turn is done
-        pub done_turn : (counts : Deed → Type 0) (new : Position) → new.turns ≡ at.turns + 1 → (acts : Acts program settings.height offers place at new between second rest) → counts (record { before = at; offer = acts.offer; rule = acts.rule; proofs = acts.proofs; after = new })
-            → DoesTurn program settings counts offers at spent new spent' come (first ++ second) rest
-        done_turn counts new counted acts counts_it = record {
-          turn = record { question = answered settles.how (Place (place + 1)); deed = record { before = at; offer = acts.offer; rule = acts.rule; proofs = acts.proofs; after = new }; left = supply_with rest spent' };
-          is = record {
-            here = refl;
-            asks = untaken acts.untaken;
-            chosen = is_chosen acts.offer acts.rule acts.placed;
-            does = record {
-              step = lawful_step program settings at (supply_with come spent) (answered settles.how (Place (place + 1))) (supply_with rest spent') (untaken acts.untaken) acts.offer acts.rule acts.proofs new.spot (is_chosen acts.offer acts.rule acts.placed) acts.proved acts.steps;
-              counted = counted;
-            };
-          };
+  module _ (spent' : Spent) (place : ℕ) (come : List ℕ) (first : List Event) (between : List ℕ) (second : List Event) (rest : List ℕ) (settles : Settled (Place (place + 1)) spent' come first between) where
+    abbrev placed_for : Question
+    placed_for = answered settles.how (Place (place + 1))
+
+    asks : rest ≡ between → IsQuestion program settings at (supply_with come spent) placed_for (supply_with rest spent')
+    asks same = rw same (is_answered (Place (place + 1)) spent' come first between settles)
+
+    is_chosen : {offer : Offer} {rule : Rule} → IsPlaced program offers place offer rule → IsChosen program placed_for offer rule
+    is_chosen placed = record { place = place; chosen = refl; at_place = placed.at_place; of_rule = placed.of_rule }
+
+    -- one turn is done
+    done_turn : (counts : Deed → Type 0) (new : Position) → new.turns ≡ at.turns + 1 → (acts : Acts program settings.height offers place at new between second rest) → counts (record { before = at; offer = acts.offer; rule = acts.rule; proofs = acts.proofs; after = new })
+        → DoesTurn asking program settings counts offers at spent new spent' come (first ++ second) rest
+    done_turn counts new counted acts counts_it =
+        let step = lawful_step program settings at _ placed_for _ (asks acts.untaken) acts.offer acts.rule acts.proofs new.spot (is_chosen acts.placed) acts.proved acts.steps in
+        record {
+          turn = record { question = placed_for; deed = record { before = at; offer = acts.offer; rule = acts.rule; proofs = acts.proofs; after = new }; left = supply_with rest spent' };
+          is = record { here = refl; asks = asks acts.untaken; chosen = is_chosen acts.placed; does = record { step = step; counted = counted } };
           after = refl;
           left = refl;
           listed = refl;
           counted = counts_it;
-          written = ap (λ es. es ++ second) settles.whole ∙ ap (λ es. asked_events program offers settles.how ++ es) acts.written;
+          written = rw (settles.whole, acts.written) refl;
         }
 
-        -- the step passes a limit
-        pub failed_turn : (word : EndWord) → WouldPass program offers place word at between second rest → Stops program settings at spent word spent' come (first ++ second) rest
-        failed_turn word fails = record {
-          asked = Some (answered settles.how (Place (place + 1)));
-          ends = subst (λ (w : EndWord). EndsAt program settings at (supply_with come spent) w (Some (answered settles.how (Place (place + 1)))) (supply_with rest spent')) (sym fails.named)
-              (limit_end program settings at (supply_with come spent) (supply_with rest spent') (answered settles.how (Place (place + 1))) fails.offer fails.rule (untaken fails.untaken) (is_chosen fails.offer fails.rule fails.placed) fails.passed fails.passes);
-          written = ap (λ es. first ++ es) fails.unwritten ∙ append-nil first ∙ settles.whole;
-        }
+    -- the step passes a limit
+    failed_turn : (word : EndWord) → WouldPass program offers place word at between second rest → Stops asking program settings at spent word spent' come (first ++ second) rest
+    failed_turn word fails = record {
+      asked = Some placed_for;
+      ends = rw fails.named (limit_end program settings at _ _ placed_for fails.offer fails.rule (asks fails.untaken) (is_chosen fails.placed) fails.passed fails.passes);
+      written = rw (fails.unwritten, append-nil first) settles.whole;
+    }
 
--- That what a question says, and what a turn says, begins some run, told for any.
-abbrev pub QuestionsGoOn : Type 0
-QuestionsGoOn =
-    (program : Parts) (settings : Settings) (at : Position) (from : Supply) (question : Question) (to : Supply)
-    → IsProgram program → IsState program.signature at.spot.state → IsQuestion program settings at from question to → BeginsSome (IsRunOf program settings at) from (question_events program question)
+  -- the step was refused
+  act_begins : (spent' : Spent) (place : ℕ) (come : List ℕ) (first : List Event) (between : List ℕ) (second : List Event) (rest : List ℕ) → Settled (Place (place + 1)) spent' come first between → BeginsAct program settings.height offers place at between second rest
+      → BeginsSome (IsQuestionOrTurn asking program settings at) (supply_with come spent) (first ++ second)
+  act_begins spent' place come first between second rest settles (inl nothing) =
+      record { more = []; left = supply_with between spent'; whole = rw (nothing.0, append-nil first, append-nil first) (inl (answered settles.how (Place (place + 1)), is_answered (Place (place + 1)) spent' come first between settles, settles.whole)) }
+  act_begins spent' place come first between second rest settles (inr on) =
+      let does = done_turn spent' place come first between (second ++ on.more) rest settles (λ deed. Unit {0}) on.next on.counted on.acts tt in
+      record { more = on.more; left = does.turn.left; whole = inr (does.turn, does.is, append_assoc first second on.more ∙ does.written) }
 
-abbrev pub TurnsGoOn : Type 0
-TurnsGoOn =
-    (program : Parts) (settings : Settings) (at : Position) (from : Supply) (turn : Turn)
-    → IsProgram program → IsState program.signature at.spot.state → IsTurn program settings at from turn → BeginsSome (IsRunOf program settings at) from (turn_events program turn)
+  pub act_refused : (spent' : Spent) (place : ℕ) → Joins (Settled (Place (place + 1)) spent') (BeginsAct program settings.height offers place at) Begins
+  act_refused spent' place come first between second rest settles begun = (
+    act_begins spent' place come first between second rest settles begun,
+    left_then come first between second rest (settles_left asking program settings.seed at.spot.stage group offers spent (Place (place + 1)) spent' come first between settles) (act_left program settings.height offers place at between second rest begun),
+  )
 
--- what was said before a turn was refused begins some run
-module _ (program : Parts) (settings : Settings) (kept : IsProgram program) (at : Position) (is_state : IsState program.signature at.spot.state) (spent : Spent) (group : ℕ) (offers : List Offer) (here : IsAskedHere program settings at group offers)
-    (remain : at.turns < settings.limit) (few : length offers ≤ MOST_OFFERS) where
-  decision_begins : QuestionsGoOn → (come : List ℕ) (events : List Event) → BeginsSome (SettlesSome program settings.seed at.spot.stage group offers spent) come events → BeginsSome (IsRunOf program settings at) (supply_with come spent) events
-  decision_begins questions come events front =
-      let choice = front.whole.0 in
-      let new = front.whole.1 in
-      let settles = front.whole.2 in
-      let asks = is_answered program settings at spent group offers here remain few new come front.left choice (events ++ front.more) settles in
-      let on = questions program settings at (supply_with come spent) (answered program settings at spent group offers here remain few new settles.how choice) (supply_with front.left new) kept is_state asks in
-      front_of_front (IsRunOf program settings at) (supply_with come spent) events front.more (subst (BeginsSome (IsRunOf program settings at) (supply_with come spent)) (sym settles.whole) on)
-
-  act_begins : QuestionsGoOn → TurnsGoOn → (spent' : Spent) (place : ℕ) (come : List ℕ) (first : List Event) (between : List ℕ) (second : List Event) (rest : List ℕ) → Settles program settings.seed at.spot.stage group offers spent (Place (place + 1)) spent' come first between
-      → BeginsAct program settings.height offers place at between second rest → BeginsSome (IsRunOf program settings at) (supply_with come spent) (first ++ second)
-  act_begins questions turns spent' place come first between second rest settles (inl nothing) =
-      let whole = subst (λ es. Settles program settings.seed at.spot.stage group offers spent (Place (place + 1)) spent' come es between) (sym (append-nil first)) settles in
-      subst (BeginsSome (IsRunOf program settings at) (supply_with come spent)) (sym (append-nil first) ∙ ap (λ es. first ++ es) (sym nothing.0))
-      (decision_begins questions come first (record { more = []; left = between; whole = (Place (place + 1), spent', whole) }))
-  act_begins questions turns spent' place come first between second rest settles (inr on) =
-      let done = done_turn program settings at spent group offers here remain few spent' place come between rest first (second ++ on.more) settles (λ deed. Unit {0}) on.next on.counted on.acts tt in
-      let begins = turns program settings at (supply_with come spent) done.turn kept is_state done.is in
-      front_of_front (IsRunOf program settings at) (supply_with come spent) (first ++ second) on.more
-      (subst (BeginsSome (IsRunOf program settings at) (supply_with come spent)) (sym (append_assoc first second on.more ∙ done.written)) begins)
+-- what a question or a turn says begins a whole, if each does
+pub whole_begun : {B : Type 0} (P : Supply → List Event → B → Type 0) (asking : List ℕ) (program : Parts) (settings : Settings) (at : Position) (spent : Spent)
+    → ((from : Supply) (question : Question) (to : Supply) → IsQuestion program settings at from question to → BeginsSome P from (asked_events asking program question.offers question.how))
+    → ((from : Supply) (turn : Turn) → IsTurn program settings at from turn → BeginsSome P from (asked_events asking program turn.question.offers turn.question.how ++ outs (lines_of_deed program turn.deed)))
+    → Maps (Short (λ come. supply_with come spent) (IsQuestionOrTurn asking program settings at)) (Short (λ come. supply_with come spent) P)
+whole_begun P asking program settings at spent questions turns come events rest (begun, left) = (front_of_front P (supply_with come spent) events begun.more (by begun.whole), left) where
+  by : IsQuestionOrTurn asking program settings at (supply_with come spent) (events ++ begun.more) begun.left → BeginsSome P (supply_with come spent) (events ++ begun.more)
+  by (inl (question, asks, said)) = rw said (questions (supply_with come spent) question begun.left asks)
+  by (inr (turn, is, said)) = rw said (turns (supply_with come spent) turn is)
 
 -- what the choice of a place comes to is what the turn comes to
-module _ {C M : Type 0} (talk : C → Option (List Event)) (left : C → Option (List ℕ)) (old between new : C) (program : Parts) (settings : Settings) (config : Configuration M) (spent spent' : Spent) (place group : ℕ) (offers : List Offer)
-    (here : IsAskedHere program settings (position_of config) group offers) (remain : config.turns < settings.limit) (few : length offers ≤ MOST_OFFERS)
-    (settled : Did talk left old between (Settles program settings.seed config.stage group offers spent (Place (place + 1)) spent')) where
-  pub chosen_turn : (may_edit : Edits) (steps steps' : ℕ) (turned : Turned M) → IsActed talk left between new program settings.height offers place config turned → RoseByAct may_edit program settings.height offers place config turned steps steps'
-      → IsTurned talk left old new program settings (λ deed. RoseBy (IsDeedCost may_edit program settings.height deed) steps steps') (steps' ≡ steps) offers config spent spent' turned
-  chosen_turn may_edit steps steps' (Done next) acted rose = (
-    did_then talk left old between new _ _ _
-        (λ come first middle others rest settles acts. done_turn program settings (position_of config) spent group offers here remain few spent' place come middle rest first others settles (λ deed. RoseBy (IsDeedCost may_edit program settings.height deed) steps steps') (position_of next) acted.1 acts (rose acts.offer acts.rule acts.placed))
-        settled acted.0,
-    acted.1,
-    few,
-  )
-  chosen_turn may_edit steps steps' (Over last) acted rose = (
-    did_then talk left old between new _ _ _ (λ come first middle others rest settles fails. failed_turn program settings (position_of config) spent group offers here remain few spent' place come middle rest first others settles last.word fails) settled acted.0,
-    acted.1,
-    rose,
-  )
-
--- What a configuration asks, by its matcher: the lists that are held are those of the group, whatever view of the matcher they are taken from.
-module _ {M : Type 0} (is_of : Parts → M → Type 0) (height_held : M → ℕ) (state_held : M → Multiset) (offers_held : M → List (List Offer)) (program : Parts) (settings : Settings) (config : Configuration M) (group : ℕ)
-    (played : IsPlayed is_of height_held program settings config)
-    (lists : AreListed program (height_held config.matcher) (state_held config.matcher) (offers_held config.matcher)) (same_state : state_held config.matcher ≡ config.state)
-    (low : 2 * config.stage + 1 < length (offers_held config.matcher)) (asked_in : IsAskedIn (offers_held config.matcher) config.stage group)
-    (asked : IsAsked program (height_held config.matcher) config.state config.stage group)
-    (listing : List Offer) (list : offers_of (offers_held config.matcher) group ≡ listing) where
-  pub asks_here : IsAskedHere program settings (position_of config) group (offers_of (offers_held config.matcher) group)
-  asks_here = asked_here is_of height_held program settings group (height_held config.matcher) (state_held config.matcher) (offers_held config.matcher) config played.height same_state lists (group_listed (offers_held config.matcher) config.stage group asked_in low) asked
-
-  module _ (remain : config.turns < settings.limit) {C : Type 0} (talk : C → Option (List Event)) (left : C → Option (List ℕ)) (console : C) (spent : Spent) where
-    -- the offers are too many, as this view of the matcher has it
-    pub crowds_here : (counts : Deed → Type 0) (uncounted : Type 0) → uncounted → (seen : M) → seen ≡ config.matcher → (ok : Bool) → (IsTrue ok ↔ (length (offers_of (offers_held seen) group) ≤ MOST_OFFERS)) → ok ≡ false → (turned : Turned M) → turned ≡ Over (record { config = config; word = Offers }) → IsTurned talk left console console program settings counts uncounted listing config spent spent turned
-    crowds_here counts uncounted still seen view ok iff not turned is =
-        let many : MOST_OFFERS < length (offers_of (offers_held config.matcher) group) = subst (λ m. MOST_OFFERS < length (offers_of (offers_held m) group)) view (too_many ok _ MOST_OFFERS iff not) in
-        subst (λ t. IsTurned talk left console console program settings counts uncounted listing config spent spent t) (sym is) (
-          did_map talk left console console _ _ (λ come events rest same. crowded_turn program settings (position_of config) spent group (offers_of (offers_held config.matcher) group) asks_here remain many come events rest same) (did_same talk left console console refl refl),
-          refl,
-          still,
-        )
-
-    -- a choice was decided
-    module _ (settled_on : C) (spent' : Spent) (seen : M) (view : seen ≡ config.matcher) (few : length (offers_of (offers_held seen) group) ≤ MOST_OFFERS) where
-      few_here : length (offers_of (offers_held config.matcher) group) ≤ MOST_OFFERS
-      few_here = subst (λ m. length (offers_of (offers_held m) group) ≤ MOST_OFFERS) view few
-
-      settled_here : (choice choice' : Choice) → choice ≡ choice' → Did talk left console settled_on (Settles program settings.seed config.stage group (offers_of (offers_held config.matcher) group) spent choice spent')
-          → Did talk left console settled_on (Settles program settings.seed config.stage group (offers_of (offers_held config.matcher) group) spent choice' spent')
-      settled_here choice choice' same settled = subst (λ (it : Choice). Did talk left console settled_on (Settles program settings.seed config.stage group (offers_of (offers_held config.matcher) group) spent it spent')) same settled
-
-      unmade_here : (counts : Deed → Type 0) (uncounted : Type 0) → uncounted → (word : EndWord) (choice choice' : Choice) → choice ≡ choice' → Did talk left console settled_on (Settles program settings.seed config.stage group (offers_of (offers_held config.matcher) group) spent choice spent')
-          → EndsBy program settings (position_of config) choice' word → (turned : Turned M) → turned ≡ Over (record { config = config; word = word }) → IsTurned talk left console settled_on program settings counts uncounted listing config spent spent' turned
-      unmade_here counts uncounted still word choice choice' same settled ends turned is =
-          subst (λ t. IsTurned talk left console settled_on program settings counts uncounted listing config spent spent' t) (sym is) (
-            did_map talk left console settled_on _ _ (λ come events rest settles. unmade_turn program settings (position_of config) spent group (offers_of (offers_held config.matcher) group) asks_here remain few_here spent' come rest choice' events settles word ends) (settled_here choice choice' same settled),
-            refl,
-            still,
-          )
-
-      pub no_more_here : (counts : Deed → Type 0) (uncounted : Type 0) → uncounted → (choice : Choice) → choice ≡ NoMore → Did talk left console settled_on (Settles program settings.seed config.stage group (offers_of (offers_held config.matcher) group) spent choice spent')
-          → (turned : Turned M) → turned ≡ Over (record { config = config; word = Input }) → IsTurned talk left console settled_on program settings counts uncounted listing config spent spent' turned
-      no_more_here counts uncounted still choice same settled turned is = unmade_here counts uncounted still Input choice NoMore same settled (λ from question to asks none. input_end asks none) turned is
-
-      pub no_room_here : (counts : Deed → Type 0) (uncounted : Type 0) → uncounted → (choice : Choice) → choice ≡ NoRoom → Did talk left console settled_on (Settles program settings.seed config.stage group (offers_of (offers_held config.matcher) group) spent choice spent')
-          → (turned : Turned M) → turned ≡ Over (record { config = config; word = Typed }) → IsTurned talk left console settled_on program settings counts uncounted listing config spent spent' turned
-      no_room_here counts uncounted still choice same settled turned is = unmade_here counts uncounted still Typed choice NoRoom same settled (λ from question to asks full. typed_end asks full) turned is
-
-      pub chosen_here : (may_edit : Edits) (steps steps' : ℕ) (place : ℕ) (choice : Choice) → choice ≡ Place (place + 1) → Did talk left console settled_on (Settles program settings.seed config.stage group (offers_of (offers_held config.matcher) group) spent choice spent')
-          → (new : C) (turned : Turned M) → IsActed talk left settled_on new program settings.height (offers_of (offers_held config.matcher) group) place config turned
-          → RoseByAct may_edit program settings.height (offers_of (offers_held config.matcher) group) place config turned steps steps'
-          → IsTurned talk left console new program settings (λ deed. RoseBy (IsDeedCost may_edit program settings.height deed) steps steps') (steps' ≡ steps) listing config spent spent' turned
-      chosen_here may_edit steps steps' place choice same settled new turned acted rose =
-          subst (λ offers. IsTurned talk left console new program settings (λ deed. RoseBy (IsDeedCost may_edit program settings.height deed) steps steps') (steps' ≡ steps) offers config spent spent' turned) list
-          (chosen_turn talk left console settled_on new program settings config spent spent' place group (offers_of (offers_held config.matcher) group) asks_here remain few_here (settled_here choice (Place (place + 1)) same settled) may_edit steps steps' turned acted rose)
-
-      -- the decision was refused, or its step
-      module _ (questions : QuestionsGoOn) (kept : IsProgram program) (is_state : IsState program.signature config.state) where
-        pub decision_refused : FellShort talk left console settled_on (λ come. come) (SettlesSome program settings.seed config.stage group (offers_of (offers_held config.matcher) group) spent)
-            → FellShort talk left console settled_on (λ come. supply_with come spent) (IsRunOf program settings (position_of config))
-        decision_refused begun =
-            did_map talk left console settled_on _ _ (λ come events rest front. (decision_begins program settings kept (position_of config) is_state spent group (offers_of (offers_held config.matcher) group) asks_here remain few_here questions come events front.0, front.1)) begun
-
-        pub act_refused : TurnsGoOn → (place : ℕ) (choice : Choice) → choice ≡ Place (place + 1) → Did talk left console settled_on (Settles program settings.seed config.stage group (offers_of (offers_held config.matcher) group) spent choice spent')
-            → (new : C) → Did talk left settled_on new (BeginsAct program settings.height (offers_of (offers_held config.matcher) group) place (position_of config))
-            → FellShort talk left console new (λ come. supply_with come spent) (IsRunOf program settings (position_of config))
-        act_refused turns place choice same settled new begun =
-            did_then talk left console settled_on new _ _ _
-            (λ come first middle others rest settles front. (
-              act_begins program settings kept (position_of config) is_state spent group (offers_of (offers_held config.matcher) group) asks_here remain few_here questions turns spent' place come first middle others rest settles front,
-              left_then come first middle others rest (settles_left program settings.seed config.stage group (offers_of (offers_held config.matcher) group) spent (Place (place + 1)) spent' come first middle settles)
-                  (act_left program settings.height (offers_of (offers_held config.matcher) group) place (position_of config) middle others rest front),
-            ))
-            (settled_here choice (Place (place + 1)) same settled) begun
+pub turn_acted : {C M : Type 0} (talk : C → Option (List Event)) (left : C → Option (List ℕ)) (old between new : C) (asking : List ℕ) {program : Parts} {settings : Settings} (config : Configuration M) {group : ℕ} {offers : List Offer} (here : IsOfferedHere program settings (position_of config) group offers)
+    (spent spent' : Spent) (place : ℕ) → Did talk left old between (Settles asking program settings.seed config.stage group offers spent (Place (place + 1)) spent') → (may_edit : Edits) (steps steps' : ℕ) (turned : Turned M) → IsActed talk left between new program settings.height offers place config turned
+    → RoseByAct may_edit program settings.height offers place config turned steps steps' → IsTurned talk left old new asking program settings (λ deed. RoseBy (IsDeedCost may_edit program settings.height deed) steps steps') (steps' ≡ steps) offers config spent spent' turned
+turn_acted talk left old between new asking {program} {settings} config here spent spent' place settled may_edit steps steps' (Done next) (acted, counted) rose =
+    let counts = λ (deed : Deed). RoseBy (IsDeedCost may_edit program settings.height deed) steps steps' in
+    (did_then talk left old between new _ _ _ (λ come first middle second rest settles acts. done_turn asking here spent spent' place come first middle second rest settles counts (position_of next) counted acts (rose acts.offer acts.rule acts.placed)) settled acted, counted, here.few)
+turn_acted talk left old between new asking config here spent spent' place settled may_edit steps steps' (Over last) (acted, same) rose =
+    (did_then talk left old between new _ _ _ (λ come first middle second rest settles. failed_turn asking here spent spent' place come first middle second rest settles last.word) settled acted, same, rose)

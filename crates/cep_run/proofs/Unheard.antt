@@ -8,7 +8,7 @@ use Rattle.cep_rule.specs.declared.parts.Parts.{Parts}
 use Rattle.cep_rule.specs.declared.offer.Offer.{Offer}
 use Rattle.cep_choice.specs.TypedLine.{Cut, Ended, Last, Nothing, Full, ReadsLine}
 use Rattle.cep_lines.specs.declared.end_word.EndWord.{EndWord}
-use Rattle.cep_lines.specs.Lines.{question, deed_lines, offer_lines}
+use Rattle.cep_lines.specs.Lines.{deed_lines, offer_lines}
 use Rattle.cep_log.specs.Holding.{lines_of_deed}
 use Rattle.cep_run.specs.declared.choice.Choice.{Choice}
 use Rattle.cep_run.specs.declared.deciding.Spent.{Spent}
@@ -17,12 +17,25 @@ use Rattle.cep_run.specs.Choice.{room_after, no_line, Hears, chosen, again, no_m
 use Rattle.cep_run.specs.Deciding.{Supply, How, Heard, Lone, Drawn, Decides}
 use Rattle.cep_step.specs.Deeds.{Position, Deed}
 use Rattle.cep_run.specs.Run.{whole_supply, Question, Turn, IsQuestion, IsTurn, AreTurns}
-use Rattle.cep_run.specs.Dialogue.{asked_events, question_events, last_events, turn_events}
-use Rattle.cep_run.specs.Fronts.{heard_bytes, LeavesUnheard}
+use Rattle.cep_run.specs.Dialogue.{asking_line, asked_events, last_asked, last_events, turn_events}
+use Rattle.cep_run.specs.Fronts.{BeginsSome, heard_bytes, LeavesUnheard}
 use Rattle.cep_run.specs.Begun.{PutsFront, BeginsAct}
 use Rattle.cep_run.specs.Turn.{Settles, SoFar, IsWholeRun}
 use Rattle.cep_run.proofs.TurnSteps.{LeftBy, left_by}
 use Rattle.cep_run.proofs.Hearing.{HearsFront, line_cut, answer_cut, behind_bad}
+
+-- What is said: a text; a prefix of what P tells of, after which nothing that was heard is left; and one thing after another.
+abbrev pub IsPut : List ℕ → List ℕ → List Event → List ℕ → Type 0
+IsPut text come events rest = (events ≡ outs text) × (rest ≡ come)
+
+abbrev pub Short : {A B : Type 0} → (List ℕ → A) → (A → List Event → B → Type 0) → List ℕ → List Event → List ℕ → Type 0
+Short from P come events rest = BeginsSome P (from come) events × LeavesUnheard come events rest
+
+abbrev pub Joins : (P Q R : List ℕ → List Event → List ℕ → Type 0) → Type 0
+Joins P Q R = (come : List ℕ) (first : List Event) (middle : List ℕ) (second : List Event) (rest : List ℕ) → P come first middle → Q middle second rest → R come (first ++ second) rest
+
+abbrev pub Maps : (P Q : List ℕ → List Event → List ℕ → Type 0) → Type 0
+Maps P Q = (come : List ℕ) (events : List Event) (rest : List ℕ) → P come events rest → Q come events rest
 
 -- Events
 
@@ -55,6 +68,14 @@ unheard_left come events rest none same = sym (ap (λ bytes. bytes ++ rest) none
 
 pub outs_left : (bytes come : List ℕ) (events : List Event) (rest : List ℕ) → (events ≡ outs bytes) × (rest ≡ come) → LeavesUnheard come events rest
 outs_left bytes come events rest put = unheard_left come events rest (ap heard_bytes put.0 ∙ outs_unheard bytes) put.1
+
+-- what is heard behind a text is gone, as the text takes nothing
+pub text_then : (text : List ℕ) → Joins (IsPut text) LeavesUnheard LeavesUnheard
+text_then text come first middle second rest put left = left_then come first middle second rest (outs_left text come first middle put) left
+
+-- a prefix of what is written was written
+pub prefix_left : (text come : List ℕ) (events more : List Event) (rest : List ℕ) → events ++ more ≡ outs text → rest ≡ come → LeavesUnheard come events rest
+prefix_left text come events more rest written same = unheard_left come events rest (front_nil (heard_bytes events) (heard_bytes more) (sym (heard_append events more) ∙ ap heard_bytes written ∙ outs_unheard text)) same
 
 pub put_left : (text come : List ℕ) (events : List Event) (rest : List ℕ) → PutsFront text come events rest → LeavesUnheard come events rest
 put_left text come events rest put = outs_left (take put.size text) come events rest (put.said, put.untaken)
@@ -97,50 +118,46 @@ module _ (n : ℕ) where
 
 -- Questions, turns and runs
 
-module _ (program : Parts) (seed stage group : ℕ) (offers : List Offer) where
-  decides_left : (from : Supply) (how : How) (choice : Choice) (to : Supply) → Decides program seed stage group (length offers) from how choice to → LeavesUnheard from.come (asked_events program offers how) to.come
-  decides_left from (Heard events) choice to decides =
-      left_then from.come (outs (question program offers)) from.come events to.come (outs_left (question program offers) from.come (outs (question program offers)) from.come (refl, refl)) (hears_left (length offers) decides.1)
+module _ (asking : List ℕ) (program : Parts) (seed stage group : ℕ) (offers : List Offer) where
+  pub decides_left : (from : Supply) (how : How) (choice : Choice) (to : Supply) → Decides program seed stage group (length offers) from how choice to → LeavesUnheard from.come (asked_events asking program offers how) to.come
+  decides_left from (Heard events) choice to decides = text_then (offer_lines program 1 offers ++ asking) from.come _ from.come events to.come (refl, refl) (hears_left (length offers) decides.1)
   decides_left from Lone choice to decides = outs_left (offer_lines program 1 offers) from.come (outs (offer_lines program 1 offers)) to.come (refl, ap (λ (supply : Supply). supply.come) decides.3)
   decides_left from Drawn choice to decides = outs_left (offer_lines program 1 offers) from.come (outs (offer_lines program 1 offers)) to.come (refl, ap (λ (supply : Supply). supply.come) decides.3)
 
-  pub settles_left : (old : Spent) (choice : Choice) (new : Spent) (come : List ℕ) (events : List Event) (rest : List ℕ) → Settles program seed stage group offers old choice new come events rest → LeavesUnheard come events rest
-  settles_left old choice new come events rest settles = subst (λ es. LeavesUnheard come es rest) (sym settles.whole) (decides_left _ settles.how choice _ settles.decides)
+  pub settles_left : (old : Spent) (choice : Choice) (new : Spent) → Maps (Settles asking program seed stage group offers old choice new) LeavesUnheard
+  settles_left old choice new come events rest settles = rw settles.whole (decides_left _ settles.how choice _ settles.decides)
 
 -- nothing was said of a step, or a front of its lines
 pub act_left : (program : Parts) (height : ℕ) (offers : List Offer) (place : ℕ) (old : Position) (come : List ℕ) (events : List Event) (rest : List ℕ) → BeginsAct program height offers place old come events rest → LeavesUnheard come events rest
 act_left program height offers place old come events rest (inl nothing) = outs_left [] come events rest nothing
 act_left program height offers place old come events rest (inr on) =
-    let acts = on.acts in
-    let none = sym (heard_append events on.more) ∙ ap heard_bytes acts.written ∙ outs_unheard (deed_lines program acts.offer acts.proofs acts.rule.next on.next.turns on.next.spot.state) in
-    unheard_left come events rest (front_nil (heard_bytes events) (heard_bytes on.more) none) acts.untaken
+    prefix_left (deed_lines program on.acts.offer on.acts.proofs on.acts.rule.next on.next.turns on.next.spot.state) come events on.more rest on.acts.written on.acts.untaken
 
-module _ (program : Parts) (settings : Settings) where
-  question_left : (at : Position) (from : Supply) (asked : Question) (to : Supply) → IsQuestion program settings at from asked to → LeavesUnheard from.come (question_events program asked) to.come
-  question_left at from asked to asks = decides_left program settings.seed at.spot.stage asked.group asked.offers from asked.how asked.choice to asks.decided
+module _ (asking : List ℕ) (program : Parts) (settings : Settings) where
+  question_left : (at : Position) (from : Supply) (asked : Question) (to : Supply) → IsQuestion program settings at from asked to → LeavesUnheard from.come (asked_events asking program asked.offers asked.how) to.come
+  question_left at from asked to asks = decides_left asking program settings.seed at.spot.stage asked.group asked.offers from asked.how asked.choice to asks.decided
 
-  turn_left : (at : Position) (from : Supply) (turn : Turn) → IsTurn program settings at from turn → LeavesUnheard from.come (turn_events program turn) turn.left.come
+  pub turn_left : (at : Position) (from : Supply) (turn : Turn) → IsTurn program settings at from turn → LeavesUnheard from.come (asked_events asking program turn.question.offers turn.question.how ++ outs (lines_of_deed program turn.deed)) turn.left.come
   turn_left at from turn is =
       let lines = lines_of_deed program turn.deed in
-      left_then from.come (question_events program turn.question) turn.left.come (outs lines) turn.left.come (question_left at from turn.question turn.left is.asks) (outs_left lines turn.left.come (outs lines) turn.left.come (refl, refl))
+      left_then from.come (asked_events asking program turn.question.offers turn.question.how) turn.left.come (outs lines) turn.left.come (question_left at from turn.question turn.left is.asks) (outs_left lines turn.left.come (outs lines) turn.left.come (refl, refl))
 
-  turns_left : (at : Position) (from : Supply) (turns : List Turn) (last : Position) (to : Supply) → AreTurns program settings at from turns last to → LeavesUnheard from.come (flat_map (turn_events program) turns) to.come
-  turns_left at from [] last to done = ap (λ (supply : Supply). supply.come) (sym done.1)
-  turns_left at from (turn ∷ turns) last to done =
-      left_then from.come (turn_events program turn) turn.left.come (flat_map (turn_events program) turns) to.come (turn_left at from turn done.0) (turns_left turn.deed.after turn.left turns last to done.1)
-
-  last_left : (at : Position) (from : Supply) (asked : Option Question) (to : Supply) → LeftBy program settings at from asked to → LeavesUnheard from.come (last_events program asked) to.come
+  pub last_left : (at : Position) (from : Supply) (asked : Option Question) (to : Supply) → LeftBy program settings at from asked to → LeavesUnheard from.come (last_asked asking program asked) to.come
   last_left at from None to left = ap (λ (supply : Supply). supply.come) (sym left)
   last_left at from (Some asked) to asks = question_left at from asked to asks
 
+module _ (program : Parts) (settings : Settings) where
+  turns_left : (at : Position) (from : Supply) (turns : List Turn) (last : Position) (to : Supply) → AreTurns program settings at from turns last to → LeavesUnheard from.come (flat_map (turn_events program) turns) to.come
+  turns_left at from [] last to done = ap (λ (supply : Supply). supply.come) (sym done.1)
+  turns_left at from (turn ∷ turns) last to done =
+      left_then from.come (turn_events program turn) turn.left.come (flat_map (turn_events program) turns) to.come (turn_left asking_line program settings at from turn done.0) (turns_left turn.deed.after turn.left turns last to done.1)
+
   -- some turns were done
-  pub so_left : (counts : List Deed → Type 0) (start here : Position) (spent : Spent) (offers : ℕ) (come : List ℕ) (events : List Event) (rest : List ℕ) → SoFar program settings counts start here spent offers come events rest → LeavesUnheard come events rest
-  so_left counts start here spent offers come events rest so = subst (λ es. LeavesUnheard come es rest) (sym so.written) (turns_left start (whole_supply come) so.turns here _ so.done)
+  pub so_left : (counts : List Deed → Type 0) (start here : Position) (spent : Spent) (offers : ℕ) → Maps (SoFar program settings counts start here spent offers) LeavesUnheard
+  so_left counts start here spent offers come events rest so = rw so.written (turns_left start (whole_supply come) so.turns here _ so.done)
 
   -- all turns were done
-  pub whole_left : (counts : List Deed → Type 0) (word : EndWord) (start last : Position) (offers : ℕ) (come : List ℕ) (events : List Event) (rest : List ℕ) → IsWholeRun program settings counts word start last offers come events rest → LeavesUnheard come events rest
+  pub whole_left : (counts : List Deed → Type 0) (word : EndWord) (start last : Position) (offers : ℕ) → Maps (IsWholeRun program settings counts word start last offers) LeavesUnheard
   whole_left counts word start last offers come events rest runs =
-      let between = runs.between in
-      let turns = flat_map (turn_events program) runs.turns in
-      let all = left_then come turns between.come (last_events program runs.asked) runs.left.come (turns_left start (whole_supply come) runs.turns last between runs.done) (last_left last between runs.asked runs.left (left_by program settings last between runs.ends)) in
-      subst (λ es. LeavesUnheard come es rest) (sym runs.written) (subst (λ left. LeavesUnheard come (turns ++ last_events program runs.asked) left) (sym runs.rest_is) all)
+      rw (runs.written, runs.rest_is) (left_then come (flat_map (turn_events program) runs.turns) runs.between.come (last_events program runs.asked) runs.left.come
+      (turns_left start (whole_supply come) runs.turns last runs.between runs.done) (last_left asking_line program settings last runs.between runs.asked runs.left (left_by program settings last runs.between runs.ends)))

@@ -1,5 +1,5 @@
 -- The dialogue of a run: the text of its turns and of its end, with what was heard.
-use Rattle.std.specs.Prelude.{◌≡◌, ℕ, List, [], ◌∷◌, ◌++◌, Option, None, Some}
+use Rattle.std.specs.Prelude.{◌≡◌, ℕ, List, [], ◌∷◌, ◌++◌, codes, Option, None, Some}
 use Rattle.std.specs.List.{flat_map}
 use Rattle.cep_base.specs.declared.console.Event.{Event}
 use Rattle.cep_base.specs.declared.console.Event.TheVariants.{Out, In, End}
@@ -11,22 +11,31 @@ use Rattle.cep_run.specs.Deciding.{Supply, How, Heard, Lone, Drawn}
 use Rattle.cep_step.specs.Deeds.{start_of}
 use Rattle.cep_log.specs.Holding.{lines_of_deed}
 use Rattle.cep_run.specs.Run.{whole_supply, Question, Turn, Ending, Run}
-use Rattle.cep_lines.specs.Lines.{offer_lines, question, end_lines, header}
+use Rattle.cep_lines.specs.Lines.{line, offer_lines, end_lines, header}
 
--- the events of a question: its offers, and where the player decides the line that asks for a
--- choice, and what was heard
-abbrev pub asked_events : Parts → List Offer → How → List Event
-asked_events program offers (Heard events) = outs (question program offers) ++ events
-asked_events program offers Lone = outs (offer_lines program 1 offers)
-asked_events program offers Drawn = outs (offer_lines program 1 offers)
+-- `? choose`, the line that asks for a choice where one player plays
+abbrev pub asking_line : List ℕ
+asking_line = line (codes "? choose")
 
+-- the events of a question that is asked with a line: its offers, and where the player decides that
+-- line, and what was heard
+abbrev pub asked_events : List ℕ → Parts → List Offer → How → List Event
+asked_events asking program offers (Heard events) =
+    outs (offer_lines program 1 offers ++ asking) ++ events
+asked_events asking program offers Lone = outs (offer_lines program 1 offers)
+asked_events asking program offers Drawn = outs (offer_lines program 1 offers)
+
+-- the events of a last question that is asked with a line, if there is one
+abbrev pub last_asked : List ℕ → Parts → Option Question → List Event
+last_asked asking program None = []
+last_asked asking program (Some asked) = asked_events asking program asked.offers asked.how
+
+-- the events of questions of one player
 abbrev pub question_events : Parts → Question → List Event
-question_events program asked = asked_events program asked.offers asked.how
+question_events program asked = asked_events asking_line program asked.offers asked.how
 
--- the events of a last question, if there is one
 abbrev pub last_events : Parts → Option Question → List Event
-last_events program None = []
-last_events program (Some asked) = question_events program asked
+last_events program asked = last_asked asking_line program asked
 
 -- the events of a turn
 abbrev pub turn_events : Parts → Turn → List Event

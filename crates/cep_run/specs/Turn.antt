@@ -1,5 +1,5 @@
 -- What a part of a run does: words for the functions that do it.
-use Rattle.std.specs.Prelude.{◌≡◌, ℕ, ◌+◌, ◌≤◌, List, [], ◌++◌, Option, Some, length, slice_get}
+use Rattle.std.specs.Prelude.{◌≡◌, ℕ, ◌+◌, ◌<◌, ◌≤◌, List, [], ◌++◌, Option, Some, length, slice_get}
 use Rattle.std.specs.List.{flat_map}
 use Rattle.cep_base.specs.declared.console.Event.{Event}
 use Rattle.cep_base.specs.declared.limits.TheConstants.{MOST_OFFERS, MOST_TYPED}
@@ -11,6 +11,8 @@ use Rattle.cep_rule.specs.declared.parts.Parts.{Parts}
 use Rattle.cep_rule.specs.declared.offer.Offer.{Offer}
 use Rattle.cep_rule.specs.declared.rule.Rule.{Rule}
 use Rattle.cep_rule.specs.Instances.{full_instances}
+use Rattle.cep_rule.specs.Offers.{AreOffers}
+use Rattle.cep_rule.specs.Stages.{IsAsked}
 use Rattle.cep_rule.specs.Derivations.{ProofTree, Proves, proof_height}
 use Rattle.cep_rule.specs.Steps.{StepsTo, AreProofs}
 use Rattle.cep_step.specs.declared.limit.Limit.{Limit}
@@ -25,13 +27,14 @@ use Rattle.cep_run.specs.declared.turn.Turned.TheVariants.{Done, Over}
 use Rattle.cep_run.specs.Choice.{Hears}
 use Rattle.cep_run.specs.declared.deciding.Spent.{Spent}
 use Rattle.cep_run.specs.Deciding.{Supply, How, Decides}
-use Rattle.cep_lines.specs.Lines.{question, deed_lines}
+use Rattle.cep_lines.specs.Lines.{deed_lines}
+use Rattle.cep_log.specs.Holding.{lines_of_deed}
 use Rattle.cep_rule.specs.Matching.{RoseBy}
 use Rattle.cep_step.specs.Deeds.{Position, Deed}
 use Rattle.cep_step.specs.Passing.{Passes}
 use Rattle.cep_run.specs.Costs.{Edits, IsStepCost}
 use Rattle.cep_run.specs.Run.{Question, Turn, IsTurn, AreTurns, deeds_of, offers_listed, EndsAt, whole_supply}
-use Rattle.cep_run.specs.Dialogue.{asked_events, turn_events, last_events}
+use Rattle.cep_run.specs.Dialogue.{asked_events, last_asked, turn_events, last_events}
 
 -- where a configuration stands
 abbrev pub position_of : {M : Type 0} → Configuration M → Position
@@ -54,22 +57,30 @@ pub record IsPlayed {M : Type 0} (is_of : Parts → M → Type 0) (height_held :
   pub of_program : IsConfigurationOf is_of program config
   pub height : height_held config.matcher ≡ settings.height
 
--- The offers are written, and a choice among them is heard.
-pub record AsksPlayer (program : Parts) (offers : List Offer) (come : List ℕ) (taken : ℕ)
-    (events : List Event) (choice : Choice) (rest : List ℕ) (taken' : ℕ) : Type 0 where
+-- A text is written, and a choice among n is heard.
+pub record AsksPlayer (text : List ℕ) (n : ℕ) (taken : ℕ) (choice : Choice) (taken' : ℕ)
+    (come : List ℕ) (events : List Event) (rest : List ℕ) : Type 0 where
   pub heard : List Event
-  pub hears : Hears (length offers) come taken heard choice rest taken'
-  pub whole : events ≡ outs (question program offers) ++ heard
+  pub hears : Hears n come taken heard choice rest taken'
+  pub whole : events ≡ outs text ++ heard
 
--- A choice among the offers of a group that a stage asks is decided, and what is said of it is
--- said.
-pub record Settles (program : Parts) (seed stage group : ℕ) (offers : List Offer) (old : Spent)
-    (choice : Choice) (new : Spent) (come : List ℕ) (events : List Event)
+-- A group is asked here, and turns remain; these are its offers, and they are not too many.
+pub record IsOfferedHere (program : Parts) (settings : Settings) (at : Position) (group : ℕ)
+    (offers : List Offer) : Type 0 where
+  pub remain : at.turns < settings.limit
+  pub asked : IsAsked program settings.height at.spot.state at.spot.stage group
+  pub offered : AreOffers program settings.height at.spot.state group offers
+  pub few : length offers ≤ MOST_OFFERS
+
+-- A choice among the offers of a group that a stage asks is decided, and what is said of it, with
+-- the line that asks, is said.
+pub record Settles (asking : List ℕ) (program : Parts) (seed stage group : ℕ) (offers : List Offer)
+    (old : Spent) (choice : Choice) (new : Spent) (come : List ℕ) (events : List Event)
     (rest : List ℕ) : Type 0 where
   pub how : How
   pub decides : Decides program seed stage group (length offers) (supply_with come old) how choice
       (supply_with rest new)
-  pub whole : events ≡ asked_events program offers how
+  pub whole : events ≡ asked_events asking program offers how
 
 -- The offer at a place, counted from 0, with its rule.
 pub record IsPlaced (program : Parts) (offers : List Offer) (place : ℕ) (offer : Offer)
@@ -164,40 +175,44 @@ IsActed talk left old new program height offers place config (Over last) =
     Did talk left old new (WouldPass program offers place last.word (position_of config))
     × (last.config ≡ config)
 
--- These events do a turn, in which these offers are listed, and whose deed is counted so.
-pub record DoesTurn (program : Parts) (settings : Settings) (counts : Deed → Type 0)
-    (offers : List Offer) (at : Position) (spent : Spent) (next : Position) (spent' : Spent)
-    (come : List ℕ) (events : List Event) (rest : List ℕ) : Type 0 where
+-- These events do a turn that is asked with a line, in which these offers are listed, and whose deed
+-- is counted so.
+pub record DoesTurn (asking : List ℕ) (program : Parts) (settings : Settings)
+    (counts : Deed → Type 0) (offers : List Offer) (at : Position) (spent : Spent)
+    (next : Position) (spent' : Spent) (come : List ℕ) (events : List Event)
+    (rest : List ℕ) : Type 0 where
   pub turn : Turn
   pub is : IsTurn program settings at (supply_with come spent) turn
   pub after : turn.deed.after ≡ next
   pub left : turn.left ≡ supply_with rest spent'
   pub listed : turn.question.offers ≡ offers
   pub counted : counts turn.deed
-  pub written : events ≡ turn_events program turn
+  pub written : events ≡ asked_events asking program turn.question.offers turn.question.how
+      ++ outs (lines_of_deed program turn.deed)
 
--- These events come before the end of a run at this position.
-pub record Stops (program : Parts) (settings : Settings) (at : Position) (spent : Spent)
-    (word : EndWord) (spent' : Spent) (come : List ℕ) (events : List Event)
+-- These events come before the end of a run at this position, maybe after a question that is asked
+-- with a line.
+pub record Stops (asking : List ℕ) (program : Parts) (settings : Settings) (at : Position)
+    (spent : Spent) (word : EndWord) (spent' : Spent) (come : List ℕ) (events : List Event)
     (rest : List ℕ) : Type 0 where
   pub asked : Option Question
   pub ends : EndsAt program settings at (supply_with come spent) word asked
       (supply_with rest spent')
-  pub written : events ≡ last_events program asked
+  pub written : events ≡ last_asked asking program asked
 
 -- What a turn from a position comes to: it was done, its deed was counted, one more turn is done
 -- and not too many offers were listed; or the run ends here, and nothing was counted.
 abbrev pub IsTurned : {C M : Type 0} → (C → Option (List Event)) → (C → Option (List ℕ)) → C → C
-    → Parts → Settings → (Deed → Type 0) → Type 0 → List Offer → Configuration M → Spent → Spent
-    → Turned M → Type 0
-IsTurned talk left old new program settings counts uncounted offers config spent spent'
+    → List ℕ → Parts → Settings → (Deed → Type 0) → Type 0 → List Offer → Configuration M → Spent
+    → Spent → Turned M → Type 0
+IsTurned talk left old new asking program settings counts uncounted offers config spent spent'
     (Done next) =
-    Did talk left old new (DoesTurn program settings counts offers (position_of config) spent
+    Did talk left old new (DoesTurn asking program settings counts offers (position_of config) spent
     (position_of next) spent') × (next.turns ≡ config.turns + 1) × (length offers ≤ MOST_OFFERS)
-IsTurned talk left old new program settings counts uncounted offers config spent spent'
+IsTurned talk left old new asking program settings counts uncounted offers config spent spent'
     (Over last) =
-    Did talk left old new (Stops program settings (position_of config) spent last.word spent')
-    × (last.config ≡ config) × uncounted
+    Did talk left old new (Stops asking program settings (position_of config) spent last.word
+    spent') × (last.config ≡ config) × uncounted
 
 -- the configuration that is there after a turn
 abbrev pub config_left : {M : Type 0} → Turned M → Configuration M

@@ -1,5 +1,5 @@
 //! Which of the offers of a turn is chosen: by the player, or by the seed.
-ghost use Rattle.std.specs.Prelude.{◌≡◌, ◌↔◌, ℕ, ◌+◌, ◌<◌, ◌≤◌, length, All, IfOk, OnOk, OnErr, IsTrue};
+ghost use Rattle.std.specs.Prelude.{◌≡◌, ◌↔◌, ℕ, ◌+◌, ◌<◌, ◌≤◌, ◌++◌, length, All, IfOk, OnOk, OnErr, IsTrue};
 ghost use Rattle.cep_base.specs.declared.limits.TheConstants.{MOST_OFFERS, MOST_TURNS, MOST_TYPED};
 ghost use Rattle.cep_base.specs.Talk.{outs, Did, ConsoleCause};
 ghost use Rattle.cep_rule.specs.Matching.{offers_of};
@@ -15,10 +15,10 @@ ghost use Rattle.cep_run.specs.Turn.{AsksPlayer, HasSpent, Settles};
 use crate::choice::{Choice, choose};
 use cep_base::{Console, ConsoleFault, Text};
 use cep_choice::Draw;
-use cep_lines::{put_offers, put_question};
+use cep_lines::put_offers;
 use cep_machine::Config;
 use cep_rule::{Matcher, Program};
-use std::alloc::Global;
+use std::alloc::{AllocError, Global};
 
 /// What the decisions of a run have consumed.
 #[derive(Drop)]
@@ -79,32 +79,45 @@ pub fn is_players(program: &Program, stage: u32, group: u32, offers: usize) -> b
     parts.stages.get(stage as usize).interactive && (group == 2 * stage || offers > 1)
 }
 
-/// Writes the offers of a group, and reads until one of them is chosen.
-fn ask<C: Console, M: Matcher>(
+/// Writes a text, and reads until a place among `n` is chosen.
+pub fn ask<C: Console>(
+    text: &[u8],
+    n: u32,
+    console: &mut C,
+    taken: &mut u64,
+) -> Result<Choice, ConsoleFault>
+    requires { taken.old ≤ MOST_TYPED }
+    ensures heard { IfOk result (λ choice. Did C.talk C.left console.old console.new
+        (AsksPlayer text.now n taken.old choice taken.new)) }
+    ensures begun { OnErr result (FellShort C.talk C.left console.old console.new (λ come. come)
+        (AsksSome text.now n taken.old)) }
+    ensures place { IfOk result (λ choice. IsChoiceWithin n choice) }
+    ensures within { taken.new ≤ MOST_TYPED }
+    ensures cause { ConsoleCause (C.faults console.old) (C.faults console.new) result }
+{
+    console.put(text)?;
+    choose(console, n, taken)
+}
+
+// The offers of a group, and the line that asks for a choice among them.
+#[tactic(auto, using(std::proofs::Common::append_assoc))]
+fn question<M: Matcher>(
     alloc: Global,
     program: &Program,
     matcher: &M,
     group: u32,
-    console: &mut C,
-    taken: &mut u64,
-) -> Result<Choice, ConsoleFault>
+    asking: &[u8],
+) -> Result<Text, AllocError>
     requires listed { group < length (M.offers_held matcher.now) }
     requires offers { All (IsOfferOf program.now) (offers_of (M.offers_held matcher.now) group) }
     requires few { length (offers_of (M.offers_held matcher.now) group) ≤ MOST_OFFERS }
-    requires within { taken.old ≤ MOST_TYPED }
-    ensures heard { IfOk result (λ choice. Did C.talk C.left console.old console.new (λ come events rest.
-        AsksPlayer program.now (offers_of (M.offers_held matcher.now) group) come taken.old events choice rest taken.new)) }
-    ensures begun { OnErr result (FellShort C.talk C.left console.old console.new (λ come. come)
-        (AsksSome program.now (offers_of (M.offers_held matcher.now) group) taken.old)) }
-    ensures place { IfOk result
-        (λ choice. IsChoiceWithin (length (offers_of (M.offers_held matcher.now) group)) choice) }
-    ensures within { taken.new ≤ MOST_TYPED }
-    ensures cause { ConsoleCause (C.faults console.old) (C.faults console.new) result }
+    ensures { IfOk result (λ text. text
+        ≡ offer_lines program.now 1 (offers_of (M.offers_held matcher.now) group) ++ asking.now) }
 {
-    let mut question = Text::new(alloc);
-    put_question(program, matcher, group, &mut question)?;
-    console.put(question.bytes())?;
-    choose(console, matcher.count(group) as u32, taken)
+    let mut text = Text::new(alloc);
+    put_offers(program, matcher, group, &mut text)?;
+    text.append(asking)?;
+    Ok(text)
 }
 
 /// Writes the offers of a group, and asks nobody. Where nobody reads them, none are written.
@@ -133,13 +146,15 @@ pub fn tell<C: Console, M: Matcher>(
     console.put(lines.bytes())
 }
 
-/// Writes the offers of the group that a configuration asks, and has one of them chosen.
+/// Writes the offers of the group that a configuration asks, and has one of them chosen: where it is
+/// the player's, by one who is asked with this line.
 pub fn decide<C: Console, M: Matcher>(
     alloc: Global,
     program: &Program,
     seed: u64,
     config: &Config<M>,
     group: u32,
+    asking: &[u8],
     console: &mut C,
     spent: &mut Spent,
 ) -> Result<Choice, ConsoleFault>
@@ -151,10 +166,10 @@ pub fn decide<C: Console, M: Matcher>(
     requires turns { config.now.turns < MOST_TURNS }
     requires spent { HasSpent seed config.now.turns spent.old }
     ensures settled { IfOk result (λ choice. Did C.talk C.left console.old console.new
-        (Settles program.now seed config.now.stage group
+        (Settles asking.now program.now seed config.now.stage group
         (offers_of (M.offers_held config.now.matcher) group) spent.old choice spent.new)) }
     ensures begun { OnErr result (FellShort C.talk C.left console.old console.new (λ come. come)
-        (SettlesSome program.now seed config.now.stage group
+        (SettlesSome asking.now program.now seed config.now.stage group
         (offers_of (M.offers_held config.now.matcher) group) spent.old)) }
     ensures place { IfOk result
         (λ choice. IsChoiceWithin (length (offers_of (M.offers_held config.now.matcher) group))
@@ -165,7 +180,8 @@ pub fn decide<C: Console, M: Matcher>(
     let matcher = config.matcher();
     let offers = matcher.count(group);
     if is_players(program, config.stage(), group, offers) {
-        ask(alloc, program, matcher, group, console, &mut spent.taken)
+        let text = question(alloc, program, matcher, group, asking)?;
+        ask(text.bytes(), offers as u32, console, &mut spent.taken)
     } else {
         tell(alloc, program, matcher, group, console)?;
         Ok(Choice::Place(spent.place(offers as u32)))

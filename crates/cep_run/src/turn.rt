@@ -9,10 +9,11 @@ ghost use Rattle.cep_rule.specs.Matching.{offers_of};
 ghost use Rattle.cep_machine.specs.Asking.{asked_offers};
 ghost use Rattle.cep_run.specs.declared.turn.Turned.TheVariants.{Over};
 ghost use Rattle.cep_run.specs.Fronts.{FellShort, IsRunOf};
-ghost use Rattle.cep_run.specs.Begun.{BeginsAct};
+ghost use Rattle.cep_run.specs.Begun.{BeginsAct, IsQuestionOrTurn};
+ghost use Rattle.cep_run.specs.Dialogue.{asking_line};
 ghost use Rattle.cep_rule.specs.Matching.{RoseBy};
 ghost use Rattle.cep_run.specs.Costs.{IsDeedCost};
-ghost use Rattle.cep_run.specs.Turn.{position_of, supply_with, HasSpent, IsPlayed, TellsDeed, BeginsDeed, IsActed, IsMoved, RoseByAct, IsTurned, config_left, limit_word};
+ghost use Rattle.cep_run.specs.Turn.{position_of, supply_with, HasSpent, IsOfferedHere, IsPlayed, TellsDeed, BeginsDeed, IsActed, IsMoved, RoseByAct, IsTurned, config_left, limit_word};
 
 use crate::choice::Choice;
 use crate::copying::copy_offer;
@@ -160,8 +161,8 @@ pub fn turn<C: Console, M: Matcher, L: Ledger>(
     requires limit { settings.limit ≤ MOST_TURNS }
     requires remain { config.turns < settings.limit }
     requires spent { HasSpent settings.seed config.turns spent.old }
-    ensures turned { IfOk result (IsTurned C.talk C.left console.old console.new program.now settings
-        (λ deed. RoseBy (IsDeedCost M.may_edit program.now settings.height deed) steps.old
+    ensures turned { IfOk result (IsTurned C.talk C.left console.old console.new asking_line program.now
+        settings (λ deed. RoseBy (IsDeedCost M.may_edit program.now settings.height deed) steps.old
         steps.new) (steps.new ≡ steps.old)
         (asked_offers (M.offers_held config.matcher) config.stage) config spent.old spent.new) }
     ensures played { IfOk result (λ turned. IsPlayed M.is_of M.height_held program.now settings
@@ -180,12 +181,61 @@ pub fn turn<C: Console, M: Matcher, L: Ledger>(
     if !config.matcher().len_ok(group) {
         return Ok(over(config, EndWord::Offers));
     }
+    asked_turn(
+        alloc,
+        program,
+        settings,
+        config,
+        group,
+        b"? choose\n",
+        console,
+        spent,
+        steps,
+    )
+}
+
+/// Does one turn of the group that is asked here, unless the run ends before its step. The player is
+/// asked with this line. A refused call said a prefix of a question, or of a turn.
+pub fn asked_turn<C: Console, M: Matcher, L: Ledger>(
+    alloc: Global,
+    program: &Program,
+    settings: Settings,
+    config: Config<M>,
+    group: u32,
+    asking: &[u8],
+    console: &mut C,
+    spent: &mut Spent,
+    steps: &mut Steps<L>,
+) -> Result<Turned<M>, ConsoleFault>
+    requires played { IsPlayed M.is_of M.height_held program.now settings config }
+    requires limit { settings.limit ≤ MOST_TURNS }
+    requires listed { group < length (M.offers_held config.matcher) }
+    requires asked { offers_of (M.offers_held config.matcher) group ≡ asked_offers
+        (M.offers_held config.matcher) config.stage }
+    requires here { IsOfferedHere program.now settings (position_of config) group
+        (offers_of (M.offers_held config.matcher) group) }
+    requires spent { HasSpent settings.seed config.turns spent.old }
+    ensures turned { IfOk result (IsTurned C.talk C.left console.old console.new asking.now program.now
+        settings (λ deed. RoseBy (IsDeedCost M.may_edit program.now settings.height deed) steps.old
+        steps.new) (steps.new ≡ steps.old) (offers_of (M.offers_held config.matcher) group) config
+        spent.old spent.new) }
+    ensures played { IfOk result (λ turned. IsPlayed M.is_of M.height_held program.now settings
+        (config_left turned)) }
+    ensures begun { OnErr result (FellShort C.talk C.left console.old console.new
+        (λ come. supply_with come spent.old)
+        (IsQuestionOrTurn asking.now program.now settings (position_of config))) }
+    ensures spent { HasSpent settings.seed (config.turns + 1) spent.new }
+    ensures counted { steps.old ≤ steps.new }
+    ensures cause { ConsoleCause (C.faults console.old) (C.faults console.new) result }
+{
+    program.parts();
     match decide(
         alloc,
         program,
         settings.seed,
         &config,
         group,
+        asking,
         console,
         spent,
     )? {

@@ -1,11 +1,9 @@
 use Rattle.std.proofs.Common.{◌≡◌, ◌+◌, ◌<◌, ◌∙◌, true, refl, ap, arith, Some}
-use Rattle.std.specs.Prelude.{slice_get, drop, take}
-use Rattle.cep_base.proofs.Outcomes.{on_err}
-use Rattle.cep_round.specs.Rounds.{admitted}
+use Rattle.cep_players.proofs.Words.{slice_get, drop, take, on_err, admitted}
 use Rattle.cep_players.proofs.OffersDone.{as_many_flags, split_admitted, next_left, gone_nowhere, gone_all, gone_past, gone_on, gone_out, gone_short}
 use Rattle.cep_players.proofs.RoundSteps.{next_offer}
-use Rattle.cep_players.proofs.acting.act_all.Goals as goal
 use Rattle.cep_players.proofs.acting.act_all.Goals.{then-get+in_ok-next+in-Done, else-get}
+use Rattle.cep_players.proofs.acting.act_all.Goals as goal
 
 pub get-requires : goal.get-requires
 get-requires g c = omega (arith, as_many_flags c.args.program.now c.args.start.state _ c.args.chosen.now c.args.flags.now c.requires.flagged)
@@ -32,8 +30,7 @@ loop-i-preserved g c =
           let past = w.in_ok-next.ensures in
           record {
             played = rw w.config-is (rw w.in-Done.is at past.played);
-            gone = rw (w.config-is, w.console-is) (gone_on g.C.Console.talk g.C.Console.left c.args.program.now c.args.settings c.args.chosen.now c.args.flags.now c.args.start c.args.console.now c.loop-i.i c.loop-i.config c.loop-i.console before.gone w.act_offer.new.console
-                w.get-then-get.result.now w.get-then-get.ensures flagged w.in-Done.next (rw w.in-Done.is at past.moved) (rw w.in-Done.is at past.acted));
+            gone = rw (w.config-is, w.console-is) (gone_on _ _ _ _ _ _ _ _ _ _ _ before.gone w.act_offer.new.console w.get-then-get.result.now w.get-then-get.ensures flagged w.in-Done.next (rw w.in-Done.is at past.moved) (rw w.in-Done.is at past.acted));
             risen = omega (arith, w.steps-is, w.act_offer.ensures.counted, before.risen);
             calm = ap g.C.Console.faults w.console-is ∙ past.cause ∙ before.calm;
           }
@@ -42,8 +39,7 @@ loop-i-preserved g c =
           let within : c.loop-i.i < _ = rw c.len-i-end.ensures at c.loop-i-test.true in
           record {
             played = rw w.config-is before.played;
-            gone = rw (w.config-is, w.console-is) (gone_past g.C.Console.talk g.C.Console.left c.args.program.now c.args.settings c.args.chosen.now c.args.flags.now c.args.start c.args.console.now c.loop-i.i c.loop-i.config c.loop-i.console before.gone within
-                (c.get.ensures ∙ ap Some w.if-get.false));
+            gone = rw (w.config-is, w.console-is) (gone_past _ _ _ _ _ _ _ _ _ _ _ before.gone within (c.get.ensures ∙ ap Some w.if-get.false));
             risen = omega (arith, w.steps-is, before.risen);
             calm = ap g.C.Console.faults w.console-is ∙ before.calm;
           }
@@ -52,18 +48,14 @@ loop-i-preserved g c =
 
 pub returns-in_err-next-clause-begun : goal.returns-in_err-next-clause-begun
 returns-in_err-next-clause-begun g c =
-    on_err c.from_residual.result _
-    (gone_short g.C.Console.talk g.C.Console.left c.args.program.now c.args.settings c.args.chosen.now c.args.flags.now c.args.start c.args.console.now c.loop-i.i c.loop-i.config c.loop-i.console c.loop-i.invariant.gone c.act_offer.new.console c.get-then-get.result.now
-    c.get-then-get.ensures (c.get.ensures ∙ ap Some c.if-get.true) c.in_err-next.ensures.begun)
+    on_err c.from_residual.result _ (gone_short _ _ _ _ _ _ _ _ _ _ _ c.loop-i.invariant.gone c.act_offer.new.console c.get-then-get.result.now c.get-then-get.ensures (c.get.ensures ∙ ap Some c.if-get.true) c.in_err-next.ensures.begun)
 
 pub returns-in-Over-clause-acted : goal.returns-in-Over-clause-acted
 returns-in-Over-clause-acted g c =
-    gone_out g.C.Console.talk g.C.Console.left c.args.program.now c.args.settings c.args.chosen.now c.args.flags.now c.args.start c.args.console.now c.loop-i.i c.loop-i.config c.loop-i.console c.loop-i.invariant.gone c.act_offer.new.console c.get-then-get.result.now
-    c.get-then-get.ensures (c.get.ensures ∙ ap Some c.if-get.true) c.in-Over.ended (rw c.in-Over.is at c.in_ok-next.ensures.moved) (rw c.in-Over.is at c.in_ok-next.ensures.acted)
+    gone_out _ _ _ _ _ _ _ _ _ _ _ c.loop-i.invariant.gone c.act_offer.new.console c.get-then-get.result.now c.get-then-get.ensures (c.get.ensures ∙ ap Some c.if-get.true) c.in-Over.ended (rw c.in-Over.is at c.in_ok-next.ensures.moved) (rw c.in-Over.is at c.in_ok-next.ensures.acted)
 
 pub returns-clause-counted : goal.returns-clause-counted
-returns-clause-counted g c =
-    ((gone_all g.C.Console.talk g.C.Console.left c.args.program.now c.args.settings c.args.chosen.now c.args.flags.now c.args.start c.args.console.now c.loop-i.i c.loop-i.config c.loop-i.console c.loop-i.invariant.gone (rw c.len-i-end.ensures at c.loop-i-test.false)).0, c.loop-i.invariant.gone.few)
+returns-clause-counted g c = ((gone_all _ _ _ _ _ _ _ _ _ _ _ c.loop-i.invariant.gone (rw c.len-i-end.ensures at c.loop-i-test.false)).0, c.loop-i.invariant.gone.few)
 
 pub returns-clause-acted : goal.returns-clause-acted
-returns-clause-acted g c = (gone_all g.C.Console.talk g.C.Console.left c.args.program.now c.args.settings c.args.chosen.now c.args.flags.now c.args.start c.args.console.now c.loop-i.i c.loop-i.config c.loop-i.console c.loop-i.invariant.gone (rw c.len-i-end.ensures at c.loop-i-test.false)).1
+returns-clause-acted g c = (gone_all _ _ _ _ _ _ _ _ _ _ _ c.loop-i.invariant.gone (rw c.len-i-end.ensures at c.loop-i-test.false)).1

@@ -1,5 +1,5 @@
 use Rattle.std.proofs.Common.{◌≡◌, ◌≤◌}
-use Rattle.cep_run.specs.Turn.{IsPlayed}
+use Rattle.cep_players.proofs.Words.{IsPlayed}
 use Rattle.cep_players.proofs.OffersDone.{GoneTo}
 use Rattle.cep_players.proofs.acting.act_all.Given as goal
 

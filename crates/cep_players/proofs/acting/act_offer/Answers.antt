@@ -1,8 +1,6 @@
 use Rattle.std.proofs.Common.{refl, arith}
-use Rattle.std.proofs.lemmas.Result.{IfOk-weaker, on_err_weaker}
-use Rattle.cep_base.proofs.Did.{did_map, did_same}
-use Rattle.cep_rule.specs.Matching.{offers_of}
-use Rattle.cep_players.proofs.OffersDone.{acts_begin, offer_acted, offer_moved, both_ok}
+use Rattle.cep_players.proofs.Words.{IfOk-weaker, on_err_weaker, did_map, did_same, both_ok}
+use Rattle.cep_players.proofs.OffersDone.{acts_begin, offer_acted, offer_moved}
 use Rattle.cep_players.proofs.acting.act_offer.Goals as goal
 
 pub place_in-place-requires-clause-there : goal.place_in-place-requires-clause-there
@@ -12,25 +10,15 @@ place_in-place-requires-clause-there g c =
 
 pub returns-clause-begun : goal.returns-clause-begun
 returns-clause-begun g c =
-    on_err_weaker c.act.result
-    (did_map g.C.Console.talk g.C.Console.left c.args.console.now c.act.new.console _ _
-    (acts_begin c.args.program.now c.args.settings c.parts.ensures.kept c.args.offer.now c.args.config c.args.group c.requires.own c.requires.offer (offers_of (g.M.Matcher.offers_held c.args.config.matcher) c.args.group) c.place_in-place.result
-    (rw c.matcher.ensures.matcher at c.place_in-place.ensures) (omega (arith, c.if-turns-limit.false))))
-    c.act.ensures.begun
+    on_err_weaker c.act.result (did_map g.C.Console.talk g.C.Console.left _ _ _ _ (acts_begin _ c.args.settings c.parts.ensures.kept _ c.args.config _ c.requires.own c.requires.offer _ _ (rw c.matcher.ensures.matcher at c.place_in-place.ensures) (omega (arith, c.if-turns-limit.false)))) c.act.ensures.begun
 
 pub returns-clause-acted : goal.returns-clause-acted
 returns-clause-acted g c =
-    IfOk-weaker c.act.result _ _
-    (offer_acted c.args.program.now c.args.settings c.parts.ensures.kept c.args.offer.now c.args.config c.args.group c.requires.own c.requires.offer (offers_of (g.M.Matcher.offers_held c.args.config.matcher) c.args.group) c.place_in-place.result
-    (rw c.matcher.ensures.matcher at c.place_in-place.ensures) (omega (arith, c.if-turns-limit.false)) g.C.Console.talk g.C.Console.left c.args.console.now c.act.new.console)
-    c.act.ensures.acted
+    IfOk-weaker c.act.result _ _ (offer_acted _ c.args.settings c.parts.ensures.kept _ c.args.config _ c.requires.own c.requires.offer _ _ (rw c.matcher.ensures.matcher at c.place_in-place.ensures) (omega (arith, c.if-turns-limit.false)) g.C.Console.talk g.C.Console.left _ _) c.act.ensures.acted
 
 pub returns-clause-moved : goal.returns-clause-moved
 returns-clause-moved g c =
-    both_ok c.act.result _ _ _
-    (offer_moved c.args.program.now c.args.settings c.parts.ensures.kept c.args.offer.now c.args.config c.args.group c.requires.own c.requires.offer (offers_of (g.M.Matcher.offers_held c.args.config.matcher) c.args.group) c.place_in-place.result
-    (rw c.matcher.ensures.matcher at c.place_in-place.ensures) (omega (arith, c.if-turns-limit.false)) g.C.Console.talk g.C.Console.left c.args.console.now c.act.new.console)
-    c.act.ensures.acted c.act.ensures.moved
+    both_ok c.act.result _ _ _ (offer_moved _ c.args.settings c.parts.ensures.kept _ c.args.config _ c.requires.own c.requires.offer _ _ (rw c.matcher.ensures.matcher at c.place_in-place.ensures) (omega (arith, c.if-turns-limit.false)) g.C.Console.talk g.C.Console.left _ _) c.act.ensures.acted c.act.ensures.moved
 
 pub returns-then-turns-limit-clause-acted : goal.returns-then-turns-limit-clause-acted
 returns-then-turns-limit-clause-acted g c =

@@ -1,9 +1,8 @@
 use Rattle.std.proofs.Common.{ap, ◌∙◌, Some}
-use Rattle.cep_base.proofs.Lists.{holds_at}
-use Rattle.cep_rule.specs.Shapes.{IsOfferOf}
+use Rattle.cep_players.proofs.Words.{holds_at, IsOfferOf}
 use Rattle.cep_players.proofs.BlockedLines.{step_blocked, step_admitted, end_blocked}
-use Rattle.cep_players.proofs.blocked.put_blocked.Goals as goal
 use Rattle.cep_players.proofs.blocked.put_blocked.Goals.{then-not-get+in_ok-put_blocked_line, else-not-get}
+use Rattle.cep_players.proofs.blocked.put_blocked.Goals as goal
 
 pub put_blocked_line-requires : goal.put_blocked_line-requires
 put_blocked_line-requires c = holds_at (IsOfferOf c.args.program.now) c.args.chosen.now c.loop-i.i c.get-then-not-get.result.now c.requires.offers c.get-then-not-get.ensures

@@ -1,6 +1,5 @@
 use Rattle.std.proofs.Common.{◌≡◌, ◌+◌, ◌++◌}
-use Rattle.std.specs.Prelude.{drop}
-use Rattle.cep_players.specs.Dialogues.{blocked_lines}
+use Rattle.cep_players.proofs.Words.{drop, blocked_lines}
 use Rattle.cep_players.proofs.blocked.put_blocked.Given as goal
 
 abbrev pub invariant-loop-i : goal.invariant-loop-i

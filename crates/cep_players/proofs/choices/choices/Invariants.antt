@@ -1,10 +1,6 @@
 use Rattle.std.proofs.Common.{◌≡◌, ◌≤◌, length}
-use Rattle.std.specs.Prelude.{Contains}
-use Rattle.std.specs.List.{AllByRecursion}
-use Rattle.cep_base.specs.Talk.{Did}
+use Rattle.cep_players.proofs.Words.{Contains, AllByRecursion, Did, offers_of, AllChoose}
 use Rattle.cep_base.specs.declared.limits.TheConstants.{MOST_TYPED}
-use Rattle.cep_rule.specs.Matching.{offers_of}
-use Rattle.cep_players.specs.Playing.{AllChoose}
 use Rattle.cep_players.proofs.choices.choices.Given as goal
 
 abbrev pub invariant-loop-player : goal.invariant-loop-player

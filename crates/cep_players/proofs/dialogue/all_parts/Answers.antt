@@ -1,7 +1,5 @@
 use Rattle.std.proofs.Common.{refl, arith, ◌∙◌}
-use Rattle.cep_base.proofs.Did.{did_same, did_map, did_then}
-use Rattle.cep_base.proofs.Outcomes.{on_err}
-use Rattle.cep_run.specs.Turn.{position_of}
+use Rattle.cep_players.proofs.Words.{did_same, did_map, did_then, on_err, position_of}
 use Rattle.cep_run.proofs.Settling.{nothing_spent}
 use Rattle.cep_players.proofs.Going.{no_parts, parts_then, parts_end, parts_refused}
 use Rattle.cep_players.proofs.dialogue.all_parts.Goals as goal
@@ -42,5 +40,5 @@ returns-in-Over-clause-said g c =
 
 pub returns-in_err-next-clause-begun : goal.returns-in_err-next-clause-begun
 returns-in_err-next-clause-begun g c =
-    let refused = parts_refused c.args.program.now c.args.settings c.args.players (position_of c.args.start) (position_of c.loop-next.config) c.loop-next.spent c.players_are_lawful.ensures.within in
+    let refused = parts_refused c.args.program.now c.args.settings c.args.players (position_of c.args.start) (position_of c.loop-next.config) c.loop-next.spent in
     on_err c.from_residual.result _ (did_then g.C.Console.talk g.C.Console.left _ _ _ _ _ _ refused c.loop-next.invariant.so_far c.in_err-next.ensures.begun)

@@ -1,7 +1,5 @@
 use Rattle.std.proofs.Common.{◌≡◌, ◌-◌, ◌≤◌}
-use Rattle.cep_base.specs.Talk.{Did}
-use Rattle.cep_run.specs.Turn.{position_of, HasSpent, IsPlayed}
-use Rattle.cep_players.specs.Going.{DoesParts}
+use Rattle.cep_players.proofs.Words.{Did, position_of, HasSpent, IsPlayed, DoesParts}
 use Rattle.cep_players.proofs.Going.{unspent}
 use Rattle.cep_players.proofs.dialogue.all_parts.Given as goal
 

@@ -1,6 +1,7 @@
 use Rattle.std.proofs.Common.{◌≡◌, refl, arith}
-use Rattle.cep_run.specs.Run.{quiet_end, turns_end}
-use Rattle.cep_players.proofs.Going.{ends_before, offered_here, crowds_here}
+use Rattle.cep_players.proofs.Words.{quiet_end, turns_end, IfOk-weaker, on_err_weaker, did_map, position_of}
+use Rattle.cep_run.proofs.Turns.{offered_here, crowds_here}
+use Rattle.cep_players.proofs.Going.{not_for_all, ends_before, turn_went, turn_refused}
 use Rattle.cep_players.proofs.dialogue.part.Goals as goal
 
 pub returns-in_default-clause-went : goal.returns-in_default-clause-went
@@ -16,11 +17,21 @@ returns-then-turns-limit-clause-went g c =
 
 pub returns-then-not-len_ok-clause-went : goal.returns-then-not-len_ok-clause-went
 returns-then-not-len_ok-clause-went g c =
-    let crowds = crowds_here g.M.Matcher.is_of g.M.Matcher.height_held g.M.Matcher.state_held g.M.Matcher.offers_held c.args.program.now c.args.settings c.args.config c.in-Some.group c.requires.played (g.met.M.Matcher.exact c.args.program.now c.args.config.matcher c.requires.played.of_program.matcher) c.matcher.ensures.same_state
+    let crowds = crowds_here g.M.Matcher.height_held g.M.Matcher.state_held g.M.Matcher.offers_held c.args.program.now c.args.settings c.args.config c.in-Some.group c.requires.played.height (g.met.M.Matcher.exact c.args.program.now c.args.config.matcher c.requires.played.of_program.matcher) c.matcher.ensures.same_state
     c.matcher.ensures.listed c.in-Some.ensures.listed (c.in-Some.ensures.asked c.args.program.now c.requires.played.of_program) (rw c.turns.ensures at c.if-turns-limit.false) c.matcher.result.now c.matcher.ensures.matcher c.len_ok.result c.len_ok.ensures c.if-not-len_ok.true in
     rw c.over-then-not-len_ok.ensures (ends_before g.C.Console.talk g.C.Console.left _ c.args.program.now c.args.settings c.args.players c.args.config c.args.spent.now _ crowds)
 
-pub turn-requires-clause-here : goal.turn-requires-clause-here
-turn-requires-clause-here g c =
-    offered_here g.M.Matcher.is_of g.M.Matcher.height_held g.M.Matcher.state_held g.M.Matcher.offers_held c.args.program.now c.args.settings c.args.config c.in-Some.group c.requires.played (g.met.M.Matcher.exact c.args.program.now c.args.config.matcher c.requires.played.of_program.matcher) c.matcher.ensures.same_state
+pub asked_turn-requires-clause-here : goal.asked_turn-requires-clause-here
+asked_turn-requires-clause-here g c =
+    offered_here g.M.Matcher.height_held g.M.Matcher.state_held g.M.Matcher.offers_held c.args.program.now c.args.settings c.args.config c.in-Some.group c.requires.played.height (g.met.M.Matcher.exact c.args.program.now c.args.config.matcher c.requires.played.of_program.matcher) c.matcher.ensures.same_state
     c.matcher.ensures.listed c.in-Some.ensures.listed (c.in-Some.ensures.asked c.args.program.now c.requires.played.of_program) (rw c.turns.ensures at c.if-turns-limit.false) c.matcher.result.now c.matcher.ensures.matcher c.len_ok.result c.len_ok.ensures c.if-not-len_ok.false
+
+pub returns-else-is_for_all-clause-went : goal.returns-else-is_for_all-clause-went
+returns-else-is_for_all-clause-went g c =
+    let none = not_for_all c.args.program.now c.args.settings.height (position_of c.args.config) c.in-Some.group _ (rw c.requires.played.height at (c.in-Some.ensures.asked c.args.program.now c.requires.played.of_program)) c.is_for_all.ensures c.if-is_for_all.false in
+    IfOk-weaker c.asked_turn.result _ _ (turn_went g.C.Console.talk g.C.Console.left _ _ c.args.settings c.args.players c.args.config none (rw c.turns.ensures at c.if-turns-limit.false) _ _ _ c.args.spent.now c.asked_turn.new.spent) (rw c.first_line.ensures at c.asked_turn.ensures.turned)
+
+pub returns-else-is_for_all-clause-begun : goal.returns-else-is_for_all-clause-begun
+returns-else-is_for_all-clause-begun g c =
+    let none = not_for_all c.args.program.now c.args.settings.height (position_of c.args.config) c.in-Some.group _ (rw c.requires.played.height at (c.in-Some.ensures.asked c.args.program.now c.requires.played.of_program)) c.is_for_all.ensures c.if-is_for_all.false in
+    on_err_weaker c.asked_turn.result (did_map g.C.Console.talk g.C.Console.left _ _ _ _ (turn_refused c.args.players none c.args.spent.now c.players_are_lawful.ensures c.parts.ensures.kept c.requires.some c.requires.played.of_program.spot.is_state)) (rw c.first_line.ensures at c.asked_turn.ensures.begun)

@@ -1,5 +1,4 @@
-use Rattle.cep_step.specs.Deeds.{start_of}
-use Rattle.cep_run.specs.Run.{whole_supply}
+use Rattle.cep_players.proofs.Words.{start_of, whole_supply}
 use Rattle.cep_players.proofs.laws.dialogues_in_rounds_are_said.Goals as goal
 
 pub returns : goal.returns

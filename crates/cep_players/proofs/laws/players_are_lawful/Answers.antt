@@ -1,5 +1,4 @@
-use Rattle.std.proofs.lemmas.List.Sorted.{IsPermutation-refl}
-use Rattle.cep_round.specs.Rounds.{admitted}
+use Rattle.cep_players.proofs.Words.{IsPermutation-refl, admitted}
 use Rattle.cep_players.proofs.laws.players_are_lawful.Goals as goal
 
 pub returns : goal.returns

@@ -1,7 +1,4 @@
-use Rattle.std.proofs.lemmas.List.Sorted.{IsPermutation-refl}
-use Rattle.cep_step.specs.Deeds.{start_of}
-use Rattle.cep_run.specs.Run.{whole_supply}
-use Rattle.cep_round.specs.Rounds.{admitted}
+use Rattle.cep_players.proofs.Words.{IsPermutation-refl, start_of, whole_supply, admitted}
 use Rattle.cep_players.proofs.RoundSteps.{deeds_done, together}
 use Rattle.cep_players.proofs.laws.rounds_end_together.Goals as goal
 

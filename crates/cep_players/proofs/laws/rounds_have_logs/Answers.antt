@@ -1,7 +1,5 @@
 use Rattle.std.proofs.Common.{◌++◌}
-use Rattle.cep_step.specs.Deeds.{start_of}
-use Rattle.cep_run.specs.Run.{whole_supply}
-use Rattle.cep_players.specs.Runs.{all_done, done_before}
+use Rattle.cep_players.proofs.Words.{start_of, whole_supply, all_done, done_before}
 use Rattle.cep_players.proofs.Told.{run_told}
 use Rattle.cep_players.proofs.laws.rounds_have_logs.Goals as goal
 

@@ -1,16 +1,6 @@
 use Rattle.std.proofs.Common.{ℕ, ◌≤◌, subst, arith}
-use Rattle.std.proofs.lemmas.Result.{on_err_weaker}
-use Rattle.cep_base.proofs.Did.{did_map, did_then}
-use Rattle.cep_base.proofs.Lists.{all_weaker}
-use Rattle.cep_base.proofs.Outcomes.{on_err}
-use Rattle.cep_term.specs.Multiset.{Multiset}
-use Rattle.cep_rule.specs.declared.offer.Offer.{Offer}
-use Rattle.cep_rule.specs.declared.parts.Parts.{Parts}
-use Rattle.cep_rule.specs.Derivations.{IsDerivable}
+use Rattle.cep_players.proofs.Words.{on_err_weaker, did_map, did_then, all_weaker, on_err, Multiset, Offer, Parts, IsDerivable, Applies, applied_has_text, both_ok}
 use Rattle.cep_rule.specs.Limits.{IsHeight}
-use Rattle.cep_rule.specs.Offers.{Applies}
-use Rattle.cep_run.proofs.Counting.{both_ok}
-use Rattle.cep_run.proofs.StepLines.{applied_has_text}
 use Rattle.cep_run.proofs.Turns.{offers_have_texts}
 use Rattle.cep_players.proofs.OffersDone.{as_many_flags}
 use Rattle.cep_players.proofs.Going.{listing_refused, choosing_refused, round_cut, admitting_refused, did_ask, did_tell_some, acting_refused, round_acted}

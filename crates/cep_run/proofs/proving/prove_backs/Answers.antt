@@ -5,11 +5,10 @@ use Rattle.std.specs.List.{AllByRecursion}
 use Rattle.cep_term.specs.Tree.{atom_of, IsGround}
 use Rattle.cep_term.specs.Values.{Values, atom_instance, HasValues}
 use Rattle.cep_rule.specs.Instances.{given, full_instances}
-use Rattle.cep_rule.specs.Derivations.{IsDerivable}
+use Rattle.cep_rule.specs.Derivations.{IsDerivable, ProofTree, proof_of}
 use Rattle.cep_rule.specs.declared.rule.Rule.{Rule}
 use Rattle.cep_rule.specs.declared.parts.Parts.{Parts}
 use Rattle.cep_prove.specs.Answers.{IsGoal}
-use Rattle.cep_rule.specs.Derivations.{ProofTree, proof_of}
 use Rattle.cep_rule.specs.Steps.{AreProofs}
 use Rattle.cep_run.specs.Turn.{IsProofWithin}
 use Rattle.cep_run.proofs.Backs.{ground_values, may_be_asked, valued, derivable_at, applied_values, applied_derivable, one_proof_more}
