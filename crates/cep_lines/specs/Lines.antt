@@ -50,10 +50,6 @@ unfoldable pub offer_lines : Parts → ℕ → List Offer → List ℕ
 offer_lines program place [] = []
 offer_lines program place (offer ∷ offers) = offer_line program place offer ++ offer_lines program (place + 1) offers
 
--- what is written before the player chooses
-unfoldable pub question : Parts → List Offer → List ℕ
-question program offers = offer_lines program 1 offers ++ line (codes "? choose")
-
 abbrev pub stage_name : Option Stage → List ℕ
 stage_name None = []
 stage_name (Some stage) = stage.name

@@ -5,11 +5,11 @@
 mod deed;
 mod end_word;
 mod lines;
-mod question;
+mod offers;
 mod version;
 
 pub use deed::{put_by, put_deed, put_step};
 pub use end_word::EndWord;
 pub use lines::{put_end, put_have, put_mid, put_stage, put_start};
-pub use question::{put_offer_line, put_offers, put_question};
+pub use offers::{put_offer_line, put_offers};
 pub use version::Version;

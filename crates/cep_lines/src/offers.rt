@@ -1,10 +1,10 @@
-// Writes the lines of a question: the offers of a group, and the line that asks for a choice.
+// Writes the lines of the offers of a group.
 ghost use Rattle.std.specs.Prelude.{◌≡◌, ◌<◌, ◌≤◌, ◌++◌, length, All, OnOk, OnErr};
 ghost use Rattle.cep_base.specs.declared.limits.TheConstants.{MOST_OFFERS};
 ghost use Rattle.cep_rule.specs.Matching.{offers_of};
 ghost use Rattle.cep_rule.specs.Shapes.{IsOfferOf};
 ghost use Rattle.cep_text.specs.Writing.{IsBegun};
-ghost use Rattle.cep_lines.specs.Lines.{offer_line, offer_lines, question};
+ghost use Rattle.cep_lines.specs.Lines.{offer_line, offer_lines};
 
 use cep_base::Text;
 use cep_rule::{Matcher, Offer, Program};
@@ -47,22 +47,4 @@ pub fn put_offers<M: Matcher>(
         put_offer_line(program, i as u32 + 1, matcher.offer(group, i), out)?;
     }
     Ok(())
-}
-
-/// The lines of a group's offers, and the one that asks for a choice.
-#[tactic(auto, using(std::proofs::Common::append_assoc), unfolding(crate::specs::Lines::question))]
-pub fn put_question<M: Matcher>(
-    program: &Program,
-    matcher: &M,
-    group: u32,
-    out: &mut Text,
-) -> Result<(), AllocError>
-    requires listed { group < length (M.offers_held matcher.now) }
-    requires offers { All (IsOfferOf program.now) (offers_of (M.offers_held matcher.now) group) }
-    requires few { length (offers_of (M.offers_held matcher.now) group) ≤ MOST_OFFERS }
-    ensures ok { OnOk result (out.new ≡ out.old ++ question program.now (offers_of (M.offers_held matcher.now) group)) }
-    ensures err { OnErr result (IsBegun out.old (question program.now (offers_of (M.offers_held matcher.now) group)) out.new) }
-{
-    put_offers(program, matcher, group, out)?;
-    out.append(b"? choose\n")
 }
