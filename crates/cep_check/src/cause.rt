@@ -6,7 +6,7 @@ use cep_term::Atom;
 /// there are other numbers than wanted is the first such in the order of atoms, over all atoms: a
 /// number of 0 stands for an atom that is not there. That steps and quiescence are so is Ceptre's;
 /// the limits, the heights and what a transcript says are this profile's.
-#[derive(Debug, Drop)]
+#[derive(Drop)]
 pub enum Cause {
     /// The stage that is said is not the program's start stage.
     StartStage {
@@ -70,7 +70,7 @@ pub enum Cause {
 
 /// What checking a log comes to: how many steps it has where it is legal, and else the first cause
 /// that comes, with the line where it does.
-#[derive(Debug, Drop)]
+#[derive(Drop)]
 pub enum Verdict {
     Accepted { steps: u32 },
     Refused { line: u32, cause: Cause },

@@ -6,7 +6,7 @@ use std::alloc::{AllocError, Global};
 use std::marker::Model;
 
 /// A line of a listing: an atom, and how many copies of it there are.
-#[derive(Debug, Drop)]
+#[derive(Drop)]
 pub struct Have {
     pub count: u32,
     pub atom: Atom,
@@ -14,7 +14,7 @@ pub struct Have {
 
 /// A listing, line by line. Contracts see it as the list of its atoms, each with its count: so the
 /// listing of a state is the entries of that state.
-#[derive(Debug, Drop)]
+#[derive(Drop)]
 pub struct Haves {
     haves: Vec<Have>,
 }

@@ -9,7 +9,6 @@ use cep_rule::Offer;
 /// Contracts see a log as the record of its fields, each listing as a list of atoms with their
 /// counts, and each derivation as its tree. `IsLogOf` says which logs are of a program, and
 /// `IsLegal` which of these are legal.
-#[derive(Debug)]
 pub struct Log {
     pub version: Version,
     /// How high a derivation may be.
@@ -53,7 +52,6 @@ pub type LogSteps = List<LogStep>;
 /// offer's rule, the stage that is written below it, which stands there exactly where the rule
 /// leaves a stage, and the listing of the state after it, which stands there exactly where the
 /// version lists it.
-#[derive(Debug)]
 pub struct LogStep {
     pub line: u32,
     pub offer: Offer,
@@ -79,7 +77,6 @@ impl Drop for LogStep {
 }
 
 /// A listing behind a step: the number of its first line, and what it lists.
-#[derive(Debug)]
 pub struct LogMid {
     pub line: u32,
     pub state: Haves,
@@ -94,7 +91,6 @@ impl Drop for LogMid {
 }
 
 /// The end of a log: the number of its line, the word, and the listing of the last state.
-#[derive(Debug)]
 pub struct LogEnd {
     pub line: u32,
     pub word: EndWord,

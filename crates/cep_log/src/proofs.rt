@@ -7,7 +7,7 @@ use std::marker::Model;
 
 /// A list of derivations, as those of the backward premises of a step. Contracts see each as its
 /// tree.
-#[derive(Debug, Drop)]
+#[derive(Drop)]
 pub struct Proofs {
     proofs: Vec<Derivation>,
 }

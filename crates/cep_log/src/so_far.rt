@@ -2,7 +2,7 @@ use crate::log::{Log, LogEnd, LogMid, LogStep};
 use cep_lines::Version;
 
 /// What a front of a transcript's lines says, by what may stand next.
-#[derive(Debug, Drop)]
+#[derive(Drop)]
 pub enum SoFar {
     /// Nothing yet: the version is next.
     Nothing,

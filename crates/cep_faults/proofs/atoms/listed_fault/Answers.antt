@@ -6,6 +6,8 @@ use Rattle.cep_faults.specs.Faults.{state_faults, listed_faults}
 use Rattle.cep_faults.proofs.Firsts.{noted}
 use Rattle.cep_faults.proofs.atoms.listed_fault.Goals as goal
 use Rattle.cep_faults.proofs.atoms.listed_fault.Goals.{else-in_braces-via-then-in_braces+else-stands_for_context, else-in_braces-via-else-in_braces}
+use Rattle.std.proofs.Common.{arith}
+use Rattle.std.proofs.lemmas.Grind.{common_steps}
 
 not_both : (a b : Bool) → b ≡ false → (a && b) ≡ false
 not_both true b e = e
@@ -23,3 +25,9 @@ loop-atom-preserved c =
     (c.in_ok-state_fault.ensures ∙ ap (λ (raw : RawAtom). first_in (state_faults source raw)) c.of_raw.ensures
     ∙ ap (λ (b : Bool). first_in (if b then [] else state_faults source atom)) (sym itself))
     c.note.ensures
+
+pub loop-atom-preserved-then-stands_for_context : goal.loop-atom-preserved-then-stands_for_context
+loop-atom-preserved-then-stands_for_context c = grind (arith, common_steps)
+
+pub returns : goal.returns
+returns c = grind (arith, common_steps)
