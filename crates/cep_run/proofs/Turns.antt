@@ -168,7 +168,7 @@ module _ {M : Type 0} (program : Parts) (height : ℕ) (held : Multiset) (group 
 module _ {M : Type 0} (height_held : M → ℕ) (state_held : M → Multiset) (offers_held : M → List (List Offer)) (program : Parts) (group place : ℕ) (old : Configuration M)
     (lists : AreListed program (height_held old.matcher) (state_held old.matcher) (offers_held old.matcher)) (listed : group < length (offers_held old.matcher))
     (asked : offers_of (offers_held old.matcher) group ≡ asked_offers (offers_held old.matcher) old.stage)
-    (seen : M) (view : seen ≡ old.matcher) (chosen offer : Offer) (there : slice_get (offers_of (offers_held seen) group) place ≡ Some chosen) (copied : offer ≡ chosen) where
+    {offer : Offer} (at : slice_get (offers_of (offers_held old.matcher) group) place ≡ Some offer) where
   abbrev high : ℕ
   high = height_held old.matcher
 
@@ -177,9 +177,6 @@ module _ {M : Type 0} (height_held : M → ℕ) (state_held : M → Multiset) (o
 
   abbrev all : List (List Offer)
   all = offers_held old.matcher
-
-  at : slice_get (offers_of all group) place ≡ Some offer
-  at = subst (λ m. slice_get (offers_of (offers_held m) group) place ≡ Some offer) view (there ∙ ap Some (sym copied))
 
   -- the copy applies
   pub copy_applies : (settings : Settings) → high ≡ settings.height → (state : Multiset) × Applies program settings.height state offer
