@@ -95,7 +95,7 @@ impl RawStart {
 
 /// An item of a file. `Colon` is `x a : y.`, a constructor or a clause with a label: which of the
 /// two, the declarations tell.
-#[derive(Debug, Drop)]
+#[derive(Drop)]
 pub enum RawItem {
     Sort {
         name: Span,

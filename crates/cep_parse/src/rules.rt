@@ -1,5 +1,6 @@
 // Rules and bags, symbol by symbol.
-ghost use Rattle.std.specs.Prelude.{◌≡◌, ◌++◌, ◌∷◌, [], IfOk, Some};
+ghost use Rattle.std.specs.Prelude.{◌≡◌, ◌++◌, ◌∷◌, [], IfOk, OnOk, Some};
+ghost use Rattle.cep_parse.specs.declared.state.Next.TheVariants.{Stop};
 ghost use Rattle.cep_parse.specs.Machine.{atom_for, bag_behind, bag_ended, bag_first, bag_next, bag_unit, before_elem, behind_dollar, behind_elem, behind_left, behind_open, behind_right, behind_stage, rule_ended, rule_from, step_bag, step_rule, whole_rule, with_elem};
 
 use crate::atoms::atom_begun;
@@ -9,6 +10,13 @@ use crate::state::{
 };
 use crate::symbol::{Symbol, Word};
 use std::alloc::{AllocError, Global};
+
+/// No item goes on so: what was read of it is dropped.
+pub(crate) fn stop<T: Drop>(_read: T) -> Next
+    ensures { result ≡ Stop }
+{
+    Next::Stop
+}
 
 /// An atom is read for this.
 pub(crate) fn atom_for(alloc: Global, name: Span, used: Use) -> Next
@@ -38,39 +46,22 @@ pub(crate) fn rule_from(
     }
 }
 
+// One more element, on the side that is read.
+fn push_elem(rule: &mut RuleSoFar, elem: RawElem) -> Result<(), AllocError>
+    ensures { OnOk result (rule.new ≡ with_elem rule.old elem) }
+{
+    match &mut rule.right {
+        None => rule.left.push(elem),
+        Some(right) => right.push(elem),
+    }
+}
+
 /// The rule with one more element, on the side that is read.
-pub(crate) fn with_elem(rule: RuleSoFar, elem: RawElem) -> Result<RuleSoFar, AllocError>
+pub(crate) fn with_elem(mut rule: RuleSoFar, elem: RawElem) -> Result<RuleSoFar, AllocError>
     ensures { IfOk result (λ more. more ≡ with_elem rule elem) }
 {
-    let RuleSoFar {
-        stage,
-        at,
-        label,
-        mut left,
-        right,
-    } = rule;
-    match right {
-        None => {
-            left.push(elem)?;
-            Ok(RuleSoFar {
-                stage,
-                at,
-                label,
-                left,
-                right: None,
-            })
-        }
-        Some(mut right) => {
-            right.push(elem)?;
-            Ok(RuleSoFar {
-                stage,
-                at,
-                label,
-                left,
-                right: Some(right),
-            })
-        }
-    }
+    push_elem(&mut rule, elem)?;
+    Ok(rule)
 }
 
 // A rule is whole.
@@ -114,7 +105,7 @@ pub(crate) fn before_elem(
             Ok(at_place(rule, RulePlace::Behind))
         }
         Word::Stage if outer => Ok(at_place(rule, RulePlace::Stage)),
-        _ => Ok(Next::Stop),
+        _ => Ok(stop(rule)),
     }
 }
 
@@ -134,7 +125,7 @@ pub(crate) fn behind_left(alloc: Global, rule: RuleSoFar, symbol: Symbol) -> Nex
             },
             RulePlace::Before,
         ),
-        _ => Next::Stop,
+        _ => stop(rule),
     }
 }
 
@@ -214,7 +205,7 @@ pub(crate) fn step_rule(
             Ok(at_place(rule, RulePlace::Behind))
         }
         (RulePlace::Behind, _) => behind_elem(alloc, rule, symbol),
-        _ => Ok(Next::Stop),
+        _ => Ok(stop(rule)),
     }
 }
 
@@ -255,7 +246,7 @@ pub(crate) fn step_bag(alloc: Global, bag: BagSoFar, place: BagPlace, symbol: Sy
         (BagPlace::First | BagPlace::Behind, Word::CloseBrace) => bag_ended(bag),
         (BagPlace::Unit, Word::Close) => in_bag(bag, BagPlace::Behind),
         (BagPlace::Behind, Word::Comma | Word::Star) => in_bag(bag, BagPlace::Next),
-        _ => Next::Stop,
+        _ => stop(bag),
     }
 }
 

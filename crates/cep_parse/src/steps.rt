@@ -2,14 +2,14 @@
 ghost use Rattle.std.specs.Prelude.{◌≡◌, IfOk, None};
 ghost use Rattle.cep_parse.specs.Machine.{before_goal, rule_named, behind_atom, behind_goal, behind_head, head_alone, names_begun, step, step_atom, step_declared, step_ending, step_names, step_rules, with_goal};
 
-use crate::atoms::{atom_of_names, grow};
+use crate::atoms::{atom_of_names, grow, whole_atom};
 use crate::begins::step_plain;
 use crate::raw::{RawAtom, RawAtoms, RawElem, RawItem, RawSide, Span, Spans};
 use crate::rules::{
-    atom_for, behind_elem, behind_left, rule_from, step_bag, step_rule, with_atom, with_elem,
+    atom_for, behind_elem, behind_left, rule_from, step_bag, step_rule, stop, with_atom, with_elem,
 };
 use crate::state::{
-    AtomSoFar, BagPlace, ClauseSoFar, Grown, Next, Plain, RulePlace, StageSoFar, State, Use,
+    AtomSoFar, BagPlace, ClauseSoFar, Growth, Next, Plain, RulePlace, StageSoFar, State, Use,
 };
 use crate::symbol::{Symbol, Word};
 use cep_base::PredKind;
@@ -61,7 +61,7 @@ fn behind_head(
             })?;
             Ok(behind_left(alloc, rule_from(None, at, label, left), symbol))
         }
-        _ => Ok(Next::Stop),
+        _ => Ok(stop(head)),
     }
 }
 
@@ -87,7 +87,7 @@ fn behind_goal(clause: ClauseSoFar, symbol: Symbol) -> Next
             may_dot: false,
         },
         Word::Back | Word::Comma => Next::Go(State::Goal(clause)),
-        _ => Next::Stop,
+        _ => stop(clause),
     }
 }
 
@@ -110,13 +110,22 @@ fn behind_atom(alloc: Global, used: Use, atom: RawAtom, symbol: Symbol) -> Resul
 }
 
 // In an atom.
-fn step_atom(alloc: Global, atom: AtomSoFar, used: Use, symbol: Symbol) -> Result<Next, AllocError>
+fn step_atom(
+    alloc: Global,
+    mut atom: AtomSoFar,
+    used: Use,
+    symbol: Symbol,
+) -> Result<Next, AllocError>
     ensures { IfOk result (λ next. next ≡ step_atom atom used symbol.word symbol.at) }
 {
-    match grow(atom, symbol)? {
-        Grown::Going(atom) => Ok(Next::Go(State::Atom { atom, used })),
-        Grown::Ended(atom) => behind_atom(alloc, used, atom, symbol),
-        Grown::Broken => Ok(Next::Stop),
+    let Ok(growth) = grow(&mut atom, symbol) else {
+        drop(used);
+        return Err(AllocError);
+    };
+    match growth {
+        Growth::Going => Ok(Next::Go(State::Atom { atom, used })),
+        Growth::Ended => behind_atom(alloc, used, whole_atom(atom), symbol),
+        Growth::Broken => Ok(stop(used)),
     }
 }
 
@@ -146,11 +155,12 @@ fn step_names(
         }
         Word::Colon => Ok(names_begun(name, args)),
         _ => {
+            let atom = atom_of_names(alloc, name, args.as_slice())?;
             let used = Use::First {
                 at: name.from,
                 label: None,
             };
-            step_atom(alloc, atom_of_names(alloc, name, args)?, used, symbol)
+            step_atom(alloc, atom, used, symbol)
         }
     }
 }
@@ -180,7 +190,7 @@ fn step_declared(name: Span, args: Spans, symbol: Symbol) -> Next
             args,
             right: symbol.at,
         },
-        _ => return Next::Stop,
+        _ => return stop(args),
     };
     Next::Go(State::Ending(item))
 }
@@ -194,7 +204,7 @@ fn step_ending(item: RawItem, symbol: Symbol) -> Next
             item,
             may_dot: false,
         },
-        _ => Next::Stop,
+        _ => stop(item),
     }
 }
 
@@ -214,7 +224,7 @@ fn step_rules(stage: StageSoFar, symbol: Symbol) -> Next
             },
             may_dot: true,
         },
-        _ => Next::Stop,
+        _ => stop(stage),
     }
 }
 
@@ -227,7 +237,7 @@ fn rule_named(alloc: Global, stage: StageSoFar, label: Span, symbol: Symbol) -> 
             rule: rule_from(Some(stage), label.from, Some(label), RawSide::new(alloc)),
             place: RulePlace::Before,
         }),
-        _ => Next::Stop,
+        _ => stop(stage),
     }
 }
 
@@ -237,7 +247,7 @@ fn before_goal(alloc: Global, clause: ClauseSoFar, symbol: Symbol) -> Next
 {
     match symbol.word {
         Word::Name => atom_for(alloc, symbol.at, Use::Goal(clause)),
-        _ => Next::Stop,
+        _ => stop(clause),
     }
 }
 
