@@ -1,9 +1,9 @@
 // The states in which nothing but names and places are kept.
 ghost use Rattle.std.specs.Prelude.{◌≡◌, ◌∷◌, [], IfOk, None, Some};
-ghost use Rattle.cep_parse.specs.Machine.{IsFixed, begin, labelled, plainly, stage_equals, stage_begun, step_ended, step_plain, trace_stage, trace_word, behind_blank, context_equals};
+ghost use Rattle.cep_parse.specs.Machine.{IsFixed, before_elem, begin, labelled, plainly, rule_from, stage_equals, stage_begun, step_ended, step_plain, trace_stage, trace_word, behind_blank, context_equals};
 
 use crate::raw::{RawAtoms, RawElem, RawItem, RawRules, RawSide, RawStart, Span, Spans};
-use crate::rules::{atom_for, before_elem, behind_left, rule_from};
+use crate::rules::{atom_for, before_elem, behind_first, rule_from};
 use crate::state::{BagHome, BagPlace, BagSoFar, Next, Plain, RulePlace, StageSoFar, State, Use};
 use crate::symbol::{Symbol, Word};
 use cep_base::PredKind;
@@ -21,6 +21,19 @@ fn ending(item: RawItem) -> Next
     Next::Go(State::Ending(item))
 }
 
+// Before the first element of an outer rule.
+fn rule_begun(
+    alloc: Global,
+    at: u32,
+    label: Option<Span>,
+    symbol: Symbol,
+) -> Result<Next, AllocError>
+    ensures { IfOk result (λ next. next ≡ before_elem (rule_from None at label []) symbol.word symbol.at) }
+{
+    let rule = rule_from(None, at, label, RawSide::new(alloc));
+    before_elem(alloc, rule, symbol)
+}
+
 // Before an item.
 fn begin(alloc: Global, symbol: Symbol) -> Result<Next, AllocError>
     ensures { IfOk result (λ next. next ≡ begin symbol.word symbol.at) }
@@ -36,11 +49,7 @@ fn begin(alloc: Global, symbol: Symbol) -> Result<Next, AllocError>
         Word::Context => Ok(plainly(Plain::ContextWord)),
         Word::Interactive => Ok(plainly(Plain::InteractiveWord)),
         Word::Trace => Ok(plainly(Plain::TraceWord { at })),
-        _ => before_elem(
-            alloc,
-            rule_from(None, at, None, RawSide::new(alloc)),
-            symbol,
-        ),
+        _ => rule_begun(alloc, at, None, symbol),
     }
 }
 
@@ -80,10 +89,7 @@ fn labelled(alloc: Global, label: Span, symbol: Symbol) -> Result<Next, AllocErr
             let label = Some(label);
             Ok(atom_for(alloc, symbol.at, Use::First { at, label }))
         }
-        _ => {
-            let rule = rule_from(None, at, Some(label), RawSide::new(alloc));
-            before_elem(alloc, rule, symbol)
-        }
+        _ => rule_begun(alloc, at, Some(label), symbol),
     }
 }
 
@@ -93,11 +99,7 @@ fn stage_begun(alloc: Global, at: u32, name: Span, symbol: Symbol) -> Result<Nex
 {
     match symbol.word {
         Word::Equals => Ok(plainly(Plain::StageEquals { name })),
-        _ => {
-            let mut left = RawSide::new(alloc);
-            left.push(RawElem::Stage(name))?;
-            Ok(behind_left(alloc, rule_from(None, at, None, left), symbol))
-        }
+        _ => behind_first(alloc, at, None, RawElem::Stage(name), symbol),
     }
 }
 

@@ -1,5 +1,5 @@
 // Rules and bags, symbol by symbol.
-ghost use Rattle.std.specs.Prelude.{◌≡◌, ◌++◌, ◌∷◌, [], IfOk, OnOk, Some};
+ghost use Rattle.std.specs.Prelude.{◌≡◌, ◌++◌, ◌∷◌, [], IfOk, None, OnOk, Some};
 ghost use Rattle.cep_parse.specs.declared.state.Next.TheVariants.{Stop};
 ghost use Rattle.cep_parse.specs.Machine.{atom_for, bag_behind, bag_ended, bag_first, bag_next, bag_unit, before_elem, behind_dollar, behind_elem, behind_left, behind_open, behind_right, behind_stage, rule_ended, rule_from, step_bag, step_rule, whole_rule, with_elem};
 
@@ -86,6 +86,13 @@ fn at_place(rule: RuleSoFar, place: RulePlace) -> Next
     Next::Go(State::Rule { rule, place })
 }
 
+// An element was read that is no atom.
+fn elem_read(rule: RuleSoFar, elem: RawElem) -> Result<Next, AllocError>
+    ensures { IfOk result (λ next. next ≡ Next.Go (State.Rule (with_elem rule elem) RulePlace.Behind)) }
+{
+    Ok(at_place(with_elem(rule, elem)?, RulePlace::Behind))
+}
+
 /// Before an element.
 pub(crate) fn before_elem(
     alloc: Global,
@@ -100,17 +107,14 @@ pub(crate) fn before_elem(
         Word::Name => Ok(atom_for(alloc, symbol.at, Use::Elem { rule, kept: false })),
         Word::Dollar if !right => Ok(at_place(rule, RulePlace::Kept)),
         Word::Open => Ok(at_place(rule, RulePlace::Unit)),
-        Word::Qui if outer && !right => {
-            let rule = with_elem(rule, RawElem::Qui(symbol.at))?;
-            Ok(at_place(rule, RulePlace::Behind))
-        }
+        Word::Qui if outer && !right => elem_read(rule, RawElem::Qui(symbol.at)),
         Word::Stage if outer => Ok(at_place(rule, RulePlace::Stage)),
         _ => Ok(stop(rule)),
     }
 }
 
-/// Behind an element on the left.
-pub(crate) fn behind_left(alloc: Global, rule: RuleSoFar, symbol: Symbol) -> Next
+// Behind an element on the left.
+fn behind_left(alloc: Global, rule: RuleSoFar, symbol: Symbol) -> Next
     ensures { result ≡ behind_left rule symbol.word }
 {
     match symbol.word {
@@ -127,6 +131,20 @@ pub(crate) fn behind_left(alloc: Global, rule: RuleSoFar, symbol: Symbol) -> Nex
         ),
         _ => stop(rule),
     }
+}
+
+/// Behind the first element of an outer rule.
+pub(crate) fn behind_first(
+    alloc: Global,
+    at: u32,
+    label: Option<Span>,
+    elem: RawElem,
+    symbol: Symbol,
+) -> Result<Next, AllocError>
+    ensures { IfOk result (λ next. next ≡ behind_left (rule_from None at label (elem ∷ [])) symbol.word) }
+{
+    let rule = rule_from(None, at, label, RawSide::new(alloc));
+    Ok(behind_left(alloc, with_elem(rule, elem)?, symbol))
 }
 
 /// Behind an element.
@@ -200,10 +218,7 @@ pub(crate) fn step_rule(
             Ok(atom_for(alloc, symbol.at, Use::Elem { rule, kept: true }))
         }
         (RulePlace::Unit, Word::Close) => Ok(at_place(rule, RulePlace::Behind)),
-        (RulePlace::Stage, Word::Name) => {
-            let rule = with_elem(rule, RawElem::Stage(symbol.at))?;
-            Ok(at_place(rule, RulePlace::Behind))
-        }
+        (RulePlace::Stage, Word::Name) => elem_read(rule, RawElem::Stage(symbol.at)),
         (RulePlace::Behind, _) => behind_elem(alloc, rule, symbol),
         _ => Ok(stop(rule)),
     }

@@ -1,12 +1,12 @@
 // What a symbol does in each state.
 ghost use Rattle.std.specs.Prelude.{◌≡◌, IfOk, None};
-ghost use Rattle.cep_parse.specs.Machine.{before_goal, rule_named, behind_atom, behind_goal, behind_head, head_alone, names_begun, step, step_atom, step_declared, step_ending, step_names, step_rules, with_goal};
+ghost use Rattle.cep_parse.specs.Machine.{atom_of_names, before_goal, rule_named, behind_atom, behind_goal, behind_head, head_alone, names_begun, step, step_atom, step_declared, step_ending, step_names, step_rules, with_goal};
 
 use crate::atoms::{atom_of_names, grow, whole_atom};
 use crate::begins::step_plain;
 use crate::raw::{RawAtom, RawAtoms, RawElem, RawItem, RawSide, Span, Spans};
 use crate::rules::{
-    atom_for, behind_elem, behind_left, rule_from, step_bag, step_rule, stop, with_atom, with_elem,
+    atom_for, behind_elem, behind_first, rule_from, step_bag, step_rule, stop, with_atom, with_elem,
 };
 use crate::state::{
     AtomSoFar, BagPlace, ClauseSoFar, Growth, Next, Plain, RulePlace, StageSoFar, State, Use,
@@ -54,12 +54,11 @@ fn behind_head(
             goals: RawAtoms::new(alloc),
         }))),
         Word::Star | Word::Lolli => {
-            let mut left = RawSide::new(alloc);
-            left.push(RawElem::Atom {
+            let elem = RawElem::Atom {
                 kept: false,
                 atom: head,
-            })?;
-            Ok(behind_left(alloc, rule_from(None, at, label, left), symbol))
+            };
+            behind_first(alloc, at, label, elem, symbol)
         }
         _ => Ok(stop(head)),
     }
@@ -154,15 +153,20 @@ fn step_names(
             Ok(Next::Go(State::Names { name, args }))
         }
         Word::Colon => Ok(names_begun(name, args)),
-        _ => {
-            let atom = atom_of_names(alloc, name, args.as_slice())?;
-            let used = Use::First {
-                at: name.from,
-                label: None,
-            };
-            step_atom(alloc, atom, used, symbol)
-        }
+        _ => names_ended(alloc, name, args, symbol),
     }
+}
+
+// Behind names that are an atom.
+fn names_ended(alloc: Global, name: Span, args: Spans, symbol: Symbol) -> Result<Next, AllocError>
+    ensures { IfOk result (λ next. next ≡ step_atom (atom_of_names name args) (Use.First name.from None) symbol.word symbol.at) }
+{
+    let atom = atom_of_names(alloc, name, &args)?;
+    let used = Use::First {
+        at: name.from,
+        label: None,
+    };
+    step_atom(alloc, atom, used, symbol)
 }
 
 // Behind names and their colon, where they are a declaration.
