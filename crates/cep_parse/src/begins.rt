@@ -15,10 +15,18 @@ fn plainly(plain: Plain) -> Next
     Next::Go(State::Plain(plain))
 }
 
-fn ending(item: RawItem) -> Next
+/// An item that lacks its dot alone.
+pub(crate) fn ending(item: RawItem) -> Next
     ensures { result ≡ Next.Go (State.Ending item) }
 {
     Next::Go(State::Ending(item))
+}
+
+/// A predicate's declaration.
+pub(crate) fn declared(name: Span, args: Spans, kind: PredKind) -> Next
+    ensures { result ≡ Next.Go (State.Ending (RawItem.Pred name args kind)) }
+{
+    ending(RawItem::Pred { name, args, kind })
 }
 
 // Before the first element of an outer rule.
@@ -70,21 +78,9 @@ fn labelled(alloc: Global, label: Span, symbol: Symbol) -> Result<Next, AllocErr
     let at = label.from;
     match symbol.word {
         Word::Type => Ok(ending(RawItem::Sort { name: label })),
-        Word::Pred => Ok(ending(RawItem::Pred {
-            name: label,
-            args: Spans::new(alloc),
-            kind: PredKind::Linear,
-        })),
-        Word::Bwd => Ok(ending(RawItem::Pred {
-            name: label,
-            args: Spans::new(alloc),
-            kind: PredKind::Back,
-        })),
-        Word::Fact => Ok(ending(RawItem::Pred {
-            name: label,
-            args: Spans::new(alloc),
-            kind: PredKind::Fact,
-        })),
+        Word::Pred => Ok(declared(label, Spans::new(alloc), PredKind::Linear)),
+        Word::Bwd => Ok(declared(label, Spans::new(alloc), PredKind::Back)),
+        Word::Fact => Ok(declared(label, Spans::new(alloc), PredKind::Fact)),
         Word::Name => {
             let label = Some(label);
             Ok(atom_for(alloc, symbol.at, Use::First { at, label }))

@@ -113,26 +113,6 @@ pub(crate) fn before_elem(
     }
 }
 
-// Behind an element on the left.
-fn behind_left(alloc: Global, rule: RuleSoFar, symbol: Symbol) -> Next
-    ensures { result ≡ behind_left rule symbol.word }
-{
-    match symbol.word {
-        Word::Star => at_place(rule, RulePlace::Before),
-        Word::Lolli => at_place(
-            RuleSoFar {
-                stage: rule.stage,
-                at: rule.at,
-                label: rule.label,
-                left: rule.left,
-                right: Some(RawSide::new(alloc)),
-            },
-            RulePlace::Before,
-        ),
-        _ => stop(rule),
-    }
-}
-
 /// Behind the first element of an outer rule.
 pub(crate) fn behind_first(
     alloc: Global,
@@ -144,7 +124,7 @@ pub(crate) fn behind_first(
     ensures { IfOk result (λ next. next ≡ behind_left (rule_from None at label (elem ∷ [])) symbol.word) }
 {
     let rule = rule_from(None, at, label, RawSide::new(alloc));
-    Ok(behind_left(alloc, with_elem(rule, elem)?, symbol))
+    behind_elem(alloc, with_elem(rule, elem)?, symbol)
 }
 
 /// Behind an element.
@@ -163,8 +143,35 @@ pub(crate) fn behind_elem(
         right,
     } = rule;
     match right {
-        None => Ok(behind_left(alloc, rule_from(stage, at, label, left), symbol)),
+        None => Ok(behind_left(alloc, stage, at, label, left, symbol)),
         Some(right) => behind_right(stage, at, label, left, right, symbol),
+    }
+}
+
+// Behind an element on the left.
+fn behind_left(
+    alloc: Global,
+    stage: Option<StageSoFar>,
+    at: u32,
+    label: Option<Span>,
+    left: RawSide,
+    symbol: Symbol,
+) -> Next
+    ensures { result ≡ behind_left (rule_from stage at label left) symbol.word }
+{
+    match symbol.word {
+        Word::Star => at_place(rule_from(stage, at, label, left), RulePlace::Before),
+        Word::Lolli => at_place(
+            RuleSoFar {
+                stage,
+                at,
+                label,
+                left,
+                right: Some(RawSide::new(alloc)),
+            },
+            RulePlace::Before,
+        ),
+        _ => Next::Stop,
     }
 }
 
@@ -265,10 +272,15 @@ pub(crate) fn step_bag(alloc: Global, bag: BagSoFar, place: BagPlace, symbol: Sy
     }
 }
 
-/// The bag with one more atom.
-pub(crate) fn with_atom(mut bag: BagSoFar, atom: RawAtom) -> Result<BagSoFar, AllocError>
-    ensures { IfOk result (λ more. more ≡ record { home = bag.home; atoms = bag.atoms ++ atom ∷ [] }) }
+/// Behind an atom in a bag.
+pub(crate) fn behind_bag_atom(
+    alloc: Global,
+    mut bag: BagSoFar,
+    atom: RawAtom,
+    symbol: Symbol,
+) -> Result<Next, AllocError>
+    ensures { IfOk result (λ next. next ≡ bag_behind (record { home = bag.home; atoms = bag.atoms ++ atom ∷ [] }) symbol.word) }
 {
     bag.atoms.push(atom)?;
-    Ok(bag)
+    Ok(step_bag(alloc, bag, BagPlace::Behind, symbol))
 }

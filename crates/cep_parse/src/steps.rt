@@ -3,10 +3,11 @@ ghost use Rattle.std.specs.Prelude.{◌≡◌, IfOk, None};
 ghost use Rattle.cep_parse.specs.Machine.{atom_of_names, before_goal, rule_named, behind_atom, behind_goal, behind_head, head_alone, names_begun, step, step_atom, step_declared, step_ending, step_names, step_rules, with_goal};
 
 use crate::atoms::{atom_of_names, grow, whole_atom};
-use crate::begins::step_plain;
+use crate::begins::{declared, ending, step_plain};
 use crate::raw::{RawAtom, RawAtoms, RawElem, RawItem, RawSide, Span, Spans};
 use crate::rules::{
-    atom_for, behind_elem, behind_first, rule_from, step_bag, step_rule, stop, with_atom, with_elem,
+    atom_for, behind_bag_atom, behind_elem, behind_first, rule_from, step_bag, step_rule, stop,
+    with_elem,
 };
 use crate::state::{
     AtomSoFar, BagPlace, ClauseSoFar, Growth, Next, Plain, RulePlace, StageSoFar, State, Use,
@@ -64,29 +65,22 @@ fn behind_head(
     }
 }
 
-// The clause with one more goal.
-fn with_goal(mut clause: ClauseSoFar, goal: RawAtom) -> Result<ClauseSoFar, AllocError>
-    ensures { IfOk result (λ more. more ≡ with_goal clause goal) }
+// Behind a goal.
+fn behind_goal(mut clause: ClauseSoFar, goal: RawAtom, symbol: Symbol) -> Result<Next, AllocError>
+    ensures { IfOk result (λ next. next ≡ behind_goal (with_goal clause goal) symbol.word) }
 {
     clause.goals.push(goal)?;
-    Ok(clause)
-}
-
-// Behind a goal.
-fn behind_goal(clause: ClauseSoFar, symbol: Symbol) -> Next
-    ensures { result ≡ behind_goal clause symbol.word }
-{
     match symbol.word {
-        Word::Dot => Next::Item {
+        Word::Dot => Ok(Next::Item {
             item: RawItem::Clause {
                 label: clause.label,
                 head: clause.head,
                 goals: clause.goals,
             },
             may_dot: false,
-        },
-        Word::Back | Word::Comma => Next::Go(State::Goal(clause)),
-        _ => stop(clause),
+        }),
+        Word::Back | Word::Comma => Ok(Next::Go(State::Goal(clause))),
+        _ => Ok(stop(clause)),
     }
 }
 
@@ -96,15 +90,12 @@ fn behind_atom(alloc: Global, used: Use, atom: RawAtom, symbol: Symbol) -> Resul
 {
     match used {
         Use::First { at, label } => behind_head(alloc, at, label, atom, symbol),
-        Use::Goal(clause) => Ok(behind_goal(with_goal(clause, atom)?, symbol)),
+        Use::Goal(clause) => behind_goal(clause, atom, symbol),
         Use::Elem { rule, kept } => {
             let rule = with_elem(rule, RawElem::Atom { kept, atom })?;
             behind_elem(alloc, rule, symbol)
         }
-        Use::Bag(bag) => {
-            let bag = with_atom(bag, atom)?;
-            Ok(step_bag(alloc, bag, BagPlace::Behind, symbol))
-        }
+        Use::Bag(bag) => behind_bag_atom(alloc, bag, atom, symbol),
     }
 }
 
@@ -173,30 +164,17 @@ fn names_ended(alloc: Global, name: Span, args: Spans, symbol: Symbol) -> Result
 fn step_declared(name: Span, args: Spans, symbol: Symbol) -> Next
     ensures { result ≡ step_declared name args symbol.word symbol.at }
 {
-    let item = match symbol.word {
-        Word::Pred => RawItem::Pred {
-            name,
-            args,
-            kind: PredKind::Linear,
-        },
-        Word::Bwd => RawItem::Pred {
-            name,
-            args,
-            kind: PredKind::Back,
-        },
-        Word::Fact => RawItem::Pred {
-            name,
-            args,
-            kind: PredKind::Fact,
-        },
-        Word::Name => RawItem::Colon {
+    match symbol.word {
+        Word::Pred => declared(name, args, PredKind::Linear),
+        Word::Bwd => declared(name, args, PredKind::Back),
+        Word::Fact => declared(name, args, PredKind::Fact),
+        Word::Name => ending(RawItem::Colon {
             left: name,
             args,
             right: symbol.at,
-        },
-        _ => return stop(args),
-    };
-    Next::Go(State::Ending(item))
+        }),
+        _ => stop(args),
+    }
 }
 
 // Before the dot of an item.
