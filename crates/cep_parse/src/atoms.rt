@@ -5,7 +5,7 @@ ghost use Rattle.cep_parse.specs.Machine.Grown.{Going};
 ghost use Rattle.cep_parse.specs.Machine.{atom_begun, atom_of_names, child_in, grow, grow_args, grow_empty, grow_flat, grow_term, grow_whole, grown_to, headed, in_level, leaf, set_args, whole_atom};
 
 use crate::levels::{Level, Levels};
-use crate::raw::{RawAtom, RawKind, RawNode, RawNodes, Span, Spans};
+use crate::raw::{RawAtom, RawKind, RawNode, RawNodes, Span};
 use crate::state::{AtomSoFar, Growth};
 use crate::symbol::{Symbol, Word};
 use std::alloc::{AllocError, Global};
@@ -178,8 +178,8 @@ pub(crate) fn whole_atom(atom: AtomSoFar) -> RawAtom
     }
 }
 
-// The atom gets names as its arguments.
-fn add_names(atom: &mut AtomSoFar, names: &[Span]) -> Result<(), AllocError>
+/// The atom, of which a name alone was read, gets names as its arguments.
+pub(crate) fn add_names(atom: &mut AtomSoFar, names: &[Span]) -> Result<(), AllocError>
     requires { atom.old ≡ atom_begun atom.old.name }
     ensures { OnOk result (atom.new ≡ atom_of_names atom.old.name names.now) }
 {
@@ -187,17 +187,4 @@ fn add_names(atom: &mut AtomSoFar, names: &[Span]) -> Result<(), AllocError>
         add_leaf(atom, RawKind::App, *name)?;
     }
     Ok(())
-}
-
-/// A name, and names as its arguments.
-pub(crate) fn atom_of_names(
-    alloc: Global,
-    name: Span,
-    args: &Spans,
-) -> Result<AtomSoFar, AllocError>
-    ensures { IfOk result (λ atom. atom ≡ atom_of_names name args.now) }
-{
-    let mut atom = atom_begun(alloc, name);
-    add_names(&mut atom, args.as_slice())?;
-    Ok(atom)
 }

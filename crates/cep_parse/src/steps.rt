@@ -2,7 +2,7 @@
 ghost use Rattle.std.specs.Prelude.{◌≡◌, IfOk, None};
 ghost use Rattle.cep_parse.specs.Machine.{atom_of_names, before_goal, rule_named, behind_atom, behind_goal, behind_head, head_alone, names_begun, step, step_atom, step_declared, step_ending, step_names, step_rules, with_goal};
 
-use crate::atoms::{atom_of_names, grow, whole_atom};
+use crate::atoms::{add_names, atom_begun, grow, whole_atom};
 use crate::begins::{declared, ending, step_plain};
 use crate::raw::{RawAtom, RawAtoms, RawElem, RawItem, RawSide, Span, Spans};
 use crate::rules::{
@@ -152,7 +152,8 @@ fn step_names(
 fn names_ended(alloc: Global, name: Span, args: Spans, symbol: Symbol) -> Result<Next, AllocError>
     ensures { IfOk result (λ next. next ≡ step_atom (atom_of_names name args) (Use.First name.from None) symbol.word symbol.at) }
 {
-    let atom = atom_of_names(alloc, name, &args)?;
+    let mut atom = atom_begun(alloc, name);
+    add_names(&mut atom, args.as_slice())?;
     let used = Use::First {
         at: name.from,
         label: None,
