@@ -3,7 +3,7 @@ ghost use Rattle.std.specs.Prelude.{◌≡◌, ◌∷◌, [], IfOk, None, Some};
 ghost use Rattle.cep_parse.specs.Machine.{IsFixed, before_elem, begin, labelled, plainly, rule_from, stage_equals, stage_begun, step_ended, step_plain, trace_stage, trace_word, behind_blank, context_equals};
 
 use crate::raw::{RawAtoms, RawElem, RawItem, RawRules, RawSide, RawStart, Span, Spans};
-use crate::rules::{atom_for, before_elem, behind_first, rule_from};
+use crate::rules::{after_first, atom_for, before_elem, rule_from};
 use crate::state::{BagHome, BagPlace, BagSoFar, Next, Plain, RulePlace, StageSoFar, State, Use};
 use crate::symbol::{Symbol, Word};
 use cep_base::PredKind;
@@ -95,7 +95,7 @@ fn stage_begun(alloc: Global, at: u32, name: Span, symbol: Symbol) -> Result<Nex
 {
     match symbol.word {
         Word::Equals => Ok(plainly(Plain::StageEquals { name })),
-        _ => behind_first(alloc, at, None, RawElem::Stage(name), symbol),
+        _ => after_first(alloc, at, None, RawElem::Stage(name), symbol),
     }
 }
 

@@ -95,6 +95,7 @@ pub fn parse(
             None => return Ok(Err(ParseFault::Unexpected { at: token.from })),
         }
         if is_too_deep(symbol.word, depth) {
+            // By a call, so that this proof does not take the state apart.
             drop(state);
             return Ok(Err(ParseFault::Nested { at: token.from }));
         }

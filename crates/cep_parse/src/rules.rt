@@ -11,7 +11,8 @@ use crate::state::{
 use crate::symbol::{Symbol, Word};
 use std::alloc::{AllocError, Global};
 
-/// No item goes on so: what was read of it is dropped.
+/// No item goes on so. What was read of it is dropped by this call, so that no caller's proof takes
+/// it apart variant by variant.
 pub(crate) fn stop<T: Drop>(_read: T) -> Next
     ensures { result ≡ Stop }
 {
@@ -113,8 +114,8 @@ pub(crate) fn before_elem(
     }
 }
 
-/// Behind the first element of an outer rule.
-pub(crate) fn behind_first(
+/// After the first element of an outer rule.
+pub(crate) fn after_first(
     alloc: Global,
     at: u32,
     label: Option<Span>,
@@ -272,8 +273,8 @@ pub(crate) fn step_bag(alloc: Global, bag: BagSoFar, place: BagPlace, symbol: Sy
     }
 }
 
-/// Behind an atom in a bag.
-pub(crate) fn behind_bag_atom(
+/// After an atom in a bag.
+pub(crate) fn after_bag_atom(
     alloc: Global,
     mut bag: BagSoFar,
     atom: RawAtom,

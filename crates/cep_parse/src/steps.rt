@@ -6,7 +6,7 @@ use crate::atoms::{add_names, atom_begun, grow, whole_atom};
 use crate::begins::{declared, ending, step_plain};
 use crate::raw::{RawAtom, RawAtoms, RawElem, RawItem, RawSide, Span, Spans};
 use crate::rules::{
-    atom_for, behind_bag_atom, behind_elem, behind_first, rule_from, step_bag, step_rule, stop,
+    after_bag_atom, after_first, atom_for, behind_elem, rule_from, step_bag, step_rule, stop,
     with_elem,
 };
 use crate::state::{
@@ -59,7 +59,7 @@ fn behind_head(
                 kept: false,
                 atom: head,
             };
-            behind_first(alloc, at, label, elem, symbol)
+            after_first(alloc, at, label, elem, symbol)
         }
         _ => Ok(stop(head)),
     }
@@ -95,7 +95,7 @@ fn behind_atom(alloc: Global, used: Use, atom: RawAtom, symbol: Symbol) -> Resul
             let rule = with_elem(rule, RawElem::Atom { kept, atom })?;
             behind_elem(alloc, rule, symbol)
         }
-        Use::Bag(bag) => behind_bag_atom(alloc, bag, atom, symbol),
+        Use::Bag(bag) => after_bag_atom(alloc, bag, atom, symbol),
     }
 }
 
@@ -148,7 +148,7 @@ fn step_names(
     }
 }
 
-// Behind names that are an atom.
+// After names that are an atom.
 fn names_ended(alloc: Global, name: Span, args: Spans, symbol: Symbol) -> Result<Next, AllocError>
     ensures { IfOk result (λ next. next ≡ step_atom (atom_of_names name args) (Use.First name.from None) symbol.word symbol.at) }
 {
