@@ -1,5 +1,5 @@
 -- The nodes of an atom: their arguments, and those of names.
-use Rattle.std.proofs.Common.{◌≡◌, ℕ, zero, suc, ◌+◌, ◌<◌, ◌≤◌, List, [], ◌∷◌, ◌++◌, length, get_or, set, take, map, Some, refl, sym, ap, ◌∙◌, arith}
+use Rattle.std.proofs.Common.{◌≡◌, ℕ, zero, suc, ◌+◌, ◌<◌, ◌≤◌, List, [], ◌∷◌, ◌++◌, length, get_or, set, take, Some, refl, sym, ap, ◌∙◌, arith}
 use Rattle.std.proofs.lemmas.List.{take_more, length_push, map-append}
 use Rattle.cep_parse.specs.declared.raw.RawKind.TheVariants.{App}
 use Rattle.cep_parse.specs.declared.raw.RawNode.{RawNode}
@@ -7,7 +7,10 @@ use Rattle.cep_parse.specs.declared.raw.Span.{Span}
 use Rattle.std.specs.List.{slice_get}
 use Rattle.cep_parse.specs.declared.state.AtomSoFar.{AtomSoFar}
 use Rattle.cep_parse.specs.Grammar.{node}
-use Rattle.cep_parse.specs.Machine.{set_args, atom_of_names}
+use Rattle.cep_parse.specs.declared.state.Growth.{Growth}
+use Rattle.cep_parse.specs.declared.state.Growth.TheVariants as growth
+use Rattle.cep_parse.specs.Machine.{set_args, atom_of_names, grown_to, leaf}
+use Rattle.cep_parse.specs.Machine.Grown.{Going}
 
 -- as a write of the one node
 pub set_args_is : (nodes : List RawNode) (index args : ℕ) (d : RawNode) → index < length nodes → set nodes index (record { at = (get_or nodes index d).at; kind = (get_or nodes index d).kind; args = args }) ≡ set_args nodes index args
@@ -32,12 +35,16 @@ set_args_read [] index args n is = cc
 set_args_read (m ∷ nodes) zero args n is = let e : n ≡ m = cc in ap (λ (k : RawNode). node k.kind k.at args ∷ nodes) e
 set_args_read (m ∷ nodes) (suc index) args n is = ap (λ ns. m ∷ ns) (set_args_read nodes index args n is)
 
+-- an atom that goes on
+pub still_going : (growth : Growth) (a b : AtomSoFar) → grown_to growth a ≡ Going b → a ≡ b
+still_going growth.Going a b is = cc
+still_going growth.Ended a b is = cc
+still_going growth.Broken a b is = cc
+
+names_more : (name : Span) (names : List Span) (more : Span) → leaf (atom_of_names name names) App more ≡ atom_of_names name (names ++ more ∷ [])
+names_more name names more = λ j. record { name = name; args = sym (length_push names more) j; nodes = sym (map-append (λ a. node App a 0) names (more ∷ [])) j; levels = [] }
+
 -- one more name as an argument
-pub names_next : (atom : AtomSoFar) (name : Span) (items : List Span) (i : ℕ) (d : Span) (args : ℕ) (nodes : List RawNode) → i < length items → atom ≡ atom_of_names name (take i items)
-    → nodes ≡ atom.nodes ++ node App (get_or items i d) 0 ∷ [] → args ≡ atom.args + 1
-    → record { name = atom.name; args = args; nodes = nodes; levels = atom.levels } ≡ atom_of_names name (take (i + 1) items)
-names_next atom name items i d args nodes within is nodes_is args_is =
-    let more = take_more items i d within in
-    let count : args ≡ length (take (i + 1) items) = args_is ∙ ap (λ (a : AtomSoFar). a.args + 1) is ∙ sym (length_push (take i items) (get_or items i d)) ∙ ap length (sym more) in
-    let all : nodes ≡ map (λ a. node App a 0) (take (i + 1) items) = nodes_is ∙ ap (λ (a : AtomSoFar). a.nodes ++ node App (get_or items i d) 0 ∷ []) is ∙ sym (map-append (λ a. node App a 0) (take i items) (get_or items i d ∷ [])) ∙ ap (map (λ a. node App a 0)) (sym more) in
-    λ j. record { name = (is j).name; args = count j; nodes = all j; levels = (is j).levels }
+pub names_next : (atom : AtomSoFar) (name : Span) (items : List Span) (i : ℕ) (d : Span) → i < length items → atom ≡ atom_of_names name (take i items)
+    → leaf atom App (get_or items i d) ≡ atom_of_names name (take (i + 1) items)
+names_next atom name items i d within is = ap (λ a. leaf a App (get_or items i d)) is ∙ names_more name (take i items) (get_or items i d) ∙ ap (atom_of_names name) (sym (take_more items i d within))

@@ -26,10 +26,9 @@ use Rattle.cep_parse.specs.declared.state.State.{State}
 use Rattle.cep_parse.specs.declared.state.State.TheVariants as state
 use Rattle.cep_parse.specs.declared.state.Use.{Use}
 use Rattle.cep_parse.specs.declared.state.Use.TheVariants as use_
-use Rattle.cep_parse.specs.declared.state.Grown.{Grown}
-use Rattle.cep_parse.specs.declared.state.Grown.TheVariants.{Going, Ended, Broken}
 use Rattle.cep_parse.specs.declared.symbol.Word.{Word}
-use Rattle.cep_parse.specs.Machine.{atom_of_names, bag_behind, bag_ended, bag_first, bag_next, bag_unit, before_elem, before_goal, begin, behind_atom, behind_blank, behind_dollar, behind_goal, behind_head, behind_in, behind_left, behind_open, behind_right, behind_stage, context_equals, context_begun, context_word, grow_in, grown, interactive_word, is_within, labelled, names_begun, rule_ended, rule_from, rule_named, stage_equals, stage_begun, stage_word, step, step_atom, step_bag, step_declared, step_ending, step_names, step_rule, step_rules, trace_limit, trace_stage, trace_word, with_elem, with_goal}
+use Rattle.cep_parse.specs.Machine.Grown.{Going, Ended, Broken}
+use Rattle.cep_parse.specs.Machine.{atom_of_names, bag_behind, bag_ended, bag_first, bag_next, bag_unit, before_elem, before_goal, begin, behind_atom, behind_blank, behind_dollar, behind_goal, behind_head, behind_in, behind_left, behind_open, behind_right, behind_stage, context_equals, context_begun, context_word, Grown, grow_in, grown, interactive_word, is_within, labelled, names_begun, rule_ended, rule_from, rule_named, stage_equals, stage_begun, stage_word, step, step_atom, step_bag, step_declared, step_ending, step_names, step_rule, step_rules, trace_limit, trace_stage, trace_word, with_elem, with_goal}
 
 -- whether a step leads to where items begin
 abbrev pub is_between : Next → Bool

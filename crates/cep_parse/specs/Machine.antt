@@ -25,8 +25,8 @@ use Rattle.cep_parse.specs.declared.state.BagPlace.TheVariants as bag
 use Rattle.cep_parse.specs.declared.state.BagSoFar.{BagSoFar}
 use Rattle.cep_parse.specs.declared.state.BagHome.{BagHome}
 use Rattle.cep_parse.specs.declared.state.ClauseSoFar.{ClauseSoFar}
-use Rattle.cep_parse.specs.declared.state.Grown.{Grown}
-use Rattle.cep_parse.specs.declared.state.Grown.TheVariants.{Going, Ended, Broken}
+use Rattle.cep_parse.specs.declared.state.Growth.{Growth}
+use Rattle.cep_parse.specs.declared.state.Growth.TheVariants as growth
 use Rattle.cep_parse.specs.declared.state.Next.{Next}
 use Rattle.cep_parse.specs.declared.state.Next.TheVariants.{Go, Item, Stop}
 use Rattle.cep_parse.specs.declared.state.Plain.{Plain}
@@ -86,7 +86,30 @@ closed a levels index args = child_in levels (record { name = a.name; args = a.a
 abbrev pub closed_whole : AtomSoFar → List Level → AtomSoFar
 closed_whole a levels = child_in levels (record { name = a.name; args = a.args; nodes = a.nodes; levels = levels })
 
--- what a symbol does to an atom where no parenthesis is open
+-- what became of an atom: it goes on, it ended before the symbol, or no atom goes on so
+pub data Grown : Type 0 where
+  Going : AtomSoFar → Grown
+  Ended : RawAtom → Grown
+  Broken : Grown
+
+abbrev pub grown_to : Growth → AtomSoFar → Grown
+grown_to growth.Going a = Going a
+grown_to growth.Ended a = Ended (whole_atom a)
+grown_to growth.Broken a = Broken
+
+-- the atom with one more innermost parenthesis
+abbrev pub in_level : Level → AtomSoFar → AtomSoFar
+in_level level a = record { name = a.name; args = a.args; nodes = a.nodes; levels = level ∷ a.levels }
+
+-- what a symbol does to an atom where a term may begin
+abbrev pub grow_term : AtomSoFar → Word → Span → Grown
+grow_term a word.Name at = Going (leaf a App at)
+grow_term a word.Variable at = Going (leaf a Var at)
+grow_term a word.Blank at = Going (leaf a kind.Blank at)
+grow_term a word.Open at = Going (opened a)
+grow_term a _ at = Broken
+
+-- where no parenthesis is open
 abbrev pub grow_flat : AtomSoFar → Word → Span → Grown
 grow_flat a word.Name at = Going (leaf a App at)
 grow_flat a word.Variable at = Going (leaf a Var at)
@@ -96,20 +119,13 @@ grow_flat a _ at = Ended (whole_atom a)
 
 -- where arguments of a constructor are read
 abbrev pub grow_args : AtomSoFar → List Level → ℕ → ℕ → Word → Span → Grown
-grow_args a levels index args word.Name at = Going (leaf a App at)
-grow_args a levels index args word.Variable at = Going (leaf a Var at)
-grow_args a levels index args word.Blank at = Going (leaf a kind.Blank at)
-grow_args a levels index args word.Open at = Going (opened a)
 grow_args a levels index args word.Close at = Going (closed a levels index args)
-grow_args a levels index args _ at = Broken
+grow_args a levels index args word at = grow_term a word at
 
 -- where a term is to come
 abbrev pub grow_empty : AtomSoFar → List Level → Word → Span → Grown
 grow_empty a levels word.Name at = Going (headed a levels at)
-grow_empty a levels word.Variable at = Going (leaf a Var at)
-grow_empty a levels word.Blank at = Going (leaf a kind.Blank at)
-grow_empty a levels word.Open at = Going (opened a)
-grow_empty a levels _ at = Broken
+grow_empty a levels word at = grow_term a word at
 
 -- where a whole term was read
 abbrev pub grow_whole : AtomSoFar → List Level → Word → Span → Grown

@@ -1,11 +1,12 @@
 // An atom, symbol by symbol.
-ghost use Rattle.std.specs.Prelude.{◌≡◌, ◌+◌, ◌++◌, ◌∷◌, [], IfOk};
+ghost use Rattle.std.specs.Prelude.{◌≡◌, ◌+◌, ◌++◌, ◌∷◌, IfOk, OnOk};
 ghost use Rattle.cep_parse.specs.Grammar.{node};
-ghost use Rattle.cep_parse.specs.Machine.{atom_begun, atom_of_names, child_in, closed, closed_whole, grow, grow_args, grow_empty, grow_flat, grow_whole, headed, leaf, opened, set_args};
+ghost use Rattle.cep_parse.specs.Machine.Grown.{Going};
+ghost use Rattle.cep_parse.specs.Machine.{atom_begun, atom_of_names, child_in, grow, grow_args, grow_empty, grow_flat, grow_term, grow_whole, grown_to, headed, in_level, leaf, set_args, whole_atom};
 
 use crate::levels::{Level, Levels};
-use crate::raw::{RawAtom, RawKind, RawNode, RawNodes, Span, Spans};
-use crate::state::{AtomSoFar, Grown};
+use crate::raw::{RawAtom, RawKind, RawNode, RawNodes, Span};
+use crate::state::{AtomSoFar, Growth};
 use crate::symbol::{Symbol, Word};
 use std::alloc::{AllocError, Global};
 
@@ -42,93 +43,85 @@ fn set_args(nodes: &mut RawNodes, index: usize, args: u32)
 }
 
 // A term ended in what is open.
-fn child(mut atom: AtomSoFar) -> Result<AtomSoFar, AllocError>
-    ensures { IfOk result (λ grown. grown ≡ child_in atom.levels atom) }
+fn end_term(atom: &mut AtomSoFar) -> Result<Growth, AllocError>
+    ensures { IfOk result (λ growth. grown_to growth atom.new ≡ Going (child_in atom.old.levels atom.old)) }
 {
     match atom.levels.pop() {
         None => {
             atom.args = one_more(atom.args)?;
-            Ok(atom)
+            Ok(Growth::Going)
         }
         Some(Level::Node { index, args }) => {
             let args = one_more(args)?;
-            atom.levels.push(Level::Node { index, args })?;
-            Ok(atom)
+            open(atom, Level::Node { index, args })
         }
-        Some(_) => {
-            atom.levels.push(Level::Whole)?;
-            Ok(atom)
-        }
+        Some(_) => open(atom, Level::Whole),
     }
 }
 
-// The atom with a term of one node.
-fn leaf(mut atom: AtomSoFar, kind: RawKind, at: Span) -> Result<AtomSoFar, AllocError>
-    ensures { IfOk result (λ grown. grown ≡ leaf atom kind at) }
+// The atom gets a term of one node.
+fn add_leaf(atom: &mut AtomSoFar, kind: RawKind, at: Span) -> Result<Growth, AllocError>
+    ensures { IfOk result (λ growth. grown_to growth atom.new ≡ Going (leaf atom.old kind at)) }
 {
     atom.nodes.push(RawNode { at, kind, args: 0 })?;
-    child(atom)
+    end_term(atom)
 }
 
-// The atom with one more open parenthesis.
-fn opened(mut atom: AtomSoFar) -> Result<AtomSoFar, AllocError>
-    ensures { IfOk result (λ grown. grown ≡ opened atom) }
+// The atom gets one more open parenthesis.
+fn open(atom: &mut AtomSoFar, level: Level) -> Result<Growth, AllocError>
+    ensures { IfOk result (λ growth. grown_to growth atom.new ≡ Going (in_level level atom.old)) }
 {
-    atom.levels.push(Level::Empty)?;
-    Ok(atom)
+    atom.levels.push(level)?;
+    Ok(Growth::Going)
+}
+
+// What a symbol does where a term may begin.
+fn grow_term(atom: &mut AtomSoFar, symbol: Symbol) -> Result<Growth, AllocError>
+    ensures { IfOk result (λ growth. grown_to growth atom.new ≡ grow_term atom.old symbol.word symbol.at) }
+{
+    match symbol.word {
+        Word::Name => add_leaf(atom, RawKind::App, symbol.at),
+        Word::Variable => add_leaf(atom, RawKind::Var, symbol.at),
+        Word::Blank => add_leaf(atom, RawKind::Blank, symbol.at),
+        Word::Open => open(atom, Level::Empty),
+        _ => Ok(Growth::Broken),
+    }
 }
 
 // What a symbol does where no parenthesis is open.
-fn grow_flat(atom: AtomSoFar, symbol: Symbol) -> Result<Grown, AllocError>
-    requires { atom.levels ≡ [] }
-    ensures { IfOk result (λ grown. grown ≡ grow_flat atom symbol.word symbol.at) }
+fn grow_flat(atom: &mut AtomSoFar, symbol: Symbol) -> Result<Growth, AllocError>
+    ensures { IfOk result (λ growth. grown_to growth atom.new ≡ grow_flat atom.old symbol.word symbol.at) }
 {
     match symbol.word {
-        Word::Name => Ok(Grown::Going(leaf(atom, RawKind::App, symbol.at)?)),
-        Word::Variable => Ok(Grown::Going(leaf(atom, RawKind::Var, symbol.at)?)),
-        Word::Blank => Ok(Grown::Going(leaf(atom, RawKind::Blank, symbol.at)?)),
-        Word::Open => Ok(Grown::Going(opened(atom)?)),
-        _ => Ok(Grown::Ended(RawAtom {
-            name: atom.name,
-            args: atom.args,
-            nodes: atom.nodes,
-        })),
+        Word::Name | Word::Variable | Word::Blank | Word::Open => grow_term(atom, symbol),
+        _ => Ok(Growth::Ended),
     }
-}
-
-// The atom, whose innermost parenthesis closed round a constructor: its node gets its arguments.
-fn closed(mut atom: AtomSoFar, index: usize, args: u32) -> Result<AtomSoFar, AllocError>
-    ensures { IfOk result (λ grown. grown ≡ closed atom atom.levels index args) }
-{
-    set_args(&mut atom.nodes, index, args);
-    child(atom)
 }
 
 // What a symbol does where arguments of a constructor are read.
 fn grow_args(
-    mut atom: AtomSoFar,
+    atom: &mut AtomSoFar,
     index: usize,
     args: u32,
     symbol: Symbol,
-) -> Result<Grown, AllocError>
-    ensures { IfOk result (λ grown. grown ≡ grow_args (record { name = atom.name; args = atom.args; nodes = atom.nodes; levels = Level.Node index args ∷ atom.levels }) atom.levels index args symbol.word symbol.at) }
+) -> Result<Growth, AllocError>
+    ensures { IfOk result (λ growth. grown_to growth atom.new ≡ grow_args (in_level (Level.Node index args) atom.old) atom.old.levels index args symbol.word symbol.at) }
 {
-    if let Word::Close = symbol.word {
-        return Ok(Grown::Going(closed(atom, index, args)?));
-    }
-    atom.levels.push(Level::Node { index, args })?;
     match symbol.word {
-        Word::Name => Ok(Grown::Going(leaf(atom, RawKind::App, symbol.at)?)),
-        Word::Variable => Ok(Grown::Going(leaf(atom, RawKind::Var, symbol.at)?)),
-        Word::Blank => Ok(Grown::Going(leaf(atom, RawKind::Blank, symbol.at)?)),
-        Word::Open => Ok(Grown::Going(opened(atom)?)),
-        _ => Ok(Grown::Broken),
+        Word::Close => {
+            set_args(&mut atom.nodes, index, args);
+            end_term(atom)
+        }
+        _ => {
+            open(atom, Level::Node { index, args })?;
+            grow_term(atom, symbol)
+        }
     }
 }
 
-// The atom with a constructor behind an open parenthesis.
-fn headed(mut atom: AtomSoFar, at: Span) -> Result<AtomSoFar, AllocError>
-    ensures { IfOk result (λ grown. grown ≡ headed atom atom.levels at) }
+// The atom gets a constructor after an open parenthesis.
+fn add_head(atom: &mut AtomSoFar, at: Span) -> Result<Growth, AllocError>
+    ensures { IfOk result (λ growth. grown_to growth atom.new ≡ Going (headed atom.old atom.old.levels at)) }
 {
     let index = atom.nodes.len();
     atom.nodes.push(RawNode {
@@ -136,39 +129,35 @@ fn headed(mut atom: AtomSoFar, at: Span) -> Result<AtomSoFar, AllocError>
         kind: RawKind::App,
         args: 0,
     })?;
-    atom.levels.push(Level::Node { index, args: 0 })?;
-    Ok(atom)
+    open(atom, Level::Node { index, args: 0 })
 }
 
 // What a symbol does where a term is to come.
-fn grow_empty(mut atom: AtomSoFar, symbol: Symbol) -> Result<Grown, AllocError>
-    ensures { IfOk result (λ grown. grown ≡ grow_empty (record { name = atom.name; args = atom.args; nodes = atom.nodes; levels = Level.Empty ∷ atom.levels }) atom.levels symbol.word symbol.at) }
+fn grow_empty(atom: &mut AtomSoFar, symbol: Symbol) -> Result<Growth, AllocError>
+    ensures { IfOk result (λ growth. grown_to growth atom.new ≡ grow_empty (in_level Level.Empty atom.old) atom.old.levels symbol.word symbol.at) }
 {
-    if let Word::Name = symbol.word {
-        return Ok(Grown::Going(headed(atom, symbol.at)?));
-    }
-    atom.levels.push(Level::Empty)?;
     match symbol.word {
-        Word::Variable => Ok(Grown::Going(leaf(atom, RawKind::Var, symbol.at)?)),
-        Word::Blank => Ok(Grown::Going(leaf(atom, RawKind::Blank, symbol.at)?)),
-        Word::Open => Ok(Grown::Going(opened(atom)?)),
-        _ => Ok(Grown::Broken),
+        Word::Name => add_head(atom, symbol.at),
+        _ => {
+            open(atom, Level::Empty)?;
+            grow_term(atom, symbol)
+        }
     }
 }
 
 // What a symbol does where a whole term was read.
-fn grow_whole(atom: AtomSoFar, symbol: Symbol) -> Result<Grown, AllocError>
-    ensures { IfOk result (λ grown. grown ≡ grow_whole atom atom.levels symbol.word symbol.at) }
+fn grow_whole(atom: &mut AtomSoFar, symbol: Symbol) -> Result<Growth, AllocError>
+    ensures { IfOk result (λ growth. grown_to growth atom.new ≡ grow_whole atom.old atom.old.levels symbol.word symbol.at) }
 {
     match symbol.word {
-        Word::Close => Ok(Grown::Going(child(atom)?)),
-        _ => Ok(Grown::Broken),
+        Word::Close => end_term(atom),
+        _ => Ok(Growth::Broken),
     }
 }
 
 /// What a symbol does to an atom.
-pub(crate) fn grow(mut atom: AtomSoFar, symbol: Symbol) -> Result<Grown, AllocError>
-    ensures { IfOk result (λ grown. grown ≡ grow atom symbol.word symbol.at) }
+pub(crate) fn grow(atom: &mut AtomSoFar, symbol: Symbol) -> Result<Growth, AllocError>
+    ensures { IfOk result (λ growth. grown_to growth atom.new ≡ grow atom.old symbol.word symbol.at) }
 {
     match atom.levels.pop() {
         None => grow_flat(atom, symbol),
@@ -178,18 +167,24 @@ pub(crate) fn grow(mut atom: AtomSoFar, symbol: Symbol) -> Result<Grown, AllocEr
     }
 }
 
-/// A name, and names as its arguments.
-pub(crate) fn atom_of_names(alloc: Global, name: Span, args: Spans) -> Result<AtomSoFar, AllocError>
-    ensures { IfOk result (λ atom. atom ≡ atom_of_names name args) }
+/// The atom that was read, where no parenthesis is open.
+pub(crate) fn whole_atom(atom: AtomSoFar) -> RawAtom
+    ensures { result ≡ whole_atom atom }
 {
-    let mut atom = atom_begun(alloc, name);
-    for arg in args.as_slice() {
-        atom.nodes.push(RawNode {
-            at: *arg,
-            kind: RawKind::App,
-            args: 0,
-        })?;
-        atom.args = one_more(atom.args)?;
+    RawAtom {
+        name: atom.name,
+        args: atom.args,
+        nodes: atom.nodes,
     }
-    Ok(atom)
+}
+
+/// The atom, of which a name alone was read, gets names as its arguments.
+pub(crate) fn add_names(atom: &mut AtomSoFar, names: &[Span]) -> Result<(), AllocError>
+    requires { atom.old ≡ atom_begun atom.old.name }
+    ensures { OnOk result (atom.new ≡ atom_of_names atom.old.name names.now) }
+{
+    for name in names {
+        add_leaf(atom, RawKind::App, *name)?;
+    }
+    Ok(())
 }

@@ -1,9 +1,9 @@
 // The states in which nothing but names and places are kept.
 ghost use Rattle.std.specs.Prelude.{◌≡◌, ◌∷◌, [], IfOk, None, Some};
-ghost use Rattle.cep_parse.specs.Machine.{IsFixed, begin, labelled, plainly, stage_equals, stage_begun, step_ended, step_plain, trace_stage, trace_word, behind_blank, context_equals};
+ghost use Rattle.cep_parse.specs.Machine.{IsFixed, before_elem, begin, labelled, plainly, rule_from, stage_equals, stage_begun, step_ended, step_plain, trace_stage, trace_word, behind_blank, context_equals};
 
 use crate::raw::{RawAtoms, RawElem, RawItem, RawRules, RawSide, RawStart, Span, Spans};
-use crate::rules::{atom_for, before_elem, behind_left, rule_from};
+use crate::rules::{after_first, atom_for, before_elem, rule_from};
 use crate::state::{BagHome, BagPlace, BagSoFar, Next, Plain, RulePlace, StageSoFar, State, Use};
 use crate::symbol::{Symbol, Word};
 use cep_base::PredKind;
@@ -15,10 +15,31 @@ fn plainly(plain: Plain) -> Next
     Next::Go(State::Plain(plain))
 }
 
-fn ending(item: RawItem) -> Next
+/// An item that lacks its dot alone.
+pub(crate) fn ending(item: RawItem) -> Next
     ensures { result ≡ Next.Go (State.Ending item) }
 {
     Next::Go(State::Ending(item))
+}
+
+/// A predicate's declaration.
+pub(crate) fn declared(name: Span, args: Spans, kind: PredKind) -> Next
+    ensures { result ≡ Next.Go (State.Ending (RawItem.Pred name args kind)) }
+{
+    ending(RawItem::Pred { name, args, kind })
+}
+
+// Before the first element of an outer rule.
+fn rule_begun(
+    alloc: Global,
+    at: u32,
+    label: Option<Span>,
+    symbol: Symbol,
+) -> Result<Next, AllocError>
+    ensures { IfOk result (λ next. next ≡ before_elem (rule_from None at label []) symbol.word symbol.at) }
+{
+    let rule = rule_from(None, at, label, RawSide::new(alloc));
+    before_elem(alloc, rule, symbol)
 }
 
 // Before an item.
@@ -36,11 +57,7 @@ fn begin(alloc: Global, symbol: Symbol) -> Result<Next, AllocError>
         Word::Context => Ok(plainly(Plain::ContextWord)),
         Word::Interactive => Ok(plainly(Plain::InteractiveWord)),
         Word::Trace => Ok(plainly(Plain::TraceWord { at })),
-        _ => before_elem(
-            alloc,
-            rule_from(None, at, None, RawSide::new(alloc)),
-            symbol,
-        ),
+        _ => rule_begun(alloc, at, None, symbol),
     }
 }
 
@@ -61,29 +78,14 @@ fn labelled(alloc: Global, label: Span, symbol: Symbol) -> Result<Next, AllocErr
     let at = label.from;
     match symbol.word {
         Word::Type => Ok(ending(RawItem::Sort { name: label })),
-        Word::Pred => Ok(ending(RawItem::Pred {
-            name: label,
-            args: Spans::new(alloc),
-            kind: PredKind::Linear,
-        })),
-        Word::Bwd => Ok(ending(RawItem::Pred {
-            name: label,
-            args: Spans::new(alloc),
-            kind: PredKind::Back,
-        })),
-        Word::Fact => Ok(ending(RawItem::Pred {
-            name: label,
-            args: Spans::new(alloc),
-            kind: PredKind::Fact,
-        })),
+        Word::Pred => Ok(declared(label, Spans::new(alloc), PredKind::Linear)),
+        Word::Bwd => Ok(declared(label, Spans::new(alloc), PredKind::Back)),
+        Word::Fact => Ok(declared(label, Spans::new(alloc), PredKind::Fact)),
         Word::Name => {
             let label = Some(label);
             Ok(atom_for(alloc, symbol.at, Use::First { at, label }))
         }
-        _ => {
-            let rule = rule_from(None, at, Some(label), RawSide::new(alloc));
-            before_elem(alloc, rule, symbol)
-        }
+        _ => rule_begun(alloc, at, Some(label), symbol),
     }
 }
 
@@ -93,11 +95,7 @@ fn stage_begun(alloc: Global, at: u32, name: Span, symbol: Symbol) -> Result<Nex
 {
     match symbol.word {
         Word::Equals => Ok(plainly(Plain::StageEquals { name })),
-        _ => {
-            let mut left = RawSide::new(alloc);
-            left.push(RawElem::Stage(name))?;
-            Ok(behind_left(alloc, rule_from(None, at, None, left), symbol))
-        }
+        _ => after_first(alloc, at, None, RawElem::Stage(name), symbol),
     }
 }
 

@@ -2,7 +2,7 @@ use thiserror::Error;
 
 /// Why tokens are no file: the first fault among them, with its place in bytes from the front of
 /// the text.
-#[derive(Clone, Copy, Debug, PartialEq, Eq, Error)]
+#[derive(Clone, Copy, Debug, Error)]
 pub enum ParseFault {
     /// The first token such that no file begins with the tokens up to it and with it; the end of
     /// the text, where files begin with all of them and they are none.

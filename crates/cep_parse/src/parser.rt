@@ -95,11 +95,15 @@ pub fn parse(
             None => return Ok(Err(ParseFault::Unexpected { at: token.from })),
         }
         if is_too_deep(symbol.word, depth) {
+            // By a call, so that this proof does not take the state apart.
+            drop(state);
             return Ok(Err(ParseFault::Nested { at: token.from }));
         }
         depth = open_behind(symbol.word, depth);
     }
-    if is_within(&state) {
+    let within = is_within(&state);
+    drop(state);
+    if within {
         return Ok(Err(ParseFault::Unexpected {
             at: text.len() as u32,
         }));

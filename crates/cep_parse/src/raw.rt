@@ -4,14 +4,14 @@ ghost use Rattle.cep_parse.specs.Raw.{raw_nodes, atoms_in, start_listed};
 use cep_base::{List, PredKind};
 
 /// Bytes of the text, from a place up to another.
-#[derive(Clone, Copy, Debug, PartialEq, Eq)]
+#[derive(Clone, Copy)]
 pub struct Span {
     pub from: u32,
     pub to: u32,
 }
 
 /// What a term is: `_`, a variable, or a constructor with its arguments.
-#[derive(Clone, Copy, Debug, PartialEq, Eq)]
+#[derive(Clone, Copy, PartialEq, Eq)]
 pub enum RawKind {
     Blank,
     Var,
@@ -19,7 +19,7 @@ pub enum RawKind {
 }
 
 /// A term: its name, variable or `_`, and how many direct arguments it has, none but at `App`.
-#[derive(Clone, Copy, Debug, PartialEq, Eq)]
+#[derive(Clone, Copy)]
 pub struct RawNode {
     pub at: Span,
     pub kind: RawKind,
@@ -28,7 +28,7 @@ pub struct RawNode {
 
 /// An atom: its name, the number of its arguments, and these in prefix order: each term is its
 /// own node, and behind it stand the nodes of its arguments. Parentheses leave no node.
-#[derive(Debug, Drop)]
+#[derive(Drop)]
 pub struct RawAtom {
     pub name: Span,
     pub args: u32,
@@ -36,7 +36,7 @@ pub struct RawAtom {
 }
 
 /// What stands between the `*` of a side. `()` leaves nothing.
-#[derive(Debug, Drop)]
+#[derive(Drop)]
 pub enum RawElem {
     Atom { kept: bool, atom: RawAtom },
     Qui(Span),
@@ -66,7 +66,7 @@ impl RawElem {
 }
 
 /// A rule: the place of its first token, its label, and its sides.
-#[derive(Debug, Drop)]
+#[derive(Drop)]
 pub struct RawRule {
     pub at: u32,
     pub label: Option<Span>,
@@ -75,7 +75,7 @@ pub struct RawRule {
 }
 
 /// The start state of a trace: a context's name, or atoms.
-#[derive(Debug, Drop)]
+#[derive(Drop)]
 pub enum RawStart {
     Named(Span),
     Listed(RawAtoms),
@@ -95,7 +95,7 @@ impl RawStart {
 
 /// An item of a file. `Colon` is `x a : y.`, a constructor or a clause with a label: which of the
 /// two, the declarations tell.
-#[derive(Debug, Drop)]
+#[derive(Drop)]
 pub enum RawItem {
     Sort {
         name: Span,

@@ -1,5 +1,6 @@
 // Rules and bags, symbol by symbol.
-ghost use Rattle.std.specs.Prelude.{◌≡◌, ◌++◌, ◌∷◌, [], IfOk, Some};
+ghost use Rattle.std.specs.Prelude.{◌≡◌, ◌++◌, ◌∷◌, [], IfOk, None, OnOk, Some};
+ghost use Rattle.cep_parse.specs.declared.state.Next.TheVariants.{Stop};
 ghost use Rattle.cep_parse.specs.Machine.{atom_for, bag_behind, bag_ended, bag_first, bag_next, bag_unit, before_elem, behind_dollar, behind_elem, behind_left, behind_open, behind_right, behind_stage, rule_ended, rule_from, step_bag, step_rule, whole_rule, with_elem};
 
 use crate::atoms::atom_begun;
@@ -9,6 +10,14 @@ use crate::state::{
 };
 use crate::symbol::{Symbol, Word};
 use std::alloc::{AllocError, Global};
+
+/// No item goes on so. What was read of it is dropped by this call, so that no caller's proof takes
+/// it apart variant by variant.
+pub(crate) fn stop<T: Drop>(_read: T) -> Next
+    ensures { result ≡ Stop }
+{
+    Next::Stop
+}
 
 /// An atom is read for this.
 pub(crate) fn atom_for(alloc: Global, name: Span, used: Use) -> Next
@@ -38,39 +47,22 @@ pub(crate) fn rule_from(
     }
 }
 
+// One more element, on the side that is read.
+fn push_elem(rule: &mut RuleSoFar, elem: RawElem) -> Result<(), AllocError>
+    ensures { OnOk result (rule.new ≡ with_elem rule.old elem) }
+{
+    match &mut rule.right {
+        None => rule.left.push(elem),
+        Some(right) => right.push(elem),
+    }
+}
+
 /// The rule with one more element, on the side that is read.
-pub(crate) fn with_elem(rule: RuleSoFar, elem: RawElem) -> Result<RuleSoFar, AllocError>
+pub(crate) fn with_elem(mut rule: RuleSoFar, elem: RawElem) -> Result<RuleSoFar, AllocError>
     ensures { IfOk result (λ more. more ≡ with_elem rule elem) }
 {
-    let RuleSoFar {
-        stage,
-        at,
-        label,
-        mut left,
-        right,
-    } = rule;
-    match right {
-        None => {
-            left.push(elem)?;
-            Ok(RuleSoFar {
-                stage,
-                at,
-                label,
-                left,
-                right: None,
-            })
-        }
-        Some(mut right) => {
-            right.push(elem)?;
-            Ok(RuleSoFar {
-                stage,
-                at,
-                label,
-                left,
-                right: Some(right),
-            })
-        }
-    }
+    push_elem(&mut rule, elem)?;
+    Ok(rule)
 }
 
 // A rule is whole.
@@ -95,6 +87,13 @@ fn at_place(rule: RuleSoFar, place: RulePlace) -> Next
     Next::Go(State::Rule { rule, place })
 }
 
+// An element was read that is no atom.
+fn elem_read(rule: RuleSoFar, elem: RawElem) -> Result<Next, AllocError>
+    ensures { IfOk result (λ next. next ≡ Next.Go (State.Rule (with_elem rule elem) RulePlace.Behind)) }
+{
+    Ok(at_place(with_elem(rule, elem)?, RulePlace::Behind))
+}
+
 /// Before an element.
 pub(crate) fn before_elem(
     alloc: Global,
@@ -109,33 +108,24 @@ pub(crate) fn before_elem(
         Word::Name => Ok(atom_for(alloc, symbol.at, Use::Elem { rule, kept: false })),
         Word::Dollar if !right => Ok(at_place(rule, RulePlace::Kept)),
         Word::Open => Ok(at_place(rule, RulePlace::Unit)),
-        Word::Qui if outer && !right => {
-            let rule = with_elem(rule, RawElem::Qui(symbol.at))?;
-            Ok(at_place(rule, RulePlace::Behind))
-        }
+        Word::Qui if outer && !right => elem_read(rule, RawElem::Qui(symbol.at)),
         Word::Stage if outer => Ok(at_place(rule, RulePlace::Stage)),
-        _ => Ok(Next::Stop),
+        _ => Ok(stop(rule)),
     }
 }
 
-/// Behind an element on the left.
-pub(crate) fn behind_left(alloc: Global, rule: RuleSoFar, symbol: Symbol) -> Next
-    ensures { result ≡ behind_left rule symbol.word }
+/// After the first element of an outer rule.
+pub(crate) fn after_first(
+    alloc: Global,
+    at: u32,
+    label: Option<Span>,
+    elem: RawElem,
+    symbol: Symbol,
+) -> Result<Next, AllocError>
+    ensures { IfOk result (λ next. next ≡ behind_left (rule_from None at label (elem ∷ [])) symbol.word) }
 {
-    match symbol.word {
-        Word::Star => at_place(rule, RulePlace::Before),
-        Word::Lolli => at_place(
-            RuleSoFar {
-                stage: rule.stage,
-                at: rule.at,
-                label: rule.label,
-                left: rule.left,
-                right: Some(RawSide::new(alloc)),
-            },
-            RulePlace::Before,
-        ),
-        _ => Next::Stop,
-    }
+    let rule = rule_from(None, at, label, RawSide::new(alloc));
+    behind_elem(alloc, with_elem(rule, elem)?, symbol)
 }
 
 /// Behind an element.
@@ -154,8 +144,35 @@ pub(crate) fn behind_elem(
         right,
     } = rule;
     match right {
-        None => Ok(behind_left(alloc, rule_from(stage, at, label, left), symbol)),
+        None => Ok(behind_left(alloc, stage, at, label, left, symbol)),
         Some(right) => behind_right(stage, at, label, left, right, symbol),
+    }
+}
+
+// Behind an element on the left.
+fn behind_left(
+    alloc: Global,
+    stage: Option<StageSoFar>,
+    at: u32,
+    label: Option<Span>,
+    left: RawSide,
+    symbol: Symbol,
+) -> Next
+    ensures { result ≡ behind_left (rule_from stage at label left) symbol.word }
+{
+    match symbol.word {
+        Word::Star => at_place(rule_from(stage, at, label, left), RulePlace::Before),
+        Word::Lolli => at_place(
+            RuleSoFar {
+                stage,
+                at,
+                label,
+                left,
+                right: Some(RawSide::new(alloc)),
+            },
+            RulePlace::Before,
+        ),
+        _ => Next::Stop,
     }
 }
 
@@ -209,12 +226,9 @@ pub(crate) fn step_rule(
             Ok(atom_for(alloc, symbol.at, Use::Elem { rule, kept: true }))
         }
         (RulePlace::Unit, Word::Close) => Ok(at_place(rule, RulePlace::Behind)),
-        (RulePlace::Stage, Word::Name) => {
-            let rule = with_elem(rule, RawElem::Stage(symbol.at))?;
-            Ok(at_place(rule, RulePlace::Behind))
-        }
+        (RulePlace::Stage, Word::Name) => elem_read(rule, RawElem::Stage(symbol.at)),
         (RulePlace::Behind, _) => behind_elem(alloc, rule, symbol),
-        _ => Ok(Next::Stop),
+        _ => Ok(stop(rule)),
     }
 }
 
@@ -255,14 +269,19 @@ pub(crate) fn step_bag(alloc: Global, bag: BagSoFar, place: BagPlace, symbol: Sy
         (BagPlace::First | BagPlace::Behind, Word::CloseBrace) => bag_ended(bag),
         (BagPlace::Unit, Word::Close) => in_bag(bag, BagPlace::Behind),
         (BagPlace::Behind, Word::Comma | Word::Star) => in_bag(bag, BagPlace::Next),
-        _ => Next::Stop,
+        _ => stop(bag),
     }
 }
 
-/// The bag with one more atom.
-pub(crate) fn with_atom(mut bag: BagSoFar, atom: RawAtom) -> Result<BagSoFar, AllocError>
-    ensures { IfOk result (λ more. more ≡ record { home = bag.home; atoms = bag.atoms ++ atom ∷ [] }) }
+/// After an atom in a bag.
+pub(crate) fn after_bag_atom(
+    alloc: Global,
+    mut bag: BagSoFar,
+    atom: RawAtom,
+    symbol: Symbol,
+) -> Result<Next, AllocError>
+    ensures { IfOk result (λ next. next ≡ bag_behind (record { home = bag.home; atoms = bag.atoms ++ atom ∷ [] }) symbol.word) }
 {
     bag.atoms.push(atom)?;
-    Ok(bag)
+    Ok(step_bag(alloc, bag, BagPlace::Behind, symbol))
 }

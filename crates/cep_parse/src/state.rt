@@ -183,13 +183,13 @@ pub(crate) enum Next {
     Stop,
 }
 
-/// What a symbol does to an atom.
-#[derive(Drop)]
-pub(crate) enum Grown {
+/// What a symbol did to an atom.
+#[derive(Clone, Copy)]
+pub(crate) enum Growth {
     /// The atom goes on.
-    Going(AtomSoFar),
-    /// It is whole, and the symbol stands behind it.
-    Ended(RawAtom),
+    Going,
+    /// It was whole already, and the symbol stands after it.
+    Ended,
     /// No atom goes on so, and it is not whole.
     Broken,
 }

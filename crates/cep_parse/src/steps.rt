@@ -1,15 +1,16 @@
 // What a symbol does in each state.
 ghost use Rattle.std.specs.Prelude.{◌≡◌, IfOk, None};
-ghost use Rattle.cep_parse.specs.Machine.{before_goal, rule_named, behind_atom, behind_goal, behind_head, head_alone, names_begun, step, step_atom, step_declared, step_ending, step_names, step_rules, with_goal};
+ghost use Rattle.cep_parse.specs.Machine.{atom_of_names, before_goal, rule_named, behind_atom, behind_goal, behind_head, head_alone, names_begun, step, step_atom, step_declared, step_ending, step_names, step_rules, with_goal};
 
-use crate::atoms::{atom_of_names, grow};
-use crate::begins::step_plain;
+use crate::atoms::{add_names, atom_begun, grow, whole_atom};
+use crate::begins::{declared, ending, step_plain};
 use crate::raw::{RawAtom, RawAtoms, RawElem, RawItem, RawSide, Span, Spans};
 use crate::rules::{
-    atom_for, behind_elem, behind_left, rule_from, step_bag, step_rule, with_atom, with_elem,
+    after_bag_atom, after_first, atom_for, behind_elem, rule_from, step_bag, step_rule, stop,
+    with_elem,
 };
 use crate::state::{
-    AtomSoFar, BagPlace, ClauseSoFar, Grown, Next, Plain, RulePlace, StageSoFar, State, Use,
+    AtomSoFar, BagPlace, ClauseSoFar, Growth, Next, Plain, RulePlace, StageSoFar, State, Use,
 };
 use crate::symbol::{Symbol, Word};
 use cep_base::PredKind;
@@ -54,40 +55,32 @@ fn behind_head(
             goals: RawAtoms::new(alloc),
         }))),
         Word::Star | Word::Lolli => {
-            let mut left = RawSide::new(alloc);
-            left.push(RawElem::Atom {
+            let elem = RawElem::Atom {
                 kept: false,
                 atom: head,
-            })?;
-            Ok(behind_left(alloc, rule_from(None, at, label, left), symbol))
+            };
+            after_first(alloc, at, label, elem, symbol)
         }
-        _ => Ok(Next::Stop),
+        _ => Ok(stop(head)),
     }
 }
 
-// The clause with one more goal.
-fn with_goal(mut clause: ClauseSoFar, goal: RawAtom) -> Result<ClauseSoFar, AllocError>
-    ensures { IfOk result (λ more. more ≡ with_goal clause goal) }
+// Behind a goal.
+fn behind_goal(mut clause: ClauseSoFar, goal: RawAtom, symbol: Symbol) -> Result<Next, AllocError>
+    ensures { IfOk result (λ next. next ≡ behind_goal (with_goal clause goal) symbol.word) }
 {
     clause.goals.push(goal)?;
-    Ok(clause)
-}
-
-// Behind a goal.
-fn behind_goal(clause: ClauseSoFar, symbol: Symbol) -> Next
-    ensures { result ≡ behind_goal clause symbol.word }
-{
     match symbol.word {
-        Word::Dot => Next::Item {
+        Word::Dot => Ok(Next::Item {
             item: RawItem::Clause {
                 label: clause.label,
                 head: clause.head,
                 goals: clause.goals,
             },
             may_dot: false,
-        },
-        Word::Back | Word::Comma => Next::Go(State::Goal(clause)),
-        _ => Next::Stop,
+        }),
+        Word::Back | Word::Comma => Ok(Next::Go(State::Goal(clause))),
+        _ => Ok(stop(clause)),
     }
 }
 
@@ -97,26 +90,32 @@ fn behind_atom(alloc: Global, used: Use, atom: RawAtom, symbol: Symbol) -> Resul
 {
     match used {
         Use::First { at, label } => behind_head(alloc, at, label, atom, symbol),
-        Use::Goal(clause) => Ok(behind_goal(with_goal(clause, atom)?, symbol)),
+        Use::Goal(clause) => behind_goal(clause, atom, symbol),
         Use::Elem { rule, kept } => {
             let rule = with_elem(rule, RawElem::Atom { kept, atom })?;
             behind_elem(alloc, rule, symbol)
         }
-        Use::Bag(bag) => {
-            let bag = with_atom(bag, atom)?;
-            Ok(step_bag(alloc, bag, BagPlace::Behind, symbol))
-        }
+        Use::Bag(bag) => after_bag_atom(alloc, bag, atom, symbol),
     }
 }
 
 // In an atom.
-fn step_atom(alloc: Global, atom: AtomSoFar, used: Use, symbol: Symbol) -> Result<Next, AllocError>
+fn step_atom(
+    alloc: Global,
+    mut atom: AtomSoFar,
+    used: Use,
+    symbol: Symbol,
+) -> Result<Next, AllocError>
     ensures { IfOk result (λ next. next ≡ step_atom atom used symbol.word symbol.at) }
 {
-    match grow(atom, symbol)? {
-        Grown::Going(atom) => Ok(Next::Go(State::Atom { atom, used })),
-        Grown::Ended(atom) => behind_atom(alloc, used, atom, symbol),
-        Grown::Broken => Ok(Next::Stop),
+    let Ok(growth) = grow(&mut atom, symbol) else {
+        drop(used);
+        return Err(AllocError);
+    };
+    match growth {
+        Growth::Going => Ok(Next::Go(State::Atom { atom, used })),
+        Growth::Ended => behind_atom(alloc, used, whole_atom(atom), symbol),
+        Growth::Broken => Ok(stop(used)),
     }
 }
 
@@ -145,44 +144,38 @@ fn step_names(
             Ok(Next::Go(State::Names { name, args }))
         }
         Word::Colon => Ok(names_begun(name, args)),
-        _ => {
-            let used = Use::First {
-                at: name.from,
-                label: None,
-            };
-            step_atom(alloc, atom_of_names(alloc, name, args)?, used, symbol)
-        }
+        _ => names_ended(alloc, name, args, symbol),
     }
+}
+
+// After names that are an atom.
+fn names_ended(alloc: Global, name: Span, args: Spans, symbol: Symbol) -> Result<Next, AllocError>
+    ensures { IfOk result (λ next. next ≡ step_atom (atom_of_names name args) (Use.First name.from None) symbol.word symbol.at) }
+{
+    let mut atom = atom_begun(alloc, name);
+    add_names(&mut atom, args.as_slice())?;
+    let used = Use::First {
+        at: name.from,
+        label: None,
+    };
+    step_atom(alloc, atom, used, symbol)
 }
 
 // Behind names and their colon, where they are a declaration.
 fn step_declared(name: Span, args: Spans, symbol: Symbol) -> Next
     ensures { result ≡ step_declared name args symbol.word symbol.at }
 {
-    let item = match symbol.word {
-        Word::Pred => RawItem::Pred {
-            name,
-            args,
-            kind: PredKind::Linear,
-        },
-        Word::Bwd => RawItem::Pred {
-            name,
-            args,
-            kind: PredKind::Back,
-        },
-        Word::Fact => RawItem::Pred {
-            name,
-            args,
-            kind: PredKind::Fact,
-        },
-        Word::Name => RawItem::Colon {
+    match symbol.word {
+        Word::Pred => declared(name, args, PredKind::Linear),
+        Word::Bwd => declared(name, args, PredKind::Back),
+        Word::Fact => declared(name, args, PredKind::Fact),
+        Word::Name => ending(RawItem::Colon {
             left: name,
             args,
             right: symbol.at,
-        },
-        _ => return Next::Stop,
-    };
-    Next::Go(State::Ending(item))
+        }),
+        _ => stop(args),
+    }
 }
 
 // Before the dot of an item.
@@ -194,7 +187,7 @@ fn step_ending(item: RawItem, symbol: Symbol) -> Next
             item,
             may_dot: false,
         },
-        _ => Next::Stop,
+        _ => stop(item),
     }
 }
 
@@ -214,7 +207,7 @@ fn step_rules(stage: StageSoFar, symbol: Symbol) -> Next
             },
             may_dot: true,
         },
-        _ => Next::Stop,
+        _ => stop(stage),
     }
 }
 
@@ -227,7 +220,7 @@ fn rule_named(alloc: Global, stage: StageSoFar, label: Span, symbol: Symbol) -> 
             rule: rule_from(Some(stage), label.from, Some(label), RawSide::new(alloc)),
             place: RulePlace::Before,
         }),
-        _ => Next::Stop,
+        _ => stop(stage),
     }
 }
 
@@ -237,7 +230,7 @@ fn before_goal(alloc: Global, clause: ClauseSoFar, symbol: Symbol) -> Next
 {
     match symbol.word {
         Word::Name => atom_for(alloc, symbol.at, Use::Goal(clause)),
-        _ => Next::Stop,
+        _ => stop(clause),
     }
 }
 

@@ -6,7 +6,7 @@ use cep_base::PredKind;
 use cep_parse::{RawAtom, RawNode, RawRule, RawStart, Span};
 
 /// An atom by the span of its name, the number of its arguments, and its nodes.
-#[derive(Clone, Copy, Debug, Drop)]
+#[derive(Clone, Copy, Drop)]
 pub struct AtomRef<'a> {
     pub name: Span,
     pub args: u32,
@@ -27,7 +27,7 @@ impl<'a> AtomRef<'a> {
 }
 
 /// A constructor by the spans of its name, of its arguments' types, and of its own type.
-#[derive(Clone, Copy, Debug, Drop)]
+#[derive(Clone, Copy, Drop)]
 pub struct RawCon<'a> {
     pub name: Span,
     pub args: &'a [Span],
@@ -35,7 +35,7 @@ pub struct RawCon<'a> {
 }
 
 /// A predicate by the spans of its name and of its arguments' types, and of which kind it is.
-#[derive(Clone, Copy, Debug, Drop)]
+#[derive(Clone, Copy, Drop)]
 pub struct RawPred<'a> {
     pub name: Span,
     pub args: &'a [Span],
@@ -43,28 +43,28 @@ pub struct RawPred<'a> {
 }
 
 /// A clause: its head and its goals.
-#[derive(Clone, Copy, Debug, Drop)]
+#[derive(Clone, Copy, Drop)]
 pub struct ClauseRef<'a> {
     pub head: AtomRef<'a>,
     pub goals: &'a [RawAtom],
 }
 
 /// A context by the span of its name, and its atoms.
-#[derive(Clone, Copy, Debug, Drop)]
+#[derive(Clone, Copy, Drop)]
 pub struct RawContext<'a> {
     pub name: Span,
     pub atoms: &'a [RawAtom],
 }
 
 /// A rule, and the name of its stage where it stands in one.
-#[derive(Clone, Copy, Debug, Drop)]
+#[derive(Clone, Copy, Drop)]
 pub struct RuleRef<'a> {
     pub home: Option<Span>,
     pub raw: &'a RawRule,
 }
 
 /// A trace: the number of turns if it has one, its stage and its start state.
-#[derive(Clone, Copy, Debug, Drop)]
+#[derive(Clone, Copy, Drop)]
 pub struct TraceRef<'a> {
     pub at: u32,
     pub limit: Option<Span>,

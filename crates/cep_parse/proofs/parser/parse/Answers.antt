@@ -54,14 +54,14 @@ loop-token-preserved c =
     (at_next (take i symbols) c.loop-token.items c.loop-token.state c.loop-token.depth c.symbol_of-symbol.result.word c.symbol_of-symbol.result.at
     (record { items = c.advance.new.items; state = c.in-Some.next }) c.loop-token.invariant (rw c.in-Some.is at c.in_ok-next.ensures) (rw c.if-is_too_deep.false at c.is_too_deep.ensures)))
 
-pub returns-then-is_within : goal.returns-then-is_within
-returns-then-is_within c =
+pub returns-then-within : goal.returns-then-within
+returns-then-within c =
     let symbols = symbols_of c.args.text.now c.args.tokens.now in
     let all = all_read c.args.text.now c.args.tokens.now c.as_slice-token-items.result.now c.loop-token.token-index c.as_slice-token-items.ensures c.loop-token-test.false in
-    ends_early symbols c.loop-token.items c.loop-token.state c.loop-token.depth (length c.args.text.now) (subst (λ f. IsAt f c.loop-token.items c.loop-token.state c.loop-token.depth) all c.loop-token.invariant) (sym c.is_within.ensures ∙ c.if-is_within.true)
+    ends_early symbols c.loop-token.items c.loop-token.state c.loop-token.depth (length c.args.text.now) (subst (λ f. IsAt f c.loop-token.items c.loop-token.state c.loop-token.depth) all c.loop-token.invariant) (sym c.is_within-within.ensures ∙ c.if-within.true)
 
 pub returns : goal.returns
 returns c =
     let symbols = symbols_of c.args.text.now c.args.tokens.now in
     let all = all_read c.args.text.now c.args.tokens.now c.as_slice-token-items.result.now c.loop-token.token-index c.as_slice-token-items.ensures c.loop-token-test.false in
-    ends_well symbols c.loop-token.items c.loop-token.state c.loop-token.depth (subst (λ f. IsAt f c.loop-token.items c.loop-token.state c.loop-token.depth) all c.loop-token.invariant) (sym c.is_within.ensures ∙ c.if-is_within.false)
+    ends_well symbols c.loop-token.items c.loop-token.state c.loop-token.depth (subst (λ f. IsAt f c.loop-token.items c.loop-token.state c.loop-token.depth) all c.loop-token.invariant) (sym c.is_within-within.ensures ∙ c.if-within.false)
