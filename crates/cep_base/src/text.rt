@@ -28,12 +28,18 @@ impl Text {
         }
     }
 
-    /// Adds bytes at the end.
+    /// Adds bytes at the end. Most calls add one alone, as a space or a bracket.
     pub fn append(&mut self, bytes: &[u8]) -> Result<(), AllocError>
         ensures ok { OnOk result (self.new ≡ self.old ++ bytes.now) }
         ensures err { OnErr result (self.new ≡ self.old) }
     {
-        self.bytes.extend_from_slice(bytes)
+        match bytes {
+            [byte] => {
+                self.bytes.push(*byte)?;
+                Ok(())
+            }
+            _ => self.bytes.extend_from_slice(bytes),
+        }
     }
 
     /// Adds a number at the end, in decimal without leading zeros.

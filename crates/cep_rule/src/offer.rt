@@ -20,7 +20,10 @@ pub struct Offer {
 pub fn order_offer(one: &Offer, other: &Offer) -> Ordering
     ensures { result ≡ offer_cmp one.now other.now }
 {
-    one.rule.cmp(&other.rule).then(order_terms(one.values.as_slice(), other.values.as_slice()))
+    match one.rule.cmp(&other.rule) {
+        Ordering::Equal => order_terms(one.values.as_slice(), other.values.as_slice()),
+        unequal => unequal,
+    }
 }
 
 // Compares two lists of terms from left to right. Where one ends first, it is less.
@@ -37,7 +40,10 @@ fn order_terms(terms: &[Term], others: &[Term]) -> Ordering
         }
         [t, terms @ ..] => match others {
             [] => Ordering::Greater,
-            [u, others @ ..] => order_term(t, u).then(order_terms(terms, others)),
+            [u, others @ ..] => match order_term(t, u) {
+                Ordering::Equal => order_terms(terms, others),
+                unequal => unequal,
+            },
         },
     }
 }

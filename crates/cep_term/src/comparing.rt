@@ -18,7 +18,10 @@ pub fn same(a: &Atom, b: &Atom) -> bool
 pub fn order(a: &Atom, b: &Atom) -> Ordering
     ensures { result ≡ atom_cmp (atom_of a.now) (atom_of b.now) }
 {
-    a.pred.cmp(&b.pred).then(order_args(&a.args, &b.args))
+    match a.pred.cmp(&b.pred) {
+        Ordering::Equal => order_args(&a.args, &b.args),
+        unequal => unequal,
+    }
 }
 
 /// Compares two terms by their constructor's number and then by their arguments, as `order`.
@@ -30,7 +33,10 @@ pub fn order_term(a: &Term, b: &Term) -> Ordering
         (Term::Var(v), Term::Var(w)) => v.cmp(w),
         (Term::Var(_), Term::App(_, _)) => Ordering::Less,
         (Term::App(_, _), Term::Var(_)) => Ordering::Greater,
-        (Term::App(c, args), Term::App(d, others)) => c.cmp(d).then(order_args(args, others)),
+        (Term::App(c, args), Term::App(d, others)) => match c.cmp(d) {
+            Ordering::Equal => order_args(args, others),
+            unequal => unequal,
+        },
     }
 }
 
@@ -43,8 +49,9 @@ fn order_args(a: &Args, b: &Args) -> Ordering
         (Args::Nil, Args::Nil) => Ordering::Equal,
         (Args::Nil, Args::Cons(_, _)) => Ordering::Less,
         (Args::Cons(_, _), Args::Nil) => Ordering::Greater,
-        (Args::Cons(t, rest), Args::Cons(u, others)) => {
-            order_term(t, u).then(order_args(rest, others))
-        }
+        (Args::Cons(t, rest), Args::Cons(u, others)) => match order_term(t, u) {
+            Ordering::Equal => order_args(rest, others),
+            unequal => unequal,
+        },
     }
 }
