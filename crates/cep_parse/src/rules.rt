@@ -65,8 +65,33 @@ pub(crate) fn with_elem(mut rule: RuleSoFar, elem: RawElem) -> Result<RuleSoFar,
     Ok(rule)
 }
 
+// The dot of a rule. None may stand on a left side.
+fn rule_ended(rule: RuleSoFar) -> Result<Next, AllocError>
+    ensures { IfOk result (λ next. next ≡ behind_elem rule Word.Dot) }
+{
+    let RuleSoFar {
+        stage,
+        at,
+        label,
+        left,
+        right,
+    } = rule;
+    match right {
+        None => Ok(Next::Stop),
+        Some(right) => whole_rule(
+            stage,
+            RawRule {
+                at,
+                label,
+                left,
+                right,
+            },
+        ),
+    }
+}
+
 // A rule is whole.
-fn rule_ended(stage: Option<StageSoFar>, rule: RawRule) -> Result<Next, AllocError>
+fn whole_rule(stage: Option<StageSoFar>, rule: RawRule) -> Result<Next, AllocError>
     ensures { IfOk result (λ next. next ≡ rule_ended stage rule) }
 {
     match stage {
@@ -128,6 +153,19 @@ pub(crate) fn after_first(
     behind_elem(alloc, with_elem(rule, elem)?, symbol)
 }
 
+// The right side of a rule begins.
+fn right_begun(alloc: Global, rule: RuleSoFar) -> RuleSoFar
+    ensures { result ≡ record { stage = rule.stage; at = rule.at; label = rule.label; left = rule.left; right = Some [] } }
+{
+    RuleSoFar {
+        stage: rule.stage,
+        at: rule.at,
+        label: rule.label,
+        left: rule.left,
+        right: Some(RawSide::new(alloc)),
+    }
+}
+
 /// Behind an element.
 pub(crate) fn behind_elem(
     alloc: Global,
@@ -136,78 +174,12 @@ pub(crate) fn behind_elem(
 ) -> Result<Next, AllocError>
     ensures { IfOk result (λ next. next ≡ behind_elem rule symbol.word) }
 {
-    let RuleSoFar {
-        stage,
-        at,
-        label,
-        left,
-        right,
-    } = rule;
-    match right {
-        None => Ok(behind_left(alloc, stage, at, label, left, symbol)),
-        Some(right) => behind_right(stage, at, label, left, right, symbol),
-    }
-}
-
-// Behind an element on the left.
-fn behind_left(
-    alloc: Global,
-    stage: Option<StageSoFar>,
-    at: u32,
-    label: Option<Span>,
-    left: RawSide,
-    symbol: Symbol,
-) -> Next
-    ensures { result ≡ behind_left (rule_from stage at label left) symbol.word }
-{
+    let right = rule.right.is_some();
     match symbol.word {
-        Word::Star => at_place(rule_from(stage, at, label, left), RulePlace::Before),
-        Word::Lolli => at_place(
-            RuleSoFar {
-                stage,
-                at,
-                label,
-                left,
-                right: Some(RawSide::new(alloc)),
-            },
-            RulePlace::Before,
-        ),
-        _ => Next::Stop,
-    }
-}
-
-// Behind an element on the right.
-fn behind_right(
-    stage: Option<StageSoFar>,
-    at: u32,
-    label: Option<Span>,
-    left: RawSide,
-    right: RawSide,
-    symbol: Symbol,
-) -> Result<Next, AllocError>
-    ensures { IfOk result (λ next. next ≡ behind_right (record { stage = stage; at = at; label = label; left = left; right = Some right }) right symbol.word) }
-{
-    match symbol.word {
-        Word::Star => Ok(at_place(
-            RuleSoFar {
-                stage,
-                at,
-                label,
-                left,
-                right: Some(right),
-            },
-            RulePlace::Before,
-        )),
-        Word::Dot => rule_ended(
-            stage,
-            RawRule {
-                at,
-                label,
-                left,
-                right,
-            },
-        ),
-        _ => Ok(Next::Stop),
+        Word::Star => Ok(at_place(rule, RulePlace::Before)),
+        Word::Lolli if !right => Ok(at_place(right_begun(alloc, rule), RulePlace::Before)),
+        Word::Dot => rule_ended(rule),
+        _ => Ok(stop(rule)),
     }
 }
 
