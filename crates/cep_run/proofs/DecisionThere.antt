@@ -16,23 +16,8 @@ use Rattle.cep_run.proofs.StepThere.{ThereLaws}
 pub interactive_or_not : (stage : Option Stage) → IsSomeAnd stage (λ it. it.interactive ≡ true) ⊎ (IsSomeAnd stage (λ it. it.interactive ≡ true) → ⊥)
 interactive_or_not stage = grind arith
 
-own_or_several : (stage group n : ℕ) → ((group ≡ own_group stage) ⊎ (1 < n)) ⊎ ((group ≡ own_group stage) ⊎ (1 < n) → ⊥)
-own_or_several stage group n = elim (cases_eq group (own_group stage)) [
-  | inl own ↦ inl (inl own)
-  | inr other ↦ elim (cases_lt 1 n) [
-    | inl several ↦ inl (inr several)
-    | inr few ↦ inr (λ either. elim either [ inl own ↦ other own | inr several ↦ omega (arith, few, several) ])
-  ]
-]
-
 players_or_not : (program : Parts) (stage group n : ℕ) → IsPlayers program stage group n ⊎ (IsPlayers program stage group n → ⊥)
-players_or_not program stage group n = elim (interactive_or_not (slice_get program.stages stage)) [
-  | inr idle ↦ inr (λ players. idle players.0)
-  | inl interactive ↦ elim (own_or_several stage group n) [
-    | inl either ↦ inl (interactive, either)
-    | inr neither ↦ inr (λ players. neither players.1)
-  ]
-]
+players_or_not program stage group n = grind (arith, interactive_or_not (slice_get program.stages stage), cases_eq group (own_group stage), cases_lt 1 n)
 
 -- a choice among n offers is decided, from this supply, and a place that is chosen is one of n
 pub record HasDecision (program : Parts) (seed stage group n : ℕ) (from : Supply) : Type 0 where

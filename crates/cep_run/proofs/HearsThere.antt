@@ -1,7 +1,7 @@
 -- From the bytes to come some choice is heard.
-use Rattle.std.proofs.Common.{◌≡◌, ◌⊎◌, inl, inr, ℕ, zero, suc, ◌+◌, ◌<◌, List, [], ◌∷◌, ◌++◌, length, length-append, refl, sym, ap, subst, arith, Bool, true, false}
-use Rattle.std.specs.Prelude.{decimal, bytes_eq}
-use Rattle.std.proofs.lemmas.Bool.{cases_Bool, cases_eq}
+use Rattle.std.proofs.Common.{◌≡◌, ◌⊎◌, inl, inr, ℕ, zero, suc, ◌+◌, ◌<◌, List, [], ◌∷◌, ◌++◌, length, length-append, refl, sym, ap, arith}
+use Rattle.std.specs.Prelude.{decimal}
+use Rattle.std.proofs.lemmas.Bool.{cases_eq}
 use Rattle.std.proofs.lemmas.Slice.Eq.{bytes_eq-Decides}
 use Rattle.cep_base.specs.declared.console.Event.{Event}
 use Rattle.cep_base.specs.declared.console.Event.TheVariants.{In, End}
@@ -17,30 +17,15 @@ use Rattle.cep_run.specs.Choice.{IsChoiceWithin, room_after, no_line, Hears, cho
 abbrev Spells : List ℕ → ℕ → Type 0
 Spells line place = (line ≡ decimal place) ⊎ (line ≡ decimal place ++ 13 ∷ [])
 
-false_true : {b : Bool} {X : Type 0} → b ≡ false → b ≡ true → X
-false_true p q = absurd (cc)
-
 same_or_not : (bytes others : List ℕ) → (bytes ≡ others) ⊎ (bytes ≡ others → ⊥)
-same_or_not bytes others = elim (cases_Bool (bytes_eq bytes others)) [
-  | inl same ↦ inl ((bytes_eq-Decides bytes others).0 same)
-  | inr apart ↦ inr (λ same. false_true apart ((bytes_eq-Decides bytes others).1 same))
-]
+same_or_not bytes others = grind (arith, bytes_eq-Decides bytes others)
 
 spells_or_not : (line : List ℕ) (place : ℕ) → Spells line place ⊎ (Spells line place → ⊥)
-spells_or_not line place = elim (same_or_not line (decimal place)) [
-  | inl plain ↦ inl (inl plain)
-  | inr no_plain ↦ elim (same_or_not line (decimal place ++ 13 ∷ [])) [
-    | inl closed ↦ inl (inr closed)
-    | inr no_closed ↦ inr (λ spells. elim spells [ inl plain ↦ no_plain plain | inr closed ↦ no_closed closed ])
-  ]
-]
+spells_or_not line place = grind (arith, same_or_not line (decimal place), same_or_not line (decimal place ++ 13 ∷ []))
 
 -- a line that chooses no place among n, and does not spell the next number, chooses none among one more
 none_more : (n : ℕ) (line : List ℕ) → ChoosesNone n line → (Spells line (suc n) → ⊥) → ChoosesNone (suc n) line
-none_more n line none other place chooses = elim (cases_eq place (suc n)) [
-  | inl same ↦ other (subst (Spells line) same chooses.2)
-  | inr apart ↦ none place (chooses.0, (let within = chooses.1 in omega arith), chooses.2)
-]
+none_more n line none other place chooses = grind (arith, cases_eq place (suc n), none place)
 
 -- a line chooses a place among n, or none
 pub chooses_or_not : (n : ℕ) (line : List ℕ) → ((place : ℕ) × Chooses n line place) ⊎ ChoosesNone n line

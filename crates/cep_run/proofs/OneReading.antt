@@ -114,20 +114,15 @@ one_place n line place other small chooses chooses' =
 
 -- one reading gives one line
 one_line : (cut cut' : Cut) (line other : List ℕ) → cut ≡ cut' → IsLine cut line → IsLine cut' other → line ≡ other
-one_line cut cut' line other same (inl ended) (inl ended') = cc
-one_line cut cut' line other same (inl ended) (inr last') = cc
-one_line cut cut' line other same (inr last) (inl ended') = cc
-one_line cut cut' line other same (inr last) (inr last') = cc
+one_line cut cut' line other same is is' = grind arith
 
 -- where a line was read, the input did not end before it
 line_or_nothing : (cut : Cut) (line : List ℕ) → cut ≡ Nothing → IsLine cut line → ⊥
-line_or_nothing cut line none (inl ended) = cc
-line_or_nothing cut line none (inr last) = cc
+line_or_nothing cut line none is = grind arith
 
 -- where a line was read, the room was not full before its end
 line_or_full : (cut : Cut) (line bytes : List ℕ) → cut ≡ Full bytes → IsLine cut line → ⊥
-line_or_full cut line bytes full (inl ended) = cc
-line_or_full cut line bytes full (inr last) = cc
+line_or_full cut line bytes full is = grind arith
 
 -- one reading does not find both the end of the input and a full room
 nothing_or_full : (bytes : List ℕ) → Nothing ≡ Full bytes → ⊥

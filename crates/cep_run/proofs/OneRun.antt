@@ -8,15 +8,15 @@ use Rattle.cep_rule.specs.declared.parts.Parts.{Parts}
 use Rattle.cep_rule.specs.declared.offer.Offer.{Offer}
 use Rattle.cep_rule.specs.State.{Fits}
 use Rattle.cep_rule.specs.Offers.{AreOffers}
-use Rattle.cep_rule.specs.Stages.{HasOffer, IsAsked, IsQuiet}
+use Rattle.cep_rule.specs.Stages.{IsAsked, IsQuiet}
 use Rattle.cep_rule.specs.Step.{Step}
 use Rattle.cep_rule.specs.Steps.{Spot, StepsTo}
 use Rattle.cep_run.specs.declared.choice.Choice.{Choice}
-use Rattle.cep_run.specs.declared.choice.Choice.TheVariants.{Place, NoMore, NoRoom}
+use Rattle.cep_run.specs.declared.choice.Choice.TheVariants.{NoMore, NoRoom}
 use Rattle.cep_lines.specs.declared.end_word.EndWord.{EndWord}
 use Rattle.cep_lines.specs.declared.end_word.EndWord.TheVariants.{Quiet, Turns, Offers, Input, Typed}
 use Rattle.cep_run.specs.declared.settings.Settings.{Settings}
-use Rattle.cep_run.specs.Deciding.{Supply, How, Heard, Lone, Drawn, Decides}
+use Rattle.cep_run.specs.Deciding.{Supply, How, Heard, Decides}
 use Rattle.cep_step.specs.Deeds.{Position}
 use Rattle.cep_step.specs.declared.limit.Limit.{Limit}
 use Rattle.cep_step.specs.declared.limit.Limit.TheVariants as limit
@@ -29,15 +29,11 @@ use Rattle.cep_run.proofs.TurnSteps.{steps_here, counted_here}
 
 -- a stage asks one group
 one_group : (program : Parts) (height : ℕ) (state : Multiset) (stage group other : ℕ) → IsAsked program height state stage group → IsAsked program height state stage other → group ≡ other
-one_group program height state stage group other (inl own) (inl own') = own.0 ∙ sym own'.0
-one_group program height state stage group other (inl own) (inr leaving') = absurd (leaving'.1 (subst (HasOffer program height state) own.0 own.1))
-one_group program height state stage group other (inr leaving) (inl own') = absurd (leaving.1 (subst (HasOffer program height state) own'.0 own'.1))
-one_group program height state stage group other (inr leaving) (inr leaving') = leaving.0 ∙ sym leaving'.0
+one_group program height state stage group other asked asked' = grind arith
 
 -- a stage is quiet, or asks a group
 quiet_or_asked : (program : Parts) (height : ℕ) (state : Multiset) (stage group : ℕ) → IsQuiet program height state stage → IsAsked program height state stage group → ⊥
-quiet_or_asked program height state stage group none (inl own) = none.0 (subst (HasOffer program height state) own.0 own.1)
-quiet_or_asked program height state stage group none (inr leaving) = none.1 (subst (HasOffer program height state) leaving.0 leaving.2)
+quiet_or_asked program height state stage group none asked = grind arith
 
 -- Decisions
 
@@ -53,14 +49,7 @@ one_decision program seed stage group n small from (Heard events) (Heard events'
     let taken = same.many in
     let drawn = is.2 ∙ sym is'.2 in
     record { hows = ap Heard same.said; choices = same.choices; supplies = λ i. record { come = come i; taken = taken i; drawn = drawn i } }
-one_decision program seed stage group n small from (Heard events) Lone choice choice' to to' is is' = absurd (is'.0 is.0)
-one_decision program seed stage group n small from (Heard events) Drawn choice choice' to to' is is' = absurd (is'.0 is.0)
-one_decision program seed stage group n small from Lone (Heard events') choice choice' to to' is is' = absurd (is.0 is'.0)
-one_decision program seed stage group n small from Lone Lone choice choice' to to' is is' = record { hows = refl; choices = is.2 ∙ sym is'.2; supplies = is.3 ∙ sym is'.3 }
-one_decision program seed stage group n small from Lone Drawn choice choice' to to' is is' = absurd (omega (arith, is.1, is'.1))
-one_decision program seed stage group n small from Drawn (Heard events') choice choice' to to' is is' = absurd (is.0 is'.0)
-one_decision program seed stage group n small from Drawn Lone choice choice' to to' is is' = absurd (omega (arith, is.1, is'.1))
-one_decision program seed stage group n small from Drawn Drawn choice choice' to to' is is' = record { hows = refl; choices = is.2 ∙ sym is'.2; supplies = is.3 ∙ sym is'.3 }
+one_decision program seed stage group n small from how how' choice choice' to to' is is' = grind arith
 
 -- two choices are of the same offer, of the same rule
 record SameChoice (offer offer' : Offer) (rule rule' : Rule) : Type 0 where
@@ -142,10 +131,7 @@ module _ (one_list : (program : Parts) (height : ℕ) (state : Multiset) (group 
 
   -- a step passes one limit first
   one_limit : (rule : Rule) (values : List Tree) (state : Multiset) (one other : Limit) → Passes program.signature rule values state one → Passes program.signature rule values state other → one ≡ other
-  one_limit rule values state limit.Atom limit.Atom passes passes' = refl
-  one_limit rule values state limit.Atom limit.State passes passes' = absurd (passes passes'.0)
-  one_limit rule values state limit.State limit.Atom passes passes' = absurd (passes' passes.0)
-  one_limit rule values state limit.State limit.State passes passes' = refl
+  one_limit rule values state one other passes passes' = grind arith
 
   -- how a run ends without a question: quiet, with all turns done, or with too many offers
   abbrev Unasked : Position → EndWord → Type 0
@@ -189,46 +175,21 @@ module _ (one_list : (program : Parts) (height : ℕ) (state : Multiset) (group 
   ]
 
   one_unasked : (at : Position) (word word' : EndWord) → Unasked at word → Unasked at word' → word ≡ word'
-  one_unasked at word word' (inl quiet) (inl quiet') = quiet.0 ∙ sym quiet'.0
-  one_unasked at word word' (inl quiet) (inr (inl over)) = absurd (quiet_or_asked program settings.height at.spot.state at.spot.stage over.1.0 quiet.1 over.1.1)
-  one_unasked at word word' (inl quiet) (inr (inr many)) = absurd (quiet_or_asked program settings.height at.spot.state at.spot.stage many.2.0 quiet.1 many.2.2)
-  one_unasked at word word' (inr (inl over)) (inl quiet) = absurd (quiet_or_asked program settings.height at.spot.state at.spot.stage over.1.0 quiet.1 over.1.1)
-  one_unasked at word word' (inr (inl over)) (inr (inl over')) = over.0 ∙ sym over'.0
-  one_unasked at word word' (inr (inl over)) (inr (inr many)) = absurd (omega (arith, over.2, many.1))
-  one_unasked at word word' (inr (inr many)) (inl quiet) = absurd (quiet_or_asked program settings.height at.spot.state at.spot.stage many.2.0 quiet.1 many.2.2)
-  one_unasked at word word' (inr (inr many)) (inr (inl over)) = absurd (omega (arith, over.2, many.1))
-  one_unasked at word word' (inr (inr many)) (inr (inr many')) = many.0 ∙ sym many'.0
-
-  -- where a place is chosen, a choice was made
-  place_or_none : {X : Type 0} (choice : Choice) (place : ℕ) → choice ≡ Place place → choice ≡ NoMore → X
-  place_or_none choice place is none = absurd (cc)
-
-  place_or_full : {X : Type 0} (choice : Choice) (place : ℕ) → choice ≡ Place place → choice ≡ NoRoom → X
-  place_or_full choice place is full = absurd (cc)
-
-  none_or_full : {X : Type 0} (choice : Choice) → choice ≡ NoMore → choice ≡ NoRoom → X
-  none_or_full choice none full = absurd (cc)
+  one_unasked at word word' is is' = grind (arith, quiet_or_asked program settings.height at.spot.state at.spot.stage)
 
   one_nowhere : (at : Position) (question : Question) (word word' : EndWord) → Nowhere at question word → Nowhere at question word' → word ≡ word'
-  one_nowhere at question word word' (inl none) (inl none') = none.0 ∙ sym none'.0
-  one_nowhere at question word word' (inl none) (inr (inl full)) = none_or_full question.choice none.1 full.1
-  one_nowhere at question word word' (inl none) (inr (inr stops)) = place_or_none question.choice (stops.4.place + 1) stops.4.chosen none.1
-  one_nowhere at question word word' (inr (inl full)) (inl none) = none_or_full question.choice none.1 full.1
-  one_nowhere at question word word' (inr (inl full)) (inr (inl full')) = full.0 ∙ sym full'.0
-  one_nowhere at question word word' (inr (inl full)) (inr (inr stops)) = place_or_full question.choice (stops.4.place + 1) stops.4.chosen full.1
-  one_nowhere at question word word' (inr (inr stops)) (inl none) = place_or_none question.choice (stops.4.place + 1) stops.4.chosen none.1
-  one_nowhere at question word word' (inr (inr stops)) (inr (inl full)) = place_or_full question.choice (stops.4.place + 1) stops.4.chosen full.1
   one_nowhere at question word word' (inr (inr (passed, offer, rule, named, chosen, passes))) (inr (inr (passed', offer', rule', named', chosen', passes'))) =
       let same = one_choice program question offer' offer rule' rule chosen' chosen in
       let passes_too = subst (λ (r : Rule). Passes program.signature r offer.values at.spot.state passed') same.rules (subst (λ (o : Offer). Passes program.signature rule' o.values at.spot.state passed') same.offers passes') in
       named ∙ ap limit_word (one_limit rule offer.values at.spot.state passed passed' passes passes_too) ∙ sym named'
+  one_nowhere at question word word' is is' = grind arith
 
   -- where a turn is done, no run ends
   pub turn_or_end : {X : Type 0} (at : Position) (from : Supply) (turn : Turn) (word : EndWord) (asked : Option Question) (to : Supply) → IsTurn program settings at from turn → EndsAt program settings at from word asked to → X
   turn_or_end {X} at from turn word asked to is ends = by (way at from ends) where
     leads : Nowhere at turn.question word → X
-    leads (inl none) = place_or_none turn.question.choice (is.chosen.place + 1) is.chosen.chosen none.1
-    leads (inr (inl full)) = place_or_full turn.question.choice (is.chosen.place + 1) is.chosen.chosen full.1
+    leads (inl none) = absurd (cc (is.chosen.chosen, none.1))
+    leads (inr (inl full)) = absurd (cc (is.chosen.chosen, full.1))
     leads (inr (inr (passed, offer, rule, named, chosen, passes))) =
         let deed = turn.deed in
         let same = one_choice program turn.question offer deed.offer rule deed.rule chosen is.chosen in
@@ -274,20 +235,16 @@ module _ (one_list : (program : Parts) (height : ℕ) (state : Multiset) (group 
     turns_are = refl;
     lasts = done.0 ∙ sym done'.0;
     end = one_end at from word word' asked asked' to to'
-        (subst (λ place. EndsAt program settings place from word asked to) done.0 (subst (λ supply. EndsAt program settings last supply word asked to) done.1 ends))
-        (subst (λ place. EndsAt program settings place from word' asked' to') done'.0 (subst (λ supply. EndsAt program settings last' supply word' asked' to') done'.1 ends'));
+        (rw (← done.0, ← done.1) ends) (rw (← done'.0, ← done'.1) ends');
   }
   one_run_of at from [] (turn' ∷ turns') last last' between between' word word' asked asked' to to' done done' ends ends' =
-      turn_or_end at from turn' word asked to done'.0
-      (subst (λ place. EndsAt program settings place from word asked to) done.0 (subst (λ supply. EndsAt program settings last supply word asked to) done.1 ends))
+      turn_or_end at from turn' word asked to done'.0 (rw (← done.0, ← done.1) ends)
   one_run_of at from (turn ∷ turns) [] last last' between between' word word' asked asked' to to' done done' ends ends' =
-      turn_or_end at from turn word' asked' to' done.0
-      (subst (λ place. EndsAt program settings place from word' asked' to') done'.0 (subst (λ supply. EndsAt program settings last' supply word' asked' to') done'.1 ends'))
+      turn_or_end at from turn word' asked' to' done.0 (rw (← done'.0, ← done'.1) ends')
   one_run_of at from (turn ∷ turns) (turn' ∷ turns') last last' between between' word word' asked asked' to to' done done' ends ends' =
       let same = one_turn at from turn turn' done.0 done'.0 in
       let later = one_run_of turn.deed.after turn.left turns turns' last last' between between' word word' asked asked' to to' done.1
-      (subst (λ place. AreTurns program settings place turn.left turns' last' between') (sym same.afters) (subst (λ supply. AreTurns program settings turn'.deed.after supply turns' last' between') (sym same.lefts) done'.1))
-      ends ends' in
+      (rw (same.afters, same.lefts) done'.1) ends ends' in
       let first = same.turns in
       let others = later.turns_are in
       record { turns_are = λ i. first i ∷ others i; lasts = later.lasts; end = later.end }

@@ -1,5 +1,5 @@
 -- Where an offer applies its step is there, and what proves its backward premises is there too.
-use Rattle.std.proofs.Common.{◌⊎◌, inl, inr, ℕ, ◌<◌, ◌≤◌, List, [], ◌∷◌, arith}
+use Rattle.std.proofs.Common.{◌⊎◌, inl, ℕ, ◌<◌, ◌≤◌, List, [], ◌∷◌, arith}
 use Rattle.std.specs.List.{AllByRecursion}
 use Rattle.std.proofs.lemmas.Bool.{cases_lt}
 use Rattle.cep_base.specs.declared.limits.TheConstants.{MOST_NODES, MOST_DEPTH, MOST_COPIES, MOST_STATE_NODES}
@@ -51,32 +51,14 @@ there_laws lead lists edit places = record { lead = lead; lists = lists; edit = 
 -- Limits can be told
 
 atom_fits_or_not : (a : AtomTree) → IsFit a ⊎ (IsFit a → ⊥)
-atom_fits_or_not a = elim (cases_lt MOST_NODES (atom_nodes a)) [
-  | inl large ↦ inr (λ fit. let nodes = fit.nodes in omega (arith, large, nodes))
-  | inr nodes ↦ elim (cases_lt MOST_DEPTH (atom_depth a)) [
-    | inl deep ↦ inr (λ fit. let depth = fit.depth in omega (arith, deep, depth))
-    | inr depth ↦ inl (record { nodes = nodes; depth = depth })
-  ]
-]
+atom_fits_or_not a = grind (arith, cases_lt MOST_NODES (atom_nodes a), cases_lt MOST_DEPTH (atom_depth a))
 
 pub all_fit_or_not : (atoms : List AtomTree) → AllByRecursion IsFit atoms ⊎ (AllByRecursion IsFit atoms → ⊥)
 all_fit_or_not [] = inl tt
-all_fit_or_not (a ∷ atoms) = elim (atom_fits_or_not a) [
-  | inr large ↦ inr (λ all. large all.0)
-  | inl fit ↦ elim (all_fit_or_not atoms) [
-    | inr later ↦ inr (λ all. later all.1)
-    | inl others ↦ inl (fit, others)
-  ]
-]
+all_fit_or_not (a ∷ atoms) = grind (arith, atom_fits_or_not a, all_fit_or_not atoms)
 
 pub state_fits_or_not : (state : Multiset) → Fits state ⊎ (Fits state → ⊥)
-state_fits_or_not state = elim (cases_lt MOST_COPIES (copies_in state)) [
-  | inl many ↦ inr (λ fits. let copies = fits.copies in omega (arith, many, copies))
-  | inr copies ↦ elim (cases_lt MOST_STATE_NODES (nodes_in_all state)) [
-    | inl large ↦ inr (λ fits. let nodes = fits.nodes in omega (arith, large, nodes))
-    | inr nodes ↦ inl (record { copies = copies; nodes = nodes })
-  ]
-]
+state_fits_or_not state = grind (arith, cases_lt MOST_COPIES (copies_in state), cases_lt MOST_STATE_NODES (nodes_in_all state))
 
 -- Derivations
 

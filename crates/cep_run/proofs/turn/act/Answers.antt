@@ -1,4 +1,4 @@
-use Rattle.std.proofs.Common.{◌≡◌, subst, inl, refl, sym, ap, Some, ◌∙◌}
+use Rattle.std.proofs.Common.{subst, inl, refl, sym, ap, Some, ◌∙◌}
 use Rattle.cep_rule.specs.Limits.{IsHeight}
 use Rattle.cep_rule.specs.Instances.{full_instances}
 use Rattle.cep_base.proofs.Did.{did_same, did_map}
