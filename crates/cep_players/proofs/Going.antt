@@ -16,7 +16,8 @@ use Rattle.std.specs.FinMap as finite
 
 module _ {program : Parts} {settings : Settings} (players : ℕ) {at : Position} (none : IsForAll program settings.height at → ⊥) (spent : Spent) where
   turn_ends : (word : EndWord) (spent' : Spent) → Maps (Stops (choose_line 1) program settings at spent word spent') (EndsParts program settings players at spent word at spent')
-  turn_ends word spent' come events rest stops = record { end = of_turn stops.asked; ends = (stops.ends, grind arith, refl); written = stops.written; gone = rw stops.written (last_left (choose_line 1) program settings at (supply_with come spent) stops.asked (supply_with rest spent') (left_by program settings at _ stops.ends)) }
+  turn_ends word spent' come events rest stops =
+      record { end = of_turn stops.asked; ends = (stops.ends, grind arith, refl); written = stops.written; gone = rw stops.written (last_left (choose_line 1) program settings at (supply_with come spent) stops.asked (supply_with rest spent') (left_by program settings at _ stops.ends)) }
 
   -- what was said before a turn was refused begins some run
   pub turn_refused : PlayersLaws → IsProgram program → 0 < players → IsState program.signature at.spot.state → Maps (Short (λ come. supply_with come spent) (IsQuestionOrTurn (choose_line 1) program settings at)) (Short (λ come. supply_with come spent) (IsRunInRounds program settings players at))

@@ -10,7 +10,8 @@ place_in-place-requires-clause-there g c =
 
 pub returns-clause-begun : goal.returns-clause-begun
 returns-clause-begun g c =
-    on_err_weaker c.act.result (did_map g.C.Console.talk g.C.Console.left _ _ _ _ (acts_begin _ c.args.settings c.parts.ensures.kept _ c.args.config _ c.requires.own c.requires.offer _ _ (rw c.matcher.ensures.matcher at c.place_in-place.ensures) (omega (arith, c.if-turns-limit.false)))) c.act.ensures.begun
+    on_err_weaker c.act.result (did_map g.C.Console.talk g.C.Console.left _ _ _ _
+    (acts_begin _ c.args.settings c.parts.ensures.kept _ c.args.config _ c.requires.own c.requires.offer _ _ (rw c.matcher.ensures.matcher at c.place_in-place.ensures) (omega (arith, c.if-turns-limit.false)))) c.act.ensures.begun
 
 pub returns-clause-acted : goal.returns-clause-acted
 returns-clause-acted g c =
@@ -18,7 +19,8 @@ returns-clause-acted g c =
 
 pub returns-clause-moved : goal.returns-clause-moved
 returns-clause-moved g c =
-    both_ok c.act.result _ _ _ (offer_moved _ c.args.settings c.parts.ensures.kept _ c.args.config _ c.requires.own c.requires.offer _ _ (rw c.matcher.ensures.matcher at c.place_in-place.ensures) (omega (arith, c.if-turns-limit.false)) g.C.Console.talk g.C.Console.left _ _) c.act.ensures.acted c.act.ensures.moved
+    both_ok c.act.result _ _ _
+    (offer_moved _ c.args.settings c.parts.ensures.kept _ c.args.config _ c.requires.own c.requires.offer _ _ (rw c.matcher.ensures.matcher at c.place_in-place.ensures) (omega (arith, c.if-turns-limit.false)) g.C.Console.talk g.C.Console.left _ _) c.act.ensures.acted c.act.ensures.moved
 
 pub returns-then-turns-limit-clause-acted : goal.returns-then-turns-limit-clause-acted
 returns-then-turns-limit-clause-acted g c =

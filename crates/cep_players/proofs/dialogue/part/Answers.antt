@@ -17,14 +17,14 @@ returns-then-turns-limit-clause-went g c =
 
 pub returns-then-not-len_ok-clause-went : goal.returns-then-not-len_ok-clause-went
 returns-then-not-len_ok-clause-went g c =
-    let crowds = crowds_here g.M.Matcher.height_held g.M.Matcher.state_held g.M.Matcher.offers_held c.args.program.now c.args.settings c.args.config c.in-Some.group c.requires.played.height (g.met.M.Matcher.exact c.args.program.now c.args.config.matcher c.requires.played.of_program.matcher) c.matcher.ensures.same_state
-    c.matcher.ensures.listed c.in-Some.ensures.listed (c.in-Some.ensures.asked c.args.program.now c.requires.played.of_program) (rw c.turns.ensures at c.if-turns-limit.false) c.matcher.result.now c.matcher.ensures.matcher c.len_ok.result c.len_ok.ensures c.if-not-len_ok.true in
+    let crowds = crowds_here g.M.Matcher.height_held g.M.Matcher.state_held g.M.Matcher.offers_held c.args.program.now c.args.settings c.args.config c.in-Some.group c.requires.played.height
+    (g.met.M.Matcher.exact c.args.program.now c.args.config.matcher c.requires.played.of_program.matcher) c.matcher.ensures.same_state c.matcher.ensures.listed c.in-Some.ensures.listed (c.in-Some.ensures.asked c.args.program.now c.requires.played.of_program) (rw c.turns.ensures at c.if-turns-limit.false) c.matcher.result.now c.matcher.ensures.matcher c.len_ok.result c.len_ok.ensures c.if-not-len_ok.true in
     rw c.over-then-not-len_ok.ensures (ends_before g.C.Console.talk g.C.Console.left _ c.args.program.now c.args.settings c.args.players c.args.config c.args.spent.now _ crowds)
 
 pub asked_turn-requires-clause-here : goal.asked_turn-requires-clause-here
 asked_turn-requires-clause-here g c =
-    offered_here g.M.Matcher.height_held g.M.Matcher.state_held g.M.Matcher.offers_held c.args.program.now c.args.settings c.args.config c.in-Some.group c.requires.played.height (g.met.M.Matcher.exact c.args.program.now c.args.config.matcher c.requires.played.of_program.matcher) c.matcher.ensures.same_state
-    c.matcher.ensures.listed c.in-Some.ensures.listed (c.in-Some.ensures.asked c.args.program.now c.requires.played.of_program) (rw c.turns.ensures at c.if-turns-limit.false) c.matcher.result.now c.matcher.ensures.matcher c.len_ok.result c.len_ok.ensures c.if-not-len_ok.false
+    offered_here g.M.Matcher.height_held g.M.Matcher.state_held g.M.Matcher.offers_held c.args.program.now c.args.settings c.args.config c.in-Some.group c.requires.played.height
+    (g.met.M.Matcher.exact c.args.program.now c.args.config.matcher c.requires.played.of_program.matcher) c.matcher.ensures.same_state c.matcher.ensures.listed c.in-Some.ensures.listed (c.in-Some.ensures.asked c.args.program.now c.requires.played.of_program) (rw c.turns.ensures at c.if-turns-limit.false) c.matcher.result.now c.matcher.ensures.matcher c.len_ok.result c.len_ok.ensures c.if-not-len_ok.false
 
 pub returns-else-is_for_all-clause-went : goal.returns-else-is_for_all-clause-went
 returns-else-is_for_all-clause-went g c =
