@@ -62,7 +62,8 @@ impl<'a> Kinds<'a> {
             }
             RawItem::Context { name, atoms } => {
                 let (name, atoms) = (*name, atoms.as_slice());
-                self.contexts.declare(RawContext { name, atoms }, text, name)
+                self.contexts
+                    .declare(RawContext { name, atoms }, text, name)
             }
             RawItem::Interactive { name } => self.interactives.declare(*name, text, *name),
             RawItem::Trace {
@@ -72,7 +73,12 @@ impl<'a> Kinds<'a> {
                 start,
             } => {
                 let (at, limit, stage) = (*at, *limit, *stage);
-                self.traces.push(TraceRef { at, limit, stage, start })?;
+                self.traces.push(TraceRef {
+                    at,
+                    limit,
+                    stage,
+                    start,
+                })?;
                 Ok(())
             }
             RawItem::Colon { .. } | RawItem::Clause { .. } => Ok(()),
