@@ -3,7 +3,6 @@ pub mod Elements
 pub mod Lists
 pub mod Outcomes
 pub mod Bytes
-pub mod Holdings
 pub mod Foremost
 pub mod ForemostLoops
 pub mod Entries

@@ -4,10 +4,6 @@ pub mod Foremost
 pub mod Faults
 pub mod Talk
 pub mod Files
-pub mod Calls
-pub mod CalmConsole
-pub mod MemConsole
-pub mod MemShelf
 pub mod Kinds
 pub mod FirstNames
 pub mod Sorted

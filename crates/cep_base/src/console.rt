@@ -7,7 +7,7 @@ ghost use Rattle.cep_base.specs.Talk.{outs, heard, GoesOn, Takes, ConsoleCause};
 use std::alloc::{AllocError, AllocFailed};
 
 /// One event of a dialogue: a byte written, a byte typed, or the end of what is typed.
-#[derive(Clone, Copy, Debug, PartialEq, Eq)]
+#[derive(Clone, Copy, PartialEq, Eq)]
 pub enum Event {
     Out(u8),
     In(u8),
@@ -15,7 +15,7 @@ pub enum Event {
 }
 
 /// Why a call of a console was refused: memory ran out, or the console itself failed.
-#[derive(Clone, Copy, Debug, PartialEq, Eq)]
+#[derive(Clone, Copy, PartialEq, Eq)]
 pub enum ConsoleFault {
     Memory(AllocError),
     Failed,

@@ -4,7 +4,7 @@ ghost use Rattle.cep_base.specs.Faults.{Rose, count_up};
 use std::marker::Model;
 
 /// How often something outside failed: from 0 to 2^64 - 1, where it stays.
-#[derive(Debug, Drop)]
+#[derive(Drop)]
 pub struct FaultCount {
     count: u64,
 }

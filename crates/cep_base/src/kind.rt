@@ -4,7 +4,7 @@ ghost use Rattle.cep_base.specs.Kinds.{is_backward, is_of_facts};
 /// What the atoms of a predicate are. Those of linear ones stand in states, copy by copy, as in
 /// Ceptre; those of backward ones are derived from clauses; and a fact stands in a state once or not
 /// at all, and is never consumed. Facts are this profile's.
-#[derive(Clone, Copy, Debug, PartialEq, Eq)]
+#[derive(Clone, Copy, PartialEq, Eq)]
 pub enum PredKind {
     Linear,
     Back,

@@ -1,18 +1,14 @@
 //! What every other crate stands on: lists, stacks and tables of names, the limits, places in a text,
 //! byte text, a counter of steps, and the outside of the program as two traits, a console and a
-//! shelf of files, with fakes in memory.
+//! shelf of files.
 #![tactic(auto)]
 
-mod calls;
-mod calm_console;
 mod console;
 mod faults;
 mod first_names;
 mod kind;
 pub mod limits;
 mod list;
-mod memory_console;
-mod memory_shelf;
 mod name;
 mod place;
 mod reading;
@@ -21,14 +17,11 @@ mod stack;
 mod steps;
 mod text;
 
-pub use calm_console::CalmConsole;
 pub use console::{Console, ConsoleFault, Event};
 pub use faults::FaultCount;
 pub use first_names::FirstNames;
 pub use kind::PredKind;
 pub use list::List;
-pub use memory_console::MemConsole;
-pub use memory_shelf::MemShelf;
 pub use name::Name;
 pub use place::Pos;
 pub use reading::{decimal, strip};

@@ -7,7 +7,7 @@ use std::marker::Model;
 use std::slice::Iter;
 
 /// A list that grows at its end.
-#[derive(Debug, Drop)]
+#[derive(Drop)]
 pub struct List<T> {
     items: Vec<T>,
 }

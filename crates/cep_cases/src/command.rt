@@ -2,7 +2,8 @@
 ghost use Rattle.std.specs.Prelude.{◌≡◌, ◌<◌};
 
 use crate::noting_shelf::NotingShelf;
-use cep_base::{MemConsole, Steps};
+use cep_base::Steps;
+use cep_fakes::MemConsole;
 use cep_play::ceptre;
 use std::alloc::{AllocError, Global};
 use std::marker::Brand;

@@ -1,7 +1,8 @@
 // A shelf in memory that notes which names it is asked for.
 ghost use Rattle.std.specs.Prelude.{◌≡◌, None};
 
-use cep_base::{FaultCount, MemShelf, Shelf, ShelfFault};
+use cep_base::{FaultCount, Shelf, ShelfFault};
+use cep_fakes::MemShelf;
 use std::alloc::{AllocError, Global};
 
 /// A shelf in memory, with the names of all loads since a case began, and the load of the case that fails, if one does. It tells nothing of

@@ -7,7 +7,7 @@ use crate::sections::Section;
 use crate::series::Series;
 use crate::telling::{Outcome, told, written};
 use crate::texts::Texts;
-use cep_base::MemConsole;
+use cep_fakes::MemConsole;
 use std::alloc::{AllocError, Global};
 
 // The number that a text says.

@@ -1,7 +1,7 @@
 use cep_base::Text;
 
 /// What doing the steps of a log in another order comes to.
-#[derive(Debug, Drop)]
+#[derive(Drop)]
 pub enum Reordered {
     /// The text in version 2 of the log in that order.
     Done(Text),

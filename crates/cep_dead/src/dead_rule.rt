@@ -4,7 +4,7 @@ use cep_base::List;
 /// premise at a place, counted from 1 over the premises that a state has to meet and then the
 /// backward ones, never holds; or a variable, by its number, has no value that may stand at all
 /// its places.
-#[derive(Clone, Copy, Debug, PartialEq, Eq)]
+#[derive(Clone, Copy, PartialEq, Eq)]
 pub enum DeadWhy {
     Stage(u32),
     Premise(u32),
@@ -12,7 +12,7 @@ pub enum DeadWhy {
 }
 
 /// A rule that can never apply, by its number, and why.
-#[derive(Clone, Copy, Debug, PartialEq, Eq, Drop)]
+#[derive(Clone, Copy, PartialEq, Eq, Drop)]
 pub struct DeadRule {
     pub rule: u32,
     pub why: DeadWhy,

@@ -10,7 +10,7 @@ pub type PlaceLists = List<Places>;
 /// What a text declares, where it is not known yet whether it is a program: whether each variable
 /// of a right side is bound on the left, and what backward premises leave unknown. A variable that
 /// is only on the right is a further variable of its rule.
-#[derive(Debug, Drop)]
+#[derive(Drop)]
 pub struct Draft {
     pub parts: Parts,
     /// The place of each backward premise.

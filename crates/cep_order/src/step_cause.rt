@@ -1,7 +1,7 @@
 use cep_base::List;
 
 /// Which earlier steps of a transcript precede a step. Steps are numbered from 1.
-#[derive(Debug, Drop)]
+#[derive(Drop)]
 pub struct StepCause {
     /// Whether the step is a barrier, which each earlier step precedes, and which precedes each
     /// later one.

@@ -4,7 +4,7 @@ ghost use Rattle.cep_refusal.specs.First.{first_of, is_no_later};
 use crate::reason::Reason;
 
 /// What is wrong with a text at a place, in bytes from the front of the text.
-#[derive(Clone, Copy, Debug, PartialEq, Eq)]
+#[derive(Clone, Copy, PartialEq, Eq)]
 pub struct Fault {
     pub reason: Reason,
     pub at: u32,

@@ -5,7 +5,7 @@ use crate::fault::Fault;
 use std::marker::Model;
 
 /// The first of the faults that were noted so far.
-#[derive(Debug, Drop)]
+#[derive(Drop)]
 pub struct FirstFault {
     fault: Option<Fault>,
 }

@@ -3,7 +3,7 @@ ghost use Rattle.cep_refusal.specs.Reasons.{number, reason_name};
 
 /// Why a text is refused. The reasons are numbered from 1 in this order, and all of them, with
 /// their numbers, are this profile's.
-#[derive(Clone, Copy, Debug, PartialEq, Eq)]
+#[derive(Clone, Copy, PartialEq, Eq)]
 pub enum Reason {
     /// A byte with which no token begins.
     BadByte,

@@ -8,7 +8,7 @@ use cep_base::Pos;
 use cep_lex::place;
 
 /// Why a text is refused, and where.
-#[derive(Clone, Copy, Debug, PartialEq, Eq)]
+#[derive(Clone, Copy, PartialEq, Eq)]
 pub struct Refusal {
     pub pos: Pos,
     pub reason: Reason,

@@ -9,7 +9,7 @@ use std::marker::Model;
 /// A clause of a backward predicate: as in Ceptre, its head holds where its goals do. Its variables
 /// have names and types, and are numbered from 0 by first occurrence in the head and then the goals,
 /// which is this profile's.
-#[derive(Debug, Drop)]
+#[derive(Drop)]
 pub struct Clause {
     pub vars: Names,
     pub kinds: Kinds,
@@ -18,7 +18,7 @@ pub struct Clause {
 }
 
 /// A list of clauses.
-#[derive(Debug, Drop)]
+#[derive(Drop)]
 pub struct Clauses {
     clauses: Vec<Clause>,
 }

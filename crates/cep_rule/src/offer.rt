@@ -9,7 +9,7 @@ use std::cmp::Ordering;
 
 /// An instance of a rule: the rule by its number, with a value for each of its variables, in the
 /// order of the variables' numbers.
-#[derive(Debug, Drop)]
+#[derive(Drop)]
 pub struct Offer {
     pub rule: u32,
     pub values: Terms,

@@ -6,7 +6,7 @@ use cep_term::Bag;
 
 /// A stage of Ceptre, whose own rules run until none applies. In an interactive one the player
 /// chooses.
-#[derive(Debug, Drop)]
+#[derive(Drop)]
 pub struct Stage {
     pub name: Name,
     pub interactive: bool,
@@ -18,7 +18,6 @@ pub type Stages = List<Stage>;
 /// What a program is made of. Stages, rules and clauses are numbered in written order, from 0. The
 /// rules of stage k are those of group 2k, and those that leave it at quiescence are those of group
 /// 2k + 1; this numbering is this profile's. A program may say how many turns are done at most.
-#[derive(Debug)]
 pub struct Parts {
     pub signature: Signature,
     pub stages: Stages,

@@ -8,7 +8,7 @@ use std::marker::Model;
 /// groundness, the sizes and the facts among this are this profile's; that atoms are well typed,
 /// that backward predicates and those of states do not mix, and that each variable of a right side
 /// occurs on the left, are Ceptre's.
-#[derive(Debug, Drop)]
+#[derive(Drop)]
 pub struct Program {
     parts: Parts,
 }

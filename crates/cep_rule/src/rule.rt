@@ -9,7 +9,7 @@ use std::marker::Model;
 
 /// A premise of a rule that the state has to meet: an atom that is needed, and whether the rule keeps
 /// it, as Ceptre's `$` says.
-#[derive(Debug, Drop)]
+#[derive(Drop)]
 pub struct Premise {
     pub atom: Atom,
     pub kept: bool,
@@ -19,7 +19,7 @@ pub struct Premise {
 /// right, where its backward premises can be derived. A rule that leaves a stage at quiescence
 /// names the next one. Its variables have names and types, and are numbered from 0 by first
 /// occurrence on the left; that, and the numbers of groups, are this profile's.
-#[derive(Debug, Drop)]
+#[derive(Drop)]
 pub struct Rule {
     pub name: Name,
     pub group: u32,
@@ -35,7 +35,7 @@ pub struct Rule {
 pub type Rules = List<Rule>;
 
 /// A list of premises.
-#[derive(Debug, Drop)]
+#[derive(Drop)]
 pub struct Premises {
     premises: Vec<Premise>,
 }

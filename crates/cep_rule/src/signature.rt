@@ -14,7 +14,7 @@ pub type Preds = List<PredDecl>;
 
 /// A constructor: it makes a term of its type from one term of each argument's type. Types are
 /// simple and constructors first order, as in Ceptre.
-#[derive(Debug, Drop)]
+#[derive(Drop)]
 pub struct Con {
     pub name: Name,
     pub sort: u32,
@@ -23,7 +23,7 @@ pub struct Con {
 
 /// A predicate of a kind, with the types of its arguments. As in Ceptre, a state has atoms of linear
 /// ones, and clauses define the backward ones; facts are this profile's.
-#[derive(Debug, Drop)]
+#[derive(Drop)]
 pub struct PredDecl {
     pub name: Name,
     pub kind: PredKind,
@@ -33,7 +33,6 @@ pub struct PredDecl {
 /// What a program declares of terms and atoms. Types, constructors and predicates are numbered in
 /// written order, from 0; the order of terms and atoms, which is this profile's, goes by these
 /// numbers.
-#[derive(Debug)]
 pub struct Signature {
     pub sorts: Names,
     pub cons: Cons,

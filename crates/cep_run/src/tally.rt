@@ -1,7 +1,7 @@
 use cep_lines::EndWord;
 
 /// What a run came to.
-#[derive(Clone, Copy, Debug, PartialEq, Eq)]
+#[derive(Clone, Copy, PartialEq, Eq)]
 pub struct Tally {
     /// Why it ended.
     pub word: EndWord,

@@ -9,7 +9,7 @@ use cep_term::{Args, Term};
 
 // How many nodes and levels a term or an atom has. A number is counted up to the last one that a
 // counter holds, so that a value of any size can be measured.
-#[derive(Clone, Copy, Debug)]
+#[derive(Clone, Copy)]
 pub(crate) struct Size {
     pub(crate) nodes: u64,
     pub(crate) depth: u64,

@@ -6,7 +6,7 @@ use std::alloc::{AllocError, Global};
 use std::marker::Model;
 
 /// A list of atoms, as the right side of a rule or the goals of a clause.
-#[derive(Debug, Drop)]
+#[derive(Drop)]
 pub struct AtomList {
     atoms: Vec<Atom>,
 }

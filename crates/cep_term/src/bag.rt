@@ -13,7 +13,7 @@ use std::marker::Model;
 /// A multiset of ground atoms, as Ceptre's states are. The entries stand in the order of their
 /// atoms, so an atom is found by halving. That an atom has fewer than 2^32 copies, and all atoms
 /// fewer than 2^64, is this profile's.
-#[derive(Debug, Drop)]
+#[derive(Drop)]
 pub struct Bag {
     alloc: Global,
     entries: Vec<Entry>,

@@ -10,7 +10,7 @@ use std::marker::Model;
 
 /// The values of the variables of a rule or a clause: for each variable, by its number from 0, a
 /// ground term or none. Ceptre's substitutions, as far as they are known.
-#[derive(Debug, Drop)]
+#[derive(Drop)]
 pub struct Binding {
     pub(crate) values: Vec<Option<Term>>,
 }

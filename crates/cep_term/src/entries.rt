@@ -12,12 +12,12 @@ use crate::term::Atom;
 use std::alloc::{AllocError, Global};
 
 /// The answer of `Bag::take` if the bag has no copy of the atom.
-#[derive(Clone, Copy, Debug, PartialEq, Eq)]
+#[derive(Clone, Copy, PartialEq, Eq)]
 pub struct Missing;
 
 // An atom with the number of its copies. The atom is boxed, so that entries are small and an entry
 // is put between others by moving few bytes.
-#[derive(Debug, Drop)]
+#[derive(Drop)]
 pub struct Entry {
     pub atom: Box<Atom>,
     pub count: u32,

@@ -1,6 +1,6 @@
 /// A term: a variable by its number, or a constructor by its number with one term for each
 /// argument. Ceptre's first-order terms.
-#[derive(Debug, Drop)]
+#[derive(Drop)]
 #[cycle(term)]
 pub enum Term {
     Var(u32),
@@ -8,7 +8,7 @@ pub enum Term {
 }
 
 /// The arguments of a constructor or a predicate, in written order.
-#[derive(Debug, Drop)]
+#[derive(Drop)]
 #[cycle(term)]
 pub enum Args {
     Nil,
@@ -17,7 +17,7 @@ pub enum Args {
 
 /// A predicate by its number, with one term for each argument. Ceptre's atoms; one without
 /// variables may stand in a state.
-#[derive(Debug, Drop)]
+#[derive(Drop)]
 pub struct Atom {
     pub pred: u32,
     pub args: Args,

@@ -6,7 +6,7 @@ use std::alloc::{AllocError, Global};
 use std::marker::Model;
 
 /// A list of terms, as the values of the variables of a rule or a clause.
-#[derive(Debug, Drop)]
+#[derive(Drop)]
 pub struct Terms {
     terms: Vec<Term>,
 }

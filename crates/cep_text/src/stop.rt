@@ -4,7 +4,7 @@ ghost use Rattle.cep_text.specs.declared.stop.Stop.TheVariants.{Memory};
 use std::alloc::{AllocError, AllocFailed};
 
 // Why nothing was read: memory ran out, or the bytes are the text of nothing that is read here.
-#[derive(Clone, Copy, Debug, PartialEq, Eq)]
+#[derive(Clone, Copy, PartialEq, Eq)]
 pub(crate) enum Stop {
     Memory(AllocError),
     Unread,

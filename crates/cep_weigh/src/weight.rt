@@ -2,7 +2,7 @@ use cep_base::{List, Name};
 
 /// What is claimed of a weight: that no rule changes it, that no rule raises it, or that each rule
 /// lowers it. Claims are this profile's.
-#[derive(Clone, Copy, Debug, PartialEq, Eq)]
+#[derive(Clone, Copy, PartialEq, Eq)]
 pub enum Claim {
     Keep,
     Most,
@@ -11,7 +11,7 @@ pub enum Claim {
 
 /// A part of a weight: a predicate by its number, and the factor by which each copy of one of its
 /// atoms counts, from -1,000,000 to 1,000,000 but for 0.
-#[derive(Clone, Copy, Debug, Drop)]
+#[derive(Clone, Copy, Drop)]
 pub struct Part {
     pub pred: u32,
     pub factor: i64,
@@ -22,7 +22,7 @@ pub type WeightParts = List<Part>;
 
 /// A weight with its claim: the number of its line, counted from 1, what is claimed, its name and
 /// its parts. `IsWeightOf` says which weights are of a program.
-#[derive(Debug, Drop)]
+#[derive(Drop)]
 pub struct Weight {
     pub line: u32,
     pub claim: Claim,
@@ -34,7 +34,7 @@ pub struct Weight {
 pub type Weights = List<Weight>;
 
 /// A rule that breaks a claim, by its number, with its left and its right sum.
-#[derive(Clone, Copy, Debug, PartialEq, Eq)]
+#[derive(Clone, Copy, PartialEq, Eq)]
 pub struct Against {
     pub rule: u32,
     pub left: i64,

@@ -2,7 +2,7 @@ use crate::weight::Claim;
 use cep_base::{List, Name};
 
 /// A part of a weight as a line names it: a factor, and the name of a predicate.
-#[derive(Debug, Drop)]
+#[derive(Drop)]
 pub struct NamedPart {
     pub factor: i64,
     pub name: Name,
@@ -12,7 +12,7 @@ pub struct NamedPart {
 pub type NamedParts = List<NamedPart>;
 
 /// A claim as a line writes it: what is claimed, its name, and its parts by their names.
-#[derive(Debug, Drop)]
+#[derive(Drop)]
 pub struct Written {
     pub claim: Claim,
     pub name: Name,

@@ -2,7 +2,7 @@ use Rattle.std.specs.Prelude.{◌≡◌, ℕ, ◌/◌, List, length, take, Resul
 use Rattle.cep_base.specs.declared.console.Event.{Event}
 use Rattle.cep_base.specs.declared.console.ConsoleFault.{ConsoleFault}
 use Rattle.cep_base.specs.declared.console.ConsoleFault.TheVariants.{Memory, Failed}
-use Rattle.cep_base.specs.Calls.{CallLog, FailsNext, after_call, after_fault}
+use Rattle.cep_fakes.specs.Calls.{CallLog, FailsNext, after_call, after_fault}
 
 -- what a console in memory holds whose calls are numbered: all events so far, the bytes still to come, and its calls
 pub record NumberedDialogue : Type 0 where

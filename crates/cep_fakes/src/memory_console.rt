@@ -2,24 +2,25 @@
 ghost use Rattle.std.specs.Prelude.{◌≡◌, ℕ, [], ◌∷◌, ◌++◌, take, Some, IfOk, OnOk, OnErr, IsErrOf};
 ghost use Rattle.cep_base.specs.declared.console.ConsoleFault.TheVariants.{Failed};
 ghost use Rattle.cep_base.specs.Talk.{outs, heard, GoesOn, Takes, ConsoleCause};
-ghost use Rattle.cep_base.specs.Calls.{no_calls};
-ghost use Rattle.cep_base.specs.MemConsole.{first_half, ConsoleCounts};
+ghost use Rattle.cep_fakes.specs.Calls.{no_calls};
+ghost use Rattle.cep_fakes.specs.MemConsole.{first_half, ConsoleCounts};
 
+use crate::CalmConsole;
 use crate::calls::Calls;
-use crate::{CalmConsole, Console, ConsoleFault, Event};
+use cep_base::{Console, ConsoleFault, Event};
 use std::alloc::{AllocError, Global};
 use std::marker::Model;
 
 /// A console in memory of which some calls of `put` and `next` fail. They are numbered together,
 /// from 1 to 2^64 - 1.
-#[derive(Debug, Drop)]
+#[derive(Drop)]
 pub struct MemConsole {
     calm: CalmConsole,
     calls: Calls,
 }
 
 impl Model for MemConsole {
-    ghost use Rattle.cep_base.specs.MemConsole.{NumberedDialogue};
+    ghost use Rattle.cep_fakes.specs.MemConsole.{NumberedDialogue};
 
     ghost Value = { NumberedDialogue };
 

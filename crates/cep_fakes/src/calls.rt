@@ -1,15 +1,15 @@
 // The calls of a fake: their numbers, those that are to fail, and how many did.
 ghost use Rattle.std.specs.Prelude.{◌≡◌, ◌↔◌, OnOk, OnErr, IsTrue};
 ghost use Rattle.cep_base.specs.Faults.{Rose};
-ghost use Rattle.cep_base.specs.Calls.{no_calls, FailsNext, after_listing, after_call, after_fault};
+ghost use Rattle.cep_fakes.specs.Calls.{no_calls, FailsNext, after_listing, after_call, after_fault};
 
-use crate::FaultCount;
+use cep_base::FaultCount;
 use std::alloc::AllocError;
 use std::marker::Model;
 
 /// Counts the calls of a fake, from 1 to 2^64 - 1, and knows which of them are to fail. A call
 /// after those has no number, so it is not listed.
-#[derive(Debug, Drop)]
+#[derive(Drop)]
 pub struct Calls {
     last: u64,
     listed: Vec<u64>,
@@ -17,7 +17,7 @@ pub struct Calls {
 }
 
 impl Model for Calls {
-    ghost use Rattle.cep_base.specs.Calls.{CallLog};
+    ghost use Rattle.cep_fakes.specs.Calls.{CallLog};
 
     ghost Value = { CallLog };
 

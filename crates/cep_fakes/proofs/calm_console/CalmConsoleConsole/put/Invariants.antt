@@ -1,6 +1,6 @@
 use Rattle.std.proofs.Common.{◌≡◌, ◌++◌, take, drop}
 use Rattle.cep_base.specs.Talk.{outs}
-use Rattle.cep_base.proofs.calm_console.CalmConsoleConsole.put.Given as goal
+use Rattle.cep_fakes.proofs.calm_console.CalmConsoleConsole.put.Given as goal
 
 abbrev pub invariant-loop-byte : goal.invariant-loop-byte
 invariant-loop-byte l = record {

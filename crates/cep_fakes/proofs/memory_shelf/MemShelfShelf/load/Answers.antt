@@ -1,7 +1,7 @@
 use Rattle.std.proofs.Common.{arith}
 use Rattle.std.proofs.lemmas.Grind.{common_steps}
-use Rattle.cep_base.proofs.Holdings.{holdings}
-use Rattle.cep_base.proofs.memory_shelf.MemShelfShelf.load.Goals as goal
+use Rattle.cep_fakes.proofs.Holdings.{holdings}
+use Rattle.cep_fakes.proofs.memory_shelf.MemShelfShelf.load.Goals as goal
 
 pub returns-in_ok-push-in-Some-clause-whole : goal.returns-in_ok-push-in-Some-clause-whole
 returns-in_ok-push-in-Some-clause-whole c = grind (arith, holdings)

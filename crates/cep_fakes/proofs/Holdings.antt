@@ -12,7 +12,7 @@ use Rattle.std.specs.Map.{lookup}
 use Rattle.std.specs.String.{string_cmp}
 use Rattle.std.specs.declared.alloc.Global.{Global}
 use Rattle.std.proofs.lemmas.Map.Text.{btree_map_updates_text, is_eq-slice_cmp}
-use Rattle.cep_base.specs.MemShelf.{files_of}
+use Rattle.cep_fakes.specs.MemShelf.{files_of}
 
 -- to find among the files is to look up in the map
 find-map : (name : List ℕ) (entries : List (String Global × Vec ℕ Global))

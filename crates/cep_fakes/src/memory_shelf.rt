@@ -3,17 +3,17 @@ ghost use Rattle.std.specs.Prelude.{◌≡◌, ◌≤◌, ◌↔◌, [], length,
 ghost use Rattle.std.specs.FinMap as map;
 ghost use Rattle.cep_base.specs.declared.shelf.ShelfFault.TheVariants.{TooLong};
 ghost use Rattle.cep_base.specs.Files.{HasFile, HasLongerFile, Asks, ShelfCause};
-ghost use Rattle.cep_base.specs.Calls.{no_calls, after_listing};
-ghost use Rattle.cep_base.specs.MemShelf.{LoadCounts};
+ghost use Rattle.cep_fakes.specs.Calls.{no_calls, after_listing};
+ghost use Rattle.cep_fakes.specs.MemShelf.{LoadCounts};
 
 use crate::calls::Calls;
-use crate::{Shelf, ShelfFault};
+use cep_base::{Shelf, ShelfFault};
 use std::alloc::{AllocError, Global};
 use std::collections::BTreeMap;
 use std::marker::Model;
 
 /// A shelf of files in memory, of which some loads fail. They are numbered from 1 to 2^64 - 1.
-#[derive(Debug, Drop)]
+#[derive(Drop)]
 pub struct MemShelf {
     alloc: Global,
     files: BTreeMap<String, Vec<u8>>,
@@ -23,7 +23,7 @@ pub struct MemShelf {
 
 impl Model for MemShelf {
     ghost use Rattle.std.specs.Prelude.{map, string_bytes};
-    ghost use Rattle.cep_base.specs.MemShelf.{Holdings, holdings_code, files_of};
+    ghost use Rattle.cep_fakes.specs.MemShelf.{Holdings, holdings_code, files_of};
 
     ghost Value = { Holdings };
 

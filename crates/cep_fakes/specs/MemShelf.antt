@@ -7,7 +7,7 @@ use Rattle.std.specs.BTreeMap.{BTreeMap}
 use Rattle.std.specs.declared.alloc.Global.{Global}
 use Rattle.cep_base.specs.declared.shelf.ShelfFault.{ShelfFault}
 use Rattle.cep_base.specs.declared.shelf.ShelfFault.TheVariants.{Memory, Failed, TooLong}
-use Rattle.cep_base.specs.Calls.{CallLog, call_log_code, FailsNext, after_call, after_fault}
+use Rattle.cep_fakes.specs.Calls.{CallLog, call_log_code, FailsNext, after_call, after_fault}
 
 -- what a shelf in memory holds: its files by their names, the names of all loads so far that did not end by out of memory, and its calls
 pub record Holdings : Type 0 where

@@ -1,13 +1,13 @@
 // A console in memory that never fails.
 ghost use Rattle.std.specs.Prelude.{◌≡◌, [], IfOk};
 
-use crate::{Console, ConsoleFault, Event};
+use cep_base::{Console, ConsoleFault, Event};
 use std::alloc::{AllocError, Global};
 use std::marker::Model;
 
 /// A console in memory that never fails: it keeps all events, and is typed the bytes that it was
 /// made with.
-#[derive(Debug, Drop)]
+#[derive(Drop)]
 pub struct CalmConsole {
     events: Vec<Event>,
     input: Vec<u8>,
@@ -16,7 +16,7 @@ pub struct CalmConsole {
 
 impl Model for CalmConsole {
     ghost use Rattle.std.specs.Prelude.{drop};
-    ghost use Rattle.cep_base.specs.CalmConsole.{Conversation};
+    ghost use Rattle.cep_fakes.specs.CalmConsole.{Conversation};
 
     ghost Value = { Conversation };
 

@@ -1,7 +1,7 @@
 use Rattle.std.proofs.Common.{rules, arith, ◌≡◌, ℕ, List, take, min, length, ◌/◌}
 use Rattle.std.proofs.lemmas.List.{take-take, take_all, length-take}
 use Rattle.std.proofs.lemmas.Result.{err_from_is_err_and}
-use Rattle.cep_base.proofs.memory_console.MemConsoleConsole.put.Goals as goal
+use Rattle.cep_fakes.proofs.memory_console.MemConsoleConsole.put.Goals as goal
 
 -- a front of a front
 take_of_take : (m n : ℕ) (xs : List ℕ) → take m (take n xs) ≡ take (min m n) xs

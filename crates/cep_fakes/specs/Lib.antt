@@ -1,0 +1,4 @@
+pub mod Calls
+pub mod CalmConsole
+pub mod MemConsole
+pub mod MemShelf
